@@ -1,0 +1,6 @@
+pub mod Plain
+pub mod Checked
+pub mod Linked
+pub mod Violations
+pub mod Scope
+pub mod Rules

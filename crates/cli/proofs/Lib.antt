@@ -1,0 +1,5 @@
+pub mod Answering
+pub mod Commands
+pub mod Cores
+pub mod Totals
+pub mod Written

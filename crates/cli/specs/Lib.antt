@@ -1,0 +1,4 @@
+pub mod Commands
+pub mod Preparing
+pub mod Statuses
+pub mod Written

@@ -1,0 +1,23 @@
+-- The program's exit status.
+use Rattle.std.specs.Prelude.{ℕ}
+use Rattle.cli.specs.declared.options.OptionsError.TheVariants as o
+use Rattle.cli.specs.declared.prepare.PrepareError.{PrepareError}
+use Rattle.cli.specs.declared.prepare.PrepareError.TheVariants as p
+use Rattle.cli.specs.declared.streams.SessionError.{SessionError}
+use Rattle.cli.specs.declared.streams.SessionError.TheVariants as s
+use Rattle.cli.specs.declared.program.ProgramError.{ProgramError}
+use Rattle.cli.specs.declared.program.ProgramError.TheVariants.{Line, File, Prepare, Session}
+
+abbrev pub status_of : ProgramError → ℕ
+status_of (Line o.Usage) = 2
+status_of (Line o.NoMemory) = 3
+status_of (File path) = 1
+status_of (Prepare p.NoMemory) = 3
+status_of (Prepare (p.Text line)) = 1
+status_of (Prepare p.NotToml) = 1
+status_of (Prepare (p.Shape table)) = 1
+status_of (Prepare (p.Check rule name line)) = 1
+status_of (Session s.NoMemory) = 3
+status_of (Session s.NoKit) = 3
+status_of (Session s.Read) = 1
+status_of (Session s.Write) = 1

@@ -1,0 +1,112 @@
+// Sessions: a checked program, its tables and its pool of kits, and the answers to a script.
+ghost use Rattle.std.specs.Prelude.{◌≡◌, ◌+◌, ◌<◌, ◌^◌, ◌++◌, ◌⊎◌, [], length, map, vec_len, string_bytes, IfOk, IfErr, OnOk, OnErr, IfSome};
+ghost use Rattle.std.specs.Io.KnownBytes.{Appends, Keeps, IsAtEnd};
+ghost use Rattle.program_tree.specs.View.{tree};
+ghost use Rattle.meaning.specs.Script.{commands as commands_of};
+ghost use Rattle.meaning.specs.Statements.{reducers};
+ghost use Rattle.meaning.specs.Elision.{from_scratch};
+ghost use Rattle.meaning.specs.Text.{outcome_text, answer_text, runs_after, answers_from, answers_text};
+ghost use Rattle.cli.specs.Commands.{said};
+ghost use Rattle.cli.specs.Written.{HasBeginning};
+
+use crate::answers::{push_outcome, push_run, push_unknown};
+use crate::runs::run;
+use crate::script::{Command, commands};
+use crate::streams::{SessionError, read_all, write_whole};
+use checked_program::checked::Checked;
+use input_tables::Tables;
+use std::alloc::Global;
+use std::io::{Read, Write};
+use std::sync::Wait;
+use worker_core::kits::Kits;
+
+/// A checked program, its tables and its pool of kits.
+#[derive(Drop)]
+pub struct Session {
+    pub checked: Checked,
+    pub tables: Tables,
+    pub kits: Kits,
+}
+
+/// Answers the script that a reader has, all of it read before anything runs. It ends early where memory is refused,
+/// no kit is free, or a read or a write fails; a failed read leaves the writer as it was.
+pub fn session_text<R: Read, W: Write>(
+    rt: &impl Wait,
+    alloc: Global,
+    session: Session,
+    workers: usize,
+    reader: &mut R,
+    writer: &mut W,
+) -> Result<(), SessionError>
+    ensures answered { OnOk result (IfSome (R.remaining reader.old) (λ script.
+        Appends (W.contents writer.old) (W.contents writer.new) (answers_text (tree session.checked.program) session.tables script))) }
+    ensures over { OnOk result (IsAtEnd (R.remaining reader.new)) }
+    ensures unread { result ≡ Err SessionError.Read → Keeps (W.contents writer.old) (W.contents writer.new) }
+    ensures beginning { IfSome (R.remaining reader.old) (λ script.
+        HasBeginning (W.contents writer.old) (W.contents writer.new) (answers_text (tree session.checked.program) session.tables script)) }
+{
+    let script = read_all(alloc, reader)?;
+    let mut session = session;
+    let answered = answer_script(rt, alloc, &mut session, workers, script.as_slice(), writer);
+    let flushed = writer.flush();
+    answered?;
+    flushed.map_err(|_| SessionError::Write)
+}
+
+// Writes the answers to a script.
+fn answer_script<W: Write>(
+    rt: &impl Wait,
+    alloc: Global,
+    session: &mut Session,
+    workers: usize,
+    script: &[u8],
+    writer: &mut W,
+) -> Result<(), SessionError>
+    ensures written { OnOk result (Appends (W.contents writer.old) (W.contents writer.new) (answers_text (tree session.old.checked.program) session.old.tables script.now)) }
+    ensures beginning { HasBeginning (W.contents writer.old) (W.contents writer.new) (answers_text (tree session.old.checked.program) session.old.tables script.now) }
+    ensures read { OnErr result (¬ (result ≡ Err SessionError.Read)) }
+{
+    let commands = match commands(alloc, script) {
+        Ok(commands) => commands,
+        Err(_) => return Err(SessionError::NoMemory),
+    };
+    let mut runs = 0;
+    let mut text = String::new(alloc);
+    for command in commands.iter() {
+        text.clear();
+        runs = answer(rt, alloc, session, workers, runs, *command, &mut text)?;
+        write_whole(writer, text.as_bytes())?;
+    }
+    Ok(())
+}
+
+// Puts the answer to a command, after so many runs, at the end of the text, and gives the number of runs after it.
+fn answer(
+    rt: &impl Wait,
+    alloc: Global,
+    session: &mut Session,
+    workers: usize,
+    runs: usize,
+    command: Command,
+    text: &mut String,
+) -> Result<usize, SessionError>
+    requires { runs + 1 < 2 ^ 64 }
+    ensures answered { OnOk result (string_bytes text.new ≡ string_bytes text.old
+        ++ answer_text (tree session.old.checked.program) session.old.tables runs (said command)) }
+    ensures runs { IfOk result (λ n. n ≡ runs_after runs (said command)) }
+    ensures same { session.new ≡ record session.old { kits = session.new.kits } }
+    ensures refused { IfErr result (λ e. (e ≡ SessionError.NoMemory) ⊎ (e ≡ SessionError.NoKit)) }
+{
+    match command {
+        Command::Unknown(line) => {
+            push_unknown(text, line)?;
+            Ok(runs)
+        }
+        Command::Run => {
+            let outcome = run(rt, alloc, &session.checked, &mut session.kits, workers)?;
+            push_run(text, runs + 1)?;
+            push_outcome(text, &session.checked, &outcome)?;
+            Ok(runs + 1)
+        }
+    }
+}

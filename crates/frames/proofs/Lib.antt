@@ -1,0 +1,4 @@
+pub mod Totals
+pub mod Values
+pub mod Places
+pub mod Simulation

@@ -1,0 +1,3 @@
+pub mod Layers
+pub mod Folds
+pub mod Records

@@ -1,0 +1,45 @@
+use Rattle.std.proofs.Common.{◌≡◌, ◌<◌, sym, ◌∙◌, ap, subst, map, length, rules, OnOk, OnErr, set, get_or}
+use Rattle.std.proofs.lemmas.List.{map-set}
+use Rattle.monoid_laws.specs.Kinds.{operate, meaning, IsWorth}
+use Rattle.indexmap.specs.IndexSet.{insert_key}
+use Rattle.std.specs.Prelude.{nat_eq}
+use Rattle.hypermaps.specs.Layer.{IsLayer}
+use Rattle.hypermaps.proofs.Layers.{IsLayer-written, IsWorth-old, IsWorth-combined, kinds_written, worths_kept, OnErr-kept, OnOk-kept, OnOk-always, at_map, is_at_map, was_ok}
+use Rattle.hypermaps.proofs.absorb_at.Goals as goal
+
+pub returns-clause-kinds : goal.returns-clause-kinds
+returns-clause-kinds g c =
+    kinds_written g.V.View.kind_of g.V.View.worth_of c.args.views.now.items c.args.r c.index_mut-view.result.now c.absorb.new.self c.requires.reducer_is c.index_mut-view.ensures.value c.absorb.ensures.same_kind
+
+pub returns-clause-layer : goal.returns-clause-layer
+returns-clause-layer g c =
+    let kind = g.V.View.kind_of in
+    let worth = g.V.View.worth_of in
+    let old = c.index_mut-view.result.now in
+    let new = c.absorb.new.self in
+    let given : IsWorth (g.V.View.kind_of c.index_mut-view.result.now) (meaning c.args.value) =
+    c.requires.of_kind (kind old) (is_at_map kind c.args.views.now.items c.args.r old c.requires.reducer_is c.index_mut-view.ensures.value) in
+    let right : IsWorth (g.V.View.kind_of c.index_mut-view.result.now) (g.V.View.worth_of c.absorb.new.self) =
+    IsWorth-combined c.absorb.result _ _ _ _ c.absorb.ensures.done (OnOk-always c.absorb.result _ given) c.absorb.ensures.refused
+    (IsWorth-old kind worth c.args.views.now.items c.args.r old new c.requires.reducer_is c.index_mut-view.ensures.value c.absorb.ensures.same_kind c.args.used.now.keys c.requires.layer) in
+    rw (was_ok c.insert.result (c.insert.new.self.keys ≡ insert_key nat_eq c.args.used.now.keys c.args.r) (sym (c.is_err.ensures.value) ∙ c.if-is_err.false) c.insert.ensures.keys)
+    (IsLayer-written kind worth c.args.views.now.items c.args.r old new c.requires.reducer_is c.index_mut-view.ensures.value c.absorb.ensures.same_kind c.args.used.now.keys c.requires.layer right)
+
+pub returns-clause-absorbed : goal.returns-clause-absorbed
+returns-clause-absorbed g c = λ k x p q.
+    let kind = g.V.View.kind_of in
+    let worth = g.V.View.worth_of in
+    let xs = c.args.views.now.items in
+    let old = c.index_mut-view.result.now in
+    let ek : k ≡ g.V.View.kind_of c.index_mut-view.result.now = at_map kind xs c.args.r old k c.requires.reducer_is c.index_mut-view.ensures.value p in
+    let ex : x ≡ g.V.View.worth_of c.index_mut-view.result.now = at_map worth xs c.args.r old x c.requires.reducer_is c.index_mut-view.ensures.value q in
+    OnOk-kept c.absorb.result _ _ (λ d.
+    map-set worth xs c.args.r c.absorb.new.self
+    ∙ ap (λ w. set (map worth xs) c.args.r w) (d ∙ sym (ap (λ j. operate j x (meaning c.args.value)) ek ∙ ap (λ w. operate (kind old) w (meaning c.args.value)) ex)))
+    c.absorb.ensures.done
+
+pub returns-clause-refused : goal.returns-clause-refused
+returns-clause-refused g c =
+    OnErr-kept c.absorb.result _ _ (λ d.
+    worths_kept g.V.View.kind_of g.V.View.worth_of c.args.views.now.items c.args.r c.index_mut-view.result.now c.absorb.new.self c.requires.reducer_is c.index_mut-view.ensures.value c.absorb.ensures.same_kind d)
+    c.absorb.ensures.refused

@@ -1,0 +1,194 @@
+//! Reducers to views, each opened at its first use.
+#![tactic(auto)]
+
+ghost use Rattle.std.specs.Prelude.{◌≡◌, ℕ, ◌≤◌, ◌<◌, ◌+◌, OnOk, OnErr, IfOk, IfErr, IsOk, IsSome, IsTrue, IsNone, IfSome, length, List, map, All, ◌++◌, ◌∷◌, [], slice_index_or, slice_set, ◌↔◌, Bool, false, true, vec_len, nat_eq, ◌⊎◌};
+ghost use Rattle.std.specs.List.{list_any};
+ghost use Rattle.monoid_laws.specs.Worth.{Worth};
+ghost use Rattle.monoid_laws.specs.declared.Kind.{Kind};
+ghost use Rattle.monoid_laws.specs.Kinds.{operate, identity_of, identities, meaning, element_of, IsWorth, AreWorths, arity, names_element, refusal, operate_all, IsMonoid};
+ghost use Rattle.monoid_laws.specs.declared.InjectError.TheVariants.{NoMemory};
+ghost use Rattle.hypermaps.specs.Layer.{Layer, IsLayer, IsAt, operate_first};
+
+use indexmap::IndexSet;
+use monoid_laws::{InjectError, Val, copy_of};
+use std::alloc::{AllocError, Global};
+use std::marker::Model;
+use std::mem;
+use view_pool::{Kit, View};
+
+#[cfg(test)]
+mod tests;
+
+/// The views of a kit, and the reducers that were used, in the order of their first use.
+#[derive(Drop)]
+pub struct Hypermap<V: View = Box<dyn View>> {
+    views: Vec<V>,
+    used: IndexSet<usize>,
+}
+
+impl<V: View> Model for Hypermap<V> {
+    ghost Value = { Layer };
+
+    ghost view = { λ s. record { kinds = map V.kind_of s.views.items; worths = map V.worth_of s.views.items } };
+
+    ghost invariant = { λ s. IsLayer (map V.kind_of s.views.items) (map V.worth_of s.views.items) s.used.keys };
+}
+
+/// Moves what `right` is worth into `left`, on its right.
+fn move_one<V: View>(left: &mut V, right: &mut V, fresh: bool) -> Result<(), AllocError>
+    requires same_kind { V.kind_of left.old ≡ V.kind_of right.old }
+    requires right_value { IsWorth (V.kind_of right.old) (V.worth_of right.old) }
+    requires monoid { IsMonoid (V.kind_of left.old) }
+    requires shut { fresh ≡ true → V.worth_of left.old ≡ identity_of (V.kind_of left.old) }
+    ensures left_kind { V.kind_of left.new ≡ V.kind_of left.old }
+    ensures right_kind { V.kind_of right.new ≡ V.kind_of right.old }
+    ensures moved { OnOk result (V.worth_of left.new ≡ operate (V.kind_of left.old) (V.worth_of left.old) (V.worth_of right.old)) }
+    ensures emptied { OnOk result (V.worth_of right.new ≡ identity_of (V.kind_of left.old)) }
+    ensures left_kept { OnErr result (V.worth_of left.new ≡ V.worth_of left.old) }
+    ensures right_kept { OnErr result (V.worth_of right.new ≡ V.worth_of right.old) }
+{
+    if fresh {
+        mem::swap(left, right);
+        return Ok(());
+    }
+    let value = right.take();
+    match left.absorb(value) {
+        Ok(()) => Ok(()),
+        Err(value) => {
+            let _ = right.absorb(value);
+            Err(AllocError)
+        }
+    }
+}
+
+/// Moves what reducer `r` is worth on the right to the left.
+fn fold_at<V: View>(
+    left: &mut Vec<V>,
+    left_used: &mut IndexSet<usize>,
+    right: &mut Vec<V>,
+    r: usize,
+) -> Result<(), AllocError>
+    requires reducer_is { r < length right.old.items }
+    requires kinds { map V.kind_of left.old.items ≡ map V.kind_of right.old.items }
+    requires left_layer { IsLayer (map V.kind_of left.old.items) (map V.worth_of left.old.items) left_used.old.keys }
+    requires right_values { AreWorths (map V.kind_of right.old.items) (map V.worth_of right.old.items) }
+    requires monoids { All IsMonoid (map V.kind_of left.old.items) }
+    ensures left_kinds { map V.kind_of left.new.items ≡ map V.kind_of left.old.items }
+    ensures right_kinds { map V.kind_of right.new.items ≡ map V.kind_of right.old.items }
+    ensures left_layer { IsLayer (map V.kind_of left.new.items) (map V.worth_of left.new.items) left_used.new.keys }
+    ensures product { operate_all (map V.kind_of left.new.items) (map V.worth_of left.new.items) (map V.worth_of right.new.items) ≡ operate_all (map V.kind_of left.old.items) (map V.worth_of left.old.items) (map V.worth_of right.old.items) }
+    ensures moved { (c : Kind) → IsAt (map V.kind_of right.old.items) r c → OnOk result (map V.worth_of right.new.items ≡ slice_set (map V.worth_of right.old.items) r (identity_of c)) }
+    ensures kept { OnErr result (map V.worth_of right.new.items ≡ map V.worth_of right.old.items) }
+{
+    let Ok(fresh) = left_used.insert(r) else {
+        return Err(AllocError);
+    };
+    let l = &mut left[r];
+    let q = &mut right[r];
+    move_one(l, q, fresh)
+}
+
+/// Combines a value on the right of what reducer `r` is worth, or hands it back.
+fn absorb_at<V: View>(
+    views: &mut Vec<V>,
+    used: &mut IndexSet<usize>,
+    r: usize,
+    value: Val,
+) -> Result<(), Val>
+    requires reducer_is { r < length views.old.items }
+    requires layer { IsLayer (map V.kind_of views.old.items) (map V.worth_of views.old.items) used.old.keys }
+    requires of_kind { (c : Kind) → IsAt (map V.kind_of views.old.items) r c → IsWorth c (meaning value) }
+    ensures kinds { map V.kind_of views.new.items ≡ map V.kind_of views.old.items }
+    ensures layer { IsLayer (map V.kind_of views.new.items) (map V.worth_of views.new.items) used.new.keys }
+    ensures absorbed { (c : Kind) (x : Worth) → IsAt (map V.kind_of views.old.items) r c → IsAt (map V.worth_of views.old.items) r x → OnOk result (map V.worth_of views.new.items ≡ slice_set (map V.worth_of views.old.items) r (operate c x (meaning value))) }
+    ensures refused { OnErr result (map V.worth_of views.new.items ≡ map V.worth_of views.old.items) }
+{
+    if used.insert(r).is_err() {
+        return Err(value);
+    }
+    let view = &mut views[r];
+    view.absorb(value)
+}
+
+impl<V: View> Hypermap<V> {
+    /// A hypermap in which no reducer was used.
+    pub fn open(alloc: Global, kit: Kit<V>) -> Self
+        ensures { result ≡ record { kinds = kit; worths = identities kit } }
+    {
+        Hypermap {
+            views: kit.into_views(),
+            used: IndexSet::new(alloc),
+        }
+    }
+
+    /// The kit, each view at its identity again.
+    pub fn close(self) -> Kit<V>
+        ensures { result ≡ self.kinds }
+    {
+        let Hypermap { views, used: _ } = self;
+        Kit::reset(views)
+    }
+
+    /// The value of one reducer.
+    pub fn value(&self, reducer: usize) -> Result<Val, AllocError>
+        requires { reducer < length self.now.kinds }
+        ensures { IfOk result (λ v. IsAt self.now.worths reducer (meaning v)) }
+    {
+        self.views[reducer].export()
+    }
+
+    /// Combines the element that the numbers name on the right of the reducer's value.
+    pub fn update(&mut self, reducer: usize, numbers: &[i64]) -> Result<(), InjectError>
+        requires reducer_is { reducer < length self.old.kinds }
+        requires count { (c : Kind) → IsAt self.old.kinds reducer c → length numbers.now ≡ arity c }
+        ensures kinds { self.new.kinds ≡ self.old.kinds }
+        ensures done { (c : Kind) (x : Worth) → IsAt self.old.kinds reducer c → IsAt self.old.worths reducer x → OnOk result (self.new.worths ≡ slice_set self.old.worths reducer (operate c x (element_of c numbers.now))) }
+        ensures named { (c : Kind) → IsAt self.old.kinds reducer c → OnOk result (names_element c numbers.now ≡ true) }
+        ensures refused { OnErr result (self.new.worths ≡ self.old.worths) }
+        ensures cause { (c : Kind) → IsAt self.old.kinds reducer c → IfErr result (λ e. (e ≡ NoMemory) ⊎ (e ≡ refusal c numbers.now)) }
+    {
+        if self.used.insert(reducer).is_err() {
+            return Err(InjectError::NoMemory);
+        }
+        let view = &mut self.views[reducer];
+        view.update(numbers)
+    }
+
+    /// Combines a record's values, one for each reducer, on the right of the reducers' values.
+    ///
+    /// Where memory is refused, some of the first values are in and the others are not.
+    pub fn absorb_record(&mut self, alloc: Global, values: &[Val]) -> Result<(), AllocError>
+        requires of_kinds { AreWorths self.old.kinds (map meaning values.now) }
+        ensures kinds { self.new.kinds ≡ self.old.kinds }
+        ensures absorbed { OnOk result (self.new.worths ≡ operate_all self.old.kinds self.old.worths (map meaning values.now)) }
+        ensures partly { OnErr result ((n : ℕ) × (self.new.worths ≡ operate_first n self.old.kinds self.old.worths (map meaning values.now))) }
+    {
+        for i in 0..values.len() {
+            let copy = copy_of(alloc, &values[i])?;
+            match absorb_at(&mut self.views, &mut self.used, i, copy) {
+                Ok(()) => {}
+                Err(_) => return Err(AllocError),
+            }
+        }
+        Ok(())
+    }
+
+    /// Puts what `right` is worth on the right of this one, and leaves `right` at the identities.
+    ///
+    /// Where memory is refused, some reducers have moved to the left and the others have not.
+    pub fn fold(&mut self, right: &mut Hypermap<V>) -> Result<(), AllocError>
+        requires kinds { self.old.kinds ≡ right.old.kinds }
+        requires monoids { All IsMonoid self.old.kinds }
+        ensures left_kinds { self.new.kinds ≡ self.old.kinds }
+        ensures right_kinds { right.new.kinds ≡ right.old.kinds }
+        ensures product { operate_all self.old.kinds self.new.worths right.new.worths ≡ operate_all self.old.kinds self.old.worths right.old.worths }
+        ensures folded { OnOk result (self.new.worths ≡ operate_all self.old.kinds self.old.worths right.old.worths) }
+        ensures emptied { OnOk result (right.new.worths ≡ identities self.old.kinds) }
+    {
+        while let Some(r) = right.used.first().copied() {
+            fold_at(&mut self.views, &mut self.used, &mut right.views, r)?;
+            right.used.shift_remove_index(0);
+        }
+        Ok(())
+    }
+}

@@ -1,0 +1,16 @@
+pub mod Every
+pub mod Tables
+pub mod Outcome
+pub mod Run
+pub mod Values
+pub mod Statements
+pub mod Elision
+pub mod Records
+pub mod Strands
+pub mod Trail
+pub mod SmallStep
+pub mod Rest
+pub mod OneStrand
+pub mod Script
+pub mod Text
+pub mod Edits

@@ -1,0 +1,111 @@
+-- What statements name and what they evaluate.
+use Rattle.std.specs.Prelude.{ℕ, zero, suc, ◌+◌, nat_le, ℤ, pos, negsuc, ◌+ℤ◌, ◌-ℤ◌, Bool, true, false, cond, int_lt, List, [], ◌∷◌, map, Option, Some, None, slice_get, slice_set}
+use Rattle.std.specs.Str.{bytes_eq}
+use Rattle.program_tree.specs.Plain.{Name, Term, Body, end, Proc, Red, Decl, reducer, procedure, Tree}
+use Rattle.monoid_laws.specs.declared.Kind.{Kind}
+use Rattle.meaning.specs.declared.FaultKind.{FaultKind}
+use Rattle.meaning.specs.declared.FaultKind.TheVariants.{RangeTooLong, BadElement}
+use Rattle.meaning.specs.Tables.{Tables}
+use Rattle.monoid_laws.specs.Worth.{Worth, number, element}
+use Rattle.monoid_laws.specs.Kinds.{identity_of, names_element, element_of}
+use Rattle.meaning.specs.Outcome.{Out, Accumulators, Site, Event, Updates, ◌>>=◌, ◌>>◌, pure, fail, note}
+use Rattle.meaning.specs.Values.{Env, put, value, values}
+
+abbrev pub reducers : Tree → List Red
+reducers [] = []
+reducers (reducer r ∷ rest) = r ∷ reducers rest
+reducers (procedure p ∷ rest) = reducers rest
+
+abbrev pub procedure_of : Tree → Name → Option Proc
+procedure_of [] f = None
+procedure_of (reducer r ∷ rest) f = procedure_of rest f
+procedure_of (procedure p ∷ rest) f = cond (bytes_eq p.called f) (Some p) (procedure_of rest f)
+
+-- the reducer of a name, with its number, where the first one has number n
+abbrev pub numbered : ℕ → List Red → Name → Option (ℕ × Red)
+numbered n [] r = None
+numbered n (x ∷ xs) r = cond (bytes_eq x.called r) (Some (n, x)) (numbered (n + 1) xs r)
+
+abbrev pub identities : Tree → Accumulators
+identities program = map (λ r. identity_of r.kind) (reducers program)
+
+-- a name that no procedure has is that of an empty one
+abbrev pub absent : Proc
+absent = record { called = []; memo = false; parameters = 0; names = []; body = end }
+
+abbrev pub found : Option Proc → Proc
+found None = absent
+found (Some p) = p
+
+abbrev pub proc_of : Tree → Name → Proc
+proc_of program f = found (procedure_of program f)
+
+abbrev pub put_into : Option ℕ → Env → ℤ → Env
+put_into None env v = env
+put_into (Some x) env v = put env x v
+
+-- the names' values as an instance begins
+abbrev pub fresh : List Name → List ℤ → Env
+fresh [] args = []
+fresh (x ∷ names) [] = None ∷ fresh names []
+fresh (x ∷ names) (v ∷ args) = Some v ∷ fresh names args
+
+-- the number that an accumulator gives to `read`
+abbrev pub number_of : Option Worth → ℤ
+number_of (Some (number v)) = v
+number_of (Some (element n)) = pos n
+number_of _ = pos 0
+
+abbrev pub reading : Accumulators → Option (ℕ × Red) → ℤ
+reading acc None = pos 0
+reading acc (Some (n, r)) = number_of (slice_get acc n)
+
+abbrev pub naming : ℕ → Kind → List ℤ → Bool → Out FaultKind (Unit {0})
+naming n kind vs false = fail BadElement
+naming n kind vs true = note (Updates n kind (element_of kind vs))
+
+-- the update of a reducer by a list of numbers
+abbrev pub updating : Option (ℕ × Red) → List ℤ → Out FaultKind (Unit {0})
+updating None vs = pure tt
+updating (Some (n, r)) vs = naming n r.kind vs (names_element r.kind vs)
+
+abbrev pub update_of : Tables → List Red → Env → Name → List Term → Out FaultKind (Unit {0})
+update_of tables reds env r es = do
+  vs ← values tables env es
+  updating (numbered 0 reds r) vs
+
+abbrev pub natural : ℤ → ℕ
+natural (pos n) = n
+natural (negsuc n) = 0
+
+-- how many iterations from low to high
+abbrev pub span : ℤ → ℤ → ℕ
+span low high = cond (int_lt low high) (natural (high -ℤ low)) 0
+
+abbrev pub ranged : ℕ → Out FaultKind ℕ
+ranged n = cond (nat_le n 1048576) (pure n) (fail RangeTooLong)
+
+-- a loop's first number, and how many iterations it has
+abbrev pub bounds : Tables → Env → Term → Term → Out FaultKind (ℤ × ℕ)
+bounds tables env e f = do
+  low ← value tables env e
+  high ← value tables env f
+  n ← ranged (span low high)
+  pure (low, n)
+
+-- a loop: its statement, the names' values there, its variable, what its iterations enter
+pub record Job : Type 0 where
+  pub site : Site
+  pub env : Env
+  pub variable : ℕ
+  pub callee : Name
+  pub args : List Term
+  pub grain : ℕ
+  pub low : ℤ
+
+abbrev pub job_of : Site → Env → ℕ → Name → List Term → ℕ → ℤ → Job
+job_of site env x f es grain low = record { site = site; env = env; variable = x; callee = f; args = es; grain = grain; low = low }
+
+-- the arguments of the i-th iteration
+abbrev pub turn_values : Tables → Job → ℕ → Out FaultKind (List ℤ)
+turn_values tables job i = values tables (put job.env job.variable (job.low +ℤ pos i)) job.args

@@ -1,0 +1,4 @@
+pub mod Worth
+pub mod Kinds
+pub mod Tables
+pub mod Forms

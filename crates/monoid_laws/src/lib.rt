@@ -1,0 +1,74 @@
+//! Kinds of reducers, their values, and the laws that hold of them.
+#![tactic(auto)]
+
+ghost use Rattle.std.specs.Prelude.{◌≡◌, ℕ, ◌≤◌, ◌<◌, ◌*◌, slice_index};
+
+mod adding;
+mod combining;
+mod copying;
+mod elements;
+mod fixed;
+mod joining;
+mod kind_laws;
+mod table_check;
+mod table_rows;
+#[cfg(test)]
+mod tests;
+
+pub use combining::{combine, identity};
+pub use copying::copy_of;
+pub use elements::{add_element, inject};
+pub use fixed::sum_of;
+pub use kind_laws::laws_of;
+pub use table_check::{TableAnswer, check_table};
+pub use table_rows::table_of;
+
+/// An operation on the numbers below `size`, row by row: `a op b` stands at `a * size + b`.
+#[derive(Clone, Copy, Debug, PartialEq, Eq)]
+pub struct Table {
+    pub size: u8,
+    pub unit: u8,
+    pub cells: [u8; 256],
+    ghost unit_in: { unit < size },
+    ghost few: { size ≤ 16 },
+    ghost cells_in: { (i : ℕ) → i < size * size → slice_index cells i < size },
+}
+
+/// What a reducer's operation is.
+#[derive(Clone, Copy, Debug, PartialEq, Eq)]
+pub enum Kind {
+    Add,
+    Mul,
+    Min,
+    Max,
+    And,
+    Or,
+    Xor,
+    List,
+    First(u16),
+    Last(u16),
+    Argmax,
+    Affine,
+    Hist,
+    Table(Table),
+}
+
+/// A value of a reducer. Pieces are worth what they are joined, or merged by key.
+#[derive(Debug, Drop, PartialEq, Eq)]
+pub enum Val {
+    Int(i64),
+    List(Vec<i64>),
+    Pieces(Vec<Vec<i64>>),
+    Arg(Option<(i64, i64)>),
+    Pair(i64, i64),
+    Hist(Vec<(i64, i64)>),
+    HistPieces(Vec<Vec<(i64, i64)>>),
+    Elem(u8),
+}
+
+/// Why an update is refused: for memory, or since a table has no such element.
+#[derive(Clone, Copy, Debug, PartialEq, Eq)]
+pub enum InjectError {
+    NoMemory,
+    BadElement,
+}

@@ -1,0 +1,4 @@
+pub mod Answer
+pub mod Numbers
+pub mod Statements
+pub mod Linkable

@@ -1,0 +1,304 @@
+-- The elision is a fold of the trail.
+use Rattle.std.proofs.Common.{ℕ, zero, suc, ◌+◌, ◌-◌, List, [], ◌∷◌, ◌++◌, Option, Some, None, Result, Ok, Err, ℤ, pos, ◌≡◌, refl, sym, ap, ap₂, ◌∙◌, subst, arith, append_assoc, append-nil, true, false, Bool, cond}
+use Rattle.std.specs.Prelude.{nat_le, ◌/◌, ◌+ℤ◌, slice_get}
+use Rattle.std.specs.Ordering.{int_eq}
+use Rattle.program_tree.specs.Plain.{Name, Deed, bind, enter, read, sync, update, choose, loop, give, Body, end, step, Tree}
+use Rattle.program_tree.specs.declared.Way.TheVariants.{Call, Spawn}
+use Rattle.meaning.specs.declared.FaultKind.{FaultKind}
+use Rattle.meaning.specs.declared.FaultKind.TheVariants.{TooDeep}
+use Rattle.meaning.specs.Tables.{Tables}
+use Rattle.meaning.specs.Outcome.{Log, Accumulators, Fault, Site, Outcome, Place, Reads, Enters, Updates, Reuses, Begins, Syncs, Leaves, Faults, Marks, Out, onward, after, updated, combined}
+use Rattle.meaning.specs.Run.{Run, placed, at, pure, ◌>>=◌}
+use Rattle.meaning.specs.Values.{Env, put, value, values}
+use Rattle.meaning.specs.Statements.{reducers, Job, job_of, proc_of, fresh, put_into, update_of, bounds, turn_values}
+use Rattle.meaning.specs.Elision.{Enter, Next, On, Back, go_on, back_or_zero, turns, all_turns, deed, body, elide, depth_limit}
+use Rattle.meaning.specs.Trail.{Trace, led, child_of, fault_at, env_after, doom_after, settled, evaluated, Go, Runner, entering, after_call, after_spawn, over, Look, mark, opening, inner, turns_walk, half_closed, loop_walk, half_run, halvings, deed_walk, body_walk, run_inside, runner, run}
+use Rattle.std.proofs.Math.Nat.{div-le_self}
+use Rattle.trail_theory.specs.ElisionBeside.{forgotten, Fits, Matches}
+use Rattle.trail_theory.specs.Order.{Every}
+use Rattle.trail_theory.specs.Waiting.{NoReadsDeed, NoReads, HasNoReads}
+use Rattle.trail_theory.proofs.Evaluations.{Told, Calm, calm_value, calm_values, calm_update, calm_bounds}
+use Rattle.trail_theory.proofs.Walks.{GoodRuns, good_runs, has_body}
+use Rattle.trail_theory.proofs.Inside.{doomed}
+
+forgotten_append : (a b : Log) → forgotten (a ++ b) ≡ forgotten a ++ forgotten b
+forgotten_append [] b = refl
+forgotten_append (Reads r ∷ es) b = ap (λ l. Reads r ∷ l) (forgotten_append es b)
+forgotten_append (Enters f args d ∷ es) b = ap (λ l. Enters f args d ∷ l) (forgotten_append es b)
+forgotten_append (Updates n kind w ∷ es) b = ap (λ l. Updates n kind w ∷ l) (forgotten_append es b)
+forgotten_append (Reuses f args ws ∷ es) b = forgotten_append es b
+forgotten_append (Begins n d ∷ es) b = forgotten_append es b
+forgotten_append (Syncs n ∷ es) b = forgotten_append es b
+forgotten_append (Leaves n v ∷ es) b = forgotten_append es b
+forgotten_append (Faults k ∷ es) b = forgotten_append es b
+forgotten_append (Marks f args c ∷ es) b = forgotten_append es b
+
+forgotten_told : (es : Log) → Every Told es → forgotten es ≡ es
+forgotten_told [] h = refl
+forgotten_told (Reads r ∷ es) h = ap (λ l. Reads r ∷ l) (forgotten_told es h.1)
+forgotten_told (Updates n kind w ∷ es) h = ap (λ l. Updates n kind w ∷ l) (forgotten_told es h.1)
+forgotten_told (Enters f args d ∷ es) h = absurd h.0
+forgotten_told (Reuses f args ws ∷ es) h = absurd h.0
+forgotten_told (Begins n d ∷ es) h = absurd h.0
+forgotten_told (Syncs n ∷ es) h = absurd h.0
+forgotten_told (Leaves n v ∷ es) h = absurd h.0
+forgotten_told (Faults k ∷ es) h = absurd h.0
+forgotten_told (Marks f args c ∷ es) h = absurd h.0
+
+pub after_append : (l m : Log) (acc : Accumulators) → after (l ++ m) acc ≡ after m (after l acc)
+after_append [] m acc = refl
+after_append (Reads r ∷ l) m acc = after_append l m acc
+after_append (Enters f args d ∷ l) m acc = after_append l m acc
+after_append (Reuses f args ws ∷ l) m acc = after_append l m (combined acc ws)
+after_append (Begins p d ∷ l) m acc = after_append l m acc
+after_append (Syncs p ∷ l) m acc = after_append l m acc
+after_append (Leaves p v ∷ l) m acc = after_append l m acc
+after_append (Faults f ∷ l) m acc = after_append l m acc
+after_append (Marks f args c ∷ l) m acc = after_append l m acc
+after_append (Updates n kind w ∷ l) m acc = after_append l m (updated acc n kind w (slice_get acc n))
+
+-- the monad's law
+assoc_in : {B C : Type 0} (log qlog : Log) (r : Result B Fault) (g : B → Run C) (acc : Accumulators)
+    → onward (log ++ qlog) r (λ b. g b (after (log ++ qlog) acc)) ≡ record { log = log ++ (onward qlog r (λ b. g b (after qlog (after log acc)))).log; answer = (onward qlog r (λ b. g b (after qlog (after log acc)))).answer }
+assoc_in log qlog (Err e) g acc = refl
+assoc_in log qlog (Ok b) g acc = rw (after_append log qlog acc) (ap (λ l. record { log = l; answer = (g b (after qlog (after log acc))).answer }) (append_assoc log qlog (g b (after qlog (after log acc))).log))
+
+assoc_at : {A B C : Type 0} (log : Log) (r : Result A Fault) (f : A → Run B) (g : B → Run C) (acc : Accumulators)
+    → (let o = onward log r (λ a. f a (after log acc)) in onward o.log o.answer (λ b. g b (after o.log acc))) ≡ onward log r (λ a. (f a >>= g) (after log acc))
+assoc_at log (Err e) f g acc = refl
+assoc_at log (Ok a) f g acc = let q = f a (after log acc) in assoc_in log q.log q.answer g acc
+
+bind_assoc : {A B C : Type 0} (m : Run A) (f : A → Run B) (g : B → Run C) (acc : Accumulators) → ((m >>= f) >>= g) acc ≡ (m >>= (λ a. f a >>= g)) acc
+bind_assoc m f g acc = assoc_at (m acc).log (m acc).answer f g acc
+
+fits_led : (p es : Log) (o : Out Fault ℤ) (q : Log) (out : Outcome) → p ≡ forgotten q → Fits o es out → Fits (record { log = p ++ o.log; answer = o.answer }) (q ++ es) out
+fits_led p es o q (Ok v) e h = ap₂ (λ l a. record { log = l; answer = a }) (ap₂ ◌++◌ e (ap (λ x. x.log) h) ∙ sym (forgotten_append q es)) (ap (λ x. x.answer) h)
+fits_led p es o q (Err k) e h = h
+
+-- an evaluation, and then the rest
+eval_fits : {A : Type 0} (site : Site) (o : Out FaultKind A) (f : A → Run ℤ) (acc : Accumulators) (next : A → Trace) → Calm o → ((a : A) (acc : Accumulators) → Matches (f a acc) (next a)) → Matches ((at site o >>= f) acc) (evaluated None site o next)
+eval_fits site o f acc next calm h = eval_at o.log o.answer calm
+  where
+    eval_at : (log : Log) (r : Result _ FaultKind) → Every Told log → Matches (onward log (placed site r) (λ a. f a (after log acc))) (led log (settled None site r next))
+    eval_at log (Err k) t = refl
+    eval_at log (Ok a) t = fits_led log (next a).events (f a (after log acc)) log (next a).outcome (sym (forgotten_told log t)) (h a (after log acc))
+
+-- a child, and then the rest
+call_fits : (o : Out Fault ℤ) (es : Log) (out : Outcome) (f : ℤ → Run ℤ) (acc : Accumulators) (next : ℤ → Trace) → Fits o es out → ((v : ℤ) (acc : Accumulators) → Matches (f v acc) (next v)) → Matches (onward o.log o.answer (λ a. f a (after o.log acc))) (after_call None (record { events = es; outcome = out }) next)
+call_fits o es (Ok v) f acc next e h = rw e (fits_led (forgotten es) (next v).events (f v (after (forgotten es) acc)) es (next v).outcome refl (h v (after (forgotten es) acc)))
+call_fits o es (Err k) f acc next e h = fails o.log o.answer e
+  where
+    fails : (log : Log) (r : Outcome) → r ≡ Err k → (onward log r (λ a. f a (after log acc))).answer ≡ Err k
+    fails log (Ok v) q = absurd cc
+    fails log (Err j) q = q
+
+spawn_fits : (o : Out Fault ℤ) (es : Log) (out : Outcome) (f : ℤ → Run ℤ) (acc : Accumulators) (next : Outcome → Trace) → Fits o es out → ((v : ℤ) (acc : Accumulators) → Matches (f v acc) (next (Ok v))) → ((k : Fault) → (next (Err k)).outcome ≡ Err k)
+    → Matches (onward o.log o.answer (λ a. f a (after o.log acc))) (after_spawn (record { events = es; outcome = out }) next)
+spawn_fits o es (Ok v) f acc next e h d = call_fits o es (Ok v) f acc (λ w. next (Ok w)) e h
+spawn_fits o es (Err k) f acc next e h d = rw (d k) (call_fits o es (Err k) f acc (λ w. next (Ok w)) e h)
+
+module _ (program : Tree) (tables : Tables) (sight : Accumulators) (enters : Enter) (sub : Runner) where
+  -- the elision's instances beside the trail's
+  pub Elides : Runner → Type 0
+  Elides None = (site : Site) (f : Name) (vs : List ℤ) (acc : Accumulators) → (enters site f vs acc).answer ≡ Err (fault_at site TooDeep)
+  Elides (Some go) = (site : Site) (f : Name) (vs : List ℤ) (n : Place) (acc : Accumulators) → Matches (enters site f vs acc) (go f vs n)
+
+  enter_fits : (r : Runner) → Elides r → (site : Site) (f : Name) (vs : List ℤ) (kont : ℤ → Run ℤ) (acc : Accumulators) (next : Go → Trace)
+      → ((go : Go) → ((n : Place) (acc : Accumulators) → Matches (enters site f vs acc) (go f vs n)) → Matches ((enters site f vs >>= kont) acc) (next go)) → Matches ((enters site f vs >>= kont) acc) (entering None site r next)
+  unfolding Elides
+  enter_fits None e site f vs kont acc next h = fails (enters site f vs acc).log (enters site f vs acc).answer (e site f vs acc)
+    where
+      fails : (log : Log) (r : Outcome) → r ≡ Err (fault_at site TooDeep) → (onward log r (λ a. kont a (after log acc))).answer ≡ Err (fault_at site TooDeep)
+      fails log (Ok v) q = absurd cc
+      fails log (Err j) q = q
+  enter_fits (Some go) e site f vs kont acc next h = h go (λ n acc. e site f vs n acc)
+
+  -- so many iterations, and then the rest
+  abbrev plain : Job → ℕ → ℕ → Run ℤ → Run ℤ
+  plain job zero i k = k
+  plain job (suc count) i k = at job.site (turn_values tables job i) >>= (λ vs. enters job.site job.callee vs >>= (λ v. plain job count (suc i) k))
+
+  plain_bind : (job : Job) (a i : ℕ) (k : Run ℤ) (f : ℤ → Run ℤ) → (plain job a i k >>= f) ≡ plain job a i (k >>= f)
+  plain_bind job zero i k f = refl
+  plain_bind job (suc a) i k f =
+      let F = λ (vs : List ℤ). (enters job.site job.callee vs >>= (λ v. plain job a (suc i) k)) in
+      let one : ((at job.site (turn_values tables job i) >>= F) >>= f) ≡ (at job.site (turn_values tables job i) >>= (λ vs. F vs >>= f)) = λ p acc. bind_assoc (at job.site (turn_values tables job i)) F f acc p in
+      let two : (vs : List ℤ) → (F vs >>= f) ≡ (enters job.site job.callee vs >>= (λ v. plain job a (suc i) (k >>= f))) = λ vs.
+      (let x : (F vs >>= f) ≡ (enters job.site job.callee vs >>= (λ v. plain job a (suc i) k >>= f)) = λ p acc. bind_assoc (enters job.site job.callee vs) (λ v. plain job a (suc i) k) f acc p in
+      x ∙ (λ p. enters job.site job.callee vs >>= (λ v. plain_bind job a (suc i) k f p))) in
+      one ∙ (λ p. at job.site (turn_values tables job i) >>= (λ vs. two vs p))
+
+  plain_of : (job : Job) (a i : ℕ) (k : Run ℤ) → (turns program tables enters job a i >>= (λ u. k)) ≡ plain job a i k
+  plain_of job zero i k = refl
+  plain_of job (suc a) i k =
+      let F = λ (vs : List ℤ). (enters job.site job.callee vs >>= (λ v. turns program tables enters job a (suc i))) in
+      let one : ((at job.site (turn_values tables job i) >>= F) >>= (λ u. k)) ≡ (at job.site (turn_values tables job i) >>= (λ vs. F vs >>= (λ u. k))) = λ p acc. bind_assoc (at job.site (turn_values tables job i)) F (λ u. k) acc p in
+      let two : (vs : List ℤ) → (F vs >>= (λ u. k)) ≡ (enters job.site job.callee vs >>= (λ v. plain job a (suc i) k)) = λ vs.
+      (let x : (F vs >>= (λ u. k)) ≡ (enters job.site job.callee vs >>= (λ v. turns program tables enters job a (suc i) >>= (λ u. k))) = λ p acc. bind_assoc (enters job.site job.callee vs) (λ v. turns program tables enters job a (suc i)) (λ u. k) acc p in
+      x ∙ (λ p. enters job.site job.callee vs >>= (λ v. plain_of job a (suc i) k p))) in
+      one ∙ (λ p. at job.site (turn_values tables job i) >>= (λ vs. two vs p))
+
+  plain_split : (job : Job) (a b i : ℕ) (k : Run ℤ) → plain job (a + b) i k ≡ plain job a i (plain job b (i + a) k)
+  plain_split job zero b i k =
+      let e : 0 + b ≡ b = omega arith in
+      let e' : i + 0 ≡ i = omega arith in
+      rw (e, e') refl
+  plain_split job (suc a) b i k =
+      let e : suc a + b ≡ suc (a + b) = omega arith in
+      let e' : i + suc a ≡ suc i + a = omega arith in
+      rw (e, e') (λ p. at job.site (turn_values tables job i) >>= (λ vs. enters job.site job.callee vs >>= (λ v. plain_split job a b (suc i) k p)))
+
+  abbrev finish : (Env → Run ℤ) → Next → Run ℤ
+  finish kont (On env) = kont env
+  finish kont (Back v) = pure v
+
+  fits_closed : (o : Out Fault ℤ) (n : Place) (es : Log) (out : Outcome) → Fits o es out → Fits o (es ++ Leaves n out ∷ []) out
+  fits_closed o n es (Ok v) h = h ∙ ap (λ l. record { log = l; answer = Ok v }) (sym (forgotten_append es (Leaves n (Ok v) ∷ []) ∙ append-nil (forgotten es)))
+  fits_closed o n es (Err k) h = h
+
+  fits_begun : (o : Out Fault ℤ) (n : Place) (d : ℕ) (es : Log) (out : Outcome) → Fits o es out → Fits o (Begins n d ∷ es) out
+  fits_begun o n d es (Ok v) h = h
+  fits_begun o n d es (Err k) h = h
+
+  fits_synced : (o : Out Fault ℤ) (n : Place) (es : Log) (out : Outcome) → Fits o es out → Fits o (Syncs n ∷ es) out
+  fits_synced o n es (Ok v) h = h
+  fits_synced o n es (Err k) h = h
+
+  module _ (good : Elides sub) where
+    turns_fit : (job : Job) (count i : ℕ) (n : Place) (c : ℕ) (acc : Accumulators) → Matches (plain job count i (pure (pos 0)) acc) (turns_walk program tables sight sub job count i n c None)
+    turns_fit job zero i n c acc = refl
+    turns_fit job (suc count) i n c acc =
+        eval_fits job.site (turn_values tables job i) (λ vs. enters job.site job.callee vs >>= (λ v. plain job count (suc i) (pure (pos 0)))) acc _ (calm_values tables (put job.env job.variable (job.low +ℤ pos i)) job.args) (λ vs acc'.
+        enter_fits sub good job.site job.callee vs (λ v. plain job count (suc i) (pure (pos 0))) acc' _ (λ go e.
+        let r = go job.callee vs (child_of n c) in
+        call_fits (enters job.site job.callee vs acc') r.events r.outcome (λ v. plain job count (suc i) (pure (pos 0))) acc' (λ v. turns_walk program tables sight sub job count (suc i) n (suc c) None) (e (child_of n c) acc') (λ v acc''. turns_fit job count (suc i) n (suc c) acc'')))
+
+    cond_fits : (b : Bool) (o : Out Fault ℤ) (x y : Trace) → Matches o x → Matches o y → Matches o (cond b x y)
+    cond_fits true o x y h k = h
+    cond_fits false o x y h k = k
+
+    half_fits : (left : ℕ) (o : Out Fault ℤ) (n : Place) (es : Log) (out : Outcome) → Fits o es out → Matches o (half_closed program tables sight sub left n (record { events = es; outcome = out }))
+    half_fits left o n es out h = fits_begun o n (depth_limit - left) (es ++ Leaves n out ∷ []) out (fits_closed o n es out h)
+
+    call_doomed : (n : Place) (d : Fault) (es : Log) (o : Outcome) → (after_call (Some d) (record { events = es; outcome = o }) (λ v. over n (Some d) (pos 0))).outcome ≡ Err d
+    call_doomed n d es (Ok v) = refl
+    call_doomed n d es (Err j) = refl
+
+    -- a loop by halves is the plain loop
+    loop_fit : (left k : ℕ) (job : Job) (count i : ℕ) (n : Place) (c : ℕ) (acc : Accumulators) → Matches (plain job count i (pure (pos 0)) acc) (loop_walk program tables sight sub left k job count i n c None)
+    loop_fit left zero job count i n c acc = turns_fit job count i n c acc
+    loop_fit left (suc k) job count i n c acc =
+        let a = count / 2 in
+        let b = count - count / 2 in
+        let whole : a + b ≡ count = omega (arith, div-le_self count 2) in
+        let x = loop_walk program tables sight sub left k job a i (child_of n c) 1 None in
+        let y = loop_walk program tables sight sub left k job b (i + a) (child_of n (suc c)) 1 None in
+        let first = half_closed program tables sight sub left (child_of n c) x in
+        let second = half_closed program tables sight sub left (child_of n (suc c)) y in
+        let f = λ (v : ℤ). plain job b (i + a) (pure (pos 0)) in
+        let e : plain job count i (pure (pos 0)) ≡ (plain job a i (pure (pos 0)) >>= f) = ap (λ m. plain job m i (pure (pos 0))) (sym whole) ∙ plain_split job a b i (pure (pos 0)) ∙ sym (plain_bind job a i (pure (pos 0)) f) in
+        let next = λ (o : Outcome). after_call (doom_after None o) second (λ v. over n (doom_after None o) (pos 0)) in
+        let last : (acc : Accumulators) → Matches (plain job b (i + a) (pure (pos 0)) acc) (next (Ok (pos 0))) = λ acc. subst (λ m. Matches (m acc) (next (Ok (pos 0)))) (plain_bind job b (i + a) (pure (pos 0)) (λ v. pure (pos 0))) (call_fits (plain job b (i + a) (pure (pos 0)) acc) second.events second.outcome (λ v. pure (pos 0)) acc (λ v. over n None (pos 0)) (half_fits left (plain job b (i + a) (pure (pos 0)) acc) (child_of n (suc c)) y.events y.outcome (loop_fit left k job b (i + a) (child_of n (suc c)) 1 acc)) (λ v acc'. refl)) in
+        cond_fits (nat_le count job.grain) (plain job count i (pure (pos 0)) acc) _ _ (turns_fit job count i n c acc)
+        (subst (λ m. Matches (m acc) (after_spawn first next)) (sym e)
+        (spawn_fits (plain job a i (pure (pos 0)) acc) first.events first.outcome f acc next (half_fits left (plain job a i (pure (pos 0)) acc) (child_of n c) x.events x.outcome (loop_fit left k job a i (child_of n c) 1 acc)) (λ v acc'. last acc') (λ d. call_doomed n d second.events second.outcome)))
+
+    -- what an evaluation is followed by, in a statement
+    deed_eval : {A : Type 0} (site : Site) (o : Out FaultKind A) (F : A → Run Next) (kont : Env → Run ℤ) (acc : Accumulators) (next : A → Trace) → Calm o → ((a : A) (acc : Accumulators) → Matches ((F a >>= finish kont) acc) (next a)) → Matches (((at site o >>= F) >>= finish kont) acc) (evaluated None site o next)
+    deed_eval site o F kont acc next calm h =
+        subst (λ m. Matches m (evaluated None site o next)) (sym (bind_assoc (at site o) F (finish kont) acc)) (eval_fits site o (λ a. F a >>= finish kont) acc next calm h)
+
+    either_fits : (b : Bool) (x y : Run Next) (kont : Env → Run ℤ) (acc : Accumulators) (p q : Trace) → Matches ((x >>= finish kont) acc) p → Matches ((y >>= finish kont) acc) q → Matches ((cond b x y >>= finish kont) acc) (cond b p q)
+    either_fits true x y kont acc p q h k = h
+    either_fits false x y kont acc p q h k = k
+
+    same_next : (F : Env → Run Next) (kont : Env → Run ℤ) (x : Next) → (go_on x F >>= finish kont) ≡ finish (λ env. F env >>= finish kont) x
+    same_next F kont (On env) = refl
+    same_next F kont (Back v) = refl
+
+    loop_deed : (n : Place) (c : ℕ) (env : Env) (kont : Env → Run ℤ) (left : ℕ) (job : Job) (count : ℕ) (next : Trace) → ((acc : Accumulators) → Matches (kont env acc) next) → (acc : Accumulators)
+        → Matches (((all_turns program tables enters job count >>= (λ u. pure (On env))) >>= finish kont) acc) (after_call None (half_run program tables sight sub left halvings job count 0 (child_of n c)) (λ v. next))
+    unfolding all_turns
+    loop_deed n c env kont left job count next h acc =
+        let r = loop_walk program tables sight sub left halvings job count 0 (child_of n c) 1 None in
+        let w = half_closed program tables sight sub left (child_of n c) r in
+        let o = plain job count 0 (pure (pos 0)) acc in
+        let e : ((turns program tables enters job count 0 >>= (λ u. pure (On env))) >>= finish kont) acc ≡ (plain job count 0 (pure (pos 0)) >>= (λ v. kont env)) acc =
+        bind_assoc (turns program tables enters job count 0) (λ u. pure (On env)) (finish kont) acc ∙ (λ p. plain_of job count 0 (kont env) p acc) ∙ sym (λ p. plain_bind job count 0 (pure (pos 0)) (λ v. kont env) p acc) in
+        subst (λ m. Matches m (after_call None w (λ v. next))) (sym e)
+        (call_fits o w.events w.outcome (λ v. kont env) acc (λ v. next) (half_fits left o (child_of n c) r.events r.outcome (loop_fit left halvings job count 0 (child_of n c) 1 acc)) (λ v acc'. h acc'))
+
+    module _ (left : ℕ) (sound : GoodRuns (λ n c d r. (k : Fault) → d ≡ Some k → r.outcome ≡ Err k) (λ n r. Unit {0}) doomed program tables sight sub) where
+      abbrev Goes : Place → (Env → Run ℤ) → (Env → ℕ → Option Fault → Trace) → Type 0
+      Goes n kont k = ((env : Env) (c : ℕ) (acc : Accumulators) → Matches (kont env acc) (k env c None)) × ((env : Env) (c : ℕ) (d : Option Fault) (e : Fault) → d ≡ Some e → (k env c d).outcome ≡ Err e)
+
+      mutual
+        deed_fits : (n : Place) (site : Site) (d : Deed) → NoReadsDeed d → (env : Env) (c : ℕ) (kont : Env → Run ℤ) (k : Env → ℕ → Option Fault → Trace) → Goes n kont k → (acc : Accumulators) → Matches ((deed program tables enters site env d >>= finish kont) acc) (deed_walk program tables sight sub left n site d env c None k)
+        deed_fits n site (bind x e) nr env c kont k g acc = deed_eval site (value tables env e) (λ v. pure (On (put env x v))) kont acc _ (calm_value tables env e) (λ v acc'. g.0 (put env x v) c acc')
+        deed_fits n site (enter x Call f es) nr env c kont k g acc =
+            deed_eval site (values tables env es) (λ vs. enters site f vs >>= (λ v. pure (On (put_into x env v)))) kont acc _ (calm_values tables env es) (λ vs acc'.
+            subst (λ m. Matches m (entering None site sub (λ go. after_call None (go f vs (child_of n c)) (λ v. k (put_into x env v) (suc c) None)))) (sym (bind_assoc (enters site f vs) (λ v. pure (On (put_into x env v))) (finish kont) acc'))
+            (enter_fits sub good site f vs (λ v. kont (put_into x env v)) acc' _ (λ go e.
+            let r = go f vs (child_of n c) in
+            call_fits (enters site f vs acc') r.events r.outcome (λ v. kont (put_into x env v)) acc' (λ v. k (put_into x env v) (suc c) None) (e (child_of n c) acc') (λ v acc''. g.0 (put_into x env v) (suc c) acc''))))
+        deed_fits n site (enter x Spawn f es) nr env c kont k g acc =
+            deed_eval site (values tables env es) (λ vs. enters site f vs >>= (λ v. pure (On (put_into x env v)))) kont acc _ (calm_values tables env es) (λ vs acc'.
+            subst (λ m. Matches m (entering None site sub (λ go. after_spawn (go f vs (child_of n c)) (λ o. k (env_after env x o) (suc c) (doom_after None o))))) (sym (bind_assoc (enters site f vs) (λ v. pure (On (put_into x env v))) (finish kont) acc'))
+            (enter_fits sub good site f vs (λ v. kont (put_into x env v)) acc' _ (λ go e.
+            let r = go f vs (child_of n c) in
+            spawn_fits (enters site f vs acc') r.events r.outcome (λ v. kont (put_into x env v)) acc' (λ o. k (env_after env x o) (suc c) (doom_after None o)) (e (child_of n c) acc') (λ v acc''. g.0 (put_into x env v) (suc c) acc'') (λ d. g.1 (env_after env x (Err d)) (suc c) (Some d) d refl))))
+        deed_fits n site (read x r) nr env c kont k g acc = absurd nr
+        deed_fits n site sync nr env c kont k g acc = fits_synced (kont env acc) n (k env c None).events (k env c None).outcome (g.0 env c acc)
+        deed_fits n site (update r es) nr env c kont k g acc = deed_eval site (update_of tables (reducers program) env r es) (λ u. pure (On env)) kont acc _ (calm_update tables (reducers program) env r es) (λ u acc'. g.0 env c acc')
+        deed_fits n site (choose e a b) nr env c kont k g acc =
+            deed_eval site (value tables env e) (λ v. cond (int_eq v (pos 0)) (body program tables enters site.procedure env b) (body program tables enters site.procedure env a)) kont acc _ (calm_value tables env e) (λ v acc'.
+            either_fits (int_eq v (pos 0)) (body program tables enters site.procedure env b) (body program tables enters site.procedure env a) kont acc' _ _ (body_fits n site.procedure b nr.1 env c kont k g acc') (body_fits n site.procedure a nr.0 env c kont k g acc'))
+        deed_fits n site (loop x e e' grain f es) nr env c kont k g acc =
+            deed_eval site (bounds tables env e e') (λ range. all_turns program tables enters (job_of site env x f es grain range.0) range.1 >>= (λ u. pure (On env))) kont acc _ (calm_bounds tables env e e') (λ range acc'.
+            loop_deed n c env kont left (job_of site env x f es grain range.0) range.1 (k env (suc c) None) (λ acc''. g.0 env (suc c) acc'') acc')
+        deed_fits n site (give e) nr env c kont k g acc = deed_eval site (value tables env e) (λ v. pure (Back v)) kont acc _ (calm_value tables env e) (λ v acc'. refl)
+
+        body_fits : (n : Place) (here : Name) (b : Body) → NoReads b → (env : Env) (c : ℕ) (kont : Env → Run ℤ) (k : Env → ℕ → Option Fault → Trace) → Goes n kont k → (acc : Accumulators) → Matches ((body program tables enters here env b >>= finish kont) acc) (body_walk program tables sight sub left n here b env c None k)
+        body_fits n here end nr env c kont k g acc = g.0 env c acc
+        body_fits n here (step s d b) nr env c kont k g acc =
+            let site : Site = record { procedure = here; statement = s } in
+            let F = λ (env' : Env). body program tables enters here env' b in
+            let k' = λ (env' : Env) (c' : ℕ) (d' : Option Fault). body_walk program tables sight sub left n here b env' c' d' k in
+            let e : ((deed program tables enters site env d >>= (λ x. go_on x F)) >>= finish kont) acc ≡ (deed program tables enters site env d >>= finish (λ env'. F env' >>= finish kont)) acc
+            = bind_assoc (deed program tables enters site env d) (λ x. go_on x F) (finish kont) acc ∙ (λ p. (deed program tables enters site env d >>= (λ x. same_next F kont x p)) acc) in
+            subst (λ m. Matches m (deed_walk program tables sight sub left n site d env c None k')) (sym e)
+            (deed_fits n site d nr.0 env c (λ env'. F env' >>= finish kont) k' ((λ env' c' acc'. body_fits n here b nr.1 env' c' kont k g acc'), (λ env' c' d' e'. has_body _ _ doomed program tables sight sub sound left n here b env' c' d' k (λ env'' c'' d'' e'' q. g.1 env'' c'' d'' e'' q) e')) acc)
+
+-- where no procedure reads a reducer
+module _ (program : Tree) (tables : Tables) (sight : Accumulators) where
+  same_back : (x : Next) → pure (back_or_zero x) ≡ elim x as (λ x. Run ℤ) [ On env ↦ pure (pos 0) | Back v ↦ pure v ]
+  same_back (On env) = refl
+  same_back (Back v) = refl
+
+  forgotten_opening : (look : Look) (left : ℕ) (f : Name) (vs : List ℤ) (n : Place) (memo : Bool) → forgotten (mark look f vs (depth_limit - left) memo ++ Enters f vs (depth_limit - left) ∷ []) ≡ Enters f vs (depth_limit - left) ∷ []
+  forgotten_opening None left f vs n memo = refl
+  forgotten_opening (Some l) left f vs n false = refl
+  forgotten_opening (Some l) left f vs n true = refl
+
+  over_doomed : (n : Place) (d : Option Fault) (e : Fault) → d ≡ Some e → (over n d (pos 0)).outcome ≡ Err e
+  over_doomed n None e q = absurd cc
+  over_doomed n (Some i) e q = let r : i ≡ e = cc in ap Err r
+
+  pub elide_fits : HasNoReads program → (left : ℕ) (look : Look) → Elides program tables sight (elide program tables left) (runner program tables sight left look) (runner program tables sight left look)
+  unfolding Elides runner elide
+  elide_fits h zero look = λ site f vs acc. refl
+  elide_fits h (suc left) look = λ site f vs n acc.
+      let k = inner program look left f vs in
+      let sub = runner program tables sight left k in
+      let p = proc_of program f in
+      let w = run_inside program tables sight sub left f vs n in
+      let env = fresh p.names vs in
+      let b = body program tables (elide program tables left) p.called env p.body in
+      let o = (b >>= (λ next. pure (back_or_zero next))) acc in
+      let fit : Matches o w = subst (λ m. Matches m w) (λ q. (b >>= (λ x. sym (same_back x) q)) acc)
+      (body_fits program tables sight (elide program tables left) sub (elide_fits h left k) left (good_runs _ _ doomed program tables sight left k) n p.called p.body (h f) env 1 (λ env'. pure (pos 0)) (λ env' c d. over n d (pos 0)) ((λ env' c acc'. refl), (λ env' c d e q. over_doomed n d e q)) acc) in
+      fits_led (Enters f vs (depth_limit - left) ∷ []) (w.events ++ Leaves n w.outcome ∷ []) o (opening program look left f vs n) w.outcome (sym (forgotten_opening look left f vs n p.memo)) (fits_closed program tables sight (elide program tables left) sub o n w.events w.outcome fit)
+
+  pub run_fits : HasNoReads program → (left : ℕ) (look : Look) (site : Site) (f : Name) (vs : List ℤ) (n : Place) (acc : Accumulators) → Matches (elide program tables (suc left) site f vs acc) (run program tables sight left look f vs n)
+  unfolding Elides runner elide
+  run_fits h left look site f vs n acc = elide_fits h (suc left) look site f vs n acc

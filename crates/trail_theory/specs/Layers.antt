@@ -1,0 +1,66 @@
+-- The layers of a strand: what each has noted of the trail, and the product of two.
+use Rattle.std.specs.Prelude.{◌≡◌, ◌↔◌, ℕ, ◌+◌, ◌-◌, List, [], ◌∷◌, ◌++◌, map, max, slice_get}
+use Rattle.std.specs.List.{Contains}
+use Rattle.program_tree.specs.Plain.{Name, Tree}
+use Rattle.meaning.specs.Outcome.{Log, Accumulators, Event, Reads, Enters, Updates, Reading, updated, combined}
+use Rattle.meaning.specs.Statements.{reducers, identities}
+use Rattle.meaning.specs.Records.{Kept, with_kinds}
+use Rattle.meaning.specs.SmallStep.{Layers, noting, opening_one, closing_one}
+
+-- what a layer has noted
+pub record Notes : Type 0 where
+  pub worth : Accumulators
+  pub read : List Reading
+  pub entered : List Name
+  pub deepest : ℕ
+
+abbrev pub noted_one : Notes → Event → Notes
+noted_one l (Reads r) = record { worth = l.worth; read = l.read ++ r ∷ []; entered = l.entered; deepest = l.deepest }
+noted_one l (Enters f args depth) = record { worth = l.worth; read = l.read; entered = l.entered ++ f ∷ []; deepest = max l.deepest depth }
+noted_one l (Updates n kind w) = record { worth = updated l.worth n kind w (slice_get l.worth n); read = l.read; entered = l.entered; deepest = l.deepest }
+noted_one l _ = l
+
+abbrev pub noted : Notes → Log → Notes
+noted l [] = l
+noted l (e ∷ es) = noted (noted_one l e) es
+
+abbrev pub blank : Tree → Notes
+blank program = record { worth = identities program; read = []; entered = []; deepest = 0 }
+
+abbrev pub notes : Tree → Log → Notes
+notes program es = noted (blank program) es
+
+-- a layer, and one behind it
+abbrev pub multiplied : Tree → Notes → Notes → Notes
+multiplied program a b = record { worth = combined a.worth (with_kinds (reducers program) b.worth); read = a.read ++ b.read; entered = a.entered ++ b.entered; deepest = max a.deepest b.deepest }
+
+abbrev pub notes_of : Kept → ℕ → Notes
+notes_of k depth = record { worth = k.contribution; read = k.read; entered = map (λ p. p.0) k.revisions; deepest = depth + k.height - 1 }
+
+-- two layers that have noted the same: reads and procedures as sets
+pub record SameNotes (a b : Notes) : Type 0 where
+  pub worth : a.worth ≡ b.worth
+  pub deepest : a.deepest ≡ b.deepest
+  pub read : (r : Reading) → Contains a.read r ↔ Contains b.read r
+  pub entered : (f : Name) → Contains a.entered f ↔ Contains b.entered f
+
+-- layers, the top one first
+abbrev pub noted_top : List Notes → Log → List Notes
+noted_top [] es = []
+noted_top (l ∷ ls) es = noted l es ∷ ls
+
+abbrev pub layers_after : Tree → Layers → List Notes → List Notes
+layers_after program noting ls = ls
+layers_after program opening_one ls = blank program ∷ ls
+layers_after program closing_one [] = []
+layers_after program closing_one (a ∷ []) = a ∷ []
+layers_after program closing_one (a ∷ b ∷ ls) = multiplied program b a ∷ ls
+
+abbrev pub take_top : Tree → Notes → List Notes → List Notes
+take_top program k [] = []
+take_top program k (l ∷ ls) = multiplied program l k ∷ ls
+
+abbrev pub bottom : List Notes → Accumulators
+bottom [] = []
+bottom (l ∷ []) = l.worth
+bottom (l ∷ m ∷ ls) = bottom (m ∷ ls)

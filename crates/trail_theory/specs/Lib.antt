@@ -1,0 +1,12 @@
+pub mod Order
+pub mod Waiting
+pub mod SerialRest
+pub mod Layers
+pub mod LayeredStrand
+pub mod TaskFits
+pub mod Right
+pub mod ElisionBeside
+pub mod Typed
+pub mod MadeRecords
+pub mod Theorems
+pub mod Calm

@@ -1,0 +1,112 @@
+//! The theory of the serial trail and of strands: what follows from the definitions alone.
+#![tactic(auto)]
+
+ghost use Rattle.std.specs.Prelude.{ℕ};
+ghost use Rattle.program_tree.specs.Plain.{Tree};
+ghost use Rattle.meaning.specs.Outcome.{Accumulators};
+ghost use Rattle.meaning.specs.Records.{IsSound, Kept, Revised};
+ghost use Rattle.meaning.specs.SmallStep.{Lookup};
+ghost use Rattle.meaning.specs.Tables.{Tables};
+ghost use Rattle.meaning.specs.Trail.{Look, trail_at};
+ghost use Rattle.trail_theory.specs.Calm.{CalmStays};
+ghost use Rattle.trail_theory.specs.MadeRecords.{AnswersBySound, IsLater, IsMade};
+ghost use Rattle.trail_theory.specs.Order.{Every, LeavesInOrder};
+ghost use Rattle.trail_theory.specs.Right.{LookupIsSound, StretchesMultiply};
+ghost use Rattle.trail_theory.specs.Theorems.{ElisionIsTrail, RecordsAreSound, FirstIsRight, AdvanceStaysRight, InlineStaysRight, DetachStaysRight, ContinuationIsRight, StolenIsRight, PopStaysRight, JoinStaysRight, EndsWithElision, FaultsWithElision};
+ghost use Rattle.trail_theory.specs.Typed.{HasMonoids, IsTyped, ProgramFits, SightFits, TablesFit, kinds_of};
+ghost use Rattle.trail_theory.specs.Waiting.{IsChecked, HasNoReads};
+
+/// On the trail each instance is left before those whose names come later: children before their parent, earlier children before later ones.
+pub fn trail_is_in_order()
+    ensures order { (program : Tree) (tables : Tables) (sight : Accumulators) (look : Look) → LeavesInOrder (trail_at program tables sight look) }
+{}
+
+/// Where no procedure reads a reducer, an instance's elision is its stretch of the trail: the same number and events, or the same fault.
+pub fn elision_is_trail()
+    ensures same { (program : Tree) (tables : Tables) (sight : Accumulators) → HasNoReads program → ElisionIsTrail program tables sight }
+{}
+
+/// Where no procedure reads a reducer, records that say what the elision of their keys gives answer only with the runs that they stand for.
+pub fn records_are_sound()
+    ensures sound { (program : Tree) (tables : Tables) (sight : Accumulators) (lookup : Lookup) → HasNoReads program → RecordsAreSound program tables sight lookup }
+{}
+
+/// A record of what the elision notes of an instance at one depth, with one moment's tables, is sound: at every depth that fits, and with all tables that agree with its reads.
+pub fn made_record_is_sound()
+    ensures sound { (program : Revised) (tables : Tables) (depth : ℕ) (k : Kept) → IsMade program tables depth k → IsSound program k }
+{}
+
+/// A sound record stays sound as procedures are defined anew, where a procedure whose revision number is as it was is the same.
+pub fn sound_record_stays_sound()
+    ensures sound { (program : Revised) (later : Revised) (k : Kept) → IsLater program later → IsSound program k → IsSound later k }
+{}
+
+/// Where no procedure reads a reducer, records that are sound, hold now and fit below their depth answer only with the runs that they stand for.
+pub fn valid_records_are_sound()
+    ensures sound { (program : Revised) (tables : Tables) (sight : Accumulators) (lookup : Lookup) → HasNoReads program.tree → AnswersBySound program tables lookup → LookupIsSound program.tree tables sight lookup }
+{}
+
+/// Each update on the trail is of its reducer's kind, where the numbers of the program and of the tables fit 64 bits.
+pub fn trail_is_typed()
+    ensures typed { (program : Tree) (tables : Tables) (sight : Accumulators) (look : Look) → ProgramFits program → TablesFit tables → SightFits program sight → Every (IsTyped (kinds_of program)) (trail_at program tables sight look) }
+{}
+
+/// The layers of neighbouring stretches of the trail multiply to the layer of both, where each kind is a monoid and numbers fit 64 bits.
+pub fn stretches_multiply()
+    ensures multiply { (program : Tree) (tables : Tables) (sight : Accumulators) (lookup : Lookup) → HasMonoids program → ProgramFits program → TablesFit tables → SightFits program sight → StretchesMultiply program tables sight lookup }
+{}
+
+/// The strand of main is right before it begins.
+pub fn first_is_right()
+    ensures right { (program : Tree) (tables : Tables) (sight : Accumulators) (lookup : Lookup) → FirstIsRight program tables sight lookup }
+{}
+
+/// A small step keeps a right strand right.
+pub fn advance_stays_right()
+    ensures right { (program : Tree) (tables : Tables) (sight : Accumulators) (lookup : Lookup) → StretchesMultiply program tables sight lookup → IsChecked program → LookupIsSound program tables sight lookup → AdvanceStaysRight program tables sight lookup }
+{}
+
+/// At a spawn, a right strand that enters the child as a call stays right.
+pub fn inline_stays_right()
+    ensures right { (program : Tree) (tables : Tables) (sight : Accumulators) (lookup : Lookup) → InlineStaysRight program tables sight lookup }
+{}
+
+/// At a spawn, the child alone is a right strand.
+pub fn detach_stays_right()
+    ensures right { (program : Tree) (tables : Tables) (sight : Accumulators) (lookup : Lookup) → DetachStaysRight program tables sight lookup }
+{}
+
+/// At a spawn, what a right strand leaves behind the child is a right continuation.
+pub fn continuation_is_right()
+    ensures right { (program : Tree) (tables : Tables) (sight : Accumulators) (lookup : Lookup) → ContinuationIsRight program tables sight lookup }
+{}
+
+/// A strand that a steal makes of a right continuation is right.
+pub fn stolen_is_right()
+    ensures right { (program : Tree) (tables : Tables) (sight : Accumulators) (lookup : Lookup) → StolenIsRight program tables sight lookup }
+{}
+
+/// A right strand whose child has returned and that goes on with the right continuation behind it stays right.
+pub fn pop_stays_right()
+    ensures right { (program : Tree) (tables : Tables) (sight : Accumulators) (lookup : Lookup) → StretchesMultiply program tables sight lookup → PopStaysRight program tables sight lookup }
+{}
+
+/// Two right strands, neighbours on the trail, joined where no name would wait for a child that ends later, are a right strand.
+pub fn join_stays_right()
+    ensures right { (program : Tree) (tables : Tables) (sight : Accumulators) (lookup : Lookup) → StretchesMultiply program tables sight lookup → JoinStaysRight program tables sight lookup }
+{}
+
+/// Where no procedure reads a reducer, a right strand of main that is over has the elision's answer from scratch.
+pub fn ends_with_elision()
+    ensures answer { (program : Tree) (tables : Tables) (sight : Accumulators) (lookup : Lookup) → HasNoReads program → EndsWithElision program tables sight lookup }
+{}
+
+/// Where no procedure reads a reducer, a right strand at the trail's beginning that has a fault has the elision's fault from scratch.
+pub fn faults_with_elision()
+    ensures answer { (program : Tree) (tables : Tables) (sight : Accumulators) (lookup : Lookup) → HasNoReads program → FaultsWithElision program tables sight lookup }
+{}
+
+/// Where no procedure reads a reducer, a strand stands at no read at any time of its life, so that a small step needs no premise of what a read sees.
+pub fn calm_stays()
+    ensures calm { (program : Tree) (tables : Tables) (lookup : Lookup) → HasNoReads program → CalmStays program tables lookup }
+{}

@@ -1,0 +1,14 @@
+//! Views of reducers, kits of them, and the pool of kits.
+#![tactic(auto)]
+
+mod kit;
+mod plain_view;
+mod pool;
+#[cfg(test)]
+mod tests;
+mod view;
+
+pub use kit::Kit;
+pub use plain_view::PlainView;
+pub use pool::{KitSource, Pool};
+pub use view::View;

@@ -1,0 +1,106 @@
+//! The pool of kits, and where kits come from and go home to.
+ghost use Rattle.std.specs.Prelude.{◌≡◌, ◌≤◌, ◌<◌, OnOk, OnErr, IfErr, IsOk, IsNone, IfSome, length, ◌++◌, ◌∷◌, [], option_to_list, ◌↔◌, ◌⊎◌, Contains};
+
+use std::marker::Model;
+
+/// Where kits of type `K` come from and go home to.
+pub trait KitSource<K> {
+    /// It may give a kit that is seen as this.
+    ghost gives: { K → Self → Type 0 };
+
+    /// A kit that is seen as this may come home.
+    ghost fits: { K → Self → Type 0 };
+
+    /// A free kit, if there is one.
+    fn take(&mut self) -> Option<K>
+        ensures given { IfSome result (λ k. gives k self.old) }
+        ensures fitting { (k : K) → fits k self.old → fits k self.new }
+        ensures kept { (k : K) → gives k self.new → gives k self.old };
+
+    /// Takes a kit home, or hands it back.
+    fn give(&mut self, kit: K) -> Result<(), K>
+        requires fits { fits kit self.old }
+        ensures fitting { (k : K) → fits k self.old → fits k self.new }
+        ensures kept { (k : K) → gives k self.new → gives k self.old ⊎ kit ≡ k }
+        ensures handed_back { IfErr result (λ k. k ≡ kit) };
+}
+
+/// The kits of type `K` that are free, and how many there are in all.
+#[derive(Drop)]
+pub struct Pool<K> {
+    kits: Vec<K>,
+    total: usize,
+}
+
+impl<K> Model for Pool<K> {
+    ghost use Rattle.std.specs.Prelude.{◌≤◌, vec_capacity, length};
+    ghost use Rattle.view_pool.specs.Stock.{Stock};
+
+    ghost Value = { Stock K };
+
+    ghost view = { λ s. record { kits = s.kits.items; total = s.total } };
+
+    ghost invariant = { λ s. (length s.kits.items ≤ s.total) × (s.total ≤ vec_capacity s.kits) };
+}
+
+impl<K> Pool<K> {
+    /// A pool of these kits, all free.
+    pub fn new(kits: Vec<K>) -> Self
+        ensures { result ≡ record { kits = kits.items; total = length kits.items } }
+    {
+        let total = kits.len();
+        Pool { kits, total }
+    }
+
+    /// How many kits are free.
+    pub fn free(&self) -> usize
+        ensures { result ≡ length self.now.kits }
+    {
+        self.kits.len()
+    }
+
+    /// How many kits there are in all, free or not.
+    pub fn total(&self) -> usize
+        ensures { result ≡ self.now.total }
+    {
+        self.total
+    }
+
+    /// A free kit; none only where no kit is free.
+    pub fn take(&mut self) -> Option<K>
+        ensures one { self.old.kits ≡ self.new.kits ++ option_to_list result }
+        ensures none { IsNone result → self.old.kits ≡ [] }
+        ensures total { self.new.total ≡ self.old.total }
+    {
+        self.kits.pop()
+    }
+
+    /// Puts a kit among the free ones, or hands it back where all are there already.
+    pub fn give(&mut self, kit: K) -> Result<(), K>
+        ensures given { OnOk result (self.new.kits ≡ self.old.kits ++ kit ∷ []) }
+        ensures full { IsOk result ↔ (length self.old.kits < self.old.total) }
+        ensures unchanged { OnErr result (self.new.kits ≡ self.old.kits) }
+        ensures handed_back { IfErr result (λ k. k ≡ kit) }
+        ensures total { self.new.total ≡ self.old.total }
+    {
+        if self.kits.len() >= self.total {
+            return Err(kit);
+        }
+        self.kits.push_reserved(kit);
+        Ok(())
+    }
+}
+
+impl<K> KitSource<K> for Pool<K> {
+    ghost gives = { λ k s. Contains s.kits k };
+
+    ghost fits = { λ k s. Unit {0} };
+
+    fn take(&mut self) -> Option<K> {
+        Pool::take(self)
+    }
+
+    fn give(&mut self, kit: K) -> Result<(), K> {
+        Pool::give(self, kit)
+    }
+}

@@ -1,0 +1,5 @@
+pub mod Kits
+pub mod Pieces
+pub mod Keeps
+pub mod Cores
+pub mod Samples
