@@ -2,6 +2,8 @@
 #![tactic(auto)]
 
 pub mod answers;
+#[cfg(test)]
+mod core_tests;
 pub mod line;
 pub mod options;
 pub mod prepare;

@@ -9,9 +9,10 @@ ghost use Rattle.spawn_checker.specs.Answer.{IsRefusal};
 ghost use Rattle.cli.specs.Preparing.{IsPrepared, IsProgram, IsRefused};
 
 use checked_program::checked::Checked;
+use checked_program::violation::Rule;
 use input_tables::{Tables, TablesError};
 use procedure_parser::{TextError, parse};
-use spawn_checker::{CheckError, Rule, check};
+use spawn_checker::{CheckError, check};
 use std::alloc::Global;
 use thiserror::Error;
 
