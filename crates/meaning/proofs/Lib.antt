@@ -1,2 +1,5 @@
 pub mod Samples
 pub mod Paths
+pub mod Runs
+pub mod Reruns
+pub mod Recordings

@@ -1,14 +1,11 @@
 -- What the steps of one strand and the edits give on small programs, by computation.
-use Rattle.std.specs.Prelude.{◌≡◌, ℕ, zero, suc, ℤ, pos, Bool, true, false, List, [], ◌∷◌, Option, Some, None, Result, Ok, Err}
+use Rattle.std.specs.Prelude.{◌≡◌, ℕ, zero, suc, ℤ, pos, List, [], ◌∷◌, Option, Some, None, Ok, Err}
 use Rattle.std.proofs.Common.{refl}
 use Rattle.std.specs.Int.{int_wrap}
 use Rattle.monoid_laws.specs.Worth as w
-use Rattle.program_tree.specs.Plain.{Name, Tree}
-use Rattle.meaning.specs.Tables.{Tables}
 use Rattle.meaning.specs.Outcome.{Accumulators}
-use Rattle.meaning.specs.Records.{Revised}
-use Rattle.meaning.specs.OneStrand.{Alone, Laid, Done, Broken, first_alone, worked, pushed, inlined_of, popped, stalled}
-use Rattle.meaning.specs.Edits.{Standing, EditRefusal, UnknownTable, WrongColumns, RowRange, NoRow, Exhausted, after_put, after_delete, most}
+use Rattle.meaning.specs.OneStrand.{Alone, Laid, Done, first_alone, worked, pushed, inlined_of, popped, stalled}
+use Rattle.meaning.specs.Edits.{Standing, UnknownTable, WrongColumns, RowRange, NoRow, Exhausted, after_put, after_delete, most}
 use Rattle.meaning.proofs.Samples.{first_program, sales, row, n_sales, n_seen, lines}
 
 -- a step that isn't taken is passed over

@@ -1,23 +1,23 @@
 -- What the definitions give on small programs, by computation.
-use Rattle.std.specs.Prelude.{◌≡◌, ℕ, ◌+◌, ◌*◌, ℤ, pos, negsuc, Bool, true, false, List, [], ◌∷◌, Option, Some, None, Result, Ok, Err}
+use Rattle.std.specs.Prelude.{◌≡◌, ℕ, ◌+◌, ◌*◌, ℤ, pos, negsuc, Bool, true, false, List, [], ◌∷◌, Some, None, Ok, Err}
 use Rattle.std.proofs.Common.{refl}
 use Rattle.std.specs.Int.{int_wrap}
 use Rattle.program_tree.specs.declared.Operator.TheVariants as o
 use Rattle.program_tree.specs.declared.Way.TheVariants.{Call, Spawn}
 use Rattle.monoid_laws.specs.declared.Kind.{Kind}
 use Rattle.monoid_laws.specs.declared.Kind.TheVariants as k
-use Rattle.program_tree.specs.Plain.{Name, Term, number, name, cell, has, limit, negate, binary, Deed, bind, enter, read, sync, update, choose, loop, give, Body, end, step, Proc, Red, Decl, reducer, procedure, Tree}
+use Rattle.program_tree.specs.Plain.{Name, Term, number, name, cell, has, limit, binary, bind, enter, read, sync, update, choose, loop, give, Body, end, step, Decl, reducer, procedure, Tree}
 use Rattle.meaning.specs.declared.FaultKind.TheVariants.{DivideByZero, MissingRow, RangeTooLong, TooDeep}
-use Rattle.meaning.specs.Tables.{Tables, Listed}
+use Rattle.meaning.specs.Tables.{Tables}
 use Rattle.monoid_laws.specs.Worth as w
-use Rattle.meaning.specs.Outcome.{Log, Site, Fault, Event, Reads, Enters, Updates, CellHeld, HasHeld, LimitHeld}
-use Rattle.meaning.specs.Outcome.{Begins, Syncs, Leaves, Faults, Reuses, Place}
-use Rattle.meaning.specs.Strands.{replayed, Split, End, Stall, Fold, Finish, Finished as Done, BookStep}
+use Rattle.meaning.specs.Outcome.{Log, Fault, Enters, Updates, CellHeld}
+use Rattle.meaning.specs.Outcome.{Begins, Syncs, Leaves, Faults, Spawns}
+use Rattle.meaning.specs.Strands.{replayed, Split, End, Stall, Fold, Finish, Finished as Done}
 use Rattle.meaning.specs.Trail.{trail_at, runner, halvings}
 use Rattle.meaning.specs.Records.{Kept, Revised, needing, needed, executed, reused}
-use Rattle.meaning.specs.Elision.{all_turns, elide, from_scratch, Finished, Faulted, Answer}
+use Rattle.meaning.specs.Elision.{all_turns, elide, from_scratch, Finished, Faulted}
 
-abbrev n_main : Name
+abbrev pub n_main : Name
 n_main = (109 ∷ 97 ∷ 105 ∷ 110 ∷ [])
 
 abbrev n_leaf : Name
@@ -29,58 +29,58 @@ n_total = (116 ∷ 111 ∷ 116 ∷ 97 ∷ 108 ∷ [])
 abbrev pub n_seen : Name
 n_seen = (115 ∷ 101 ∷ 101 ∷ 110 ∷ [])
 
-abbrev n_line : Name
+abbrev pub n_line : Name
 n_line = (108 ∷ 105 ∷ 110 ∷ 101 ∷ [])
 
 abbrev pub n_sales : Name
 n_sales = (115 ∷ 97 ∷ 108 ∷ 101 ∷ 115 ∷ [])
 
-abbrev n_qty : Name
+abbrev pub n_qty : Name
 n_qty = (113 ∷ 116 ∷ 121 ∷ [])
 
-abbrev n_price : Name
+abbrev pub n_price : Name
 n_price = (112 ∷ 114 ∷ 105 ∷ 99 ∷ 101 ∷ [])
 
 abbrev n_top : Name
 n_top = (116 ∷ 111 ∷ 112 ∷ [])
 
-abbrev n_steps : Name
+abbrev pub n_steps : Name
 n_steps = (115 ∷ 116 ∷ 101 ∷ 112 ∷ 115 ∷ [])
 
-abbrev n_down : Name
+abbrev pub n_down : Name
 n_down = (100 ∷ 111 ∷ 119 ∷ 110 ∷ [])
 
-abbrev n_f : Name
+abbrev pub n_f : Name
 n_f = (102 ∷ [])
 
-abbrev n_one : Name
+abbrev pub n_one : Name
 n_one = (111 ∷ 110 ∷ 101 ∷ [])
 
-abbrev n_n : Name
+abbrev pub n_n : Name
 n_n = (110 ∷ [])
 
 abbrev n_least : Name
 n_least = (108 ∷ 101 ∷ 97 ∷ 115 ∷ 116 ∷ [])
 
-abbrev n_a : Name
+abbrev pub n_a : Name
 n_a = (97 ∷ [])
 
-abbrev n_b : Name
+abbrev pub n_b : Name
 n_b = (98 ∷ [])
 
-abbrev n_c : Name
+abbrev pub n_c : Name
 n_c = (99 ∷ [])
 
-abbrev proc : Bool → Name → ℕ → List Name → Body → Decl
+abbrev pub proc : Bool → Name → ℕ → List Name → Body → Decl
 proc m f k ns b = procedure (record { called = f; memo = m; parameters = k; names = ns; body = b })
 
-abbrev red : Name → Kind → Decl
+abbrev pub red : Name → Kind → Decl
 red r kind = reducer (record { called = r; kind = kind })
 
 abbrev plus : Term → Term → Term
 plus a b = binary o.Add a b
 
-abbrev num : ℕ → Term
+abbrev pub num : ℕ → Term
 num n = number (pos n)
 
 -- proc leaf(v) { update total v; return v; }
@@ -94,7 +94,7 @@ main0 r = proc false n_main 0 (n_a ∷ n_b ∷ []) (step 1 (enter (Some 0) Spawn
 abbrev pub first_program : Tree
 first_program = red n_total k.Add ∷ leaf n_total ∷ main0 n_total ∷ []
 
-abbrev first_list : Tree
+abbrev pub first_list : Tree
 first_list = red n_seen k.List ∷ leaf n_seen ∷ main0 n_seen ∷ []
 
 first_run : from_scratch first_program [] ≡ Finished (pos 3) (w.number (pos 12) ∷ [])
@@ -141,13 +141,13 @@ unfolding all_turns elide from_scratch needing int_wrap
 absent_row = refl
 
 -- memo proc down(n) { update steps 1; if n > 0 { call down(n - 1); } return n; }
-abbrev down : Decl
+abbrev pub down : Decl
 down = proc true n_down 1 (n_a ∷ []) (step 1 (update n_steps (num 1 ∷ [])) (step 2 (choose (binary o.Greater (name 0) (num 0)) (step 3 (enter None Call n_down (binary o.Subtract (name 0) (num 1) ∷ [])) end) end) (step 4 (give (name 0)) end)))
 
-abbrev calls : Name → Name → Term → Decl
+abbrev pub calls : Name → Name → Term → Decl
 calls f g e = proc false f 0 (n_a ∷ []) (step 1 (enter (Some 0) Call g (e ∷ [])) (step 2 (give (name 0)) end))
 
-abbrev calls0 : Name → Name → Decl
+abbrev pub calls0 : Name → Name → Decl
 calls0 f g = proc false f 0 (n_a ∷ []) (step 1 (enter (Some 0) Call g []) (step 2 (give (name 0)) end))
 
 heights : from_scratch (red n_steps k.Add ∷ down ∷ calls n_main n_down (num 60) ∷ []) [] ≡ Finished (pos 60) (w.number (pos 61) ∷ [])
@@ -166,27 +166,32 @@ loop_ranges-long : from_scratch (red n_n k.Add ∷ proc false n_one 1 (n_a ∷ [
 unfolding all_turns elide from_scratch needing int_wrap
 loop_ranges-long = refl
 
+-- a range that no number of 64 bits measures
+loop_ranges-widest : from_scratch (red n_n k.Add ∷ proc false n_one 1 (n_a ∷ []) (step 1 (update n_n (num 1 ∷ [])) end) ∷ proc false n_main 0 (n_a ∷ []) (step 1 (loop 0 (binary o.Subtract (num 0) (num 9223372036854775807)) (num 9223372036854775807) 1 n_one (name 0 ∷ [])) end) ∷ []) [] ≡ Faulted (record { kind = RangeTooLong; site = record { procedure = n_main; statement = 1 } })
+unfolding all_turns elide from_scratch needing int_wrap
+loop_ranges-widest = refl
+
 -- a history with two steals
 two_steals-history : replayed (Split [] (1 ∷ []) 1 ∷ Split (1 ∷ []) (2 ∷ []) 2 ∷ Stall (2 ∷ []) ∷ End (1 ∷ []) ∷ Fold (1 ∷ []) (2 ∷ []) 2 ∷ Stall (1 ∷ []) ∷ End [] ∷ Fold [] (1 ∷ []) 0 ∷ Finish [] ∷ []) ≡ Some (record { lines = ([], Done) ∷ []; split_off = (2 ∷ []) ∷ (1 ∷ []) ∷ [] })
 unfolding elide from_scratch needing int_wrap
 two_steals-history = refl
 
 -- proc bad(n) { return 1 / n; } proc main() { spawn bad(0); x = sales[9].qty; sync; return x; }
-abbrev faulty : Tree
+abbrev pub faulty : Tree
 faulty = proc false n_b 1 (n_a ∷ []) (step 1 (give (binary o.Divide (num 1) (name 0))) end) ∷ proc false n_main 0 (n_a ∷ []) (step 1 (enter None Spawn n_b (num 0 ∷ [])) (step 2 (bind 0 (cell n_sales (num 9) n_qty)) (step 3 sync (step 4 (give (name 0)) end)))) ∷ []
 
 first_fault_serial : from_scratch faulty (sales []) ≡ Faulted (record { kind = DivideByZero; site = record { procedure = n_b; statement = 1 } })
 unfolding elide from_scratch needing int_wrap
 first_fault_serial = refl
 
-first_run-trail : trail_at first_program [] [] None ≡ Begins [] 1 ∷ Enters n_main [] 1 ∷ Begins (1 ∷ []) 2 ∷ Enters n_leaf (pos 1 ∷ []) 2 ∷ Updates 0 k.Add (w.number (pos 1)) ∷ Syncs (1 ∷ []) ∷ Leaves (1 ∷ []) (Ok (pos 1)) ∷ Begins (2 ∷ []) 2 ∷ Enters n_leaf (pos 2 ∷ []) 2 ∷ Updates 0 k.Add (w.number (pos 2)) ∷ Syncs (2 ∷ []) ∷ Leaves (2 ∷ []) (Ok (pos 2)) ∷ Updates 0 k.Add (w.number (pos 9)) ∷ Syncs [] ∷ Syncs [] ∷ Leaves [] (Ok (pos 3)) ∷ []
+first_run-trail : trail_at first_program [] [] None ≡ Begins [] 1 ∷ Enters n_main [] 1 ∷ Spawns (1 ∷ []) ∷ Begins (1 ∷ []) 2 ∷ Enters n_leaf (pos 1 ∷ []) 2 ∷ Updates 0 k.Add (w.number (pos 1)) ∷ Syncs (1 ∷ []) ∷ Leaves (1 ∷ []) (Ok (pos 1)) ∷ Spawns (2 ∷ []) ∷ Begins (2 ∷ []) 2 ∷ Enters n_leaf (pos 2 ∷ []) 2 ∷ Updates 0 k.Add (w.number (pos 2)) ∷ Syncs (2 ∷ []) ∷ Leaves (2 ∷ []) (Ok (pos 2)) ∷ Updates 0 k.Add (w.number (pos 9)) ∷ Syncs [] ∷ Syncs [] ∷ Leaves [] (Ok (pos 3)) ∷ []
 unfolding runner elide from_scratch needing int_wrap
 first_run-trail = refl
 
 abbrev bad : Fault
 bad = record { kind = DivideByZero; site = record { procedure = n_b; statement = 1 } }
 
-first_fault_serial-trail : trail_at faulty (sales []) [] None ≡ Begins [] 1 ∷ Enters n_main [] 1 ∷ Begins (1 ∷ []) 2 ∷ Enters n_b (pos 0 ∷ []) 2 ∷ Faults bad ∷ Leaves (1 ∷ []) (Err bad) ∷ Faults (record { kind = MissingRow; site = record { procedure = n_main; statement = 2 } }) ∷ Leaves [] (Err bad) ∷ []
+first_fault_serial-trail : trail_at faulty (sales []) [] None ≡ Begins [] 1 ∷ Enters n_main [] 1 ∷ Spawns (1 ∷ []) ∷ Begins (1 ∷ []) 2 ∷ Enters n_b (pos 0 ∷ []) 2 ∷ Faults bad ∷ Leaves (1 ∷ []) (Err bad) ∷ Faults (record { kind = MissingRow; site = record { procedure = n_main; statement = 2 } }) ∷ Leaves [] (Err bad) ∷ []
 unfolding runner elide from_scratch needing int_wrap
 first_fault_serial-trail = refl
 
@@ -209,14 +214,17 @@ rerun_one_line-reused = refl
 
 -- memo proc line(r) { if has sales[r] { v = sales[r].qty * sales[r].price; update total v; } }
 -- memo proc all() { cilk_for r in 1 .. limit sales : line(r); }  proc main() { call all(); t = read total; return t; }
-abbrev lines_nested : Tree
-lines_nested = red n_total k.Add ∷ proc true n_line 1 (n_a ∷ n_b ∷ []) (step 1 (choose (has n_sales (name 0)) (step 2 (bind 1 (binary o.Multiply (cell n_sales (name 0) n_qty) (cell n_sales (name 0) n_price))) (step 3 (update n_total (name 1 ∷ [])) end)) end) end) ∷ proc true n_a 0 (n_a ∷ []) (step 1 (loop 0 (num 1) (limit n_sales) 1 n_line (name 0 ∷ [])) end) ∷ proc false n_main 0 (n_a ∷ []) (step 1 (enter None Call n_a []) (step 2 (read 0 n_total) (step 3 (give (name 0)) end))) ∷ []
+abbrev pub n_all : Name
+n_all = (97 ∷ 108 ∷ 108 ∷ [])
+
+abbrev pub lines_nested : Tree
+lines_nested = red n_total k.Add ∷ proc true n_line 1 (n_a ∷ n_b ∷ []) (step 1 (choose (has n_sales (name 0)) (step 2 (bind 1 (binary o.Multiply (cell n_sales (name 0) n_qty) (cell n_sales (name 0) n_price))) (step 3 (update n_total (name 1 ∷ [])) end)) end) end) ∷ proc true n_all 0 (n_a ∷ []) (step 1 (loop 0 (num 1) (limit n_sales) 1 n_line (name 0 ∷ [])) end) ∷ proc false n_main 0 (n_a ∷ []) (step 1 (enter None Call n_all []) (step 2 (read 0 n_total) (step 3 (give (name 0)) end))) ∷ []
 
 nested_memo_reads : from_scratch lines_nested (sales (row 1 2 5 ∷ row 2 3 7 ∷ row 3 1 100 ∷ row 5 1 1 ∷ [])) ≡ Finished (pos 132) (w.number (pos 132) ∷ [])
 unfolding all_turns elide from_scratch needing int_wrap
 nested_memo_reads = refl
 
 -- a loop of three iterations, in halves
-halved_loop-trail : trail_at (proc false n_one 1 (n_a ∷ []) end ∷ proc false n_main 0 (n_a ∷ []) (step 1 (loop 0 (num 0) (num 3) 1 n_one (name 0 ∷ [])) end) ∷ []) [] [] None ≡ Begins [] 1 ∷ Enters n_main [] 1 ∷ Begins (1 ∷ []) 1 ∷ Begins (1 ∷ 1 ∷ []) 1 ∷ Begins (1 ∷ 1 ∷ 1 ∷ []) 2 ∷ Enters n_one (pos 0 ∷ []) 2 ∷ Syncs (1 ∷ 1 ∷ 1 ∷ []) ∷ Leaves (1 ∷ 1 ∷ 1 ∷ []) (Ok (pos 0)) ∷ Syncs (1 ∷ 1 ∷ []) ∷ Leaves (1 ∷ 1 ∷ []) (Ok (pos 0)) ∷ Begins (1 ∷ 2 ∷ []) 1 ∷ Begins (1 ∷ 2 ∷ 1 ∷ []) 1 ∷ Begins (1 ∷ 2 ∷ 1 ∷ 1 ∷ []) 2 ∷ Enters n_one (pos 1 ∷ []) 2 ∷ Syncs (1 ∷ 2 ∷ 1 ∷ 1 ∷ []) ∷ Leaves (1 ∷ 2 ∷ 1 ∷ 1 ∷ []) (Ok (pos 0)) ∷ Syncs (1 ∷ 2 ∷ 1 ∷ []) ∷ Leaves (1 ∷ 2 ∷ 1 ∷ []) (Ok (pos 0)) ∷ Begins (1 ∷ 2 ∷ 2 ∷ []) 1 ∷ Begins (1 ∷ 2 ∷ 2 ∷ 1 ∷ []) 2 ∷ Enters n_one (pos 2 ∷ []) 2 ∷ Syncs (1 ∷ 2 ∷ 2 ∷ 1 ∷ []) ∷ Leaves (1 ∷ 2 ∷ 2 ∷ 1 ∷ []) (Ok (pos 0)) ∷ Syncs (1 ∷ 2 ∷ 2 ∷ []) ∷ Leaves (1 ∷ 2 ∷ 2 ∷ []) (Ok (pos 0)) ∷ Syncs (1 ∷ 2 ∷ []) ∷ Leaves (1 ∷ 2 ∷ []) (Ok (pos 0)) ∷ Syncs (1 ∷ []) ∷ Leaves (1 ∷ []) (Ok (pos 0)) ∷ Syncs [] ∷ Leaves [] (Ok (pos 0)) ∷ []
+halved_loop-trail : trail_at (proc false n_one 1 (n_a ∷ []) end ∷ proc false n_main 0 (n_a ∷ []) (step 1 (loop 0 (num 0) (num 3) 1 n_one (name 0 ∷ [])) end) ∷ []) [] [] None ≡ Begins [] 1 ∷ Enters n_main [] 1 ∷ Begins (1 ∷ []) 1 ∷ Spawns (1 ∷ 1 ∷ []) ∷ Begins (1 ∷ 1 ∷ []) 1 ∷ Begins (1 ∷ 1 ∷ 1 ∷ []) 2 ∷ Enters n_one (pos 0 ∷ []) 2 ∷ Syncs (1 ∷ 1 ∷ 1 ∷ []) ∷ Leaves (1 ∷ 1 ∷ 1 ∷ []) (Ok (pos 0)) ∷ Syncs (1 ∷ 1 ∷ []) ∷ Leaves (1 ∷ 1 ∷ []) (Ok (pos 0)) ∷ Begins (1 ∷ 2 ∷ []) 1 ∷ Spawns (1 ∷ 2 ∷ 1 ∷ []) ∷ Begins (1 ∷ 2 ∷ 1 ∷ []) 1 ∷ Begins (1 ∷ 2 ∷ 1 ∷ 1 ∷ []) 2 ∷ Enters n_one (pos 1 ∷ []) 2 ∷ Syncs (1 ∷ 2 ∷ 1 ∷ 1 ∷ []) ∷ Leaves (1 ∷ 2 ∷ 1 ∷ 1 ∷ []) (Ok (pos 0)) ∷ Syncs (1 ∷ 2 ∷ 1 ∷ []) ∷ Leaves (1 ∷ 2 ∷ 1 ∷ []) (Ok (pos 0)) ∷ Begins (1 ∷ 2 ∷ 2 ∷ []) 1 ∷ Begins (1 ∷ 2 ∷ 2 ∷ 1 ∷ []) 2 ∷ Enters n_one (pos 2 ∷ []) 2 ∷ Syncs (1 ∷ 2 ∷ 2 ∷ 1 ∷ []) ∷ Leaves (1 ∷ 2 ∷ 2 ∷ 1 ∷ []) (Ok (pos 0)) ∷ Syncs (1 ∷ 2 ∷ 2 ∷ []) ∷ Leaves (1 ∷ 2 ∷ 2 ∷ []) (Ok (pos 0)) ∷ Syncs (1 ∷ 2 ∷ []) ∷ Leaves (1 ∷ 2 ∷ []) (Ok (pos 0)) ∷ Syncs (1 ∷ []) ∷ Leaves (1 ∷ []) (Ok (pos 0)) ∷ Syncs [] ∷ Leaves [] (Ok (pos 0)) ∷ []
 unfolding runner halvings elide from_scratch needing int_wrap
 halved_loop-trail = refl

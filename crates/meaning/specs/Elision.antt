@@ -1,12 +1,10 @@
 -- The serial elision.
-use Rattle.std.specs.Prelude.{ℕ, zero, suc, ◌+◌, ◌-◌, max, nat_le, ℤ, pos, negsuc, ◌+ℤ◌, ◌-ℤ◌, Bool, true, false, cond, int_lt, List, [], ◌∷◌, ◌++◌, map, Option, Some, None, Result, Ok, Err, slice_get, length, replicate}
+use Rattle.std.specs.Prelude.{ℕ, zero, suc, ◌-◌, max, ℤ, pos, cond, List, [], ◌∷◌, Ok, Err}
 use Rattle.std.specs.Ordering.{int_eq}
-use Rattle.std.specs.Str.{bytes_eq}
-use Rattle.program_tree.specs.Plain.{Name, Term, Deed, bind, enter, read, sync, update, choose, loop, give, Body, end, step, Proc, Red, Decl, reducer, procedure, Tree}
-use Rattle.monoid_laws.specs.declared.Kind.{Kind}
-use Rattle.meaning.specs.declared.FaultKind.TheVariants.{RangeTooLong, TooDeep, BadElement}
+use Rattle.program_tree.specs.Plain.{Name, Deed, bind, enter, read, sync, update, choose, loop, give, Body, end, step, Proc, Tree}
+use Rattle.meaning.specs.declared.FaultKind.TheVariants.{TooDeep}
 use Rattle.meaning.specs.Tables.{Tables}
-use Rattle.meaning.specs.Outcome.{Out, Log, Accumulators, Site, Fault, Event, Reads, Enters, Updates, Reading, after}
+use Rattle.meaning.specs.Outcome.{Out, Log, Accumulators, Site, Fault, Reads, Enters, Reading, after}
 use Rattle.meaning.specs.Run.{Run, ◌>>=◌, ◌>>◌, pure, fail, note, nothing, standing, at}
 use Rattle.meaning.specs.Values.{Env, put, value, values}
 use Rattle.meaning.specs.Statements.{reducers, proc_of, numbered, identities, put_into, reading, fresh, Job, job_of, turn_values, update_of, bounds}

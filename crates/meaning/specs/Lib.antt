@@ -11,6 +11,12 @@ pub mod Trail
 pub mod SmallStep
 pub mod Rest
 pub mod OneStrand
+pub mod Layers
+pub mod LayeredStrand
+pub mod Tallies
+pub mod Schedules
+pub mod RestOfRun
+pub mod Commits
 pub mod Script
 pub mod Text
 pub mod Edits

@@ -1,12 +1,12 @@
 -- The steps of a run of one strand: work, push, inline, pop and stall, each where it is allowed.
-use Rattle.std.specs.Prelude.{ℕ, ◌-◌, ℤ, Bool, true, false, List, [], ◌∷◌, Option, Some, None}
-use Rattle.program_tree.specs.Plain.{Name, Tree}
+use Rattle.std.specs.Prelude.{ℕ, ◌-◌, ℤ, true, false, List, [], ◌∷◌, Option, Some, None}
+use Rattle.program_tree.specs.Plain.{Tree}
 use Rattle.meaning.specs.Tables.{Tables}
-use Rattle.meaning.specs.Outcome.{Accumulators, Fault, after, combined, Place}
+use Rattle.meaning.specs.Outcome.{Accumulators, Fault, after, combined}
 use Rattle.meaning.specs.Statements.{reducers, identities}
 use Rattle.meaning.specs.Elision.{depth_limit, main, Answer, Finished, Faulted}
-use Rattle.meaning.specs.Records.{Kept, with_kinds}
-use Rattle.meaning.specs.SmallStep.{Start, root, Frame, Todo, Child, instance, Phase, entering, running, spawning, returning, leaving, broken, Parent, Step, moved, taken, paused, Pause, Lookup, micro, opened, awaiting, child_name, with_value, Strand, Continuation}
+use Rattle.meaning.specs.Records.{with_kinds}
+use Rattle.meaning.specs.SmallStep.{root, Todo, Child, instance, Phase, entering, running, spawning, leaving, broken, Parent, Step, moved, taken, paused, Lookup, micro, opened, awaiting, child_name, with_value, Strand, Continuation}
 
 -- no record answers
 abbrev pub nothing_kept : Lookup

@@ -31,7 +31,7 @@ Outcome = Result ℤ Fault
 abbrev pub Place : Type 0
 Place = List ℕ
 
--- what happens in a serial run. The elision notes the first three; the fourth comes where a record answers, with its contribution; the trail has the last five too, a mark being true where a record answers
+-- what happens in a serial run. The elision notes the first three; the fourth comes where a record answers, with its contribution; the trail has the last six too, a mark being true where a record answers, and a spawned child being named before it begins
 pub data Event : Type 0 where
   Reads : Reading → Event
   Enters : Name → List ℤ → ℕ → Event
@@ -42,6 +42,7 @@ pub data Event : Type 0 where
   Leaves : Place → Outcome → Event
   Marks : Name → List ℤ → Bool → Event
   Faults : Fault → Event
+  Spawns : Place → Event
 
 abbrev pub Log : Type 0
 Log = List Event

@@ -1,5 +1,5 @@
 -- Records.
-use Rattle.std.specs.Prelude.{◌≡◌, ℕ, zero, suc, ◌+◌, ◌-◌, ◌<◌, ◌≤◌, nat_le, nat_eq, ℤ, pos, Bool, true, false, cond, ◌&&◌, ◌↔◌, List, [], ◌∷◌, map, Option, Some, None, Result, Ok, Err, length}
+use Rattle.std.specs.Prelude.{◌≡◌, ℕ, zero, suc, ◌+◌, ◌-◌, ◌<◌, ◌≤◌, nat_le, nat_eq, ℤ, Bool, true, false, cond, ◌&&◌, ◌↔◌, List, [], ◌∷◌, map, Option, Some, None, Ok}
 use Rattle.std.specs.Ordering.{int_eq}
 use Rattle.std.specs.Str.{bytes_eq}
 use Rattle.std.specs.List.{Contains, find}
@@ -9,8 +9,8 @@ use Rattle.program_tree.specs.Plain.{Name, Proc, Red, Tree}
 use Rattle.meaning.specs.declared.FaultKind.TheVariants.{TooDeep}
 use Rattle.meaning.specs.Tables.{Tables, cell_of, has_row, limit_of}
 use Rattle.monoid_laws.specs.Worth.{Worth}
-use Rattle.meaning.specs.Outcome.{Log, Event, Enters, Reuses, Reading, CellHeld, HasHeld, LimitHeld, Accumulators, after, Out, Site}
-use Rattle.meaning.specs.Run.{Run, ◌>>=◌, ◌>>◌, pure, fail, note}
+use Rattle.meaning.specs.Outcome.{Log, Enters, Reuses, Reading, CellHeld, HasHeld, LimitHeld, Accumulators, after}
+use Rattle.meaning.specs.Run.{Run, ◌>>◌, pure, fail, note}
 use Rattle.meaning.specs.Statements.{reducers, procedure_of, found, identities}
 use Rattle.meaning.specs.Elision.{Enter, elide, instance, reads, entered, deepest, start, main, depth_limit}
 

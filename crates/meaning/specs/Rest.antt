@@ -1,8 +1,8 @@
 -- What is left to do of a strand and of the continuations behind it, done serially.
-use Rattle.std.specs.Prelude.{ℕ, zero, suc, ℤ, pos, List, [], ◌∷◌, ◌++◌, map, Option, Some, None, Result, Ok, Err}
-use Rattle.program_tree.specs.Plain.{Name, Body, Proc, Tree}
+use Rattle.std.specs.Prelude.{ℕ, ℤ, pos, List, [], ◌∷◌, ◌++◌, map, Result, Ok, Err}
+use Rattle.program_tree.specs.Plain.{Name, Body, Tree}
 use Rattle.meaning.specs.Tables.{Tables}
-use Rattle.meaning.specs.Outcome.{Out, Accumulators, Fault, Outcome, after}
+use Rattle.meaning.specs.Outcome.{Accumulators, Fault, after}
 use Rattle.meaning.specs.Run.{Run}
 use Rattle.meaning.specs.Values.{Env}
 use Rattle.meaning.specs.Statements.{proc_of, put_into, fresh, Job}

@@ -1,5 +1,5 @@
 -- Pieces of a run that begin from given accumulators.
-use Rattle.std.specs.Prelude.{ℕ, List, [], ◌∷◌, ◌++◌, Result, Ok, Err}
+use Rattle.std.specs.Prelude.{Result, Ok, Err}
 use Rattle.meaning.specs.declared.FaultKind.{FaultKind}
 use Rattle.meaning.specs.Outcome.{Log, Event, Accumulators, after, Out, Site, Fault}
 use Rattle.meaning.specs.Outcome as outcome

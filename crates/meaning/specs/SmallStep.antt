@@ -1,16 +1,15 @@
 -- One small step of a strand: what the topmost instance does next. It is a function of the program, the tables, the records that answer, whether a kit is free, what `read` sees, where the strand begins, and its instances.
-use Rattle.std.specs.Prelude.{ℕ, zero, suc, ◌+◌, ◌-◌, ◌/◌, nat_le, nat_eq, max, ℤ, pos, ◌+ℤ◌, Bool, true, false, cond, ◌&&◌, List, [], ◌∷◌, ◌++◌, map, Option, Some, None, Result, Ok, Err, slice_get, slice_set}
+use Rattle.std.specs.Prelude.{ℕ, zero, suc, ◌+◌, ◌-◌, ◌/◌, nat_le, nat_eq, ℤ, pos, Bool, true, false, cond, ◌&&◌, List, [], ◌∷◌, ◌++◌, map, Option, Some, None, Result, Ok, Err, slice_set}
 use Rattle.std.specs.Ordering.{int_eq}
-use Rattle.program_tree.specs.Plain.{Name, Term, Deed, bind, enter, read, sync, update, choose, loop, give, Body, end, step, Proc, Red, Tree}
-use Rattle.program_tree.specs.declared.Way.{Way}
+use Rattle.program_tree.specs.Plain.{Name, Deed, bind, enter, read, sync, update, choose, loop, give, Body, end, step, Tree}
 use Rattle.program_tree.specs.declared.Way.TheVariants.{Call, Spawn}
 use Rattle.meaning.specs.declared.FaultKind.{FaultKind}
 use Rattle.meaning.specs.declared.FaultKind.TheVariants.{TooDeep}
 use Rattle.meaning.specs.Tables.{Tables, is_there}
-use Rattle.meaning.specs.Outcome.{Out, Log, Accumulators, Site, Fault, Outcome, Place, Event, Begins, Syncs, Leaves}
-use Rattle.meaning.specs.Values.{Env, put, value, values}
+use Rattle.meaning.specs.Outcome.{Out, Log, Accumulators, Site, Fault, Place, Begins, Syncs, Leaves}
+use Rattle.meaning.specs.Values.{Env, value, values}
 use Rattle.meaning.specs.Statements.{reducers, proc_of, numbered, reading, fresh, Job, job_of, turn_values, update_of, bounds}
-use Rattle.meaning.specs.Elision.{depth_limit, main}
+use Rattle.meaning.specs.Elision.{depth_limit}
 use Rattle.meaning.specs.Records.{Kept}
 use Rattle.meaning.specs.Trail.{child_of, fault_at, Look, opening, halvings}
 
@@ -215,6 +214,7 @@ module _ (program : Tree) (tables : Tables) where
     todo_step m fr (turns job (suc count) i) t =
         on_value fr t job.site (turn_values tables job i) (λ vs. on_depth fr t job.site fr.left (λ d. enter_child fr d false None (instance job.callee vs) (turns job count (suc i)) t))
 
+    -- an instance's layer is closed at its last sync: a child that has returned has none
     abbrev pub leaving_layer : Bool → Layers
     leaving_layer true = closing_one
     leaving_layer false = noting
@@ -224,9 +224,9 @@ module _ (program : Tree) (tables : Tables) where
     micro m fr (entering child) t = enter_step fr child t
     micro m fr (running todo) t = todo_step m fr todo t
     micro m fr (spawning d x child todo) t = paused at_spawn
-    micro m fr (returning v) t = unless (is_entry m fr.instance) (moved noting (Syncs fr.instance ∷ []) fr (leaving v) t)
+    micro m fr (returning v) t = unless (is_entry m fr.instance) (moved (leaving_layer fr.recorded) (Syncs fr.instance ∷ []) (with_layer false fr) (leaving v) t)
     micro m fr (leaving v) [] = paused returned
-    micro m fr (leaving v) (p ∷ t) = moved (leaving_layer fr.recorded) (Leaves fr.instance (Ok v) ∷ []) (with_value p v) (running p.todo) t
+    micro m fr (leaving v) (p ∷ t) = moved noting (Leaves fr.instance (Ok v) ∷ []) (with_value p v) (running p.todo) t
     micro m fr (broken k) t = paused faulted
 
 -- a strand none of whose instances is recorded: where it begins, the reducers' values of its one layer, its topmost instance and what waits below

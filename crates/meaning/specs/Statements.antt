@@ -1,14 +1,14 @@
 -- What statements name and what they evaluate.
-use Rattle.std.specs.Prelude.{ℕ, zero, suc, ◌+◌, nat_le, ℤ, pos, negsuc, ◌+ℤ◌, ◌-ℤ◌, Bool, true, false, cond, int_lt, List, [], ◌∷◌, map, Option, Some, None, slice_get, slice_set}
+use Rattle.std.specs.Prelude.{ℕ, ◌+◌, nat_le, ℤ, pos, negsuc, ◌+ℤ◌, ◌-ℤ◌, Bool, true, false, cond, int_lt, List, [], ◌∷◌, map, Option, Some, None, slice_get}
 use Rattle.std.specs.Str.{bytes_eq}
-use Rattle.program_tree.specs.Plain.{Name, Term, Body, end, Proc, Red, Decl, reducer, procedure, Tree}
+use Rattle.program_tree.specs.Plain.{Name, Term, end, Proc, Red, reducer, procedure, Tree}
 use Rattle.monoid_laws.specs.declared.Kind.{Kind}
 use Rattle.meaning.specs.declared.FaultKind.{FaultKind}
 use Rattle.meaning.specs.declared.FaultKind.TheVariants.{RangeTooLong, BadElement}
 use Rattle.meaning.specs.Tables.{Tables}
 use Rattle.monoid_laws.specs.Worth.{Worth, number, element}
 use Rattle.monoid_laws.specs.Kinds.{identity_of, names_element, element_of}
-use Rattle.meaning.specs.Outcome.{Out, Accumulators, Site, Event, Updates, ◌>>=◌, ◌>>◌, pure, fail, note}
+use Rattle.meaning.specs.Outcome.{Out, Accumulators, Site, Updates, ◌>>=◌, pure, fail, note}
 use Rattle.meaning.specs.Values.{Env, put, value, values}
 
 abbrev pub reducers : Tree → List Red

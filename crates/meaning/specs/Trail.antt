@@ -1,15 +1,14 @@
 -- The serial trail.
-use Rattle.std.specs.Prelude.{ℕ, zero, suc, ◌+◌, ◌-◌, ◌/◌, nat_le, ℤ, pos, Bool, true, false, cond, List, [], ◌∷◌, ◌++◌, map, Option, Some, None, Result, Ok, Err, slice_set}
+use Rattle.std.specs.Prelude.{ℕ, zero, suc, ◌+◌, ◌-◌, ◌/◌, nat_le, ℤ, pos, Bool, true, false, cond, List, [], ◌∷◌, ◌++◌, Option, Some, None, Result, Ok, Err, slice_set}
 use Rattle.std.specs.Ordering.{int_eq}
-use Rattle.program_tree.specs.Plain.{Name, Term, Deed, bind, enter, read, sync, update, choose, loop, give, Body, end, step, Proc, Red, Tree}
-use Rattle.program_tree.specs.declared.Way.{Way}
+use Rattle.program_tree.specs.Plain.{Name, Deed, bind, enter, read, sync, update, choose, loop, give, Body, end, step, Tree}
 use Rattle.program_tree.specs.declared.Way.TheVariants.{Call, Spawn}
 use Rattle.meaning.specs.declared.FaultKind.{FaultKind}
 use Rattle.meaning.specs.declared.FaultKind.TheVariants.{TooDeep}
 use Rattle.meaning.specs.Tables.{Tables}
-use Rattle.meaning.specs.Outcome.{Out, Log, Accumulators, Site, Fault, Outcome, Place, Event, Reads, Enters, Updates, Reuses, Begins, Syncs, Leaves, Faults, Marks, after}
+use Rattle.meaning.specs.Outcome.{Out, Log, Accumulators, Site, Fault, Outcome, Place, Enters, Begins, Syncs, Leaves, Faults, Marks, Spawns, after}
 use Rattle.meaning.specs.Values.{Env, put, value, values}
-use Rattle.meaning.specs.Statements.{reducers, procedure_of, proc_of, numbered, identities, put_into, reading, fresh, Job, job_of, turn_values, update_of, bounds}
+use Rattle.meaning.specs.Statements.{reducers, proc_of, numbered, identities, put_into, reading, fresh, Job, job_of, turn_values, update_of, bounds}
 use Rattle.meaning.specs.Elision.{elide, start, main, depth_limit}
 
 pub record Trace : Type 0 where
@@ -80,8 +79,9 @@ on_call doom (Err k) next = brief (Err (first doom k))
 abbrev pub after_call : Option Fault → Trace → (ℤ → Trace) → Trace
 after_call doom r next = led r.events (on_call doom r.outcome next)
 
-abbrev pub after_spawn : Trace → (Outcome → Trace) → Trace
-after_spawn r next = led r.events (next r.outcome)
+-- the spawned child of that name, and then the rest
+abbrev pub after_spawn : Place → Trace → (Outcome → Trace) → Trace
+after_spawn p r next = led (Spawns p ∷ r.events) (next r.outcome)
 
 abbrev pub past_sync : Option Fault → Trace → Trace
 past_sync None r = r
@@ -143,7 +143,7 @@ module _ (program : Tree) (tables : Tables) (sight : Accumulators) where
       loop_walk zero job count i n c doom = turns_walk job count i n c doom
       loop_walk (suc k) job count i n c doom =
           cond (nat_le count job.grain) (turns_walk job count i n c doom)
-          (after_spawn (half_closed (child_of n c) (loop_walk k job (count / 2) i (child_of n c) 1 None)) (λ o.
+          (after_spawn (child_of n c) (half_closed (child_of n c) (loop_walk k job (count / 2) i (child_of n c) 1 None)) (λ o.
           after_call (doom_after doom o) (half_closed (child_of n (suc c)) (loop_walk k job (count - count / 2) (i + count / 2) (child_of n (suc c)) 1 None)) (λ v. over n (doom_after doom o) (pos 0))))
 
       abbrev pub half_run : ℕ → Job → ℕ → ℕ → Place → Trace
@@ -160,7 +160,7 @@ module _ (program : Tree) (tables : Tables) (sight : Accumulators) where
         deed_walk n site (enter x Call f es) env c doom k =
             evaluated doom site (values tables env es) (λ vs. entering doom site sub (λ go. after_call doom (go f vs (child_of n c)) (λ v. k (put_into x env v) (suc c) doom)))
         deed_walk n site (enter x Spawn f es) env c doom k =
-            evaluated doom site (values tables env es) (λ vs. entering doom site sub (λ go. after_spawn (go f vs (child_of n c)) (λ o. k (env_after env x o) (suc c) (doom_after doom o))))
+            evaluated doom site (values tables env es) (λ vs. entering doom site sub (λ go. after_spawn (child_of n c) (go f vs (child_of n c)) (λ o. k (env_after env x o) (suc c) (doom_after doom o))))
         deed_walk n site (read x r) env c doom k = k (put env x (reading sight (numbered 0 (reducers program) r))) c doom
         deed_walk n site sync env c doom k = led (Syncs n ∷ []) (past_sync doom (k env c None))
         deed_walk n site (update r es) env c doom k = evaluated doom site (update_of tables (reducers program) env r es) (λ u. k env c doom)

@@ -14,7 +14,7 @@ use Rattle.meaning.specs.Elision.{Enter, Next, On, Back, deed, body, elide, go_o
 use Rattle.meaning.specs.Elision as elision
 use Rattle.meaning.specs.Records.{with_kinds}
 use Rattle.meaning.specs.Trail.{Look, mark, halvings}
-use Rattle.meaning.specs.SmallStep.{has, Start, is_entry, Frame, Todo, blocks, halves, second, turns, Child, instance, half, Phase, entering, running, spawning, returning, leaving, broken, Parent, with_env, awaiting, child_name, noting, Step, moved, taken, paused, led_step, unless, settling, on_value, on_depth, look_of, memo_answer, opened, enter_by, enter_step, enter_child, todo_step, micro, Strand, Continuation}
+use Rattle.meaning.specs.SmallStep.{has, Start, is_entry, Frame, Todo, blocks, halves, second, turns, Child, instance, half, Phase, entering, running, spawning, returning, leaving, broken, Parent, with_env, awaiting, child_name, Layers, noting, Step, moved, taken, paused, led_step, unless, settling, on_value, on_depth, look_of, memo_answer, opened, enter_by, enter_step, enter_child, todo_step, micro, Strand, Continuation}
 use Rattle.meaning.specs.Rest.{Course, course_of, Left, then_on, past, values_of, blocks_left, turns_left, todo_left, child_left, entering_left, phase_left, parents_left, answered, parents_of, rest}
 use Rattle.meaning.specs.OneStrand.{nothing_kept, progressed, step_of, advanced}
 use Rattle.theory.proofs.Courses.{after-append, then_same, then_assoc, bind_course, seen_slot, seen_set, seen_into, step_left, instance_left, turns_first, turns_halved}
@@ -221,10 +221,10 @@ module _ (program : Tree) (tables : Tables) where
       todo_after m (turns job zero i) acc h = refl
       todo_after m (turns job (suc count) i) acc h = turn_after acc job count i acc
 
-      returned_after : (c : Bool) (v : ℤ) (acc : Accumulators) → before ≡ last v acc
-          → after_step later before acc (unless c (moved noting (Syncs fr.instance ∷ []) fr (leaving v) t)) ≡ last v acc
-      returned_after true v acc h = h
-      returned_after false v acc h = refl
+      returned_after : (c : Bool) (l : Layers) (closed : Frame) (v : ℤ) (acc : Accumulators) → before ≡ last v acc
+          → after_step later before acc (unless c (moved l (Syncs fr.instance ∷ []) closed (leaving v) t)) ≡ last v acc
+      returned_after true l closed v acc h = h
+      returned_after false l closed v acc h = refl
 
     left_after : (fr : Frame) (v : ℤ) (t : List Parent) (acc : Accumulators) (m : Start) → before ≡ onwards (t ++ later) v acc
         → after_step later before acc (micro program tables nothing_kept false acc m fr (leaving v) t) ≡ onwards (t ++ later) v acc
@@ -238,7 +238,7 @@ module _ (program : Tree) (tables : Tables) where
     micro_after m fr (entering child) t acc h = child_after acc fr child t acc
     micro_after m fr (running todo) t acc h = todo_after fr t m todo acc h
     micro_after m fr (spawning d x child todo) t acc h = h
-    micro_after m fr (returning v) t acc h = returned_after fr t (is_entry m fr.instance) v acc h
+    micro_after m fr (returning v) t acc h = returned_after fr t (is_entry m fr.instance) _ _ v acc h
     micro_after m fr (leaving v) t acc h = left_after fr v t acc m h
     micro_after m fr (broken k) t acc h = h
 

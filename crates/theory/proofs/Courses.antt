@@ -4,7 +4,7 @@ use Rattle.std.specs.Prelude.{slice_get, slice_set}
 use Rattle.program_tree.specs.Plain.{Name, Body, step, Deed, Proc, Tree}
 use Rattle.meaning.specs.declared.FaultKind.{FaultKind}
 use Rattle.meaning.specs.Tables.{Tables}
-use Rattle.meaning.specs.Outcome.{Log, Event, Reads, Enters, Updates, Reuses, Begins, Syncs, Leaves, Marks, Faults, combined, Accumulators, after, updated, Out, Fault, Site}
+use Rattle.meaning.specs.Outcome.{Log, Event, Reads, Enters, Updates, Reuses, Begins, Syncs, Leaves, Marks, Faults, Spawns, combined, Accumulators, after, updated, Out, Fault, Site}
 use Rattle.meaning.specs.Run.{Run, ◌>>=◌, placed, at, pure, note}
 use Rattle.meaning.specs.Outcome as outcome
 use Rattle.meaning.specs.Values.{Env}
@@ -23,6 +23,7 @@ after-append (Begins p d ∷ l) m acc = after-append l m acc
 after-append (Syncs p ∷ l) m acc = after-append l m acc
 after-append (Leaves p v ∷ l) m acc = after-append l m acc
 after-append (Marks f args b ∷ l) m acc = after-append l m acc
+after-append (Spawns p ∷ l) m acc = after-append l m acc
 after-append (Faults f ∷ l) m acc = after-append l m acc
 after-append (Updates n kind w ∷ l) m acc = after-append l m (updated acc n kind w (slice_get acc n))
 

@@ -15,8 +15,8 @@ use Rattle.meaning.specs.Trail.{halvings}
 use Rattle.meaning.specs.SmallStep.{seen, Start, is_entry, Frame, Todo, blocks, halves, second, turns, Child, instance, half, Phase, entering, running, spawning, returning, leaving, broken, Parent, Step, moved, taken, paused, led_step, unless, settling, on_value, on_depth, Lookup, memo_answer, opened, child_name, awaiting, enter_by, enter_step, enter_child, todo_step, micro}
 use Rattle.trail_theory.specs.Order.{Every}
 use Rattle.trail_theory.specs.Waiting.{NoReads, HasNoReads}
-use Rattle.trail_theory.specs.LayeredStrand.{LayeredStrand, advanced, settled_under}
-use Rattle.trail_theory.specs.Layers.{bottom}
+use Rattle.meaning.specs.LayeredStrand.{LayeredStrand, advanced, settled_under}
+use Rattle.meaning.specs.Layers.{bottom}
 use Rattle.trail_theory.specs.Right.{Sees}
 use Rattle.trail_theory.specs.Calm.{IsCalmTodo, IsCalmPhase, AreCalm, IsCalm, CalmStays}
 

@@ -11,7 +11,7 @@ use Rattle.monoid_laws.specs.Kinds.{names_element}
 use Rattle.meaning.specs.declared.FaultKind.{FaultKind}
 use Rattle.meaning.specs.declared.FaultKind.TheVariants.{DivideByZero, RangeTooLong}
 use Rattle.meaning.specs.Tables.{Tables, cell_of, has_row, limit_of}
-use Rattle.meaning.specs.Outcome.{Log, Accumulators, Fault, Site, Event, Reads, Enters, Updates, Reuses, Begins, Syncs, Leaves, Faults, Marks, HasHeld, LimitHeld, Out, onward, pure, fail, after, updated, combined}
+use Rattle.meaning.specs.Outcome.{Log, Accumulators, Fault, Site, Event, Reads, Enters, Updates, Reuses, Begins, Syncs, Leaves, Faults, Marks, Spawns, HasHeld, LimitHeld, Out, onward, pure, fail, after, updated, combined}
 use Rattle.meaning.specs.Run as run
 use Rattle.meaning.specs.Run.{Run, placed, at}
 use Rattle.meaning.specs.Values.{Env, put, one_if, value, values, apply, look}
@@ -42,6 +42,7 @@ module _ (program other : Tree) (tables others : Tables) (a b : ℕ) (reds : red
   Holds (Reuses f args ws) = Unit {0}
   Holds (Begins n d) = Unit {0}
   Holds (Syncs n) = Unit {0}
+  Holds (Spawns n) = Unit {0}
   Holds (Leaves n v) = Unit {0}
   Holds (Faults k) = Unit {0}
   Holds (Marks f args c) = Unit {0}
@@ -55,6 +56,7 @@ module _ (program other : Tree) (tables others : Tables) (a b : ℕ) (reds : red
   shifted (Reuses f args ws ∷ es) = Reuses f args ws ∷ shifted es
   shifted (Begins n d ∷ es) = Begins n d ∷ shifted es
   shifted (Syncs n ∷ es) = Syncs n ∷ shifted es
+  shifted (Spawns n ∷ es) = Spawns n ∷ shifted es
   shifted (Leaves n v ∷ es) = Leaves n v ∷ shifted es
   shifted (Faults k ∷ es) = Faults k ∷ shifted es
   shifted (Marks f args c ∷ es) = Marks f args c ∷ shifted es
@@ -67,6 +69,7 @@ module _ (program other : Tree) (tables others : Tables) (a b : ℕ) (reds : red
   shifted_append (Reuses f args ws ∷ x) y = ap (λ l. Reuses f args ws ∷ l) (shifted_append x y)
   shifted_append (Begins n d ∷ x) y = ap (λ l. Begins n d ∷ l) (shifted_append x y)
   shifted_append (Syncs n ∷ x) y = ap (λ l. Syncs n ∷ l) (shifted_append x y)
+  shifted_append (Spawns n ∷ x) y = ap (λ l. Spawns n ∷ l) (shifted_append x y)
   shifted_append (Leaves n v ∷ x) y = ap (λ l. Leaves n v ∷ l) (shifted_append x y)
   shifted_append (Faults k ∷ x) y = ap (λ l. Faults k ∷ l) (shifted_append x y)
   shifted_append (Marks f args c ∷ x) y = ap (λ l. Marks f args c ∷ l) (shifted_append x y)
@@ -79,6 +82,7 @@ module _ (program other : Tree) (tables others : Tables) (a b : ℕ) (reds : red
   after_shifted (Reuses f args ws ∷ es) acc = after_shifted es (combined acc ws)
   after_shifted (Begins n d ∷ es) acc = after_shifted es acc
   after_shifted (Syncs n ∷ es) acc = after_shifted es acc
+  after_shifted (Spawns n ∷ es) acc = after_shifted es acc
   after_shifted (Leaves n v ∷ es) acc = after_shifted es acc
   after_shifted (Faults k ∷ es) acc = after_shifted es acc
   after_shifted (Marks f args c ∷ es) acc = after_shifted es acc

@@ -1,102 +1,35 @@
 -- How strands begin and end.
-use Rattle.std.proofs.Common.{◌-◌, ℕ, suc, List, [], ◌∷◌, ◌++◌, Option, Some, None, Ok, Err, ℤ, ◌≡◌, refl, sym, ap, ◌∙◌, subst, append_assoc, append-nil}
+use Rattle.std.proofs.Common.{◌-◌, ℕ, suc, List, [], ◌∷◌, ◌++◌, Option, Some, None, Ok, Err, ℤ, ◌≡◌, inr, refl, sym, ap, ◌∙◌, subst, append_assoc, append-nil}
 use Rattle.program_tree.specs.Plain.{Tree}
 use Rattle.meaning.specs.Tables.{Tables}
-use Rattle.meaning.specs.Outcome.{Log, Accumulators, Fault, Outcome, Place, Reads, Enters, Updates, Reuses, Begins, Syncs, Leaves, Faults, Marks, Out, after}
+use Rattle.meaning.specs.Outcome.{Log, Accumulators, Fault, Outcome, Place, Reads, Enters, Updates, Reuses, Begins, Syncs, Leaves, Faults, Marks, Spawns, Out, after}
 use Rattle.meaning.specs.Statements.{identities}
 use Rattle.meaning.specs.Elision.{from_scratch, answer_of, Finished, Faulted, main, start, elide, depth_limit}
-use Rattle.meaning.specs.Trail.{Trace, led, first, ended, doom_after, after_call, after_spawn, past_sync, opening, inner, run_inside, runner, run, trail_at}
-use Rattle.meaning.specs.SmallStep.{instance, Start, root, Frame, leaving, broken, Parent, Lookup, look_of, env_of}
-use Rattle.trail_theory.specs.Layers.{Notes, blank, notes, noted, noted_one}
-use Rattle.trail_theory.specs.LayeredStrand.{first_layered}
-use Rattle.trail_theory.specs.Order.{Every}
-use Rattle.trail_theory.specs.TaskFits.{sound, SyncInside}
+use Rattle.meaning.specs.Trail.{Trace, led, child_of, first, ended, doom_after, after_call, after_spawn, past_sync, opening, inner, run_inside, runner, run, sight_of, trail_at}
+use Rattle.meaning.specs.SmallStep.{instance, root, Frame, leaving, broken, Parent, Lookup, look_of, env_of}
+use Rattle.meaning.specs.Layers.{Notes, blank, notes, noted, noted_one}
+use Rattle.meaning.specs.LayeredStrand.{first_layered}
+use Rattle.trail_theory.specs.TaskFits.{sound}
 use Rattle.trail_theory.specs.Right.{stretch, full_rest, RightAt, IsRight}
 use Rattle.trail_theory.specs.Waiting.{HasNoReads}
 use Rattle.trail_theory.proofs.Order.{same_split}
-use Rattle.trail_theory.proofs.Evaluations.{Told}
 use Rattle.trail_theory.proofs.Slots.{new_fits}
 use Rattle.trail_theory.proofs.Advances.{ordered_at}
 use Rattle.trail_theory.proofs.Stepping.{noted_append}
 use Rattle.trail_theory.proofs.SameNotes.{same_refl}
 use Rattle.trail_theory.proofs.Joins.{one_layer}
-use Rattle.trail_theory.proofs.Walks.{Opens, Closed, has_run}
-use Rattle.trail_theory.specs.ElisionBeside.{forgotten, Fits, Matches}
+use Rattle.trail_theory.proofs.Walks.{Closed, has_run}
+use Rattle.trail_theory.specs.ElisionBeside.{forgotten, first_fault, Fits, Matches}
+use Rattle.trail_theory.proofs.FirstFaults.{or_else, fault_append, quiet_first, told_none, opens_none, inside_none}
+use Rattle.trail_theory.specs.ReadsAtEnd.{ReadsAtMainsEnd}
 use Rattle.trail_theory.proofs.Elides.{run_fits}
+use Rattle.trail_theory.proofs.MainElides.{main_from_scratch}
 
 -- ---- the first fault
 
 abbrev fault_of : Outcome → Option Fault
 fault_of (Ok v) = None
 fault_of (Err k) = Some k
-
-abbrev or_else : Option Fault → Option Fault → Option Fault
-or_else None o = o
-or_else (Some k) o = Some k
-
-abbrev pub first_fault : Log → Option Fault
-first_fault [] = None
-first_fault (Faults k ∷ es) = Some k
-first_fault (Reads r ∷ es) = first_fault es
-first_fault (Enters f args d ∷ es) = first_fault es
-first_fault (Updates n kind w ∷ es) = first_fault es
-first_fault (Reuses f args ws ∷ es) = first_fault es
-first_fault (Begins n d ∷ es) = first_fault es
-first_fault (Syncs n ∷ es) = first_fault es
-first_fault (Leaves n v ∷ es) = first_fault es
-first_fault (Marks f args b ∷ es) = first_fault es
-
-fault_append : (a b : Log) → first_fault (a ++ b) ≡ or_else (first_fault a) (first_fault b)
-fault_append [] b = refl
-fault_append (Faults k ∷ es) b = refl
-fault_append (Reads r ∷ es) b = fault_append es b
-fault_append (Enters f args d ∷ es) b = fault_append es b
-fault_append (Updates n kind w ∷ es) b = fault_append es b
-fault_append (Reuses f args ws ∷ es) b = fault_append es b
-fault_append (Begins n d ∷ es) b = fault_append es b
-fault_append (Syncs n ∷ es) b = fault_append es b
-fault_append (Leaves n v ∷ es) b = fault_append es b
-fault_append (Marks f args c ∷ es) b = fault_append es b
-
--- a stretch without a fault
-quiet_first : (a b : Log) → first_fault a ≡ None → first_fault (a ++ b) ≡ first_fault b
-quiet_first a b h = fault_append a b ∙ ap (λ o. or_else o (first_fault b)) h
-
-told_none : (es : Log) → Every Told es → first_fault es ≡ None
-told_none [] h = refl
-told_none (Reads r ∷ es) h = told_none es h.1
-told_none (Updates n kind w ∷ es) h = told_none es h.1
-told_none (Enters f args d ∷ es) h = absurd h.0
-told_none (Reuses f args ws ∷ es) h = absurd h.0
-told_none (Begins n d ∷ es) h = absurd h.0
-told_none (Syncs n ∷ es) h = absurd h.0
-told_none (Leaves n v ∷ es) h = absurd h.0
-told_none (Faults k ∷ es) h = absurd h.0
-told_none (Marks f args c ∷ es) h = absurd h.0
-
-opens_none : (es : Log) → Every Opens es → first_fault es ≡ None
-opens_none [] h = refl
-opens_none (Begins n d ∷ es) h = opens_none es h.1
-opens_none (Marks f args c ∷ es) h = opens_none es h.1
-opens_none (Enters f args d ∷ es) h = opens_none es h.1
-opens_none (Reads r ∷ es) h = absurd h.0
-opens_none (Updates n kind w ∷ es) h = absurd h.0
-opens_none (Reuses f args ws ∷ es) h = absurd h.0
-opens_none (Syncs n ∷ es) h = absurd h.0
-opens_none (Leaves n v ∷ es) h = absurd h.0
-opens_none (Faults k ∷ es) h = absurd h.0
-
-inside_none : (m : Start) (es : Log) → Every (SyncInside m) es → first_fault es ≡ None
-inside_none m [] h = refl
-inside_none m (Reads r ∷ es) h = inside_none m es h.1
-inside_none m (Updates n kind w ∷ es) h = inside_none m es h.1
-inside_none m (Enters f args d ∷ es) h = inside_none m es h.1
-inside_none m (Reuses f args ws ∷ es) h = inside_none m es h.1
-inside_none m (Begins n d ∷ es) h = inside_none m es h.1
-inside_none m (Syncs n ∷ es) h = inside_none m es h.1
-inside_none m (Leaves n v ∷ es) h = inside_none m es h.1
-inside_none m (Faults k ∷ es) h = absurd h.0
-inside_none m (Marks f args c ∷ es) h = inside_none m es h.1
 
 abbrev FaultsOf : Place → ℕ → Option Fault → Trace → Type 0
 FaultsOf n c doom r = fault_of r.outcome ≡ or_else doom (first_fault r.events)
@@ -116,7 +49,7 @@ faults_call : (n : Place) (c : ℕ) (doom : Option Fault) (es : Log) (o : Outcom
 faults_call n c doom es (Ok v) next h g = g v ∙ ap (or_else doom) (sym (quiet_first es (next v).events (sym h)))
 faults_call n c doom es (Err k) next h g = faults_stop doom k ∙ ap (or_else doom) (h ∙ ap first_fault (sym (append-nil es)))
 
-faults_spawn : (n : Place) (c : ℕ) (doom : Option Fault) (es : Log) (o : Outcome) (next : Outcome → Trace) → fault_of o ≡ first_fault es → FaultsOf n (suc c) (doom_after doom o) (next o) → FaultsOf n c doom (after_spawn (record { events = es; outcome = o }) next)
+faults_spawn : (n : Place) (c : ℕ) (doom : Option Fault) (es : Log) (o : Outcome) (next : Outcome → Trace) → fault_of o ≡ first_fault es → FaultsOf n (suc c) (doom_after doom o) (next o) → FaultsOf n c doom (after_spawn (child_of n c) (record { events = es; outcome = o }) next)
 faults_spawn n c doom es (Ok v) next h g = g ∙ ap (or_else doom) (sym (quiet_first es (next (Ok v)).events (sym h)))
 faults_spawn n c None es (Err k) next h g = g ∙ ap (λ o. or_else o (first_fault (next (Err k)).events)) h ∙ sym (fault_append es (next (Err k)).events)
 faults_spawn n c (Some j) es (Err k) next h g = g
@@ -150,6 +83,7 @@ worth_of l (Updates n kind w ∷ es) = worth_of (noted_one l (Updates n kind w))
 worth_of l (Reuses f args ws ∷ es) = worth_of l es
 worth_of l (Begins n d ∷ es) = worth_of l es
 worth_of l (Syncs n ∷ es) = worth_of l es
+worth_of l (Spawns n ∷ es) = worth_of l es
 worth_of l (Leaves n v ∷ es) = worth_of l es
 worth_of l (Faults k ∷ es) = worth_of l es
 worth_of l (Marks f args b ∷ es) = worth_of l es
@@ -174,6 +108,7 @@ module _ (program : Tree) (tables : Tables) (sight : Accumulators) (lookup : Loo
           stacked = tt;
         };
         inside = tt;
+        reads = λ ruled. (inr (refl, (refl, refl)), tt);
       }
 
   abbrev T : Log
@@ -195,7 +130,7 @@ module _ (program : Tree) (tables : Tables) (sight : Accumulators) (lookup : Loo
       let f' : (ops ++ within_main.events) ++ Leaves [] within_main.outcome ∷ [] ≡ T = append_assoc ops within_main.events (Leaves [] within_main.outcome ∷ []) in
       let q = same_split [] (h.before ++ here) h.beyond (ops ++ within_main.events) [] (Ok v) within_main.outcome (ordered_at program tables sight lookup _ f) (ordered_at program tables sight lookup _ f') (f ∙ sym f') in
       let g : here ++ Leaves [] (Ok v) ∷ [] ≡ T = ap (λ b. (b ++ here) ++ Leaves [] (Ok v) ∷ []) (sym h.starts) ∙ ap (λ b. (h.before ++ here) ++ Leaves [] (Ok v) ∷ b) (sym q.later) ∙ f in
-      let z : o ≡ record { log = forgotten T; answer = Ok v } = subst (λ w. Fits o T w) (sym q.value) fits in
+      let z : o ≡ record { log = forgotten T; answer = Ok v } = (subst (λ w. Fits o T w) (sym q.value) fits).0 in
       let n : notes program T ≡ notes program here = ap (notes program) (sym g) ∙ noted_append (blank program) here (Leaves [] (Ok v) ∷ []) in
       (ap (λ x. x.answer) z, ap (λ x. after x.log (identities program)) z ∙ worth_of (blank program) T ∙ ap (λ x. x.worth) n ∙ (one_layer program tables sight lookup l h.segments h.logged).worth)
 
@@ -205,7 +140,7 @@ module _ (program : Tree) (tables : Tables) (sight : Accumulators) (lookup : Loo
       let e : stretch h.segments ++ (full_rest program tables sight lookup fr (broken k) t h.top h.others ++ h.beyond) ≡ T = rw h.starts at h.is_trail in
       let q : first_fault T ≡ Some k = ap first_fault (sym e) ∙ quiet_first (stretch h.segments) _ (inside_none root (stretch h.segments) h.inside) in
       let r : fault_of whole.outcome ≡ first_fault T = has_run FaultsOf FaultsRun faults program tables sight (depth_limit - 1) (look_of lookup) main [] [] in
-      subst (λ w. Fits o T w) (is_err whole.outcome k (r ∙ q)) fits
+      (subst (λ w. Fits o T w) (is_err whole.outcome k (r ∙ q)) fits).0
     where
       is_err : (w : Outcome) (k : Fault) → fault_of w ≡ Some k → w ≡ Err k
       is_err (Ok v) k q = absurd cc
@@ -217,14 +152,28 @@ module _ (program : Tree) (tables : Tables) (sight : Accumulators) (lookup : Loo
   as_faulted : (acc : Accumulators) (o : Out Fault ℤ) (k : Fault) → o.answer ≡ Err k → answer_of acc o ≡ Faulted k
   as_faulted acc o k e = ap (λ r. answer_of acc (record { log = o.log; answer = r })) e
 
-  pub ends : HasNoReads program → (l : Notes) (fr : Frame) (v : ℤ) → RightAt program tables sight lookup root (l ∷ []) fr (leaving v) [] → fr.instance ≡ [] → from_scratch program tables ≡ Finished v l.worth
+  abbrev from_identities : Out Fault ℤ
+  from_identities = elide program tables depth_limit start main [] (identities program)
+
+  -- where main's elision is its stretch of the trail
+  ends_by : Matches from_identities whole → (l : Notes) (fr : Frame) (v : ℤ) → RightAt program tables sight lookup root (l ∷ []) fr (leaving v) [] → fr.instance ≡ [] → from_scratch program tables ≡ Finished v l.worth
   unfolding from_scratch
-  ends nr l fr v h e =
-      let o = elide program tables depth_limit start main [] (identities program) in
-      as_finished (identities program) o v l.worth (finish_at l fr v h e o (run_fits program tables sight nr (depth_limit - 1) (look_of lookup) start main [] [] (identities program)))
+  ends_by fits l fr v h e = as_finished (identities program) from_identities v l.worth (finish_at l fr v h e from_identities fits)
+
+  breaks_by : Matches from_identities whole → (ls : List Notes) (fr : Frame) (k : Fault) (t : List Parent) → RightAt program tables sight lookup root ls fr (broken k) t → from_scratch program tables ≡ Faulted k
+  unfolding from_scratch
+  breaks_by fits ls fr k t h = as_faulted (identities program) from_identities k (broken_at ls fr k t h from_identities fits)
+
+  pub ends : HasNoReads program → (l : Notes) (fr : Frame) (v : ℤ) → RightAt program tables sight lookup root (l ∷ []) fr (leaving v) [] → fr.instance ≡ [] → from_scratch program tables ≡ Finished v l.worth
+  ends nr = ends_by (run_fits program tables sight nr (depth_limit - 1) (look_of lookup) start main [] [] (identities program))
 
   pub breaks : HasNoReads program → (ls : List Notes) (fr : Frame) (k : Fault) (t : List Parent) → RightAt program tables sight lookup root ls fr (broken k) t → from_scratch program tables ≡ Faulted k
-  unfolding from_scratch
-  breaks nr ls fr k t h =
-      let o = elide program tables depth_limit start main [] (identities program) in
-      as_faulted (identities program) o k (broken_at ls fr k t h o (run_fits program tables sight nr (depth_limit - 1) (look_of lookup) start main [] [] (identities program)))
+  breaks nr = breaks_by (run_fits program tables sight nr (depth_limit - 1) (look_of lookup) start main [] [] (identities program))
+
+-- where reads stand at main's end
+module _ (program : Tree) (tables : Tables) (lookup : Lookup) (ruled : ReadsAtMainsEnd program) where
+  pub ends_read : (l : Notes) (fr : Frame) (v : ℤ) → RightAt program tables (sight_of program tables) lookup root (l ∷ []) fr (leaving v) [] → fr.instance ≡ [] → from_scratch program tables ≡ Finished v l.worth
+  ends_read = ends_by program tables (sight_of program tables) lookup (main_from_scratch program tables ruled (look_of lookup))
+
+  pub breaks_read : (ls : List Notes) (fr : Frame) (k : Fault) (t : List Parent) → RightAt program tables (sight_of program tables) lookup root ls fr (broken k) t → from_scratch program tables ≡ Faulted k
+  breaks_read = breaks_by program tables (sight_of program tables) lookup (main_from_scratch program tables ruled (look_of lookup))

@@ -8,7 +8,7 @@ use Rattle.monoid_laws.specs.declared.Kind.{Kind}
 use Rattle.meaning.specs.declared.FaultKind.TheVariants.{DivideByZero, RangeTooLong}
 use Rattle.meaning.specs.Tables.{Tables, cell_of}
 use Rattle.monoid_laws.specs.Kinds.{names_element}
-use Rattle.meaning.specs.Outcome.{Log, Event, Reads, Enters, Updates, Reuses, Begins, Syncs, Leaves, Faults, Marks, Out, onward, pure, fail}
+use Rattle.meaning.specs.Outcome.{Log, Event, Reads, Enters, Updates, Reuses, Begins, Syncs, Leaves, Faults, Marks, Spawns, Out, onward, pure, fail}
 use Rattle.meaning.specs.Values.{Env, value, values, apply, look}
 use Rattle.meaning.specs.Statements.{numbered, naming, updating, update_of, ranged, span, bounds}
 use Rattle.meaning.specs.SmallStep.{Start}
@@ -25,6 +25,7 @@ Told (Enters f args depth) = ⊥
 Told (Reuses f args ws) = ⊥
 Told (Begins n depth) = ⊥
 Told (Syncs n) = ⊥
+Told (Spawns n) = ⊥
 Told (Leaves n v) = ⊥
 Told (Faults k) = ⊥
 Told (Marks f args b) = ⊥
@@ -37,6 +38,7 @@ told_inside m (Enters f args depth ∷ es) h = absurd h.0
 told_inside m (Reuses f args ws ∷ es) h = absurd h.0
 told_inside m (Begins n depth ∷ es) h = absurd h.0
 told_inside m (Syncs n ∷ es) h = absurd h.0
+told_inside m (Spawns n ∷ es) h = absurd h.0
 told_inside m (Leaves n v ∷ es) h = absurd h.0
 told_inside m (Faults k ∷ es) h = absurd h.0
 told_inside m (Marks f args b ∷ es) h = absurd h.0

@@ -2,7 +2,7 @@
 use Rattle.std.proofs.Common.{ℕ, suc, List, [], ◌∷◌, ◌++◌, Option, Some, None, Ok, Err, ℤ, ◌≡◌, refl, ap}
 use Rattle.program_tree.specs.Plain.{Name, Tree}
 use Rattle.meaning.specs.Tables.{Tables}
-use Rattle.meaning.specs.Outcome.{Log, Accumulators, Fault, Outcome, Place, Reads, Enters, Updates, Reuses, Begins, Syncs, Leaves, Faults, Marks}
+use Rattle.meaning.specs.Outcome.{Log, Accumulators, Fault, Outcome, Place, Reads, Enters, Updates, Reuses, Begins, Syncs, Leaves, Faults, Marks, Spawns}
 use Rattle.meaning.specs.Trail.{Trace, led, child_of, first, doom_after, after_call, after_spawn, past_sync, over, closed, Look, run_inside, runner}
 use Rattle.meaning.specs.SmallStep.{Start}
 use Rattle.trail_theory.specs.Order.{Every}
@@ -20,6 +20,7 @@ opens_inside m (Reads r ∷ es) h = absurd h.0
 opens_inside m (Updates n kind w ∷ es) h = absurd h.0
 opens_inside m (Reuses f args ws ∷ es) h = absurd h.0
 opens_inside m (Syncs n ∷ es) h = absurd h.0
+opens_inside m (Spawns n ∷ es) h = absurd h.0
 opens_inside m (Leaves n v ∷ es) h = absurd h.0
 opens_inside m (Faults k ∷ es) h = absurd h.0
 
@@ -38,8 +39,8 @@ module _ (m : Start) where
   above_call n c doom es (Ok w) next a b h v e = let q = b w h v e in (q.0, every_append (SyncInside m) es (next w).events (a (higher_child m n c h) w refl) q.1)
   above_call n c doom es (Err k) next a b h v e = absurd cc
 
-  above_spawn : (n : Place) (c : ℕ) (doom : Option Fault) (es : Log) (o : Outcome) (next : Outcome → Trace) → AboveRun (child_of n c) (record { events = es; outcome = o }) → Above n (suc c) (doom_after doom o) (next o) → Above n c doom (after_spawn (record { events = es; outcome = o }) next)
-  above_spawn n c doom es (Ok w) next a b h v e = let q = b h v e in (q.0, every_append (SyncInside m) es (next (Ok w)).events (a (higher_child m n c h) w refl) q.1)
+  above_spawn : (n : Place) (c : ℕ) (doom : Option Fault) (es : Log) (o : Outcome) (next : Outcome → Trace) → AboveRun (child_of n c) (record { events = es; outcome = o }) → Above n (suc c) (doom_after doom o) (next o) → Above n c doom (after_spawn (child_of n c) (record { events = es; outcome = o }) next)
+  above_spawn n c doom es (Ok w) next a b h v e = let q = b h v e in (q.0, (tt, every_append (SyncInside m) es (next (Ok w)).events (a (higher_child m n c h) w refl) q.1))
   above_spawn n c doom es (Err k) next a b h v e = let q = (b h v e).0 in absurd cc
 
   above_sync : (n : Place) (c : ℕ) (doom : Option Fault) (r : Trace) → Above n c None r → Above n c doom (led (Syncs n ∷ []) (past_sync doom r))

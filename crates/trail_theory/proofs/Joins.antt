@@ -1,16 +1,16 @@
 -- Steals, pops and folds keep strands right.
-use Rattle.std.proofs.Common.{ℕ, zero, suc, ◌+◌, ◌<◌, List, [], ◌∷◌, ◌++◌, Option, Some, None, Ok, Err, ℤ, ◌≡◌, inl, inr, refl, sym, ap, ap₂, ◌∙◌, subst, subst₂, arith, append_assoc, map, Bool, true, false, cond, eqb-true, nat_eq, ◌&&◌}
+use Rattle.std.proofs.Common.{ℕ, zero, suc, ◌+◌, ◌<◌, List, [], ◌∷◌, ◌++◌, Option, Some, None, Ok, Err, ℤ, ◌≡◌, inl, inr, refl, sym, ap, ap₂, ◌∙◌, subst, subst₂, arith, append_assoc, append-nil, map, Bool, true, false, cond, eqb-true, nat_eq, ◌&&◌}
 use Rattle.std.specs.Prelude.{slice_set}
 use Rattle.program_tree.specs.Plain.{Tree}
 use Rattle.meaning.specs.Tables.{Tables}
-use Rattle.meaning.specs.Outcome.{Log, Accumulators, Fault, Outcome, Place, Reads, Enters, Updates, Reuses, Begins, Syncs, Leaves, Faults, Marks}
+use Rattle.meaning.specs.Outcome.{Log, Accumulators, Event, Fault, Outcome, Place, Reads, Enters, Updates, Reuses, Begins, Syncs, Leaves, Faults, Marks, Spawns}
 use Rattle.meaning.specs.Values.{Env}
 use Rattle.meaning.specs.Statements.{put_into}
-use Rattle.meaning.specs.Trail.{child_of, env_after, doom_after, trail_at}
+use Rattle.meaning.specs.Trail.{led, child_of, env_after, doom_after, trail_at}
 use Rattle.meaning.specs.SmallStep.{slot, env_of, Slot, unset, waits, has, Start, root, behind, same_name, Frame, Todo, blocks, halves, second, turns, Phase, entering, running, spawning, returning, leaving, broken, Parent, set_into, with_env, with_value, Layers, Lookup, look_of, Continuation, place_of_continuation}
 use Rattle.trail_theory.specs.SerialRest.{Beside, child_inside, finished_by, todo_walk, phase_walk, parent_walk, below}
-use Rattle.trail_theory.specs.Layers.{SameNotes, blank, Notes, notes, layers_after, noted_top, take_top}
-use Rattle.trail_theory.specs.LayeredStrand.{stolen, settle_slot, settled_frame, settled_under}
+use Rattle.meaning.specs.Layers.{SameNotes, blank, Notes, notes, noted_top, take_top}
+use Rattle.meaning.specs.LayeredStrand.{stolen, settle_slot, settled_frame, settled_under}
 use Rattle.trail_theory.specs.Order.{In, Every, LeavesInOrder}
 use Rattle.trail_theory.specs.Waiting.{with_name}
 use Rattle.trail_theory.specs.TaskFits.{SlotFits, same, late, lost, EnvFits, DoomFits, sound, hit, FrameFits, UnderFits, IsOrderlyPhase, IsAbove, Higher, Spot, Fringe, Stacked, SyncInside}
@@ -18,8 +18,10 @@ use Rattle.trail_theory.specs.Right.{StartsAfter, stretch, LayersFit, Logged, fu
 use Rattle.trail_theory.proofs.Places.{in_append, in_left, in_right, every_append, every_in, order_strict, last_split, both_ways}
 use Rattle.trail_theory.proofs.Order.{ordered_across, ordered_front, same_split}
 use Rattle.trail_theory.proofs.SameNotes.{same_refl, same_sym}
+use Rattle.trail_theory.specs.MainReads.{PhaseReads, TaskReads}
+use Rattle.trail_theory.proofs.MainReads.{spawned_todo, under_settled}
 use Rattle.trail_theory.proofs.Slots.{set_into_fits, env_wider, wider_name}
-use Rattle.trail_theory.proofs.Advances.{segments_after, grown, ordered_at, grown_fits, stretch_after, stretch_grown, has_after, has_grown, layers_fit, taken_fits}
+use Rattle.trail_theory.proofs.Advances.{grown, ordered_at, grown_fits, stretch_grown, has_grown, taken_fits}
 
 -- more events before the strand
 slot_later : {B : Log} {n : Place} {W : List ℕ} {x : ℕ} {a : Slot} {b : Option ℤ} (C : Log) → ((c : Place) (v : Outcome) → In (Leaves c v) B → In (Leaves c v) C) → SlotFits B n W x a b → SlotFits C n W x a b
@@ -108,7 +110,7 @@ module _ (program : Tree) (tables : Tables) (sight : Accumulators) (lookup : Loo
         top = record { env = env_after h.top.env k.parent.into h.outcome; doom = doom_after h.top.doom h.outcome };
         others = h.others;
         is_trail = (let e = h.is_trail in simp append_assoc (simp append_assoc at e));
-        starts = record { sooner = h.before ++ h.between; value = h.outcome; is = simp append_assoc };
+        starts = record { sooner = h.before ++ h.between; value = h.outcome; is = simp append_assoc; unsynced = h.unsynced };
         layered = tt;
         logged = (same_refl (blank program), tt);
         task = record {
@@ -123,11 +125,14 @@ module _ (program : Tree) (tables : Tables) (sight : Accumulators) (lookup : Loo
           stacked = h.stacked;
         };
         inside = tt;
+        reads = λ ruled.
+            let r = h.reads ruled in
+            subst (λ w. TaskReads w fr.instance (running k.parent.todo) k.under) (sym (append-nil B)) (spawned_todo B fr.instance k.parent.todo r.0, r.1);
       }
 
-  pub pop_right : StretchesMultiply program tables sight lookup → (l : Layers) (ls : List Notes) (fr : Frame) (v : ℤ) (k : Continuation) → fr.instance ≡ place_of_continuation k → RightAt program tables sight lookup k.since ls fr (leaving v) [] → IsRightContinuation program tables sight lookup k
-      → RightAt program tables sight lookup k.since (layers_after program l (noted_top ls (Leaves fr.instance (Ok v) ∷ []))) (with_value k.parent v) (running k.parent.todo) k.under
-  pop_right law l ls fr v k e s h =
+  pub pop_right : (ls : List Notes) (fr : Frame) (v : ℤ) (k : Continuation) → fr.instance ≡ place_of_continuation k → RightAt program tables sight lookup k.since ls fr (leaving v) [] → IsRightContinuation program tables sight lookup k
+      → RightAt program tables sight lookup k.since (noted_top ls (Leaves fr.instance (Ok v) ∷ [])) (with_value k.parent v) (running k.parent.todo) k.under
+  pop_right ls fr v k e s h =
       let p = place_of_continuation k in
       let here = stretch s.segments in
       let K = λ (o : Outcome). full_rest program tables sight lookup k.parent.frame (running k.parent.todo) k.under (record { env = env_after h.top.env k.parent.into o; doom = doom_after h.top.doom o }) h.others in
@@ -143,14 +148,14 @@ module _ (program : Tree) (tables : Tables) (sight : Accumulators) (lookup : Loo
       let t : s.before ++ (stretch ss ++ (K (Ok v) ++ h.beyond)) ≡ T = rw w (simp append_assoc (simp append_assoc at g')) in
       record {
         before = s.before;
-        segments = segments_after program tables sight lookup l ss;
+        segments = ss;
         beyond = h.beyond;
         top = record { env = put_into k.parent.into h.top.env v; doom = h.top.doom };
         others = h.others;
-        is_trail = rw (stretch_after program tables sight lookup l ss) t;
+        is_trail = t;
         starts = s.starts;
-        layered = has_after program tables sight lookup l ss (has_grown program tables sight lookup s.segments evs s.layered);
-        logged = layers_fit program tables sight lookup law l s.before (K (Ok v) ++ h.beyond) (noted_top ls evs) ss t (grown_fits program tables sight lookup ls s.segments evs s.logged);
+        layered = has_grown program tables sight lookup s.segments evs s.layered;
+        logged = grown_fits program tables sight lookup ls s.segments evs s.logged;
         task = record {
           frame_fits = record {
             waiting = with_name k.parent.into h.waiting;
@@ -162,7 +167,12 @@ module _ (program : Tree) (tables : Tables) (sight : Accumulators) (lookup : Loo
           fringe = spot_later k.since k.parent.frame.instance k.child k.parent.frame.next h.counted h.spot;
           stacked = h.stacked;
         };
-        inside = rw (stretch_after program tables sight lookup l ss, w) (every_append (SyncInside k.since) here evs s.inside (tt, tt));
+        inside = rw w (every_append (SyncInside k.since) here evs s.inside (tt, tt));
+        reads = λ ruled.
+            let r = h.reads ruled in
+            let seam : h.before ++ (h.between ++ Leaves p h.outcome ∷ []) ≡ s.before ++ stretch ss =
+            sym (append_assoc h.before h.between (Leaves p h.outcome ∷ [])) ∙ ap₂ (λ a o. a ++ Leaves p o ∷ []) (sym q.sooner) (sym q.value) ∙ ap (λ n. (s.before ++ here) ++ Leaves n (Ok v) ∷ []) (sym e) ∙ append_assoc s.before here evs ∙ ap (λ a. s.before ++ a) (sym w) in
+            subst (λ a. TaskReads a k.parent.frame.instance (running k.parent.todo) k.under) seam (spawned_todo (h.before ++ (h.between ++ Leaves p h.outcome ∷ [])) k.parent.frame.instance k.parent.todo r.0, r.1);
       }
 
 -- names by comparison
@@ -214,6 +224,7 @@ inside_through m n k h (Leaves q (Ok v) ∷ es) i = (tt, inside_through m n k h 
 inside_through m n k h (Leaves q (Err v) ∷ es) i = absurd i.0
 inside_through m n k h (Faults v ∷ es) i = absurd i.0
 inside_through m n k h (Syncs q ∷ es) i = (higher_through m n q k h i.0, inside_through m n k h es i.1)
+inside_through m n k h (Spawns q ∷ es) i = (tt, inside_through m n k h es i.1)
 
 ends_after : (m : Start) (B C : Log) (c : Place) (w : Outcome) → StartsAfter m B → LeavesInOrder (B ++ C) → In (Leaves c w) C → EndsAfter m c
 ends_after root B C c w s o i = tt
@@ -315,7 +326,7 @@ module _ (program : Tree) (tables : Tables) (sight : Accumulators) (lookup : Loo
   settle_walk : (e : Place) (v : ℤ) (fr : Frame) (ph : Phase) (g : Beside) → phase_walk program tables sight (look_of lookup) (settled_frame e v fr) ph g ≡ phase_walk program tables sight (look_of lookup) fr ph g
   settle_walk e v fr (entering child) g = refl
   settle_walk e v fr (running todo) g = settle_todo e v fr todo g.env fr.next g.doom
-  settle_walk e v fr (spawning d x child todo) g = λ p. finished_by program tables sight (look_of lookup) (child_of fr.instance fr.next) (child_inside program tables sight (look_of lookup) d child (child_of fr.instance fr.next)) (λ o. settle_todo e v fr todo (env_after g.env x o) (suc fr.next) (doom_after g.doom o) p)
+  settle_walk e v fr (spawning d x child todo) g = λ p. led (Spawns (child_of fr.instance fr.next) ∷ []) (finished_by program tables sight (look_of lookup) (child_of fr.instance fr.next) (child_inside program tables sight (look_of lookup) d child (child_of fr.instance fr.next)) (λ o. settle_todo e v fr todo (env_after g.env x o) (suc fr.next) (doom_after g.doom o) p))
   settle_walk e v fr (returning w) g = refl
   settle_walk e v fr (leaving w) g = refl
   settle_walk e v fr (broken k) g = refl
@@ -356,6 +367,13 @@ module _ (program : Tree) (tables : Tables) (sight : Accumulators) (lookup : Loo
   settle_orderly W e v fr (returning w) h = h
   settle_orderly W e v fr (leaving w) h = h
   settle_orderly W e v fr (broken k) h = h
+
+  -- a fold leaves where the instances stand among the reads
+  settle_phase : (done : Log) (e : Place) (v : ℤ) (fr : Frame) (ph : Phase) → PhaseReads done fr.instance ph → PhaseReads done (settled_frame e v fr).instance ph
+  settle_phase done e v fr ph h = h
+
+  join_seam : (a b c : Log) (e : Event) → (a ++ (b ++ e ∷ [])) ++ c ≡ a ++ (b ++ e ∷ c)
+  join_seam a b c e = simp append_assoc
 
   pub join_at : StretchesMultiply program tables sight lookup → (s : Start) (ls : List Notes) (frl : Frame) (v : ℤ) (m : Place) (k : ℕ) (lr : Notes) (fr : Frame) (ph : Phase) (t : List Parent)
       → RightAt program tables sight lookup s ls frl (leaving v) [] → RightAt program tables sight lookup (behind m k) (lr ∷ []) fr ph t → frl.instance ≡ child_of m k
@@ -398,4 +416,8 @@ module _ (program : Tree) (tables : Tables) (sight : Accumulators) (lookup : Loo
           stacked = settle_stacked e v fr.instance t hr.task.stacked;
         };
         inside = rw w (every_append (SyncInside s) here evs hl.inside (tt, inside_through s m k high there hr.inside));
+        reads = λ ruled.
+            let z : hr.before ++ there ≡ hl.before ++ stretch ss = ap (λ a. a ++ there) seam ∙ join_seam hl.before here there (Leaves e (Ok v)) ∙ ap (λ a. hl.before ++ a) (sym w) in
+            let r = subst (λ a. TaskReads a fr.instance ph t) z (hr.reads ruled) in
+            (settle_phase (hl.before ++ stretch ss) e v fr ph r.0, under_settled (hl.before ++ stretch ss) e v t r.1);
       }

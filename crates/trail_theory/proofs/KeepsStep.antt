@@ -6,10 +6,12 @@ use Rattle.meaning.specs.Outcome.{Log, Accumulators}
 use Rattle.meaning.specs.Records.{Kept}
 use Rattle.meaning.specs.SmallStep.{Start, Frame, Phase, Parent, Step, moved, taken, paused, Lookup}
 use Rattle.trail_theory.specs.SerialRest.{Beside}
-use Rattle.trail_theory.specs.Layers.{SameNotes, notes, notes_of}
+use Rattle.meaning.specs.Layers.{SameNotes, notes, notes_of}
 use Rattle.trail_theory.specs.Order.{Every}
 use Rattle.trail_theory.specs.TaskFits.{TaskFits, SyncInside}
 use Rattle.trail_theory.specs.Right.{full_rest}
+use Rattle.trail_theory.specs.MainReads.{IsNotMain}
+use Rattle.trail_theory.proofs.Synced.{SpawnsElsewhere}
 use Rattle.meaning.specs.Elision.{depth_limit}
 
 module _ (program : Tree) (tables : Tables) (sight : Accumulators) (lookup : Lookup) where
@@ -25,6 +27,7 @@ module _ (program : Tree) (tables : Tables) (sight : Accumulators) (lookup : Loo
     pub events : Log
     pub kept : KeptBy B m was (evs ++ events) fr ph t
     pub noted : SameNotes (notes program events) (notes_of k (depth_limit - fr.left))
+    pub elsewhere : IsNotMain fr.instance → Every SpawnsElsewhere events
 
   abbrev pub Keeps : Log → Start → Log → Step → Type 0
   Keeps B m was (moved l evs fr ph t) = KeptBy B m was evs fr ph t

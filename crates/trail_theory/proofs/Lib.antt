@@ -2,15 +2,22 @@ pub mod Places
 pub mod Evaluations
 pub mod Walks
 pub mod Inside
+pub mod Synced
 pub mod Order
 pub mod Slots
 pub mod KeepsStep
 pub mod SameNotes
 pub mod Stepping
+pub mod FirstFaults
 pub mod Elides
+pub mod MainElides
+pub mod AfterReads
+pub mod MainReads
 pub mod Advances
 pub mod Joins
 pub mod Ends
+pub mod ReadPoints
+mod ReadSamples
 pub mod Records
 pub mod Products
 pub mod FitNumbers
@@ -21,3 +28,5 @@ pub mod MadeRecords
 pub mod ValidRecords
 pub mod CalmSteps
 pub mod Theorems
+pub mod Ready
+pub mod KeptRecords

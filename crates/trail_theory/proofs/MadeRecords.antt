@@ -6,7 +6,7 @@ use Rattle.monoid_laws.specs.Kinds.{identity_of}
 use Rattle.program_tree.specs.Plain.{Name, Tree}
 use Rattle.meaning.specs.Every.{every}
 use Rattle.meaning.specs.Tables.{Tables}
-use Rattle.meaning.specs.Outcome.{Log, Accumulators, Reads, Enters, Updates, Reuses, Begins, Syncs, Leaves, Faults, Marks, Reading, after}
+use Rattle.meaning.specs.Outcome.{Log, Accumulators, Reads, Enters, Updates, Reuses, Begins, Syncs, Leaves, Faults, Marks, Spawns, Reading, after}
 use Rattle.meaning.specs.Statements.{reducers, proc_of, identities}
 use Rattle.meaning.specs.Elision.{elide, reads, entered, deepest, start, depth_limit}
 use Rattle.meaning.specs.Records.{Revised, Kept, agrees, is_current, holds_now, IsSound}
@@ -70,6 +70,7 @@ module _ (program other : Tree) (tables others : Tables) (a b : ℕ) (reds : red
   all_hold (Reuses f args ws ∷ es) h k d = (tt, all_hold es h k d)
   all_hold (Begins n e ∷ es) h k d = (tt, all_hold es h k d)
   all_hold (Syncs n ∷ es) h k d = (tt, all_hold es h k d)
+  all_hold (Spawns n ∷ es) h k d = (tt, all_hold es h k d)
   all_hold (Leaves n v ∷ es) h k d = (tt, all_hold es h k d)
   all_hold (Faults f ∷ es) h k d = (tt, all_hold es h k d)
   all_hold (Marks f args c ∷ es) h k d = (tt, all_hold es h k d)
@@ -82,6 +83,7 @@ module _ (program other : Tree) (tables others : Tables) (a b : ℕ) (reds : red
   reads_moved (Reuses f args ws ∷ es) = reads_moved es
   reads_moved (Begins n e ∷ es) = reads_moved es
   reads_moved (Syncs n ∷ es) = reads_moved es
+  reads_moved (Spawns n ∷ es) = reads_moved es
   reads_moved (Leaves n v ∷ es) = reads_moved es
   reads_moved (Faults f ∷ es) = reads_moved es
   reads_moved (Marks f args c ∷ es) = reads_moved es
@@ -94,6 +96,7 @@ module _ (program other : Tree) (tables others : Tables) (a b : ℕ) (reds : red
   entered_moved (Reuses f args ws ∷ es) = entered_moved es
   entered_moved (Begins n e ∷ es) = entered_moved es
   entered_moved (Syncs n ∷ es) = entered_moved es
+  entered_moved (Spawns n ∷ es) = entered_moved es
   entered_moved (Leaves n v ∷ es) = entered_moved es
   entered_moved (Faults f ∷ es) = entered_moved es
   entered_moved (Marks f args c ∷ es) = entered_moved es
@@ -107,6 +110,7 @@ module _ (program other : Tree) (tables others : Tables) (a b : ℕ) (reds : red
   deepest_moved (Reuses f args ws ∷ es) = deepest_moved es
   deepest_moved (Begins n e ∷ es) = deepest_moved es
   deepest_moved (Syncs n ∷ es) = deepest_moved es
+  deepest_moved (Spawns n ∷ es) = deepest_moved es
   deepest_moved (Leaves n v ∷ es) = deepest_moved es
   deepest_moved (Faults f ∷ es) = deepest_moved es
   deepest_moved (Marks f args c ∷ es) = deepest_moved es

@@ -2,7 +2,7 @@
 use Rattle.std.proofs.Common.{◌-◌, ℕ, suc, ◌<◌, ◌≤◌, [], ◌∷◌, ◌++◌, Option, Some, None, Ok, Err, ℤ, ◌≡◌, inl, inr, ⊎_elim, refl, sym, ap₂, ◌∙◌, arith, append_assoc, append-nil}
 use Rattle.program_tree.specs.Plain.{Tree}
 use Rattle.meaning.specs.Tables.{Tables}
-use Rattle.meaning.specs.Outcome.{Log, Accumulators, Fault, Outcome, Place, Event, Reads, Enters, Updates, Reuses, Begins, Syncs, Leaves, Faults, Marks}
+use Rattle.meaning.specs.Outcome.{Log, Accumulators, Fault, Outcome, Place, Event, Reads, Enters, Updates, Reuses, Begins, Syncs, Leaves, Faults, Marks, Spawns}
 use Rattle.meaning.specs.Trail.{Trace, led, child_of, after_call, past_sync, Look, trail_at}
 use Rattle.meaning.specs.Elision.{main, depth_limit}
 use Rattle.trail_theory.specs.Order.{In, Every, LeavesBefore, AllLater, LeavesInOrder}
@@ -18,6 +18,7 @@ ordered_append (Updates n kind w ∷ a) b h k x = ordered_append a b h k (λ p v
 ordered_append (Reuses f args ws ∷ a) b h k x = ordered_append a b h k (λ p v i. x p v (inr i))
 ordered_append (Begins n d ∷ a) b h k x = ordered_append a b h k (λ p v i. x p v (inr i))
 ordered_append (Syncs n ∷ a) b h k x = ordered_append a b h k (λ p v i. x p v (inr i))
+ordered_append (Spawns n ∷ a) b h k x = ordered_append a b h k (λ p v i. x p v (inr i))
 ordered_append (Faults j ∷ a) b h k x = ordered_append a b h k (λ p v i. x p v (inr i))
 ordered_append (Marks f args c ∷ a) b h k x = ordered_append a b h k (λ p v i. x p v (inr i))
 ordered_append (Leaves n w ∷ a) b h k x =
@@ -30,6 +31,7 @@ ordered_tail (Updates n kind w) es h = h
 ordered_tail (Reuses f args ws) es h = h
 ordered_tail (Begins n d) es h = h
 ordered_tail (Syncs n) es h = h
+ordered_tail (Spawns n) es h = h
 ordered_tail (Faults j) es h = h
 ordered_tail (Marks f args c) es h = h
 ordered_tail (Leaves n w) es h = h.1
@@ -43,6 +45,7 @@ leaves_head (Updates n kind w) es p v h q = absurd cc
 leaves_head (Reuses f args ws) es p v h q = absurd cc
 leaves_head (Begins n d) es p v h q = absurd cc
 leaves_head (Syncs n) es p v h q = absurd cc
+leaves_head (Spawns n) es p v h q = absurd cc
 leaves_head (Faults j) es p v h q = absurd cc
 leaves_head (Marks f args c) es p v h q = absurd cc
 
@@ -59,6 +62,7 @@ ordered_front (Updates n kind w ∷ a) b h = ordered_front a b h
 ordered_front (Reuses f args ws ∷ a) b h = ordered_front a b h
 ordered_front (Begins n d ∷ a) b h = ordered_front a b h
 ordered_front (Syncs n ∷ a) b h = ordered_front a b h
+ordered_front (Spawns n ∷ a) b h = ordered_front a b h
 ordered_front (Faults j ∷ a) b h = ordered_front a b h
 ordered_front (Marks f args c ∷ a) b h = ordered_front a b h
 ordered_front (Leaves n w ∷ a) b h = (λ c v i. h.0 c v (in_left (Leaves c v) a b i), ordered_front a b h.1)
@@ -98,6 +102,7 @@ none_ordered (Updates n kind w ∷ a) h = none_ordered a (λ c v i. h c v (inr i
 none_ordered (Reuses f args ws ∷ a) h = none_ordered a (λ c v i. h c v (inr i))
 none_ordered (Begins n d ∷ a) h = none_ordered a (λ c v i. h c v (inr i))
 none_ordered (Syncs n ∷ a) h = none_ordered a (λ c v i. h c v (inr i))
+none_ordered (Spawns n ∷ a) h = none_ordered a (λ c v i. h c v (inr i))
 none_ordered (Faults j ∷ a) h = none_ordered a (λ c v i. h c v (inr i))
 none_ordered (Marks f args b ∷ a) h = none_ordered a (λ c v i. h c v (inr i))
 none_ordered (Leaves n w ∷ a) h = absurd (h n w (inl refl))
@@ -153,6 +158,9 @@ tidy_child n k a b h g =
 sync_leaves : (n c : Place) (v : Outcome) → In (Leaves c v) (Syncs n ∷ []) → ⊥
 sync_leaves n c v i = ⊎_elim (λ e. cc) (λ z. z) i
 
+spawn_leaves : (n c : Place) (v : Outcome) → In (Leaves c v) (Spawns n ∷ []) → ⊥
+spawn_leaves n c v i = ⊎_elim (λ e. cc) (λ z. z) i
+
 stop_leaves : (k : Fault) (c : Place) (v : Outcome) → In (Leaves c v) (Faults k ∷ []) → ⊥
 stop_leaves k c v i = ⊎_elim (λ e. cc) (λ z. z) i
 
@@ -197,7 +205,7 @@ tidy =
       overs = λ n c doom v. tidy_none n c (Syncs n ∷ []) (sync_leaves n);
       leds = λ n c doom es r t h. tidy_led n c es r.events (λ p v i. told_leaves p v es t i) h;
       calls = λ n c doom r next h g. tidy_call n c doom r.events r.outcome next h g;
-      spawns = λ n c doom r next h g. tidy_child n c r.events (next r.outcome).events h g;
+      spawns = λ n c doom r next h g. tidy_child n c (Spawns (child_of n c) ∷ r.events) (next r.outcome).events (run_led (child_of n c) (Spawns (child_of n c) ∷ []) r.events (spawn_leaves (child_of n c)) h) g;
       syncs = tidy_sync;
       closes = λ n ops r t h. run_led n ops (r.events ++ Leaves n r.outcome ∷ []) (λ p v i. opens_leaves p v ops t i) (closed_tidy n r.events r.outcome h);
     }

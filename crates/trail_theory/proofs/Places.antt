@@ -93,7 +93,7 @@ no_child_before (behind m k) n B early h j o i =
     early (child_of n j) o i (let a = above_child m k n j h in rw a.is (order_later m k a.child [] a.path a.later))
 
 -- where two names meet
-no_end : (m : Place) (k : ℕ) (r : Place) → [] ≡ m ++ k ∷ r → ⊥
+pub no_end : (m : Place) (k : ℕ) (r : Place) → [] ≡ m ++ k ∷ r → ⊥
 no_end [] k r e = cc
 no_end (a ∷ m) k r e = cc
 

@@ -9,13 +9,13 @@ use Rattle.monoid_laws.proofs.Laws.{operate_right, IsMonoid-kind}
 use Rattle.monoid_laws.proofs.Rows.{operate_all_identities, AreWorths-identities}
 use Rattle.program_tree.specs.Plain.{Red, Tree}
 use Rattle.meaning.specs.Tables.{Tables}
-use Rattle.meaning.specs.Outcome.{Log, Accumulators, Event, Reads, Enters, Updates, Reuses, Begins, Syncs, Leaves, Faults, Marks, updated, combined}
+use Rattle.meaning.specs.Outcome.{Log, Accumulators, Event, Reads, Enters, Updates, Reuses, Begins, Syncs, Leaves, Faults, Marks, Spawns, updated, combined}
 use Rattle.meaning.specs.Statements.{reducers, identities}
 use Rattle.meaning.specs.Records.{with_kinds}
 use Rattle.meaning.specs.Trail.{trail_at}
 use Rattle.meaning.specs.SmallStep.{Lookup, look_of}
 use Rattle.trail_theory.specs.Order.{Every}
-use Rattle.trail_theory.specs.Layers.{Notes, noted_one, noted, blank, notes, multiplied}
+use Rattle.meaning.specs.Layers.{Notes, noted_one, noted, blank, notes, multiplied}
 use Rattle.trail_theory.specs.Right.{StretchesMultiply}
 use Rattle.trail_theory.specs.Typed.{kinds_of, HasMonoids, IsTyped}
 use Rattle.trail_theory.proofs.Stepping.{noted_append}
@@ -85,6 +85,7 @@ module _ (program : Tree) (good : HasMonoids program) where
   worthy_one l (Reuses f args ws) t h = h
   worthy_one l (Begins n d) t h = h
   worthy_one l (Syncs n) t h = h
+  worthy_one l (Spawns n) t h = h
   worthy_one l (Leaves n v) t h = h
   worthy_one l (Faults k) t h = h
   worthy_one l (Marks f args b) t h = h
@@ -106,6 +107,7 @@ module _ (program : Tree) (good : HasMonoids program) where
   product_one a l (Reuses f args ws) t h g = refl
   product_one a l (Begins n d) t h g = refl
   product_one a l (Syncs n) t h g = refl
+  product_one a l (Spawns n) t h g = refl
   product_one a l (Leaves n v) t h g = refl
   product_one a l (Faults k) t h g = refl
   product_one a l (Marks f args b) t h g = refl

@@ -4,10 +4,10 @@ use Rattle.std.specs.Prelude.{max, slice_get}
 use Rattle.std.specs.List.{Contains}
 use Rattle.std.proofs.lemmas.List.Elements.{Contains-append_left, Contains-append_right, Contains-append_cases}
 use Rattle.program_tree.specs.Plain.{Tree}
-use Rattle.meaning.specs.Outcome.{Log, Event, Reads, Enters, Updates, Reuses, Begins, Syncs, Leaves, Faults, Marks, updated, combined}
+use Rattle.meaning.specs.Outcome.{Log, Event, Reads, Enters, Updates, Reuses, Begins, Syncs, Leaves, Faults, Marks, Spawns, updated, combined}
 use Rattle.meaning.specs.Statements.{reducers}
 use Rattle.meaning.specs.Records.{with_kinds}
-use Rattle.trail_theory.specs.Layers.{Notes, noted_one, noted, multiplied, SameNotes}
+use Rattle.meaning.specs.Layers.{Notes, noted_one, noted, multiplied, SameNotes}
 
 pub same_refl : (a : Notes) → SameNotes a a
 same_refl a = record { worth = refl; deepest = refl; read = λ r. ((λ c. c), (λ c. c)); entered = λ f. ((λ c. c), (λ c. c)) }
@@ -26,6 +26,7 @@ noted_one_same a b (Updates n kind w) h = record { worth = ap (λ x. updated x n
 noted_one_same a b (Reuses f args ws) h = h
 noted_one_same a b (Begins n d) h = h
 noted_one_same a b (Syncs n) h = h
+noted_one_same a b (Spawns n) h = h
 noted_one_same a b (Leaves n v) h = h
 noted_one_same a b (Faults k) h = h
 noted_one_same a b (Marks f args c) h = h

@@ -7,21 +7,22 @@ use Rattle.program_tree.specs.declared.Way.TheVariants.{Call, Spawn}
 use Rattle.meaning.specs.declared.FaultKind.{FaultKind}
 use Rattle.meaning.specs.declared.FaultKind.TheVariants.{TooDeep}
 use Rattle.meaning.specs.Tables.{Tables, is_there}
-use Rattle.meaning.specs.Outcome.{Log, Accumulators, Fault, Site, Outcome, Place, Enters, Begins, Syncs, Leaves, Out}
+use Rattle.meaning.specs.Outcome.{Log, Accumulators, Fault, Site, Outcome, Place, Enters, Begins, Syncs, Leaves, Spawns, Out}
 use Rattle.meaning.specs.Values.{Env, put, value, values}
 use Rattle.meaning.specs.Statements.{reducers, numbered, reading, put_into, Job, job_of, proc_of, fresh, update_of, bounds, turn_values}
 use Rattle.meaning.specs.Records.{Kept}
 use Rattle.meaning.specs.Trail.{Trace, led, child_of, fault_at, env_after, doom_after, stop, settled, evaluated, Go, Runner, entering as to_enter, after_call, after_spawn, past_sync, over, closed, Look, answers, within, mark, opening, inner, turns_walk, half_closed, loop_walk, half_run, halvings, body_walk, run_inside, runner, run}
 use Rattle.meaning.specs.SmallStep.{seen, Start, is_entry, Frame, Todo, blocks, halves, second, turns, Child, instance, half, Phase, entering, running, spawning, returning, leaving, broken, Parent, child_name, awaiting, noting, Step, moved, taken, paused, led_step, unless, settling, on_value, on_depth, Lookup, look_of, memo_answer, first_todo, opened, env_of, with_layer, layer_of, enter_by, enter_step, enter_child, todo_step, micro}
 use Rattle.trail_theory.specs.SerialRest.{Beside, finished_by, todo_walk, parent_walk, below}
-use Rattle.trail_theory.specs.Layers.{SameNotes, notes_of, Notes, noted_one, noted, blank}
+use Rattle.meaning.specs.Layers.{SameNotes, notes_of, Notes, noted_one, noted, blank}
 use Rattle.trail_theory.specs.Order.{Every}
 use Rattle.trail_theory.specs.Waiting.{IsChecked, IsOrderlyTodo}
 use Rattle.trail_theory.specs.TaskFits.{EnvFits, DoomFits, sound, FrameFits, UnderFits, Higher, Spot, Fringe, Stacked, SyncInside, TaskFits}
-use Rattle.trail_theory.specs.Right.{full_rest, LookupIsSound, Sees}
+use Rattle.trail_theory.specs.Right.{full_rest, RecordedAreSound, Sees}
 use Rattle.trail_theory.proofs.Places.{IsEarly}
 use Rattle.trail_theory.proofs.KeepsStep.{Keeps}
 use Rattle.trail_theory.proofs.Inside.{inside_calm}
+use Rattle.trail_theory.proofs.Synced.{IsElsewhere, no_spawns, opening_elsewhere, inside_elsewhere}
 use Rattle.trail_theory.proofs.Evaluations.{Calm, told_inside, calm_value, calm_values, calm_update, calm_bounds}
 use Rattle.trail_theory.proofs.Places.{every_append, spot_above, child_above, above_spot, parent_spot}
 use Rattle.trail_theory.proofs.Slots.{agree_of, value_free, values_free, update_free, bounds_free, turns_free, set_fits, set_into_fits, new_fits, env_passes, doom_passes, branch_orderly}
@@ -41,7 +42,7 @@ module _ (program : Tree) (tables : Tables) (sight : Accumulators) (sub : Runner
   loop_same zero count i n c doom = turns_same count i n c doom
   loop_same (suc k) count i n c doom = rw (turns_same count i n c doom, loop_same k (count / 2) i (child_of n c) 1 None, loop_same k (count - count / 2) (i + count / 2) (child_of n (suc c)) 1 None) refl
 
-module _ (program : Tree) (tables : Tables) (sight : Accumulators) (lookup : Lookup) (checked : IsChecked program) (is_sound : LookupIsSound program tables sight lookup) (kit : Bool) (acc : Accumulators) (B : Log) (m : Start) (early : IsEarly m B) where
+module _ (program : Tree) (tables : Tables) (sight : Accumulators) (lookup : Lookup) (checked : IsChecked program) (is_sound : RecordedAreSound program tables sight lookup) (kit : Bool) (acc : Accumulators) (B : Log) (m : Start) (early : IsEarly m B) where
   abbrev L : Look
   L = look_of lookup
 
@@ -65,6 +66,7 @@ module _ (program : Tree) (tables : Tables) (sight : Accumulators) (lookup : Loo
         events = k.events;
         kept = record { top = q.top; others = q.others; task = q.task; goes_on = e ∙ ap (λ w. es ++ w) q.goes_on ∙ sym (append_assoc es (evs ++ k.events) _) ∙ ap (λ w. w ++ full_rest program tables sight lookup fr ph t q.top q.others) (sym (append_assoc es evs k.events)); inside = rw (append_assoc es evs k.events) (every_append (SyncInside m) es (evs ++ k.events) i q.inside) };
         noted = k.noted;
+        elsewhere = k.elsewhere;
       }
   led_kept was was' es (paused p) i e k = tt
 
@@ -144,12 +146,12 @@ module _ (program : Tree) (tables : Tables) (sight : Accumulators) (lookup : Loo
   notes_marked l f vs n d es true = refl
 
   -- an instance that a record answers
-  enter_some : (left : ℕ) (f : Name) (vs : List ℤ) (n : Place) (t : List Parent) (gs : List Beside) (g : Beside) → UnderFits program B t gs → Higher m n → Stacked n t → (k : Kept) → lookup f vs (depth_limit - left) ≡ Some k
+  enter_some : (left : ℕ) (f : Name) (vs : List ℤ) (n : Place) (t : List Parent) (gs : List Beside) (g : Beside) → UnderFits program B t gs → Higher m n → Stacked n t → (k : Kept) → (proc_of program f).memo ≡ true → lookup f vs (depth_limit - left) ≡ Some k
       → inner program L left f vs ≡ None → K (rest_of (opened program left (instance f vs) n) (entering (instance f vs)) t g gs) (taken [] k (opened program left (instance f vs) n) (leaving k.value) t)
-  enter_some left f vs n t gs g under high stacked k found e =
+  enter_some left f vs n t gs g under high stacked k memo found e =
       let ops = opening program L left f vs n in
       let r = inside_of None left f vs n in
-      let q : r.outcome ≡ Ok k.value = is_sound.runs f vs left n k found in
+      let q : r.outcome ≡ Ok k.value = is_sound.runs f vs left n k memo found in
       let whole = λ (k : Look). ends_by ops (inside_of k left f vs n).events n t gs (inside_of k left f vs n).outcome in
       record {
         events = ops ++ r.events;
@@ -165,7 +167,8 @@ module _ (program : Tree) (tables : Tables) (sight : Accumulators) (lookup : Loo
           goes_on = ap whole e ∙ ap (ends_by ops r.events n t gs) q ∙ append_assoc (ops ++ r.events) (Leaves n (Ok k.value) ∷ []) (below program tables sight L t gs (Ok k.value)).events;
           inside = every_append (SyncInside m) ops r.events (calm_opening left f vs n) (run_calm None left f vs n k.value high q);
         };
-        noted = subst (λ w. SameNotes w (notes_of k (depth_limit - left))) (sym (notes_marked (blank program) f vs n (depth_limit - left) r.events (proc_of program f).memo ∙ sym (noted_append (noted (blank program) (Begins n (depth_limit - left) ∷ Enters f vs (depth_limit - left) ∷ [])) r.events (Leaves n r.outcome ∷ [])))) (is_sound.notes_are f vs left n k found);
+        noted = subst (λ w. SameNotes w (notes_of k (depth_limit - left))) (sym (notes_marked (blank program) f vs n (depth_limit - left) r.events (proc_of program f).memo ∙ sym (noted_append (noted (blank program) (Begins n (depth_limit - left) ∷ Enters f vs (depth_limit - left) ∷ [])) r.events (Leaves n r.outcome ∷ [])))) (is_sound.notes_are f vs left n k memo found);
+        elsewhere = λ m. no_spawns (ops ++ r.events) (every_append IsElsewhere ops r.events (opening_elsewhere program L left f vs n) (inside_elsewhere program tables sight left None f vs n m));
       }
 
   enter_case : (left : ℕ) (f : Name) (vs : List ℤ) (n : Place) (t : List Parent) (gs : List Beside) (g : Beside) → UnderFits program B t gs → Higher m n → Stacked n t → (memo : Bool) → (proc_of program f).memo ≡ memo → (ans : Option Kept) → lookup f vs (depth_limit - left) ≡ ans
@@ -177,7 +180,7 @@ module _ (program : Tree) (tables : Tables) (sight : Accumulators) (lookup : Loo
       (enter_none left f vs n t gs g under high stacked ((proc_of program f).memo && kit) (ap (λ b. within L (answers L f vs (depth_limit - left) b)) q ∙ ap (λ o. within L (is_there o)) p))
   enter_case left f vs n t gs g under high stacked true q (Some k) p =
       subst (λ o. K (rest_of (opened program left (instance f vs) n) (entering (instance f vs)) t g gs) (enter_by program tables lookup kit acc o (opened program left (instance f vs) n) f vs t)) (sym p)
-      (enter_some left f vs n t gs g under high stacked k p (ap (λ b. within L (answers L f vs (depth_limit - left) b)) q ∙ ap (λ o. within L (is_there o)) p))
+      (enter_some left f vs n t gs g under high stacked k q p (ap (λ b. within L (answers L f vs (depth_limit - left) b)) q ∙ ap (λ o. within L (is_there o)) p))
 
   enter_kept : (left : ℕ) (child : Child) (n : Place) (t : List Parent) (gs : List Beside) (g : Beside) → UnderFits program B t gs → Higher m n → Stacked n t
       → K (rest_of (opened program left child n) (entering child) t g gs) (enter_step program tables lookup kit acc (opened program left child n) child t)
@@ -243,8 +246,8 @@ module _ (program : Tree) (tables : Tables) (sight : Accumulators) (lookup : Loo
   choose_walk sub left n here false x y env c doom k = refl
 
   -- the spawned child, and then the rest
-  spawn_goes : (n : Place) (ops es : Log) (o : Outcome) (next : Outcome → Trace) → after_spawn (closed ops n (record { events = es; outcome = o })) next ≡ finished_by program tables sight L n (led ops (record { events = es; outcome = o })) next
-  spawn_goes n ops es o next = ap (λ l. record { events = l ++ (next o).events; outcome = (next o).outcome }) (sym (append_assoc ops es (Leaves n o ∷ [])))
+  spawn_goes : (n : Place) (ops es : Log) (o : Outcome) (next : Outcome → Trace) → after_spawn n (closed ops n (record { events = es; outcome = o })) next ≡ led (Spawns n ∷ []) (finished_by program tables sight L n (led ops (record { events = es; outcome = o })) next)
+  spawn_goes n ops es o next = ap (λ l. record { events = Spawns n ∷ (l ++ (next o).events); outcome = (next o).outcome }) (sym (append_assoc ops es (Leaves n o ∷ [])))
 
   deed_kept : (fr : Frame) (s : ℕ) (d : Deed) (b : Body) (bs : List Body) (t : List Parent) (g : Beside) (gs : List Beside) → TaskFits program B m fr (running (blocks (step s d b ∷ bs))) t g gs → Sees acc sight (running (blocks (step s d b ∷ bs)))
       → K (rest_of fr (running (blocks (step s d b ∷ bs))) t g gs) (todo_step program tables lookup kit acc m fr (blocks (step s d b ∷ bs)) t)

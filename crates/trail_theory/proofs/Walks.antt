@@ -7,7 +7,7 @@ use Rattle.program_tree.specs.declared.Way.TheVariants.{Call, Spawn}
 use Rattle.meaning.specs.declared.FaultKind.{FaultKind}
 use Rattle.meaning.specs.declared.FaultKind.TheVariants.{TooDeep}
 use Rattle.meaning.specs.Tables.{Tables}
-use Rattle.meaning.specs.Outcome.{Log, Accumulators, Fault, Site, Outcome, Place, Event, Reads, Enters, Updates, Reuses, Begins, Syncs, Leaves, Faults, Marks, Out}
+use Rattle.meaning.specs.Outcome.{Log, Accumulators, Fault, Site, Outcome, Place, Event, Reads, Enters, Updates, Reuses, Begins, Syncs, Leaves, Faults, Marks, Spawns, Out}
 use Rattle.meaning.specs.Values.{Env, put, value, values}
 use Rattle.meaning.specs.Statements.{reducers, Job, job_of, proc_of, fresh, update_of, bounds, turn_values}
 use Rattle.meaning.specs.Trail.{Trace, led, child_of, fault_at, env_after, doom_after, stop, settled, evaluated, Go, Runner, entering, after_call, after_spawn, past_sync, over, closed, Look, mark, opening, inner, turns_walk, loop_walk, half_run, halvings, deed_walk, body_walk, blocks_walk, run_inside, runner, run}
@@ -24,6 +24,7 @@ Opens (Reads r) = ⊥
 Opens (Updates n kind w) = ⊥
 Opens (Reuses f args ws) = ⊥
 Opens (Syncs n) = ⊥
+Opens (Spawns n) = ⊥
 Opens (Leaves n v) = ⊥
 Opens (Faults k) = ⊥
 
@@ -33,7 +34,7 @@ pub record Closed (Q : Place → ℕ → Option Fault → Trace → Type 0) (R :
   pub overs : (n : Place) (c : ℕ) (doom : Option Fault) (v : ℤ) → Q n c doom (over n doom v)
   pub leds : (n : Place) (c : ℕ) (doom : Option Fault) (es : Log) (r : Trace) → Every Told es → Q n c doom r → Q n c doom (led es r)
   pub calls : (n : Place) (c : ℕ) (doom : Option Fault) (r : Trace) (next : ℤ → Trace) → R (child_of n c) r → ((v : ℤ) → Q n (suc c) doom (next v)) → Q n c doom (after_call doom r next)
-  pub spawns : (n : Place) (c : ℕ) (doom : Option Fault) (r : Trace) (next : Outcome → Trace) → R (child_of n c) r → Q n (suc c) (doom_after doom r.outcome) (next r.outcome) → Q n c doom (after_spawn r next)
+  pub spawns : (n : Place) (c : ℕ) (doom : Option Fault) (r : Trace) (next : Outcome → Trace) → R (child_of n c) r → Q n (suc c) (doom_after doom r.outcome) (next r.outcome) → Q n c doom (after_spawn (child_of n c) r next)
   pub syncs : (n : Place) (c : ℕ) (doom : Option Fault) (r : Trace) → Q n c None r → Q n c doom (led (Syncs n ∷ []) (past_sync doom r))
   pub closes : (n : Place) (ops : Log) (r : Trace) → Every Opens ops → Q n 1 None r → R n (closed ops n r)
 
@@ -66,7 +67,7 @@ module _ (Q : Place → ℕ → Option Fault → Trace → Type 0) (R : Place �
         has_entering n c doom job.site sub _ good (λ go h. q.calls n c doom (go job.callee vs (child_of n c)) _ (h job.callee vs (child_of n c)) (λ v. has_turns job count (suc i) n (suc c) doom)))
 
     module _ (left : ℕ) where
-      has_loop : (k : ℕ) (job : Job) (count i : ℕ) (n : Place) (c : ℕ) (doom : Option Fault) → Q n c doom (loop_walk program tables sight sub left k job count i n c doom)
+      pub has_loop : (k : ℕ) (job : Job) (count i : ℕ) (n : Place) (c : ℕ) (doom : Option Fault) → Q n c doom (loop_walk program tables sight sub left k job count i n c doom)
       has_loop zero job count i n c doom = has_turns job count i n c doom
       has_loop (suc k) job count i n c doom =
           let a = half_run program tables sight sub left k job (count / 2) i (child_of n c) in

@@ -6,7 +6,7 @@ use Rattle.meaning.specs.Outcome.{Accumulators}
 use Rattle.meaning.specs.SmallStep.{Todo, blocks, halves, second, turns, Child, Phase, entering, running, spawning, returning, leaving, broken, Parent, Lookup, Continuation}
 use Rattle.trail_theory.specs.Order.{Every}
 use Rattle.trail_theory.specs.Waiting.{NoReads}
-use Rattle.trail_theory.specs.LayeredStrand.{LayeredStrand, advance, first_layered, inlined, detached, continuation, resumed, stolen, joined}
+use Rattle.meaning.specs.LayeredStrand.{LayeredStrand, advance, first_layered, inlined, detached, continuation, resumed, stolen, joined}
 use Rattle.trail_theory.specs.Right.{Sees}
 
 abbrev pub IsCalmTodo : Todo → Type 0

@@ -1,8 +1,8 @@
 pub mod Order
 pub mod Waiting
+pub mod ReadsAtEnd
+pub mod MainReads
 pub mod SerialRest
-pub mod Layers
-pub mod LayeredStrand
 pub mod TaskFits
 pub mod Right
 pub mod ElisionBeside
@@ -10,3 +10,5 @@ pub mod Typed
 pub mod MadeRecords
 pub mod Theorems
 pub mod Calm
+pub mod Ready
+pub mod KeptRecords

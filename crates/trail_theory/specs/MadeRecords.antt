@@ -8,6 +8,7 @@ use Rattle.meaning.specs.Statements.{reducers, proc_of, identities}
 use Rattle.meaning.specs.Elision.{elide, reads, entered, deepest, start, depth_limit}
 use Rattle.meaning.specs.Records.{Revised, Kept, is_current, holds_now, IsSound}
 use Rattle.meaning.specs.SmallStep.{Lookup}
+use Rattle.trail_theory.specs.Right.{IsRecorded}
 
 -- the elision of a record's name and arguments, as an instance at that depth
 abbrev pub elision_of : Tree → Tables → ℕ → Kept → Out Fault ℤ
@@ -42,6 +43,10 @@ pub record IsAnswer (program : Revised) (tables : Tables) (f : Name) (vs : List 
   pub sound : IsSound program k
   pub now : holds_now program tables k ≡ true
   pub fits : depth + k.height ≤ suc depth_limit
+
+-- answers for recorded procedures are such
+abbrev pub RecordedBySound : Revised → Tables → Lookup → Type 0
+RecordedBySound program tables lookup = (f : Name) (vs : List ℤ) (depth : ℕ) (k : Kept) → IsRecorded program.tree f → lookup f vs depth ≡ Some k → IsAnswer program tables f vs depth k
 
 abbrev pub AnswersBySound : Revised → Tables → Lookup → Type 0
 AnswersBySound program tables lookup = (f : Name) (vs : List ℤ) (depth : ℕ) (k : Kept) → lookup f vs depth ≡ Some k → IsAnswer program tables f vs depth k

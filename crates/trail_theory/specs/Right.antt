@@ -1,24 +1,28 @@
 -- When a strand is right: it stands where the serial run stands at its place, and its layers have noted the trail from its beginning on.
-use Rattle.std.specs.Prelude.{ℕ, ◌-◌, ◌<◌, ℤ, List, [], ◌∷◌, ◌++◌, Some, None, Ok, ◌≡◌}
+use Rattle.std.specs.Prelude.{ℕ, ◌-◌, ◌<◌, ℤ, true, false, List, [], ◌∷◌, ◌++◌, Some, None, Ok, ◌≡◌}
 use Rattle.program_tree.specs.Plain.{Name, read, step, Tree}
 use Rattle.meaning.specs.Tables.{Tables}
 use Rattle.meaning.specs.Outcome.{Log, Accumulators, Outcome, Place, Leaves}
 use Rattle.meaning.specs.Records.{Kept}
+use Rattle.meaning.specs.Statements.{proc_of}
 use Rattle.meaning.specs.Trail.{child_of, env_after, doom_after, run, trail_at}
 use Rattle.meaning.specs.SmallStep.{waits, Start, root, behind, Frame, blocks, Phase, entering, running, spawning, returning, leaving, broken, Parent, Lookup, look_of, Continuation, place_of_continuation}
 use Rattle.trail_theory.specs.SerialRest.{Beside, rest}
-use Rattle.trail_theory.specs.Layers.{SameNotes, Notes, notes, notes_of, multiplied}
-use Rattle.trail_theory.specs.LayeredStrand.{LayeredStrand}
+use Rattle.meaning.specs.Layers.{SameNotes, Notes, notes, notes_of, multiplied}
+use Rattle.meaning.specs.LayeredStrand.{LayeredStrand}
 use Rattle.trail_theory.specs.Order.{LeavesBefore, Every}
 use Rattle.trail_theory.specs.Waiting.{with_name, IsOrderlyTodo}
+use Rattle.trail_theory.specs.ReadsAtEnd.{ReadsAtMainsEnd}
+use Rattle.trail_theory.specs.MainReads.{synced_after, SpawnedReads, UnderReads, TaskReads}
 use Rattle.trail_theory.specs.TaskFits.{Spot, EnvFits, DoomFits, UnderFits, TaskFits, SyncInside, Stacked}
 use Rattle.meaning.specs.Elision.{depth_limit}
 
--- the stretch B ends where the strand begins
+-- the stretch B ends where the strand begins; a strand that begins behind a child of main has a spawn of main behind it and no sync
 pub record EndsBehind (B : Log) (m : Place) (k : ℕ) : Type 0 where
   pub sooner : Log
   pub value : Outcome
   pub is : B ≡ sooner ++ Leaves (child_of m k) value ∷ []
+  pub unsynced : m ≡ [] → synced_after true B ≡ false
 
 abbrev pub StartsAfter : Start → Log → Type 0
 StartsAfter root B = B ≡ []
@@ -46,6 +50,16 @@ abbrev pub Sees : Accumulators → Accumulators → Phase → Type 0
 Sees acc sight (running (blocks (step s (read x r) b ∷ bs))) = acc ≡ sight
 Sees acc sight ph = Unit {0}
 
+-- at a read of a reducer the strand has one layer
+abbrev pub IsOneLayer : List Notes → Type 0
+IsOneLayer [] = ⊥
+IsOneLayer (l ∷ []) = Unit {0}
+IsOneLayer (l ∷ m ∷ ls) = ⊥
+
+abbrev pub ReadsByOneLayer : List Notes → Phase → Type 0
+ReadsByOneLayer ls (running (blocks (step s (read x r) b ∷ bs))) = IsOneLayer ls
+ReadsByOneLayer ls ph = Unit {0}
+
 -- a faulted strand's layers aren't claimed
 abbrev pub Logged : Tree → Phase → List Notes → List Log → Type 0
 Logged program (broken k) layers segments = Unit {0}
@@ -54,6 +68,9 @@ Logged program (running todo) layers segments = LayersFit program layers segment
 Logged program (spawning d x child todo) layers segments = LayersFit program layers segments
 Logged program (returning v) layers segments = LayersFit program layers segments
 Logged program (leaving v) layers segments = LayersFit program layers segments
+
+abbrev pub IsRecorded : Tree → Name → Type 0
+IsRecorded program f = (proc_of program f).memo ≡ true
 
 module _ (program : Tree) (tables : Tables) (sight : Accumulators) (lookup : Lookup) where
   abbrev pub full_rest : Frame → Phase → List Parent → Beside → List Beside → Log
@@ -71,6 +88,7 @@ module _ (program : Tree) (tables : Tables) (sight : Accumulators) (lookup : Loo
     pub logged : Logged program ph layers segments
     pub task : TaskFits program before start fr ph t top others
     pub inside : Every (SyncInside start) (stretch segments)
+    pub reads : ReadsAtMainsEnd program → TaskReads (before ++ stretch segments) fr.instance ph t
 
   -- a right piece, at every point of a strand's life
   abbrev pub IsRight : LayeredStrand → Type 0
@@ -94,11 +112,21 @@ module _ (program : Tree) (tables : Tables) (sight : Accumulators) (lookup : Loo
     pub spot : Spot k.since k.parent.frame.instance k.child
     pub counted : k.child < k.parent.frame.next
     pub stacked : Stacked k.parent.frame.instance k.under
+    pub unsynced : k.parent.frame.instance ≡ [] → synced_after true (before ++ (between ++ Leaves (place_of_continuation k) outcome ∷ [])) ≡ false
+    pub reads : ReadsAtMainsEnd program → SpawnedReads k.parent.frame.instance k.parent.todo × UnderReads (before ++ (between ++ Leaves (place_of_continuation k) outcome ∷ [])) k.under
 
-  -- what one small step keeps
-  pub record LookupIsSound : Type 0 where
-    pub runs : (f : Name) (vs : List ℤ) (left : ℕ) (n : Place) (k : Kept) → lookup f vs (depth_limit - left) ≡ Some k → (run program tables sight left None f vs n).outcome ≡ Ok k.value
-    pub notes_are : (f : Name) (vs : List ℤ) (left : ℕ) (n : Place) (k : Kept) → lookup f vs (depth_limit - left) ≡ Some k → SameNotes (notes program (run program tables sight left None f vs n).events) (notes_of k (depth_limit - left))
+  -- records of these procedures answer only with the runs that they stand for
+  pub record AnswersFor (P : Name → Type 0) : Type 0 where
+    pub runs : (f : Name) (vs : List ℤ) (left : ℕ) (n : Place) (k : Kept) → P f → lookup f vs (depth_limit - left) ≡ Some k → (run program tables sight left None f vs n).outcome ≡ Ok k.value
+    pub notes_are : (f : Name) (vs : List ℤ) (left : ℕ) (n : Place) (k : Kept) → P f → lookup f vs (depth_limit - left) ≡ Some k → SameNotes (notes program (run program tables sight left None f vs n).events) (notes_of k (depth_limit - left))
+
+  -- records of any
+  abbrev pub LookupIsSound : Type 0
+  LookupIsSound = AnswersFor (λ f. Unit {0})
+
+  -- records of those that are recorded: no other is looked up
+  abbrev pub RecordedAreSound : Type 0
+  RecordedAreSound = AnswersFor (IsRecorded program)
 
   -- the layers' law: on stretches of the trail the product is the whole's notes
   abbrev pub StretchesMultiply : Type 0

@@ -2,7 +2,7 @@
 use Rattle.std.specs.Prelude.{ℕ, suc, ◌-◌, Bool, true, false, List, [], ◌∷◌, ◌++◌, Option, None, Ok, Err}
 use Rattle.program_tree.specs.Plain.{Tree}
 use Rattle.meaning.specs.Tables.{Tables}
-use Rattle.meaning.specs.Outcome.{Accumulators, Fault, Outcome, Place, Begins, Leaves}
+use Rattle.meaning.specs.Outcome.{Accumulators, Fault, Outcome, Place, Begins, Leaves, Spawns}
 use Rattle.meaning.specs.Values.{Env}
 use Rattle.meaning.specs.Statements.{put_into}
 use Rattle.meaning.specs.Trail.{Trace, env_after, doom_after, Look, led, brief, first, stop, over, opening, inner, turns_walk, loop_walk, second_walk, blocks_walk, run_inside, runner}
@@ -36,7 +36,7 @@ module _ (program : Tree) (tables : Tables) (sight : Accumulators) (look : Look)
   abbrev pub phase_walk : Frame → Phase → Beside → Trace
   phase_walk fr (entering child) g = child_inside fr.left child fr.instance
   phase_walk fr (running todo) g = todo_walk fr todo g.env fr.next g.doom
-  phase_walk fr (spawning d x child todo) g = finished_by (child_name fr) (child_inside d child (child_name fr)) (λ o. todo_walk fr todo (env_after g.env x o) (suc fr.next) (doom_after g.doom o))
+  phase_walk fr (spawning d x child todo) g = led (Spawns (child_name fr) ∷ []) (finished_by (child_name fr) (child_inside d child (child_name fr)) (λ o. todo_walk fr todo (env_after g.env x o) (suc fr.next) (doom_after g.doom o)))
   phase_walk fr (returning v) g = over fr.instance g.doom v
   phase_walk fr (leaving v) g = brief (Ok v)
   phase_walk fr (broken k) g = stop g.doom k

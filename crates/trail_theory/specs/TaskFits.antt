@@ -1,7 +1,7 @@
 -- A strand's instances beside the serial run: their slots, their faults to answer, and where they stand.
 use Rattle.std.specs.Prelude.{ℕ, suc, ◌<◌, ℤ, List, [], ◌∷◌, ◌++◌, Option, Some, None, Ok, Err, ◌≡◌, ◌⊎◌}
 use Rattle.program_tree.specs.Plain.{Tree}
-use Rattle.meaning.specs.Outcome.{Log, Fault, Place, Event, Reads, Enters, Updates, Reuses, Begins, Syncs, Leaves, Faults, Marks}
+use Rattle.meaning.specs.Outcome.{Log, Fault, Place, Event, Reads, Enters, Updates, Reuses, Begins, Syncs, Leaves, Faults, Marks, Spawns}
 use Rattle.meaning.specs.Values.{Env}
 use Rattle.meaning.specs.Trail.{child_of}
 use Rattle.meaning.specs.SmallStep.{Slot, unset, waits, has, Start, root, behind, Frame, Child, Phase, entering, running, spawning, returning, leaving, broken, Parent, opened}
@@ -97,6 +97,7 @@ SyncInside m (Updates n kind w) = Unit {0}
 SyncInside m (Reuses f args ws) = Unit {0}
 SyncInside m (Begins n depth) = Unit {0}
 SyncInside m (Syncs n) = Higher m n
+SyncInside m (Spawns n) = Unit {0}
 SyncInside m (Leaves n (Ok v)) = Unit {0}
 SyncInside m (Leaves n (Err k)) = ⊥
 SyncInside m (Faults k) = ⊥

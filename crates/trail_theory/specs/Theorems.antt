@@ -1,16 +1,17 @@
 -- What is proved of strands and of the trail, each for a program, its tables, what `read` sees, and the records that answer.
 use Rattle.std.specs.Prelude.{◌≡◌, ℕ, ◌-◌, suc, ℤ, Bool, List, [], ◌∷◌, ◌++◌, Option, Some}
-use Rattle.program_tree.specs.Plain.{Name, Tree}
+use Rattle.program_tree.specs.Plain.{Name, read, Body, step, Tree}
 use Rattle.meaning.specs.Tables.{Tables}
 use Rattle.meaning.specs.Outcome.{Accumulators, Fault, Place, Site}
 use Rattle.meaning.specs.Statements.{identities}
-use Rattle.meaning.specs.Elision.{elide, start, depth_limit, from_scratch, Finished, Faulted}
+use Rattle.meaning.specs.Elision.{elide, start, main, depth_limit, from_scratch, Finished, Faulted}
 use Rattle.meaning.specs.Records.{Kept}
 use Rattle.meaning.specs.Trail.{Look, run}
-use Rattle.meaning.specs.SmallStep.{root, behind, Todo, Child, spawning, leaving, broken, Lookup, Continuation, place_of_continuation}
-use Rattle.trail_theory.specs.Layers.{Notes, bottom}
-use Rattle.trail_theory.specs.LayeredStrand.{LayeredStrand, advance, first_layered, inlined, detached, continuation, resumed, stolen, joined}
-use Rattle.trail_theory.specs.Right.{IsRight, IsRightContinuation, LookupIsSound, Sees, MayJoin}
+use Rattle.meaning.specs.SmallStep.{root, behind, Todo, blocks, Child, running, spawning, leaving, broken, Lookup, Continuation, place_of_continuation}
+use Rattle.meaning.specs.Layers.{Notes, total, bottom}
+use Rattle.meaning.specs.LayeredStrand.{LayeredStrand, advance_with, advance, first_layered, inlined, detached, continuation, resumed, stolen, joined}
+use Rattle.trail_theory.specs.ReadsAtEnd.{IsOther}
+use Rattle.trail_theory.specs.Right.{IsRight, IsRightContinuation, LookupIsSound, IsRecorded, RecordedAreSound, Sees, ReadsByOneLayer, MayJoin}
 use Rattle.trail_theory.specs.ElisionBeside.{Matches, SaysElision}
 
 module _ (program : Tree) (tables : Tables) (sight : Accumulators) where
@@ -18,11 +19,25 @@ module _ (program : Tree) (tables : Tables) (sight : Accumulators) where
   abbrev pub ElisionIsTrail : Type 0
   ElisionIsTrail = (left : ℕ) (look : Look) (site : Site) (f : Name) (vs : List ℤ) (n : Place) (acc : Accumulators) → Matches (elide program tables (suc left) site f vs acc) (run program tables sight left look f vs n)
 
+  -- the same for every procedure but main
+  abbrev pub OthersAreTrail : Type 0
+  OthersAreTrail = (left : ℕ) (look : Look) (site : Site) (f : Name) → IsOther f → (vs : List ℤ) (n : Place) (acc : Accumulators) → Matches (elide program tables (suc left) site f vs acc) (run program tables sight left look f vs n)
+
+  -- and for main from scratch
+  abbrev pub MainIsTrail : Type 0
+  MainIsTrail = (look : Look) → Matches (elide program tables depth_limit start main [] (identities program)) (run program tables sight (depth_limit - 1) look main [] [])
+
   -- records that say what the elision of their keys gives answer only with the runs that they stand for
   abbrev pub RecordsAreSound : Lookup → Type 0
   RecordsAreSound lookup =
       ((f : Name) (vs : List ℤ) (left : ℕ) (k : Kept) → lookup f vs (depth_limit - left) ≡ Some k → SaysElision program k (elide program tables (suc left) start f vs (identities program)) (depth_limit - left))
       → LookupIsSound program tables sight lookup
+
+  -- the same for records of recorded procedures
+  abbrev pub RecordedRecordsAreSound : Lookup → Type 0
+  RecordedRecordsAreSound lookup =
+      ((f : Name) (vs : List ℤ) (left : ℕ) (k : Kept) → IsRecorded program f → lookup f vs (depth_limit - left) ≡ Some k → SaysElision program k (elide program tables (suc left) start f vs (identities program)) (depth_limit - left))
+      → RecordedAreSound program tables sight lookup
 
   module _ (lookup : Lookup) where
     abbrev pub FirstIsRight : Type 0
@@ -30,6 +45,21 @@ module _ (program : Tree) (tables : Tables) (sight : Accumulators) where
 
     abbrev pub AdvanceStaysRight : Type 0
     AdvanceStaysRight = (kit : Bool) (s : LayeredStrand) → IsRight program tables sight lookup s → Sees (bottom s.layers) sight s.phase → IsRight program tables sight lookup (advance program tables lookup kit s)
+
+    -- a strand that stands at a read begins at the trail's beginning, is main's, and has nothing below it
+    abbrev pub ReadsStandAtRoot : Type 0
+    ReadsStandAtRoot = (s : LayeredStrand) (n x : ℕ) (r : Name) (b : Body) (bs : List Body) → s.phase ≡ running (blocks (step n (read x r) b ∷ bs)) → IsRight program tables sight lookup s → (s.start ≡ root) × (s.frame.instance ≡ []) × (s.under ≡ [])
+
+    -- a strand of one layer has at a read what the elision has in the end
+    abbrev pub ReadsSeeTheEnd : Type 0
+    ReadsSeeTheEnd = (s : LayeredStrand) → IsRight program tables sight lookup s → ReadsByOneLayer s.layers s.phase → Sees (bottom s.layers) sight s.phase
+
+    abbrev pub AdvanceReadingStaysRight : Type 0
+    AdvanceReadingStaysRight = (kit : Bool) (s : LayeredStrand) → IsRight program tables sight lookup s → ReadsByOneLayer s.layers s.phase → IsRight program tables sight lookup (advance program tables lookup kit s)
+
+    -- whatever the layers, where a read gives their product
+    abbrev pub AdvanceByProductStaysRight : Type 0
+    AdvanceByProductStaysRight = (kit : Bool) (s : LayeredStrand) → IsRight program tables sight lookup s → IsRight program tables sight lookup (advance_with program tables lookup kit (total program s.layers).worth s)
 
     -- at a spawn: the child as a call
     abbrev pub InlineStaysRight : Type 0

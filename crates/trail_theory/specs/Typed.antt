@@ -4,7 +4,7 @@ use Rattle.monoid_laws.specs.declared.Kind.{Kind}
 use Rattle.monoid_laws.specs.Kinds.{Fits, IsWorth, IsTableMonoid}
 use Rattle.program_tree.specs.Plain.{Name, Term, number, name, cell, has as has_row, limit, negate, binary, Deed, bind, enter, read, sync, update, choose, loop, give, Body, end, step, Tree}
 use Rattle.meaning.specs.Tables.{Tables, cell_of}
-use Rattle.meaning.specs.Outcome.{Accumulators, Event, Reads, Enters, Updates, Reuses, Begins, Syncs, Leaves, Faults, Marks}
+use Rattle.meaning.specs.Outcome.{Accumulators, Event, Reads, Enters, Updates, Reuses, Begins, Syncs, Leaves, Faults, Marks, Spawns}
 use Rattle.meaning.specs.Statements.{reducers, proc_of, numbered, reading}
 use Rattle.trail_theory.specs.Order.{Every}
 
@@ -23,6 +23,7 @@ IsTyped kinds (Enters f args depth) = Unit {0}
 IsTyped kinds (Reuses f args ws) = Unit {0}
 IsTyped kinds (Begins n depth) = Unit {0}
 IsTyped kinds (Syncs n) = Unit {0}
+IsTyped kinds (Spawns n) = Unit {0}
 IsTyped kinds (Leaves n v) = Unit {0}
 IsTyped kinds (Faults k) = Unit {0}
 IsTyped kinds (Marks f args b) = Unit {0}

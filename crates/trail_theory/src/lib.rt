@@ -1,18 +1,21 @@
 //! The theory of the serial trail and of strands: what follows from the definitions alone.
 #![tactic(auto)]
 
-ghost use Rattle.std.specs.Prelude.{ℕ};
+ghost use Rattle.std.specs.Prelude.{ℕ, List};
 ghost use Rattle.program_tree.specs.Plain.{Tree};
 ghost use Rattle.meaning.specs.Outcome.{Accumulators};
 ghost use Rattle.meaning.specs.Records.{IsSound, Kept, Revised};
 ghost use Rattle.meaning.specs.SmallStep.{Lookup};
 ghost use Rattle.meaning.specs.Tables.{Tables};
-ghost use Rattle.meaning.specs.Trail.{Look, trail_at};
+ghost use Rattle.meaning.specs.Trail.{Look, sight_of, trail_at};
 ghost use Rattle.trail_theory.specs.Calm.{CalmStays};
-ghost use Rattle.trail_theory.specs.MadeRecords.{AnswersBySound, IsLater, IsMade};
+ghost use Rattle.trail_theory.specs.KeptRecords.{ValidAnswers};
+ghost use Rattle.trail_theory.specs.MadeRecords.{AnswersBySound, IsLater, IsMade, RecordedBySound};
 ghost use Rattle.trail_theory.specs.Order.{Every, LeavesInOrder};
-ghost use Rattle.trail_theory.specs.Right.{LookupIsSound, StretchesMultiply};
-ghost use Rattle.trail_theory.specs.Theorems.{ElisionIsTrail, RecordsAreSound, FirstIsRight, AdvanceStaysRight, InlineStaysRight, DetachStaysRight, ContinuationIsRight, StolenIsRight, PopStaysRight, JoinStaysRight, EndsWithElision, FaultsWithElision};
+ghost use Rattle.trail_theory.specs.ReadsAtEnd.{KeepsRules, MainIsAlone, ReadsAtMainsEnd};
+ghost use Rattle.trail_theory.specs.Ready.{StepsReady};
+ghost use Rattle.trail_theory.specs.Right.{LookupIsSound, RecordedAreSound, StretchesMultiply};
+ghost use Rattle.trail_theory.specs.Theorems.{ElisionIsTrail, OthersAreTrail, MainIsTrail, RecordsAreSound, RecordedRecordsAreSound, FirstIsRight, AdvanceStaysRight, AdvanceReadingStaysRight, AdvanceByProductStaysRight, ReadsStandAtRoot, ReadsSeeTheEnd, InlineStaysRight, DetachStaysRight, ContinuationIsRight, StolenIsRight, PopStaysRight, JoinStaysRight, EndsWithElision, FaultsWithElision};
 ghost use Rattle.trail_theory.specs.Typed.{HasMonoids, IsTyped, ProgramFits, SightFits, TablesFit, kinds_of};
 ghost use Rattle.trail_theory.specs.Waiting.{IsChecked, HasNoReads};
 
@@ -24,6 +27,41 @@ pub fn trail_is_in_order()
 /// Where no procedure reads a reducer, an instance's elision is its stretch of the trail: the same number and events, or the same fault.
 pub fn elision_is_trail()
     ensures same { (program : Tree) (tables : Tables) (sight : Accumulators) → HasNoReads program → ElisionIsTrail program tables sight }
+{}
+
+/// A program that reads no reducer, whose main nothing enters and nothing records, keeps the rule on reads.
+pub fn programs_without_reads_keep_the_rule()
+    ensures kept { (program : Tree) → HasNoReads program → MainIsAlone program → ReadsAtMainsEnd program }
+{}
+
+/// Where main alone reads reducers, at its end, the elision of every other procedure is its stretch of the trail, whatever a read sees.
+pub fn others_are_trail()
+    ensures same { (program : Tree) (tables : Tables) (sight : Accumulators) → ReadsAtMainsEnd program → OthersAreTrail program tables sight }
+{}
+
+/// Where main alone reads reducers, at its end, main's elision from scratch is the trail on which a read sees what the elision has in the end.
+pub fn main_is_trail()
+    ensures same { (program : Tree) (tables : Tables) → ReadsAtMainsEnd program → MainIsTrail program tables (sight_of program tables) }
+{}
+
+/// Where main alone reads reducers, at its end, records of recorded procedures that say what the elision of their keys gives answer only with the runs that they stand for.
+pub fn recorded_records_are_sound()
+    ensures sound { (program : Tree) (tables : Tables) (sight : Accumulators) (lookup : Lookup) → ReadsAtMainsEnd program → RecordedRecordsAreSound program tables sight lookup }
+{}
+
+/// Where main alone reads reducers, at its end, records of recorded procedures that are sound, hold now and fit below their depth answer only with the runs that they stand for.
+pub fn valid_recorded_are_sound()
+    ensures sound { (program : Revised) (tables : Tables) (sight : Accumulators) (lookup : Lookup) → ReadsAtMainsEnd program.tree → RecordedBySound program tables lookup → RecordedAreSound program.tree tables sight lookup }
+{}
+
+/// Where main alone reads reducers, at its end, and sees there what the elision has in the end, a right strand of main that is over has the elision's answer from scratch.
+pub fn ends_with_reads()
+    ensures answer { (program : Tree) (tables : Tables) (lookup : Lookup) → ReadsAtMainsEnd program → EndsWithElision program tables (sight_of program tables) lookup }
+{}
+
+/// Where main alone reads reducers, at its end, and sees there what the elision has in the end, a right strand at the trail's beginning that has a fault has the elision's fault from scratch.
+pub fn faults_with_reads()
+    ensures answer { (program : Tree) (tables : Tables) (lookup : Lookup) → ReadsAtMainsEnd program → FaultsWithElision program tables (sight_of program tables) lookup }
 {}
 
 /// Where no procedure reads a reducer, records that say what the elision of their keys gives answer only with the runs that they stand for.
@@ -56,6 +94,16 @@ pub fn stretches_multiply()
     ensures multiply { (program : Tree) (tables : Tables) (sight : Accumulators) (lookup : Lookup) → HasMonoids program → ProgramFits program → TablesFit tables → SightFits program sight → StretchesMultiply program tables sight lookup }
 {}
 
+/// Each update on the trail is of its reducer's kind, whatever a read sees, where main alone reads reducers, at its end, and the numbers of the program and of the tables fit 64 bits.
+pub fn trail_with_reads_is_typed()
+    ensures typed { (program : Tree) (tables : Tables) (sight : Accumulators) (look : Look) → ReadsAtMainsEnd program → ProgramFits program → TablesFit tables → Every (IsTyped (kinds_of program)) (trail_at program tables sight look) }
+{}
+
+/// The layers of neighbouring stretches of the trail multiply to the layer of both, whatever a read sees, where main alone reads reducers, at its end, each kind is a monoid and numbers fit 64 bits.
+pub fn stretches_with_reads_multiply()
+    ensures multiply { (program : Tree) (tables : Tables) (sight : Accumulators) (lookup : Lookup) → ReadsAtMainsEnd program → HasMonoids program → ProgramFits program → TablesFit tables → StretchesMultiply program tables sight lookup }
+{}
+
 /// The strand of main is right before it begins.
 pub fn first_is_right()
     ensures right { (program : Tree) (tables : Tables) (sight : Accumulators) (lookup : Lookup) → FirstIsRight program tables sight lookup }
@@ -64,6 +112,26 @@ pub fn first_is_right()
 /// A small step keeps a right strand right.
 pub fn advance_stays_right()
     ensures right { (program : Tree) (tables : Tables) (sight : Accumulators) (lookup : Lookup) → StretchesMultiply program tables sight lookup → IsChecked program → LookupIsSound program tables sight lookup → AdvanceStaysRight program tables sight lookup }
+{}
+
+/// Where main alone reads reducers, at its end, a right strand that stands at a read begins at the trail's beginning, is main's, and has nothing below it.
+pub fn reads_stand_at_root()
+    ensures root { (program : Tree) (tables : Tables) (sight : Accumulators) (lookup : Lookup) → ReadsAtMainsEnd program → ReadsStandAtRoot program tables sight lookup }
+{}
+
+/// Where main alone reads reducers, at its end, a right strand of one layer has at a read what the elision has in the end.
+pub fn reads_see_the_end()
+    ensures sees { (program : Tree) (tables : Tables) (lookup : Lookup) → ReadsAtMainsEnd program → ReadsSeeTheEnd program tables (sight_of program tables) lookup }
+{}
+
+/// In a program that keeps the rules, a small step keeps a right strand right, where a read gives the product of the strand's layers.
+pub fn advance_by_product_stays_right()
+    ensures right { (program : Tree) (tables : Tables) (lookup : Lookup) → StretchesMultiply program tables (sight_of program tables) lookup → KeepsRules program → RecordedAreSound program tables (sight_of program tables) lookup → AdvanceByProductStaysRight program tables (sight_of program tables) lookup }
+{}
+
+/// In a program that keeps the rules, a small step keeps a right strand right, where a read gives the bottom layer's values and the strand has no other layer there.
+pub fn advance_reading_stays_right()
+    ensures right { (program : Tree) (tables : Tables) (lookup : Lookup) → StretchesMultiply program tables (sight_of program tables) lookup → KeepsRules program → RecordedAreSound program tables (sight_of program tables) lookup → AdvanceReadingStaysRight program tables (sight_of program tables) lookup }
 {}
 
 /// At a spawn, a right strand that enters the child as a call stays right.
@@ -88,7 +156,7 @@ pub fn stolen_is_right()
 
 /// A right strand whose child has returned and that goes on with the right continuation behind it stays right.
 pub fn pop_stays_right()
-    ensures right { (program : Tree) (tables : Tables) (sight : Accumulators) (lookup : Lookup) → StretchesMultiply program tables sight lookup → PopStaysRight program tables sight lookup }
+    ensures right { (program : Tree) (tables : Tables) (sight : Accumulators) (lookup : Lookup) → PopStaysRight program tables sight lookup }
 {}
 
 /// Two right strands, neighbours on the trail, joined where no name would wait for a child that ends later, are a right strand.
@@ -109,4 +177,14 @@ pub fn faults_with_elision()
 /// Where no procedure reads a reducer, a strand stands at no read at any time of its life, so that a small step needs no premise of what a read sees.
 pub fn calm_stays()
     ensures calm { (program : Tree) (tables : Tables) (lookup : Lookup) → HasNoReads program → CalmStays program tables lookup }
+{}
+
+/// In a program whose statements use no name that waits, as the checker sees them, a right strand's next statement uses none either: each name has its value or was never bound.
+pub fn steps_are_ready()
+    ensures ready { (program : Tree) (tables : Tables) (sight : Accumulators) (lookup : Lookup) → StepsReady program tables sight lookup }
+{}
+
+/// Where all records are sound, the one of a name and arguments that is valid at a depth answers by a sound record that holds now and fits there.
+pub fn valid_record_answers()
+    ensures answers { (program : Revised) (tables : Tables) (records : List Kept) → ValidAnswers program tables records }
 {}

@@ -2,10 +2,10 @@
 use Rattle.std.specs.Prelude.{ℕ, ◌-◌, Bool, true, ℤ, List, [], ◌∷◌, map, Option, Ok, cond}
 use Rattle.program_tree.specs.Plain.{Tree}
 use Rattle.meaning.specs.Tables.{Tables}
-use Rattle.meaning.specs.Outcome.{Place, Leaves}
+use Rattle.meaning.specs.Outcome.{Accumulators, Place, Leaves}
 use Rattle.meaning.specs.Trail.{child_of}
 use Rattle.meaning.specs.SmallStep.{Slot, unset, waits, has, Start, root, behind, Frame, Todo, Child, instance, Phase, entering, running, Parent, opened, noting, closing_one, Step, moved, taken, paused, Lookup, Continuation, same_name, with_value, micro, child_name, awaiting, with_env, set_into}
-use Rattle.trail_theory.specs.Layers.{Notes, notes_of, layers_after, noted_top, take_top, blank, bottom}
+use Rattle.meaning.specs.Layers.{Notes, notes_of, layers_by, noted_top, take_top, blank, bottom}
 use Rattle.meaning.specs.Elision.{depth_limit, main}
 
 pub record LayeredStrand : Type 0 where
@@ -16,11 +16,15 @@ pub record LayeredStrand : Type 0 where
   pub under : List Parent
 
 abbrev pub advanced : Tree → LayeredStrand → Step → LayeredStrand
-advanced program s (moved l evs fr ph t) = record { start = s.start; layers = layers_after program l (noted_top s.layers evs); frame = fr; phase = ph; under = t }
+advanced program s (moved l evs fr ph t) = record { start = s.start; layers = layers_by program l s.layers evs; frame = fr; phase = ph; under = t }
 advanced program s (taken evs k fr ph t) = record { start = s.start; layers = take_top program (notes_of k (depth_limit - fr.left)) (noted_top s.layers evs); frame = fr; phase = ph; under = t }
 advanced program s (paused p) = s
 
--- one small step
+-- one small step, where a read gives these values
+abbrev pub advance_with : Tree → Tables → Lookup → Bool → Accumulators → LayeredStrand → LayeredStrand
+advance_with program tables lookup kit acc s = advanced program s (micro program tables lookup kit acc s.start s.frame s.phase s.under)
+
+-- one small step, where it gives those of the bottom layer
 abbrev pub advance : Tree → Tables → Lookup → Bool → LayeredStrand → LayeredStrand
 advance program tables lookup kit s = advanced program s (micro program tables lookup kit (bottom s.layers) s.start s.frame s.phase s.under)
 
@@ -40,7 +44,7 @@ abbrev pub continuation : LayeredStrand → Option ℕ → Todo → Continuation
 continuation s x todo = record { since = s.start; child = s.frame.next; parent = awaiting s.frame true x todo; under = s.under }
 
 abbrev pub resumed : Tree → LayeredStrand → Continuation → ℤ → LayeredStrand
-resumed program s k v = record { start = s.start; layers = layers_after program (cond s.frame.recorded closing_one noting) (noted_top s.layers (Leaves s.frame.instance (Ok v) ∷ [])); frame = with_value k.parent v; phase = running k.parent.todo; under = k.under }
+resumed program s k v = record { start = s.start; layers = noted_top s.layers (Leaves s.frame.instance (Ok v) ∷ []); frame = with_value k.parent v; phase = running k.parent.todo; under = k.under }
 
 abbrev pub marked : Continuation → Frame
 marked k = with_env k.parent.frame (set_into k.parent.frame.env k.parent.into (waits k.child))

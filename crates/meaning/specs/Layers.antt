@@ -2,7 +2,7 @@
 use Rattle.std.specs.Prelude.{◌≡◌, ◌↔◌, ℕ, ◌+◌, ◌-◌, List, [], ◌∷◌, ◌++◌, map, max, slice_get}
 use Rattle.std.specs.List.{Contains}
 use Rattle.program_tree.specs.Plain.{Name, Tree}
-use Rattle.meaning.specs.Outcome.{Log, Accumulators, Event, Reads, Enters, Updates, Reading, updated, combined}
+use Rattle.meaning.specs.Outcome.{Log, Accumulators, Event, Reads, Enters, Updates, Begins, Reading, updated, combined}
 use Rattle.meaning.specs.Statements.{reducers, identities}
 use Rattle.meaning.specs.Records.{Kept, with_kinds}
 use Rattle.meaning.specs.SmallStep.{Layers, noting, opening_one, closing_one}
@@ -49,16 +49,38 @@ abbrev pub noted_top : List Notes → Log → List Notes
 noted_top [] es = []
 noted_top (l ∷ ls) es = noted l es ∷ ls
 
-abbrev pub layers_after : Tree → Layers → List Notes → List Notes
-layers_after program noting ls = ls
-layers_after program opening_one ls = blank program ∷ ls
-layers_after program closing_one [] = []
-layers_after program closing_one (a ∷ []) = a ∷ []
-layers_after program closing_one (a ∷ b ∷ ls) = multiplied program b a ∷ ls
+-- the top layer is multiplied into the one below it
+abbrev pub closed_top : Tree → List Notes → List Notes
+closed_top program [] = []
+closed_top program (a ∷ []) = a ∷ []
+closed_top program (a ∷ b ∷ ls) = multiplied program b a ∷ ls
+
+-- the events before an instance's entering, and those from it on
+abbrev pub ahead_of_entry : Log → Log
+ahead_of_entry [] = []
+ahead_of_entry (Begins n depth ∷ es) = []
+ahead_of_entry (e ∷ es) = e ∷ ahead_of_entry es
+
+abbrev pub from_entry : Log → Log
+from_entry [] = []
+from_entry (Begins n depth ∷ es) = Begins n depth ∷ es
+from_entry (e ∷ es) = from_entry es
+
+-- after a step's events: a new layer notes them from its instance's entering on
+abbrev pub layers_by : Tree → Layers → List Notes → Log → List Notes
+layers_by program noting ls es = noted_top ls es
+layers_by program opening_one ls es = notes program (from_entry es) ∷ noted_top ls (ahead_of_entry es)
+layers_by program closing_one ls es = closed_top program (noted_top ls es)
 
 abbrev pub take_top : Tree → Notes → List Notes → List Notes
 take_top program k [] = []
 take_top program k (l ∷ ls) = multiplied program l k ∷ ls
+
+-- the product of layers, from the bottom up
+abbrev pub total : Tree → List Notes → Notes
+total program [] = blank program
+total program (l ∷ []) = l
+total program (l ∷ m ∷ ls) = multiplied program (total program (m ∷ ls)) l
 
 abbrev pub bottom : List Notes → Accumulators
 bottom [] = []

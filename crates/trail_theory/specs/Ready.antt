@@ -1,0 +1,48 @@
+-- The names that a strand's next statement uses: none of them waits for a spawned child.
+use Rattle.std.specs.Prelude.{ℕ, List, [], ◌∷◌, Option, Some, None, slice_get}
+use Rattle.program_tree.specs.Plain.{Term, number, name, cell, has as has_row, limit, negate, binary, Deed, bind, enter, read, sync, update, choose, loop, give, Body, end, step, Tree}
+use Rattle.meaning.specs.Tables.{Tables}
+use Rattle.meaning.specs.Outcome.{Accumulators}
+use Rattle.meaning.specs.SmallStep.{Slot, unset, waits, has, Todo, blocks, Phase, running, Lookup}
+use Rattle.meaning.specs.LayeredStrand.{LayeredStrand}
+use Rattle.trail_theory.specs.Right.{IsRight}
+
+abbrev pub NotWaiting : Option Slot → Type 0
+NotWaiting (Some (waits j)) = ⊥
+NotWaiting _ = Unit {0}
+
+-- no name that the expression uses waits
+abbrev pub IsReady : List Slot → Term → Type 0
+IsReady env (number n) = Unit {0}
+IsReady env (name x) = NotWaiting (slice_get env x)
+IsReady env (cell t e c) = IsReady env e
+IsReady env (has_row t e) = IsReady env e
+IsReady env (limit t) = Unit {0}
+IsReady env (negate e) = IsReady env e
+IsReady env (binary op e f) = IsReady env e × IsReady env f
+
+abbrev pub AreReady : List Slot → List Term → Type 0
+AreReady env [] = Unit {0}
+AreReady env (e ∷ es) = IsReady env e × AreReady env es
+
+abbrev pub IsReadyDeed : List Slot → Deed → Type 0
+IsReadyDeed env (bind x e) = IsReady env e
+IsReadyDeed env (enter x way f es) = AreReady env es
+IsReadyDeed env (read x r) = Unit {0}
+IsReadyDeed env sync = Unit {0}
+IsReadyDeed env (update r es) = AreReady env es
+IsReadyDeed env (choose e a b) = IsReady env e
+IsReadyDeed env (loop x e f grain g es) = IsReady env e × (IsReady env f × AreReady env es)
+IsReadyDeed env (give e) = IsReady env e
+
+abbrev pub IsReadyTodo : List Slot → Todo → Type 0
+IsReadyTodo env (blocks (step n d b ∷ bs)) = IsReadyDeed env d
+IsReadyTodo env _ = Unit {0}
+
+abbrev pub IsReadyPhase : List Slot → Phase → Type 0
+IsReadyPhase env (running todo) = IsReadyTodo env todo
+IsReadyPhase env _ = Unit {0}
+
+-- a right strand's next statement uses no name that waits
+abbrev pub StepsReady : Tree → Tables → Accumulators → Lookup → Type 0
+StepsReady program tables sight lookup = (s : LayeredStrand) → IsRight program tables sight lookup s → IsReadyPhase s.frame.env s.phase
