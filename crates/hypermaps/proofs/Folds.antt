@@ -1,18 +1,18 @@
 -- A layer of which one reducer after another is emptied.
-use Rattle.std.specs.Prelude.{◌≡◌, ◌≢◌, ℕ, zero, suc, ◌+◌, ◌<◌, ◌≤◌, List, [], ◌∷◌, ◌++◌, length, map, false, true, Bool, ◌||◌, nat_eq, not, All, refl, slice_index_or, slice_set, Option, Some, None}
+use Rattle.std.specs.Prelude.{◌≡◌, ◌≢◌, ℕ, zero, suc, ◌<◌, List, [], ◌∷◌, length, false, ◌||◌, nat_eq, refl, Some, None}
 use Rattle.std.specs.List.{list_any, slice_get, remove}
-use Rattle.std.proofs.Common.{sym, ◌∙◌, ap, subst, arith, get_or, set, rules}
+use Rattle.std.proofs.Common.{sym, ◌∙◌, ap, subst, arith, get_or, set}
 use Rattle.std.proofs.lemmas.List.{get_or-set_other, get_or-set_same}
 use Rattle.std.proofs.lemmas.List.Elements.{All-head, All-tail, All-nil}
 use Rattle.std.proofs.lemmas.Grind.{common_steps}
 use native.Mathlib.Decide.{dec_le}
 use Prim.{yes, no}
 use Rattle.monoid_laws.specs.Worth.{Worth}
-use Rattle.monoid_laws.specs.Kinds.{identity_of, identities, AreWorths, IsWorth}
+use Rattle.monoid_laws.specs.Kinds.{identity_of, identities, AreWorths}
 use Rattle.monoid_laws.specs.declared.Kind.{Kind}
 use Rattle.monoid_laws.proofs.Laws.{identity_right}
 use Rattle.monoid_laws.proofs.Rows.{AreWorths-set, cons_same}
-use Rattle.hypermaps.specs.Layer.{Layer, IsLayer, IsAt}
+use Rattle.hypermaps.specs.Layer.{IsLayer}
 
 length-AreWorths : (cs : List Kind) (ws : List Worth) → AreWorths cs ws → length ws ≡ length cs
 length-AreWorths [] [] a = refl

@@ -1,7 +1,7 @@
 -- What one write of a view does to the layer.
-use Rattle.std.specs.Prelude.{◌≡◌, ◌≢◌, ℕ, zero, suc, ◌+◌, ◌<◌, ◌≤◌, List, [], ◌∷◌, ◌++◌, length, map, false, true, Bool, ◌||◌, nat_eq, not, All, refl, slice_index_or, slice_set, if◌then◌else◌, Result, Ok, Err, OnOk, OnErr, IfOk, IfErr, is_err}
+use Rattle.std.specs.Prelude.{◌≡◌, ◌≢◌, ℕ, ◌<◌, List, [], ◌∷◌, ◌++◌, length, map, false, true, Bool, ◌||◌, nat_eq, not, All, refl, if◌then◌else◌, Result, Ok, Err, OnOk, OnErr, IfOk, IfErr, is_err}
 use Rattle.std.specs.List.{list_any}
-use Rattle.std.proofs.Common.{sym, ◌∙◌, ap, subst, arith, get_or, set, rules}
+use Rattle.std.proofs.Common.{sym, ◌∙◌, ap, subst, arith, get_or, set}
 use Rattle.std.proofs.Math.ListN.{length-map}
 use Rattle.std.proofs.Math.Seq.{map-set_same}
 use Rattle.std.proofs.lemmas.List.{map-set, get_or-map, get_or-set_other}
@@ -13,7 +13,7 @@ use Rattle.monoid_laws.specs.Kinds.{operate, operate_all, IsMonoid, identity_of,
 use Rattle.monoid_laws.specs.declared.Kind.{Kind}
 use Rattle.monoid_laws.proofs.Laws.{operate_right}
 use Rattle.monoid_laws.proofs.Rows.{AreWorths-set, AreWorths-at, operate_all_moved, AreWorths-identities, cons_same}
-use Rattle.hypermaps.specs.Layer.{Layer, IsLayer, IsAt}
+use Rattle.hypermaps.specs.Layer.{Layer, IsLayer}
 
 -- an element as the list of what f makes of each shows it
 pub at_map : {X Y : Type 0} (f : X → Y) (xs : List X) (i : ℕ) (x : X) (y : Y) → i < length xs → x ≡ get_or xs i x → y ≡ get_or (map f xs) i y → y ≡ f x

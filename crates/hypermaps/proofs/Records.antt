@@ -1,10 +1,9 @@
 -- A record's values, combined one after another.
-use Rattle.std.specs.Prelude.{◌≡◌, ℕ, zero, suc, ◌+◌, ◌<◌, ◌≤◌, List, [], ◌∷◌, length, map, refl}
-use Rattle.std.proofs.Common.{sym, ◌∙◌, ap, subst, arith, get_or, set}
+use Rattle.std.specs.Prelude.{◌≡◌, ℕ, zero, suc, ◌<◌, ◌≤◌, List, [], ◌∷◌, length, refl}
+use Rattle.std.proofs.Common.{ap, arith, get_or, set}
 use Rattle.monoid_laws.specs.Worth.{Worth}
 use Rattle.monoid_laws.specs.Kinds.{operate, operate_all, AreWorths}
 use Rattle.monoid_laws.specs.declared.Kind.{Kind}
-use Rattle.monoid_laws.proofs.Rows.{cons_same}
 use Rattle.hypermaps.specs.Layer.{operate_first}
 
 same_first : (c d : Kind) (x u y v : Worth) (xs : List Worth) → c ≡ d → x ≡ u → y ≡ v → operate c x y ∷ xs ≡ operate d u v ∷ xs

@@ -1,5 +1,5 @@
 -- What a hypermap is worth, reducer by reducer.
-use Rattle.std.specs.Prelude.{◌≡◌, ℕ, zero, suc, [], ◌∷◌, ◌<◌, ◌≤◌, List, length, false, nat_eq, All, slice_index_or}
+use Rattle.std.specs.Prelude.{◌≡◌, ℕ, zero, suc, [], ◌∷◌, ◌<◌, List, length, false, nat_eq, All, slice_index_or}
 use Rattle.std.specs.List.{list_any}
 use Rattle.monoid_laws.specs.Worth.{Worth}
 use Rattle.monoid_laws.specs.Kinds.{operate, identity_of, AreWorths}

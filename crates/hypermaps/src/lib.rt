@@ -17,6 +17,8 @@ use std::mem;
 use view_pool::{Kit, View};
 
 #[cfg(test)]
+mod stubborn;
+#[cfg(test)]
 mod tests;
 
 /// The views of a kit, and the reducers that were used, in the order of their first use.
@@ -115,10 +117,19 @@ impl<V: View> Hypermap<V> {
     pub fn open(alloc: Global, kit: Kit<V>) -> Self
         ensures { result ≡ record { kinds = kit; worths = identities kit } }
     {
+        let views = kit.into_views();
         Hypermap {
-            views: kit.into_views(),
+            views,
             used: IndexSet::new(alloc),
         }
+    }
+
+    /// How many reducers there are; each has a value of its kind, which is what the laws ask.
+    pub fn len(&self) -> usize
+        ensures count { result ≡ length self.now.kinds }
+        ensures worths { AreWorths self.now.kinds self.now.worths }
+    {
+        self.views.len()
     }
 
     /// The kit, each view at its identity again.

@@ -211,6 +211,17 @@ merge_both x y xs ys r h =
     ap (add_at (x.0) (x.1)) (merge_below xs y ys (subst (λ (k : ℤ). AreAbove k xs) h (r.0)))
     ∙ subst (λ (k : ℤ). add_at k (x.1) (y ∷ merge xs ys) ≡ (k, wrap (x.1 +ℤ y.1)) ∷ merge xs ys) (sym h) (add_same (y.0) (x.1) (y.1) (merge xs ys))
 
+-- one amount on the right is an amount added
+pub merge_one : (xs : List (ℤ × ℤ)) (e : ℤ × ℤ) → IsRising xs → merge xs (e ∷ []) ≡ add_at (e.0) (e.1) xs
+merge_one [] e r = refl
+merge_one (x ∷ xs) e r = elim (compare (e.0) (x.0)) [
+  | below h ↦ merge_right x e xs [] r h ∙ ap (λ l. e ∷ l) (merge_nil (x ∷ xs) r) ∙ sym (add_below (e.0) (e.1) x xs h)
+  | same h ↦ merge_both x e xs [] r (sym h) ∙ ap (λ l. (x.0, wrap (x.1 +ℤ e.1)) ∷ l) (merge_nil xs (r.1))
+      ∙ subst (λ (k : ℤ). (x.0, wrap (x.1 +ℤ e.1)) ∷ xs ≡ add_at k (e.1) (x ∷ xs)) (sym h)
+      (ap (λ z. (x.0, wrap z) ∷ xs) (let c : x.1 +ℤ e.1 ≡ e.1 +ℤ x.1 = omega (arith, ints) in c) ∙ sym (add_same (x.0) (e.1) (x.1) xs))
+  | above h ↦ merge_left x e xs [] r (tt, tt) h ∙ ap (λ l. x ∷ l) (merge_one xs e (r.1)) ∙ sym (add_above (e.0) (e.1) x xs h)
+]
+
 drop_all : (xs : List (ℤ × ℤ)) (i : ℕ) → length xs ≤ i → drop i xs ≡ []
 drop_all [] zero h = refl
 drop_all [] (suc i) h = refl

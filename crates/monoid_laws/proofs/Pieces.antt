@@ -23,6 +23,13 @@ pub joined_step : {P : Type 0} (f : P → List ℤ) (ps : List P) (i : ℕ) (p :
 joined_step f ps i p list more h is so_far step =
     rw (add-one i) (step ∙ ap (λ l. l ++ f p) so_far ∙ sym (ap (λ l. joined (map f l)) ((take-suc ps i p h ∙ ap (λ x. take i ps ++ x ∷ []) (sym is))) ∙ ap joined (map-append f (take i ps) (p ∷ [])) ∙ joined-push (map f (take i ps)) (f p)))
 
+-- and behind a list that was there before
+pub joined_behind : {P : Type 0} (f : P → List ℤ) (ps : List P) (i : ℕ) (p : P) (base list more : List ℤ) → i < length ps → p ≡ get_or ps i p
+    → list ≡ base ++ joined (map f (take i ps)) → more ≡ list ++ f p → more ≡ base ++ joined (map f (take (i + 1) ps))
+joined_behind f ps i p base list more h is so_far step =
+    step ∙ ap (λ l. l ++ f p) so_far ∙ append_assoc base (joined (map f (take i ps))) (f p)
+    ∙ ap (λ l. base ++ l) (joined_step f ps i p (joined (map f (take i ps))) (joined (map f (take i ps)) ++ f p) h is refl refl)
+
 pub merged-push : (xs : List (List (ℤ × ℤ))) (y : List (ℤ × ℤ)) → IsRising y → merged (xs ++ y ∷ []) ≡ merge (merged xs) y
 merged-push xs y h = merged-append xs (y ∷ []) ∙ ap (merge (merged xs)) (merge_nil y h)
 

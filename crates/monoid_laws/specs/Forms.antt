@@ -24,3 +24,10 @@ abbrev pub kept : Kind → List ℤ → List ℤ
 kept (k.First n) xs = take n xs
 kept (k.Last n) xs = last_of n xs
 kept _ xs = xs
+
+-- the kinds whose values are lists
+abbrev pub IsListKind : Kind → Type 0
+IsListKind k.List = Unit {0}
+IsListKind (k.First n) = Unit {0}
+IsListKind (k.Last n) = Unit {0}
+IsListKind _ = ⊥

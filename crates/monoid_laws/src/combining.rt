@@ -66,7 +66,7 @@ fn combine_growing(alloc: Global, kind: Kind, left: &mut Val, right: Val) -> Res
     ensures handed_back { IfErr result (λ v. v ≡ right) }
 {
     match kind {
-        Kind::List => combine_lists(alloc, left, right),
+        Kind::List => combine_lists(left, right),
         Kind::Hist => combine_amounts(alloc, left, right),
         _ => combine_kept(alloc, kind, left, right),
     }

@@ -1,12 +1,12 @@
 //! The elements that the numbers of an update name.
-ghost use Rattle.std.specs.Prelude.{◌≡◌, ℕ, ℤ, OnOk, OnErr, IfErr, IfOk, IsOk, IfSome, OnSome, IsNone, true, false, length, ◌∷◌, []};
+ghost use Rattle.std.specs.Prelude.{◌≡◌, ℕ, ℤ, OnOk, IfErr, IfOk, IsOk, IfSome, OnSome, IsNone, true, false, length, ◌∷◌, []};
 ghost use Rattle.monoid_laws.specs.Worth.{items, amounts, element};
-ghost use Rattle.monoid_laws.specs.Kinds.{operate, element_of, meaning, IsWorth, arity, names_element, refusal};
+ghost use Rattle.monoid_laws.specs.Kinds.{element_of, meaning, IsWorth, arity, names_element, refusal};
 ghost use Rattle.monoid_laws.specs.Forms.{is_fixed, kept};
 ghost use Rattle.monoid_laws.specs.declared.Kind.TheVariants as kinds;
 
 use crate::joining::keep;
-use crate::{InjectError, Kind, Table, Val, combine};
+use crate::{InjectError, Kind, Table, Val};
 use std::alloc::{AllocError, Global};
 
 /// A table's element of this number.
@@ -22,7 +22,7 @@ fn table_element(table: Table, number: i64) -> Option<u8>
 }
 
 /// The list of one number, as the kind keeps it.
-fn one_number(alloc: Global, kind: Kind, number: i64) -> Result<Val, AllocError>
+pub(crate) fn one_number(alloc: Global, kind: Kind, number: i64) -> Result<Val, AllocError>
     ensures { IfOk result (λ v. meaning v ≡ items (kept kind (number ∷ []))) }
 {
     let mut list = Vec::new(alloc);
@@ -32,7 +32,7 @@ fn one_number(alloc: Global, kind: Kind, number: i64) -> Result<Val, AllocError>
 }
 
 /// The amount at one key.
-fn one_amount(alloc: Global, key: i64, amount: i64) -> Result<Val, AllocError>
+pub(crate) fn one_amount(alloc: Global, key: i64, amount: i64) -> Result<Val, AllocError>
     ensures { IfOk result (λ v. meaning v ≡ amounts ((key, amount) ∷ [])) }
 {
     let mut list = Vec::new(alloc);
@@ -64,28 +64,6 @@ pub fn inject(alloc: Global, kind: Kind, numbers: &[i64]) -> Result<Val, InjectE
     };
     match grown {
         Ok(value) => Ok(value),
-        Err(_) => Err(InjectError::NoMemory),
-    }
-}
-
-/// Combines the element that the numbers name on the right of a value.
-pub fn add_element(
-    alloc: Global,
-    kind: Kind,
-    value: &mut Val,
-    numbers: &[i64],
-) -> Result<(), InjectError>
-    requires count { length numbers.now ≡ arity kind }
-    requires of_kind { IsWorth kind (meaning value.old) }
-    ensures combined { OnOk result (meaning value.new ≡ operate kind (meaning value.old) (element_of kind numbers.now)) }
-    ensures element { OnOk result (IsWorth kind (element_of kind numbers.now)) }
-    ensures named { OnOk result (names_element kind numbers.now ≡ true) }
-    ensures refused { OnErr result (meaning value.new ≡ meaning value.old) }
-    ensures cause { IfErr result (λ e. e ≡ refusal kind numbers.now) }
-{
-    let element = inject(alloc, kind, numbers)?;
-    match combine(alloc, kind, value, element) {
-        Ok(()) => Ok(()),
         Err(_) => Err(InjectError::NoMemory),
     }
 }

@@ -8,7 +8,7 @@ use crate::{Kind, Val};
 use std::alloc::{AllocError, Global};
 
 /// Joins two lists, or hands the second back.
-fn join_lists(left: &mut Vec<i64>, right: Vec<i64>) -> Result<(), Vec<i64>>
+fn join_lists(left: &mut Vec<i64>, mut right: Vec<i64>) -> Result<(), Vec<i64>>
     ensures joined { OnOk result (left.new.items ≡ left.old.items ++ right.items) }
     ensures refused { OnErr result (left.new.items ≡ left.old.items) }
     ensures handed_back { IfErr result (λ v. v ≡ right) }
@@ -17,10 +17,11 @@ fn join_lists(left: &mut Vec<i64>, right: Vec<i64>) -> Result<(), Vec<i64>>
         *left = right;
         return Ok(());
     }
-    match left.extend_from_slice(&right) {
-        Ok(()) => Ok(()),
-        Err(_) => Err(right),
+    if left.reserve(right.len()).is_err() {
+        return Err(right);
     }
+    let _ = left.append(&mut right);
+    Ok(())
 }
 
 /// Keeps the last `n` numbers.
@@ -33,14 +34,27 @@ fn keep_last(list: &mut Vec<i64>, n: usize)
     }
 }
 
+/// Joins pieces to a list; refused, the list is cut back to what it was.
+fn join_pieces(list: &mut Vec<i64>, pieces: &[Vec<i64>]) -> Result<(), AllocError>
+    ensures joined { OnOk result (list.new.items ≡ list.old.items ++ joined (map (λ p. p.items) pieces.now)) }
+    ensures refused { OnErr result (list.new.items ≡ list.old.items) }
+{
+    let before = list.len();
+    for piece in pieces {
+        if list.extend_from_slice(piece).is_err() {
+            list.truncate(before);
+            return Err(AllocError);
+        }
+    }
+    Ok(())
+}
+
 /// The pieces joined, as a new list.
 pub(crate) fn joined_list(alloc: Global, pieces: &[Vec<i64>]) -> Result<Vec<i64>, AllocError>
     ensures { IfOk result (λ v. v.items ≡ joined (map (λ p. p.items) pieces.now)) }
 {
     let mut list = Vec::new(alloc);
-    for piece in pieces {
-        list.extend_from_slice(piece)?;
-    }
+    join_pieces(&mut list, pieces)?;
     Ok(list)
 }
 
@@ -77,28 +91,23 @@ fn push_list(left: &mut Val, more: Vec<i64>) -> Result<(), Vec<i64>>
 }
 
 /// Puts pieces behind a value, or hands them back.
-fn push_pieces(alloc: Global, left: &mut Val, more: Vec<Vec<i64>>) -> Result<(), Vec<Vec<i64>>>
+fn push_pieces(left: &mut Val, more: Vec<Vec<i64>>) -> Result<(), Vec<Vec<i64>>>
     ensures joined { OnOk result (meaning left.new ≡ items (the_items (meaning left.old) ++ joined (map (λ p. p.items) more.items))) }
     ensures refused { OnErr result (meaning left.new ≡ meaning left.old) }
     ensures handed_back { IfErr result (λ v. v ≡ more) }
 {
     match left {
-        Val::List(list) => {
-            let Ok(flat) = joined_list(alloc, &more) else {
-                return Err(more);
-            };
-            match join_lists(list, flat) {
-                Ok(()) => Ok(()),
-                Err(_) => Err(more),
-            }
-        }
+        Val::List(list) => match join_pieces(list, &more) {
+            Ok(()) => Ok(()),
+            Err(_) => Err(more),
+        },
         Val::Pieces(pieces) => append_pieces(pieces, more),
         _ => Err(more),
     }
 }
 
 /// Joins two values that are lists, each whole or in pieces.
-pub(crate) fn combine_lists(alloc: Global, left: &mut Val, right: Val) -> Result<(), Val>
+pub(crate) fn combine_lists(left: &mut Val, right: Val) -> Result<(), Val>
     ensures joined { OnOk result (meaning left.new ≡ items (the_items (meaning left.old) ++ the_items (meaning right))) }
     ensures refused { OnErr result (meaning left.new ≡ meaning left.old) }
     ensures handed_back { IfErr result (λ v. v ≡ right) }
@@ -108,7 +117,7 @@ pub(crate) fn combine_lists(alloc: Global, left: &mut Val, right: Val) -> Result
             Ok(()) => Ok(()),
             Err(more) => Err(Val::List(more)),
         },
-        Val::Pieces(more) => match push_pieces(alloc, left, more) {
+        Val::Pieces(more) => match push_pieces(left, more) {
             Ok(()) => Ok(()),
             Err(more) => Err(Val::Pieces(more)),
         },
@@ -128,14 +137,14 @@ pub(crate) fn keep(kind: Kind, list: &mut Vec<i64>)
 }
 
 /// Joins a value to a list and keeps what the kind keeps, or hands the value back.
-fn join_kept(alloc: Global, kind: Kind, list: &mut Vec<i64>, right: Val) -> Result<(), Val>
+fn join_kept(kind: Kind, list: &mut Vec<i64>, right: Val) -> Result<(), Val>
     ensures joined { OnOk result (list.new.items ≡ kept kind (list.old.items ++ the_items (meaning right))) }
     ensures refused { OnErr result (list.new.items ≡ list.old.items) }
     ensures handed_back { IfErr result (λ v. v ≡ right) }
 {
     let joined = match &right {
         Val::List(more) => list.extend_from_slice(more),
-        Val::Pieces(pieces) => join_pieces(alloc, list, pieces),
+        Val::Pieces(pieces) => join_pieces(list, pieces),
         _ => Err(AllocError),
     };
     if joined.is_err() {
@@ -145,15 +154,6 @@ fn join_kept(alloc: Global, kind: Kind, list: &mut Vec<i64>, right: Val) -> Resu
     Ok(())
 }
 
-/// Joins pieces to a list.
-fn join_pieces(alloc: Global, list: &mut Vec<i64>, pieces: &[Vec<i64>]) -> Result<(), AllocError>
-    ensures joined { OnOk result (list.new.items ≡ list.old.items ++ joined (map (λ p. p.items) pieces.now)) }
-    ensures refused { OnErr result (list.new.items ≡ list.old.items) }
-{
-    let flat = joined_list(alloc, pieces)?;
-    list.extend_from_slice(&flat)
-}
-
 /// Joins two lists of a kind and keeps what the kind keeps; the left one is whole afterwards.
 pub(crate) fn combine_kept(alloc: Global, kind: Kind, left: &mut Val, right: Val) -> Result<(), Val>
     ensures joined { OnOk result (meaning left.new ≡ items (kept kind (the_items (meaning left.old) ++ the_items (meaning right)))) }
@@ -161,12 +161,12 @@ pub(crate) fn combine_kept(alloc: Global, kind: Kind, left: &mut Val, right: Val
     ensures handed_back { IfErr result (λ v. v ≡ right) }
 {
     match left {
-        Val::List(list) => join_kept(alloc, kind, list, right),
+        Val::List(list) => join_kept(kind, list, right),
         Val::Pieces(pieces) => {
             let Ok(mut list) = joined_list(alloc, pieces) else {
                 return Err(right);
             };
-            match join_kept(alloc, kind, &mut list, right) {
+            match join_kept(kind, &mut list, right) {
                 Ok(()) => {
                     *left = Val::List(list);
                     Ok(())

@@ -14,14 +14,17 @@ mod table_check;
 mod table_rows;
 #[cfg(test)]
 mod tests;
+mod updating;
 
 pub use combining::{combine, identity};
 pub use copying::copy_of;
-pub use elements::{add_element, inject};
+pub use elements::inject;
 pub use fixed::sum_of;
 pub use kind_laws::laws_of;
 pub use table_check::{TableAnswer, check_table};
 pub use table_rows::table_of;
+use thiserror::Error;
+pub use updating::add_element;
 
 /// An operation on the numbers below `size`, row by row: `a op b` stands at `a * size + b`.
 #[derive(Clone, Copy, Debug, PartialEq, Eq)]
@@ -66,9 +69,12 @@ pub enum Val {
     Elem(u8),
 }
 
-/// Why an update is refused: for memory, or since a table has no such element.
-#[derive(Clone, Copy, Debug, PartialEq, Eq)]
+/// Why an update is refused.
+#[derive(Clone, Copy, Debug, PartialEq, Eq, Error)]
 pub enum InjectError {
+    #[error("out of memory")]
     NoMemory,
+    /// A table has no element of this number.
+    #[error("bad element")]
     BadElement,
 }

@@ -96,11 +96,26 @@ impl<K> KitSource<K> for Pool<K> {
 
     ghost fits = { λ k s. Unit {0} };
 
-    fn take(&mut self) -> Option<K> {
+    fn take(&mut self) -> Option<K>
+        ensures given { IfSome result (λ k. Contains self.old.kits k) }
+        ensures fitting { (k : K) → Unit {0} → Unit {0} }
+        ensures kept { (k : K) → Contains self.new.kits k → Contains self.old.kits k }
+        ensures one { self.old.kits ≡ self.new.kits ++ option_to_list result }
+        ensures none { IsNone result → self.old.kits ≡ [] }
+        ensures total { self.new.total ≡ self.old.total }
+    {
         Pool::take(self)
     }
 
-    fn give(&mut self, kit: K) -> Result<(), K> {
+    fn give(&mut self, kit: K) -> Result<(), K>
+        ensures fitting { (k : K) → Unit {0} → Unit {0} }
+        ensures kept { (k : K) → Contains self.new.kits k → Contains self.old.kits k ⊎ kit ≡ k }
+        ensures handed_back { IfErr result (λ k. k ≡ kit) }
+        ensures given { OnOk result (self.new.kits ≡ self.old.kits ++ kit ∷ []) }
+        ensures full { IsOk result ↔ (length self.old.kits < self.old.total) }
+        ensures unchanged { OnErr result (self.new.kits ≡ self.old.kits) }
+        ensures total { self.new.total ≡ self.old.total }
+    {
         Pool::give(self, kit)
     }
 }

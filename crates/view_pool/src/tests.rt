@@ -1,9 +1,6 @@
 //! Kits of boxed views, taken and given back.
-ghost use Rattle.std.specs.Prelude.{◌≡◌, length};
-ghost use Rattle.monoid_laws.specs.Kinds.{arity, meaning, IsWorth};
-
 use super::*;
-use monoid_laws::{Kind, Val};
+use monoid_laws::{Kind, Val, laws_of};
 use std::alloc::{AllocError, Global};
 
 /// A plain view in a box.
@@ -50,21 +47,35 @@ fn full_pool(rt: HostRuntime) {
     assert!(rt; handed_back(rt.alloc()));
 }
 
-/// A plain view after an update, and what is left once its value was taken.
-fn updated(alloc: Global, kind: Kind, numbers: &[i64]) -> Option<(Val, Val)>
-    requires { length numbers.now ≡ arity kind }
-{
-    let mut view = PlainView::new(alloc, kind);
-    view.update(numbers).ok()?;
+/// What a view of affine maps is worth after an update, taken, and put in again; none where it is of another kind.
+fn used<V: View>(view: &mut V) -> Option<(Val, Val, Val)> {
+    match view.kind() {
+        Kind::Affine => {}
+        _ => return None,
+    }
+    laws_of(Kind::Affine);
+    view.reset();
+    view.update(&[2, 1]).ok()?;
     let copy = view.export().ok()?;
     let value = view.take();
+    let left = view.export().ok()?;
     view.absorb(value).ok()?;
-    view.reset();
-    Some((copy, view.take()))
+    Some((copy, left, view.take()))
+}
+
+#[test]
+fn boxed_view(rt: HostRuntime) {
+    let alloc = rt.alloc();
+    let mut view = boxed(alloc, Kind::Affine).ok().expect(&rt, "memory");
+    let found = used(&mut view).expect(&rt, "memory");
+    assert!(rt; found == (Val::Pair(2, 1), Val::Pair(1, 0), Val::Pair(2, 1)));
 }
 
 #[test]
 fn plain_view(rt: HostRuntime) {
     let alloc = rt.alloc();
-    assert!(rt; updated(alloc, Kind::Affine, &[2, 1]) == Some((Val::Pair(2, 1), Val::Pair(1, 0))));
+    let mut view = PlainView::new(alloc, Kind::List);
+    assert!(rt; view.update(&[4]).is_ok());
+    view.reset();
+    assert!(rt; view.export() == Ok(Val::List(Vec::new(alloc))));
 }

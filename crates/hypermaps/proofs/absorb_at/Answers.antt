@@ -1,9 +1,8 @@
-use Rattle.std.proofs.Common.{◌≡◌, ◌<◌, sym, ◌∙◌, ap, subst, map, length, rules, OnOk, OnErr, set, get_or}
+use Rattle.std.proofs.Common.{◌≡◌, sym, ◌∙◌, ap, map, set}
 use Rattle.std.proofs.lemmas.List.{map-set}
 use Rattle.monoid_laws.specs.Kinds.{operate, meaning, IsWorth}
 use Rattle.indexmap.specs.IndexSet.{insert_key}
 use Rattle.std.specs.Prelude.{nat_eq}
-use Rattle.hypermaps.specs.Layer.{IsLayer}
 use Rattle.hypermaps.proofs.Layers.{IsLayer-written, IsWorth-old, IsWorth-combined, kinds_written, worths_kept, OnErr-kept, OnOk-kept, OnOk-always, at_map, is_at_map, was_ok}
 use Rattle.hypermaps.proofs.absorb_at.Goals as goal
 

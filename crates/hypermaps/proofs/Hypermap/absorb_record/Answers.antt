@@ -1,4 +1,4 @@
-use Rattle.std.proofs.Common.{◌≡◌, ◌<◌, ◌+◌, ◌≤◌, sym, ◌∙◌, ap, subst, map, length, arith, rules, set, get_or, List, add-one}
+use Rattle.std.proofs.Common.{◌≡◌, ◌<◌, ◌+◌, ◌≤◌, sym, ◌∙◌, ap, subst, map, length, arith, set, get_or, List, add-one}
 use Rattle.std.proofs.Math.ListN.{length-map}
 use Rattle.monoid_laws.specs.Worth.{Worth}
 use Rattle.monoid_laws.specs.declared.Kind.{Kind}

@@ -1,6 +1,6 @@
-use Rattle.std.proofs.Common.{◌≡◌, map, vec_len, length}
+use Rattle.std.proofs.Common.{◌≡◌, map}
 use Rattle.monoid_laws.specs.Kinds.{meaning}
-use Rattle.hypermaps.specs.Layer.{Layer, IsLayer, operate_first}
+use Rattle.hypermaps.specs.Layer.{IsLayer, operate_first}
 use Rattle.hypermaps.proofs.Hypermap.absorb_record.Given as goal
 
 abbrev pub invariant-loop-i : goal.invariant-loop-i

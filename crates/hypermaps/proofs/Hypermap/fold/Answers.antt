@@ -1,11 +1,11 @@
-use Rattle.std.proofs.Common.{◌≡◌, ◌<◌, sym, ◌∙◌, ap, subst, map, length, arith, rules, OnOk, OnErr, set, get_or, IsOk, Ok, List}
-use Rattle.std.specs.Prelude.{Some, None, Result, Option, refl}
+use Rattle.std.proofs.Common.{◌≡◌, sym, ◌∙◌, ap, subst, map, get_or, List}
+use Rattle.std.specs.Prelude.{Some, None, refl}
 use Rattle.std.specs.List.{slice_get}
 use Rattle.monoid_laws.specs.Worth.{Worth}
 use Rattle.monoid_laws.specs.declared.Kind.{Kind}
-use Rattle.monoid_laws.specs.Kinds.{operate_all, identities, identity_of, IsMonoid, AreWorths}
+use Rattle.monoid_laws.specs.Kinds.{operate_all, identities, AreWorths}
 use Rattle.monoid_laws.proofs.Rows.{operate_all_identities}
-use Rattle.hypermaps.specs.Layer.{Layer, IsLayer}
+use Rattle.hypermaps.specs.Layer.{IsLayer}
 use Rattle.hypermaps.proofs.Folds.{IsLayer-emptied, IsLayer-none, none_used, exists_at, first_within}
 use Rattle.hypermaps.proofs.Hypermap.fold.Goals as goal
 

@@ -1,10 +1,10 @@
-use Rattle.std.proofs.Common.{inr, ◌≡◌, ◌<◌, sym, ◌∙◌, ap, subst, map, length, arith, rules, OnOk, OnErr, set, get_or}
+use Rattle.std.proofs.Common.{inr, ◌≡◌, ◌<◌, sym, ◌∙◌, ap, subst, map, length, arith, set, get_or}
 use Rattle.std.proofs.Math.ListN.{length-map}
 use Rattle.std.proofs.lemmas.List.{map-set}
 use Rattle.monoid_laws.specs.Kinds.{operate, element_of, names_element, refusal, IsWorth}
 use Rattle.indexmap.specs.IndexSet.{insert_key}
-use Rattle.std.specs.Prelude.{nat_eq, false, IfOk, Result, Ok, Err, is_err, Bool}
-use Rattle.hypermaps.specs.Layer.{Layer, IsLayer}
+use Rattle.std.specs.Prelude.{nat_eq}
+use Rattle.hypermaps.specs.Layer.{Layer}
 use Rattle.hypermaps.proofs.Layers.{IsLayer-written, IsWorth-old, IsWorth-combined, kinds_written, worths_kept, OnErr-kept, OnOk-kept, IfErr-kept, at_map, was_ok}
 use Rattle.hypermaps.proofs.Hypermap.update.Goals as goal
 use Rattle.hypermaps.proofs.Hypermap.update.Goals.{After-self-1}

@@ -1,4 +1,4 @@
-use Rattle.std.proofs.Common.{◌≡◌, ◌<◌, sym, ◌∙◌, ap, subst, map, length, arith, vec_len, rules}
+use Rattle.std.proofs.Common.{◌≡◌, ◌<◌, sym, ◌∙◌, ap, length, arith, rules}
 use Rattle.std.proofs.lemmas.List.Elements.{AllWithin-more_set}
 use Rattle.monoid_laws.specs.Kinds.{identity_of}
 use Rattle.view_pool.proofs.Kept.{kinds_written}

@@ -1,4 +1,4 @@
-use Rattle.std.proofs.Common.{◌≡◌, ℕ, length, map, vec_len}
+use Rattle.std.proofs.Common.{◌≡◌, map, vec_len}
 use Rattle.std.specs.List.{AllWithin}
 use Rattle.monoid_laws.specs.Kinds.{identity_of}
 use Rattle.view_pool.proofs.kit.reset_all.Given as goal

@@ -1,4 +1,4 @@
-use Rattle.std.proofs.Common.{sym, ap, subst}
+use Rattle.std.proofs.Common.{sym, subst}
 use Rattle.monoid_laws.specs.Kinds.{meaning, IsWorth}
 use Rattle.view_pool.specs.Seen.{Seen}
 use Rattle.view_pool.proofs.Kept.{IsWorth-combined, on_ok}
