@@ -1,12 +1,12 @@
 -- The statement at a place of the code is that at the place of the tree.
-use Rattle.std.proofs.Common.{◌≡◌, ℕ, zero, suc, ◌+◌, List, [], ◌∷◌, length, Option, Some, None, slice_get, refl, sym, ap}
+use Rattle.std.proofs.Common.{◌≡◌, ℕ, zero, suc, List, [], ◌∷◌, length, Option, Some, None, slice_get, refl, sym, ap}
 use Rattle.program_tree.specs.Plain.{Deed, Body, end, step, Proc, Tree}
 use Rattle.program_tree.specs.View.{tree}
 use Rattle.meaning.specs.Statements.{found}
 use Rattle.checked_program.specs.declared.code.Instruction.{Instruction}
 use Rattle.checked_program.specs.Plain.{PlainCode}
 use Rattle.checked_program.specs.Checked.{PlainChecked}
-use Rattle.checked_program.specs.Linked.{Does, Follows, Runs, AllRun, IsLinked, procedures, body_in, slots_in, body_of, slots_of}
+use Rattle.checked_program.specs.Linked.{Does, Follows, AllRun, IsLinked, procedures, body_in, slots_in, body_of, slots_of}
 use Rattle.frames.specs.Stands.{body_from, procedure_at}
 
 -- the statement, and what follows it

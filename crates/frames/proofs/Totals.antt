@@ -4,7 +4,7 @@ use Rattle.std.specs.Prelude.{nat_lt, Bool, true, false, map, replicate, option_
 use Rattle.std.proofs.lemmas.Bool.{lt-ltb, le-ltb, ltb-true, ltb-false}
 use Rattle.std.proofs.lemmas.Option.{slice_get-map}
 use Rattle.monoid_laws.specs.Kinds.{wrap, identity_of}
-use Rattle.monoid_laws.specs.Worth.{Worth, number}
+use Rattle.monoid_laws.specs.Worth.{number}
 use Rattle.monoid_laws.specs.declared.Kind.TheVariants as k
 use Rattle.program_tree.specs.Plain.{Red}
 use Rattle.meaning.specs.Outcome as outcome

@@ -1,18 +1,17 @@
 -- The values of the code's expressions are those of the tree's.
-use Rattle.std.proofs.Common.{◌≡◌, ℕ, zero, suc, ◌-◌, ℤ, pos, List, [], ◌∷◌, ◌++◌, map, take, replicate, length, Option, Some, None, slice_get, slice_set, refl, sym, ◌∙◌, ap, arith}
+use Rattle.std.proofs.Common.{◌≡◌, ℕ, zero, suc, ◌-◌, ℤ, List, [], ◌∷◌, ◌++◌, map, take, replicate, length, Option, Some, None, slice_get, slice_set, refl, sym, ◌∙◌, ap, arith}
 use Rattle.program_tree.specs.Plain.{Name}
-use Rattle.meaning.specs.declared.FaultKind.{FaultKind}
 use Rattle.meaning.specs.Tables.{Tables}
-use Rattle.meaning.specs.Outcome.{Out, pure}
+use Rattle.meaning.specs.Outcome.{pure}
 use Rattle.meaning.specs.Values.{Env, value, values, or_zero, apply}
-use Rattle.meaning.specs.Statements.{fresh, put_into}
-use Rattle.meaning.specs.SmallStep.{Slot, slot, seen, has, set_into}
+use Rattle.meaning.specs.Statements.{fresh}
+use Rattle.meaning.specs.SmallStep.{slot, seen, has, set_into}
 use Rattle.checked_program.specs.declared.code.Arithmetic.{Arithmetic}
 use Rattle.checked_program.specs.declared.code.Arithmetic.TheVariants as arithmetic
 use Rattle.checked_program.specs.declared.code.Expression.{Expression}
 use Rattle.checked_program.specs.declared.code.Expression.TheVariants as e
 use Rattle.checked_program.specs.Linked.{operator_of, term_of}
-use Rattle.frames.specs.Values.{number_in, applied, value_of, values_of, padded, slots_for}
+use Rattle.frames.specs.Values.{number_in, applied, value_of, values_of, slots_for}
 use Rattle.frames.specs.Activations.{with_slot}
 
 -- the slots as they are seen

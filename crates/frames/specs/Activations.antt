@@ -1,5 +1,5 @@
 -- Instances and continuations as plain values, by numbers.
-use Rattle.std.specs.Prelude.{ℕ, ℤ, Bool, true, false, ◌+◌, List, [], ◌∷◌, Option, Some, None, slice_set}
+use Rattle.std.specs.Prelude.{ℕ, ℤ, Bool, false, ◌+◌, List, Option, Some, None, slice_set}
 
 pub record PlainActivation : Type 0 where
   pub procedure : ℕ

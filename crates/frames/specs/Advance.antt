@@ -1,5 +1,5 @@
 -- One small step of a strand, by numbers.
-use Rattle.std.specs.Prelude.{ℕ, ℤ, pos, Bool, true, false, if◌then◌else◌, ◌==◌, ◌+◌, ◌-◌, ◌+ℤ◌, nat_lt, List, [], ◌∷◌, Option, Some, None, slice_get, slice_set, replicate}
+use Rattle.std.specs.Prelude.{ℕ, ℤ, pos, Bool, true, false, if◌then◌else◌, ◌==◌, ◌-◌, ◌+ℤ◌, nat_lt, List, [], ◌∷◌, Option, Some, None, slice_get, slice_set, replicate}
 use Rattle.monoid_laws.specs.Kinds.{wrap}
 use Rattle.program_tree.specs.declared.Way.{Way}
 use Rattle.program_tree.specs.declared.Way.TheVariants.{Call, Spawn}
@@ -11,7 +11,7 @@ use Rattle.checked_program.specs.declared.code.Instruction.{Instruction}
 use Rattle.checked_program.specs.Checked.{PlainChecked}
 use Rattle.checked_program.specs.Linked.{body_of, slots_of}
 use Rattle.frames.specs.declared.answer.Phase.{Phase}
-use Rattle.frames.specs.declared.answer.Phase.TheVariants.{Running, AtSpawn, Returning, Leaving, Faulted}
+use Rattle.frames.specs.declared.answer.Phase.TheVariants.{Entering, Running, AtEnd, AtSpawn, Returning, Leaving, Faulted}
 use Rattle.frames.specs.declared.answer.Paused.{Paused}
 use Rattle.frames.specs.declared.answer.Paused.TheVariants as paused
 use Rattle.frames.specs.Values.{value_of, slots_for}
@@ -58,9 +58,9 @@ performed program n Sync s = record s { top = passed s.top }
 performed program n (Update r e) s = record s { top = passed s.top; totals = updated program.reducers r (value_of e s.top.slots) s.totals }
 performed program n (Return e) s = record s { phase = Returning (value_of e s.top.slots) }
 
--- the statement, or at the body's end a return of 0
+-- the statement, or the body's end
 abbrev pub gone_by : PlainChecked → Option Instruction → PlainStrand → PlainStrand
-gone_by program None s = record s { phase = Returning (pos 0) }
+gone_by program None s = record s { phase = AtEnd }
 gone_by program (Some i) s = performed program i.number i.operation s
 
 abbrev pub gone : PlainChecked → PlainStrand → PlainStrand
@@ -76,7 +76,9 @@ leaving_pause [] top = bottom_pause (top.left == 63)
 leaving_pause (parent ∷ rest) top = paused.Working
 
 abbrev pub pause_at : Phase → List PlainActivation → PlainActivation → Paused
+pause_at Entering below top = paused.Working
 pause_at Running below top = paused.Working
+pause_at AtEnd below top = paused.Working
 pause_at AtSpawn below top = paused.AtSpawn
 pause_at (Returning v) below top = paused.Working
 pause_at (Leaving v) below top = leaving_pause below top
@@ -93,7 +95,9 @@ returned_by false v = Some v
 abbrev pub returned_at : Phase → List PlainActivation → PlainActivation → Option ℤ
 returned_at (Leaving v) [] top = returned_by (top.left == 63) v
 returned_at (Leaving v) (parent ∷ rest) top = None
+returned_at Entering below top = None
 returned_at Running below top = None
+returned_at AtEnd below top = None
 returned_at AtSpawn below top = None
 returned_at (Returning v) below top = None
 returned_at (Faulted f) below top = None
@@ -116,7 +120,9 @@ left_to [] v s = s
 left_to (parent ∷ rest) v s = record s { top = bound parent.waiting v parent; below = rest; phase = Running }
 
 abbrev pub advanced_at : Phase → PlainChecked → PlainStrand → PlainStrand
+advanced_at Entering program s = record s { phase = Running }
 advanced_at Running program s = gone program s
+advanced_at AtEnd program s = record s { phase = Returning (pos 0) }
 advanced_at AtSpawn program s = s
 advanced_at (Returning v) program s = record s { phase = Leaving v }
 advanced_at (Leaving v) program s = left_to s.below v s
@@ -126,11 +132,11 @@ advanced_at (Faulted f) program s = s
 abbrev pub advanced : PlainChecked → PlainStrand → PlainStrand
 advanced program s = advanced_at s.phase program s
 
--- the strand of a run's beginning: main, entered
+-- the strand of a run's beginning: main, not entered yet
 abbrev pub first_of : PlainChecked → PlainStrand
 first_of program = record {
   top = made program.main (slots_for (slots_of program program.main) [] []) 63;
   below = [];
-  phase = Running;
+  phase = Entering;
   totals = replicate program.reducers (pos 0);
 }

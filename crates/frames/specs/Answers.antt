@@ -1,5 +1,5 @@
 -- The answer of a strand that is over.
-use Rattle.std.specs.Prelude.{◌≡◌, ℕ, ℤ, Bool, true, false, ◌==◌, List, [], ◌∷◌}
+use Rattle.std.specs.Prelude.{◌≡◌, ℤ, Bool, true, false, ◌==◌, List, [], ◌∷◌}
 use Rattle.frames.specs.declared.answer.Fault.{Fault}
 use Rattle.frames.specs.declared.answer.Phase.{Phase}
 use Rattle.frames.specs.declared.answer.Phase.TheVariants as phase
@@ -22,7 +22,9 @@ abbrev pub ending_at : Phase → List PlainActivation → Bool → Ending
 ending_at (phase.Leaving v) [] is_main = over_at is_main v
 ending_at (phase.Leaving v) (p ∷ below) is_main = underway
 ending_at (phase.Faulted f) below is_main = stopped f
+ending_at phase.Entering below is_main = underway
 ending_at phase.Running below is_main = underway
+ending_at phase.AtEnd below is_main = underway
 ending_at phase.AtSpawn below is_main = underway
 ending_at (phase.Returning v) below is_main = underway
 

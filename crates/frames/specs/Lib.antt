@@ -4,3 +4,4 @@ pub mod Strands
 pub mod Advance
 pub mod Answers
 pub mod Stands
+pub mod Samples

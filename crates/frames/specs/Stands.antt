@@ -1,19 +1,21 @@
 -- What a strand of numbers stands for: a strand of the definitions, whose instances go by name.
-use Rattle.std.specs.Prelude.{◌≡◌, ℕ, zero, suc, false, List, [], ◌∷◌, map, slice_get}
-use Rattle.program_tree.specs.Plain.{Name, Body, end, step, Proc}
+use Rattle.std.specs.Prelude.{◌≡◌, ℕ, zero, suc, true, false, List, [], ◌∷◌, Option, Some, None, map, slice_get}
+use Rattle.program_tree.specs.Plain.{Body, end, step, Proc}
 use Rattle.program_tree.specs.View.{tree}
 use Rattle.monoid_laws.specs.Worth.{number}
 use Rattle.meaning.specs.Tables.{Tables}
-use Rattle.meaning.specs.Outcome.{Place, Site, Fault as NamedFault}
+use Rattle.meaning.specs.Outcome.{Place, Fault as NamedFault}
 use Rattle.meaning.specs.Trail.{child_of}
-use Rattle.meaning.specs.Statements.{found}
-use Rattle.meaning.specs.SmallStep.{slot, root, Frame, Todo, blocks, Child, Phase as NamedPhase, entering, running, spawning, returning, leaving, broken, Parent, Strand, Continuation}
-use Rattle.meaning.specs.OneStrand.{advanced, inlined, first_strand}
+use Rattle.meaning.specs.Statements.{found, proc_of, fresh}
+use Rattle.meaning.specs.SmallStep.{slot, root, Frame, Todo, blocks, Child, instance, half, Phase as NamedPhase, entering, running, spawning, returning, leaving, broken, Parent, Pause, at_spawn, at_sync, returned, faulted, paused as paused_step, Strand, Continuation}
+use Rattle.meaning.specs.OneStrand.{step_of, advanced, first_strand}
 use Rattle.checked_program.specs.Checked.{PlainChecked}
 use Rattle.checked_program.specs.Linked.{procedures}
 use Rattle.frames.specs.declared.answer.Fault.{Fault}
+use Rattle.frames.specs.declared.answer.Paused.{Paused}
+use Rattle.frames.specs.declared.answer.Paused.TheVariants as paused
 use Rattle.frames.specs.declared.answer.Phase.{Phase}
-use Rattle.frames.specs.declared.answer.Phase.TheVariants.{Running, AtSpawn, Returning, Leaving, Faulted}
+use Rattle.frames.specs.declared.answer.Phase.TheVariants.{Entering, Running, AtEnd, AtSpawn, Returning, Leaving, Faulted}
 use Rattle.frames.specs.Activations.{PlainActivation, PlainTask}
 use Rattle.frames.specs.Strands.{PlainStrand}
 
@@ -58,23 +60,65 @@ module _ (program : PlainChecked) where
   abbrev pub named_fault : Fault → NamedFault
   named_fault f = record { kind = f.kind; site = record { procedure = (procedure_at f.procedure).called; statement = f.statement } }
 
-  -- a strand at a spawn stands for that with the child entered as a call
-  abbrev pub phase_of : PlainActivation → Phase → NamedPhase
-  phase_of top Running = running (todo_of top)
-  phase_of top AtSpawn = running (todo_of top)
-  phase_of top (Returning v) = returning v
-  phase_of top (Leaving v) = leaving v
-  phase_of top (Faulted f) = broken (named_fault f)
+  -- the instance at a spawn, whose next child is the one that stands over it
+  abbrev pub spawner_of : Place → PlainActivation → Frame
+  spawner_of name a = record {
+    left = a.left;
+    instance = name;
+    next = a.children;
+    here = (procedure_at a.procedure).called;
+    env = map slot a.slots;
+    recorded = false;
+  }
 
-  -- the strand whose lowest instance has that name
-  abbrev pub stands : Place → PlainStrand → Strand
-  stands base s = record {
+  abbrev pub phase_of : Child → PlainActivation → Phase → NamedPhase
+  phase_of child top Entering = entering child
+  phase_of child top Running = running (todo_of top)
+  phase_of child top AtEnd = running (blocks [])
+  phase_of child top AtSpawn = spawning top.left None child (todo_of top)
+  phase_of child top (Returning v) = returning v
+  phase_of child top (Leaving v) = leaving v
+  phase_of child top (Faulted f) = broken (named_fault f)
+
+  abbrev pub stands_at : Place → Child → Phase → List PlainActivation → PlainStrand → Strand
+  stands_at base child AtSpawn (parent ∷ below) s = record {
     start = root;
     worth = map number s.totals;
-    frame = frame_of (name_over base s.below) s.top;
-    phase = phase_of s.top s.phase;
-    under = parents base s.below;
+    frame = spawner_of (name_over base below) parent;
+    phase = spawning s.top.left parent.waiting child (todo_of parent);
+    under = parents base below;
   }
+  stands_at base child ph below s = record {
+    start = root;
+    worth = map number s.totals;
+    frame = frame_of (name_over base below) s.top;
+    phase = phase_of child s.top ph;
+    under = parents base below;
+  }
+
+  -- the strand whose lowest instance has that name, and whose child to be entered is that one; at a spawn the child's instance is already made, over the one that spawns
+  abbrev pub stands : Place → Child → PlainStrand → Strand
+  stands base child s = stands_at base child s.phase s.below s
+
+  -- an instance is that of the child, before its first statement
+  abbrev pub IsNew : PlainActivation → Child → Type 0
+  IsNew a (instance f vs) =
+      (proc_of (tree program.program) f ≡ procedure_at a.procedure)
+      × (a.next ≡ 0)
+      × (a.children ≡ 0)
+      × (a.slots ≡ fresh (procedure_at a.procedure).names vs)
+  IsNew a (half k job count i) = ⊥
+
+  -- the child is the one that is to be entered, where there is one
+  abbrev pub Fits : Phase → List PlainActivation → PlainActivation → Child → Type 0
+  Fits Entering below top child = IsNew top child
+  Fits AtSpawn [] top child = ⊥
+  Fits AtSpawn (parent ∷ below) top child = (parent.spawned ≡ true) × IsNew top child
+  Fits Running below top child = Unit {0}
+  Fits AtEnd below top child = Unit {0}
+  Fits (Returning v) below top child = Unit {0}
+  Fits (Leaving v) below top child = Unit {0}
+  Fits (Faulted f) below top child = Unit {0}
 
   -- the continuation whose lowest instance has that name
   abbrev pub continuation_of : Place → PlainTask → Continuation
@@ -85,22 +129,37 @@ module _ (program : PlainChecked) where
     under = parents base t.below;
   }
 
-  module _ (tables : Tables) where
-    -- what follows at once: a body of which nothing is left returns 0, and an instance not yet entered is entered, a spawned one as a call
-    abbrev pub settled_at : NamedPhase → Strand → Strand
-    settled_at (entering child) s = advanced (tree program.program) tables s
-    settled_at (running (blocks [])) s = advanced (tree program.program) tables s
-    settled_at (spawning d x child todo) s = advanced (tree program.program) tables (inlined (tree program.program) s d x child todo)
-    settled_at _ s = s
+-- the strand of numbers, whose lowest instance has that name, stands for that strand of the definitions
+pub record StandsFor (program : PlainChecked) (base : Place) (s : PlainStrand) (x : Strand) : Type 0 where
+  pub child : Child
+  pub fits : Fits program s.phase s.below s.top child
+  pub is : x ≡ stands program base child s
 
-    abbrev pub settled : Strand → Strand
-    settled s = settled_at s.phase s
-
--- the second stands for the small step of what the first stands for, and for what follows at once
+-- what the second stands for is the small step of what the first stands for
 abbrev pub IsSmallStep : PlainChecked → PlainStrand → PlainStrand → Type 0
 IsSmallStep program s t =
-    (tables : Tables) (base : Place) → stands program base t ≡ settled program tables (advanced (tree program.program) tables (stands program base s))
+    (tables : Tables) (base : Place) (x : Strand) → StandsFor program base s x → StandsFor program base t (advanced (tree program.program) tables x)
 
--- the strand stands for that of a run's beginning, and for what follows at once
+-- how the definitions name a point
+abbrev pub named_pause : Paused → Option Pause
+named_pause paused.Working = None
+named_pause paused.AtSpawn = Some at_spawn
+named_pause paused.AtSync = Some at_sync
+named_pause paused.Returned = Some returned
+named_pause paused.Finished = Some returned
+named_pause paused.Faulted = Some faulted
+
+abbrev pub IsPauseBy : PlainChecked → Option Pause → Tables → Strand → Type 0
+IsPauseBy program None tables x = Unit {0}
+IsPauseBy program (Some p) tables x = step_of (tree program.program) tables x ≡ paused_step p
+
+abbrev pub IsPauseAs : PlainChecked → Paused → Tables → Strand → Type 0
+IsPauseAs program p tables x = IsPauseBy program (named_pause p) tables x
+
+-- what the strand stands for has no small step at that point
+abbrev pub IsPause : PlainChecked → Paused → PlainStrand → Type 0
+IsPause program p s = (tables : Tables) (base : Place) (x : Strand) → StandsFor program base s x → IsPauseAs program p tables x
+
+-- the strand stands for that of a run's beginning
 abbrev pub IsFirst : PlainChecked → PlainStrand → Type 0
-IsFirst program s = (tables : Tables) → stands program [] s ≡ settled program tables (first_strand (tree program.program))
+IsFirst program s = StandsFor program [] s (first_strand (tree program.program))

@@ -1,8 +1,8 @@
 -- Strands as plain values, by numbers.
-use Rattle.std.specs.Prelude.{ℕ, ℤ, ◌<◌, List, length}
+use Rattle.std.specs.Prelude.{ℤ, ◌<◌, List, length}
 use Rattle.frames.specs.Activations.{PlainActivation}
 use Rattle.frames.specs.declared.answer.Phase.{Phase}
-use Rattle.frames.specs.declared.answer.Phase.TheVariants.{Running, AtSpawn, Returning, Leaving, Faulted}
+use Rattle.frames.specs.declared.answer.Phase.TheVariants.{Entering, Running, AtEnd, AtSpawn, Returning, Leaving, Faulted}
 
 -- the topmost instance, those that wait below it with the nearest first, and the reducers' values
 pub record PlainStrand : Type 0 where
@@ -13,7 +13,9 @@ pub record PlainStrand : Type 0 where
 
 -- a strand at a spawn has the child on top of the instance that spawned it
 abbrev pub SpawnHasParent : Phase → List PlainActivation → Type 0
+SpawnHasParent Entering below = Unit {0}
 SpawnHasParent Running below = Unit {0}
+SpawnHasParent AtEnd below = Unit {0}
 SpawnHasParent AtSpawn below = 0 < length below
 SpawnHasParent (Returning v) below = Unit {0}
 SpawnHasParent (Leaving v) below = Unit {0}

@@ -1,5 +1,5 @@
 -- The value of an expression over an instance's slots, and the slots that an instance begins with.
-use Rattle.std.specs.Prelude.{ℕ, ℤ, pos, ◌-◌, List, [], ◌∷◌, ◌++◌, map, replicate, length, take, Option, Some, None, slice_get}
+use Rattle.std.specs.Prelude.{ℕ, ℤ, pos, ◌-◌, List, ◌++◌, map, replicate, length, take, Option, Some, None, slice_get}
 use Rattle.std.specs.Int.{int_wrapping_add, int_wrapping_sub, int_wrapping_mul, int_wrapping_neg}
 use Rattle.std.specs.Int.Width.{w64}
 use Rattle.checked_program.specs.declared.code.Arithmetic.{Arithmetic}

@@ -9,11 +9,13 @@ pub struct Fault {
     pub statement: u32,
 }
 
-/// What a strand's topmost instance does next: its next statement, the child that it has spawned, its implicit sync,
-/// its leaving, or nothing after a fault.
+/// What a strand's topmost instance does next: it is entered, does its next statement, is at its body's end, has spawned
+/// a child, does its implicit sync, leaves, or does nothing after a fault.
 #[derive(Clone, Copy, Debug, PartialEq, Eq)]
 pub enum Phase {
+    Entering,
     Running,
+    AtEnd,
     AtSpawn,
     Returning(i64),
     Leaving(i64),

@@ -5,4 +5,6 @@ pub mod activation;
 pub mod answer;
 pub mod strand;
 pub mod task;
+#[cfg(test)]
+mod tests;
 mod value;

@@ -3,7 +3,7 @@ ghost use Rattle.std.specs.Prelude.{◌≡◌, ◌+◌, ◌<◌, ◌^◌, IfOk, 
 ghost use Rattle.frames.specs.Values.{value_of};
 ghost use Rattle.frames.specs.Activations.{bound, passed};
 ghost use Rattle.frames.specs.Advance.{added, updated, is_spawn, entered, faulted, performed, gone, left_to, advanced, pause_of, returned_of, resumed, first_of};
-ghost use Rattle.frames.specs.Stands.{IsFirst, IsSmallStep};
+ghost use Rattle.frames.specs.Stands.{IsFirst, IsPause, IsSmallStep};
 ghost use Rattle.frames.specs.Answers.{ending_of, IsAnswer};
 
 use crate::activation::Activation;
@@ -43,7 +43,7 @@ impl Model for Strand {
 }
 
 impl Strand {
-    /// The strand of a run's beginning, in which `main` has been entered; no memory is the only error.
+    /// The strand of a run's beginning, in which `main` is to be entered; no memory is the only error.
     pub fn first(alloc: Global, program: &Checked) -> Result<Strand, AllocError>
         ensures first { IfOk result (λ strand. strand ≡ first_of program.now) }
         ensures stands { IfOk result (λ strand. IsFirst program.now strand) }
@@ -53,7 +53,7 @@ impl Strand {
         Ok(strand)
     }
 
-    /// The strand that has entered `main`.
+    /// The strand that is to enter `main`.
     fn of_main(alloc: Global, program: &Checked) -> Result<Strand, AllocError>
         ensures first { IfOk result (λ strand. strand ≡ first_of program.now) }
     {
@@ -63,7 +63,7 @@ impl Strand {
         Ok(Strand {
             top: Activation::new(program.main(), slots, LEVELS_BELOW_MAIN),
             below: Vec::new(alloc),
-            phase: Phase::Running,
+            phase: Phase::Entering,
             totals,
         })
     }
@@ -81,7 +81,9 @@ impl Strand {
         ensures pause { result ≡ pause_of self.now }
     {
         match self.phase {
-            Phase::Running | Phase::Returning(_) => Paused::Working,
+            Phase::Entering | Phase::Running | Phase::AtEnd | Phase::Returning(_) => {
+                Paused::Working
+            }
             Phase::AtSpawn => Paused::AtSpawn,
             Phase::Faulted(_) => Paused::Faulted,
             Phase::Leaving(_) if !self.below.is_empty() => Paused::Working,
@@ -96,6 +98,7 @@ impl Strand {
         ensures pause { IfOk result (λ paused. paused ≡ pause_of self.old) }
         ensures advanced { OnOk result (self.new ≡ advanced program.now self.old) }
         ensures small_step { IfOk result (λ paused. paused ≡ Paused.Working → IsSmallStep program.now self.old self.new) }
+        ensures no_step { IfOk result (λ paused. IsPause program.now paused self.old) }
         ensures refused { OnErr result (self.old.phase ≡ Phase.Running) }
         ensures unchanged { OnErr result (self.new ≡ self.old) }
     {
@@ -112,7 +115,9 @@ impl Strand {
         ensures unchanged { OnErr result (self.new ≡ self.old) }
     {
         match self.phase {
+            Phase::Entering => self.phase = Phase::Running,
             Phase::Running => self.go(alloc, program)?,
+            Phase::AtEnd => self.phase = Phase::Returning(0),
             Phase::Returning(v) => self.phase = Phase::Leaving(v),
             Phase::Leaving(v) => self.leave(v),
             Phase::AtSpawn | Phase::Faulted(_) => {}
@@ -120,14 +125,14 @@ impl Strand {
         Ok(())
     }
 
-    /// The topmost instance's next statement, or its return of 0 at the body's end.
+    /// The topmost instance's next statement, or its body's end.
     fn go(&mut self, alloc: Global, program: &Checked) -> Result<(), AllocError>
         ensures gone { OnOk result (self.new ≡ gone program.now self.old) }
         ensures unchanged { OnErr result (self.new ≡ self.old) }
     {
         match program.instruction(self.top.procedure(), self.top.next()) {
             None => {
-                self.phase = Phase::Returning(0);
+                self.phase = Phase::AtEnd;
                 Ok(())
             }
             Some(instruction) => self.perform(alloc, program, instruction),
@@ -149,66 +154,53 @@ impl Strand {
             Operation::Bind {
                 name,
                 value: expression,
-            } => {
-                let v = value(expression, self.top.slots());
-                self.bind(*name, v);
-                Ok(())
-            }
+            } => self.bind(*name, expression),
             Operation::Enter {
                 way,
                 name,
                 procedure,
                 arguments,
             } => {
-                if self.top.left() == 0 {
-                    self.fault(instruction.number);
-                    return Ok(());
+                let arguments = arguments.as_slice();
+                if self.top.left() > 0 {
+                    return self.enter(alloc, program, *way, *name, *procedure, arguments);
                 }
-                self.enter(
-                    alloc,
-                    program,
-                    *way,
-                    *name,
-                    *procedure,
-                    arguments.as_slice(),
-                )
+                self.fault(instruction.number);
             }
-            Operation::Sync => {
-                self.top.pass();
-                Ok(())
-            }
+            Operation::Sync => self.top.pass(),
             Operation::Update {
                 reducer,
                 value: expression,
-            } => {
-                let v = value(expression, self.top.slots());
-                self.update(program.reducers(), *reducer, v);
-                Ok(())
-            }
-            Operation::Return(expression) => {
-                let v = value(expression, self.top.slots());
-                self.phase = Phase::Returning(v);
-                Ok(())
-            }
+            } => self.update(program.reducers(), *reducer, expression),
+            Operation::Return(expression) => self.give(expression),
         }
+        Ok(())
     }
 
-    fn bind(&mut self, name: usize, v: i64)
+    fn bind(&mut self, name: usize, expression: &Expression)
         requires room { self.old.top.next + 1 < 2 ^ 64 }
-        ensures bound { self.new ≡ record self.old { top = passed (bound (Some name) v self.old.top) } }
+        ensures bound { self.new ≡ record self.old { top = passed (bound (Some name) (value_of expression.now self.old.top.slots) self.old.top) } }
     {
+        let v = value(expression, self.top.slots());
         self.top.bind(Some(name), v);
         self.top.pass();
     }
 
-    fn update(&mut self, reducers: usize, reducer: usize, v: i64)
+    fn update(&mut self, reducers: usize, reducer: usize, expression: &Expression)
         requires room { self.old.top.next + 1 < 2 ^ 64 }
-        ensures updated { self.new ≡ record self.old { top = passed self.old.top; totals = updated reducers reducer v self.old.totals } }
+        ensures updated { self.new ≡ record self.old { top = passed self.old.top; totals = updated reducers reducer (value_of expression.now self.old.top.slots) self.old.totals } }
     {
         if reducer < reducers {
+            let v = value(expression, self.top.slots());
             self.add(reducer, v);
         }
         self.top.pass();
+    }
+
+    fn give(&mut self, expression: &Expression)
+        ensures given { self.new ≡ record self.old { phase = Phase.Returning (value_of expression.now self.old.top.slots) } }
+    {
+        self.phase = Phase::Returning(value(expression, self.top.slots()));
     }
 
     fn add(&mut self, reducer: usize, v: i64)
@@ -268,13 +260,13 @@ impl Strand {
         }
     }
 
-    /// At a spawn: takes out the parent and what waits below it, and goes on with the child alone.
+    /// At a spawn: takes out the parent and what waits below it, and goes on with the child alone, which is to be entered.
     pub fn detach(&mut self, alloc: Global) -> Task
         requires at_spawn { self.old.phase ≡ Phase.AtSpawn }
         ensures task { self.old.below ≡ result.top ∷ result.below }
-        ensures child { self.new ≡ record self.old { below = []; phase = Phase.Running } }
+        ensures child { self.new ≡ record self.old { below = []; phase = Phase.Entering } }
     {
-        self.phase = Phase::Running;
+        self.phase = Phase::Entering;
         let mut below = mem::replace(&mut self.below, Vec::new(alloc));
         match below.pop() {
             Some(top) => Task { top, below },
@@ -285,7 +277,7 @@ impl Strand {
     /// Puts a continuation back, so that the child is a call.
     pub fn attach(&mut self, task: Task)
         requires bare { self.old.below ≡ [] }
-        requires running { self.old.phase ≡ Phase.Running }
+        requires entering { self.old.phase ≡ Phase.Entering }
         ensures called { self.new ≡ record self.old { below = task.top ∷ task.below } }
     {
         let Task { top, mut below } = task;
@@ -293,12 +285,12 @@ impl Strand {
         self.below = below;
     }
 
-    /// At a spawn: makes the child a call.
+    /// At a spawn: makes the child a call, which is to be entered.
     pub fn inline(&mut self)
         requires at_spawn { self.old.phase ≡ Phase.AtSpawn }
-        ensures called { self.new ≡ record self.old { phase = Phase.Running } }
+        ensures called { self.new ≡ record self.old { phase = Phase.Entering } }
     {
-        self.phase = Phase::Running;
+        self.phase = Phase::Entering;
     }
 
     /// The value of the spawned child, where it has returned.

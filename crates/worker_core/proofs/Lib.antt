@@ -1,5 +1,7 @@
 pub mod Pushes
-pub mod Settles
+pub mod Moves
+pub mod Agrees
 pub mod Depth
 pub mod Keeps
+pub mod Cores
 pub mod Samples

@@ -1,7 +1,6 @@
 -- At a spawn a push is refused for want of memory alone.
 use Rattle.std.proofs.Common.{◌≡◌, ◌<◌, length, List, [], ◌∷◌, true, subst, sym, arith, refl}
 use Rattle.frames.specs.Activations.{PlainActivation}
-use Rattle.frames.specs.declared.answer.Phase.{Phase}
 use Rattle.frames.specs.declared.answer.Phase.TheVariants.{AtSpawn}
 use Rattle.worker_core.specs.Pieces.{PlainPiece, pushed, pushed_at, pushed_over, RefusedAs}
 use Rattle.worker_core.specs.declared.step.Refusal.TheVariants.{NoMemory}

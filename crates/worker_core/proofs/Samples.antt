@@ -1,9 +1,8 @@
 -- The code of the tests' program is that of its tree.
-use Rattle.std.proofs.Common.{◌≡◌, ℕ, List, [], refl, sym, subst, arith}
+use Rattle.std.proofs.Common.{◌≡◌, List, refl, sym, subst, arith}
 use Rattle.std.specs.Prelude.{All, length, slice_get}
 use Rattle.monoid_laws.specs.declared.Kind.TheVariants as k
 use Rattle.program_tree.specs.declared.Program.{Program}
-use Rattle.program_tree.specs.Plain.{Tree}
 use Rattle.program_tree.specs.View.{tree}
 use Rattle.meaning.specs.Statements.{reducers, procedure_of}
 use Rattle.meaning.specs.Elision.{main}

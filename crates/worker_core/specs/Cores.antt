@@ -1,12 +1,15 @@
 -- The steps of a run of one strand.
-use Rattle.std.specs.Prelude.{◌≡◌, ℕ, ◌+◌, ◌-◌, ◌<◌, nat_lt, Bool, true, false, not, ◌&&◌, if◌then◌else◌, ℤ, List, [], Result, Ok, Err}
+use Rattle.std.specs.Prelude.{◌≡◌, ℕ, ◌+◌, ◌-◌, ◌<◌, nat_lt, Bool, true, false, not, ◌&&◌, if◌then◌else◌, [], Result, Ok, Err}
 use Rattle.checked_program.specs.Checked.{PlainChecked}
 use Rattle.frames.specs.Advance.{first_of}
 use Rattle.frames.specs.Answers.{IsAnswer}
 use Rattle.frames.specs.declared.answer.RunAnswer.{RunAnswer}
 use Rattle.frames.specs.declared.answer.RunAnswer.TheVariants as answer
 use Rattle.worker_core.specs.Kits.{PlainKits}
-use Rattle.worker_core.specs.Pieces.{PlainPiece, stepped, holds, takes_memory, end_of}
+use Rattle.worker_core.specs.Pieces.{PlainPiece, stepped, holds, end_of}
+use Rattle.program_tree.specs.View.{tree}
+use Rattle.meaning.specs.OneStrand.{first_alone}
+use Rattle.worker_core.specs.Stands.{StandsForRun, IsStepOf, IsNoStepOf}
 use Rattle.worker_core.specs.declared.piece.State.TheVariants as state
 use Rattle.worker_core.specs.declared.step.Step.{Step}
 use Rattle.worker_core.specs.declared.step.Step.TheVariants.{Work, Push, Inline, Pop, Stall, Steal, Fold}
@@ -61,6 +64,18 @@ abbrev pub IsCause : Bool → Result PlainCore Refusal → Refusal → Type 0
 IsCause lacks (Err f) e = e ≡ f
 IsCause true (Ok d) e = e ≡ NoMemory
 IsCause false (Ok d) e = ⊥
+
+-- the run after the step stands for the definitions' step of the run before it
+abbrev pub IsStep : Step → PlainCore → PlainCore → Type 0
+IsStep step c d = IsStepOf c.program step c.piece d.piece
+
+-- the worker doesn't hold the strand, or there is no such step by the definitions
+abbrev pub IsNoStep : Step → PlainCore → Type 0
+IsNoStep step c = is_open_to (worker_of step) c ≡ true → IsNoStepOf c.program step c.piece
+
+-- the run stands for the beginning of one
+abbrev pub IsBeginning : PlainCore → Type 0
+IsBeginning c = StandsForRun c.program c.piece (first_alone (tree c.program.program))
 
 -- the beginning of a run: main's strand, held by worker 0, with one kit
 abbrev pub first_core : PlainChecked → PlainKits → ℕ → PlainCore

@@ -1,36 +1,21 @@
 -- What a run of one strand keeps: what is left to do is the whole run's answer, and its instances are in order of depth.
-use Rattle.std.specs.Prelude.{◌≡◌, ℕ, ◌+◌, List, [], ◌∷◌, ◌++◌, length, map}
+use Rattle.std.specs.Prelude.{◌≡◌, ◌+◌, List, [], ◌∷◌, ◌++◌, length, map}
 use Rattle.program_tree.specs.View.{tree}
 use Rattle.monoid_laws.specs.Worth.{number}
 use Rattle.meaning.specs.Tables.{Tables}
 use Rattle.meaning.specs.Elision.{Answer, Finished, Faulted, from_scratch}
-use Rattle.meaning.specs.SmallStep.{Continuation}
-use Rattle.meaning.specs.Rest.{rest}
+use Rattle.meaning.specs.OneStrand.{Alone}
 use Rattle.checked_program.specs.Checked.{PlainChecked}
 use Rattle.checked_program.specs.Linked.{IsLinked}
 use Rattle.frames.specs.declared.answer.Phase.{Phase}
 use Rattle.frames.specs.declared.answer.Phase.TheVariants as phase
 use Rattle.frames.specs.declared.answer.RunAnswer.{RunAnswer}
 use Rattle.frames.specs.declared.answer.RunAnswer.TheVariants as answer
-use Rattle.frames.specs.Activations.{PlainActivation, PlainTask}
-use Rattle.frames.specs.Strands.{PlainStrand}
-use Rattle.frames.specs.Stands.{name_over, stands, continuation_of, named_fault}
+use Rattle.frames.specs.Activations.{PlainActivation}
+use Rattle.frames.specs.Stands.{named_fault}
+use Rattle.theory.specs.OneStrand.{rest_of}
 use Rattle.worker_core.specs.Pieces.{PlainPiece}
-
--- the instances of continuations, the newest continuation first
-abbrev pub activations : List PlainTask → List PlainActivation
-activations [] = []
-activations (t ∷ tasks) = t.top ∷ (t.below ++ activations tasks)
-
--- the continuations that a deque stands for
-abbrev pub continuations : PlainChecked → List PlainTask → List Continuation
-continuations program [] = []
-continuations program (t ∷ tasks) = continuation_of program (name_over [] (activations tasks)) t ∷ continuations program tasks
-
--- what is left to do of a strand and its deque
-abbrev pub left_of : PlainChecked → Tables → PlainPiece → Answer
-left_of program tables p =
-    rest (tree program.program) tables (stands program (name_over [] (activations p.deque)) p.strand) (continuations program p.deque)
+use Rattle.worker_core.specs.Stands.{activations, StandsForRun}
 
 -- each instance is one deeper than the next, and the last is at depth 1
 abbrev pub Depths : List PlainActivation → Type 0
@@ -38,7 +23,9 @@ Depths [] = Unit {0}
 Depths (a ∷ rest) = (a.left + length rest ≡ 63) × Depths rest
 
 abbrev pub DepthsAt : Phase → List PlainActivation → Type 0
+DepthsAt phase.Entering all = Depths all
 DepthsAt phase.Running all = Depths all
+DepthsAt phase.AtEnd all = Depths all
 DepthsAt phase.AtSpawn all = Depths all
 DepthsAt (phase.Returning v) all = Depths all
 DepthsAt (phase.Leaving v) all = Depths all
@@ -48,9 +35,15 @@ DepthsAt (phase.Faulted f) all = Unit {0}
 abbrev pub InDepth : PlainPiece → Type 0
 InDepth p = DepthsAt p.strand.phase (p.strand.top ∷ (p.strand.below ++ activations p.deque))
 
+-- it stands for a run of which as much is left to do as the elision from scratch does
+pub record IsGoing (program : PlainChecked) (tables : Tables) (p : PlainPiece) : Type 0 where
+  pub run : Alone
+  pub stands : StandsForRun program p run
+  pub left : rest_of (tree program.program) tables run ≡ from_scratch (tree program.program) tables
+
 pub record IsRight (program : PlainChecked) (p : PlainPiece) : Type 0 where
   pub linked : IsLinked program
-  pub left : (tables : Tables) → left_of program tables p ≡ from_scratch (tree program.program) tables
+  pub going : (tables : Tables) → IsGoing program tables p
   pub depths : InDepth p
 
 -- the answer that the elision gives, unless the run has not come to its end or has failed

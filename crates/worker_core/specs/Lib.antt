@@ -1,5 +1,6 @@
 pub mod Kits
 pub mod Pieces
+pub mod Stands
 pub mod Keeps
 pub mod Cores
 pub mod Samples

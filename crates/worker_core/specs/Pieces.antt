@@ -6,7 +6,7 @@ use Rattle.frames.specs.Strands.{PlainStrand}
 use Rattle.frames.specs.Advance.{advanced, pause_of, returned_of, resumed}
 use Rattle.frames.specs.Answers.{Ending, underway, ending_of}
 use Rattle.frames.specs.declared.answer.Phase.{Phase}
-use Rattle.frames.specs.declared.answer.Phase.TheVariants.{Running, AtSpawn, Returning, Leaving, Faulted}
+use Rattle.frames.specs.declared.answer.Phase.TheVariants.{Entering, Running, AtEnd, AtSpawn, Returning, Leaving, Faulted}
 use Rattle.frames.specs.declared.answer.Paused.{Paused}
 use Rattle.frames.specs.declared.answer.Paused.TheVariants as paused
 use Rattle.worker_core.specs.declared.piece.State.{State}
@@ -38,13 +38,15 @@ abbrev pub pushed_over : List PlainActivation → PlainPiece → Result PlainPie
 pushed_over [] p = Err NotThere
 pushed_over (parent ∷ below) p =
     Ok (record p {
-      strand = record p.strand { below = []; phase = Running };
+      strand = record p.strand { below = []; phase = Entering };
       deque = record { top = parent; below = below } ∷ p.deque;
     })
 
 abbrev pub pushed_at : Phase → PlainPiece → Result PlainPiece Refusal
 pushed_at AtSpawn p = pushed_over p.strand.below p
+pushed_at Entering p = Err NotThere
 pushed_at Running p = Err NotThere
+pushed_at AtEnd p = Err NotThere
 pushed_at (Returning v) p = Err NotThere
 pushed_at (Leaving v) p = Err NotThere
 pushed_at (Faulted f) p = Err NotThere
@@ -54,8 +56,10 @@ abbrev pub pushed : PlainPiece → Result PlainPiece Refusal
 pushed p = pushed_at p.strand.phase p
 
 abbrev pub inlined_at : Phase → PlainPiece → Result PlainPiece Refusal
-inlined_at AtSpawn p = Ok (record p { strand = record p.strand { phase = Running } })
+inlined_at AtSpawn p = Ok (record p { strand = record p.strand { phase = Entering } })
+inlined_at Entering p = Err NotThere
 inlined_at Running p = Err NotThere
+inlined_at AtEnd p = Err NotThere
 inlined_at (Returning v) p = Err NotThere
 inlined_at (Leaving v) p = Err NotThere
 inlined_at (Faulted f) p = Err NotThere

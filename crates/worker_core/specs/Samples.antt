@@ -1,5 +1,5 @@
 -- The program of the tests: its main spawns a procedure that does nothing.
-use Rattle.std.specs.Prelude.{false, ℕ, List, [], ◌∷◌, None}
+use Rattle.std.specs.Prelude.{false, List, [], ◌∷◌, None}
 use Rattle.program_tree.specs.Plain.{Name, enter, end, step, Proc, procedure, Tree}
 use Rattle.program_tree.specs.declared.Way.TheVariants.{Spawn}
 use Rattle.meaning.specs.Elision.{main}

@@ -1,11 +1,11 @@
 // A run by steps.
-ghost use Rattle.std.specs.Prelude.{◌≡◌, Ok, IfOk, IfErr, OnErr, OnOk};
+ghost use Rattle.std.specs.Prelude.{◌≡◌, ◌⊎◌, ◌+◌, Ok, IfOk, IfErr, OnErr, OnOk};
 ghost use Rattle.worker_core.specs.Pieces.{takes_memory};
 ghost use Rattle.program_tree.specs.View.{tree};
 ghost use Rattle.meaning.specs.Tables.{Tables};
 ghost use Rattle.meaning.specs.Elision.{from_scratch};
 ghost use Rattle.worker_core.specs.Keeps.{IsElision};
-ghost use Rattle.worker_core.specs.Cores.{is_open_to, taken, failed_by, is_failure, IsCause, first_core, CannotStart, IsEnd, EndsRun, given_back};
+ghost use Rattle.worker_core.specs.Cores.{is_open_to, taken, failed_by, is_failure, IsCause, IsStep, IsNoStep, IsBeginning, first_core, CannotStart, IsEnd, EndsRun, given_back};
 
 use crate::kits::Kits;
 use crate::piece::Piece;
@@ -53,6 +53,7 @@ impl<'a> Core<'a> {
         workers: usize,
     ) -> Result<Core<'a>, (StartError, Kits)>
         ensures started { IfOk result (λ core. core ≡ first_core program.now kits workers) }
+        ensures beginning { IfOk result (λ core. IsBeginning core) }
         ensures refused { IfErr result (λ e. CannotStart kits e.0) }
         ensures kits { IfErr result (λ e. e.1 ≡ kits) }
     {
@@ -83,12 +84,16 @@ impl<'a> Core<'a> {
         !self.failed && (worker < self.workers && self.piece.is_held_by(worker))
     }
 
-    /// Takes one step, or refuses it: no memory where the step takes some, else by its cause. A refusal changes nothing,
-    /// but where memory is refused for work the run has failed.
+    /// Takes one step, which is that of the definitions, or refuses it: no memory where the step takes some, else by its
+    /// cause, and then the definitions have no such step. A refusal changes nothing, but where memory is refused for work
+    /// the run has failed.
     pub fn step(&mut self, alloc: Global, step: Step) -> Result<(), Refusal>
         ensures taken { OnOk result (taken step self.old ≡ Ok self.new) }
+        ensures step { OnOk result (IsStep step self.old self.new) }
+        ensures no_step { IfErr result (λ e. (e ≡ Refusal.NoMemory) ⊎ IsNoStep step self.old) }
         ensures refused { IfErr result (IsCause (takes_memory step) (taken step self.old)) }
         ensures failed { IfErr result (λ e. self.new ≡ failed_by step e self.old) }
+        ensures kits { self.new.kits ≡ self.old.kits }
     {
         if !self.is_open_to(step.worker()) {
             return Err(Refusal::NotThere);
@@ -110,6 +115,9 @@ impl<'a> Core<'a> {
         ensures elision { (tables : Tables) → IsElision self.entry.program (from_scratch (tree self.entry.program.program) tables) result.0 }
         ensures ends { EndsRun self.entry result.0 }
         ensures kits { result.1 ≡ given_back self.entry.kits }
+        ensures free { result.1.free ≡ self.entry.kits.free + 1 }
+        ensures total { result.1.total ≡ self.entry.kits.total }
+        ensures all_free { self.entry.kits.free + 1 ≡ self.entry.kits.total → result.1.free ≡ result.1.total }
     {
         let Core {
             piece,

@@ -1,8 +1,8 @@
-use Rattle.std.proofs.Common.{rules, ◌≡◌, ◌+◌, ◌<◌, Some, ℤ, length, arith, slice_get, slice_set, FitsSigned, ◌+ℤ◌}
+use Rattle.std.proofs.Common.{rules, ◌≡◌, ◌<◌, length, slice_set, FitsSigned, ◌+ℤ◌}
 use Rattle.std.specs.Int.{w64}
 use Rattle.std.proofs.lemmas.Int.{to_z-of_z}
 use Rattle.monoid_laws.specs.Kinds.{wrap}
-use Rattle.frames.specs.Advance.{added, updated_at}
+use Rattle.frames.specs.Advance.{added}
 use Rattle.frames.proofs.Totals.{added_is}
 use Rattle.frames.proofs.strand.Strand.add.Goals as goal
 

@@ -3,7 +3,6 @@ use Rattle.program_tree.specs.View.{tree}
 use Rattle.meaning.specs.Tables.{Tables}
 use Rattle.meaning.specs.Elision.{from_scratch}
 use Rattle.worker_core.specs.Keeps.{IsElision}
-use Rattle.worker_core.specs.Cores.{PlainCore}
 use Rattle.worker_core.proofs.Keeps.{IsElision-end}
 use Rattle.worker_core.proofs.run.Core.finish.Goals as goal
 
