@@ -1,1 +1,6 @@
 pub mod Document
+pub mod Edited
+pub mod Faults
+pub mod Names
+pub mod Rows
+pub mod Shapes

@@ -1,0 +1,66 @@
+-- Tables that are edited, and what is read of them by number.
+use Rattle.std.specs.Prelude.{◌≡◌, ℕ, zero, suc, ℤ, pos, Bool, List, [], ◌∷◌, Option, Result, Err, IsOk, map}
+use Rattle.program_tree.specs.Plain.{Name}
+use Rattle.meaning.specs.Records.{Revised}
+use Rattle.meaning.specs.Tables.{Tables, Listed, row_of, at_column, is_there, above_all}
+use Rattle.meaning.specs.Edits.{row_put, row_gone, with_rows, table_changed, Standing, EditRefusal, UnknownTable, WrongColumns, RowRange, NoRow, Exhausted}
+use Rattle.input_tables.specs.Rows.{Row}
+use Rattle.input_tables.specs.declared.refusal.EditError.{EditError}
+use Rattle.input_tables.specs.declared.refusal.EditError.TheVariants as e
+
+-- tables, and how many of their edits were accepted
+pub record Edited : Type 0 where
+  pub tables : Tables
+  pub edits : ℕ
+
+-- the tables beside a program
+abbrev pub beside : Revised → Edited → Standing
+beside program now = record { program = program; tables = now.tables; edits = now.edits }
+
+abbrev pub names_of : Tables → List Name
+names_of ts = map (λ t. t.called) ts
+
+-- the rows of a table, and its columns, by the table's number
+abbrev pub rows_at : Tables → ℕ → List Row
+rows_at [] n = []
+rows_at (t ∷ ts) zero = t.rows
+rows_at (t ∷ ts) (suc n) = rows_at ts n
+
+abbrev pub columns_at : Tables → ℕ → List Name
+columns_at [] n = []
+columns_at (t ∷ ts) zero = t.columns
+columns_at (t ∷ ts) (suc n) = columns_at ts n
+
+abbrev pub cell_at : Tables → ℕ → ℤ → ℕ → Option ℤ
+cell_at ts table row column = at_column (row_of (rows_at ts table) row) column
+
+abbrev pub has_at : Tables → ℕ → ℤ → Bool
+has_at ts table row = is_there (row_of (rows_at ts table) row)
+
+abbrev pub limit_at : Tables → ℕ → ℤ
+limit_at ts table = above_all (pos 0) (rows_at ts table)
+
+-- the table of a number changed
+abbrev pub changed_at : (Listed → Listed) → Tables → ℕ → Tables
+changed_at f [] n = []
+changed_at f (t ∷ ts) zero = f t ∷ ts
+changed_at f (t ∷ ts) (suc n) = t ∷ changed_at f ts n
+
+abbrev pub row_into : ℤ → List ℤ → Listed → Listed
+row_into row vs t = with_rows t (row_put row vs t.rows)
+
+abbrev pub row_out_of : ℤ → Listed → Listed
+row_out_of row t = with_rows t (row_gone row t.rows)
+
+-- one more edit was accepted, which changed the table of a name
+abbrev pub edited : (Listed → Listed) → Edited → Name → Edited
+edited f now t = record { tables = table_changed f now.tables t; edits = suc now.edits }
+
+-- the error is that of this answer; memory is refused only where the edit would be accepted
+abbrev pub IsEditCause : Result Standing EditRefusal → EditError → Type 0
+IsEditCause answer e.NoMemory = IsOk answer
+IsEditCause answer e.UnknownTable = answer ≡ Err UnknownTable
+IsEditCause answer e.Columns = answer ≡ Err WrongColumns
+IsEditCause answer e.RowRange = answer ≡ Err RowRange
+IsEditCause answer e.NoRow = answer ≡ Err NoRow
+IsEditCause answer e.Exhausted = answer ≡ Err Exhausted

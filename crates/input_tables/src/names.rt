@@ -1,0 +1,84 @@
+// The names of tables and columns.
+
+ghost use Rattle.std.specs.Prelude.{◌≡◌, ◌≤◌, length, map, string_bytes};
+ghost use Rattle.meaning.specs.Tables.{place_of};
+ghost use Rattle.input_tables.specs.Names.{is_lower, begins_name, is_name_byte, are_name_bytes, is_keyword, is_name};
+
+fn is_lower(byte: u8) -> bool
+    ensures { result ≡ is_lower byte }
+{
+    97 <= byte && byte <= 122
+}
+
+fn begins_name(bytes: &[u8]) -> bool
+    ensures { result ≡ begins_name bytes.now }
+{
+    match bytes.first() {
+        Some(first) => is_lower(*first),
+        None => false,
+    }
+}
+
+fn is_name_byte(byte: u8) -> bool
+    ensures { result ≡ is_name_byte byte }
+{
+    is_lower(byte) || (48 <= byte && byte <= 57) || byte == b'_'
+}
+
+fn are_name_bytes(bytes: &[u8]) -> bool
+    ensures { result ≡ are_name_bytes bytes.now }
+{
+    for byte in bytes {
+        if !is_name_byte(*byte) {
+            return false;
+        }
+    }
+    true
+}
+
+#[tactic(auto, unfolding(crate::specs::Names::is_keyword))]
+fn is_keyword(text: &str) -> bool
+    ensures { result ≡ is_keyword text.now }
+{
+    match text {
+        "reducer" => true,
+        "memo" => true,
+        "proc" => true,
+        "call" => true,
+        "spawn" => true,
+        "sync" => true,
+        "update" => true,
+        "if" => true,
+        "else" => true,
+        "cilk_for" => true,
+        "in" => true,
+        "grain" => true,
+        "return" => true,
+        "read" => true,
+        "has" => true,
+        "limit" => true,
+        _ => false,
+    }
+}
+
+/// Whether a text has the form of a name in a program: a lower-case letter and then lower-case letters, digits and `_`,
+/// at most 32 bytes, and no keyword.
+pub fn is_name(text: &str) -> bool
+    ensures { result ≡ is_name text.now }
+{
+    let bytes = text.as_bytes();
+    begins_name(bytes) && are_name_bytes(bytes) && bytes.len() <= 32 && !is_keyword(text)
+}
+
+/// The place of a name, or the number of names where it isn't among them.
+pub fn place_of(names: &[String], name: &str) -> usize
+    ensures place { result ≡ place_of (map string_bytes names.now) name.now }
+    ensures within { result ≤ length names.now }
+{
+    for (place, other) in names.iter().enumerate() {
+        if other.as_str() == name {
+            return place;
+        }
+    }
+    names.len()
+}

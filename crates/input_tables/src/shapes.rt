@@ -1,0 +1,156 @@
+// The columns and rows of a table in a document.
+
+ghost use Rattle.std.specs.Prelude.{◌≡◌, [], true, IfOk, IfErr, IfSome, Some, map, string_bytes, option_map, ◌++◌, ◌∷◌, OnOk};
+ghost use Rattle.toml.specs.View.{view, items_view, array_view, table_view};
+ghost use Rattle.meaning.specs.Edits.{in_range};
+ghost use Rattle.input_tables.specs.Shapes.{new_column, columns_from, columns_in, integers_from, number_in, values_in, row_in, row_at, with_row, rows_from, array_at, given};
+ghost use Rattle.input_tables.specs.Faults.{IsFaulty};
+ghost use Rattle.toml.specs.Data.{as_str, as_array};
+
+use crate::names::{is_name, place_of};
+use crate::refusal::Fault;
+use crate::rows::Rows;
+use std::alloc::Global;
+use toml::{Table as Members, Value};
+
+/// The array at a key.
+pub fn array_at<'a>(members: &'a Members, key: &str) -> Option<&'a Vec<Value>>
+    ensures { option_map (λ items. array_view items.now) result ≡ array_at key.now (table_view members.now) }
+{
+    match members.get(key) {
+        Some(value) => value.as_array(),
+        None => None,
+    }
+}
+
+// A name that isn't yet among the columns.
+fn new_column(alloc: Global, columns: &[String], item: &Value) -> Result<String, Fault>
+    ensures read { IfOk result (λ column. given (as_str (view item.now)) (new_column (map string_bytes columns.now)) ≡ Some (string_bytes column)) }
+    ensures refused { IfErr result (IsFaulty (given (as_str (view item.now)) (new_column (map string_bytes columns.now)))) }
+{
+    match item.as_str() {
+        Some(name) if is_name(name) && place_of(columns, name) == columns.len() => {
+            Ok(String::from_str(alloc, name)?)
+        }
+        _ => Err(Fault::Shape),
+    }
+}
+
+/// The 1 to 8 columns that an array names.
+pub fn columns_in(alloc: Global, items: &[Value]) -> Result<Vec<String>, Fault>
+    ensures read { IfOk result (λ columns. columns_in (items_view items.now) ≡ Some (map string_bytes columns.items)) }
+    ensures refused { IfErr result (IsFaulty (columns_in (items_view items.now))) }
+{
+    if items.is_empty() || 8 < items.len() {
+        return Err(Fault::Shape);
+    }
+    columns_from(alloc, items)
+}
+
+fn columns_from(alloc: Global, items: &[Value]) -> Result<Vec<String>, Fault>
+    ensures read { IfOk result (λ columns. columns_from [] (items_view items.now) ≡ Some (map string_bytes columns.items)) }
+    ensures refused { IfErr result (IsFaulty (columns_from [] (items_view items.now))) }
+{
+    let mut columns = Vec::with_capacity(alloc, items.len())?;
+    for item in items {
+        let column = new_column(alloc, &columns, item)?;
+        columns.push(column)?;
+    }
+    Ok(columns)
+}
+
+// The number of a row.
+fn number_in(item: &Value) -> Option<i64>
+    ensures read { result ≡ number_in (view item.now) }
+    ensures number { IfSome result (λ number. in_range number ≡ true) }
+{
+    match item.as_integer() {
+        Some(number) if is_row_number(number) => Some(number),
+        _ => None,
+    }
+}
+
+/// Whether a row may have this number.
+pub fn is_row_number(number: i64) -> bool
+    ensures { result ≡ in_range number }
+{
+    0 <= number && number <= 2_147_483_647
+}
+
+// The integers that an array holds.
+fn integers_in(alloc: Global, items: &[Value]) -> Result<Vec<i64>, Fault>
+    ensures read { IfOk result (λ numbers. integers_from [] (items_view items.now) ≡ Some numbers.items) }
+    ensures refused { IfErr result (IsFaulty (integers_from [] (items_view items.now))) }
+{
+    let mut numbers = Vec::with_capacity(alloc, items.len())?;
+    for item in items {
+        match item.as_integer() {
+            Some(number) => numbers.push(number)?,
+            None => return Err(Fault::Shape),
+        }
+    }
+    Ok(numbers)
+}
+
+// One value for each of so many columns.
+fn values_in(alloc: Global, items: &[Value], columns: usize) -> Result<Vec<i64>, Fault>
+    ensures read { IfOk result (λ values. values_in columns (items_view items.now) ≡ Some values.items) }
+    ensures refused { IfErr result (IsFaulty (values_in columns (items_view items.now))) }
+{
+    if items.len() != columns {
+        return Err(Fault::Shape);
+    }
+    integers_in(alloc, items)
+}
+
+// The number of a row and its values.
+fn row_in(alloc: Global, items: &[Value], columns: usize) -> Result<(i64, Vec<i64>), Fault>
+    ensures read { IfOk result (λ row. row_in columns (items_view items.now) ≡ Some (row.0, row.1.items)) }
+    ensures number { IfOk result (λ row. in_range row.0 ≡ true) }
+    ensures refused { IfErr result (IsFaulty (row_in columns (items_view items.now))) }
+{
+    match items.split_first() {
+        Some((first, rest)) => match number_in(first) {
+            Some(number) => Ok((number, values_in(alloc, rest, columns)?)),
+            None => Err(Fault::Shape),
+        },
+        None => Err(Fault::Shape),
+    }
+}
+
+// The row that an item of a table's rows is.
+fn row_at(alloc: Global, item: &Value, columns: usize) -> Result<(i64, Vec<i64>), Fault>
+    ensures read { IfOk result (λ row. row_at columns (view item.now) ≡ Some (row.0, row.1.items)) }
+    ensures number { IfOk result (λ row. in_range row.0 ≡ true) }
+    ensures refused { IfErr result (IsFaulty (row_at columns (view item.now))) }
+{
+    match item.as_array() {
+        Some(items) => row_in(alloc, items, columns),
+        None => Err(Fault::Shape),
+    }
+}
+
+// One more row, whose number is new.
+fn add_row(rows: &mut Rows, number: i64, values: Vec<i64>) -> Result<(), Fault>
+    requires { in_range number ≡ true }
+    ensures read { OnOk result (with_row rows.old (number, values.items) ≡ Some rows.new) }
+    ensures refused { IfErr result (IsFaulty (with_row rows.old (number, values.items))) }
+{
+    if rows.put(number, values)? {
+        return Err(Fault::Shape);
+    }
+    Ok(())
+}
+
+/// The rows that an array holds, each with so many values.
+pub fn rows_in(alloc: Global, items: &[Value], columns: usize) -> Result<Rows, Fault>
+    ensures read { IfOk result (λ rows. rows_from columns [] (items_view items.now) ≡ Some rows) }
+    ensures refused { IfErr result (IsFaulty (rows_from columns [] (items_view items.now))) }
+{
+    let mut rows = Rows::new(alloc);
+    for item in items {
+        let (number, values) = row_at(alloc, item, columns)?;
+        add_row(&mut rows, number, values)?;
+    }
+    Ok(rows)
+}

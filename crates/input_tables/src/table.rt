@@ -1,0 +1,174 @@
+// One table: its name, its columns and its rows.
+
+ghost use Rattle.std.specs.Prelude.{◌≡◌, ◌<◌, pos, IfOk, IfErr, OnOk, OnErr, IfSome, IfNone, Some, map, option_map, length, string_bytes, true};
+ghost use Rattle.std.specs.Str.{bytes_eq};
+ghost use Rattle.toml.specs.View.{view, table_view};
+ghost use Rattle.meaning.specs.Tables.{row_of, at_column, is_there, above_all, place_of};
+ghost use Rattle.meaning.specs.Edits.{with_rows, row_put, row_gone, in_range, table_of};
+ghost use Rattle.input_tables.specs.Edited.{names_of};
+ghost use Rattle.input_tables.specs.Shapes.{table_in, listed_in, with_rows_of};
+ghost use Rattle.input_tables.specs.Faults.{IsFaulty};
+
+use crate::names::{is_name, place_of};
+use crate::refusal::Fault;
+use crate::rows::Rows;
+use crate::shapes::{array_at, columns_in, rows_in};
+use std::alloc::{AllocError, Global};
+use std::marker::Model;
+use toml::{Table as Members, Value};
+
+/// A table: its name, its columns as declared, and its rows.
+#[derive(Drop)]
+pub struct Table {
+    name: String,
+    columns: Vec<String>,
+    rows: Rows,
+}
+
+impl Model for Table {
+    ghost use Rattle.std.specs.Prelude.{map, string_bytes};
+    ghost use Rattle.meaning.specs.Tables.{Listed};
+
+    ghost Value = { Listed };
+
+    ghost view = { λ t. record { called = string_bytes t.name; columns = map string_bytes t.columns.items; rows = t.rows } };
+}
+
+impl Table {
+    /// Whether the table has this name.
+    pub fn is_called(&self, name: &str) -> bool
+        ensures { result ≡ bytes_eq self.now.called name.now }
+    {
+        self.name.as_str() == name
+    }
+
+    /// How many columns the table has.
+    pub fn column_count(&self) -> usize
+        ensures { result ≡ length self.now.columns }
+    {
+        self.columns.len()
+    }
+
+    /// The number of the column of a name.
+    pub fn column(&self, name: &str) -> Option<usize>
+        ensures found { IfSome result (λ number. number ≡ place_of self.now.columns name.now) }
+        ensures within { IfSome result (λ number. number < length self.now.columns) }
+        ensures absent { IfNone result (place_of self.now.columns name.now ≡ length self.now.columns) }
+    {
+        let number = place_of(&self.columns, name);
+        if number < self.columns.len() {
+            Some(number)
+        } else {
+            None
+        }
+    }
+
+    /// The value of a row in the column of this number.
+    pub fn cell(&self, row: i64, column: usize) -> Option<i64>
+        ensures { result ≡ at_column (row_of self.now.rows row) column }
+    {
+        match self.rows.get(row) {
+            Some(values) => values.get(column).copied(),
+            None => None,
+        }
+    }
+
+    /// Whether there is a row of this number.
+    pub fn has(&self, row: i64) -> bool
+        ensures { result ≡ is_there (row_of self.now.rows row) }
+    {
+        self.rows.has(row)
+    }
+
+    /// One more than the greatest number of a row, or 0 where there are no rows.
+    pub fn limit(&self) -> i64
+        ensures { result ≡ above_all (pos 0) self.now.rows }
+    {
+        self.rows.limit()
+    }
+
+    /// Puts a row in the place of the one of its number.
+    pub fn put(&mut self, row: i64, values: Vec<i64>) -> Result<(), AllocError>
+        requires { in_range row ≡ true }
+        ensures put { OnOk result (self.new ≡ with_rows self.old (row_put row values.items self.old.rows)) }
+        ensures same { OnErr result (self.new ≡ self.old) }
+    {
+        self.rows.put(row, values)?;
+        Ok(())
+    }
+
+    /// Takes the row of this number out.
+    pub fn delete(&mut self, row: i64)
+        ensures gone { self.new ≡ with_rows self.old (row_gone row self.old.rows) }
+    {
+        self.rows.delete(row);
+    }
+}
+
+/// The table of a name, and its place.
+pub fn find<'a>(tables: &'a [Table], name: &str) -> Option<(usize, &'a Table)>
+    ensures found { option_map (λ p. p.1.now) result ≡ table_of tables.now name.now }
+    ensures number { IfSome result (λ p. p.0 ≡ place_of (names_of tables.now) name.now) }
+    ensures within { IfSome result (λ p. p.0 < length tables.now) }
+    ensures absent { IfNone result (place_of (names_of tables.now) name.now ≡ length tables.now) }
+{
+    for (number, table) in tables.iter().enumerate() {
+        if table.is_called(name) {
+            return Some((number, table));
+        }
+    }
+    None
+}
+
+/// The table of a key and its value in a document; a fault where it isn't of the shape, or for want of memory.
+pub fn table_in(alloc: Global, name: &str, value: &Value) -> Result<Table, Fault>
+    ensures read { IfOk result (λ table. table_in name.now (view value.now) ≡ Some table) }
+    ensures refused { IfErr result (IsFaulty (table_in name.now (view value.now))) }
+{
+    if !is_name(name) {
+        return Err(Fault::Shape);
+    }
+    match value.as_table() {
+        Some(members) => listed_in(alloc, name, members),
+        None => Err(Fault::Shape),
+    }
+}
+
+fn listed_in(alloc: Global, name: &str, members: &Members) -> Result<Table, Fault>
+    ensures read { IfOk result (λ table. listed_in name.now (table_view members.now) ≡ Some table) }
+    ensures refused { IfErr result (IsFaulty (listed_in name.now (table_view members.now))) }
+{
+    if members.len() != 2 {
+        return Err(Fault::Shape);
+    }
+    match array_at(members, "columns") {
+        Some(items) => {
+            let columns = columns_in(alloc, items)?;
+            with_rows_of(alloc, name, members, columns)
+        }
+        None => Err(Fault::Shape),
+    }
+}
+
+fn with_rows_of(
+    alloc: Global,
+    name: &str,
+    members: &Members,
+    columns: Vec<String>,
+) -> Result<Table, Fault>
+    ensures read { IfOk result (λ table. with_rows_of name.now (table_view members.now) (map string_bytes columns.items) ≡ Some table) }
+    ensures refused { IfErr result (IsFaulty (with_rows_of name.now (table_view members.now) (map string_bytes columns.items))) }
+{
+    match array_at(members, "rows") {
+        Some(items) => {
+            let rows = rows_in(alloc, items, columns.len())?;
+            let name = String::from_str(alloc, name)?;
+            Ok(Table {
+                name,
+                columns,
+                rows,
+            })
+        }
+        None => Err(Fault::Shape),
+    }
+}

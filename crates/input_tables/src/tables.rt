@@ -1,0 +1,283 @@
+// Tables that are read from a document and edited.
+
+ghost use Rattle.std.specs.Prelude.{◌≡◌, ℕ, suc, ℤ, List, true, ◌<◌, length, IfOk, IfErr, OnOk, OnErr, IfSome, IfNone, Some, Ok, [], option_map, option_copied, slice_get};
+ghost use Rattle.program_tree.specs.Plain.{Name};
+ghost use Rattle.meaning.specs.Tables.{place_of, columns_of, cell_of, has_row, limit_of};
+ghost use Rattle.input_tables.specs.Document.{reading, HasCause};
+ghost use Rattle.meaning.specs.Records.{Revised};
+ghost use Rattle.meaning.specs.Edits.{after_put, after_delete, in_range, table_of};
+ghost use Rattle.input_tables.specs.Edited.{beside, IsEditCause, edited, changed_at, row_into, row_out_of, names_of, columns_at, cell_at, has_at, limit_at};
+
+use crate::document::tables_in;
+use crate::refusal::{EditError, TablesError};
+use crate::shapes::is_row_number;
+use crate::table::{Table, find};
+use std::alloc::{AllocError, Global};
+use std::marker::Model;
+
+/// Tables in byte order of their names, and how many of their edits were accepted.
+#[derive(Drop)]
+pub struct Tables {
+    listed: Vec<Table>,
+    edits: u64,
+}
+
+impl Model for Tables {
+    ghost use Rattle.input_tables.specs.Edited.{Edited};
+
+    ghost Value = { Edited };
+
+    ghost view = { λ t. record { tables = t.listed.items; edits = t.edits } };
+}
+
+impl Tables {
+    /// No tables.
+    pub fn new(alloc: Global) -> Tables
+        ensures tables { result.tables ≡ [] }
+        ensures edits { result.edits ≡ 0 }
+    {
+        unedited(Vec::new(alloc))
+    }
+
+    /// The tables of a document; refused where it isn't TOML, at its 65th table, at its first faulty one, or for want of
+    /// memory.
+    pub fn from_toml(alloc: Global, text: &str) -> Result<Tables, TablesError>
+        ensures read { IfOk result (λ read. reading text.now ≡ Ok read.tables) }
+        ensures edits { IfOk result (λ read. read.edits ≡ 0) }
+        ensures refused { IfErr result (HasCause text.now) }
+    {
+        match toml::table_from_str(alloc, text) {
+            Ok(document) => Ok(unedited(tables_in(alloc, &document)?)),
+            Err(error) if error.is_memory() => Err(TablesError::NoMemory),
+            Err(_) => Err(TablesError::NotToml),
+        }
+    }
+
+    /// How many edits were accepted.
+    pub fn edit_number(&self) -> u64
+        ensures { result ≡ self.now.edits }
+    {
+        self.edits
+    }
+
+    // The table of a number.
+    fn at(&self, number: usize) -> Option<&Table>
+        ensures { option_copied result ≡ slice_get self.now.tables number }
+    {
+        self.listed.get(number)
+    }
+
+    // The table of a name, and its number.
+    fn find(&self, name: &str) -> Option<(usize, &Table)>
+        ensures found { option_map (λ p. p.1.now) result ≡ table_of self.now.tables name.now }
+        ensures number { IfSome result (λ p. p.0 ≡ place_of (names_of self.now.tables) name.now) }
+        ensures within { IfSome result (λ p. p.0 < length self.now.tables) }
+        ensures absent { IfNone result (place_of (names_of self.now.tables) name.now ≡ length self.now.tables) }
+    {
+        find(&self.listed, name)
+    }
+
+    /// The number of the table of a name.
+    pub fn table(&self, name: &str) -> Option<usize>
+        ensures found { IfSome result (λ number. number ≡ place_of (names_of self.now.tables) name.now) }
+        ensures within { IfSome result (λ number. number < length self.now.tables) }
+        ensures absent { IfNone result (place_of (names_of self.now.tables) name.now ≡ length self.now.tables) }
+    {
+        match self.find(name) {
+            Some((number, _)) => Some(number),
+            None => None,
+        }
+    }
+
+    /// The number of the column of a name in the table of a number.
+    pub fn column(&self, table: usize, name: &str) -> Option<usize>
+        ensures found { IfSome result (λ number. number ≡ place_of (columns_at self.now.tables table) name.now) }
+        ensures within { IfSome result (λ number. number < length (columns_at self.now.tables table)) }
+        ensures absent { IfNone result (place_of (columns_at self.now.tables table) name.now ≡ length (columns_at self.now.tables table)) }
+    {
+        match self.at(table) {
+            Some(table) => table.column(name),
+            None => None,
+        }
+    }
+
+    /// The value of a row in a column, by the numbers of the table and the column.
+    pub fn cell(&self, table: usize, row: i64, column: usize) -> Option<i64>
+        ensures numbered { result ≡ cell_at self.now.tables table row column }
+        ensures named { (t c : Name) → table ≡ place_of (names_of self.now.tables) t → column ≡ place_of (columns_of self.now.tables t) c
+            → result ≡ cell_of self.now.tables t row c }
+    {
+        match self.at(table) {
+            Some(table) => table.cell(row, column),
+            None => None,
+        }
+    }
+
+    /// Whether the table of a number has a row.
+    pub fn has(&self, table: usize, row: i64) -> bool
+        ensures numbered { result ≡ has_at self.now.tables table row }
+        ensures named { (t : Name) → table ≡ place_of (names_of self.now.tables) t → result ≡ has_row self.now.tables t row }
+    {
+        match self.at(table) {
+            Some(table) => table.has(row),
+            None => false,
+        }
+    }
+
+    /// One more than the greatest row number of the table of a number, or 0 where it has no rows.
+    pub fn limit(&self, table: usize) -> i64
+        ensures numbered { result ≡ limit_at self.now.tables table }
+        ensures named { (t : Name) → table ≡ place_of (names_of self.now.tables) t → result ≡ limit_of self.now.tables t }
+    {
+        match self.at(table) {
+            Some(table) => table.limit(),
+            None => 0,
+        }
+    }
+
+    /// Puts a row into a table, in the place of the one of its number. Refused by E4, E6, E5, E18, or for want of memory, in
+    /// this order; a refusal changes nothing.
+    pub fn put(
+        &mut self,
+        alloc: Global,
+        table: &str,
+        row: i64,
+        values: &[i64],
+    ) -> Result<(), EditError>
+        ensures put { OnOk result ((program : Revised) → after_put (beside program self.old) table.now row values.now ≡ Ok (beside program self.new)) }
+        ensures refused { IfErr result (λ error. (program : Revised) → IsEditCause (after_put (beside program self.old) table.now row values.now) error) }
+        ensures same { OnErr result (self.new ≡ self.old) }
+    {
+        match self.table_to_put(table, row, values.len()) {
+            Ok(number) => {
+                let values = Vec::from_slice(alloc, values)?;
+                self.put_at(number, row, values)?;
+                Ok(())
+            }
+            Err(error) => Err(error),
+        }
+    }
+
+    /// Takes a row out of a table. Refused by E4, E6, E7, E18, in this order; a refusal changes nothing. It takes no memory.
+    pub fn delete(&mut self, table: &str, row: i64) -> Result<(), EditError>
+        ensures deleted { OnOk result ((program : Revised) → after_delete (beside program self.old) table.now row ≡ Ok (beside program self.new)) }
+        ensures refused { IfErr result (λ error. (program : Revised) → IsEditCause (after_delete (beside program self.old) table.now row) error) }
+        ensures same { OnErr result (self.new ≡ self.old) }
+    {
+        match self.table_to_delete(table, row) {
+            Ok(number) => {
+                self.delete_at(number, row);
+                Ok(())
+            }
+            Err(error) => Err(error),
+        }
+    }
+
+    // The number of the table into which a row of so many values may be put, or why it may not.
+    fn table_to_put(&self, name: &str, row: i64, values: usize) -> Result<usize, EditError>
+        ensures found { IfOk result (λ number. number ≡ place_of (names_of self.now.tables) name.now) }
+        ensures within { IfOk result (λ number. number < length self.now.tables) }
+        ensures range { OnOk result (in_range row ≡ true) }
+        ensures room { OnOk result (self.now.edits < 18446744073709551615) }
+        ensures allowed { OnOk result ((program : Revised) (vs : List ℤ) → length vs ≡ values
+            → after_put (beside program self.now) name.now row vs ≡ Ok (beside program (edited (row_into row vs) self.now name.now))) }
+        ensures refused { IfErr result (λ error. (program : Revised) (vs : List ℤ) → length vs ≡ values → IsEditCause (after_put (beside program self.now) name.now row vs) error) }
+    {
+        match self.find(name) {
+            None => Err(EditError::UnknownTable),
+            Some((number, table)) => {
+                if !is_row_number(row) {
+                    return Err(EditError::RowRange);
+                }
+                if table.column_count() != values {
+                    return Err(EditError::Columns);
+                }
+                if self.edit_number() == u64::MAX {
+                    return Err(EditError::Exhausted);
+                }
+                Ok(number)
+            }
+        }
+    }
+
+    // The number of the table out of which a row may be taken, or why it may not.
+    fn table_to_delete(&self, name: &str, row: i64) -> Result<usize, EditError>
+        ensures found { IfOk result (λ number. number ≡ place_of (names_of self.now.tables) name.now) }
+        ensures within { IfOk result (λ number. number < length self.now.tables) }
+        ensures room { OnOk result (self.now.edits < 18446744073709551615) }
+        ensures allowed { OnOk result ((program : Revised) → after_delete (beside program self.now) name.now row ≡ Ok (beside program (edited (row_out_of row) self.now name.now))) }
+        ensures refused { IfErr result (λ error. (program : Revised) → IsEditCause (after_delete (beside program self.now) name.now row) error) }
+    {
+        match self.find(name) {
+            None => Err(EditError::UnknownTable),
+            Some((number, table)) => {
+                if !is_row_number(row) {
+                    return Err(EditError::RowRange);
+                }
+                if !table.has(row) {
+                    return Err(EditError::NoRow);
+                }
+                if self.edit_number() == u64::MAX {
+                    return Err(EditError::Exhausted);
+                }
+                Ok(number)
+            }
+        }
+    }
+
+    // Puts a row into the table of a number, and counts the edit.
+    fn put_at(&mut self, number: usize, row: i64, values: Vec<i64>) -> Result<(), AllocError>
+        requires within { number < length self.old.tables }
+        requires range { in_range row ≡ true }
+        requires room { self.old.edits < 18446744073709551615 }
+        ensures tables { OnOk result (self.new.tables ≡ changed_at (row_into row values.items) self.old.tables number) }
+        ensures edits { OnOk result (self.new.edits ≡ suc self.old.edits) }
+        ensures same { OnErr result (self.new ≡ self.old) }
+    {
+        let table = &mut self.listed[number];
+        table.put(row, values)?;
+        self.count_edit();
+        Ok(())
+    }
+
+    // Takes a row out of the table of a number, and counts the edit.
+    fn delete_at(&mut self, number: usize, row: i64)
+        requires within { number < length self.old.tables }
+        requires room { self.old.edits < 18446744073709551615 }
+        ensures tables { self.new.tables ≡ changed_at (row_out_of row) self.old.tables number }
+        ensures edits { self.new.edits ≡ suc self.old.edits }
+    {
+        let table = &mut self.listed[number];
+        table.delete(row);
+        self.count_edit();
+    }
+
+    // Counts an edit that was accepted.
+    fn count_edit(&mut self)
+        requires { self.old.edits < 18446744073709551615 }
+        ensures tables { self.new.tables ≡ self.old.tables }
+        ensures edits { self.new.edits ≡ suc self.old.edits }
+    {
+        let edits = &mut self.edits;
+        *edits += 1;
+    }
+}
+
+// Tables that were not edited yet.
+fn unedited(listed: Vec<Table>) -> Tables
+    ensures tables { result.tables ≡ listed.items }
+    ensures edits { result.edits ≡ 0 }
+{
+    Tables { listed, edits: 0 }
+}
+
+#[cfg(test)]
+impl Tables {
+    // The tables after so many edits.
+    pub fn with_edits(self, edits: u64) -> Tables {
+        Tables {
+            listed: self.listed,
+            edits,
+        }
+    }
+}
