@@ -4,8 +4,8 @@ use Rattle.std.proofs.lemmas.Bool.{lt-ltb, le-ltb}
 use Rattle.program_tree.specs.declared.Operator.{Operator}
 use Rattle.procedure_parser.specs.declared.fault.ParseError.{ParseError}
 use Rattle.procedure_parser.specs.declared.fault.ParseError.TheVariants as errors
-use Rattle.procedure_parser.specs.Words.{Words, rest}
-use Rattle.procedure_parser.specs.Source.{Phrase, Bin, depth}
+use Rattle.token_scanner.specs.Words.{Words, rest}
+use Rattle.source_tree.specs.Source.{Phrase, Bin, depth}
 use Rattle.procedure_parser.specs.Reading.{◌>>=◌, Read, Reader, Fails, stuck_before, chain_at}
 
 -- a fault passes on

@@ -1,31 +1,53 @@
 -- How many tokens and statements a text has, and where its lines begin.
-use Rattle.std.proofs.Common.{◌≡◌, ℕ, zero, suc, ◌+◌, ◌-◌, ◌<◌, ◌≤◌, eqb, List, [], ◌∷◌, ◌++◌, length, drop, Some, sym, ap, subst, ◌∙◌, arith, inl, inr}
-use Rattle.procedure_parser.specs.declared.scanning.Class.TheVariants as class
-use Rattle.procedure_parser.specs.Words.{Words}
-use Rattle.procedure_parser.specs.Source.{Stmt, Returns, Decl, Source}
+use Rattle.std.proofs.Common.{◌≡◌, ℕ, zero, suc, ◌+◌, ◌-◌, ◌<◌, ◌≤◌, eqb, List, [], ◌∷◌, ◌++◌, length, drop, Some, refl, sym, ap, subst, ◌∙◌, arith, inl, inr}
+use Rattle.token_scanner.specs.declared.scanning.Class.TheVariants as class
+use Rattle.token_scanner.specs.Words.{Words}
+use Rattle.token_scanner.specs.Scanning.{scan, is_space, front_len, belongs, word_at, tokens_of}
+use Rattle.source_tree.specs.Kinds.{WrittenKind}
+use Rattle.source_tree.specs.Source.{Stmt, Returns, stmts_of, Decl, Source}
+use Rattle.source_tree.specs.Lowering.{count, count_all, BodiesWithin}
 use Rattle.procedure_parser.specs.Reading.{stuck_before, text_at}
-use Rattle.procedure_parser.specs.Scanning.{scan, is_space, front_len, belongs, word_at, tokens_of}
-use Rattle.procedure_parser.specs.Grammar.{Many, nil, cons, Statement, Body, plain, returning, Block, block, ReducerForm, reduces, MoreParams, no_more, one_more, one_over, Params, no_params, params, ProcedureForm, defines, Declarations, no_declaration, a_reducer, a_procedure, reducer_over, procedure_over}
-use Rattle.procedure_parser.specs.Lowering.{BodiesWithin}
+use Rattle.procedure_parser.specs.Grammar.{Form, Many, nil, cons, Entry, entry, Statement, binds, binds_entry, binds_read, enters, syncs, updates, tests, tests_else, loops, Body, plain, returning, Block, comma_number, MoreCells, no_more_cells, more_cells, cells, TableForm, table, KindForm, simple, first, last, of_table, ReducerForm, reduces, MoreParams, no_more, one_more, one_over, Params, no_params, params, ProcedureForm, defines, ProcedureWord, unmarked, marked, Declarations, no_declaration, a_reducer, a_procedure, reducer_over, procedure_over}
 use Rattle.procedure_parser.specs.Correct.{InGrammar, FirstFault, line_at, IsFaultLine}
 use Rattle.procedure_parser.proofs.Head.{on_bool}
-use Rattle.procedure_parser.proofs.Short.{statement_short, whole_short}
-use Rattle.procedure_parser.proofs.Whole.{length_both, text_stuck}
+use Rattle.procedure_parser.proofs.Short.{IsShort, statement_short, whole_short, within_short, block_short}
+use Rattle.procedure_parser.proofs.Whole.{text_stuck}
 
 -- ---- statements
 
-many_count : (ss : List Stmt) (ts us : Words) → Many Statement ss ts us → length ss + length us ≤ length ts
-many_count _ _ _ (nil ts) = omega arith
-many_count _ _ _ (cons s ss ts us vs r m) = omega (arith, statement_short s ts us r, many_count ss us vs m)
+abbrev pub IsCounted : Form (List Stmt) → Type 0
+IsCounted R = (ss : List Stmt) (ts us : Words) → R ss ts us → count_all (stmts_of ss) + length us ≤ length ts
 
-body_count : (ss : List Stmt) (ts us : Words) → Body ss ts us → length ss + length us ≤ length ts
-body_count _ _ _ (plain ss l ts us m) = omega (arith, many_count ss ts _ m)
-body_count _ _ _ (returning ss e l j k ts us vs m w) =
-    let n : length (ss ++ Returns l e ∷ []) ≡ length ss + 1 = length_both ss (Returns l e ∷ []) in
-    omega (arith, n, many_count ss ts _ m, whole_short _ _ _ w)
+count_last : (ss : List Stmt) (s : Stmt) → count_all (stmts_of (ss ++ s ∷ [])) ≡ count_all (stmts_of ss) + count s
+count_last [] s = omega arith
+count_last (t ∷ ss) s = let e = count_last ss s in omega (arith, e)
 
-block_count : (ss : List Stmt) (ts us : Words) → Block ss ts us → length ss + length us ≤ length ts
-block_count _ _ _ (block ss l ts us b) = omega (arith, body_count ss ts us b)
+entry_count : (l : ℕ) (x : _) (h : _) (s : Stmt) (ts us : Words) → Entry l x h s ts us → count s ≡ 1
+entry_count l x h _ _ _ (entry f es k m ts us a) = refl
+
+module _ (B : Form (List Stmt)) (block : IsCounted B) (short : IsShort B) where
+  statement_count : (s : Stmt) (ts us : Words) → Statement B s ts us → count s + length us ≤ length ts
+  statement_count _ _ _ (binds l k m x e ts us w) = omega (arith, whole_short _ _ _ w)
+  statement_count _ _ _ (binds_entry l k j x w g s ts us ew en) = omega (arith, entry_count _ _ _ _ _ _ en, statement_short B short _ _ _ (binds_entry l k j x w g s ts us ew en))
+  statement_count _ _ _ (binds_read l k j i m x r us) = omega arith
+  statement_count _ _ _ (enters l w g s ts us ew en) = omega (arith, entry_count _ _ _ _ _ _ en, statement_short B short _ _ _ (enters l w g s ts us ew en))
+  statement_count _ _ _ (syncs l k us) = omega arith
+  statement_count _ _ _ (updates l k m r es ts us e) = omega (arith, statement_short B short _ _ _ (updates l k m r es ts us e))
+  statement_count _ _ _ (tests l e a ts us vs w b) = omega (arith, whole_short _ _ _ w, block _ _ _ b)
+  statement_count _ _ _ (tests_else l k e a b ts us vs ws w p q) = omega (arith, whole_short _ _ _ w, block _ _ _ p, block _ _ _ q)
+  statement_count _ _ _ (loops l i j k h m g x f low high es ts us vs ws r d a) = omega (arith, statement_short B short _ _ _ (loops l i j k h m g x f low high es ts us vs ws r d a))
+
+  many_count : (ss : List Stmt) (ts us : Words) → Many (Statement B) ss ts us → count_all (stmts_of ss) + length us ≤ length ts
+  many_count _ _ _ (nil ts) = omega arith
+  many_count _ _ _ (cons s ss ts us vs r m) = omega (arith, statement_count s ts us r, many_count ss us vs m)
+
+  body_count : IsCounted (Body B)
+  body_count _ _ _ (plain ss l ts us m) = omega (arith, many_count ss ts _ m)
+  body_count _ _ _ (returning ss e l j k ts us vs m w) = omega (arith, count_last ss (Returns l e), many_count ss ts _ m, whole_short _ _ _ w)
+
+block_count : (n : ℕ) → IsCounted (Block n)
+block_count zero ss ts us (l, e, is) = subst (λ (ss : List Stmt). count_all (stmts_of ss) + length us ≤ length ts) (sym e) (omega (arith, ap length is))
+block_count (suc n) ss ts us (l, vs, is, b) = omega (arith, ap length is, body_count (Block n) (block_count n) (block_short n) ss vs us b)
 
 more_params_count : (n : ℕ) (xs : List (List ℕ)) (ts us : Words) → MoreParams n xs ts us → length us ≤ length ts
 more_params_count _ _ _ _ (no_more n us) = omega arith
@@ -36,18 +58,35 @@ params_count : (xs : List (List ℕ)) (ts us : Words) → Params xs ts us → le
 params_count _ _ _ (no_params k l us) = omega arith
 params_count _ _ _ (params x xs k i l ts us m) = omega (arith, more_params_count 7 xs ts _ m)
 
-reducer_count : (l : ℕ) (d : Decl) (ts us : Words) (r : ReducerForm l d ts us) (n : ℕ) (ds : Source) → length ts ≤ n → (length us ≤ n → BodiesWithin n ds) → BodiesWithin n (d ∷ ds)
-reducer_count l _ _ _ (reduces x w kind i j k m us q) n ds le rest = (omega arith, rest (omega arith))
+cells_count : (n k : ℕ) (xs : List ℕ) (ts us : Words) → MoreCells n k xs ts us → length us ≤ length ts
+cells_count n _ _ _ _ (no_more_cells us) = omega arith
+cells_count n _ _ _ _ (more_cells k x xs ts us vs (comma_number _ l zs _ w) m) = omega (arith, within_short _ _ _ _ _ w, cells_count n k xs us vs m)
 
-procedure_count : (l : ℕ) (d : Decl) (ts us : Words) (r : ProcedureForm l d ts us) (n : ℕ) (ds : Source) → length ts ≤ n → (length us ≤ n → BodiesWithin n ds) → BodiesWithin n (d ∷ ds)
-procedure_count l _ _ _ (defines f xs ss k ts us vs p b) n ds le rest = (omega (arith, params_count xs ts us p, block_count ss us vs b), rest (omega (arith, params_count xs ts us p, block_count ss us vs b)))
+table_count : (k : WrittenKind) (ts us : Words) → TableForm k ts us → length us ≤ length ts
+table_count _ _ _ (table n u k _ ts us vs ws w x (cells y xs i j ps qs _ z m)) = omega (arith, within_short _ _ _ _ _ w, within_short _ _ _ _ _ x, within_short _ _ _ _ _ z, cells_count _ _ _ _ _ m)
+
+kind_count : (k : WrittenKind) (ts us : Words) → KindForm k ts us → length us ≤ length ts
+kind_count _ _ _ (simple x k l us e) = omega arith
+kind_count _ _ _ (first n l ts us w) = omega (arith, within_short _ _ _ _ _ w)
+kind_count _ _ _ (last n l ts us w) = omega (arith, within_short _ _ _ _ _ w)
+kind_count _ _ _ (of_table k l ts us f) = omega (arith, table_count k ts us f)
+
+reducer_count : (l : ℕ) (d : Decl) (ts us : Words) (r : ReducerForm l d ts us) (n : ℕ) (ds : Source) → length ts ≤ n → (length us ≤ n → BodiesWithin n ds) → BodiesWithin n (d ∷ ds)
+reducer_count l _ _ _ (reduces x kind i j m ts us f) n ds le rest = (omega arith, rest (omega (arith, kind_count _ _ _ f)))
+
+procedure_count : (l : ℕ) (m : _) (d : Decl) (ts us : Words) (r : ProcedureForm l m d ts us) (n : ℕ) (ds : Source) → length ts ≤ n → (length us ≤ n → BodiesWithin n ds) → BodiesWithin n (d ∷ ds)
+procedure_count l m _ _ _ (defines f xs ss k ts us vs p b) n ds le rest = (omega (arith, params_count xs ts us p, block_count 32 ss us vs b), rest (omega (arith, params_count xs ts us p, block_count 32 ss us vs b)))
+
+words_count : (m : _) (l : ℕ) (ts us : Words) → ProcedureWord m l ts us → length us ≤ length ts
+words_count _ _ _ _ (unmarked l us) = omega arith
+words_count _ _ _ _ (marked l k us) = omega arith
 
 bodies : (r p : ℕ) (ds : Source) (ts us : Words) → Declarations r p ds ts us → (n : ℕ) → length ts ≤ n → BodiesWithin n ds
 bodies _ _ _ _ _ (no_declaration r p ts) n le = tt
 bodies _ _ _ _ _ (a_reducer r p l d ds ts us vs f m) n le = reducer_count l d ts us f n ds (omega arith) (λ h. bodies r p ds us vs m n h)
-bodies _ _ _ _ _ (a_procedure r p l d ds ts us vs f m) n le = procedure_count l d ts us f n ds (omega arith) (λ h. bodies r p ds us vs m n h)
+bodies _ _ _ _ _ (a_procedure r p l b d ds ts us vs ws w f m) n le = procedure_count l b d us vs f n ds (omega (arith, words_count b l ts us w)) (λ h. bodies r p ds vs ws m n h)
 bodies _ _ _ _ _ (reducer_over p k l us) n le = tt
-bodies _ _ _ _ _ (procedure_over r k l us) n le = tt
+bodies _ _ _ _ _ (procedure_over r k l b ts us w) n le = tt
 
 -- ---- tokens
 

@@ -1,7 +1,7 @@
 -- The line of a fault.
 use Rattle.std.proofs.Common.{◌≡◌, ℕ, zero, suc, ◌<◌, List, [], ◌∷◌, length, slice_index_or, drop, refl, arith}
-use Rattle.procedure_parser.specs.declared.token.Placed.{Placed}
-use Rattle.procedure_parser.specs.Words.{words}
+use Rattle.token_scanner.specs.declared.token.Placed.{Placed}
+use Rattle.token_scanner.specs.Words.{words}
 use Rattle.procedure_parser.specs.Correct.{line_at}
 
 pub line_there : (text : List ℕ) (ts : List Placed) (at : ℕ) (d : Placed) → at < length ts → (slice_index_or ts at d).line ≡ line_at text (drop at (words ts))

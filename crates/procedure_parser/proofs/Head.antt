@@ -1,14 +1,14 @@
 -- What stands at the front.
 use Rattle.std.proofs.Common.{◌≡◌, ℕ, ℤ, pos, Bool, true, false, cond, eqb, List, [], ◌∷◌, Option, Some, None, Ok, Err, refl, sym, ap, subst, ◌∙◌, ◌⊎◌, inl, inr}
 use Rattle.std.proofs.lemmas.Bool.{eqb-true}
-use Rattle.procedure_parser.specs.declared.token.Mark.{Mark}
-use Rattle.procedure_parser.specs.declared.token.Mark.TheVariants as mark
-use Rattle.procedure_parser.specs.declared.token.Mark.TheVariants.{OpenBrace, CloseBrace, OpenParen, CloseParen, OpenBracket, CloseBracket, Colon, Semicolon, Comma, Dot, Range, Assign, Equal, Unequal, Less, AtMost, Greater, AtLeast, Plus, Minus, Star, Slash, Percent, Reducer, Memo, Proc, Call, Spawn, Sync, Update, If, Else, CilkFor, In, Grain, Return, Has, Limit}
-use Rattle.procedure_parser.specs.Marks.{mark_number, same_mark}
-use Rattle.procedure_parser.specs.Words.{Word, Name, Number, Sign, Bad, Over, Words, starts, rest, front_name, front_number}
-use Rattle.procedure_parser.specs.Reading.{◌>>=◌, Read, or_stuck, mark_at, name_at, additive, multiplicative}
+use Rattle.token_scanner.specs.declared.token.Mark.{Mark}
+use Rattle.token_scanner.specs.declared.token.Mark.TheVariants as mark
+use Rattle.token_scanner.specs.declared.token.Mark.TheVariants.{OpenBrace, CloseBrace, OpenParen, CloseParen, OpenBracket, CloseBracket, Colon, Semicolon, Comma, Dot, Range, Assign, Equal, Unequal, Less, AtMost, Greater, AtLeast, Plus, Minus, Star, Slash, Percent, Reducer, Memo, Proc, Call, Spawn, Sync, Update, If, Else, CilkFor, In, Grain, Return, Has, Limit}
+use Rattle.token_scanner.specs.Marks.{mark_number, same_mark}
+use Rattle.token_scanner.specs.Words.{Word, Name, Number, Sign, Bad, Over, Words, starts, starts_over, rest, front_name, front_number, line_of}
+use Rattle.procedure_parser.specs.Reading.{◌>>=◌, Read, or_stuck, mark_at, name_at, over_as, comparison, additive, multiplicative}
 use Rattle.procedure_parser.specs.Grammar.{Form}
-use Rattle.procedure_parser.proofs.Law.{nothing, LawAt, IsLocal, by_reply, skip_at, reply_as, heads_run}
+use Rattle.procedure_parser.proofs.Law.{nothing, LawAt, IsLocal, by_reply, if_true, if_false, gives_at, refuses_at, skip_at, reply_as, heads_run}
 
 -- a number that stands for any
 abbrev pub nought : ℤ
@@ -141,6 +141,10 @@ number_local = local front_number (λ w us vs. refl)
 pub name_local : IsLocal front_name
 name_local = local front_name (λ w us vs. refl)
 
+pub comparison_local : IsLocal comparison
+unfolding comparison
+comparison_local = local comparison (λ w us vs. refl)
+
 pub additive_local : IsLocal additive
 unfolding additive
 additive_local = local additive (λ w us vs. refl)
@@ -156,6 +160,44 @@ on_bool false = inr refl
 pub on_option : {A : Type 0} (o : Option A) → (o ≡ None) ⊎ ((x : A) × (o ≡ Some x))
 on_option None = inl refl
 on_option (Some x) = inr (x, refl)
+
+-- the first token stands for c
+abbrev pub Found : {C : Type 0} → (Word → C → Type 0) → Words → C → Type 0
+Found Stands ts c = (w : Word) × (l : ℕ) × (us : Words) × (ts ≡ (w, l) ∷ us) × Stands w c
+
+pub picked : {C : Type 0} (Stands : Word → C → Type 0) (m : Mark) (c : C) → Stands (Sign m) c → (ts : Words) (o : C) (other : Option C) → cond (starts m ts) (Some c) other ≡ Some o → (other ≡ Some o → Found Stands ts o) → Found Stands ts o
+picked Stands m c here ts o other h next =
+    elim (on_bool (starts m ts)) [
+      | inl t ↦
+          let s = starts_is m ts t in
+          let k : Some c ≡ Some o = sym (ap (λ (b : Bool). cond b (Some c) other) t) ∙ h in
+          let e : c ≡ o = (cc) in
+          (Sign m, s.0, s.1, s.2, subst (λ (o : _). Stands (Sign m) o) e here)
+      | inr f ↦ next (sym (ap (λ (b : Bool). cond b (Some c) other) f) ∙ h)
+    ]
+
+-- ---- one too many
+
+over_local : IsLocal starts_over
+over_local = local starts_over (λ w us vs. refl)
+
+over_is : (ts : Words) → starts_over ts ≡ true → (l : ℕ) × (us : Words) × (ts ≡ (Over, l) ∷ us)
+over_is [] h = absurd cc
+over_is ((Over, l) ∷ us) h = (l, us, refl)
+over_is ((Name x, l) ∷ us) h = absurd cc
+over_is ((Number x, l) ∷ us) h = absurd cc
+over_is ((Sign x, l) ∷ us) h = absurd cc
+over_is ((Bad, l) ∷ us) h = absurd cc
+
+pub over_law : {A : Type 0} (a : A) (T : Form A) (ts : Words) → ((l : ℕ) (v : Words) → T a ((Over, l) ∷ v) v) → LawAt (over_as a) T ts
+unfolding over_as
+over_law a T ts f =
+    elim (on_bool (starts_over ts)) [
+      | inl h ↦ if_true T starts_over (λ w. Ok (a, rest w)) (λ w. Err w) ts over_local h
+          (let s = over_is ts h in subst (λ (w : Words). LawAt (λ w. Ok (a, rest w)) T w) (sym s.2)
+          (skip_at (λ w. Ok (a, w)) (λ b us vs. T b ((Over, s.0) ∷ us) vs) T (Over, s.0) s.1 (λ b us vs p. p) (gives_at _ a s.1 (λ v. f s.0 v))))
+      | inr n ↦ if_false T starts_over (λ w. Ok (a, rest w)) (λ w. Err w) ts over_local n (refuses_at T ts (λ v. ((Over, 0) ∷ v, a, f 0 v)))
+    ]
 
 -- ---- a mark that has to come
 
@@ -227,3 +269,33 @@ module _ {A : Type 0} (K : List ℕ → Words → Read A) (T : Form A) where
           same = λ x k. name_not x (sym (name_local ts x k) ∙ h);
         })
       ]
+
+-- ---- small readers of others
+
+-- a reader that goes by what the first token is
+pub at_value : {A C : Type 0} (t : Words → C) (P : C → Words → Read A) (R : Form A) (c : C) (ts : Words) → IsLocal t → t ts ≡ c → LawAt (P c) R ts → LawAt (λ w. P (t w) w) R ts
+at_value t P R c ts loc e law =
+    by_reply (λ w. P (t w) w) R ts (P c ts) (ap (λ (d : _). P d ts) e)
+    (reply_as (P c) (λ w. P (t w) w) R R ts (P c ts) (λ f us x is h. ap (λ (d : _). P d (f.run x)) (sym (loc (f.run us) (f.run x) (heads_run f us x h)) ∙ ap t (sym is) ∙ e)) (λ a us vs r. r) law)
+
+pub line_local : IsLocal line_of
+line_local = local line_of (λ w us vs. refl)
+
+-- a mark, and then nothing more
+pub last_mark : {A : Type 0} (m : Mark) (s : A) (T : Form A) (us : Words) → ((l : ℕ) (v : Words) → T s ((Sign m, l) ∷ v) v) → LawAt (λ w. mark_at m w >>= λ vs. Ok (s, vs)) T us
+last_mark m s T us h = expect_at m (λ vs. Ok (s, vs)) T us (λ v. (v, s, λ l. h l v)) (λ us. gives_at _ s us (λ v l. h l v))
+
+-- what stands behind a mark that is there
+pub behind_mark : {A : Type 0} (m : Mark) (P : Words → Read A) (T : Form A) (ts : Words) → starts m ts ≡ true → ((l : ℕ) (us : Words) → LawAt P (λ a vs ws. T a ((Sign m, l) ∷ vs) ws) us) → LawAt (λ w. P (rest w)) T ts
+behind_mark m P T ts h law =
+    let s = starts_is m ts h in
+    subst (λ (w : Words). LawAt (λ w. P (rest w)) T w) (sym s.2)
+    (skip_at P (λ a vs ws. T a ((Sign m, s.0) ∷ vs) ws) T (Sign m, s.0) s.1 (λ a us vs p. p) (law s.0 s.1))
+
+-- the same, for a reader that is told the mark's line
+pub behind_line : {A : Type 0} (m : Mark) (P : ℕ → Words → Read A) (T : Form A) (ts : Words) → starts m ts ≡ true → ((l : ℕ) (us : Words) → LawAt (P l) (λ a vs ws. T a ((Sign m, l) ∷ vs) ws) us) → LawAt (λ w. P (line_of w) (rest w)) T ts
+behind_line m P T ts h law =
+    let s = starts_is m ts h in
+    subst (λ (w : Words). LawAt (λ w. P (line_of w) (rest w)) T w) (sym s.2)
+    (at_value line_of (λ l w. P l (rest w)) T s.0 ((Sign m, s.0) ∷ s.1) line_local refl
+    (skip_at (P s.0) (λ a vs ws. T a ((Sign m, s.0) ∷ vs) ws) T (Sign m, s.0) s.1 (λ a us vs p. p) (law s.0 s.1)))

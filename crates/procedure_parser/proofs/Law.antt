@@ -1,7 +1,8 @@
 -- What a reader does, with a law for each way to make one of others.
 use Rattle.std.proofs.Common.{◌≡◌, ℕ, Bool, true, false, cond, [], ◌∷◌, ◌++◌, Option, Some, None, Ok, Err, refl, sym, ap, subst, ◌∙◌, append_assoc}
-use Rattle.procedure_parser.specs.Words.{Word, Words, rest}
-use Rattle.procedure_parser.specs.Reading.{◌>>=◌, Read, for_some}
+use Rattle.token_scanner.specs.Words.{Word, Words, rest}
+use Rattle.token_scanner.specs.Words.{for_some}
+use Rattle.procedure_parser.specs.Reading.{◌>>=◌, Read}
 use Rattle.procedure_parser.specs.Grammar.{Form}
 
 -- some tokens in front of whatever comes

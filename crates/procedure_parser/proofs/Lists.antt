@@ -1,7 +1,7 @@
 -- What readers of several items do.
 use Rattle.std.proofs.Common.{◌≡◌, ℕ, zero, suc, ◌<◌, ◌≤◌, Bool, true, false, cond, List, [], ◌∷◌, length, Ok, Err, refl, sym, ap, subst, ◌∙◌, arith, ◌⊎◌, inl, inr}
 use Rattle.std.proofs.lemmas.List.{nil_from_length}
-use Rattle.procedure_parser.specs.Words.{Words}
+use Rattle.token_scanner.specs.Words.{Words}
 use Rattle.procedure_parser.specs.Reading.{◌>>=◌, Read, many_go, many_at}
 use Rattle.procedure_parser.specs.Grammar.{Form, Many, nil, cons}
 use Rattle.procedure_parser.proofs.Law.{Reply, LawAt, IsLocal, by_reply, reply_as, if_true, if_false, gives_at, then_at}
@@ -75,15 +75,19 @@ module _ {A : Type 0} (go : Words → Bool) (item : Words → Read A) (R : Form 
             (λ xs ws q. gives_at _ (x ∷ xs) ws (λ v ys p zs m. cons x xs zs ys v m p))))
       ])
 
-  pub many_ends : (Ends : Words → Type 0) → ((ts us : Words) (x : A) → R x ts us → (go ts ≡ true) × (Ends us → item ts ≡ Ok (x, us))) → ((ts : Words) → go ts ≡ true → Ends ts) → (xs : List A) (us vs : Words) → Many R xs us vs → Ends vs → Ends us
-  many_ends Ends only begins _ _ _ (nil ts) e = e
-  many_ends Ends only begins _ _ _ (cons x xs ts us vs r m) e = begins ts (only ts us x r).0
+  -- what begins so, and is read where what stands behind may do so
+  abbrev pub OnlyItem : (Words → Type 0) → Type 0
+  OnlyItem Ends = (ts us : Words) (x : A) → R x ts us → (go ts ≡ true) × Ends ts × (Ends us → item ts ≡ Ok (x, us))
+
+  pub many_ends : (Ends : Words → Type 0) → OnlyItem Ends → (xs : List A) (us vs : Words) → Many R xs us vs → Ends vs → Ends us
+  many_ends Ends only _ _ _ (nil ts) e = e
+  many_ends Ends only _ _ _ (cons x xs ts us vs r m) e = (only ts us x r).1
 
   -- what is in the form is read
-  pub only_many : (Ends : Words → Type 0) → ((ts us : Words) (x : A) → R x ts us → (go ts ≡ true) × (Ends us → item ts ≡ Ok (x, us))) → ((ts : Words) → go ts ≡ true → Ends ts) → (xs : List A) (ts us : Words) → Many R xs ts us → Ends us → go us ≡ false → many_at go item ts ≡ Ok (xs, us)
-  only_many Ends only begins _ _ _ (nil ts) e g = unroll ts ∙ rw g refl
-  only_many Ends only begins _ _ _ (cons x xs ts us vs r m) e g =
-      let i = only_many Ends only begins xs us vs m e g in
+  pub only_many : (Ends : Words → Type 0) → OnlyItem Ends → (xs : List A) (ts us : Words) → Many R xs ts us → Ends us → go us ≡ false → many_at go item ts ≡ Ok (xs, us)
+  only_many Ends only _ _ _ (nil ts) e g = unroll ts ∙ rw g refl
+  only_many Ends only _ _ _ (cons x xs ts us vs r m) e g =
+      let i = only_many Ends only xs us vs m e g in
       let o = only ts us x r in
-      let f = o.1 (many_ends Ends only begins xs us vs m e) in
+      let f = o.2 (many_ends Ends only xs us vs m e) in
       unroll ts ∙ rw (o.0, f, i) refl

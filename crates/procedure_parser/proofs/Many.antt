@@ -3,7 +3,7 @@ use Rattle.std.proofs.Common.{◌≡◌, ℕ, suc, ◌-◌, ◌+◌, ◌≤◌, 
 use Rattle.std.proofs.lemmas.List.{append-nil}
 use Rattle.procedure_parser.specs.declared.fault.ParseError.{ParseError}
 use Rattle.procedure_parser.specs.declared.fault.ParseError.TheVariants as errors
-use Rattle.procedure_parser.specs.Words.{Words}
+use Rattle.token_scanner.specs.Words.{Words}
 use Rattle.procedure_parser.specs.Reading.{◌>>=◌, Read, Fails, stuck_before, many_go, with_front}
 use Rattle.procedure_parser.proofs.Chain.{passes}
 

@@ -1,14 +1,14 @@
 -- A whole text: what is read is in the grammar, what is in the grammar is read, and a reader stops at the first fault.
 use Rattle.std.proofs.Common.{◌≡◌, ℕ, suc, ◌+◌, ◌-◌, cond, List, [], ◌∷◌, ◌++◌, length, drop, Some, Result, Ok, Err, refl, sym, ap, subst, ◌∙◌, arith, append_assoc}
 use Rattle.std.proofs.lemmas.List.{append-nil}
-use Rattle.procedure_parser.specs.Words.{Word, Words, ended}
-use Rattle.procedure_parser.specs.Source.{Source}
+use Rattle.token_scanner.specs.Words.{Word, Words, ended}
+use Rattle.source_tree.specs.Source.{Source}
 use Rattle.procedure_parser.specs.Reading.{◌>>=◌, Read, stuck_before, program_at, text_at}
 use Rattle.procedure_parser.specs.Grammar.{Form, Declarations}
 use Rattle.procedure_parser.specs.Correct.{InGrammar, Begins, NoneFollows, FirstFault}
 use Rattle.procedure_parser.proofs.Law.{Front, Heads, Reply, LawAt}
 use Rattle.procedure_parser.proofs.Declarations.{declarations_law}
-use Rattle.procedure_parser.proofs.Only.{only_declarations}
+use Rattle.procedure_parser.proofs.OnlyDeclarations.{only_declarations}
 
 abbrev Program : Form Source
 Program = Declarations 16 256

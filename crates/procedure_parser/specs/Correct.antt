@@ -5,11 +5,13 @@ use Rattle.program_tree.specs.Plain.{Tree}
 use Rattle.program_tree.specs.View.{tree, lines, Lined}
 use Rattle.procedure_parser.specs.declared.fault.TextError.{TextError}
 use Rattle.procedure_parser.specs.declared.fault.TextError.TheVariants.{NoMemory, Text}
-use Rattle.procedure_parser.specs.Words.{Words}
-use Rattle.procedure_parser.specs.Source.{Source}
+use Rattle.token_scanner.specs.Words.{Words}
+use Rattle.std.specs.Global.{Vec}
+use Rattle.source_tree.specs.declared.source.Declaration.{Declaration}
+use Rattle.source_tree.specs.Source.{Source, source}
 use Rattle.procedure_parser.specs.Grammar.{Declarations}
-use Rattle.procedure_parser.specs.Scanning.{tokens_of, line_ends}
-use Rattle.procedure_parser.specs.Lowering.{lowered, lines_of}
+use Rattle.token_scanner.specs.Scanning.{tokens_of, line_ends}
+use Rattle.source_tree.specs.Lowering.{settled, lowered, lines_of}
 
 -- the tokens are the source tree's, within the limits: 16 reducers and 256 procedures
 abbrev pub InGrammar : Source → Words → Type 0
@@ -37,11 +39,17 @@ IsSource s text = (length text ≤ 1048576) × InGrammar s (tokens_of text)
 
 -- a text's tree, and the lines of its declarations and statements
 abbrev pub IsText : List ℕ → Tree → List Lined → Type 0
-IsText text t l = (s : Source) × IsSource s text × (t ≡ lowered s) × (l ≡ lines_of s)
+IsText text t l = (s : Source) × IsSource s text × (settled t ≡ lowered s) × (l ≡ lines_of s)
+
+-- the source tree that is the answer to a text with such a one, unless memory runs out
+abbrev pub AnswersSource : Result (Vec Declaration) TextError → Source → Type 0
+AnswersSource (Ok ds) s = source ds.items ≡ s
+AnswersSource (Err NoMemory) s = Unit {0}
+AnswersSource (Err (Text l)) s = ⊥
 
 -- the answer to a text with such a source tree, unless memory runs out
 abbrev pub Answers : Result Program TextError → Source → Type 0
-Answers (Ok p) s = (tree p ≡ lowered s) × (lines p ≡ lines_of s)
+Answers (Ok p) s = (settled (tree p) ≡ lowered s) × (lines p ≡ lines_of s)
 Answers (Err NoMemory) s = Unit {0}
 Answers (Err (Text l)) s = ⊥
 

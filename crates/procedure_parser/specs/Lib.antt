@@ -1,8 +1,5 @@
-pub mod Marks
-pub mod Words
-pub mod Source
+pub mod KindWords
 pub mod Reading
+pub mod Ranges
 pub mod Grammar
-pub mod Scanning
 pub mod Correct
-pub mod Lowering

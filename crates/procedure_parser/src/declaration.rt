@@ -1,16 +1,17 @@
 //! Reads declarations, up to a whole text.
 
 ghost use Rattle.std.specs.Prelude.{string_bytes, ◌≡◌, ◌≤◌, ◌-◌, ◌<◌, ◌+◌, length, Option, Some, None, Bool, [], ◌∷◌, Ok};
-ghost use Rattle.procedure_parser.specs.Words.{words, rest, line_of, starts};
-ghost use Rattle.procedure_parser.specs.Source.{stmts, texts, decl, source};
-ghost use Rattle.procedure_parser.specs.Reading.{Gives, with_front, over_at, reducer_at, more_params_at, params_at, procedure_at, declarations_at, program_at, text_at};
+ghost use Rattle.token_scanner.specs.Words.{words, rest, line_of, starts};
+ghost use Rattle.source_tree.specs.Source.{stmts, texts, decl, source};
+ghost use Rattle.procedure_parser.specs.Reading.{Gives, with_front, over_as, reducer_at, more_params_at, params_at, procedure_at, procedure_word_at, starts_procedure, counted, worded, declarations_at, program_at, text_at};
 
+use crate::block::block;
 use crate::fault::ParseError;
-use crate::front::{ended, kind_of, line_of, mark, name, rest_of, starts};
-use crate::source::{Declaration, Procedure, Reducer};
-use crate::statement::block;
-use crate::token::{Mark, Placed};
+use crate::front::{ended, left as left_of, line_of, mark, name, rest_of, starts};
+use crate::kinds::kind;
+use source_tree::{Declaration, Procedure, Reducer};
 use std::alloc::Global;
+use token_scanner::{Mark, Placed};
 
 #[tactic(auto, unfolding(crate::specs::Reading::reducer_at))]
 fn reducer<'a, 'b>(
@@ -22,15 +23,13 @@ fn reducer<'a, 'b>(
 {
     let (name, rest) = name(alloc, tokens)?;
     let rest = mark(rest, Mark::Colon)?;
-    let Some(kind) = kind_of(rest) else {
-        return Err(ParseError::Stuck(rest.len()));
-    };
-    let rest = mark(rest_of(rest), Mark::Semicolon)?;
+    let (kind, rest) = kind(alloc, rest)?;
+    let rest = mark(rest, Mark::Semicolon)?;
     let reducer = Reducer { line, name, kind };
     Ok((Declaration::Reducer(reducer), rest))
 }
 
-#[tactic(auto, unfolding(crate::specs::Reading::more_params_at))]
+#[tactic(auto, unfolding(crate::specs::Reading::more_params_at, crate::specs::Reading::over_as))]
 fn more_parameters<'a, 'b>(
     alloc: Global,
     left: usize,
@@ -44,7 +43,7 @@ fn more_parameters<'a, 'b>(
     }
     let rest = rest_of(tokens);
     if left == 0 {
-        return Err(ParseError::Stuck(rest.len()));
+        return Err(ParseError::Stuck(left_of(rest)));
     }
     let (parameter, rest) = name(alloc, rest)?;
     all.push(parameter)?;
@@ -74,15 +73,17 @@ fn parameters<'a, 'b>(
 fn procedure<'a, 'b>(
     alloc: Global,
     line: u32,
+    memo: bool,
     tokens: &'b [Placed<'a>],
 ) -> Result<(Declaration, &'b [Placed<'a>]), ParseError>
-    ensures { Gives (λ x. (decl x.0, words x.1.now)) result (procedure_at line (words tokens.now)) }
+    ensures { Gives (λ x. (decl x.0, words x.1.now)) result (procedure_at line memo (words tokens.now)) }
 {
     let (name, rest) = name(alloc, tokens)?;
     let (parameters, rest) = parameters(alloc, rest)?;
-    let (body, rest) = block(alloc, rest)?;
+    let (body, rest) = block(alloc, 32, rest)?;
     let procedure = Procedure {
         line,
+        memo,
         name,
         parameters,
         body,
@@ -90,8 +91,28 @@ fn procedure<'a, 'b>(
     Ok((Declaration::Procedure(procedure), rest))
 }
 
-#[tactic(auto, unfolding(crate::specs::Reading::declarations_at))]
-fn declarations<'a, 'b>(
+/// The words in front of a procedure's name: whether it is marked memo.
+#[tactic(auto, unfolding(crate::specs::Reading::procedure_word_at))]
+fn procedure_word<'a, 'b>(tokens: &'b [Placed<'a>]) -> Result<(bool, &'b [Placed<'a>]), ParseError>
+    ensures { Gives (λ x. (x.0, words x.1.now)) result (procedure_word_at (words tokens.now)) }
+{
+    if starts(tokens, Mark::Memo) {
+        let rest = mark(rest_of(tokens), Mark::Proc)?;
+        return Ok((true, rest));
+    }
+    let rest = mark(tokens, Mark::Proc)?;
+    Ok((false, rest))
+}
+
+fn starts_procedure(tokens: &[Placed]) -> bool
+    ensures { result ≡ starts_procedure (words tokens.now) }
+{
+    starts(tokens, Mark::Memo) || starts(tokens, Mark::Proc)
+}
+
+#[cycle(declaring)]
+#[tactic(auto, unfolding(crate::specs::Reading::declarations_at, crate::specs::Reading::over_as))]
+fn with_reducer<'a, 'b>(
     alloc: Global,
     turns: usize,
     reducers: usize,
@@ -99,27 +120,58 @@ fn declarations<'a, 'b>(
     mut all: Vec<Declaration>,
     tokens: &'b [Placed<'a>],
 ) -> Result<(Vec<Declaration>, &'b [Placed<'a>]), ParseError>
+    ensures { Gives (λ x. (source x.0.items, words x.1.now)) result (with_front (source all.items) (counted reducers (reducer_at (line_of (words tokens.now))) (declarations_at turns (reducers - 1) procedures) (rest (words tokens.now)))) }
+{
+    let rest = rest_of(tokens);
+    if reducers == 0 {
+        return Err(ParseError::Stuck(left_of(rest)));
+    }
+    let (next, rest) = reducer(alloc, line_of(tokens), rest)?;
+    all.push(next)?;
+    declarations(alloc, turns, reducers - 1, procedures, all, rest)
+}
+
+#[cycle(declaring)]
+#[tactic(auto, unfolding(crate::specs::Reading::declarations_at, crate::specs::Reading::over_as))]
+fn with_procedure<'a, 'b>(
+    alloc: Global,
+    turns: usize,
+    reducers: usize,
+    procedures: usize,
+    mut all: Vec<Declaration>,
+    tokens: &'b [Placed<'a>],
+) -> Result<(Vec<Declaration>, &'b [Placed<'a>]), ParseError>
+    ensures { Gives (λ x. (source x.0.items, words x.1.now)) result (with_front (source all.items) (worded procedures (declarations_at turns reducers (procedures - 1)) (line_of (words tokens.now)) (words tokens.now))) }
+{
+    let (memo, rest) = procedure_word(tokens)?;
+    if procedures == 0 {
+        return Err(ParseError::Stuck(left_of(rest)));
+    }
+    let (next, rest) = procedure(alloc, line_of(tokens), memo, rest)?;
+    all.push(next)?;
+    declarations(alloc, turns, reducers, procedures - 1, all, rest)
+}
+
+#[cycle(declaring)]
+#[tactic(auto, unfolding(crate::specs::Reading::declarations_at))]
+fn declarations<'a, 'b>(
+    alloc: Global,
+    turns: usize,
+    reducers: usize,
+    procedures: usize,
+    all: Vec<Declaration>,
+    tokens: &'b [Placed<'a>],
+) -> Result<(Vec<Declaration>, &'b [Placed<'a>]), ParseError>
     ensures { Gives (λ x. (source x.0.items, words x.1.now)) result (with_front (source all.items) (declarations_at turns reducers procedures (words tokens.now))) }
 {
     if turns == 0 {
         return Err(ParseError::Stuck(tokens.len()));
     }
-    let rest = rest_of(tokens);
     if starts(tokens, Mark::Reducer) {
-        if reducers == 0 {
-            return Err(ParseError::Stuck(rest.len()));
-        }
-        let (next, rest) = reducer(alloc, line_of(tokens), rest)?;
-        all.push(next)?;
-        return declarations(alloc, turns - 1, reducers - 1, procedures, all, rest);
+        return with_reducer(alloc, turns - 1, reducers, procedures, all, tokens);
     }
-    if starts(tokens, Mark::Proc) {
-        if procedures == 0 {
-            return Err(ParseError::Stuck(rest.len()));
-        }
-        let (next, rest) = procedure(alloc, line_of(tokens), rest)?;
-        all.push(next)?;
-        return declarations(alloc, turns - 1, reducers, procedures - 1, all, rest);
+    if starts_procedure(tokens) {
+        return with_procedure(alloc, turns - 1, reducers, procedures, all, tokens);
     }
     Ok((all, tokens))
 }

@@ -1,14 +1,13 @@
 //! What stands at the front of the tokens.
 
-ghost use Rattle.std.specs.Prelude.{string_bytes, ◌≡◌, ◌≤◌, ◌-◌, ◌<◌, length, IfOk, map, option_map, Option, Some, None};
-ghost use Rattle.procedure_parser.specs.Words.{words, starts, rest, front_name, front_number, line_of, ended, starts_name};
-ghost use Rattle.procedure_parser.specs.Reading.{Gives, name_at, mark_at, additive, multiplicative, way_of, kind_of, add_word};
+ghost use Rattle.std.specs.Prelude.{string_bytes, ◌≡◌, ◌≤◌, ◌-◌, ◌<◌, length, IfOk, IfSome, map, option_map, Option, Some, None, false};
+ghost use Rattle.token_scanner.specs.Words.{words, starts, rest, front_name, front_number, front_count, line_of, ended, starts_name, starts_over};
+ghost use Rattle.procedure_parser.specs.Reading.{Gives, name_at, mark_at, within_of, within_at, word_at, comparison, additive, multiplicative, way_of};
 
 use crate::fault::ParseError;
-use crate::token::{Mark, Placed, Token, same};
-use monoid_laws::Kind;
 use program_tree::{Operator, Way};
 use std::alloc::Global;
+use token_scanner::{Mark, Placed, Token, same};
 
 pub fn starts(tokens: &[Placed], mark: Mark) -> bool
     ensures { result ≡ starts mark (words tokens.now) }
@@ -47,6 +46,16 @@ pub fn front_number(tokens: &[Placed]) -> Option<i64>
     }
 }
 
+/// The number in front, where it is none below 0.
+fn front_count(tokens: &[Placed]) -> Option<u64>
+    ensures { result ≡ front_count (words tokens.now) }
+{
+    match front_number(tokens) {
+        Some(n) => { if n < 0 { None } else { Some(n as u64) } }
+        None => None,
+    }
+}
+
 pub fn rest_of<'a, 'b>(tokens: &'b [Placed<'a>]) -> &'b [Placed<'a>]
     ensures { words result.now ≡ rest (words tokens.now) }
 {
@@ -81,6 +90,77 @@ pub fn name<'a, 'b>(
     }
 }
 
+#[tactic(auto, unfolding(crate::specs::Reading::within_of))]
+fn within_of(low: u64, high: u64, tokens: &[Placed]) -> Option<u64>
+    ensures exact { result ≡ within_of low high (words tokens.now) }
+    ensures within { IfSome result (λ n. (low ≤ n) × (n ≤ high)) }
+{
+    match front_count(tokens) {
+        Some(n) => { if low <= n && n <= high { Some(n) } else { None } }
+        None => None,
+    }
+}
+
+/// A number from `low` to `high`.
+#[tactic(auto, unfolding(crate::specs::Reading::within_at))]
+pub fn within<'a, 'b>(
+    low: u64,
+    high: u64,
+    tokens: &'b [Placed<'a>],
+) -> Result<(u64, &'b [Placed<'a>]), ParseError>
+    ensures exact { Gives (λ x. (x.0, words x.1.now)) result (within_at low high (words tokens.now)) }
+    ensures within { IfOk result (λ x. (low ≤ x.0) × (x.0 ≤ high)) }
+{
+    match within_of(low, high, tokens) {
+        None => Err(ParseError::Stuck(tokens.len())),
+        Some(n) => Ok((n, rest_of(tokens))),
+    }
+}
+
+/// Whether the first token is this name.
+pub fn starts_name(tokens: &[Placed], name: &str) -> bool
+    ensures { result ≡ starts_name name.now (words tokens.now) }
+{
+    match front_name(tokens) {
+        None => false,
+        Some(x) => x == name,
+    }
+}
+
+/// A word that is no keyword.
+#[tactic(auto, unfolding(crate::specs::Reading::word_at))]
+pub fn word<'a, 'b>(tokens: &'b [Placed<'a>], word: &str) -> Result<&'b [Placed<'a>], ParseError>
+    ensures { Gives (λ x. words x.now) result (word_at word.now (words tokens.now)) }
+{
+    if starts_name(tokens, word) {
+        Ok(rest_of(tokens))
+    } else {
+        Err(ParseError::Stuck(tokens.len()))
+    }
+}
+
+/// The comparison in front.
+#[tactic(auto, unfolding(crate::specs::Reading::comparison))]
+pub fn comparison(tokens: &[Placed]) -> Option<Operator>
+    ensures { result ≡ comparison (words tokens.now) }
+{
+    if starts(tokens, Mark::Equal) {
+        Some(Operator::Equal)
+    } else if starts(tokens, Mark::Unequal) {
+        Some(Operator::Unequal)
+    } else if starts(tokens, Mark::Less) {
+        Some(Operator::Less)
+    } else if starts(tokens, Mark::AtMost) {
+        Some(Operator::AtMost)
+    } else if starts(tokens, Mark::Greater) {
+        Some(Operator::Greater)
+    } else if starts(tokens, Mark::AtLeast) {
+        Some(Operator::AtLeast)
+    } else {
+        None
+    }
+}
+
 #[tactic(auto, unfolding(crate::specs::Reading::additive))]
 pub fn additive(tokens: &[Placed]) -> Option<Operator>
     ensures { result ≡ additive (words tokens.now) }
@@ -100,6 +180,10 @@ pub fn multiplicative(tokens: &[Placed]) -> Option<Operator>
 {
     if starts(tokens, Mark::Star) {
         Some(Operator::Multiply)
+    } else if starts(tokens, Mark::Slash) {
+        Some(Operator::Divide)
+    } else if starts(tokens, Mark::Percent) {
+        Some(Operator::Remainder)
     } else {
         None
     }
@@ -124,35 +208,19 @@ pub fn way_of(tokens: &[Placed]) -> Option<Way>
     }
 }
 
+/// How many tokens are left. None of them is the one that stands for one too many.
+pub fn left(tokens: &[Placed]) -> usize
+    ensures count { result ≡ length (words tokens.now) }
+    ensures never { starts_over (words tokens.now) ≡ false }
+{
+    tokens.len()
+}
+
 pub fn ended(tokens: &[Placed]) -> bool
     ensures { result ≡ ended (words tokens.now) }
 {
     match tokens {
         [] => true,
         [_, ..] => false,
-    }
-}
-
-fn starts_add(tokens: &[Placed]) -> bool
-    ensures { result ≡ starts_name add_word (words tokens.now) }
-{
-    if tokens.is_empty() {
-        return false;
-    }
-    let first = tokens[0];
-    match first.token {
-        Token::Name(x) => x == "add",
-        _ => false,
-    }
-}
-
-#[tactic(auto, unfolding(crate::specs::Reading::kind_of))]
-pub fn kind_of(tokens: &[Placed]) -> Option<Kind>
-    ensures { result ≡ kind_of (words tokens.now) }
-{
-    if starts_add(tokens) {
-        Some(Kind::Add)
-    } else {
-        None
     }
 }

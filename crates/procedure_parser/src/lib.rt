@@ -1,20 +1,18 @@
 //! Programs as text: from bytes to the tree of a program.
 #![tactic(auto)]
 
+mod arguments;
+mod block;
 mod declaration;
 mod expression;
 mod fault;
 mod front;
-mod lowering;
-mod pool;
-mod scanning;
-mod source;
+mod kinds;
 mod statement;
 mod text;
-mod token;
 
 pub use fault::TextError;
-pub use text::parse;
+pub use text::parse_source;
 
 #[cfg(test)]
 mod tests;

@@ -1,19 +1,15 @@
-//! From the bytes of a text to the tree of its program, or to the line of its fault.
+//! From the bytes of a text to its source tree, or to the line of its fault.
 
-ghost use Rattle.std.specs.Prelude.{◌≡◌, true, ◌-◌, ◌≤◌, length, drop, IfOk, IfErr};
-ghost use Rattle.procedure_parser.specs.Words.{words};
-ghost use Rattle.program_tree.specs.Basic.{is_basic};
-ghost use Rattle.program_tree.specs.View.{tree, lines};
-ghost use Rattle.procedure_parser.specs.Source.{Source};
-ghost use Rattle.procedure_parser.specs.Correct.{line_at, IsText, IsSource, Answers, IsFault};
+ghost use Rattle.std.specs.Prelude.{◌≡◌, ◌-◌, ◌≤◌, length, drop, IfOk, IfErr};
+ghost use Rattle.token_scanner.specs.Words.{words};
+ghost use Rattle.source_tree.specs.Source.{Source, source};
+ghost use Rattle.procedure_parser.specs.Correct.{line_at, IsSource, AnswersSource, IsFault};
 
 use crate::declaration;
 use crate::fault::{ParseError, TextError};
-use crate::lowering::lower;
-use crate::scanning::{line_ends, tokens};
-use crate::token::Placed;
-use program_tree::Program;
+use source_tree::Declaration;
 use std::alloc::Global;
+use token_scanner::{Placed, line_ends, tokens};
 
 /// The line of the token from which so many are left, or that of the text's end.
 fn fault_line(text: &[u8], tokens: &[Placed], left: usize) -> u32
@@ -28,14 +24,12 @@ fn fault_line(text: &[u8], tokens: &[Placed], left: usize) -> u32
     }
 }
 
-/// The program that a text is. An error is NoMemory, or the line of the first token that can't follow what stands before it: 0 for a text that is too long.
-pub fn parse(alloc: Global, text: &[u8]) -> Result<Program, TextError>
-    // What is read is the tree of a text of the grammar, within the limits.
-    ensures found { IfOk result (λ p. IsText text.now (tree p) (lines p)) }
-    // It is of the straight part of the language.
-    ensures basic { IfOk result (λ p. is_basic (tree p) ≡ true) }
+/// The source tree of a text. An error is NoMemory, or the line of the first token that can't follow what stands before it: 0 for a text that is too long.
+pub fn parse_source(alloc: Global, text: &[u8]) -> Result<Vec<Declaration>, TextError>
+    // What is read is the source tree of a text of the grammar, within the limits.
+    ensures found { IfOk result (λ ds. IsSource (source ds.items) text.now) }
     // A text of the grammar, within the limits, is read, unless memory runs out.
-    ensures only { (s : Source) → IsSource s text.now → Answers result s }
+    ensures only { (s : Source) → IsSource s text.now → AnswersSource result s }
     // A fault is at the first token that can't follow; line 0 is that of a text that is too long.
     ensures fault { IfErr result (λ e. IsFault text.now e) }
 {
@@ -44,7 +38,7 @@ pub fn parse(alloc: Global, text: &[u8]) -> Result<Program, TextError>
     }
     let tokens = tokens(alloc, text)?;
     match declaration::text(alloc, &tokens) {
-        Ok(source) => Ok(lower(alloc, &source)?),
+        Ok(declarations) => Ok(declarations),
         Err(ParseError::Memory) => Err(TextError::NoMemory),
         Err(ParseError::Stuck(left)) => Err(TextError::Text {
             line: fault_line(text, &tokens, left),

@@ -1,15 +1,10 @@
 use Rattle.std.proofs.Common.{◌≡◌, ◌++◌, ◌∷◌, [], string_bytes, Some, Ok, false, sym, ap, subst, ◌∙◌}
 use Rattle.std.proofs.lemmas.List.{map_push, length-map}
-use Rattle.procedure_parser.specs.Words.{Words, words, placed, starts_over}
-use Rattle.procedure_parser.specs.Source.{texts}
+use Rattle.token_scanner.specs.Words.{Words, words, placed, starts_over}
+use Rattle.source_tree.specs.Source.{texts}
 use Rattle.procedure_parser.specs.Reading.{name_at}
-use Rattle.procedure_parser.proofs.Turns.{gives_along, never_over, param_over, param_turn}
+use Rattle.procedure_parser.proofs.Turns.{gives_along, param_turn}
 use Rattle.procedure_parser.proofs.declaration.+more_parameters.Goals as goal
-
-pub returns-then-left-eq0 : goal.returns-then-left-eq0
-returns-then-left-eq0 t c =
-    let e = param_over (texts c.args.all.items) (words c.args.tokens.now) c.args.left c.if-left-eq0.true (sym c.starts.ensures ∙ c.if-not-starts.false) (subst (λ (ts : Words). starts_over ts ≡ false) c.rest_of-rest.ensures (never_over c.rest_of-rest.result.now)) in
-    rw (e, ← c.rest_of-rest.ensures) (ap Some (length-map c.rest_of-rest.result.now placed))
 
 pub returns : goal.returns
 returns t c =

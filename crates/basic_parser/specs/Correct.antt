@@ -1,0 +1,59 @@
+-- What a text is, and which token is the first that can't follow.
+use Rattle.std.specs.Prelude.{◌≡◌, ℕ, ◌+◌, ◌<◌, ◌≤◌, List, [], ◌∷◌, ◌++◌, ◌⊎◌, length, Result, Ok, Err}
+use Rattle.program_tree.specs.declared.Program.{Program}
+use Rattle.program_tree.specs.Plain.{Tree}
+use Rattle.program_tree.specs.View.{tree, lines, Lined}
+use Rattle.basic_parser.specs.declared.fault.TextError.{TextError}
+use Rattle.basic_parser.specs.declared.fault.TextError.TheVariants.{NoMemory, Text}
+use Rattle.basic_parser.specs.Words.{Words}
+use Rattle.basic_parser.specs.Source.{Source}
+use Rattle.basic_parser.specs.Grammar.{Declarations}
+use Rattle.basic_parser.specs.Scanning.{tokens_of, line_ends}
+use Rattle.basic_parser.specs.Lowering.{lowered, lines_of}
+
+-- the tokens are the source tree's, within the limits: 16 reducers and 256 procedures
+abbrev pub InGrammar : Source → Words → Type 0
+InGrammar s ts = Declarations 16 256 s ts []
+
+-- some text of the grammar begins so
+abbrev pub Begins : Words → Type 0
+Begins ts = (more : Words) × (s : Source) × InGrammar s (ts ++ more)
+
+-- no text of the grammar begins so and goes on with the first of these; where there is none, so is no text
+abbrev pub NoneFollows : Words → Words → Type 0
+NoneFollows front [] = (s : Source) → InGrammar s front → ⊥
+NoneFollows front (t ∷ ts) = Begins (front ++ t ∷ []) → ⊥
+
+-- the fault is at the first of us
+pub record FirstFault (ts us : Words) : Type 0 where
+  pub front : Words
+  pub parts : ts ≡ front ++ us
+  pub begins : Begins front
+  pub none : NoneFollows front us
+
+-- the source tree of a text within the limit
+abbrev pub IsSource : Source → List ℕ → Type 0
+IsSource s text = (length text ≤ 1048576) × InGrammar s (tokens_of text)
+
+-- a text's tree, and the lines of its declarations and statements
+abbrev pub IsText : List ℕ → Tree → List Lined → Type 0
+IsText text t l = (s : Source) × IsSource s text × (t ≡ lowered s) × (l ≡ lines_of s)
+
+-- the answer to a text with such a source tree, unless memory runs out
+abbrev pub Answers : Result Program TextError → Source → Type 0
+Answers (Ok p) s = (tree p ≡ lowered s) × (lines p ≡ lines_of s)
+Answers (Err NoMemory) s = Unit {0}
+Answers (Err (Text l)) s = ⊥
+
+-- the line of the first of these tokens of a text, or that of its end
+abbrev pub line_at : List ℕ → Words → ℕ
+line_at text [] = line_ends text + 1
+line_at text (t ∷ ts) = t.1
+
+-- 0 for a text that is too long; else the line of the first token that can't follow what stands before it
+abbrev pub IsFaultLine : List ℕ → ℕ → Type 0
+IsFaultLine text l = ((1048576 < length text) × (l ≡ 0)) ⊎ ((us : Words) × (length text ≤ 1048576) × FirstFault (tokens_of text) us × (l ≡ line_at text us) × (0 < l))
+
+abbrev pub IsFault : List ℕ → TextError → Type 0
+IsFault text NoMemory = Unit {0}
+IsFault text (Text l) = IsFaultLine text l

@@ -1,0 +1,10 @@
+pub mod Said
+pub mod Names
+pub mod Read
+pub mod Phrases
+pub mod Parts
+pub mod Statements
+pub mod KindForms
+pub mod Declarations
+pub mod Collected
+pub mod Round

@@ -1,0 +1,71 @@
+-- Parts that are written one behind the other.
+use Rattle.std.proofs.Common.{◌≡◌, ◌≤◌, List, [], ◌∷◌, map, length, drop, take, ◌-◌, zero, suc, refl, ap, slice_index_or, string_bytes, pos, min, sym, Result, Ok, Err, OnOk, ℕ, ◌∙◌, arith}
+use Rattle.program_tree.specs.Plain.{Name, Term, binary}
+use Rattle.program_tree.specs.declared.Operator.{Operator}
+use Rattle.token_scanner.specs.declared.token.Mark.TheVariants as mark
+use Rattle.token_scanner.specs.Words.{Word, Sign, Number}
+use Rattle.token_scanner.specs.Words as word
+use Rattle.std.specs.declared.string.String.{String}
+use Rattle.std.specs.Global.{Global}
+use Rattle.program_printer.specs.Spelling.{Puts}
+use Rattle.program_tree.specs.declared.Expr.{Expr}
+use Rattle.program_tree.specs.View.{term}
+use Rattle.program_printer.specs.Printing.{term_words, more_terms, terms_words, operator_mark, more_numbers, numbers_words, more_names, names_words}
+
+pub on_ok : {T E : Type 0} (r : Result T E) (P Q : Type 0) → (P → Q) → OnOk r P → OnOk r Q
+on_ok (Ok x) P Q f p = f p
+on_ok (Err e) P Q f p = tt
+
+pub binary_put : {T E : Type 0} (r : Result T E) (names : List Name) (o : Operator) (left right : Term) (a b c d e f : List ℕ)
+    → Puts a b (λ us. Sign mark.OpenParen ∷ us) → Puts b c (term_words names left) → Puts c d (λ us. Sign (operator_mark o) ∷ us)
+    → Puts d e (term_words names right) → OnOk r (Puts e f (λ us. Sign mark.CloseParen ∷ us)) → OnOk r (Puts a f (term_words names (binary o left right)))
+binary_put r names o left right a b c d e f p q s t u =
+    on_ok r (Puts e f (λ us. Sign mark.CloseParen ∷ us)) (Puts a f (term_words names (binary o left right)))
+    (λ last us. p _ ∙ q _ ∙ s _ ∙ t _ ∙ last us) u
+
+take_nil : {A : Type 0} (n : ℕ) → take {A = A} n [] ≡ []
+take_nil zero = refl
+take_nil (suc n) = refl
+
+pub take_all : {A : Type 0} (n : ℕ) (xs : List A) → n ≡ length xs → take n xs ≡ xs
+take_all zero [] e = refl
+take_all (suc n) [] e = absurd (omega arith)
+take_all zero (x ∷ xs) e = absurd (omega arith)
+take_all (suc n) (x ∷ xs) e = ap (λ ys. x ∷ ys) (take_all n xs (omega arith))
+
+-- the first of some expressions, and the others
+pub first_put : {T E : Type 0} (r : Result T E) (names : List Name) (es : List Expr) (x : Expr) (a b c : List ℕ)
+    → 1 ≤ length es → x ≡ slice_index_or es 0 x → Puts a b (term_words names (term x)) → OnOk r (Puts b c (more_terms names (map term (take (length es - 1) (drop 1 es)))))
+    → OnOk r (Puts a c (terms_words names (map term es)))
+first_put r names [] x a b c h e p q = absurd (omega arith)
+first_put r names (y ∷ es) x a b c h e p q =
+    let s = rw e at p in
+    let k : take (length (y ∷ es) - 1) es ≡ es = take_all (length (y ∷ es) - 1) es (omega arith) in
+    let t = rw k at q in
+    on_ok r (Puts b c (more_terms names (map term es))) (Puts a c (terms_words names (map term (y ∷ es)))) (λ last us. s _ ∙ last us) t
+
+-- the first of some numbers, and the others
+pub first_number_put : {T E : Type 0} (r : Result T E) (ns : List ℕ) (a b c : List ℕ)
+    → 1 ≤ length ns → Puts a b (λ us. Number (pos (slice_index_or ns 0 0)) ∷ us) → OnOk r (Puts b c (more_numbers (take (length ns - 1) (drop 1 ns))))
+    → OnOk r (Puts a c (numbers_words ns))
+first_number_put r [] a b c h p q = absurd (omega arith)
+first_number_put r (n ∷ ns) a b c h p q =
+    let k : take (length (n ∷ ns) - 1) ns ≡ ns = take_all (length (n ∷ ns) - 1) ns (omega arith) in
+    let t = rw k at q in
+    on_ok r (Puts b c (more_numbers ns)) (Puts a c (numbers_words (n ∷ ns))) (λ last us. p _ ∙ last us) t
+
+-- the first of some names, and the others
+pub first_name_put : {T E : Type 0} (r : Result T E) (xs : List (String Global)) (x : String Global) (y : Name) (a b c : List ℕ)
+    → 1 ≤ length xs → x ≡ slice_index_or xs 0 x → y ≡ string_bytes x → Puts a b (λ us. word.Name y ∷ us) → OnOk r (Puts b c (more_names (map string_bytes (take (length xs - 1) (drop 1 xs)))))
+    → OnOk r (Puts a c (names_words (map string_bytes xs)))
+first_name_put r [] x y a b c h e f p q = absurd (omega arith)
+first_name_put r (z ∷ xs) x y a b c h e f p q =
+    let s = rw (f ∙ ap (λ (w : String Global). string_bytes w) e) at p in
+    let k : take (length (z ∷ xs) - 1) xs ≡ xs = take_all (length (z ∷ xs) - 1) xs (omega arith) in
+    let t = rw k at q in
+    on_ok r (Puts b c (more_names (map string_bytes xs))) (Puts a c (names_words (map string_bytes (z ∷ xs)))) (λ last us. s _ ∙ last us) t
+
+pub names_taken : (n : ℕ) (xs : List (String Global)) → map string_bytes (take (min n (length xs)) xs) ≡ take n (map string_bytes xs)
+names_taken n [] = let e : take {A = String Global} (min n 0) [] ≡ [] = take_nil (min n 0) in rw e (sym (take_nil n))
+names_taken zero (x ∷ xs) = let e : min 0 (length (x ∷ xs)) ≡ 0 = omega arith in rw e refl
+names_taken (suc n) (x ∷ xs) = let e : min (suc n) (suc (length xs)) ≡ suc (min n (length xs)) = omega arith in rw e (ap (λ ys. string_bytes x ∷ ys) (names_taken n xs))

@@ -1,0 +1,99 @@
+//! Prints expressions.
+
+ghost use Rattle.std.specs.Prelude.{◌≡◌, ◌++◌, ◌∷◌, OnOk, map, string_bytes};
+ghost use Rattle.program_tree.specs.View.{term};
+ghost use Rattle.token_scanner.specs.Words.{Word, Sign};
+ghost use Rattle.token_scanner.specs.declared.token.Mark.TheVariants as mark;
+ghost use Rattle.program_printer.specs.Spelling.{Puts};
+ghost use Rattle.program_printer.specs.Printing.{variable, term_words, operator_mark};
+
+use program_tree::{Expr, Operator, Procedure};
+use std::alloc::AllocError;
+use std::fmt::Write;
+
+/// The name of a variable; none has a number past the pool's end.
+pub fn variable(procedure: &Procedure, number: usize) -> &str
+    ensures { result.now ≡ variable (map string_bytes procedure.now.names.items) number }
+{
+    match procedure.names.get(number) {
+        Some(name) => name.as_str(),
+        None => "",
+    }
+}
+
+/// Puts an operator at the end of the text.
+#[tactic(auto, unfolding(crate::specs::Spelling::written))]
+fn put_operator(text: &mut String, operator: Operator) -> Result<(), AllocError>
+    ensures { OnOk result (Puts (string_bytes text.old) (string_bytes text.new) (λ us. Sign (operator_mark operator) ∷ us)) }
+{
+    match operator {
+        Operator::Add => text.push_str("+ "),
+        Operator::Subtract => text.push_str("- "),
+        Operator::Multiply => text.push_str("* "),
+        Operator::Divide => text.push_str("/ "),
+        Operator::Remainder => text.push_str("% "),
+        Operator::Equal => text.push_str("== "),
+        Operator::Unequal => text.push_str("!= "),
+        Operator::Less => text.push_str("< "),
+        Operator::AtMost => text.push_str("<= "),
+        Operator::Greater => text.push_str("> "),
+        Operator::AtLeast => text.push_str(">= "),
+    }
+}
+
+/// Puts the beginning of an expression in parentheses at the end of the text.
+#[tactic(auto, unfolding(crate::specs::Spelling::written))]
+fn put_open(text: &mut String) -> Result<(), AllocError>
+    ensures { OnOk result (Puts (string_bytes text.old) (string_bytes text.new) (λ us. Sign mark.OpenParen ∷ us)) }
+{
+    text.push_str("( ")
+}
+
+/// Puts the end of an expression in parentheses at the end of the text.
+#[tactic(auto, unfolding(crate::specs::Spelling::written))]
+fn put_close(text: &mut String) -> Result<(), AllocError>
+    ensures { OnOk result (Puts (string_bytes text.old) (string_bytes text.new) (λ us. Sign mark.CloseParen ∷ us)) }
+{
+    text.push_str(") ")
+}
+
+/// Puts an expression at the end of the text.
+#[tactic(auto, unfolding(crate::specs::Spelling::written))]
+pub fn put_expression(
+    text: &mut String,
+    procedure: &Procedure,
+    expr: &Expr,
+) -> Result<(), AllocError>
+    ensures { OnOk result (Puts (string_bytes text.old) (string_bytes text.new) (term_words (map string_bytes procedure.now.names.items) (term expr.now))) }
+{
+    match expr {
+        Expr::Number(n) => write!(text, "{n} "),
+        Expr::Name(n) => {
+            let name = variable(procedure, *n);
+            write!(text, "{name} ")
+        }
+        Expr::Limit(table) => write!(text, "limit {table} "),
+        Expr::Cell(table, row, column) => {
+            write!(text, "{table} [ ")?;
+            put_expression(text, procedure, row)?;
+            write!(text, "] . {column} ")
+        }
+        Expr::Has(table, row) => {
+            write!(text, "has {table} [ ")?;
+            put_expression(text, procedure, row)?;
+            text.push_str("] ")
+        }
+        Expr::Negate(inner) => {
+            text.push_str("( - ")?;
+            put_expression(text, procedure, inner)?;
+            put_close(text)
+        }
+        Expr::Binary(operator, left, right) => {
+            put_open(text)?;
+            put_expression(text, procedure, left)?;
+            put_operator(text, *operator)?;
+            put_expression(text, procedure, right)?;
+            put_close(text)
+        }
+    }
+}

@@ -1,0 +1,12 @@
+//! What holds of printed texts.
+
+ghost use Rattle.std.specs.Prelude.{◌≡◌};
+ghost use Rattle.program_tree.specs.Plain.{Tree};
+ghost use Rattle.token_scanner.specs.Scanning.{tokens_of};
+ghost use Rattle.program_printer.specs.Printing.{printed_words, printed};
+ghost use Rattle.program_printer.specs.Tokens.{AllTokens, bare};
+
+/// The tokens of a printed program are those that it was printed from.
+pub fn laws_of_printing()
+    ensures { (t : Tree) → AllTokens (printed_words t) → bare (tokens_of (printed t)) ≡ printed_words t }
+{}

@@ -1,0 +1,106 @@
+//! The names of a procedure's variables, each numbered by its first place.
+
+ghost use Rattle.std.specs.Prelude.{◌≡◌, ℕ, List, OnOk, OnErr};
+ghost use Rattle.std.specs.HashMap.{get_by_text};
+ghost use Rattle.source_tree.specs.Lowering.{kept};
+
+use std::alloc::{AllocError, Global};
+use std::collections::HashMap;
+use std::marker::Model;
+
+/// A pool of names: the parameters as they are written, and then each further name once.
+#[derive(Drop)]
+pub struct Pool {
+    names: Vec<String>,
+    places: HashMap<String, usize>,
+}
+
+impl Model for Pool {
+    ghost use Rattle.std.specs.Prelude.{◌≡◌, ℕ, List};
+    ghost use Rattle.std.specs.HashMap.{get_by_text};
+    ghost use Rattle.source_tree.specs.Source.{texts};
+    ghost use Rattle.source_tree.specs.Lowering.{place_of};
+
+    ghost Value = { List (List ℕ) };
+
+    ghost view = { λ p. texts p.names.items };
+
+    ghost invariant = { λ p. (x : List ℕ) → get_by_text p.places x ≡ place_of x (texts p.names.items) };
+}
+
+/// Keeps the place of a name, unless it has one or memory runs out.
+fn keep(
+    alloc: Global,
+    places: &mut HashMap<String, usize>,
+    name: &str,
+    place: usize,
+) -> Result<(), AllocError>
+    ensures kept { OnOk result ((x : List ℕ) → get_by_text places.new x ≡ kept (λ y. get_by_text places.old y) name.now place x) }
+    ensures same { OnErr result ((x : List ℕ) → get_by_text places.new x ≡ get_by_text places.old x) }
+{
+    if places.get(name).is_some() {
+        return Ok(());
+    }
+    let key = String::from_str(alloc, name)?;
+    places.insert(key, place)?;
+    Ok(())
+}
+
+impl Pool {
+    ghost use Rattle.std.specs.Prelude.{◌≡◌, ◌++◌, ◌∷◌, [], IfOk, OnErr, OnOk};
+    ghost use Rattle.source_tree.specs.Source.{texts};
+    ghost use Rattle.source_tree.specs.Lowering.{place_of, numbered};
+
+    /// A pool of no names.
+    pub fn new(alloc: Global) -> Self
+        ensures { result ≡ [] }
+    {
+        Pool {
+            names: Vec::new(alloc),
+            places: HashMap::new(alloc),
+        }
+    }
+
+    /// Puts a name last, unless memory runs out.
+    fn put(&mut self, alloc: Global, name: &str) -> Result<(), AllocError>
+        ensures added { OnOk result (self.new ≡ self.old ++ name.now ∷ []) }
+        ensures same { OnErr result (self.new ≡ self.old) }
+    {
+        self.names.reserve(1)?;
+        let stored = String::from_str(alloc, name)?;
+        keep(alloc, &mut self.places, name, self.names.len())?;
+        self.names.push(stored).unwrap();
+        Ok(())
+    }
+
+    /// The number of a name, which is put last where it is new.
+    pub fn number_of(&mut self, alloc: Global, name: &str) -> Result<usize, AllocError>
+        ensures number { IfOk result (λ n. (self.new, n) ≡ numbered self.old name.now) }
+        ensures same { OnErr result (self.new ≡ self.old) }
+    {
+        if let Some(number) = self.places.get(name) {
+            return Ok(*number);
+        }
+        let number = self.names.len();
+        self.put(alloc, name)?;
+        Ok(number)
+    }
+
+    /// Puts the parameters in, a doubled one too.
+    pub fn with_parameters(alloc: Global, parameters: &[String]) -> Result<Self, AllocError>
+        ensures { IfOk result (λ p. p ≡ texts parameters.now) }
+    {
+        let mut pool = Pool::new(alloc);
+        for parameter in parameters {
+            pool.put(alloc, parameter)?;
+        }
+        Ok(pool)
+    }
+
+    /// The names.
+    pub fn into_names(self) -> Vec<String>
+        ensures { texts result.items ≡ self }
+    {
+        self.names
+    }
+}
