@@ -1,5 +1,5 @@
 -- Lists by what is left of them after some elements.
-use Rattle.std.proofs.Common.{◌≡◌, ℕ, zero, suc, ◌+◌, ◌≤◌, List, [], ◌∷◌, ◌++◌, take, Option, Some, None, option_map, drop, slice_get, map, length, get_or, ◌<◌, refl, ap, sym, ◌∙◌, add-one, drop-cons, arith}
+use Rattle.std.proofs.Common.{◌≡◌, ℕ, zero, suc, ◌+◌, ◌≤◌, List, [], ◌∷◌, ◌++◌, take, Option, Some, None, option_map, drop, slice_get, slice_set, map, length, get_or, ◌<◌, refl, ap, sym, ◌∙◌, add-one, drop-cons, arith}
 use Rattle.std.proofs.lemmas.List.{take_more}
 use Rattle.std.proofs.lemmas.Option.{slice_get-map}
 
@@ -43,3 +43,8 @@ take_one_more xs i x h e = take_more xs i x h ∙ ap (λ y. take i xs ++ y ∷ [
 
 pub slice_get_of_map : {A B : Type 0} → (f : A → B) (xs : List A) (i : ℕ) → slice_get (map f xs) i ≡ option_map f (slice_get xs i)
 slice_get_of_map f xs i = slice_get-map f xs i
+
+pub slice_set_twice : {A : Type 0} → (xs : List A) (i : ℕ) (x y : A) → slice_set (slice_set xs i x) i y ≡ slice_set xs i y
+slice_set_twice [] i x y = refl
+slice_set_twice (z ∷ zs) zero x y = refl
+slice_set_twice (z ∷ zs) (suc i) x y = ap (λ ws. z ∷ ws) (slice_set_twice zs i x y)

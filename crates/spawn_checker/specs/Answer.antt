@@ -2,8 +2,8 @@
 use Rattle.std.specs.Prelude.{◌≡◌, ℕ, List, Option, Some, string_bytes}
 use Rattle.program_tree.specs.Plain.{Tree}
 use Rattle.program_tree.specs.View.{Lined}
-use Rattle.spawn_checker.specs.declared.violation.CheckError.{CheckError}
-use Rattle.spawn_checker.specs.declared.violation.CheckError.TheVariants.{NoMemory, Check}
+use Rattle.spawn_checker.specs.declared.basic.violation.CheckError.{CheckError}
+use Rattle.spawn_checker.specs.declared.basic.violation.CheckError.TheVariants.{NoMemory, Check}
 use Rattle.checked_program.specs.declared.violation.Violation.{Violation}
 use Rattle.checked_program.specs.Rules.{reported, violations}
 use Rattle.checked_program.specs.Violations.{first_of}

@@ -1,12 +1,20 @@
 //! Checks a program by the rules of the language and makes its code.
 #![tactic(auto)]
 
+pub mod basic;
 mod checking;
-mod linking;
+mod declarations;
+mod lines;
 mod names;
-mod rules;
+mod quiet;
+mod refusal;
+mod revisions;
 mod scope;
+mod setting;
+mod statements;
+mod terms;
 mod violation;
+mod walk;
 
 pub use checking::check;
 pub use violation::CheckError;

@@ -1,11 +1,13 @@
-//! Declarations by their names.
-ghost use Rattle.std.specs.Prelude.{◌≡◌, map, option_map};
+//! Declarations, tables and columns by their names.
+ghost use Rattle.std.specs.Prelude.{◌≡◌, map, option_map, option_copied, string_bytes};
 ghost use Rattle.program_tree.specs.View.{decl};
 ghost use Rattle.monoid_laws.specs.Kinds.{arity};
-ghost use Rattle.meaning.specs.Statements.{reducers, procedure_of};
-ghost use Rattle.spawn_checker.specs.Numbers.{procedure_number as number_of_procedure, reducer_number as number_of_reducer};
-ghost use Rattle.checked_program.specs.Rules.{reducer_of};
+ghost use Rattle.meaning.specs.Statements.{procedure_of};
+ghost use Rattle.linked_program.specs.Rules.{kind_of};
+ghost use Rattle.linked_program.specs.Monoids.{is_readable};
+ghost use Rattle.linked_program.specs.TableNames.{columned, table_of, has_name};
 
+use linked_program::tables::TableNames;
 use monoid_laws::Kind;
 use program_tree::Declaration;
 
@@ -23,8 +25,22 @@ pub fn parameters_of(declarations: &[Declaration], name: &str) -> Option<usize>
     None
 }
 
+/// The kind of the reducer of that name.
+pub fn kind_of<'a>(declarations: &'a [Declaration], name: &str) -> Option<&'a Kind>
+    ensures { option_copied result ≡ kind_of (map decl declarations.now) name.now }
+{
+    for declaration in declarations {
+        if let Declaration::Reducer(reducer) = declaration {
+            if reducer.name.as_str() == name {
+                return Some(&reducer.kind);
+            }
+        }
+    }
+    None
+}
+
 /// How many values an update of a reducer of that kind takes.
-fn arity(kind: &Kind) -> usize
+pub fn arity(kind: &Kind) -> usize
     ensures { result ≡ arity kind.now }
 {
     match kind {
@@ -33,48 +49,37 @@ fn arity(kind: &Kind) -> usize
     }
 }
 
-/// How many values an update of the reducer of that name takes.
-pub fn values_of(declarations: &[Declaration], name: &str) -> Option<usize>
-    ensures { result ≡ option_map (λ r. arity r.kind) (reducer_of (reducers (map decl declarations.now)) name.now) }
+/// Whether a program can read reducers of that kind.
+pub fn is_readable(kind: &Kind) -> bool
+    ensures { result ≡ is_readable kind.now }
 {
-    for declaration in declarations {
-        if let Declaration::Reducer(reducer) = declaration {
-            if reducer.name.as_str() == name {
-                return Some(arity(&reducer.kind));
-            }
+    match kind {
+        Kind::List | Kind::First(_) | Kind::Last(_) | Kind::Argmax | Kind::Affine | Kind::Hist =>
+            false,
+        _ => true,
+    }
+}
+
+/// The table of that name.
+pub fn table_of<'a>(tables: &'a [TableNames], name: &str) -> Option<&'a TableNames>
+    ensures { option_map columned (option_copied result) ≡ table_of (map columned tables.now) name.now }
+{
+    for table in tables {
+        if table.name.as_str() == name {
+            return Some(table);
         }
     }
     None
 }
 
-/// The number of the procedure of that name; that of none where there is no such procedure.
-pub fn procedure_number(declarations: &[Declaration], name: &str) -> usize
-    ensures { result ≡ number_of_procedure 0 (map decl declarations.now) name.now }
+/// Whether a name is among these.
+pub fn has_name(names: &[String], name: &str) -> bool
+    ensures { result ≡ has_name (map string_bytes names.now) name.now }
 {
-    let mut number = 0;
-    for declaration in declarations {
-        if let Declaration::Procedure(procedure) = declaration {
-            if procedure.name.as_str() == name {
-                return number;
-            }
-            number += 1;
+    for other in names {
+        if other.as_str() == name {
+            return true;
         }
     }
-    number
-}
-
-/// The number of the reducer of that name; that of none where there is no such reducer.
-pub fn reducer_number(declarations: &[Declaration], name: &str) -> usize
-    ensures { result ≡ number_of_reducer 0 (reducers (map decl declarations.now)) name.now }
-{
-    let mut number = 0;
-    for declaration in declarations {
-        if let Declaration::Reducer(reducer) = declaration {
-            if reducer.name.as_str() == name {
-                return number;
-            }
-            number += 1;
-        }
-    }
-    number
+    false
 }

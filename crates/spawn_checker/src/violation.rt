@@ -1,9 +1,9 @@
 //! Why a program is refused, and the first violation so far.
 ghost use Rattle.std.specs.Prelude.{◌≡◌, [], ◌∷◌};
-ghost use Rattle.checked_program.specs.Violations.{at, noted, when};
+ghost use Rattle.linked_program.specs.Violations.{at, noted, when};
 ghost use Rattle.spawn_checker.specs.declared.violation.CheckError.TheVariants.{NoMemory};
 
-use checked_program::violation::{Rule, Violation};
+use linked_program::violation::{Rule, Violation};
 use std::alloc::AllocError;
 use thiserror::Error;
 
@@ -15,6 +15,9 @@ pub enum CheckError {
     /// The first violation: its rule, the name of the reducer or procedure that holds it, its line.
     #[error("refused E9 {rule} {name} {line}")]
     Check { rule: Rule, name: String, line: u32 },
+    /// No revision number is left.
+    #[error("refused E18")]
+    Exhausted,
 }
 
 impl From<AllocError> for CheckError {

@@ -1,0 +1,4 @@
+pub mod Least
+pub mod Tried
+pub mod Numbers
+pub mod Pushes

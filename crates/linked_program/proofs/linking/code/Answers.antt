@@ -1,0 +1,19 @@
+use Rattle.std.proofs.Common.{◌≡◌, ◌+◌, ◌∷◌, ◌++◌, [], map, take, drop, length, string_bytes, refl, ap, sym, ◌∙◌}
+use Rattle.program_tree.specs.View.{decl}
+use Rattle.linked_program.specs.TableNames.{columned}
+use Rattle.linked_program.proofs.Pushes.{as_many, blocks_linked, length_of_map}
+use Rattle.linked_program.proofs.linking.code.Goals as goal
+
+pub returns : goal.returns
+returns c =
+    let ts = map columned c.args.tables.now in
+    let t = map decl c.args.declarations.now in
+    let p = c.args.procedure.now in
+    let cs = c.in_ok-blocks.blocks.items in
+    let made = rw c.deref.ensures.value at c.in_ok-blocks.ensures in
+    let count = length_of_map string_bytes p.names.items in
+    let slots : c.len-slots.result ≡ length (map string_bytes p.names.items) = cc in
+    record {
+      slots = slots;
+      body = rw (as_many ts t cs p.blocks.items made) (blocks_linked ts t cs p.blocks.items made (length p.blocks.items) 0);
+    }

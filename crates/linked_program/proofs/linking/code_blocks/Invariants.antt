@@ -1,0 +1,8 @@
+use Rattle.std.proofs.Common.{◌≡◌, ◌+◌, ◌≤◌, ℕ, map, take, drop, string_bytes}
+use Rattle.program_tree.specs.View.{decl}
+use Rattle.linked_program.specs.TableNames.{columned}
+use Rattle.linked_program.specs.CodeView.{AreBlocksOf}
+use Rattle.linked_program.proofs.linking.code_blocks.Given as goal
+
+abbrev pub invariant-loop-block : goal.invariant-loop-block
+invariant-loop-block l = AreBlocksOf (map columned l.tables) (map decl l.declarations) l.made.items (take l.block-index l.blocks)

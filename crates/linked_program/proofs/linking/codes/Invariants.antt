@@ -1,0 +1,9 @@
+use Rattle.std.proofs.Common.{◌≡◌, ◌+◌, ◌≤◌, ℕ, map, take, drop, string_bytes}
+use Rattle.program_tree.specs.View.{decl}
+use Rattle.linked_program.specs.TableNames.{columned}
+use Rattle.linked_program.specs.Checked.{procedures}
+use Rattle.linked_program.specs.CodeView.{AreCodesOf}
+use Rattle.linked_program.proofs.linking.codes.Given as goal
+
+abbrev pub invariant-loop-declaration : goal.invariant-loop-declaration
+invariant-loop-declaration l = AreCodesOf (map columned l.tables) (map decl l.declarations) l.made.items (procedures (map decl (take l.declaration-index l.declarations)))

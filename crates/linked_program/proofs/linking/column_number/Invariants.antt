@@ -1,0 +1,7 @@
+use Rattle.std.proofs.Common.{◌≡◌, ◌+◌, ◌≤◌, ℕ, map, take, drop, string_bytes}
+use Rattle.linked_program.specs.TableNames.{columned}
+use Rattle.linked_program.specs.Linked.{column_number}
+use Rattle.linked_program.proofs.linking.column_number.Given as goal
+
+abbrev pub invariant-loop-other : goal.invariant-loop-other
+invariant-loop-other l = column_number (map columned l.tables) l.table l.column ≡ column_number (map columned (drop l.other-index l.tables)) l.table l.column

@@ -1,0 +1,16 @@
+use Rattle.std.proofs.Common.{◌≡◌, ◌+◌, ◌∷◌, ◌++◌, [], map, take, drop, length, string_bytes, refl, ap, sym, ◌∙◌}
+use Rattle.program_tree.specs.View.{decl}
+use Rattle.linked_program.specs.TableNames.{columned}
+use Rattle.linked_program.specs.Linked.{linked_body}
+use Rattle.linked_program.proofs.Pushes.{take_one_more, statement_push}
+use Rattle.linked_program.proofs.linking.instructions.Goals as goal
+
+pub loop-statement-preserved : goal.loop-statement-preserved
+loop-statement-preserved c = λ inner.
+    let ts = map columned c.args.tables.now in
+    let t = map decl c.args.declarations.now in
+    let ss = c.args.statements.now in
+    let i = c.loop-statement.statement-index in
+    let s = c.statement-item.result in
+    rw (c.in_ok-push.ensures.items, take_one_more ss i s c.loop-statement-test.true c.statement-item.is)
+      (statement_push ts t inner (λ n. linked_body ts t (inner n)) c.loop-statement.made.items (take i ss) (record { number = s.number; operation = c.in_ok-operation.operation }) s (c.loop-statement.invariant inner) refl (c.in_ok-operation.ensures inner))

@@ -1,0 +1,65 @@
+-- The plain form of code, and that it is the linked form of a program.
+use Rattle.std.specs.Prelude.{◌≡◌, ℕ, zero, suc, List, [], ◌∷◌, Option, Some, None, map, slice_get, length}
+use Rattle.program_tree.specs.Plain.{Body, Proc, Tree}
+use Rattle.program_tree.specs.declared.Block.{Block}
+use Rattle.program_tree.specs.View.{statements}
+use Rattle.linked_program.specs.TableNames.{Columned}
+use Rattle.linked_program.specs.declared.code.Expression.{Expression}
+use Rattle.linked_program.specs.declared.code.Expression.TheVariants as e
+use Rattle.linked_program.specs.declared.code.Operation.{Operation}
+use Rattle.linked_program.specs.declared.code.Operation.TheVariants as o
+use Rattle.linked_program.specs.declared.code.Instruction.{Instruction}
+use Rattle.linked_program.specs.declared.code.CodeBlock.{CodeBlock}
+use Rattle.linked_program.specs.declared.code.Code.{Code}
+use Rattle.linked_program.specs.Linked.{Linked, constant, slot, cell_at, has_at, limit_at, minus, joined, Act, binds, enters, reads, syncs, updates, chooses, loops, gives, Acts, ends, steps, linked_body}
+
+abbrev pub expression : Expression → Linked
+expression (e.Number n) = constant n
+expression (e.Slot n) = slot n
+expression (e.Cell' t p row c) = cell_at t (expression row) c
+expression (e.Has' t p row) = has_at t (expression row)
+expression (e.Limit t) = limit_at t
+expression (e.Negate' p x) = minus (expression x)
+expression (e.Binary' op p x q y) = joined op (expression x) (expression y)
+
+-- what an operation does, where `inner` is the plain block of a number
+abbrev pub act : (ℕ → Acts) → Operation → Act
+act inner (o.Bind n x) = binds n (expression x)
+act inner (o.Enter n way f xs) = enters n way f (map expression xs.items)
+act inner (o.Read n r) = reads n r
+act inner o.Sync = syncs
+act inner (o.Update r xs) = updates r (map expression xs.items)
+act inner (o.If x b c) = chooses (expression x) (inner b) (inner c)
+act inner (o.Loop n low high grain f xs) = loops n (expression low) (expression high) grain f (map expression xs.items)
+act inner (o.Return x) = gives (expression x)
+
+abbrev pub acts : (ℕ → Acts) → List Instruction → Acts
+acts inner [] = ends
+acts inner (i ∷ is) = steps i.number (act inner i.operation) (acts inner is)
+
+abbrev pub acts_of : (ℕ → Acts) → Option CodeBlock → Acts
+acts_of inner None = ends
+acts_of inner (Some b) = acts inner b.instructions.items
+
+-- the plain block of a number, where blocks nest at most so many levels
+abbrev pub code_block : List CodeBlock → ℕ → ℕ → Acts
+code_block blocks zero n = ends
+code_block blocks (suc levels) n = acts_of (code_block blocks levels) (slice_get blocks n)
+
+-- block by block
+abbrev pub AreBlocksOf : List Columned → Tree → List CodeBlock → List Block → Type 0
+AreBlocksOf ts t [] [] = Unit {0}
+AreBlocksOf ts t (c ∷ cs) (b ∷ bs) =
+    ((inner : ℕ → Body) → acts (λ n. linked_body ts t (inner n)) c.instructions.items ≡ linked_body ts t (statements inner b.statements.items)) × AreBlocksOf ts t cs bs
+AreBlocksOf _ _ _ _ = ⊥
+
+-- the code is that of the procedure: each number is that of the name
+pub record IsCodeOf (ts : List Columned) (t : Tree) (c : Code) (p : Proc) : Type 0 where
+  pub slots : c.slots ≡ length p.names
+  pub body : code_block c.blocks.items (length c.blocks.items) 0 ≡ linked_body ts t p.body
+
+-- the codes are those of the procedures, in their order
+abbrev pub AreCodesOf : List Columned → Tree → List Code → List Proc → Type 0
+AreCodesOf ts t [] [] = Unit {0}
+AreCodesOf ts t (c ∷ cs) (p ∷ ps) = IsCodeOf ts t c p × AreCodesOf ts t cs ps
+AreCodesOf _ _ _ _ = ⊥

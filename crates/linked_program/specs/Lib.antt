@@ -1,0 +1,12 @@
+pub mod TableNames
+pub mod Violations
+pub mod Scope
+pub mod Monoids
+pub mod Rules
+pub mod Bodies
+pub mod Declarations
+pub mod First
+pub mod Checked
+pub mod Linked
+pub mod CodeView
+pub mod Links

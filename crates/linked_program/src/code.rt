@@ -1,0 +1,48 @@
+//! The code of procedures: variables are slots; procedures, reducers, tables and columns are numbers; blocks are those of the tree.
+
+use program_tree::{Operator, Way};
+
+/// An expression over an instance's slots.
+#[derive(Drop)]
+pub enum Expression {
+    Number(i64),
+    Slot(usize),
+    Cell(usize, Box<Expression>, usize),
+    Has(usize, Box<Expression>),
+    Limit(usize),
+    Negate(Box<Expression>),
+    Binary(Operator, Box<Expression>, Box<Expression>),
+}
+
+/// What a statement does.
+#[derive(Drop)]
+pub enum Operation {
+    Bind(usize, Expression),
+    Enter(Option<usize>, Way, usize, Vec<Expression>),
+    Read(usize, usize),
+    Sync,
+    Update(usize, Vec<Expression>),
+    If(Expression, usize, usize),
+    Loop(usize, Expression, Expression, u32, usize, Vec<Expression>),
+    Return(Expression),
+}
+
+/// A statement, with its number in the procedure.
+#[derive(Drop)]
+pub struct Instruction {
+    pub number: u32,
+    pub operation: Operation,
+}
+
+/// A block of statements.
+#[derive(Drop)]
+pub struct CodeBlock {
+    pub instructions: Vec<Instruction>,
+}
+
+/// A procedure's code: how many slots an instance has, its parameters first, and its blocks, of which the first is its body.
+#[derive(Drop)]
+pub struct Code {
+    pub slots: usize,
+    pub blocks: Vec<CodeBlock>,
+}

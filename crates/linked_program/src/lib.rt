@@ -1,0 +1,10 @@
+//! A checked program of the whole language: its rules, its tree, and beside it the code that runs, in which every name is a number.
+#![tactic(auto)]
+
+pub mod checked;
+pub mod code;
+pub mod knowledge;
+pub mod laws;
+pub mod linking;
+pub mod tables;
+pub mod violation;

@@ -1,0 +1,30 @@
+-- Blocks by their numbers, and what doesn't depend on the blocks inside.
+use Rattle.std.proofs.Common.{◌≡◌, ℕ, zero, suc, ◌+◌, ◌-◌, List, [], ◌∷◌, Option, Some, None, slice_get, refl, ap, ◌∙◌, sym, arith}
+use Rattle.program_tree.specs.declared.Block.{Block}
+use Rattle.program_tree.specs.declared.Action.{Action}
+use Rattle.program_tree.specs.declared.Action.TheVariants as a
+use Rattle.program_tree.specs.declared.Statement.{Statement}
+use Rattle.program_tree.specs.Plain.{Body, end}
+use Rattle.program_tree.specs.View.{deed, statements, statements_of, block}
+use Rattle.linked_program.specs.declared.knowledge.Moment.{Moment}
+use Rattle.linked_program.specs.Scope.{Scope, after_deed, closed_deed, closed}
+use Rattle.spawn_checker.specs.Own.{after_own}
+
+pub block_found : (blocks : List Block) (levels n : ℕ) (b : Block) → (levels ≡ 0 → ⊥) → slice_get blocks n ≡ Some b → block blocks levels n ≡ statements (block blocks (levels - 1)) b.statements.items
+block_found blocks zero n b some e = absurd (some refl)
+block_found blocks (suc levels) n b some e = let same : suc levels - 1 ≡ levels = omega arith in rw same (ap (statements_of (block blocks levels)) e)
+
+pub block_missing : (blocks : List Block) (levels n : ℕ) → slice_get blocks n ≡ None → block blocks levels n ≡ end
+block_missing blocks zero n e = refl
+block_missing blocks (suc levels) n e = ap (statements_of (block blocks levels)) e
+
+-- a statement without blocks
+pub closed_anywhere : (depth : ℕ) (scope : Scope) (inner other : ℕ → Body) (action : Action) → closed_deed depth scope (deed inner action) ≡ closed_deed depth scope (deed other action)
+closed_anywhere depth scope inner other (a.Bind n x) = refl
+closed_anywhere depth scope inner other (a.Enter n way f xs) = refl
+closed_anywhere depth scope inner other (a.Read n r) = refl
+closed_anywhere depth scope inner other a.Sync = refl
+closed_anywhere depth scope inner other (a.Update r xs) = refl
+closed_anywhere depth scope inner other (a.If x b c) = refl
+closed_anywhere depth scope inner other (a.Loop n low high grain f xs) = refl
+closed_anywhere depth scope inner other (a.Return x) = refl

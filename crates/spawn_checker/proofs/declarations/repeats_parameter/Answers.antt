@@ -1,0 +1,12 @@
+use Rattle.std.proofs.Common.{◌≡◌, map, take, length, min, string_bytes}
+use Rattle.std.proofs.lemmas.List.{take_min, take-map}
+use Rattle.linked_program.specs.Declarations.{repeats}
+use Rattle.spawn_checker.proofs.declarations.repeats_parameter.Goals as goal
+
+pub returns : goal.returns
+returns c =
+    let k = c.args.procedure.now.parameters in
+    let xs = c.args.procedure.now.names.items in
+    let e = take_min k xs in
+    let f = take-map string_bytes k xs in
+    cc

@@ -1,0 +1,13 @@
+use Rattle.std.proofs.Common.{◌≡◌, ◌++◌, take, ap, ◌∙◌, sym, refl}
+use Rattle.program_tree.specs.View.{block_lines, statement_lines}
+use Rattle.spawn_checker.proofs.Lists.{take_one_more}
+use Rattle.spawn_checker.proofs.Steps.{block_lines_more}
+use Rattle.spawn_checker.proofs.lines.LineTable.new.Goals as goal
+
+pub loop-block-preserved : goal.loop-block-preserved
+loop-block-preserved c =
+    let bs = c.args.blocks.now in
+    let i = c.loop-block.block-index in
+    let b = c.block-item.result in
+    rw (take_one_more bs i b c.loop-block-test.true c.block-item.is, block_lines_more (take i bs) b)
+    (c.in_ok-push_lines.ensures ∙ rw (c.loop-block.invariant, c.deref.ensures.value) refl)

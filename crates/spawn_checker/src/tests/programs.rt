@@ -1,0 +1,101 @@
+//! Whole programs: which of two violations is reported, and what the check answers.
+
+use super::*;
+use crate::checking::check;
+use crate::violation::CheckError;
+use linked_program::checked::Checked;
+use program_tree::Program;
+use std::test::Fail;
+
+// A missing `main` before all others.
+#[test]
+fn main_missing_before_all(rt: HostRuntime) -> Result<(), Fail> {
+    let first = reducer(rt.alloc(), "total", 1, Kind::Add)?;
+    let second = reducer(rt.alloc(), "total", 1, Kind::Add)?;
+    let whole = vec![in rt.alloc(); first, second]?;
+    let found = first_violation(rt.alloc(), &whole, &[])?;
+    assert_eq!(&rt; found.map(|v| v.declaration), Some(0));
+    assert_eq!(&rt; found.map(|v| v.rule), Some(Rule::Main));
+    Ok(())
+}
+
+// By declaration before line: the earlier declaration has the later line.
+#[test]
+fn the_earlier_declaration(rt: HostRuntime) -> Result<(), Fail> {
+    let body = one_block(rt.alloc(), vec![in rt.alloc(); give(9, Expr::Name(0))]?)?;
+    let main = procedure(rt.alloc(), "main", 8, 0, body)?;
+    let body = one_block(rt.alloc(), vec![in rt.alloc(); give(2, Expr::Name(0))]?)?;
+    let leaf = procedure(rt.alloc(), "leaf", 1, 0, body)?;
+    let whole = vec![in rt.alloc(); main, leaf]?;
+    let found = first_violation(rt.alloc(), &whole, &[])?;
+    assert_eq!(&rt; found.map(|v| v.line), Some(9));
+    Ok(())
+}
+
+// By line before rule.
+#[test]
+fn the_earlier_line(rt: HostRuntime) -> Result<(), Fail> {
+    let entry = enter(rt.alloc(), 3, None, Way::Call, "main", Vec::new(rt.alloc()))?;
+    let whole = vec![in rt.alloc(); entry, give(4, Expr::Name(0))]?;
+    assert_eq!(&rt; in_main(rt.alloc(), whole)?, broken(3, Rule::Main));
+    Ok(())
+}
+
+// By rule on one line.
+#[test]
+fn the_lesser_rule(rt: HostRuntime) -> Result<(), Fail> {
+    let entry = enter(rt.alloc(), 3, None, Way::Call, "main", Vec::new(rt.alloc()))?;
+    let whole = vec![in rt.alloc(); entry, give(3, Expr::Name(0))]?;
+    assert_eq!(&rt; in_main(rt.alloc(), whole)?, broken(3, Rule::Unknown));
+    Ok(())
+}
+
+// The answer on the beginning and `main` with these statements.
+fn checked(
+    alloc: Global,
+    statements: Vec<Statement>,
+) -> Result<Result<Checked, CheckError>, AllocError> {
+    let mut declarations = beginning(alloc)?;
+    let body = one_block(alloc, statements)?;
+    declarations.push(procedure(alloc, "main", 2, 0, body)?)?;
+    Ok(check(alloc, Program { declarations }, sales(alloc)?))
+}
+
+// `refused ..` as it is printed; nothing for a checked program.
+fn refusal_text(alloc: Global, answer: Result<Checked, CheckError>) -> Result<String, AllocError> {
+    match answer {
+        Ok(_checked) => Ok(String::new(alloc)),
+        Err(error) => Ok(format!(in alloc; "{error}")?),
+    }
+}
+
+#[test]
+fn unsynced_use_is_refused(rt: HostRuntime) -> Result<(), Fail> {
+    let spawned = spawn_leaf(rt.alloc(), 3, 0)?;
+    let whole = vec![in rt.alloc(); spawned, give(4, Expr::Name(0))]?;
+    let text = refusal_text(rt.alloc(), checked(rt.alloc(), whole)?)?;
+    assert_eq!(&rt; text.as_str(), "refused E9 C3 main 4");
+    Ok(())
+}
+
+#[test]
+fn no_main_is_refused(rt: HostRuntime) -> Result<(), Fail> {
+    let declarations = Vec::new(rt.alloc());
+    let answer = check(rt.alloc(), Program { declarations }, Vec::new(rt.alloc()));
+    let text = refusal_text(rt.alloc(), answer)?;
+    assert_eq!(&rt; text.as_str(), "refused E9 C7 main 0");
+    Ok(())
+}
+
+#[test]
+fn procedures_get_their_first_revisions(rt: HostRuntime) -> Result<(), Fail> {
+    let whole = vec![in rt.alloc(); give(3, Expr::Number(0))]?;
+    match checked(rt.alloc(), whole)? {
+        Ok(program) => {
+            assert_eq!(&rt; program.revisions(), [0, 1].as_slice());
+            assert_eq!(&rt; program.counter(), 2);
+        }
+        Err(_error) => assert!(&rt; false),
+    }
+    Ok(())
+}
