@@ -1,4 +1,6 @@
 pub mod Commands
 pub mod Preparing
+pub mod Reports
+pub mod Runs
 pub mod Statuses
 pub mod Written

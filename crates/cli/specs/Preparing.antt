@@ -4,10 +4,10 @@ use Rattle.program_tree.specs.Plain.{Tree}
 use Rattle.program_tree.specs.View.{tree, lines, Lined}
 use Rattle.meaning.specs.Tables.{Tables}
 use Rattle.input_tables.specs.Document as document
-use Rattle.procedure_parser.specs.Correct.{IsText, IsFaultLine}
+use Rattle.basic_parser.specs.Correct.{IsText, IsFaultLine}
 use Rattle.checked_program.specs.Rules.{violations}
 use Rattle.spawn_checker.specs.Answer.{IsRefusal}
-use Rattle.spawn_checker.specs.declared.violation.CheckError.TheVariants as check
+use Rattle.spawn_checker.specs.declared.basic.violation.CheckError.TheVariants as check
 use Rattle.checked_program.specs.Checked.{PlainChecked}
 use Rattle.cli.specs.declared.prepare.PrepareError.{PrepareError}
 use Rattle.cli.specs.declared.prepare.PrepareError.TheVariants.{NoMemory, Text, NotToml, Shape, Check}

@@ -4,8 +4,8 @@ use checked_program::checked::Checked;
 use frames::answer::{Fault, RunAnswer};
 use input_tables::Tables;
 use meaning::FaultKind;
-use procedure_parser::parse;
-use spawn_checker::check;
+use basic_parser::parse;
+use spawn_checker::basic::check;
 use std::alloc::Global;
 use std::process::Abort;
 use worker_core::kits::Kits;
@@ -20,7 +20,7 @@ const DEEP: &str =
 
 fn program(rt: &impl Abort, alloc: Global, text: &str) -> Checked {
     let parsed = parse(alloc, text.as_bytes()).expect(rt, "a program");
-    check(alloc, parsed, &Tables::new()).expect(rt, "no violation")
+    check(alloc, parsed, &Tables::new(alloc)).expect(rt, "no violation")
 }
 
 // So many steps of work; those past a pause are passed over.

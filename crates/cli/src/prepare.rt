@@ -4,15 +4,15 @@ ghost use Rattle.program_tree.specs.Plain.{Tree};
 ghost use Rattle.program_tree.specs.View.{Lined};
 ghost use Rattle.meaning.specs.Tables.{Tables as TableModel};
 ghost use Rattle.input_tables.specs.Document.{reading, HasCause};
-ghost use Rattle.procedure_parser.specs.Correct.{IsText, IsFault};
+ghost use Rattle.basic_parser.specs.Correct.{IsText, IsFault};
 ghost use Rattle.spawn_checker.specs.Answer.{IsRefusal};
 ghost use Rattle.cli.specs.Preparing.{IsPrepared, IsProgram, IsRefused};
 
 use checked_program::checked::Checked;
 use checked_program::violation::Rule;
 use input_tables::{Tables, TablesError};
-use procedure_parser::{TextError, parse};
-use spawn_checker::{CheckError, check};
+use basic_parser::{TextError, parse};
+use spawn_checker::basic::{CheckError, check};
 use std::alloc::Global;
 use thiserror::Error;
 
@@ -38,7 +38,7 @@ pub fn prepare(
     program: &[u8],
     tables: &str,
 ) -> Result<(Checked, Tables), PrepareError>
-    ensures prepared { IfOk result (λ pair. IsPrepared program.now tables.now pair.0 pair.1) }
+    ensures prepared { IfOk result (λ pair. IsPrepared program.now tables.now pair.0 pair.1.tables) }
     ensures refused { IfErr result (IsRefused program.now tables.now) }
 {
     let tree = match parse(alloc, program) {

@@ -1,17 +1,21 @@
 // The program: its line, its files, its session on standard input and output.
-ghost use Rattle.std.specs.Prelude.{◌≡◌};
+ghost use Rattle.std.specs.Prelude.{◌≡◌, ◌≢◌, ℕ, List, Some, Err, IfOk, IfErr, OnOk, OnErr, string_bytes};
+ghost use Rattle.std.specs.Io.KnownBytes.{Keeps, IsAtEnd};
+ghost use Rattle.std.specs.IoError.{error_kind};
 ghost use Rattle.cli.specs.Statuses.{status_of};
+ghost use Rattle.cli.specs.Reports.{IsOpened, IsUnopened, IsFailed, IsReported, IsBegun, WritesNothing};
 
+use crate::files::{FileSource, SystemFiles};
 use crate::line::options;
 use crate::options::{Options, OptionsError};
 use crate::prepare::{PrepareError, prepare};
 use crate::session::{Session, session_text};
 use crate::streams::SessionError;
 use std::alloc::Global;
-use std::io::{BufReader, BufWriter, ErrorKind};
+use std::io::{BufReader, BufWriter, ErrorKind, Read, Write};
 use std::rt::Runtime;
 use std::sync::Wait;
-use std::{env, fs, io};
+use std::{env, io};
 use thiserror::Error;
 use worker_core::kits::Kits;
 
@@ -45,17 +49,61 @@ pub fn status(error: &ProgramError) -> u8
     }
 }
 
-/// Does the session that the program's line asks for, from standard input to standard output.
-pub fn report<R: Runtime + AllocGlobal + Wait>(rt: &R, alloc: Global) -> Result<(), ProgramError> {
+/// Does the session that the program's line asks for, from standard input to standard output. It has kits.
+pub fn report<S: Runtime + AllocGlobal + Wait>(rt: &S, alloc: Global) -> Result<(), ProgramError>
+    ensures kits { result ≢ Err (ProgramError.Session SessionError.NoKit) }
+{
     let held = line_of(rt, alloc)?;
     let words = lent(alloc, held.as_slice())?;
     let options = options(alloc, words.as_slice()).map_err(|error| ProgramError::Line(error))?;
-    let session = session_of(rt, alloc, options)?;
-    converse(rt, alloc, session, options.workers).map_err(|error| ProgramError::Session(error))
+    let Ok(mut reader) = BufReader::new(alloc, rt.reader()) else {
+        return Err(no_memory());
+    };
+    let Ok(mut writer) = BufWriter::new(alloc, io::writer(rt)) else {
+        return Err(no_memory());
+    };
+    report_on(
+        rt,
+        alloc,
+        options,
+        &SystemFiles { rt },
+        &mut reader,
+        &mut writer,
+    )
+}
+
+/// Does the session that the options ask for: its program and its tables are those of two files, its script is all that
+/// the reader has, its answers go to the writer. Where a file fails or is refused nothing is written.
+pub fn report_on<F: FileSource, R: Read, W: Write>(
+    rt: &impl Wait,
+    alloc: Global,
+    options: Options<'_>,
+    files: &F,
+    reader: &mut R,
+    writer: &mut W,
+) -> Result<(), ProgramError>
+    ensures answered { OnOk result ((program tables script : List ℕ) → F.held files.now options.entry.program.now ≡ Some program
+        → F.held files.now options.entry.tables.now ≡ Some tables → R.remaining reader.old ≡ Some script
+        → IsReported program tables script (W.contents writer.old) (W.contents writer.new)) }
+    ensures over { OnOk result (IsAtEnd (R.remaining reader.new)) }
+    ensures unopened { IfErr result (IsUnopened (F.held files.now) options.entry.program.now options.entry.tables.now) }
+    ensures beginning { (program tables script : List ℕ) → F.held files.now options.entry.program.now ≡ Some program
+        → F.held files.now options.entry.tables.now ≡ Some tables → R.remaining reader.old ≡ Some script
+        → IsBegun program tables script (W.contents writer.old) (W.contents writer.new) }
+    ensures unwritten { IfErr result (λ e. WritesNothing e → Keeps (W.contents writer.old) (W.contents writer.new)) }
+    ensures kits { result ≢ Err (ProgramError.Session SessionError.NoKit) }
+{
+    let session = session_of(alloc, options, files)?;
+    match session_text(rt, alloc, session, options.workers, reader, writer) {
+        Ok(()) => Ok(()),
+        Err(error) => Err(ProgramError::Session(error)),
+    }
 }
 
 // The words of the program's line.
-fn line_of<R: Runtime + AllocGlobal>(rt: &R, alloc: Global) -> Result<Vec<String>, ProgramError> {
+fn line_of<S: Runtime + AllocGlobal>(rt: &S, alloc: Global) -> Result<Vec<String>, ProgramError>
+    ensures kits { result ≢ Err (ProgramError.Session SessionError.NoKit) }
+{
     let mut words = Vec::new(alloc);
     let args = match env::args(rt) {
         Ok(args) => args,
@@ -69,7 +117,9 @@ fn line_of<R: Runtime + AllocGlobal>(rt: &R, alloc: Global) -> Result<Vec<String
 }
 
 // The words, lent.
-fn lent(alloc: Global, held: &[String]) -> Result<Vec<&str>, ProgramError> {
+fn lent(alloc: Global, held: &[String]) -> Result<Vec<&str>, ProgramError>
+    ensures kits { result ≢ Err (ProgramError.Session SessionError.NoKit) }
+{
     let mut words = Vec::new(alloc);
     for word in held.iter() {
         words.push(word.as_str()).map_err(|_| no_memory())?;
@@ -78,20 +128,28 @@ fn lent(alloc: Global, held: &[String]) -> Result<Vec<&str>, ProgramError> {
 }
 
 // The session of a program's file and a tables' file.
-fn session_of<R: Runtime + AllocGlobal>(
-    rt: &R,
+fn session_of<F: FileSource>(
     alloc: Global,
     options: Options<'_>,
-) -> Result<Session, ProgramError> {
-    let program = match fs::read(rt, options.program) {
+    files: &F,
+) -> Result<Session, ProgramError>
+    ensures opened { IfOk result (λ session. IsOpened (F.held files.now) options.entry.program.now options.entry.tables.now session.checked session.tables.tables) }
+    ensures kits { IfOk result (λ session. session.kits.free ≡ 64) }
+    ensures unopened { IfErr result (IsUnopened (F.held files.now) options.entry.program.now options.entry.tables.now) }
+    ensures has_kits { result ≢ Err (ProgramError.Session SessionError.NoKit) }
+{
+    let program = match files.read(alloc, options.program) {
         Ok(program) => program,
         Err(error) => return Err(failed(alloc, options.program, &error)),
     };
-    let tables = match fs::read_to_string(rt, options.tables) {
+    let tables = match files.read(alloc, options.tables) {
         Ok(tables) => tables,
         Err(error) => return Err(failed(alloc, options.tables, &error)),
     };
-    match prepare(alloc, program.as_slice(), tables.as_str()) {
+    let Ok(text) = str::from_utf8(tables.as_slice()) else {
+        return Err(failed_file(alloc, options.tables));
+    };
+    match prepare(alloc, program.as_slice(), text) {
         Ok((checked, tables)) => Ok(Session {
             checked,
             tables,
@@ -101,27 +159,21 @@ fn session_of<R: Runtime + AllocGlobal>(
     }
 }
 
-// A session on standard input and output.
-fn converse<R: Runtime + AllocGlobal + Wait>(
-    rt: &R,
-    alloc: Global,
-    session: Session,
-    workers: usize,
-) -> Result<(), SessionError> {
-    let Ok(mut reader) = BufReader::new(alloc, rt.reader()) else {
-        return Err(SessionError::NoMemory);
-    };
-    let Ok(mut writer) = BufWriter::new(alloc, io::writer(rt)) else {
-        return Err(SessionError::NoMemory);
-    };
-    session_text(rt, alloc, session, workers, &mut reader, &mut writer)
-}
-
-// A file that failed, by its path.
-fn failed(alloc: Global, path: &str, error: &io::Error) -> ProgramError {
+// A file that failed with that error: its path, or want of memory.
+fn failed(alloc: Global, path: &str, error: &io::Error) -> ProgramError
+    ensures failed { IsFailed path.now result }
+    ensures memory { error_kind error.now ≡ ErrorKind.OutOfMemory → result ≡ ProgramError.Session SessionError.NoMemory }
+{
     if error.kind() == ErrorKind::OutOfMemory {
         return no_memory();
     }
+    failed_file(alloc, path)
+}
+
+// A file that failed, by its path.
+fn failed_file(alloc: Global, path: &str) -> ProgramError
+    ensures failed { IsFailed path.now result }
+{
     match String::from_str(alloc, path) {
         Ok(path) => ProgramError::File(path),
         Err(_) => no_memory(),
@@ -129,6 +181,8 @@ fn failed(alloc: Global, path: &str, error: &io::Error) -> ProgramError {
 }
 
 // Memory was refused.
-fn no_memory() -> ProgramError {
+fn no_memory() -> ProgramError
+    ensures memory { result ≡ ProgramError.Session SessionError.NoMemory }
+{
     ProgramError::Session(SessionError::NoMemory)
 }

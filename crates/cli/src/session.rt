@@ -39,11 +39,12 @@ pub fn session_text<R: Read, W: Write>(
     writer: &mut W,
 ) -> Result<(), SessionError>
     ensures answered { OnOk result (IfSome (R.remaining reader.old) (λ script.
-        Appends (W.contents writer.old) (W.contents writer.new) (answers_text (tree session.checked.program) session.tables script))) }
+        Appends (W.contents writer.old) (W.contents writer.new) (answers_text (tree session.checked.program) session.tables.tables script))) }
     ensures over { OnOk result (IsAtEnd (R.remaining reader.new)) }
     ensures unread { result ≡ Err SessionError.Read → Keeps (W.contents writer.old) (W.contents writer.new) }
     ensures beginning { IfSome (R.remaining reader.old) (λ script.
-        HasBeginning (W.contents writer.old) (W.contents writer.new) (answers_text (tree session.checked.program) session.tables script)) }
+        HasBeginning (W.contents writer.old) (W.contents writer.new) (answers_text (tree session.checked.program) session.tables.tables script)) }
+    ensures no_kit { result ≡ Err SessionError.NoKit → session.kits.free ≡ 0 }
 {
     let script = read_all(alloc, reader)?;
     let mut session = session;
@@ -62,9 +63,10 @@ fn answer_script<W: Write>(
     script: &[u8],
     writer: &mut W,
 ) -> Result<(), SessionError>
-    ensures written { OnOk result (Appends (W.contents writer.old) (W.contents writer.new) (answers_text (tree session.old.checked.program) session.old.tables script.now)) }
-    ensures beginning { HasBeginning (W.contents writer.old) (W.contents writer.new) (answers_text (tree session.old.checked.program) session.old.tables script.now) }
+    ensures written { OnOk result (Appends (W.contents writer.old) (W.contents writer.new) (answers_text (tree session.old.checked.program) session.old.tables.tables script.now)) }
+    ensures beginning { HasBeginning (W.contents writer.old) (W.contents writer.new) (answers_text (tree session.old.checked.program) session.old.tables.tables script.now) }
     ensures read { OnErr result (¬ (result ≡ Err SessionError.Read)) }
+    ensures no_kit { result ≡ Err SessionError.NoKit → session.old.kits.free ≡ 0 }
 {
     let commands = match commands(alloc, script) {
         Ok(commands) => commands,
@@ -92,10 +94,12 @@ fn answer(
 ) -> Result<usize, SessionError>
     requires { runs + 1 < 2 ^ 64 }
     ensures answered { OnOk result (string_bytes text.new ≡ string_bytes text.old
-        ++ answer_text (tree session.old.checked.program) session.old.tables runs (said command)) }
+        ++ answer_text (tree session.old.checked.program) session.old.tables.tables runs (said command)) }
     ensures runs { IfOk result (λ n. n ≡ runs_after runs (said command)) }
     ensures same { session.new ≡ record session.old { kits = session.new.kits } }
     ensures refused { IfErr result (λ e. (e ≡ SessionError.NoMemory) ⊎ (e ≡ SessionError.NoKit)) }
+    ensures no_kit { result ≡ Err SessionError.NoKit → session.old.kits.free ≡ 0 }
+    ensures kits { 0 < session.old.kits.free → session.new.kits ≡ session.old.kits }
 {
     match command {
         Command::Unknown(line) => {

@@ -1,6 +1,11 @@
 use Rattle.std.proofs.Common.{◌≡◌}
+use Rattle.cli.specs.Runs.{IsSameRun, IsRunOf0}
 use Rattle.cli.proofs.runs.drive.Given as goal
 
 abbrev pub invariant-loop : goal.invariant-loop
-invariant-loop g l =
-    (goal.iterator-loop g).can_next l.iterator' × (goal.iterator-loop g).is_finite l.iterator' × (l.core.program ≡ l.fn.core.program)
+invariant-loop g l = record {
+  can_next : (goal.iterator-loop g).can_next l.iterator';
+  is_finite : (goal.iterator-loop g).is_finite l.iterator';
+  same : IsSameRun l.fn.core l.core;
+  run : IsRunOf0 l.fn.core → IsRunOf0 l.core;
+}

@@ -1,4 +1,4 @@
-use Rattle.std.proofs.Common.{◌≡◌, ◌∙◌, ◌++◌, ◌≤◌, ◌+◌, ap, map, subst, refl, append_assoc, arith, ℕ}
+use Rattle.std.proofs.Common.{◌≡◌, ◌<◌, sym, ◌∙◌, ◌++◌, ◌≤◌, ◌+◌, ap, map, subst, refl, append_assoc, arith, ℕ}
 use Rattle.program_tree.specs.View.{tree}
 use Rattle.meaning.specs.Script as script
 use Rattle.meaning.specs.Text.{answers_from, runs_after}
@@ -12,24 +12,27 @@ pub returns-in_err-runs-clause-beginning : goal.returns-in_err-runs-clause-begin
 returns-in_err-runs-clause-beginning g c =
     let w = c.loop-command.invariant.written in
     let all = ap (map said) c.deref-command-items.ensures.value ∙ c.in-Ok.ensures in
-    subst (λ cs. HasBeginning (g.W.Write.contents c.args.writer.now) (g.W.Write.contents c.loop-command.writer) (answers_from (tree c.args.session.now.checked.program) c.args.session.now.tables 0 cs)) all
+    subst (λ cs. HasBeginning (g.W.Write.contents c.args.writer.now) (g.W.Write.contents c.loop-command.writer) (answers_from (tree c.args.session.now.checked.program) c.args.session.now.tables.tables 0 cs)) all
     (beginning_of _ _ w.0 _ _ w.1 w.2)
 
 pub returns-in_err-write_whole-clause-beginning : goal.returns-in_err-write_whole-clause-beginning
 returns-in_err-write_whole-clause-beginning g c =
     let w = c.loop-command.invariant.written in
     let all = ap (map said) c.deref-command-items.ensures.value ∙ c.in-Ok.ensures in
-    let next = one_more_answer c.args.session.now.checked c.loop-command.session.checked c.args.session.now.tables c.loop-command.session.tables c.loop-command.runs c.in_ok-runs.runs c.loop-command.command-index c.deref-command-items.result.now _ w.0 _ _ _ _ c.loop-command-test.true c.loop-command.invariant.same_program c.loop-command.invariant.same_tables c.clear.ensures.bytes c.in_ok-runs.ensures.answered c.as_bytes.ensures.value c.in_ok-runs.ensures.runs w.2 in
-    subst (λ cs. HasBeginning (g.W.Write.contents c.args.writer.now) (g.W.Write.contents c.write_whole.new.writer) (answers_from (tree c.args.session.now.checked.program) c.args.session.now.tables 0 cs)) all
+    let next = one_more_answer c.args.session.now.checked c.loop-command.session.checked c.args.session.now.tables.tables c.loop-command.session.tables.tables c.loop-command.runs c.in_ok-runs.runs c.loop-command.command-index c.deref-command-items.result.now _ w.0 _ _ _ _ c.loop-command-test.true c.loop-command.invariant.same_program (ap (λ t. t.tables) c.loop-command.invariant.same_tables) c.clear.ensures.bytes c.in_ok-runs.ensures.answered c.as_bytes.ensures.value c.in_ok-runs.ensures.runs w.2 in
+    subst (λ cs. HasBeginning (g.W.Write.contents c.args.writer.now) (g.W.Write.contents c.write_whole.new.writer) (answers_from (tree c.args.session.now.checked.program) c.args.session.now.tables.tables 0 cs)) all
     (beginning_after _ _ _ w.0 _ _ _ w.1 c.in_err-write_whole.ensures.beginning next)
 
 pub loop-command-preserved : goal.loop-command-preserved
 loop-command-preserved g c =
     let w = c.loop-command.invariant.written in
-    let next = one_more_answer c.args.session.now.checked c.loop-command.session.checked c.args.session.now.tables c.loop-command.session.tables c.loop-command.runs c.in_ok-runs.runs c.loop-command.command-index c.deref-command-items.result.now _ w.0 _ _ _ _ c.loop-command-test.true c.loop-command.invariant.same_program c.loop-command.invariant.same_tables c.clear.ensures.bytes c.in_ok-runs.ensures.answered c.as_bytes.ensures.value c.in_ok-runs.ensures.runs w.2 in
+    let next = one_more_answer c.args.session.now.checked c.loop-command.session.checked c.args.session.now.tables.tables c.loop-command.session.tables.tables c.loop-command.runs c.in_ok-runs.runs c.loop-command.command-index c.deref-command-items.result.now _ w.0 _ _ _ _ c.loop-command-test.true c.loop-command.invariant.same_program (ap (λ t. t.tables) c.loop-command.invariant.same_tables) c.clear.ensures.bytes c.in_ok-runs.ensures.answered c.as_bytes.ensures.value c.in_ok-runs.ensures.runs w.2 in
     record {
       same_program = ap (λ s. s.checked) c.in_ok-runs.ensures.same ∙ c.loop-command.invariant.same_program;
       same_tables = ap (λ s. s.tables) c.in_ok-runs.ensures.same ∙ c.loop-command.invariant.same_tables;
+      kits = λ some.
+          let before = c.loop-command.invariant.kits some in
+          c.in_ok-runs.ensures.kits (subst (λ k. 0 < k.free) (sym before) some) ∙ before;
       few = runs_after-le _ _ _ _ c.in_ok-runs.ensures.runs c.loop-command.invariant.few;
       written = (_, Appends-more _ _ _ w.0 _ w.1 c.in_ok-write_whole.ensures.written, rw append_assoc next);
     }
@@ -38,5 +41,5 @@ pub returns-clause-beginning : goal.returns-clause-beginning
 returns-clause-beginning g c =
     let w = c.loop-command.invariant.written in
     let all = ap (map said) c.deref-command-items.ensures.value ∙ c.in-Ok.ensures in
-    subst (λ cs. HasBeginning (g.W.Write.contents c.args.writer.now) (g.W.Write.contents c.loop-command.writer) (answers_from (tree c.args.session.now.checked.program) c.args.session.now.tables 0 cs)) all
+    subst (λ cs. HasBeginning (g.W.Write.contents c.args.writer.now) (g.W.Write.contents c.loop-command.writer) (answers_from (tree c.args.session.now.checked.program) c.args.session.now.tables.tables 0 cs)) all
     (beginning_of _ _ w.0 _ _ w.1 w.2)

@@ -1,0 +1,64 @@
+-- What a session over two files, a script and a writer comes to, and why it is not begun.
+use Rattle.std.specs.Prelude.{◌≡◌, ◌⊎◌, ℕ, List, Option, Some, None, Ok, Err, string_bytes, IsUtf8}
+use Rattle.std.specs.Io.KnownBytes.{Appends, Keeps}
+use Rattle.program_tree.specs.View.{tree}
+use Rattle.meaning.specs.Tables.{Tables}
+use Rattle.meaning.specs.Text.{answers_text}
+use Rattle.checked_program.specs.Checked.{PlainChecked}
+use Rattle.cli.specs.declared.streams.SessionError.{SessionError}
+use Rattle.cli.specs.declared.streams.SessionError.TheVariants as s
+use Rattle.cli.specs.declared.program.ProgramError.{ProgramError}
+use Rattle.cli.specs.declared.program.ProgramError.TheVariants.{Line, File, Prepare, Session}
+use Rattle.cli.specs.Written.{HasBeginning}
+use Rattle.cli.specs.Preparing.{IsPrepared, IsRefused}
+
+-- the program and the tables are those of the files at these paths
+abbrev pub IsOpened : (List ℕ → Option (List ℕ)) → List ℕ → List ℕ → PlainChecked → Tables → Type 0
+IsOpened held program_path tables_path checked tables =
+    (program tables_text : List ℕ) → held program_path ≡ Some program → held tables_path ≡ Some tables_text
+    → IsPrepared program tables_text checked tables
+
+-- the bytes that are known there are no text, or none are known
+abbrev pub IsNoText : Option (List ℕ) → Type 0
+IsNoText None = Unit {0}
+IsNoText (Some bytes) = IsUtf8 bytes → ⊥
+
+-- why no session was begun; of a session that was, nothing is said
+abbrev pub IsUnopened : (List ℕ → Option (List ℕ)) → List ℕ → List ℕ → ProgramError → Type 0
+IsUnopened held program_path tables_path (Line e) = ⊥
+IsUnopened held program_path tables_path (File path) =
+    ((string_bytes path ≡ program_path) × (held program_path ≡ None))
+    ⊎ ((string_bytes path ≡ tables_path) × IsNoText (held tables_path))
+IsUnopened held program_path tables_path (Prepare e) =
+    (program tables_text : List ℕ) → held program_path ≡ Some program → held tables_path ≡ Some tables_text → IsRefused program tables_text e
+IsUnopened held program_path tables_path (Session e) = Unit {0}
+
+-- the error of a file that failed: its path, or want of memory
+abbrev pub IsFailed : List ℕ → ProgramError → Type 0
+IsFailed path (Line e) = ⊥
+IsFailed path (File name) = string_bytes name ≡ path
+IsFailed path (Prepare e) = ⊥
+IsFailed path (Session e) = e ≡ s.NoMemory
+
+-- the answers of some program that the texts give, and to this script, were written
+abbrev pub IsReported : List ℕ → List ℕ → List ℕ → Option (List ℕ) → Option (List ℕ) → Type 0
+IsReported program tables_text script old new =
+    (checked : PlainChecked) × (tables : Tables) × IsPrepared program tables_text checked tables
+    × Appends old new (answers_text (tree checked.program) tables script)
+
+-- nothing, or a beginning of such answers, was written
+abbrev pub IsBegun : List ℕ → List ℕ → List ℕ → Option (List ℕ) → Option (List ℕ) → Type 0
+IsBegun program tables_text script old new =
+    Keeps old new
+    ⊎ ((checked : PlainChecked) × (tables : Tables) × IsPrepared program tables_text checked tables
+    × HasBeginning old new (answers_text (tree checked.program) tables script))
+
+-- the errors after which nothing was written
+abbrev pub WritesNothing : ProgramError → Type 0
+WritesNothing (Line e) = Unit {0}
+WritesNothing (File path) = Unit {0}
+WritesNothing (Prepare e) = Unit {0}
+WritesNothing (Session s.Read) = Unit {0}
+WritesNothing (Session s.NoMemory) = ⊥
+WritesNothing (Session s.NoKit) = ⊥
+WritesNothing (Session s.Write) = ⊥
