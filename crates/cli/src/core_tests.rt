@@ -1,10 +1,10 @@
 // Runs of one strand, step by step.
 
+use basic_parser::parse;
 use checked_program::checked::Checked;
 use frames::answer::{Fault, RunAnswer};
 use input_tables::Tables;
 use meaning::FaultKind;
-use basic_parser::parse;
 use spawn_checker::basic::check;
 use std::alloc::Global;
 use std::process::Abort;

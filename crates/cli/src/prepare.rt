@@ -8,10 +8,10 @@ ghost use Rattle.basic_parser.specs.Correct.{IsText, IsFault};
 ghost use Rattle.spawn_checker.specs.Answer.{IsRefusal};
 ghost use Rattle.cli.specs.Preparing.{IsPrepared, IsProgram, IsRefused};
 
+use basic_parser::{TextError, parse};
 use checked_program::checked::Checked;
 use checked_program::violation::Rule;
 use input_tables::{Tables, TablesError};
-use basic_parser::{TextError, parse};
 use spawn_checker::basic::{CheckError, check};
 use std::alloc::Global;
 use thiserror::Error;

@@ -53,18 +53,18 @@ lines_across : (u v w : Violation) → line_order u v ≡ false → line_order v
 lines_across u v w e f =
     never_before u.line w.line (rule_order u w)
     (across u.line v.line w.line (rule_order u v) (rule_order v w) (rule_order u w)
-      (rules_across (number_of u.rule) (number_of v.rule) (number_of w.rule))
-      (not_before u.line v.line (rule_order u v) e)
-      (not_before v.line w.line (rule_order v w) f))
+    (rules_across (number_of u.rule) (number_of v.rule) (number_of w.rule))
+    (not_before u.line v.line (rule_order u v) e)
+    (not_before v.line w.line (rule_order v w) f))
 
 -- one not before a second that isn't before a third
 before_across : (u v w : Violation) → comes_before u v ≡ false → comes_before v w ≡ false → comes_before u w ≡ false
 before_across u v w e f =
     never_before u.declaration w.declaration (line_order u w)
     (across u.declaration v.declaration w.declaration (line_order u v) (line_order v w) (line_order u w)
-      (lines_across u v w)
-      (not_before u.declaration v.declaration (line_order u v) e)
-      (not_before v.declaration w.declaration (line_order v w) f))
+    (lines_across u v w)
+    (not_before u.declaration v.declaration (line_order u v) e)
+    (not_before v.declaration w.declaration (line_order v w) f))
 
 -- the same the other way round, where it is before it
 record IsAfter (a b : ℕ) (rest : Bool) : Type 0 where

@@ -51,4 +51,3 @@ column_found (x ∷ xs) c e = found_here x xs c (bytes_eq x c) refl (column_foun
 
 pub column_is : (ts : List Columned) (u c : Name) → ColumnIs ts u c
 column_is ts u c = column_found (columns_in (table_of ts u)) c
-

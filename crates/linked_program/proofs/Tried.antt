@@ -75,8 +75,8 @@ true_from_monoid t m =
     both_true (unit_kept t) (all_below (seconds t) t.size)
     (all_below_true (keeps_unit t) t.size (λ a l. both_true (table_at t t.unit a == a) (table_at t a t.unit == a) (same_number (table_at t t.unit a) a (m.left_identity a l)) (same_number (table_at t a t.unit) a (m.right_identity a l))))
     (all_below_true (seconds t) t.size (λ a la.
-      all_below_true (thirds t a) t.size (λ b lb.
-        all_below_true (agrees t a b) t.size (λ c lc. same_number (table_at t (table_at t a b) c) (table_at t a (table_at t b c)) (m.associative a b c la lb lc)))))
+    all_below_true (thirds t a) t.size (λ b lb.
+    all_below_true (agrees t a b) t.size (λ c lc. same_number (table_at t (table_at t a b) c) (table_at t a (table_at t b c)) (m.associative a b c la lb lc)))))
 
 pub answer_is : (t : Table) (r : TableAnswer) → IsAnswer t r → says_monoid r ≡ is_monoid_table t
 answer_is t Monoid h = sym (true_from_monoid t h)

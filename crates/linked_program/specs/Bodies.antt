@@ -16,14 +16,14 @@ abbrev mutual
   -- the violations in the blocks of a statement
   pub inner_violations : Setting → Moment → Scope → Deed → List Violation
   inner_violations s now scope (choose e a b) =
-    body_violations s (now.depth + 1) 1 scope a ++ body_violations s (now.depth + 1) 1 (second now scope a) b
+      body_violations s (now.depth + 1) 1 scope a ++ body_violations s (now.depth + 1) 1 (second now scope a) b
   inner_violations s now scope _ = []
 
   -- the violations of the statements of a block, of which the first has this place
   pub body_violations : Setting → ℕ → ℕ → Scope → Body → List Violation
   body_violations s depth place scope end = []
   body_violations s depth place scope (step n d rest) =
-    (at s.declaration (line_of s.lines n) (deed_rules s (moment depth place) scope d) ++ inner_violations s (moment depth place) scope d)
+      (at s.declaration (line_of s.lines n) (deed_rules s (moment depth place) scope d) ++ inner_violations s (moment depth place) scope d)
       ++ body_violations s depth (place + 1) (after_deed (moment depth place) scope d) rest
 
 -- the violations of a statement of this number

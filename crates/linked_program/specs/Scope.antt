@@ -117,7 +117,7 @@ abbrev mutual
   after_deed now scope sync = passed now scope
   after_deed now scope (update r es) = scope
   after_deed now scope (choose e a b) =
-    branched now scope (λ s. closed (now.depth + 1) (after_body (now.depth + 1) 1 s a) a) (λ s. closed (now.depth + 1) (after_body (now.depth + 1) 1 s b) b)
+      branched now scope (λ s. closed (now.depth + 1) (after_body (now.depth + 1) 1 s a) a) (λ s. closed (now.depth + 1) (after_body (now.depth + 1) 1 s b) b)
   after_deed now scope (loop x e f grain g es) = looped scope x
   after_deed now scope (give e) = scope
 

@@ -39,7 +39,12 @@ impl Model for Checked {
 
 impl Checked {
     /// The program with these tables' names, its procedures' revision numbers and the least number that was never used.
-    pub fn new(program: Program, tables: Vec<TableNames>, revisions: Vec<u64>, counter: u64) -> Checked
+    pub fn new(
+        program: Program,
+        tables: Vec<TableNames>,
+        revisions: Vec<u64>,
+        counter: u64,
+    ) -> Checked
         requires checked { IsChecked (record { program = program; tables = map columned tables.items; revisions = revisions.items; counter = counter }) }
         ensures checked { result ≡ record { program = program; tables = map columned tables.items; revisions = revisions.items; counter = counter } }
     {

@@ -82,11 +82,7 @@ fn column_number(tables: &[TableNames], table: &str, column: &str) -> usize
     0
 }
 
-fn expression(
-    alloc: Global,
-    tables: &[TableNames],
-    expr: &Expr,
-) -> Result<Expression, AllocError>
+fn expression(alloc: Global, tables: &[TableNames], expr: &Expr) -> Result<Expression, AllocError>
     ensures { IfOk result (λ made. plain made ≡ linked_term (map columned tables.now) (term expr.now)) }
 {
     match expr {
@@ -95,11 +91,7 @@ fn expression(
         Expr::Cell(table, row, column) => {
             let row = Box::new(alloc, expression(alloc, tables, row)?)?;
             let number = column_number(tables, table.as_str(), column.as_str());
-            Ok(Expression::Cell(
-                table_number(tables, table.as_str()),
-                row,
-                number,
-            ))
+            Ok(Expression::Cell(table_number(tables, table.as_str()), row, number))
         }
         Expr::Has(table, row) => {
             let row = Box::new(alloc, expression(alloc, tables, row)?)?;
@@ -150,9 +142,7 @@ fn repetition(
     let high = expression(alloc, tables, high)?;
     let arguments = expressions(alloc, tables, arguments)?;
     let procedure = procedure_number(declarations, callee);
-    Ok(Operation::Loop(
-        name, low, high, grain, procedure, arguments,
-    ))
+    Ok(Operation::Loop(name, low, high, grain, procedure, arguments))
 }
 
 fn operation(

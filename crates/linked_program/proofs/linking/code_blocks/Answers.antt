@@ -12,4 +12,4 @@ loop-block-preserved c =
     let i = c.loop-block.block-index in
     let b = c.block-item.result in
     rw (c.in_ok-push.ensures.items, take_one_more bs i b c.loop-block-test.true c.block-item.is)
-      (block_push ts t c.loop-block.made.items (take i bs) (record { instructions = c.in_ok-instructions.instructions }) b c.loop-block.invariant (rw c.deref.ensures.value at c.in_ok-instructions.ensures))
+    (block_push ts t c.loop-block.made.items (take i bs) (record { instructions = c.in_ok-instructions.instructions }) b c.loop-block.invariant (rw c.deref.ensures.value at c.in_ok-instructions.ensures))

@@ -18,7 +18,7 @@ loop-declaration-preserved c =
     let ps = procedures_push (take i ds) x in
     elim c.match-declaration.branch [
       | in-Procedure+in_ok-code+in_ok-push w ↦
-        rw (more, ps, w.in-Procedure.is, w.made-is, w.in_ok-push.ensures.items)
+          rw (more, ps, w.in-Procedure.is, w.made-is, w.in_ok-push.ensures.items)
           (code_push ts t c.loop-declaration.made.items (procedures (map decl (take i ds))) w.in_ok-code.field-0 (proc w.in-Procedure.procedure) c.loop-declaration.invariant w.in_ok-code.ensures)
       | in_default w ↦ rw (more, ps, w.in_default.is, w.made-is, append-nil) c.loop-declaration.invariant
     ]

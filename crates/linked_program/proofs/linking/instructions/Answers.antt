@@ -13,4 +13,4 @@ loop-statement-preserved c = λ inner.
     let i = c.loop-statement.statement-index in
     let s = c.statement-item.result in
     rw (c.in_ok-push.ensures.items, take_one_more ss i s c.loop-statement-test.true c.statement-item.is)
-      (statement_push ts t inner (λ n. linked_body ts t (inner n)) c.loop-statement.made.items (take i ss) (record { number = s.number; operation = c.in_ok-operation.operation }) s (c.loop-statement.invariant inner) refl (c.in_ok-operation.ensures inner))
+    (statement_push ts t inner (λ n. linked_body ts t (inner n)) c.loop-statement.made.items (take i ss) (record { number = s.number; operation = c.in_ok-operation.operation }) s (c.loop-statement.invariant inner) refl (c.in_ok-operation.ensures inner))
