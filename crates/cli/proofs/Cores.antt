@@ -3,28 +3,28 @@ use Rattle.std.proofs.Common.{◌≡◌, ℕ, ◌+◌, ◌-◌, ◌<◌, ◌==�
 use Rattle.std.proofs.lemmas.Bool.{eqb-false}
 use Rattle.checked_program.specs.Checked.{PlainChecked}
 use Rattle.checked_program.specs.Linked.{IsLinked}
-use Rattle.frames.specs.declared.answer.Phase.{Phase}
-use Rattle.frames.specs.declared.answer.Phase.TheVariants as phase
-use Rattle.frames.specs.declared.answer.Paused.{Paused}
-use Rattle.frames.specs.declared.answer.Paused.TheVariants as paused
-use Rattle.frames.specs.declared.answer.RunAnswer.{RunAnswer}
-use Rattle.frames.specs.declared.answer.RunAnswer.TheVariants as answer
-use Rattle.frames.specs.Activations.{PlainActivation, PlainTask}
-use Rattle.frames.specs.Advance.{advanced, pause_at, pause_of, returned_at, returned_of, returned_by, resumed, bottom_pause, first_of}
-use Rattle.frames.specs.Answers.{Ending, underway, over, stopped, ending_at, ending_of, over_at, IsAnswer}
-use Rattle.worker_core.specs.Cores.{PlainCore, taken, taken_if, is_open_to, worker_of, put, failed_by, is_failure, IsCause, first_core, EndsRun, IsEnd, given_back}
-use Rattle.worker_core.specs.Pieces.{PlainPiece, stepped, worked, worked_at, pushed_at, pushed_over, inlined_at, popped_by, popped_of, popped, stalled_at, stalled, ended_with, takes_memory, end_at, end_of, inlined, holds, held_by}
-use Rattle.worker_core.specs.Keeps.{IsRight, InDepth, Depths, DepthsAt}
-use Rattle.worker_core.specs.Stands.{activations}
-use Rattle.worker_core.specs.Kits.{PlainKits}
-use Rattle.worker_core.specs.declared.piece.State.{State}
-use Rattle.worker_core.specs.declared.piece.State.TheVariants as state
-use Rattle.worker_core.specs.declared.step.Step.{Step}
-use Rattle.worker_core.specs.declared.step.Step.TheVariants.{Work, Push, Inline, Pop, Stall, Steal, Fold}
-use Rattle.worker_core.specs.declared.step.Refusal.{Refusal}
-use Rattle.worker_core.specs.declared.step.Refusal.TheVariants.{NoMemory, Nothing, NotThere}
-use Rattle.worker_core.proofs.Keeps.{IsRight-step, IsRight-first}
-use Rattle.worker_core.proofs.Cores.{open_holds}
+use Rattle.basic_frames.specs.declared.answer.Phase.{Phase}
+use Rattle.basic_frames.specs.declared.answer.Phase.TheVariants as phase
+use Rattle.basic_frames.specs.declared.answer.Paused.{Paused}
+use Rattle.basic_frames.specs.declared.answer.Paused.TheVariants as paused
+use Rattle.basic_frames.specs.declared.answer.RunAnswer.{RunAnswer}
+use Rattle.basic_frames.specs.declared.answer.RunAnswer.TheVariants as answer
+use Rattle.basic_frames.specs.Activations.{PlainActivation, PlainTask}
+use Rattle.basic_frames.specs.Advance.{advanced, pause_at, pause_of, returned_at, returned_of, returned_by, resumed, bottom_pause, first_of}
+use Rattle.basic_frames.specs.Answers.{Ending, underway, over, stopped, ending_at, ending_of, over_at, IsAnswer}
+use Rattle.basic_core.specs.Cores.{PlainCore, taken, taken_if, is_open_to, worker_of, put, failed_by, is_failure, IsCause, first_core, EndsRun, IsEnd, given_back}
+use Rattle.basic_core.specs.Pieces.{PlainPiece, stepped, worked, worked_at, pushed_at, pushed_over, inlined_at, popped_by, popped_of, popped, stalled_at, stalled, ended_with, takes_memory, end_at, end_of, inlined, holds, held_by}
+use Rattle.basic_core.specs.Keeps.{IsRight, InDepth, Depths, DepthsAt}
+use Rattle.basic_core.specs.Stands.{activations}
+use Rattle.basic_core.specs.Kits.{PlainKits}
+use Rattle.basic_core.specs.declared.piece.State.{State}
+use Rattle.basic_core.specs.declared.piece.State.TheVariants as state
+use Rattle.basic_core.specs.declared.step.Step.{Step}
+use Rattle.basic_core.specs.declared.step.Step.TheVariants.{Work, Push, Inline, Pop, Stall, Steal, Fold}
+use Rattle.basic_core.specs.declared.step.Refusal.{Refusal}
+use Rattle.basic_core.specs.declared.step.Refusal.TheVariants.{NoMemory, Nothing, NotThere}
+use Rattle.basic_core.proofs.Keeps.{IsRight-step, IsRight-first}
+use Rattle.basic_core.proofs.Cores.{open_holds}
 use Rattle.cli.specs.Runs.{HasEnded, IsUnderway, IsRunOf0, IsSameRun, IsRefused, Cannot, NotTaken}
 
 -- the same run

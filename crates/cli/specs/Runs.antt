@@ -1,12 +1,12 @@
 -- How far a run by worker 0 has come.
 use Rattle.std.specs.Prelude.{◌≡◌, ◌⊎◌, true, Result, Ok, Err}
-use Rattle.frames.specs.Answers.{underway}
-use Rattle.worker_core.specs.Pieces.{PlainPiece, end_of}
-use Rattle.worker_core.specs.Keeps.{IsRight}
-use Rattle.worker_core.specs.Cores.{PlainCore, is_open_to, taken}
-use Rattle.worker_core.specs.declared.step.Step.{Step}
-use Rattle.worker_core.specs.declared.step.Step.TheVariants.{Work, Push, Inline, Pop, Stall, Steal, Fold}
-use Rattle.worker_core.specs.declared.step.Refusal.{Refusal}
+use Rattle.basic_frames.specs.Answers.{underway}
+use Rattle.basic_core.specs.Pieces.{PlainPiece, end_of}
+use Rattle.basic_core.specs.Keeps.{IsRight}
+use Rattle.basic_core.specs.Cores.{PlainCore, is_open_to, taken}
+use Rattle.basic_core.specs.declared.step.Step.{Step}
+use Rattle.basic_core.specs.declared.step.Step.TheVariants.{Work, Push, Inline, Pop, Stall, Steal, Fold}
+use Rattle.basic_core.specs.declared.step.Refusal.{Refusal}
 
 -- the run has come to its end, or has failed
 abbrev pub HasEnded : PlainCore → Type 0

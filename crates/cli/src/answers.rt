@@ -5,13 +5,13 @@ ghost use Rattle.meaning.specs.Statements.{reducers};
 ghost use Rattle.program_tree.specs.Plain.{Tree};
 ghost use Rattle.program_tree.specs.View.{tree, decl, red};
 ghost use Rattle.meaning.specs.Elision.{Answer};
-ghost use Rattle.frames.specs.Stands.{named_fault};
-ghost use Rattle.worker_core.specs.Keeps.{IsElision};
+ghost use Rattle.basic_frames.specs.Stands.{named_fault};
+ghost use Rattle.basic_core.specs.Keeps.{IsElision};
 ghost use Rattle.meaning.specs.Text.{outcome_text, unknown_text, run_line, result_text, fault_name, fault_text, worth_line, worths_text};
 
 use crate::streams::SessionError;
 use checked_program::checked::Checked;
-use frames::answer::{Fault, RunAnswer};
+use basic_frames::answer::{Fault, RunAnswer};
 use meaning::FaultKind;
 use program_tree::{Declaration, Program, Reducer};
 use std::alloc::AllocError;

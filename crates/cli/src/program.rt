@@ -17,7 +17,7 @@ use std::rt::Runtime;
 use std::sync::Wait;
 use std::{env, io};
 use thiserror::Error;
-use worker_core::kits::Kits;
+use basic_core::kits::Kits;
 
 /// The kits of a session's pool.
 const KITS: usize = 64;

@@ -3,19 +3,19 @@ ghost use Rattle.std.specs.Prelude.{◌≡◌, ◌≢◌, ◌⊎◌, ◌<◌, Ok
 ghost use Rattle.program_tree.specs.View.{tree};
 ghost use Rattle.meaning.specs.Tables.{Tables as TableModel};
 ghost use Rattle.meaning.specs.Elision.{from_scratch};
-ghost use Rattle.worker_core.specs.Keeps.{IsElision};
-ghost use Rattle.worker_core.specs.Cores.{taken};
+ghost use Rattle.basic_core.specs.Keeps.{IsElision};
+ghost use Rattle.basic_core.specs.Cores.{taken};
 ghost use Rattle.cli.specs.Runs.{IsSameRun, IsRunOf0, HasEnded, NotTaken};
 
 use crate::streams::SessionError;
 use checked_program::checked::Checked;
-use frames::answer::RunAnswer;
+use basic_frames::answer::RunAnswer;
 use std::alloc::Global;
 use std::mem;
 use std::sync::Wait;
-use worker_core::kits::Kits;
-use worker_core::run::Core;
-use worker_core::step::{StartError, Step};
+use basic_core::kits::Kits;
+use basic_core::run::Core;
+use basic_core::step::{StartError, Step};
 
 /// A run of a checked program, by worker 0; refused where no kit is free, or for want of memory as it starts.
 pub fn run(

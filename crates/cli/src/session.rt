@@ -18,7 +18,7 @@ use input_tables::Tables;
 use std::alloc::Global;
 use std::io::{Read, Write};
 use std::sync::Wait;
-use worker_core::kits::Kits;
+use basic_core::kits::Kits;
 
 /// A checked program, its tables and its pool of kits.
 #[derive(Drop)]

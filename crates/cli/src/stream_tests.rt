@@ -7,7 +7,7 @@ use std::io;
 use std::io::{ErrorKind, Read, Write};
 use std::process::Abort;
 use std::sync::Wait;
-use worker_core::kits::Kits;
+use basic_core::kits::Kits;
 
 // A reader that gives one byte of `run` and an end of line a call, and errors of this kind before some.
 #[derive(Drop)]

@@ -9,7 +9,7 @@ use std::io;
 use std::io::{ErrorKind, Read, Write};
 use std::process::Abort;
 use std::sync::Wait;
-use worker_core::kits::Kits;
+use basic_core::kits::Kits;
 
 const FIRST: &str = "reducer total : add;
 proc leaf(v) { update total v; return v; }

@@ -1,7 +1,7 @@
 use Rattle.std.proofs.Common.{◌≡◌, ◌∙◌, ap, subst, sym}
 use Rattle.program_tree.specs.View.{tree}
 use Rattle.meaning.specs.Elision.{from_scratch}
-use Rattle.worker_core.specs.Keeps.{IsElision}
+use Rattle.basic_core.specs.Keeps.{IsElision}
 use Rattle.cli.proofs.Cores.{first_run, ended_answer}
 use Rattle.cli.proofs.runs.run.Goals as goal
 

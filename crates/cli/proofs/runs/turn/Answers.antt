@@ -1,6 +1,6 @@
 use Rattle.std.proofs.Common.{◌≡◌, refl, inr}
-use Rattle.worker_core.specs.Cores.{PlainCore}
-use Rattle.worker_core.specs.declared.step.Step.TheVariants.{Work, Push, Inline, Pop, Stall}
+use Rattle.basic_core.specs.Cores.{PlainCore}
+use Rattle.basic_core.specs.declared.step.Step.TheVariants.{Work, Push, Inline, Pop, Stall}
 use Rattle.cli.specs.Runs.{Cannot}
 use Rattle.cli.proofs.Cores.{Stands, then_not, stands_run, taken_run, either_run, none_taken}
 use Rattle.cli.proofs.runs.turn.Goals as goal
