@@ -42,6 +42,20 @@ impl Table {
         self.name.as_str() == name
     }
 
+    /// Lends the table's name.
+    pub fn name(&self) -> &str
+        ensures { result.now ≡ self.now.called }
+    {
+        self.name.as_str()
+    }
+
+    /// Lends the columns' names, as declared.
+    pub fn columns(&self) -> &[String]
+        ensures { map string_bytes result.now ≡ self.now.columns }
+    {
+        &self.columns
+    }
+
     /// How many columns the table has.
     pub fn column_count(&self) -> usize
         ensures { result ≡ length self.now.columns }

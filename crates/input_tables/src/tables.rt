@@ -1,6 +1,6 @@
 // Tables that are read from a document and edited.
 
-ghost use Rattle.std.specs.Prelude.{◌≡◌, ℕ, suc, ℤ, List, true, ◌<◌, length, IfOk, IfErr, OnOk, OnErr, IfSome, IfNone, Some, Ok, [], option_map, option_copied, slice_get};
+ghost use Rattle.std.specs.Prelude.{◌≡◌, ℕ, suc, ℤ, List, true, ◌<◌, length, IfOk, IfErr, OnOk, OnErr, IfSome, IfNone, Some, Ok, [], option_map, option_copied, slice_get, map, string_bytes};
 ghost use Rattle.program_tree.specs.Plain.{Name};
 ghost use Rattle.meaning.specs.Tables.{place_of, columns_of, cell_of, has_row, limit_of};
 ghost use Rattle.input_tables.specs.Document.{reading, HasCause};
@@ -58,6 +58,29 @@ impl Tables {
         ensures { result ≡ self.now.edits }
     {
         self.edits
+    }
+
+    /// How many tables there are.
+    pub fn count(&self) -> usize
+        ensures { result ≡ length self.now.tables }
+    {
+        self.listed.len()
+    }
+
+    /// Lends the name of the table of a number.
+    pub fn name(&self, table: usize) -> &str
+        requires { table < length self.now.tables }
+        ensures { Some result.now ≡ slice_get (names_of self.now.tables) table }
+    {
+        self.listed[table].name()
+    }
+
+    /// Lends the names of the columns of the table of a number, as declared.
+    pub fn columns(&self, table: usize) -> &[String]
+        requires { table < length self.now.tables }
+        ensures { map string_bytes result.now ≡ columns_at self.now.tables table }
+    {
+        self.listed[table].columns()
     }
 
     // The table of a number.

@@ -45,6 +45,7 @@ fn many(alloc: Global, tables: u32, faulty: u32) -> Result<String, AllocError> {
 #[test]
 fn sales_is_read_whole(rt: HostRuntime) -> Result<(), Fail> {
     let tables = Tables::from_toml(rt.alloc(), SALES)?;
+    assert_eq!(rt; tables.count(), 1);
     assert_eq!(rt; tables.table("sales"), Some(0));
     assert_eq!(rt; tables.column(0, "qty"), Some(0));
     assert_eq!(rt; tables.column(0, "price"), Some(1));

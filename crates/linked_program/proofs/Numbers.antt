@@ -6,7 +6,7 @@ use Rattle.program_tree.specs.Plain.{Name, Proc, Red, procedure, reducer, Tree}
 use Rattle.meaning.specs.Statements.{reducers, procedure_of, numbered}
 use Rattle.meaning.specs.Tables.{place_of}
 use Rattle.linked_program.specs.TableNames.{Columned, table_of, has_name}
-use Rattle.linked_program.specs.Checked.{procedures}
+use Rattle.linked_program.specs.Procedures.{procedures}
 use Rattle.linked_program.specs.Linked.{procedure_number, reducer_number, table_number, columns_in}
 use Rattle.linked_program.specs.Links.{with_number, ProcedureIs, ReducerIs, TableIs, ColumnIs}
 

@@ -9,7 +9,7 @@ use Rattle.program_tree.specs.declared.Declaration.TheVariants as d
 use Rattle.program_tree.specs.Plain.{Body, Proc, Tree}
 use Rattle.program_tree.specs.View.{deed, statements, statements_of, block, decl, proc}
 use Rattle.linked_program.specs.TableNames.{Columned}
-use Rattle.linked_program.specs.Checked.{procedures}
+use Rattle.linked_program.specs.Procedures.{procedures}
 use Rattle.linked_program.specs.declared.code.Operation.{Operation}
 use Rattle.linked_program.specs.declared.code.Operation.TheVariants as o
 use Rattle.linked_program.specs.declared.code.Instruction.{Instruction}

@@ -1,24 +1,27 @@
 -- A checked program as a plain value.
 use Rattle.std.specs.Prelude.{◌≡◌, ℕ, suc, ◌<◌, List, [], ◌∷◌, length, All}
-use Rattle.program_tree.specs.Plain.{Name, Proc, reducer, procedure, Tree}
+use Rattle.monoid_laws.specs.declared.Kind.{Kind}
+use Rattle.program_tree.specs.Plain.{Name, Proc}
 use Rattle.program_tree.specs.declared.Program.{Program}
 use Rattle.program_tree.specs.View.{tree}
 use Rattle.meaning.specs.Records.{Revised}
 use Rattle.linked_program.specs.TableNames.{Columned}
 use Rattle.linked_program.specs.Declarations.{IsClean}
+use Rattle.linked_program.specs.Procedures.{procedures}
+use Rattle.linked_program.specs.Linked.{kinds_of, main_number}
+use Rattle.linked_program.specs.declared.code.Code.{Code}
+use Rattle.linked_program.specs.CodeView.{AreCodesOf}
 
--- the program, the names of its tables, its procedures' revision numbers in their order, and the least number that was never used
+-- the program, the names of its tables, its procedures' codes in their order, its reducers' kinds in theirs, the number of `main`,
+-- its procedures' revision numbers, and the least number that was never used
 pub record PlainChecked : Type 0 where
   pub program : Program
   pub tables : List Columned
+  pub codes : List Code
+  pub kinds : List Kind
+  pub main : ℕ
   pub revisions : List ℕ
   pub counter : ℕ
-
--- the procedures in the order of the program
-abbrev pub procedures : Tree → List Proc
-procedures [] = []
-procedures (reducer r ∷ rest) = procedures rest
-procedures (procedure p ∷ rest) = p ∷ procedures rest
 
 -- the procedures' names, each with its number
 abbrev pub named : List Proc → List ℕ → List (Name × ℕ)
@@ -29,9 +32,13 @@ named _ _ = []
 abbrev pub revised_of : PlainChecked → Revised
 revised_of c = record { tree = tree c.program; revisions = named (procedures (tree c.program)) c.revisions; counter = c.counter }
 
--- no rule is broken, each procedure has a revision number, and all of them lie below the counter
+-- no rule is broken, the codes, kinds and number of `main` are those of the tree, each procedure has a revision number,
+-- and all of them lie below the counter
 pub record IsChecked (c : PlainChecked) : Type 0 where
   pub clean : IsClean c.tables c.program
+  pub linked : AreCodesOf c.tables (tree c.program) c.codes (procedures (tree c.program))
+  pub kinds_are : c.kinds ≡ kinds_of (tree c.program)
+  pub main_is : c.main ≡ main_number (tree c.program)
   pub each : length c.revisions ≡ length (procedures (tree c.program))
   pub below : All (λ n. n < c.counter) c.revisions
 

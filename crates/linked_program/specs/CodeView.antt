@@ -63,3 +63,25 @@ abbrev pub AreCodesOf : List Columned → Tree → List Code → List Proc → T
 AreCodesOf ts t [] [] = Unit {0}
 AreCodesOf ts t (c ∷ cs) (p ∷ ps) = IsCodeOf ts t c p × AreCodesOf ts t cs ps
 AreCodesOf _ _ _ _ = ⊥
+
+-- ---- places in the codes of a program
+
+abbrev pub slots_in : Option Code → ℕ
+slots_in None = 0
+slots_in (Some c) = c.slots
+
+-- how many slots the procedure of a number has; none where there is no such procedure
+abbrev pub slots_of : List Code → ℕ → ℕ
+slots_of codes p = slots_in (slice_get codes p)
+
+abbrev pub blocks_in : Option Code → List CodeBlock
+blocks_in None = []
+blocks_in (Some c) = c.blocks.items
+
+abbrev pub instructions_in : Option CodeBlock → List Instruction
+instructions_in None = []
+instructions_in (Some b) = b.instructions.items
+
+-- the statement at a place of a block of a procedure, each counted from 0
+abbrev pub instruction_at : List Code → ℕ → ℕ → ℕ → Option Instruction
+instruction_at codes p b i = slice_get (instructions_in (slice_get (blocks_in (slice_get codes p)) b)) i

@@ -1,12 +1,14 @@
 pub mod TableNames
 pub mod Violations
+pub mod Printed
 pub mod Scope
 pub mod Monoids
 pub mod Rules
 pub mod Bodies
 pub mod Declarations
 pub mod First
-pub mod Checked
+pub mod Procedures
 pub mod Linked
 pub mod CodeView
+pub mod Checked
 pub mod Links

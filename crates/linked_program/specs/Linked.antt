@@ -4,10 +4,12 @@ use Rattle.std.specs.Str.{bytes_eq}
 use Rattle.program_tree.specs.declared.Operator.{Operator}
 use Rattle.program_tree.specs.declared.Way.{Way}
 use Rattle.program_tree.specs.Plain.{Name, Term, number, name, cell, has, limit, negate, binary, Deed, bind, enter, read, sync, update, choose, loop, give, Body, end, step, Proc, Red, reducer, procedure, Tree}
+use Rattle.monoid_laws.specs.declared.Kind.{Kind}
 use Rattle.meaning.specs.Statements.{reducers}
+use Rattle.meaning.specs.Elision.{main}
 use Rattle.meaning.specs.Tables.{place_of}
 use Rattle.linked_program.specs.TableNames.{Columned, table_of}
-use Rattle.linked_program.specs.Checked.{procedures}
+use Rattle.linked_program.specs.Procedures.{procedures}
 
 -- an expression whose names are numbers
 pub data Linked : Type 0 where
@@ -41,6 +43,14 @@ mutual
 abbrev pub procedure_number : List Proc → Name → ℕ
 procedure_number [] f = 0
 procedure_number (p ∷ ps) f = cond (bytes_eq p.called f) 0 (suc (procedure_number ps f))
+
+-- the number of `main`
+abbrev pub main_number : Tree → ℕ
+main_number t = procedure_number (procedures t) main
+
+-- the kinds of a program's reducers, in their order
+abbrev pub kinds_of : Tree → List Kind
+kinds_of t = map (λ r. r.kind) (reducers t)
 
 -- the same of a reducer
 abbrev pub reducer_number : List Red → Name → ℕ

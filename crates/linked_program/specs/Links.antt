@@ -3,7 +3,7 @@ use Rattle.std.specs.Prelude.{◌≡◌, ℕ, List, Option, Some, None, slice_ge
 use Rattle.program_tree.specs.Plain.{Name, Red, Tree}
 use Rattle.meaning.specs.Statements.{reducers, procedure_of, numbered}
 use Rattle.linked_program.specs.TableNames.{Columned, table_of, has_name}
-use Rattle.linked_program.specs.Checked.{procedures}
+use Rattle.linked_program.specs.Procedures.{procedures}
 use Rattle.linked_program.specs.Linked.{procedure_number, reducer_number, table_number, columns_in, column_number}
 
 abbrev pub with_number : ℕ → Option Red → Option (ℕ × Red)

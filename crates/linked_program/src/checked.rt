@@ -1,19 +1,27 @@
 //! The type of a checked program.
-ghost use Rattle.std.specs.Prelude.{◌≡◌, ◌<◌, [], length, map, All};
+ghost use Rattle.std.specs.Prelude.{◌≡◌, ◌+◌, ◌<◌, ◌^◌, [], length, map, All, option_copied, OnSome};
 ghost use Rattle.program_tree.specs.View.{tree, lines};
 ghost use Rattle.linked_program.specs.TableNames.{columned};
 ghost use Rattle.linked_program.specs.Declarations.{violations};
-ghost use Rattle.linked_program.specs.Checked.{IsChecked, procedures};
+ghost use Rattle.linked_program.specs.Procedures.{procedures};
+ghost use Rattle.linked_program.specs.Linked.{kinds_of, main_number};
+ghost use Rattle.linked_program.specs.CodeView.{AreCodesOf, slots_of, instruction_at};
+ghost use Rattle.linked_program.specs.Checked.{IsChecked};
 
+use crate::code::{Code, Instruction};
 use crate::tables::TableNames;
+use monoid_laws::Kind;
 use program_tree::Program;
 use std::marker::Model;
 
-/// A program in which no rule is broken, the names of the tables that it was checked against, and its procedures' revision numbers.
+/// A program in which no rule is broken, the names of the tables that it was checked against, its code, and its procedures' revision numbers.
 #[derive(Drop)]
 pub struct Checked {
     program: Program,
     tables: Vec<TableNames>,
+    codes: Vec<Code>,
+    kinds: Vec<Kind>,
+    main: usize,
     revisions: Vec<u64>,
     counter: u64,
 }
@@ -23,34 +31,41 @@ impl Model for Checked {
 
     ghost Value = { PlainChecked };
 
+    ghost use Rattle.linked_program.specs.contracts.code.Expression as e;
     ghost use Rattle.program_tree.specs.contracts.Expr as t;
-    ghost use Rattle.std.specs.Coded.{codes};
+    ghost use Rattle.std.specs.Coded.{codes as coded_rules};
 
-    ghost coded = { Prim.hlevel (codes, t.the_row.coded) };
+    ghost coded = { Prim.hlevel (coded_rules, e.the_row.coded, t.the_row.coded) };
 
     ghost use Rattle.std.specs.Prelude.{map};
     ghost use Rattle.linked_program.specs.TableNames.{columned};
     ghost use Rattle.linked_program.specs.Checked.{IsChecked};
 
-    ghost view = { λ c. record { program = c.program; tables = map columned c.tables.items; revisions = c.revisions.items; counter = c.counter } };
+    ghost view = { λ c. record { program = c.program; tables = map columned c.tables.items; codes = c.codes.items; kinds = c.kinds.items; main = c.main; revisions = c.revisions.items; counter = c.counter } };
 
-    ghost invariant = { λ c. IsChecked (record { program = c.program; tables = map columned c.tables.items; revisions = c.revisions.items; counter = c.counter }) };
+    ghost invariant = { λ c. IsChecked (record { program = c.program; tables = map columned c.tables.items; codes = c.codes.items; kinds = c.kinds.items; main = c.main; revisions = c.revisions.items; counter = c.counter }) };
 }
 
 impl Checked {
-    /// The program with these tables' names, its procedures' revision numbers and the least number that was never used.
+    /// The program with these tables' names, its code, its reducers' kinds, the number of `main`, its procedures' revision numbers and the least number that was never used.
     pub fn new(
         program: Program,
         tables: Vec<TableNames>,
+        codes: Vec<Code>,
+        kinds: Vec<Kind>,
+        main: usize,
         revisions: Vec<u64>,
         counter: u64,
     ) -> Checked
-        requires checked { IsChecked (record { program = program; tables = map columned tables.items; revisions = revisions.items; counter = counter }) }
-        ensures checked { result ≡ record { program = program; tables = map columned tables.items; revisions = revisions.items; counter = counter } }
+        requires checked { IsChecked (record { program = program; tables = map columned tables.items; codes = codes.items; kinds = kinds.items; main = main; revisions = revisions.items; counter = counter }) }
+        ensures checked { result ≡ record { program = program; tables = map columned tables.items; codes = codes.items; kinds = kinds.items; main = main; revisions = revisions.items; counter = counter } }
     {
         Checked {
             program,
             tables,
+            codes,
+            kinds,
+            main,
             revisions,
             counter,
         }
@@ -70,6 +85,51 @@ impl Checked {
         &self.tables
     }
 
+    /// Lends the procedures' codes, in the order of the program.
+    pub fn codes(&self) -> &[Code]
+        ensures codes { result.now ≡ self.now.codes }
+    {
+        &self.codes
+    }
+
+    /// How many slots an instance of the procedure of that number has; 0 where there is no such procedure.
+    pub fn slots(&self, procedure: usize) -> usize
+        ensures slots { result ≡ slots_of self.now.codes procedure }
+    {
+        match self.codes.get(procedure) {
+            None => 0,
+            Some(code) => code.slots,
+        }
+    }
+
+    /// The statement at that place of a block of a procedure, each counted from 0; none where there is no such place.
+    pub fn instruction(&self, procedure: usize, block: usize, index: usize) -> Option<&Instruction>
+        ensures found { option_copied result ≡ instruction_at self.now.codes procedure block index }
+        ensures small { OnSome result (index + 1 < 2 ^ 64) }
+    {
+        match self.codes.get(procedure) {
+            None => None,
+            Some(code) => match code.blocks.get(block) {
+                None => None,
+                Some(block) => block.instructions.get(index),
+            },
+        }
+    }
+
+    /// Lends the kinds of the reducers, in the order of the program.
+    pub fn kinds(&self) -> &[Kind]
+        ensures kinds { result.now ≡ self.now.kinds }
+    {
+        &self.kinds
+    }
+
+    /// The number of `main` among the procedures.
+    pub fn main(&self) -> usize
+        ensures main { result ≡ self.now.main }
+    {
+        self.main
+    }
+
     /// Lends the procedures' revision numbers, in the order of the program.
     pub fn revisions(&self) -> &[u64]
         ensures revisions { result.now ≡ self.now.revisions }
@@ -87,6 +147,15 @@ impl Checked {
     /// What the type keeps: no rule is broken.
     pub fn clean(&self)
         ensures clean { violations self.now.tables (tree self.now.program) (lines self.now.program) ≡ [] }
+    {
+        let _ = &self.program;
+    }
+
+    /// What the type keeps: the codes, the kinds and the number of `main` are those of the tree.
+    pub fn linked(&self)
+        ensures codes { AreCodesOf self.now.tables (tree self.now.program) self.now.codes (procedures (tree self.now.program)) }
+        ensures kinds { self.now.kinds ≡ kinds_of (tree self.now.program) }
+        ensures main { self.now.main ≡ main_number (tree self.now.program) }
     {
         let _ = &self.program;
     }

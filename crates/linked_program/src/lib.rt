@@ -7,4 +7,6 @@ pub mod knowledge;
 pub mod laws;
 pub mod linking;
 pub mod tables;
+#[cfg(test)]
+mod tests;
 pub mod violation;

@@ -5,16 +5,18 @@ ghost use Rattle.program_tree.specs.View.{term, deed, statements as body_of, dec
 ghost use Rattle.meaning.specs.Statements.{reducers};
 ghost use Rattle.meaning.specs.Tables.{place_of as place_in};
 ghost use Rattle.linked_program.specs.TableNames.{columned};
-ghost use Rattle.linked_program.specs.Checked.{procedures};
-ghost use Rattle.linked_program.specs.Linked.{procedure_number as number_of_procedure, reducer_number as number_of_reducer, table_number as number_of_table, column_number as number_of_column, linked_term, linked_deed, linked_body, Acts, loops};
+ghost use Rattle.linked_program.specs.Procedures.{procedures};
+ghost use Rattle.linked_program.specs.Linked.{procedure_number as number_of_procedure, reducer_number as number_of_reducer, table_number as number_of_table, column_number as number_of_column, linked_term, linked_deed, linked_body, Acts, loops, kinds_of};
 ghost use Rattle.linked_program.specs.CodeView.{expression as plain, act, acts, IsCodeOf, AreBlocksOf, AreCodesOf};
 
 use crate::code::{Code, CodeBlock, Expression, Instruction, Operation};
 use crate::tables::TableNames;
+use monoid_laws::Kind;
 use program_tree::{Action, Block, Declaration, Expr, Procedure, Statement};
 use std::alloc::{AllocError, Global};
 
-fn procedure_number(declarations: &[Declaration], name: &str) -> usize
+/// The number of the first procedure of a name among declarations' procedures; how many there are where there is no such procedure.
+pub fn procedure_number(declarations: &[Declaration], name: &str) -> usize
     ensures { result ≡ number_of_procedure (procedures (map decl declarations.now)) name.now }
 {
     let mut number = 0;
@@ -250,6 +252,19 @@ pub fn codes(
     for declaration in declarations {
         if let Declaration::Procedure(procedure) = declaration {
             made.push(code(alloc, declarations, tables, procedure)?)?;
+        }
+    }
+    Ok(made)
+}
+
+/// The kinds of a program's reducers, in their order.
+pub fn kinds(alloc: Global, declarations: &[Declaration]) -> Result<Vec<Kind>, AllocError>
+    ensures kinds { IfOk result (λ made. made.items ≡ kinds_of (map decl declarations.now)) }
+{
+    let mut made = Vec::new(alloc);
+    for declaration in declarations {
+        if let Declaration::Reducer(reducer) = declaration {
+            made.push(reducer.kind)?;
         }
     }
     Ok(made)

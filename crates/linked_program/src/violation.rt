@@ -47,6 +47,11 @@ impl Rule {
 }
 
 impl fmt::Display for Rule {
+    ghost use Rattle.std.specs.Prelude.{Some};
+    ghost use Rattle.linked_program.specs.Printed.{printed};
+
+    ghost output = { λ rule. Some (printed rule) };
+
     fn fmt<W: fmt::Write>(&self, f: &mut fmt::Formatter<W>) -> fmt::Result {
         write!(f, "C{}", self.number())
     }

@@ -5,7 +5,8 @@ use Rattle.program_tree.specs.Plain.{Name, Proc, reducer, procedure, Tree}
 use Rattle.meaning.specs.Edits.{revised}
 use Rattle.linked_program.specs.declared.violation.Violation.{Violation}
 use Rattle.linked_program.specs.Violations.{noted, earlier, first_of}
-use Rattle.linked_program.specs.Checked.{procedures, named, counted, nothing}
+use Rattle.linked_program.specs.Procedures.{procedures}
+use Rattle.linked_program.specs.Checked.{named, counted, nothing}
 
 pub counted_length : (n : ℕ) (ps : List Proc) → length (counted n ps) ≡ length ps
 counted_length n [] = refl

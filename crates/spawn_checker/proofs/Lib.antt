@@ -1,9 +1,11 @@
 pub mod Lists
 pub mod Noted
 pub mod Noting
+pub mod Named
 pub mod Steps
 pub mod Blocks
 pub mod Counting
+pub mod NewNumbers
 pub mod Numbers
 pub mod Scopes
 pub mod Bodies

@@ -6,3 +6,4 @@ pub mod Settings
 pub mod Own
 pub mod Refused
 pub mod Filled
+pub mod Renumbered

@@ -5,18 +5,21 @@ pub mod basic;
 mod checking;
 mod declarations;
 mod lines;
+mod linked;
 mod names;
 mod quiet;
 mod refusal;
+mod renumbering;
 mod revisions;
 mod scope;
 mod setting;
 mod statements;
+mod table_names;
 mod terms;
 mod violation;
 mod walk;
 
-pub use checking::check;
+pub use checking::{check, redefine};
 pub use violation::CheckError;
 
 #[cfg(test)]

@@ -1,7 +1,8 @@
 //! The revision numbers of procedures.
 ghost use Rattle.std.specs.Prelude.{◌≡◌, map, length, IfOk};
 ghost use Rattle.program_tree.specs.View.{decl};
-ghost use Rattle.linked_program.specs.Checked.{counted, procedures};
+ghost use Rattle.linked_program.specs.Procedures.{procedures};
+ghost use Rattle.linked_program.specs.Checked.{counted};
 
 use program_tree::Declaration;
 use std::alloc::{AllocError, Global};

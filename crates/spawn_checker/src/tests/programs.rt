@@ -1,8 +1,9 @@
 //! Whole programs: which of two violations is reported, and what the check answers.
 
 use super::*;
-use crate::checking::check;
+use crate::checking::{check, redefine};
 use crate::violation::CheckError;
+use input_tables::Tables;
 use linked_program::checked::Checked;
 use program_tree::Program;
 use std::test::Fail;
@@ -58,7 +59,7 @@ fn checked(
     let mut declarations = beginning(alloc)?;
     let body = one_block(alloc, statements)?;
     declarations.push(procedure(alloc, "main", 2, 0, body)?)?;
-    Ok(check(alloc, Program { declarations }, sales(alloc)?))
+    Ok(check(alloc, Program { declarations }, &Tables::new(alloc)))
 }
 
 // `refused ..` as it is printed; nothing for a checked program.
@@ -81,7 +82,11 @@ fn unsynced_use_is_refused(rt: HostRuntime) -> Result<(), Fail> {
 #[test]
 fn no_main_is_refused(rt: HostRuntime) -> Result<(), Fail> {
     let declarations = Vec::new(rt.alloc());
-    let answer = check(rt.alloc(), Program { declarations }, Vec::new(rt.alloc()));
+    let answer = check(
+        rt.alloc(),
+        Program { declarations },
+        &Tables::new(rt.alloc()),
+    );
     let text = refusal_text(rt.alloc(), answer)?;
     assert_eq!(&rt; text.as_str(), "refused E9 C7 main 0");
     Ok(())
@@ -97,5 +102,71 @@ fn procedures_get_their_first_revisions(rt: HostRuntime) -> Result<(), Fail> {
         }
         Err(_error) => assert!(&rt; false),
     }
+    Ok(())
+}
+
+// `total : add`, then `leaf`, `main` and `extra`, each at this line, which return their numbers.
+fn of_three(alloc: Global, line: u32, given: i64) -> Result<Program, AllocError> {
+    let total = reducer(alloc, "total", line, Kind::Add)?;
+    let body = one_block(alloc, vec![in alloc; give(line, Expr::Name(0))]?)?;
+    let leaf = procedure(alloc, "leaf", line, 1, body)?;
+    let body = one_block(alloc, vec![in alloc; give(line, Expr::Number(given))]?)?;
+    let main = procedure(alloc, "main", line, 0, body)?;
+    let body = one_block(alloc, vec![in alloc; give(line, Expr::Number(7))]?)?;
+    let extra = procedure(alloc, "extra", line, 0, body)?;
+    let declarations = vec![in alloc; total, leaf, main, extra]?;
+    Ok(Program { declarations })
+}
+
+// `leaf` and `extra` are as they were, `main` is changed: 2 is kept, 3 is new.
+#[test]
+fn an_unchanged_procedure_keeps_its_number(rt: HostRuntime) -> Result<(), Fail> {
+    let tables = Tables::new(rt.alloc());
+    let first = of_three(rt.alloc(), 4, 0)?;
+    let second = of_three(rt.alloc(), 4, 1)?;
+    if let Ok(before) = check(rt.alloc(), first, &tables) {
+        if let Ok(after) = redefine(rt.alloc(), &before, second, &tables) {
+            assert_eq!(&rt; after.revisions(), [0, 3, 2].as_slice());
+            assert_eq!(&rt; after.counter(), 4);
+            return Ok(());
+        }
+    }
+    assert!(&rt; false);
+    Ok(())
+}
+
+#[test]
+fn a_wrong_redefinition_is_refused(rt: HostRuntime) -> Result<(), Fail> {
+    let tables = Tables::new(rt.alloc());
+    let first = of_three(rt.alloc(), 4, 0)?;
+    if let Ok(before) = check(rt.alloc(), first, &tables) {
+        let declarations = Vec::new(rt.alloc());
+        let answer = redefine(rt.alloc(), &before, Program { declarations }, &tables);
+        let text = refusal_text(rt.alloc(), answer)?;
+        assert_eq!(&rt; text.as_str(), "refused E9 C7 main 0");
+        return Ok(());
+    }
+    assert!(&rt; false);
+    Ok(())
+}
+
+// The code, the kinds and the number of `main` that a checked program lends.
+#[test]
+fn a_checked_program_has_its_code(rt: HostRuntime) -> Result<(), Fail> {
+    let tables = Tables::new(rt.alloc());
+    if let Ok(program) = check(rt.alloc(), of_three(rt.alloc(), 4, 5)?, &tables) {
+        assert_eq!(&rt; program.main(), 1);
+        assert_eq!(&rt; program.codes().len(), 3);
+        assert_eq!(&rt; program.kinds().len(), 1);
+        assert_eq!(&rt; program.slots(1), 3);
+        assert_eq!(&rt; program.slots(3), 0);
+        let number = program
+            .instruction(1, 0, 0)
+            .map(|instruction| instruction.number);
+        assert_eq!(&rt; number, Some(4));
+        assert!(&rt; program.instruction(1, 0, 1).is_none());
+        return Ok(());
+    }
+    assert!(&rt; false);
     Ok(())
 }

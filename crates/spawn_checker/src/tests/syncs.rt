@@ -1,7 +1,15 @@
 //! Names that wait for a sync.
 
 use super::*;
+use program_tree::Operator;
 use std::test::Fail;
+
+// A name's value and one more.
+fn one_more(alloc: Global, name: usize) -> Result<Expr, AllocError> {
+    let value = Box::new(alloc, Expr::Name(name))?;
+    let one = Box::new(alloc, Expr::Number(1))?;
+    Ok(Expr::Binary(Operator::Add, value, one))
+}
 
 #[test]
 fn unsynced_use(rt: HostRuntime) -> Result<(), Fail> {
@@ -11,12 +19,13 @@ fn unsynced_use(rt: HostRuntime) -> Result<(), Fail> {
     Ok(())
 }
 
-// `x = spawn leaf(1);` and `if 1 { y = x; sync; } else { sync; }`.
+// `x = spawn leaf(1);` and `if 1 { y = x + 1; sync; } else { sync; }`.
 #[test]
 fn unsynced_use_in_a_branch(rt: HostRuntime) -> Result<(), Fail> {
     let spawned = spawn_leaf(rt.alloc(), 3, 0)?;
     let outer = vec![in rt.alloc(); spawned, choose(4, 1, 2)]?;
-    let first = vec![in rt.alloc(); bind(4, 1, Expr::Name(0)), sync(4)]?;
+    let more = one_more(rt.alloc(), 0)?;
+    let first = vec![in rt.alloc(); bind(4, 1, more), sync(4)]?;
     let second = vec![in rt.alloc(); sync(4)]?;
     let blocks = three_blocks(rt.alloc(), outer, first, second)?;
     assert_eq!(&rt; in_blocks(rt.alloc(), blocks)?, broken(4, Rule::Waiting));

@@ -2,7 +2,7 @@ use Rattle.std.proofs.lemmas.List.{append-nil}
 use Rattle.std.proofs.Common.{◌≡◌, ◌+◌, ◌∷◌, ◌++◌, [], map, take, drop, length, string_bytes, refl, ap, sym, ◌∙◌}
 use Rattle.program_tree.specs.View.{decl, proc}
 use Rattle.linked_program.specs.TableNames.{columned}
-use Rattle.linked_program.specs.Checked.{procedures}
+use Rattle.linked_program.specs.Procedures.{procedures}
 use Rattle.linked_program.proofs.Pushes.{take_one_more, code_push, procedures_push}
 use Rattle.linked_program.proofs.linking.codes.Goals as goal
 use Rattle.linked_program.proofs.linking.codes.Goals.{in-Procedure+in_ok-code+in_ok-push, in_default}

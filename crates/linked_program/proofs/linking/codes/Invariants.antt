@@ -1,7 +1,7 @@
 use Rattle.std.proofs.Common.{◌≡◌, ◌+◌, ◌≤◌, ℕ, map, take, drop, string_bytes}
 use Rattle.program_tree.specs.View.{decl}
 use Rattle.linked_program.specs.TableNames.{columned}
-use Rattle.linked_program.specs.Checked.{procedures}
+use Rattle.linked_program.specs.Procedures.{procedures}
 use Rattle.linked_program.specs.CodeView.{AreCodesOf}
 use Rattle.linked_program.proofs.linking.codes.Given as goal
 

@@ -1,6 +1,7 @@
 use Rattle.std.proofs.Common.{◌≡◌, ◌≤◌, ◌++◌, map, drop}
 use Rattle.program_tree.specs.View.{decl}
-use Rattle.linked_program.specs.Checked.{counted, procedures}
+use Rattle.linked_program.specs.Procedures.{procedures}
+use Rattle.linked_program.specs.Checked.{counted}
 use Rattle.spawn_checker.proofs.revisions.first_revisions.Given as goal
 
 abbrev pub invariant-loop-declaration : goal.invariant-loop-declaration

@@ -1,0 +1,7 @@
+pub mod Clean
+pub mod Reading
+pub mod Monoids
+pub mod Moments
+pub mod Known
+pub mod Waits
+pub mod Fits

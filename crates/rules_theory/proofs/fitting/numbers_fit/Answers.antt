@@ -1,0 +1,11 @@
+use Rattle.std.proofs.Common.{◌≡◌, ◌<◌, ◌≤◌, length, ap, arith}
+use Rattle.rules_theory.specs.Fitting.{DeclarationFits}
+use Rattle.rules_theory.proofs.Fits.{none_left, names_fit}
+use Rattle.rules_theory.proofs.fitting.numbers_fit.Goals as goal
+
+pub returns : goal.returns
+returns c = λ f.
+    let ds = c.args.program.now.declarations.items in
+    let i = c.loop-declaration.declaration-index in
+    let size : length c.deref-declaration-items.result.now ≡ length ds = ap length c.deref-declaration-items.ensures.value in
+    names_fit ds f (c.loop-declaration.invariant (none_left DeclarationFits ds i (omega (arith, size, c.loop-declaration-test.false))))

@@ -1,0 +1,17 @@
+-- The parts of a Rust tree whose numbers fit 64 bits.
+use Rattle.std.specs.Prelude.{ℕ, List, [], ◌∷◌}
+use Rattle.program_tree.specs.declared.Block.{Block}
+use Rattle.program_tree.specs.declared.Declaration.{Declaration}
+use Rattle.program_tree.specs.declared.Declaration.TheVariants as d
+use Rattle.program_tree.specs.Plain.{Body}
+use Rattle.program_tree.specs.View.{statements, proc}
+use Rattle.trail_theory.specs.Order.{Every}
+use Rattle.trail_theory.specs.Typed.{FitsBody}
+
+-- whatever blocks stand inside, where their numbers fit
+abbrev pub BlockFits : Block → Type 0
+BlockFits b = (inner : ℕ → Body) → ((n : ℕ) → FitsBody (inner n)) → FitsBody (statements inner b.statements.items)
+
+abbrev pub DeclarationFits : Declaration → Type 0
+DeclarationFits (d.Reducer r) = Unit {0}
+DeclarationFits (d.Procedure p) = FitsBody (proc p).body

@@ -1,0 +1,42 @@
+//! What the rules of the language give the theory of the trail, each as the contract of a function that does nothing.
+#![tactic(auto)]
+
+ghost use Rattle.std.specs.Prelude.{List};
+ghost use Rattle.program_tree.specs.declared.Program.{Program};
+ghost use Rattle.program_tree.specs.View.{tree};
+ghost use Rattle.linked_program.specs.TableNames.{Columned};
+ghost use Rattle.linked_program.specs.Declarations.{IsClean};
+ghost use Rattle.linked_program.specs.Checked.{PlainChecked, IsChecked};
+ghost use Rattle.trail_theory.specs.ReadsAtEnd.{ReadsAtMainsEnd, KeepsRules};
+ghost use Rattle.trail_theory.specs.Typed.{HasMonoids};
+ghost use Rattle.trail_theory.specs.Waiting.{IsChecked as UsesNoWaitingName};
+
+mod fitting;
+
+pub use fitting::numbers_fit;
+
+/// In a program that breaks no rule no statement uses a name that waits for a spawned child.
+pub fn no_waiting_name_is_used()
+    ensures free { (tables : List Columned) (program : Program) → IsClean tables program → UsesNoWaitingName (tree program) }
+{}
+
+/// In a program that breaks no rule main alone reads reducers, at its end, and nothing enters or records main.
+pub fn main_reads_at_its_end()
+    ensures reads { (tables : List Columned) (program : Program) → IsClean tables program → ReadsAtMainsEnd (tree program) }
+{}
+
+/// A program that breaks no rule keeps the rules of the theory.
+pub fn rules_are_kept()
+    ensures kept { (tables : List Columned) (program : Program) → IsClean tables program → KeepsRules (tree program) }
+{}
+
+/// In a program that breaks no rule the operation of each table reducer is a monoid.
+pub fn tables_are_monoids()
+    ensures monoids { (tables : List Columned) (program : Program) → IsClean tables program → HasMonoids (tree program) }
+{}
+
+/// A checked program keeps the rules of the theory, and its table reducers are monoids.
+pub fn checked_programs_keep_the_rules()
+    ensures kept { (checked : PlainChecked) → IsChecked checked → KeepsRules (tree checked.program) }
+    ensures monoids { (checked : PlainChecked) → IsChecked checked → HasMonoids (tree checked.program) }
+{}

@@ -1,0 +1,34 @@
+//! Makes a checked program of one that breaks no rule.
+ghost use Rattle.std.specs.Prelude.{◌≡◌, ◌<◌, All, map, length, IfOk};
+ghost use Rattle.program_tree.specs.View.{tree};
+ghost use Rattle.linked_program.specs.TableNames.{columned};
+ghost use Rattle.linked_program.specs.Declarations.{IsClean};
+ghost use Rattle.linked_program.specs.Procedures.{procedures};
+
+use linked_program::checked::Checked;
+use linked_program::linking::{codes, kinds, procedure_number};
+use linked_program::tables::TableNames;
+use program_tree::Program;
+use std::alloc::{AllocError, Global};
+
+/// The checked program of one that breaks no rule, with these revision numbers of its procedures.
+pub fn linked(
+    alloc: Global,
+    program: Program,
+    tables: Vec<TableNames>,
+    revisions: Vec<u64>,
+    counter: u64,
+) -> Result<Checked, AllocError>
+    requires clean { IsClean (map columned tables.items) program }
+    requires each { length revisions.items ≡ length (procedures (tree program)) }
+    requires below { All (λ n. n < counter) revisions.items }
+    ensures program { IfOk result (λ checked. checked.program ≡ program) }
+    ensures tables { IfOk result (λ checked. checked.tables ≡ map columned tables.items) }
+    ensures revisions { IfOk result (λ checked. checked.revisions ≡ revisions.items) }
+    ensures counter { IfOk result (λ checked. checked.counter ≡ counter) }
+{
+    let codes = codes(alloc, &program.declarations, &tables)?;
+    let kinds = kinds(alloc, &program.declarations)?;
+    let main = procedure_number(&program.declarations, "main");
+    Ok(Checked::new(program, tables, codes, kinds, main, revisions, counter))
+}

@@ -1,0 +1,6 @@
+use Rattle.std.proofs.Common.{◌≡◌, length, arith}
+use Rattle.tree_equality.proofs.Apart.{apart_terms}
+use Rattle.tree_equality.proofs.expressions.same_expressions.Goals as goal
+
+pub returns-then-left-right : goal.returns-then-left-right
+returns-then-left-right c = apart_terms c.args.left.now c.args.right.now (λ e. absurd (omega (arith, c.if-left-right.true, e)))
