@@ -8,10 +8,11 @@ use Rattle.source_tree.specs.Source.{Stmt, Returns, stmts_of, Decl, Source}
 use Rattle.source_tree.specs.Lowering.{count, count_all, BodiesWithin}
 use Rattle.procedure_parser.specs.Reading.{stuck_before, text_at}
 use Rattle.procedure_parser.specs.Grammar.{Form, Many, nil, cons, Entry, entry, Statement, binds, binds_entry, binds_read, enters, syncs, updates, tests, tests_else, loops, Body, plain, returning, Block, comma_number, MoreCells, no_more_cells, more_cells, cells, TableForm, table, KindForm, simple, first, last, of_table, ReducerForm, reduces, MoreParams, no_more, one_more, one_over, Params, no_params, params, ProcedureForm, defines, ProcedureWord, unmarked, marked, Declarations, no_declaration, a_reducer, a_procedure, reducer_over, procedure_over}
-use Rattle.procedure_parser.specs.Correct.{InGrammar, FirstFault, line_at, IsFaultLine}
+use Rattle.procedure_parser.specs.Defining.{Room, behind_name, Procedures, no_procedure, one_procedure, no_room, definition_at}
+use Rattle.procedure_parser.specs.Correct.{InGrammar, FirstFaultIn, line_at, IsFaultLineIn, InDefinition}
 use Rattle.procedure_parser.proofs.Head.{on_bool}
 use Rattle.procedure_parser.proofs.Short.{IsShort, statement_short, whole_short, within_short, block_short}
-use Rattle.procedure_parser.proofs.Whole.{text_stuck}
+use Rattle.procedure_parser.proofs.Whole.{text_stuck, definition_stuck}
 
 -- ---- statements
 
@@ -88,6 +89,15 @@ bodies _ _ _ _ _ (a_procedure r p l b d ds ts us vs ws w f m) n le = procedure_c
 bodies _ _ _ _ _ (reducer_over p k l us) n le = tt
 bodies _ _ _ _ _ (procedure_over r k l b ts us w) n le = tt
 
+procedures_bodies : (room : Room) (ds : Source) (ts us : Words) → Procedures room ds ts us → (n : ℕ) → length ts ≤ n → BodiesWithin n ds
+procedures_bodies _ _ _ _ (no_procedure room ts) n le = tt
+procedures_bodies _ _ _ _ (one_procedure room after l k m f d ds ts us vs ws w e (behind_name xs ss _ zs _ p b) q) n le =
+    let c = words_count m l ts _ w in
+    let x = params_count xs us zs p in
+    let y = block_count 32 ss zs vs b in
+    (omega (arith, le, c, x, y), procedures_bodies after ds vs ws q n (omega (arith, le, c, x, y)))
+procedures_bodies _ _ _ _ (no_room known k l m ts us w) n le = tt
+
 -- ---- tokens
 
 scan_count : (k line : ℕ) (bs : List ℕ) → length (scan k line bs) ≤ k
@@ -109,6 +119,9 @@ scan_count (suc k) line (b ∷ bs) =
 -- a text's procedures have no more statements than it has bytes
 pub text_bodies : (text : List ℕ) (s : Source) (n : ℕ) → length text ≤ n → InGrammar s (tokens_of text) → BodiesWithin n s
 text_bodies text s n le g = bodies 16 256 s (tokens_of text) [] g n (omega (arith, scan_count (length text) 1 text))
+
+pub definition_bodies : (room : Room) (text : List ℕ) (s : Source) (n : ℕ) → length text ≤ n → InDefinition room s (tokens_of text) → BodiesWithin n s
+definition_bodies room text s n le g = procedures_bodies room s (tokens_of text) [] g.1 n (omega (arith, scan_count (length text) 1 text))
 
 -- ---- lines
 
@@ -141,10 +154,15 @@ line_counted text [] c = omega arith
 line_counted text (t ∷ us) c = c.0
 
 -- the line of a fault
-pub fault_line_is : (text : List ℕ) (ts : Words) (n l : ℕ) → ts ≡ tokens_of text → length text ≤ 1048576 → stuck_before (text_at ts) ≡ Some n → l ≡ line_at text (drop (length ts - n) ts) → IsFaultLine text l
-fault_line_is text ts n l e le stuck is =
-    let s = text_stuck ts n stuck in
+pub fault_line_in : (G : Source → Words → Type 0) (text : List ℕ) (ts : Words) (n l : ℕ) → ts ≡ tokens_of text → length text ≤ 1048576 → (us : Words) × FirstFaultIn G ts us × (drop (length ts - n) ts ≡ us) → l ≡ line_at text (drop (length ts - n) ts) → IsFaultLineIn G text l
+fault_line_in G text ts n l e le s is =
     let c : Counted (s.1.front ++ s.0) = subst (λ (w : Words). Counted w) (sym e ∙ s.1.parts) (scan_lines (length text) 1 text (omega arith)) in
     let at : l ≡ line_at text s.0 = is ∙ ap (λ (w : Words). line_at text w) s.2 in
     let pos : 0 < l = subst (λ (k : ℕ). 0 < k) (sym at) (line_counted text s.0 (counted_tail s.1.front s.0 c)) in
-    inr (s.0, le, subst (λ (w : Words). FirstFault w s.0) e s.1, at, pos)
+    inr (s.0, le, subst (λ (w : Words). FirstFaultIn G w s.0) e s.1, at, pos)
+
+pub fault_line_is : (text : List ℕ) (ts : Words) (n l : ℕ) → ts ≡ tokens_of text → length text ≤ 1048576 → stuck_before (text_at ts) ≡ Some n → l ≡ line_at text (drop (length ts - n) ts) → IsFaultLineIn InGrammar text l
+fault_line_is text ts n l e le stuck is = fault_line_in InGrammar text ts n l e le (text_stuck ts n stuck) is
+
+pub definition_line_is : (room : Room) (text : List ℕ) (ts : Words) (n l : ℕ) → ts ≡ tokens_of text → length text ≤ 1048576 → stuck_before (definition_at room ts) ≡ Some n → l ≡ line_at text (drop (length ts - n) ts) → IsFaultLineIn (InDefinition room) text l
+definition_line_is room text ts n l e le stuck is = fault_line_in (InDefinition room) text ts n l e le (definition_stuck room ts n stuck) is

@@ -227,7 +227,7 @@ more_params_law (suc n) ts =
           (λ xs ws q. gives_at _ (x ∷ xs) ws (λ v ys p i. one_more n s.0 i x xs ys v p))))))
     ]
 
-params_law : (ts : Words) → LawAt params_at Params ts
+pub params_law : (ts : Words) → LawAt params_at Params ts
 unfolding params_at
 params_law ts =
     let F : Form (List (List ℕ)) = λ xs us vs. (k : ℕ) → Params xs ((Sign OpenParen, k) ∷ us) vs in
@@ -272,7 +272,7 @@ small v = (Name a_name, 0) ∷ (Sign OpenParen, 0) ∷ (Sign CloseParen, 0) ∷ 
 small_form : (l : ℕ) (m : Bool) (v : Words) → ProcedureForm l m (Defines l m a_name [] (empty_block 32 v).1) (small v) v
 small_form l m v = let z = empty_block 32 v in defines a_name [] z.1 0 ((Sign OpenParen, 0) ∷ (Sign CloseParen, 0) ∷ z.0) z.0 v (no_params 0 0 _) z.2
 
-abbrev Worded : ℕ → Form Bool
+abbrev pub Worded : ℕ → Form Bool
 Worded l m us vs = ProcedureWord m l us vs
 
 memo_law : (l : ℕ) (us : Words) → LawAt procedure_word_at (Worded l) ((Sign Memo, l) ∷ us)
@@ -287,11 +287,11 @@ proc_law : (l : ℕ) (us : Words) → LawAt procedure_word_at (Worded l) ((Sign 
 unfolding procedure_word_at mark_at
 proc_law l us = by_reply procedure_word_at (Worded l) ((Sign Proc, l) ∷ us) (Ok (false, us)) refl (record { front = one (Sign Proc, l); is = refl; holds = λ v. unmarked l v; again = λ v k. refl })
 
-procedure_local : IsLocal starts_procedure
+pub procedure_local : IsLocal starts_procedure
 procedure_local = local starts_procedure (λ w us vs. refl)
 
 -- the words in front, on their line
-words_law : (ts : Words) → starts_procedure ts ≡ true → (l : ℕ) × (line_of ts ≡ l) × LawAt procedure_word_at (Worded l) ts
+pub words_law : (ts : Words) → starts_procedure ts ≡ true → (l : ℕ) × (line_of ts ≡ l) × LawAt procedure_word_at (Worded l) ts
 words_law ts h =
     elim (on_bool (starts Memo ts)) [
       | inl t ↦ let s = starts_is Memo ts t in (s.0, ap line_of s.2, subst (λ (w : Words). LawAt procedure_word_at (Worded s.0) w) (sym s.2) (memo_law s.0 s.1))

@@ -17,3 +17,6 @@ pub mod Whole
 pub mod Counts
 pub mod Tables
 pub mod Ends
+pub mod DefiningLaw
+pub mod OnlyDefining
+pub mod Rooms

@@ -82,7 +82,7 @@ only_params_behind _ _ _ _ (no_more (suc n) us) h = rw h refl
 only_params_behind _ _ _ _ (one_more n k l x xs us vs m) h = let i = only_params_behind n xs us vs m h in rw i refl
 only_params_behind _ _ _ _ (one_over k l us) h = refl
 
-only_params : (xs : List (List ℕ)) (ts us : Words) → Params xs ts us → params_at ts ≡ Ok (xs, us)
+pub only_params : (xs : List (List ℕ)) (ts us : Words) → Params xs ts us → params_at ts ≡ Ok (xs, us)
 unfolding params_at name_at mark_at
 only_params _ _ _ (no_params k l us) = refl
 only_params _ _ _ (params x xs k i l ts us m) = let e = only_params_behind 7 xs ts ((Sign CloseParen, l) ∷ us) m refl in rw e refl
@@ -94,7 +94,7 @@ only_procedure l m _ _ _ (defines f xs ss k ts us vs p b) =
     let i = only_block 32 ss us vs b in
     rw (e, i) refl
 
-only_words : (m : Bool) (l : ℕ) (ts us : Words) → ProcedureWord m l ts us → (starts Reducer ts ≡ false) × (starts_procedure ts ≡ true) × (line_of ts ≡ l) × (procedure_word_at ts ≡ Ok (m, us))
+pub only_words : (m : Bool) (l : ℕ) (ts us : Words) → ProcedureWord m l ts us → (starts Reducer ts ≡ false) × (starts_procedure ts ≡ true) × (line_of ts ≡ l) × (procedure_word_at ts ≡ Ok (m, us))
 unfolding procedure_word_at mark_at
 only_words _ _ _ _ (unmarked l us) = (refl, refl, refl, refl)
 only_words _ _ _ _ (marked l k us) = (refl, refl, refl, refl)

@@ -12,26 +12,31 @@ use Rattle.source_tree.specs.Source.{Source, source}
 use Rattle.procedure_parser.specs.Grammar.{Declarations}
 use Rattle.token_scanner.specs.Scanning.{tokens_of, line_ends}
 use Rattle.source_tree.specs.Lowering.{settled, lowered, lines_of}
+use Rattle.program_edits.specs.Putting.{put_all}
+use Rattle.procedure_parser.specs.Defining.{Room, room_of, Defining}
 
 -- the tokens are the source tree's, within the limits: 16 reducers and 256 procedures
 abbrev pub InGrammar : Source → Words → Type 0
 InGrammar s ts = Declarations 16 256 s ts []
 
--- some text of the grammar begins so
-abbrev pub Begins : Words → Type 0
-Begins ts = (more : Words) × (s : Source) × InGrammar s (ts ++ more)
+-- some text of a grammar begins so
+abbrev pub BeginsIn : (Source → Words → Type 0) → Words → Type 0
+BeginsIn G ts = (more : Words) × (s : Source) × G s (ts ++ more)
 
--- no text of the grammar begins so and goes on with the first of these; where there is none, so is no text
-abbrev pub NoneFollows : Words → Words → Type 0
-NoneFollows front [] = (s : Source) → InGrammar s front → ⊥
-NoneFollows front (t ∷ ts) = Begins (front ++ t ∷ []) → ⊥
+-- no text of a grammar begins so and goes on with the first of these; where there is none, so is no text
+abbrev pub NoneFollowsIn : (Source → Words → Type 0) → Words → Words → Type 0
+NoneFollowsIn G front [] = (s : Source) → G s front → ⊥
+NoneFollowsIn G front (t ∷ ts) = BeginsIn G (front ++ t ∷ []) → ⊥
 
 -- the fault is at the first of us
-pub record FirstFault (ts us : Words) : Type 0 where
+pub record FirstFaultIn (G : Source → Words → Type 0) (ts us : Words) : Type 0 where
   pub front : Words
   pub parts : ts ≡ front ++ us
-  pub begins : Begins front
-  pub none : NoneFollows front us
+  pub begins : BeginsIn G front
+  pub none : NoneFollowsIn G front us
+
+abbrev pub FirstFault : Words → Words → Type 0
+FirstFault = FirstFaultIn InGrammar
 
 -- the source tree of a text within the limit
 abbrev pub IsSource : Source → List ℕ → Type 0
@@ -59,9 +64,35 @@ line_at text [] = line_ends text + 1
 line_at text (t ∷ ts) = t.1
 
 -- 0 for a text that is too long; else the line of the first token that can't follow what stands before it
-abbrev pub IsFaultLine : List ℕ → ℕ → Type 0
-IsFaultLine text l = ((1048576 < length text) × (l ≡ 0)) ⊎ ((us : Words) × (length text ≤ 1048576) × FirstFault (tokens_of text) us × (l ≡ line_at text us) × (0 < l))
+abbrev pub IsFaultLineIn : (Source → Words → Type 0) → List ℕ → ℕ → Type 0
+IsFaultLineIn G text l = ((1048576 < length text) × (l ≡ 0)) ⊎ ((us : Words) × (length text ≤ 1048576) × FirstFaultIn G (tokens_of text) us × (l ≡ line_at text us) × (0 < l))
+
+abbrev pub IsFaultIn : (Source → Words → Type 0) → List ℕ → TextError → Type 0
+IsFaultIn G text NoMemory = Unit {0}
+IsFaultIn G text (Text l) = IsFaultLineIn G text l
 
 abbrev pub IsFault : List ℕ → TextError → Type 0
-IsFault text NoMemory = Unit {0}
-IsFault text (Text l) = IsFaultLine text l
+IsFault = IsFaultIn InGrammar
+
+-- ---- texts that define procedures of a program
+
+-- the tokens are the source tree's, where there is such room
+abbrev pub InDefinition : Room → Source → Words → Type 0
+InDefinition room s ts = Defining room s ts []
+
+-- the source tree of a text within the limit, for a program with this tree
+abbrev pub IsDefinition : Tree → Source → List ℕ → Type 0
+IsDefinition t s text = (length text ≤ 1048576) × InDefinition (room_of t) s (tokens_of text)
+
+-- the program, with its lines, is the one before with a text's procedures put in
+abbrev pub IsDefined : Tree × List Lined → List ℕ → Tree × List Lined → Type 0
+IsDefined before text after = (s : Source) × IsDefinition before.0 s text × (after ≡ put_all [] s before)
+
+-- the answer to a text with such a source tree, unless memory runs out
+abbrev pub AnswersDefinition : Tree × List Lined → Result Program TextError → Source → Type 0
+AnswersDefinition before (Ok p) s = (tree p, lines p) ≡ put_all [] s before
+AnswersDefinition before (Err NoMemory) s = Unit {0}
+AnswersDefinition before (Err (Text l)) s = ⊥
+
+abbrev pub IsDefinitionFault : Tree → List ℕ → TextError → Type 0
+IsDefinitionFault t = IsFaultIn (InDefinition (room_of t))

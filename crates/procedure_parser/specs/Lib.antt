@@ -3,3 +3,5 @@ pub mod Reading
 pub mod Ranges
 pub mod Grammar
 pub mod Correct
+pub mod Defining
+pub mod Rooms

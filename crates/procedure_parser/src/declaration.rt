@@ -50,8 +50,9 @@ fn more_parameters<'a, 'b>(
     more_parameters(alloc, left - 1, all, rest)
 }
 
+/// A procedure's parameters in parentheses, and the tokens after them.
 #[tactic(auto, unfolding(crate::specs::Reading::params_at))]
-fn parameters<'a, 'b>(
+pub fn parameters<'a, 'b>(
     alloc: Global,
     tokens: &'b [Placed<'a>],
 ) -> Result<(Vec<String>, &'b [Placed<'a>]), ParseError>
@@ -93,7 +94,9 @@ fn procedure<'a, 'b>(
 
 /// The words in front of a procedure's name: whether it is marked memo.
 #[tactic(auto, unfolding(crate::specs::Reading::procedure_word_at))]
-fn procedure_word<'a, 'b>(tokens: &'b [Placed<'a>]) -> Result<(bool, &'b [Placed<'a>]), ParseError>
+pub fn procedure_word<'a, 'b>(
+    tokens: &'b [Placed<'a>],
+) -> Result<(bool, &'b [Placed<'a>]), ParseError>
     ensures { Gives (λ x. (x.0, words x.1.now)) result (procedure_word_at (words tokens.now)) }
 {
     if starts(tokens, Mark::Memo) {
@@ -104,7 +107,8 @@ fn procedure_word<'a, 'b>(tokens: &'b [Placed<'a>]) -> Result<(bool, &'b [Placed
     Ok((false, rest))
 }
 
-fn starts_procedure(tokens: &[Placed]) -> bool
+/// Whether a procedure begins here.
+pub fn starts_procedure(tokens: &[Placed]) -> bool
     ensures { result ≡ starts_procedure (words tokens.now) }
 {
     starts(tokens, Mark::Memo) || starts(tokens, Mark::Proc)

@@ -9,6 +9,7 @@ use program_tree::{Operator, Way};
 use std::alloc::Global;
 use token_scanner::{Mark, Placed, Token, same};
 
+/// Whether the first token is this mark.
 pub fn starts(tokens: &[Placed], mark: Mark) -> bool
     ensures { result ≡ starts mark (words tokens.now) }
 {
@@ -21,6 +22,7 @@ pub fn starts(tokens: &[Placed], mark: Mark) -> bool
     }
 }
 
+/// The name in front.
 pub fn front_name<'a>(tokens: &[Placed<'a>]) -> Option<&'a str>
     ensures { option_map (λ x. x.now) result ≡ front_name (words tokens.now) }
 {
@@ -34,6 +36,7 @@ pub fn front_name<'a>(tokens: &[Placed<'a>]) -> Option<&'a str>
     }
 }
 
+/// The number in front.
 pub fn front_number(tokens: &[Placed]) -> Option<i64>
     ensures { result ≡ front_number (words tokens.now) }
 {
@@ -56,6 +59,7 @@ fn front_count(tokens: &[Placed]) -> Option<u64>
     }
 }
 
+/// The tokens behind the first; none behind none.
 pub fn rest_of<'a, 'b>(tokens: &'b [Placed<'a>]) -> &'b [Placed<'a>]
     ensures { words result.now ≡ rest (words tokens.now) }
 {
@@ -66,6 +70,7 @@ pub fn rest_of<'a, 'b>(tokens: &'b [Placed<'a>]) -> &'b [Placed<'a>]
     }
 }
 
+/// The tokens behind a mark that has to come; stuck before any other.
 #[tactic(auto, unfolding(crate::specs::Reading::mark_at))]
 pub fn mark<'a, 'b>(tokens: &'b [Placed<'a>], mark: Mark) -> Result<&'b [Placed<'a>], ParseError>
     ensures { Gives (λ x. words x.now) result (mark_at mark (words tokens.now)) }
@@ -77,6 +82,7 @@ pub fn mark<'a, 'b>(tokens: &'b [Placed<'a>], mark: Mark) -> Result<&'b [Placed<
     }
 }
 
+/// A name that has to come, and the tokens behind it; stuck before any other token, or out of memory.
 #[tactic(auto, unfolding(crate::specs::Reading::name_at))]
 pub fn name<'a, 'b>(
     alloc: Global,
@@ -101,7 +107,7 @@ fn within_of(low: u64, high: u64, tokens: &[Placed]) -> Option<u64>
     }
 }
 
-/// A number from `low` to `high`.
+/// A number from `low` to `high`, and the tokens behind it; stuck before any other token.
 #[tactic(auto, unfolding(crate::specs::Reading::within_at))]
 pub fn within<'a, 'b>(
     low: u64,
@@ -127,7 +133,7 @@ pub fn starts_name(tokens: &[Placed], name: &str) -> bool
     }
 }
 
-/// A word that is no keyword.
+/// The tokens behind a word that is no keyword; stuck before any other token.
 #[tactic(auto, unfolding(crate::specs::Reading::word_at))]
 pub fn word<'a, 'b>(tokens: &'b [Placed<'a>], word: &str) -> Result<&'b [Placed<'a>], ParseError>
     ensures { Gives (λ x. words x.now) result (word_at word.now (words tokens.now)) }
@@ -161,6 +167,7 @@ pub fn comparison(tokens: &[Placed]) -> Option<Operator>
     }
 }
 
+/// The `+` or `-` in front.
 #[tactic(auto, unfolding(crate::specs::Reading::additive))]
 pub fn additive(tokens: &[Placed]) -> Option<Operator>
     ensures { result ≡ additive (words tokens.now) }
@@ -174,6 +181,7 @@ pub fn additive(tokens: &[Placed]) -> Option<Operator>
     }
 }
 
+/// The `*`, `/` or `%` in front.
 #[tactic(auto, unfolding(crate::specs::Reading::multiplicative))]
 pub fn multiplicative(tokens: &[Placed]) -> Option<Operator>
     ensures { result ≡ multiplicative (words tokens.now) }
@@ -189,12 +197,14 @@ pub fn multiplicative(tokens: &[Placed]) -> Option<Operator>
     }
 }
 
+/// The line of the first token; 0 where there is none.
 pub fn line_of(tokens: &[Placed]) -> u32
     ensures { result ≡ line_of (words tokens.now) }
 {
     if tokens.is_empty() { 0 } else { tokens[0].line }
 }
 
+/// The `call` or `spawn` in front.
 #[tactic(auto, unfolding(crate::specs::Reading::way_of))]
 pub fn way_of(tokens: &[Placed]) -> Option<Way>
     ensures { result ≡ way_of (words tokens.now) }
@@ -216,6 +226,7 @@ pub fn left(tokens: &[Placed]) -> usize
     tokens.len()
 }
 
+/// Whether no token is left.
 pub fn ended(tokens: &[Placed]) -> bool
     ensures { result ≡ ended (words tokens.now) }
 {

@@ -4,15 +4,21 @@
 mod arguments;
 mod block;
 mod declaration;
+mod define;
+mod defined;
 mod expression;
 mod fault;
 mod front;
 mod kinds;
+mod room;
 mod statement;
 mod text;
 
+pub use defined::parse_define;
 pub use fault::TextError;
-pub use text::parse_source;
+pub use text::{parse, parse_source};
 
+#[cfg(test)]
+mod program_tests;
 #[cfg(test)]
 mod tests;

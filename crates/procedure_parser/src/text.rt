@@ -2,17 +2,19 @@
 
 ghost use Rattle.std.specs.Prelude.{◌≡◌, ◌-◌, ◌≤◌, length, drop, IfOk, IfErr};
 ghost use Rattle.token_scanner.specs.Words.{words};
+ghost use Rattle.program_tree.specs.View.{tree, lines};
 ghost use Rattle.source_tree.specs.Source.{Source, source};
-ghost use Rattle.procedure_parser.specs.Correct.{line_at, IsSource, AnswersSource, IsFault};
+ghost use Rattle.procedure_parser.specs.Correct.{line_at, IsText, IsSource, AnswersSource, Answers, IsFault};
 
 use crate::declaration;
 use crate::fault::{ParseError, TextError};
-use source_tree::Declaration;
+use program_tree::Program;
+use source_tree::{Declaration, lower};
 use std::alloc::Global;
 use token_scanner::{Placed, line_ends, tokens};
 
 /// The line of the token from which so many are left, or that of the text's end.
-fn fault_line(text: &[u8], tokens: &[Placed], left: usize) -> u32
+pub fn fault_line(text: &[u8], tokens: &[Placed], left: usize) -> u32
     requires { length text.now ≤ 1048576 }
     ensures { result ≡ line_at text.now (drop (length tokens.now - left) (words tokens.now)) }
 {
@@ -43,5 +45,20 @@ pub fn parse_source(alloc: Global, text: &[u8]) -> Result<Vec<Declaration>, Text
         Err(ParseError::Stuck(left)) => Err(TextError::Text {
             line: fault_line(text, &tokens, left),
         }),
+    }
+}
+
+/// The program that a text is. An error is NoMemory, or the line of the first token that can't follow what stands before it: 0 for a text that is too long.
+pub fn parse(alloc: Global, text: &[u8]) -> Result<Program, TextError>
+    // What is read is the tree of a text of the grammar, within the limits.
+    ensures found { IfOk result (λ p. IsText text.now (tree p) (lines p)) }
+    // A text of the grammar, within the limits, is read, unless memory runs out.
+    ensures only { (s : Source) → IsSource s text.now → Answers result s }
+    // A fault is at the first token that can't follow; line 0 is that of a text that is too long.
+    ensures fault { IfErr result (λ e. IsFault text.now e) }
+{
+    match parse_source(alloc, text) {
+        Ok(declarations) => Ok(lower(alloc, &declarations)?),
+        Err(error) => Err(error),
     }
 }

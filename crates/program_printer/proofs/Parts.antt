@@ -1,8 +1,6 @@
 -- Parts that are written one behind the other.
 use Rattle.std.proofs.Common.{◌≡◌, ◌≤◌, List, [], ◌∷◌, map, length, drop, take, ◌-◌, zero, suc, refl, ap, slice_index_or, string_bytes, pos, min, sym, Result, Ok, Err, OnOk, ℕ, ◌∙◌, arith}
-use Rattle.program_tree.specs.Plain.{Name, Term, binary}
-use Rattle.program_tree.specs.declared.Operator.{Operator}
-use Rattle.token_scanner.specs.declared.token.Mark.TheVariants as mark
+use Rattle.program_tree.specs.Plain.{Name}
 use Rattle.token_scanner.specs.Words.{Word, Sign, Number}
 use Rattle.token_scanner.specs.Words as word
 use Rattle.std.specs.declared.string.String.{String}
@@ -10,18 +8,11 @@ use Rattle.std.specs.Global.{Global}
 use Rattle.program_printer.specs.Spelling.{Puts}
 use Rattle.program_tree.specs.declared.Expr.{Expr}
 use Rattle.program_tree.specs.View.{term}
-use Rattle.program_printer.specs.Printing.{term_words, more_terms, terms_words, operator_mark, more_numbers, numbers_words, more_names, names_words}
+use Rattle.program_printer.specs.Printing.{term_words, more_terms, terms_words, more_numbers, numbers_words, more_names, names_words}
 
 pub on_ok : {T E : Type 0} (r : Result T E) (P Q : Type 0) → (P → Q) → OnOk r P → OnOk r Q
 on_ok (Ok x) P Q f p = f p
 on_ok (Err e) P Q f p = tt
-
-pub binary_put : {T E : Type 0} (r : Result T E) (names : List Name) (o : Operator) (left right : Term) (a b c d e f : List ℕ)
-    → Puts a b (λ us. Sign mark.OpenParen ∷ us) → Puts b c (term_words names left) → Puts c d (λ us. Sign (operator_mark o) ∷ us)
-    → Puts d e (term_words names right) → OnOk r (Puts e f (λ us. Sign mark.CloseParen ∷ us)) → OnOk r (Puts a f (term_words names (binary o left right)))
-binary_put r names o left right a b c d e f p q s t u =
-    on_ok r (Puts e f (λ us. Sign mark.CloseParen ∷ us)) (Puts a f (term_words names (binary o left right)))
-    (λ last us. p _ ∙ q _ ∙ s _ ∙ t _ ∙ last us) u
 
 take_nil : {A : Type 0} (n : ℕ) → take {A = A} n [] ≡ []
 take_nil zero = refl

@@ -1,16 +1,16 @@
 -- The tokens of a printed text are those that were printed.
-use Rattle.std.proofs.Common.{◌≡◌, ℕ, zero, suc, ◌+◌, ◌-◌, ◌*◌, ◌/◌, ◌%◌, ◌<◌, ◌≤◌, ◌^◌, pos, negsuc, Bool, true, false, cond, eqb, ltb, length-append, lit<, List, [], ◌∷◌, ◌++◌, length, map, take, drop, refl, sym, ap, subst, ◌∙◌, arith, inl, inr, ◌⊎◌}
-use Rattle.std.specs.Prelude.{◌||◌, ◌&&◌, None}
+use Rattle.std.proofs.Common.{◌≡◌, ℕ, zero, suc, ◌+◌, ◌-◌, ◌*◌, ◌/◌, ◌%◌, ◌<◌, ◌≤◌, ◌^◌, pos, negsuc, Bool, true, false, cond, eqb, ltb, length-append, lit<, List, [], ◌∷◌, ◌++◌, length, take, drop, refl, ap, ◌∙◌, arith, inl, inr, ◌⊎◌}
+use Rattle.std.specs.Prelude.{None}
 use Rattle.std.specs.Fmt as fmt
 use Rattle.std.proofs.lemmas.Nat.{div-add-mod'}
 use Rattle.std.proofs.lemmas.Fmt.{decimal_by_steps, decimal_nonempty}
 use Rattle.token_scanner.specs.declared.scanning.Class.TheVariants as class
 use Rattle.token_scanner.specs.declared.token.Mark.{Mark}
-use Rattle.token_scanner.specs.declared.token.Mark.TheVariants.{OpenBrace, CloseBrace, OpenParen, CloseParen, OpenBracket, CloseBracket, Colon, Semicolon, Comma, Dot, Range, Assign, Equal, Unequal, Less, AtMost, Greater, AtLeast, Plus, Minus, Star, Slash, Percent, Reducer, Memo, Proc, Call, Spawn, Sync, Update, If, Else, CilkFor, In, Grain, Return, Read, Has, Limit}
-use Rattle.token_scanner.specs.Words.{Word, Words, Name, Number, Sign, Bad, Over}
+use Rattle.token_scanner.specs.declared.token.Mark.TheVariants.{OpenBrace, CloseBrace, Semicolon}
+use Rattle.token_scanner.specs.Words.{Word, Name, Number, Sign, Bad, Over}
 use Rattle.token_scanner.specs.Scanning.{scan, word_at, mark_of, single_of, name_of, number_of, keyword_of, is_letter, is_digit, is_space, belongs, front_len, decimal, tokens_of}
 use Rattle.program_printer.specs.Spelling.{mark_text, word_text, gap, starts_else, written}
-use Rattle.program_printer.specs.Tokens.{IsName, starts_letter, IsToken, AllTokens, bare}
+use Rattle.program_printer.specs.Tokens.{IsName, IsToken, AllTokens, bare}
 
 on_bool : (b : Bool) → (b ≡ true) ⊎ (b ≡ false)
 on_bool true = inl refl

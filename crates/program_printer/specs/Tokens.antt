@@ -1,5 +1,5 @@
 -- Tokens that a text can have.
-use Rattle.std.specs.Prelude.{◌≡◌, ℕ, ◌≤◌, ℤ, pos, negsuc, List, [], ◌∷◌, length, map, Bool, true, false, None}
+use Rattle.std.specs.Prelude.{◌≡◌, ℕ, ◌≤◌, pos, negsuc, List, [], ◌∷◌, length, map, Bool, true, false, None}
 use Rattle.token_scanner.specs.declared.scanning.Class.TheVariants as class
 use Rattle.token_scanner.specs.Words.{Word, Words, Name, Number, Sign, Bad, Over}
 use Rattle.token_scanner.specs.Scanning.{is_letter, belongs, front_len, keyword_of}

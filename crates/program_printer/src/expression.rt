@@ -1,6 +1,7 @@
 //! Prints expressions.
 
 ghost use Rattle.std.specs.Prelude.{◌≡◌, ◌++◌, ◌∷◌, OnOk, map, string_bytes};
+ghost use Rattle.program_tree.specs.Plain.{cell, binary};
 ghost use Rattle.program_tree.specs.View.{term};
 ghost use Rattle.token_scanner.specs.Words.{Word, Sign};
 ghost use Rattle.token_scanner.specs.declared.token.Mark.TheVariants as mark;
@@ -57,7 +58,43 @@ fn put_close(text: &mut String) -> Result<(), AllocError>
     text.push_str(") ")
 }
 
+/// Puts a cell at the end of the text.
+#[cycle(expressions)]
+#[tactic(auto, unfolding(crate::specs::Spelling::written))]
+fn put_cell(
+    text: &mut String,
+    procedure: &Procedure,
+    table: &str,
+    row: &Expr,
+    column: &str,
+) -> Result<(), AllocError>
+    ensures { OnOk result (Puts (string_bytes text.old) (string_bytes text.new) (term_words (map string_bytes procedure.now.names.items) (cell table.now (term row.now) column.now))) }
+{
+    write!(text, "{table} [ ")?;
+    put_expression(text, procedure, row)?;
+    write!(text, "] . {column} ")
+}
+
+/// Puts a binary operation in parentheses at the end of the text.
+#[cycle(expressions)]
+fn put_binary(
+    text: &mut String,
+    procedure: &Procedure,
+    operator: Operator,
+    left: &Expr,
+    right: &Expr,
+) -> Result<(), AllocError>
+    ensures { OnOk result (Puts (string_bytes text.old) (string_bytes text.new) (term_words (map string_bytes procedure.now.names.items) (binary operator (term left.now) (term right.now)))) }
+{
+    put_open(text)?;
+    put_expression(text, procedure, left)?;
+    put_operator(text, operator)?;
+    put_expression(text, procedure, right)?;
+    put_close(text)
+}
+
 /// Puts an expression at the end of the text.
+#[cycle(expressions)]
 #[tactic(auto, unfolding(crate::specs::Spelling::written))]
 pub fn put_expression(
     text: &mut String,
@@ -73,11 +110,7 @@ pub fn put_expression(
             write!(text, "{name} ")
         }
         Expr::Limit(table) => write!(text, "limit {table} "),
-        Expr::Cell(table, row, column) => {
-            write!(text, "{table} [ ")?;
-            put_expression(text, procedure, row)?;
-            write!(text, "] . {column} ")
-        }
+        Expr::Cell(table, row, column) => put_cell(text, procedure, table, row, column),
         Expr::Has(table, row) => {
             write!(text, "has {table} [ ")?;
             put_expression(text, procedure, row)?;
@@ -89,11 +122,7 @@ pub fn put_expression(
             put_close(text)
         }
         Expr::Binary(operator, left, right) => {
-            put_open(text)?;
-            put_expression(text, procedure, left)?;
-            put_operator(text, *operator)?;
-            put_expression(text, procedure, right)?;
-            put_close(text)
+            put_binary(text, procedure, *operator, left, right)
         }
     }
 }

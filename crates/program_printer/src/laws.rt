@@ -8,5 +8,5 @@ ghost use Rattle.program_printer.specs.Tokens.{AllTokens, bare};
 
 /// The tokens of a printed program are those that it was printed from.
 pub fn laws_of_printing()
-    ensures { (t : Tree) → AllTokens (printed_words t) → bare (tokens_of (printed t)) ≡ printed_words t }
+    ensures tokens { (t : Tree) → AllTokens (printed_words t) → bare (tokens_of (printed t)) ≡ printed_words t }
 {}

@@ -8,9 +8,9 @@ use crate::declaration::put_declaration;
 use program_tree::Program;
 use std::alloc::{AllocError, Global};
 
-/// A program as text, in its one printed form.
+/// A program as text, in its one printed form; an error is a want of memory.
 pub fn print(alloc: Global, program: &Program) -> Result<Vec<u8>, AllocError>
-    ensures { IfOk result (λ text. text.items ≡ printed (tree program.now)) }
+    ensures printed { IfOk result (λ text. text.items ≡ printed (tree program.now)) }
 {
     let mut text = String::new(alloc);
     for declaration in &program.declarations {

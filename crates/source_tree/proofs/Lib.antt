@@ -1,1 +1,3 @@
 pub mod Pools
+pub mod Counting
+pub mod Laying

@@ -1,3 +1,4 @@
 pub mod Kinds
 pub mod Source
 pub mod Lowering
+pub mod Layout

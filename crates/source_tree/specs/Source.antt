@@ -96,6 +96,9 @@ stmts ss = map stmt ss
 abbrev pub texts : List (String Global) → List Name
 texts xs = map string_bytes xs
 
+abbrev pub option_text : Option (String Global) → Option Name
+option_text x = option_map string_bytes x
+
 abbrev pub decl : Declaration → Decl
 decl (declaration.Reducer r) = Reduces r.line (string_bytes r.name) (written r.kind)
 decl (declaration.Procedure p) = Defines p.line p.memo (string_bytes p.name) (texts p.parameters.items) (stmts p.body.items)

@@ -1,7 +1,8 @@
 //! The source tree: a program as it is written, with names in place and the line of each statement.
 
 ghost use Rattle.std.specs.Prelude.{◌≡◌};
-ghost use Rattle.source_tree.specs.Source.{phrase, depth};
+ghost use Rattle.source_tree.specs.Source.{phrase, depth, stmt};
+ghost use Rattle.source_tree.specs.Lowering.{line_of_stmt};
 
 use monoid_laws::Kind;
 use program_tree::{Operator, Way};
@@ -38,6 +39,22 @@ pub enum Statement {
     /// Its variable, the two ends of its range, its grain, the procedure of its iterations and the arguments.
     Loop(u32, String, Expr, Expr, u32, String, Vec<Expr>),
     Return(u32, Expr),
+}
+
+/// The line of a statement.
+pub fn line_of(statement: &Statement) -> u32
+    ensures { result ≡ line_of_stmt (stmt statement.now) }
+{
+    match statement {
+        Statement::Bind(line, ..) => *line,
+        Statement::Enter(line, ..) => *line,
+        Statement::Read(line, ..) => *line,
+        Statement::Sync(line) => *line,
+        Statement::Update(line, ..) => *line,
+        Statement::If(line, ..) => *line,
+        Statement::Loop(line, ..) => *line,
+        Statement::Return(line, ..) => *line,
+    }
 }
 
 /// A reducer, with the line of its first token.

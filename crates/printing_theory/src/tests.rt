@@ -1,0 +1,97 @@
+//! Programs that are read, printed and read again.
+
+use super::*;
+use procedure_parser::{TextError, parse, parse_define};
+use program_printer::print;
+use program_tree::Program;
+use std::alloc::Global;
+use std::test::Fail;
+
+/// Whether a program is printed so, and read from that as one that is printed so again.
+fn prints_as(alloc: Global, program: &Program, wanted: &[u8]) -> Result<bool, TextError> {
+    let printed = print(alloc, program)?;
+    let again = print_and_parse(alloc, program)?;
+    let twice = print(alloc, &again)?;
+    Ok(printed.as_slice() == wanted && twice.as_slice() == wanted)
+}
+
+#[test]
+fn first(rt: HostRuntime) -> Result<(), Fail> {
+    let text =
+        b"reducer total : add;\nproc leaf(v) { update total v; return v; }\nproc main() { x = spawn leaf(1); y = spawn leaf(2); update total 9; sync; return x + y; }\n";
+    let wanted =
+        b"reducer total : add ;\nproc leaf ( v ) {\nupdate total v ;\nreturn v ;\n}\nproc main ( ) {\nx = spawn leaf ( 1 ) ;\ny = spawn leaf ( 2 ) ;\nupdate total 9 ;\nsync ;\nreturn ( x + y ) ;\n}\n";
+    let program = parse(rt.alloc(), text)?;
+    assert!(rt; prints_as(rt.alloc(), &program, wanted)?);
+    Ok(())
+}
+
+#[test]
+fn first_list(rt: HostRuntime) -> Result<(), Fail> {
+    let text =
+        b"reducer seen : list;\nproc leaf(v) { update seen v; return v; }\nproc main() { x = spawn leaf(1); y = spawn leaf(2); update seen 9; sync; return x + y; }\n";
+    let wanted =
+        b"reducer seen : list ;\nproc leaf ( v ) {\nupdate seen v ;\nreturn v ;\n}\nproc main ( ) {\nx = spawn leaf ( 1 ) ;\ny = spawn leaf ( 2 ) ;\nupdate seen 9 ;\nsync ;\nreturn ( x + y ) ;\n}\n";
+    let program = parse(rt.alloc(), text)?;
+    assert!(rt; prints_as(rt.alloc(), &program, wanted)?);
+    Ok(())
+}
+
+#[test]
+fn lines(rt: HostRuntime) -> Result<(), Fail> {
+    let text =
+        b"reducer total : add;\nreducer top : argmax;\nmemo proc line(r) { v = sales[r].qty * sales[r].price; update total v; update top v, r; return v; }\nproc main() { cilk_for r in 1 .. limit sales : line(r); t = read total; return t; }\n";
+    let wanted =
+        b"reducer total : add ;\nreducer top : argmax ;\nmemo proc line ( r ) {\nv = ( sales [ r ] . qty * sales [ r ] . price ) ;\nupdate total v ;\nupdate top v , r ;\nreturn v ;\n}\nproc main ( ) {\ncilk_for r in 1 .. limit sales grain 1 : line ( r ) ;\nt = read total ;\nreturn t ;\n}\n";
+    let program = parse(rt.alloc(), text)?;
+    assert!(rt; prints_as(rt.alloc(), &program, wanted)?);
+    Ok(())
+}
+
+#[test]
+fn lines_nested(rt: HostRuntime) -> Result<(), Fail> {
+    let text =
+        b"reducer total : add;\nmemo proc line(r) { if has sales[r] { v = sales[r].qty * sales[r].price; update total v; } }\nmemo proc all() { cilk_for r in 1 .. limit sales : line(r); }\nproc main() { call all(); t = read total; return t; }\n";
+    let wanted =
+        b"reducer total : add ;\nmemo proc line ( r ) {\nif has sales [ r ] {\nv = ( sales [ r ] . qty * sales [ r ] . price ) ;\nupdate total v ;\n}\n}\nmemo proc all ( ) {\ncilk_for r in 1 .. limit sales grain 1 : line ( r ) ;\n}\nproc main ( ) {\ncall all ( ) ;\nt = read total ;\nreturn t ;\n}\n";
+    let program = parse(rt.alloc(), text)?;
+    assert!(rt; prints_as(rt.alloc(), &program, wanted)?);
+    Ok(())
+}
+
+#[test]
+fn countdown(rt: HostRuntime) -> Result<(), Fail> {
+    let text =
+        b"reducer steps : add;\nmemo proc down(n) { update steps 1; if n > 0 { call down(n - 1); } return n; }\nproc main() { v = call down(60); return v; }\n";
+    let wanted =
+        b"reducer steps : add ;\nmemo proc down ( n ) {\nupdate steps 1 ;\nif ( n > 0 ) {\ncall down ( ( n - 1 ) ) ;\n}\nreturn n ;\n}\nproc main ( ) {\nv = call down ( 60 ) ;\nreturn v ;\n}\n";
+    let program = parse(rt.alloc(), text)?;
+    assert!(rt; prints_as(rt.alloc(), &program, wanted)?);
+    Ok(())
+}
+
+/// Both blocks of an `if`, one inside the other.
+#[test]
+fn blocks_in_blocks(rt: HostRuntime) -> Result<(), Fail> {
+    let text =
+        b"proc main() { if 1 { if 2 { sync; } else { x = 3; } } else { if 4 { y = 5; } } return 6; }";
+    let wanted =
+        b"proc main ( ) {\nif 1 {\nif 2 {\nsync ;\n} else {\nx = 3 ;\n}\n} else {\nif 4 {\ny = 5 ;\n}\n}\nreturn 6 ;\n}\n";
+    let program = parse(rt.alloc(), text)?;
+    assert!(rt; prints_as(rt.alloc(), &program, wanted)?);
+    Ok(())
+}
+
+/// One in its place, a new one last, and a second one behind the first.
+#[test]
+fn procedures_defined(rt: HostRuntime) -> Result<(), Fail> {
+    let old = b"proc a() { return 1; }\nreducer r : mul;\nproc main() { return 2; }\n";
+    let text =
+        b"proc c() { return 3; }\nmemo proc a() { return 4; }\nproc a() { return 5; }\nproc c() { return 6; }\n";
+    let wanted =
+        b"memo proc a ( ) {\nreturn 4 ;\n}\nproc a ( ) {\nreturn 5 ;\n}\nreducer r : mul ;\nproc main ( ) {\nreturn 2 ;\n}\nproc c ( ) {\nreturn 3 ;\n}\nproc c ( ) {\nreturn 6 ;\n}\n";
+    let before = parse(rt.alloc(), old)?;
+    let program = parse_define(rt.alloc(), text, &before)?;
+    assert!(rt; prints_as(rt.alloc(), &program, wanted)?);
+    Ok(())
+}
