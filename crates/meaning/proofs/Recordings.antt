@@ -11,7 +11,7 @@ use Rattle.meaning.specs.Records.{Kept, Revised, needing}
 use Rattle.meaning.specs.Trail.{halvings}
 use Rattle.meaning.specs.Commits.{committed, kept_after}
 use Rattle.meaning.specs.Tallies.{Tally}
-use Rattle.meaning.specs.Schedules.{RunState, RunStep, work, push, inline, pop, stall, steal, fold, first_state, path, end_of, Piece}
+use Rattle.meaning.specs.Schedules.{recording_from, RunState, RunStep, work, push, inline, pop, stall, steal, fold, first_state, path, end_of, Piece}
 use Rattle.meaning.proofs.Samples.{lines, sales, row, n_line, n_main, n_sales, n_qty, n_price}
 
 abbrev times : ℕ → List RunStep → List RunStep
@@ -32,7 +32,7 @@ abbrev alone : List RunStep
 alone = times 3 (works 0 ++ inline 0 ∷ []) ++ works 0 ++ stall 0 ∷ []
 
 abbrev run_of : Tables → List Kept → ℕ → List RunStep → RunState
-run_of tables records kits = path lines_now tables records (first_state lines kits)
+run_of tables records kits = path lines_now tables (recording_from records) (first_state lines kits)
 
 abbrev tallies : List Piece → List (ℕ × ℕ × ℕ)
 tallies ps = map (λ p. (p.tally.executed, p.tally.reused, p.tally.unrecorded)) ps

@@ -15,7 +15,7 @@ use Rattle.meaning.specs.Strands as strands
 use Rattle.meaning.specs.Trail.{halvings}
 use Rattle.meaning.specs.Elision.{elide}
 use Rattle.meaning.specs.RestOfRun.{rest_of_run}
-use Rattle.meaning.specs.Schedules.{RunState, RunStep, work, push, inline, pop, stall, steal, fold, first_state, after_step, path, end_of, line_of}
+use Rattle.meaning.specs.Schedules.{recording_from, RunState, RunStep, work, push, inline, pop, stall, steal, fold, first_state, after_step, path, end_of, line_of}
 use Rattle.meaning.proofs.Samples.{first_list, faulty, sales, proc, red, num, n_a, n_b, n_f, n_one, n_main, n_seen}
 
 abbrev many : ℕ → RunStep → List RunStep
@@ -31,7 +31,7 @@ abbrev unrevised : Tree → Revised
 unrevised program = record { tree = program; revisions = []; counter = 0 }
 
 abbrev run_on : Tree → Tables → ℕ → List RunStep → RunState
-run_on program tables kits = path (unrevised program) tables [] (first_state program kits)
+run_on program tables kits = path (unrevised program) tables (recording_from []) (first_state program kits)
 
 -- push, steal, push, steal, and two folds
 abbrev two_steals_begin : List RunStep
@@ -80,13 +80,13 @@ unfolding int_wrap
 unfinished = refl
 
 -- at the beginning nothing can be stolen or pushed, and a step by no worker isn't taken
-refused_steal : after_step (unrevised first_list) [] [] (first_state first_list 3) (steal 1 0) ≡ None
+refused_steal : after_step (unrevised first_list) [] (recording_from []) (first_state first_list 3) (steal 1 0) ≡ None
 refused_steal = refl
 
-refused_push : after_step (unrevised first_list) [] [] (first_state first_list 3) (push 0) ≡ None
+refused_push : after_step (unrevised first_list) [] (recording_from []) (first_state first_list 3) (push 0) ≡ None
 refused_push = refl
 
-refused_work : after_step (unrevised first_list) [] [] (first_state first_list 3) (work 7) ≡ None
+refused_work : after_step (unrevised first_list) [] (recording_from []) (first_state first_list 3) (work 7) ≡ None
 refused_work = refl
 
 -- reducer f : affine; proc one(a, b) { update f a, b; } proc main() { spawn one(2, 1); update f 3, 4; sync; return 0; }

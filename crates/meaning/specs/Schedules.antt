@@ -81,9 +81,22 @@ kits_after noting kits = kits
 kits_after opening_one kits = kits - 1
 kits_after closing_one kits = kits + 1
 
-module _ (program : Revised) (tables : Tables) (records : List Kept) where
+-- what a run has of earlier ones and for later ones: the records that may answer, and whether it makes new ones
+pub record Memory : Type 0 where
+  pub records : List Kept
+  pub recording : Bool
+
+-- a run that makes new records
+abbrev pub recording_from : List Kept → Memory
+recording_from records = record { records = records; recording = true }
+
+-- a run for which `memo` has no effect
+abbrev pub without_memo : Memory
+without_memo = record { records = []; recording = false }
+
+module _ (program : Revised) (tables : Tables) (memory : Memory) where
   abbrev pub step_of : ℕ → LayeredStrand → Step
-  step_of kits s = micro program.tree tables (valid_record program tables records) (nat_lt 0 kits) (total program.tree s.layers).worth s.start s.frame s.phase s.under
+  step_of kits s = micro program.tree tables (valid_record program tables memory.records) (memory.recording && nat_lt 0 kits) (total program.tree s.layers).worth s.start s.frame s.phase s.under
 
   abbrev pub worked_by : ℕ → Piece → Step → Option Change
   worked_by kits p (moved l evs fr ph t) = alone (kits_after l kits) (record { strand = advanced program.tree p.strand (moved l evs fr ph t); deque = p.deque; state = p.state; tally = tallied program p.strand.layers (moved l evs fr ph t) p.tally })

@@ -147,11 +147,11 @@ module _ (program : Tree) (tables : Tables) (sight : Accumulators) (lookup : Loo
   taken_fits law k x y es (l ∷ ls) [] q e h = h
   taken_fits law k x y es (l ∷ ls) (s ∷ ss) q e h = (subst (λ n. SameNotes (multiplied program l k) n) (law (x ++ stretch ss) s es y (simp append_assoc (simp append_assoc at e))) (multiplied_same program l (notes program s) k (notes program es) h.0 (same_sym (notes program es) k q)), h.1)
 
-  early_at : (m : Start) (ls : List Notes) (fr : Frame) (ph : Phase) (t : List Parent) (h : RightNow m ls fr ph t) → IsEarly m h.before
+  pub early_at : (m : Start) (ls : List Notes) (fr : Frame) (ph : Phase) (t : List Parent) (h : RightNow m ls fr ph t) → IsEarly m h.before
   early_at m ls fr ph t h = early_of m h.before _ (ordered_at _ h.is_trail) h.starts
 
   -- small steps
-  step_right : StretchesMultiply program tables sight lookup → (m : Start) (ls : List Notes) (fr : Frame) (ph : Phase) (t : List Parent) (h : RightNow m ls fr ph t) → LayersFit program ls h.segments → (st : Step)
+  unfoldable pub step_right : StretchesMultiply program tables sight lookup → (m : Start) (ls : List Notes) (fr : Frame) (ph : Phase) (t : List Parent) (h : RightNow m ls fr ph t) → LayersFit program ls h.segments → (st : Step)
       → (ReadsAtMainsEnd program → StepReads (h.before ++ stretch h.segments) st) → Keeps program tables sight lookup h.before m (full_rest program tables sight lookup fr ph t h.top h.others) st → IsRight program tables sight lookup (advanced program (record { start = m; layers = ls; frame = fr; phase = ph; under = t }) st)
   step_right law m ls fr ph t h fits (moved l evs fr' ph' t') reads k =
       let ss = segments_by l h.segments evs in
@@ -227,7 +227,7 @@ module _ (program : Tree) (tables : Tables) (sight : Accumulators) (lookup : Loo
       subst (λ n. SameNotes (multiplied program (total program (b ∷ ls)) a) n) (law x under s y e') (multiplied_same program (total program (b ∷ ls)) (notes program under) a (notes program s) (total_fits law x (s ++ y) (b ∷ ls) (s' ∷ ss) tt e' h.1) h.0)
 
   -- at a spawn the child stands on the stack
-  child_goes : (fr : Frame) (d : ℕ) (x : Option ℕ) (child : Child) (todo : Todo) (t : List Parent) (g : Beside) (gs : List Beside)
+  pub child_goes : (fr : Frame) (d : ℕ) (x : Option ℕ) (child : Child) (todo : Todo) (t : List Parent) (g : Beside) (gs : List Beside)
       → full_rest program tables sight lookup fr (spawning d x child todo) t g gs ≡ Spawns (child_name fr) ∷ full_rest program tables sight lookup (opened program d child (child_name fr)) (entering child) (awaiting fr true x todo ∷ t) (record { env = env_of program child; doom = None }) (g ∷ gs)
   child_goes fr d x child todo t g gs =
       let q = child_name fr in
@@ -236,19 +236,19 @@ module _ (program : Tree) (tables : Tables) (sight : Accumulators) (lookup : Loo
       ap (λ l. Spawns q ∷ l) (regroup (c.events ++ Leaves q c.outcome ∷ []) r.events (Leaves fr.instance r.outcome ∷ []) (below program tables sight (look_of lookup) t gs r.outcome).events)
 
   -- the spawn's event stands at the end of the top layer's stretch, and no layer notes it
-  spawn_fits : (ls : List Notes) (ss : List Log) (q : Place) → LayersFit program ls ss → LayersFit program ls (grown ss (Spawns q ∷ []))
+  pub spawn_fits : (ls : List Notes) (ss : List Log) (q : Place) → LayersFit program ls ss → LayersFit program ls (grown ss (Spawns q ∷ []))
   spawn_fits [] ss q h = grown_fits [] ss (Spawns q ∷ []) h
   spawn_fits (l ∷ ls) ss q h = grown_fits (l ∷ ls) ss (Spawns q ∷ []) h
 
-  spawn_passes : (x y z : Log) (ss : List Log) (q : Place) → Layered ss → x ++ (stretch ss ++ ((Spawns q ∷ y) ++ z)) ≡ T → x ++ (stretch (grown ss (Spawns q ∷ [])) ++ (y ++ z)) ≡ T
+  pub spawn_passes : (x y z : Log) (ss : List Log) (q : Place) → Layered ss → x ++ (stretch ss ++ ((Spawns q ∷ y) ++ z)) ≡ T → x ++ (stretch (grown ss (Spawns q ∷ [])) ++ (y ++ z)) ≡ T
   spawn_passes x y z ss q l e = rw (stretch_grown ss (Spawns q ∷ []) l) (spawn_regroup x (stretch ss) y z q ∙ e)
 
   -- the spawn's event is the last one so far
-  spawn_last : (x : Log) (ss : List Log) (q : Place) → Layered ss → (x ++ stretch ss) ++ Spawns q ∷ [] ≡ x ++ stretch (grown ss (Spawns q ∷ []))
+  pub spawn_last : (x : Log) (ss : List Log) (q : Place) → Layered ss → (x ++ stretch ss) ++ Spawns q ∷ [] ≡ x ++ stretch (grown ss (Spawns q ∷ []))
   spawn_last x ss q l = append_assoc x (stretch ss) (Spawns q ∷ []) ∙ ap (λ w. x ++ w) (sym (stretch_grown ss (Spawns q ∷ []) l))
 
   -- the child as a call
-  pub inline_right : (m : Start) (ls : List Notes) (fr : Frame) (t : List Parent) (d : ℕ) (x : Option ℕ) (child : Child) (todo : Todo) → RightNow m ls fr (spawning d x child todo) t
+  unfoldable pub inline_right : (m : Start) (ls : List Notes) (fr : Frame) (t : List Parent) (d : ℕ) (x : Option ℕ) (child : Child) (todo : Todo) → RightNow m ls fr (spawning d x child todo) t
       → IsRight program tables sight lookup (inlined program (record { start = m; layers = ls; frame = fr; phase = spawning d x child todo; under = t }) d x child todo)
   inline_right m ls fr t d x child todo h =
       let F = h.task.frame_fits in
@@ -278,7 +278,7 @@ module _ (program : Tree) (tables : Tables) (sight : Accumulators) (lookup : Loo
       }
 
   -- the child alone
-  pub detach_right : (m : Start) (ls : List Notes) (fr : Frame) (t : List Parent) (d : ℕ) (x : Option ℕ) (child : Child) (todo : Todo) → RightNow m ls fr (spawning d x child todo) t
+  unfoldable pub detach_right : (m : Start) (ls : List Notes) (fr : Frame) (t : List Parent) (d : ℕ) (x : Option ℕ) (child : Child) (todo : Todo) → RightNow m ls fr (spawning d x child todo) t
       → IsRight program tables sight lookup (detached program (record { start = m; layers = ls; frame = fr; phase = spawning d x child todo; under = t }) d child)
   detach_right m ls fr t d x child todo h =
       let q = child_name fr in

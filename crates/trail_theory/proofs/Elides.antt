@@ -19,11 +19,11 @@ use Rattle.trail_theory.specs.Order.{Every}
 use Rattle.trail_theory.specs.Waiting.{NoReadsDeed, NoReads, HasNoReads}
 use Rattle.trail_theory.specs.ReadsAtEnd.{EntersOnlyDeed, EntersOnly}
 use Rattle.trail_theory.proofs.Evaluations.{Told, Calm, calm_value, calm_values, calm_update, calm_bounds}
-use Rattle.trail_theory.proofs.Walks.{GoodRuns, good_runs, has_body}
+use Rattle.trail_theory.proofs.Walks.{Opens, half_opens, GoodRuns, good_runs, has_body}
 use Rattle.trail_theory.proofs.Inside.{doomed}
 use Rattle.trail_theory.proofs.FirstFaults.{quiet_first, told_none, before_append, before_first, first_kept}
 
-forgotten_append : (a b : Log) → forgotten (a ++ b) ≡ forgotten a ++ forgotten b
+pub forgotten_append : (a b : Log) → forgotten (a ++ b) ≡ forgotten a ++ forgotten b
 forgotten_append [] b = refl
 forgotten_append (Reads r ∷ es) b = ap (λ l. Reads r ∷ l) (forgotten_append es b)
 forgotten_append (Enters f args d ∷ es) b = ap (λ l. Enters f args d ∷ l) (forgotten_append es b)
@@ -117,7 +117,7 @@ module _ (G : Accumulators → Out Fault ℤ → Type 0) (onwards : GoesOn G) wh
       eval_at log (Ok a) t g = fits_led log (next a).events (f a (after log acc)) log (next a).outcome (sym (forgotten_told log t)) (told_none log t) (h a (after log acc) (onwards log acc (f a (after log acc)) g))
 
   -- a child, and then the rest
-  call_fits : (o : Out Fault ℤ) (es : Log) (out : Outcome) (f : ℤ → Run ℤ) (acc : Accumulators) (next : ℤ → Trace) → Fits o es out → G acc (onward o.log o.answer (λ a. f a (after o.log acc))) → ((v : ℤ) (acc : Accumulators) → G acc (f v acc) → Matches (f v acc) (next v)) → Matches (onward o.log o.answer (λ a. f a (after o.log acc))) (after_call None (record { events = es; outcome = out }) next)
+  pub call_fits : (o : Out Fault ℤ) (es : Log) (out : Outcome) (f : ℤ → Run ℤ) (acc : Accumulators) (next : ℤ → Trace) → Fits o es out → G acc (onward o.log o.answer (λ a. f a (after o.log acc))) → ((v : ℤ) (acc : Accumulators) → G acc (f v acc) → Matches (f v acc) (next v)) → Matches (onward o.log o.answer (λ a. f a (after o.log acc))) (after_call None (record { events = es; outcome = out }) next)
   call_fits o es (Ok v) f acc next e known h =
       subst (λ q. G acc (onward q.log q.answer (λ a. f a (after q.log acc))) → Matches (onward q.log q.answer (λ a. f a (after q.log acc))) (led es (next v))) (sym e.0)
       (λ g. fits_led (forgotten es) (next v).events (f v (after (forgotten es) acc)) es (next v).outcome refl e.1 (h v (after (forgotten es) acc) (onwards (forgotten es) acc (f v (after (forgotten es) acc)) g))) known
@@ -163,7 +163,7 @@ module _ (Quiet : Name → Type 0) (program : Tree) (tables : Tables) (sight : A
   Elides None = (site : Site) (f : Name) (vs : List ℤ) (acc : Accumulators) → enters site f vs acc ≡ record { log = []; answer = Err (fault_at site TooDeep) }
   Elides (Some go) = (site : Site) (f : Name) (vs : List ℤ) (n : Place) (acc : Accumulators) → Quiet f → Matches (enters site f vs acc) (go f vs n)
 
-  enter_fits : (r : Runner) → Elides r → (site : Site) (f : Name) → Quiet f → (vs : List ℤ) (kont : ℤ → Run ℤ) (acc : Accumulators) (next : Go → Trace)
+  pub enter_fits : (r : Runner) → Elides r → (site : Site) (f : Name) → Quiet f → (vs : List ℤ) (kont : ℤ → Run ℤ) (acc : Accumulators) (next : Go → Trace)
       → ((go : Go) → ((n : Place) (acc : Accumulators) → Matches (enters site f vs acc) (go f vs n)) → Matches ((enters site f vs >>= kont) acc) (next go)) → Matches ((enters site f vs >>= kont) acc) (entering None site r next)
   unfolding Elides
   enter_fits None e site f quiet vs kont acc next h =
@@ -172,11 +172,11 @@ module _ (Quiet : Name → Type 0) (program : Tree) (tables : Tables) (sight : A
   enter_fits (Some go) e site f quiet vs kont acc next h = h go (λ n acc. e site f vs n acc quiet)
 
   -- so many iterations, and then the rest
-  abbrev plain : Job → ℕ → ℕ → Run ℤ → Run ℤ
+  abbrev pub plain : Job → ℕ → ℕ → Run ℤ → Run ℤ
   plain job zero i k = k
   plain job (suc count) i k = at job.site (turn_values tables job i) >>= (λ vs. enters job.site job.callee vs >>= (λ v. plain job count (suc i) k))
 
-  plain_bind : (job : Job) (a i : ℕ) (k : Run ℤ) (f : ℤ → Run ℤ) → (plain job a i k >>= f) ≡ plain job a i (k >>= f)
+  pub plain_bind : (job : Job) (a i : ℕ) (k : Run ℤ) (f : ℤ → Run ℤ) → (plain job a i k >>= f) ≡ plain job a i (k >>= f)
   plain_bind job zero i k f = refl
   plain_bind job (suc a) i k f =
       let F = λ (vs : List ℤ). (enters job.site job.callee vs >>= (λ v. plain job a (suc i) k)) in
@@ -186,7 +186,7 @@ module _ (Quiet : Name → Type 0) (program : Tree) (tables : Tables) (sight : A
       x ∙ (λ p. enters job.site job.callee vs >>= (λ v. plain_bind job a (suc i) k f p))) in
       one ∙ (λ p. at job.site (turn_values tables job i) >>= (λ vs. two vs p))
 
-  plain_of : (job : Job) (a i : ℕ) (k : Run ℤ) → (turns program tables enters job a i >>= (λ u. k)) ≡ plain job a i k
+  pub plain_of : (job : Job) (a i : ℕ) (k : Run ℤ) → (turns program tables enters job a i >>= (λ u. k)) ≡ plain job a i k
   plain_of job zero i k = refl
   plain_of job (suc a) i k =
       let F = λ (vs : List ℤ). (enters job.site job.callee vs >>= (λ v. turns program tables enters job a (suc i))) in
@@ -196,7 +196,7 @@ module _ (Quiet : Name → Type 0) (program : Tree) (tables : Tables) (sight : A
       x ∙ (λ p. enters job.site job.callee vs >>= (λ v. plain_of job a (suc i) k p))) in
       one ∙ (λ p. at job.site (turn_values tables job i) >>= (λ vs. two vs p))
 
-  plain_split : (job : Job) (a b i : ℕ) (k : Run ℤ) → plain job (a + b) i k ≡ plain job a i (plain job b (i + a) k)
+  pub plain_split : (job : Job) (a b i : ℕ) (k : Run ℤ) → plain job (a + b) i k ≡ plain job a i (plain job b (i + a) k)
   plain_split job zero b i k =
       let e : 0 + b ≡ b = omega arith in
       let e' : i + 0 ≡ i = omega arith in
@@ -207,7 +207,7 @@ module _ (Quiet : Name → Type 0) (program : Tree) (tables : Tables) (sight : A
       rw (e, e') (λ p. at job.site (turn_values tables job i) >>= (λ vs. enters job.site job.callee vs >>= (λ v. plain_split job a b (suc i) k p)))
 
   module _ (good : Elides sub) where
-    turns_fit : (job : Job) → Quiet job.callee → (count i : ℕ) (n : Place) (c : ℕ) (acc : Accumulators) → Matches (plain job count i (pure (pos 0)) acc) (turns_walk program tables sight sub job count i n c None)
+    pub turns_fit : (job : Job) → Quiet job.callee → (count i : ℕ) (n : Place) (c : ℕ) (acc : Accumulators) → Matches (plain job count i (pure (pos 0)) acc) (turns_walk program tables sight sub job count i n c None)
     turns_fit job quiet zero i n c acc = (refl, refl)
     turns_fit job quiet (suc count) i n c acc =
         eval_fits Anything anything job.site (turn_values tables job i) (λ vs. enters job.site job.callee vs >>= (λ v. plain job count (suc i) (pure (pos 0)))) acc _ (calm_values tables (put job.env job.variable (job.low +ℤ pos i)) job.args) tt (λ vs acc' g.
@@ -219,15 +219,15 @@ module _ (Quiet : Name → Type 0) (program : Tree) (tables : Tables) (sight : A
     cond_fits true o x y h k = h
     cond_fits false o x y h k = k
 
-    half_fits : (left : ℕ) (o : Out Fault ℤ) (n : Place) (es : Log) (out : Outcome) → Fits o es out → Matches o (half_closed program tables sight sub left n (record { events = es; outcome = out }))
+    pub half_fits : (left : ℕ) (o : Out Fault ℤ) (n : Place) (es : Log) (out : Outcome) → Fits o es out → Matches o (half_closed program tables sight sub left n (record { events = es; outcome = out }))
     half_fits left o n es out h = fits_begun o n (depth_limit - left) (es ++ Leaves n out ∷ []) out (fits_closed o n es out h)
 
-    call_doomed : (n : Place) (d : Fault) (es : Log) (o : Outcome) → (after_call (Some d) (record { events = es; outcome = o }) (λ v. over n (Some d) (pos 0))).outcome ≡ Err d
+    pub call_doomed : (n : Place) (d : Fault) (es : Log) (o : Outcome) → (after_call (Some d) (record { events = es; outcome = o }) (λ v. over n (Some d) (pos 0))).outcome ≡ Err d
     call_doomed n d es (Ok v) = refl
     call_doomed n d es (Err j) = refl
 
     -- a loop by halves is the plain loop
-    loop_fit : (left k : ℕ) (job : Job) → Quiet job.callee → (count i : ℕ) (n : Place) (c : ℕ) (acc : Accumulators) → Matches (plain job count i (pure (pos 0)) acc) (loop_walk program tables sight sub left k job count i n c None)
+    pub loop_fit : (left k : ℕ) (job : Job) → Quiet job.callee → (count i : ℕ) (n : Place) (c : ℕ) (acc : Accumulators) → Matches (plain job count i (pure (pos 0)) acc) (loop_walk program tables sight sub left k job count i n c None)
     loop_fit left zero job quiet count i n c acc = turns_fit job quiet count i n c acc
     loop_fit left (suc k) job quiet count i n c acc =
         let a = count / 2 in
@@ -267,7 +267,7 @@ module _ (Quiet : Name → Type 0) (program : Tree) (tables : Tables) (sight : A
           subst (λ m. G acc m → Matches m (after_call None w (λ v. next))) (sym e)
           (λ g. call_fits G onwards o w.events w.outcome (λ v. kont env) acc (λ v. next) (half_fits left o (child_of n c) r.events r.outcome (loop_fit left halvings job quiet count 0 (child_of n c) 1 acc)) g (λ v acc' g'. h acc' g')) known
 
-      module _ (left : ℕ) (sound : GoodRuns (λ n c d r. (k : Fault) → d ≡ Some k → r.outcome ≡ Err k) (λ n r. Unit {0}) doomed program tables sight sub) where
+      module _ (left : ℕ) (sound : GoodRuns (Every Opens) (λ n c d r. (k : Fault) → d ≡ Some k → r.outcome ≡ Err k) (λ n r. Unit {0}) doomed half_opens program tables sight sub) where
         abbrev pub Goes : Place → (Env → Run ℤ) → (Env → ℕ → Option Fault → Trace) → Type 0
         Goes n kont k = ((env : Env) (c : ℕ) (acc : Accumulators) → G acc (kont env acc) → Matches (kont env acc) (k env c None)) × ((env : Env) (c : ℕ) (d : Option Fault) (e : Fault) → d ≡ Some e → (k env c d).outcome ≡ Err e)
 
@@ -282,7 +282,7 @@ module _ (Quiet : Name → Type 0) (program : Tree) (tables : Tables) (sight : A
 
         -- the rest of a block goes on with a fault to answer
         pub rest_doomed : (n : Place) (here : Name) (b : Body) (k : Env → ℕ → Option Fault → Trace) → ((env : Env) (c : ℕ) (d : Option Fault) (e : Fault) → d ≡ Some e → (k env c d).outcome ≡ Err e) → (env : Env) (c : ℕ) (d : Option Fault) (e : Fault) → d ≡ Some e → (body_walk program tables sight sub left n here b env c d k).outcome ≡ Err e
-        rest_doomed n here b k h env c d e' = has_body _ _ doomed program tables sight sub sound left n here b env c d k (λ env'' c'' d'' e'' q. h env'' c'' d'' e'' q) e'
+        rest_doomed n here b k h env c d e' = has_body (Every Opens) _ _ doomed half_opens program tables sight sub sound left n here b env c d k (λ env'' c'' d'' e'' q. h env'' c'' d'' e'' q) e'
 
         mutual
           pub deed_fits : (n : Place) (site : Site) (d : Deed) → NoReadsDeed d → EntersOnlyDeed Quiet d → (env : Env) (c : ℕ) (kont : Env → Run ℤ) (k : Env → ℕ → Option Fault → Trace) → Goes n kont k → (acc : Accumulators) → G acc ((deed program tables enters site env d >>= finish kont) acc) → Matches ((deed program tables enters site env d >>= finish kont) acc) (deed_walk program tables sight sub left n site d env c None k)

@@ -89,7 +89,7 @@ worth_of l (Faults k ∷ es) = worth_of l es
 worth_of l (Marks f args b ∷ es) = worth_of l es
 
 module _ (program : Tree) (tables : Tables) (sight : Accumulators) (lookup : Lookup) where
-  pub first_right : IsRight program tables sight lookup (first_layered program)
+  unfoldable pub first_right : IsRight program tables sight lookup (first_layered program)
   first_right =
       record {
         before = [];
@@ -120,18 +120,24 @@ module _ (program : Tree) (tables : Tables) (sight : Accumulators) (lookup : Loo
   abbrev within_main : Trace
   within_main = run_inside program tables sight (runner program tables sight (depth_limit - 1) (inner program (look_of lookup) (depth_limit - 1) main [])) (depth_limit - 1) main [] []
 
-  -- a strand that is over at the trail's end has the serial run's value and accumulators
-  finish_at : (l : Notes) (fr : Frame) (v : ℤ) → RightAt program tables sight lookup root (l ∷ []) fr (leaving v) [] → fr.instance ≡ []
-      → (o : Out Fault ℤ) → Matches o whole → (o.answer ≡ Ok v) × (after o.log (identities program) ≡ l.worth)
-  finish_at l fr v h e o fits =
+  -- a strand of main that is over has done the whole trail
+  pub at_end : (ls : List Notes) (fr : Frame) (v : ℤ) (h : RightAt program tables sight lookup root ls fr (leaving v) []) → fr.instance ≡ [] → (stretch h.segments ++ Leaves [] (Ok v) ∷ [] ≡ T) × (Ok v ≡ within_main.outcome)
+  at_end ls fr v h e =
       let here = stretch h.segments in
       let ops = opening program (look_of lookup) (depth_limit - 1) main [] [] in
       let f : (h.before ++ here) ++ Leaves [] (Ok v) ∷ h.beyond ≡ T = subst (λ x. (h.before ++ here) ++ Leaves x (Ok v) ∷ h.beyond ≡ T) e (append_assoc h.before here (Leaves fr.instance (Ok v) ∷ h.beyond) ∙ h.is_trail) in
       let f' : (ops ++ within_main.events) ++ Leaves [] within_main.outcome ∷ [] ≡ T = append_assoc ops within_main.events (Leaves [] within_main.outcome ∷ []) in
       let q = same_split [] (h.before ++ here) h.beyond (ops ++ within_main.events) [] (Ok v) within_main.outcome (ordered_at program tables sight lookup _ f) (ordered_at program tables sight lookup _ f') (f ∙ sym f') in
-      let g : here ++ Leaves [] (Ok v) ∷ [] ≡ T = ap (λ b. (b ++ here) ++ Leaves [] (Ok v) ∷ []) (sym h.starts) ∙ ap (λ b. (h.before ++ here) ++ Leaves [] (Ok v) ∷ b) (sym q.later) ∙ f in
-      let z : o ≡ record { log = forgotten T; answer = Ok v } = (subst (λ w. Fits o T w) (sym q.value) fits).0 in
-      let n : notes program T ≡ notes program here = ap (notes program) (sym g) ∙ noted_append (blank program) here (Leaves [] (Ok v) ∷ []) in
+      (ap (λ b. (b ++ here) ++ Leaves [] (Ok v) ∷ []) (sym h.starts) ∙ ap (λ b. (h.before ++ here) ++ Leaves [] (Ok v) ∷ b) (sym q.later) ∙ f, q.value)
+
+  -- so it has the serial run's value and accumulators
+  finish_at : (l : Notes) (fr : Frame) (v : ℤ) → RightAt program tables sight lookup root (l ∷ []) fr (leaving v) [] → fr.instance ≡ []
+      → (o : Out Fault ℤ) → Matches o whole → (o.answer ≡ Ok v) × (after o.log (identities program) ≡ l.worth)
+  finish_at l fr v h e o fits =
+      let here = stretch h.segments in
+      let q = at_end (l ∷ []) fr v h e in
+      let z : o ≡ record { log = forgotten T; answer = Ok v } = (subst (λ w. Fits o T w) (sym q.1) fits).0 in
+      let n : notes program T ≡ notes program here = ap (notes program) (sym q.0) ∙ noted_append (blank program) here (Leaves [] (Ok v) ∷ []) in
       (ap (λ x. x.answer) z, ap (λ x. after x.log (identities program)) z ∙ worth_of (blank program) T ∙ ap (λ x. x.worth) n ∙ (one_layer program tables sight lookup l h.segments h.logged).worth)
 
   -- a faulted strand at the trail's beginning has the serial run's first fault

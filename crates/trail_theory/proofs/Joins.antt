@@ -7,7 +7,7 @@ use Rattle.meaning.specs.Outcome.{Log, Accumulators, Event, Fault, Outcome, Plac
 use Rattle.meaning.specs.Values.{Env}
 use Rattle.meaning.specs.Statements.{put_into}
 use Rattle.meaning.specs.Trail.{led, child_of, env_after, doom_after, trail_at}
-use Rattle.meaning.specs.SmallStep.{slot, env_of, Slot, unset, waits, has, Start, root, behind, same_name, Frame, Todo, blocks, halves, second, turns, Phase, entering, running, spawning, returning, leaving, broken, Parent, set_into, with_env, with_value, Layers, Lookup, look_of, Continuation, place_of_continuation}
+use Rattle.meaning.specs.SmallStep.{slot, env_of, Slot, unset, waits, has, Start, root, behind, same_name, Frame, Todo, blocks, halves, second, turns, Phase, entering, running, spawning, returning, leaving, broken, Parent, set_into, with_env, with_value, Lookup, look_of, Continuation, place_of_continuation}
 use Rattle.trail_theory.specs.SerialRest.{Beside, child_inside, finished_by, todo_walk, phase_walk, parent_walk, below}
 use Rattle.meaning.specs.Layers.{SameNotes, blank, Notes, notes, noted_top, take_top}
 use Rattle.meaning.specs.LayeredStrand.{stolen, settle_slot, settled_frame, settled_under}
@@ -29,17 +29,17 @@ slot_later C h (same t) = same t
 slot_later {n = n} C h (late {j = j} {v = v} i w) = late (h (child_of n j) (Ok v) i) w
 slot_later {n = n} C h (lost {j = j} k i w) = lost k (h (child_of n j) (Err k) i) w
 
-env_later : (B C : Log) (n : Place) (W : List ℕ) → ((c : Place) (v : Outcome) → In (Leaves c v) B → In (Leaves c v) C) → (k : ℕ) (env : List Slot) (E : Env) → EnvFits B n W k env E → EnvFits C n W k env E
+pub env_later : (B C : Log) (n : Place) (W : List ℕ) → ((c : Place) (v : Outcome) → In (Leaves c v) B → In (Leaves c v) C) → (k : ℕ) (env : List Slot) (E : Env) → EnvFits B n W k env E → EnvFits C n W k env E
 env_later B C n W h k [] [] f = tt
 env_later B C n W h k [] (o ∷ E) f = f
 env_later B C n W h k (s ∷ env) [] f = f
 env_later B C n W h k (s ∷ env) (o ∷ E) f = (slot_later C h f.0, env_later B C n W h (suc k) env E f.1)
 
-doom_later : {B : Log} {n : Place} {o : Option Fault} (C : Log) → ((c : Place) (v : Outcome) → In (Leaves c v) B → In (Leaves c v) C) → DoomFits B n o → DoomFits C n o
+pub doom_later : {B : Log} {n : Place} {o : Option Fault} (C : Log) → ((c : Place) (v : Outcome) → In (Leaves c v) B → In (Leaves c v) C) → DoomFits B n o → DoomFits C n o
 doom_later C h sound = sound
 doom_later {n = n} C h (hit j k i) = hit j k (h (child_of n j) (Err k) i)
 
-under_later : (program : Tree) (B C : Log) (t : List Parent) (Es : List Beside) → ((c : Place) (v : Outcome) → In (Leaves c v) B → In (Leaves c v) C) → UnderFits program B t Es → UnderFits program C t Es
+pub under_later : (program : Tree) (B C : Log) (t : List Parent) (Es : List Beside) → ((c : Place) (v : Outcome) → In (Leaves c v) B → In (Leaves c v) C) → UnderFits program B t Es → UnderFits program C t Es
 under_later program B C [] [] h u = u
 under_later program B C [] (E ∷ Es) h u = u
 under_later program B C (p ∷ t) [] h u = u
@@ -59,23 +59,23 @@ mark_at C n W j o y slot k (s ∷ env) (q ∷ E) (suc x) e h =
     let f : EnvFits C n (y ∷ W) k (s ∷ []) (q ∷ []) = env_wider C n W (y ∷ W) (wider_name (Some y) W) k (s ∷ []) (q ∷ []) (h.0, tt) in
     (f.0, mark_at C n W j o y slot (suc k) env E x (omega (arith, e)) h.1)
 
-mark_fits : (C : Log) (n : Place) (W : List ℕ) (j : ℕ) (o : Outcome) (x : Option ℕ) (env : List Slot) (E : Env) → In (Leaves (child_of n j) o) C → EnvFits C n W 0 env E → EnvFits C n (with_name x W) 0 (set_into env x (waits j)) (env_after E x o)
+pub mark_fits : (C : Log) (n : Place) (W : List ℕ) (j : ℕ) (o : Outcome) (x : Option ℕ) (env : List Slot) (E : Env) → In (Leaves (child_of n j) o) C → EnvFits C n W 0 env E → EnvFits C n (with_name x W) 0 (set_into env x (waits j)) (env_after E x o)
 mark_fits C n W j (Ok v) None env E i h = h
 mark_fits C n W j (Err k) None env E i h = h
 mark_fits C n W j (Ok v) (Some x) env E i h = mark_at C n W j (Some v) x (λ z e. late i (inl e)) 0 env E x (omega arith) h
 mark_fits C n W j (Err k) (Some x) env E i h = mark_at C n W j None x (λ z e. lost k i (inl e)) 0 env E x (omega arith) h
 
-doom_marked : (C : Log) (n : Place) (j : ℕ) (doom : Option Fault) (o : Outcome) → In (Leaves (child_of n j) o) C → DoomFits C n doom → DoomFits C n (doom_after doom o)
+pub doom_marked : (C : Log) (n : Place) (j : ℕ) (doom : Option Fault) (o : Outcome) → In (Leaves (child_of n j) o) C → DoomFits C n doom → DoomFits C n (doom_after doom o)
 doom_marked C n j doom (Ok v) i h = h
 doom_marked C n j doom (Err k) i h = hit j k i
 
-spot_later : (m : Start) (n : Place) (c c' : ℕ) → c < c' → Spot m n c → Spot m n c'
+pub spot_later : (m : Start) (n : Place) (c c' : ℕ) → c < c' → Spot m n c → Spot m n c'
 spot_later root n c c' l h = tt
 spot_later (behind m k) n c c' l (inl h) = inl (h.0, let a : k < c = h.1 in omega arith)
 spot_later (behind m k) n c c' l (inr h) = inr h
 
 -- two stretches that begin at one place
-record SameStretch (a b a' b' : Log) : Type 0 where
+pub record SameStretch (a b a' b' : Log) : Type 0 where
   sooner : a ≡ a'
   later : b ≡ b'
 
@@ -86,7 +86,7 @@ module _ (program : Tree) (tables : Tables) (sight : Accumulators) (lookup : Loo
   abbrev in_order : (es : Log) → es ≡ T → LeavesInOrder es
   in_order es e = ordered_at program tables sight lookup es e
 
-  same_start : (m : Start) (B B' C C' : Log) → StartsAfter m B → StartsAfter m B' → B ++ C ≡ T → B' ++ C' ≡ T → SameStretch B C B' C'
+  pub same_start : (m : Start) (B B' C C' : Log) → StartsAfter m B → StartsAfter m B' → B ++ C ≡ T → B' ++ C' ≡ T → SameStretch B C B' C'
   same_start root B B' C C' s s' e e' =
       record { sooner = s ∙ sym s'; later = (rw s at e) ∙ sym (rw s' at e') }
   same_start (behind m k) B B' C C' s s' e e' =
@@ -96,7 +96,7 @@ module _ (program : Tree) (tables : Tables) (sight : Accumulators) (lookup : Loo
       let q = same_split p s.sooner C s'.sooner C' s.value s'.value (in_order _ f) (in_order _ f') (f ∙ sym f') in
       record { sooner = s.is ∙ ap₂ (λ a v. a ++ Leaves p v ∷ []) q.sooner q.value ∙ sym s'.is; later = q.later }
 
-  pub steal_right : (k : Continuation) → IsRightContinuation program tables sight lookup k → IsRight program tables sight lookup (stolen program k)
+  unfoldable pub steal_right : (k : Continuation) → IsRightContinuation program tables sight lookup k → IsRight program tables sight lookup (stolen program k)
   steal_right k h =
       let p = place_of_continuation k in
       let B = h.before ++ (h.between ++ Leaves p h.outcome ∷ []) in
@@ -130,7 +130,7 @@ module _ (program : Tree) (tables : Tables) (sight : Accumulators) (lookup : Loo
             subst (λ w. TaskReads w fr.instance (running k.parent.todo) k.under) (sym (append-nil B)) (spawned_todo B fr.instance k.parent.todo r.0, r.1);
       }
 
-  pub pop_right : (ls : List Notes) (fr : Frame) (v : ℤ) (k : Continuation) → fr.instance ≡ place_of_continuation k → RightAt program tables sight lookup k.since ls fr (leaving v) [] → IsRightContinuation program tables sight lookup k
+  unfoldable pub pop_right : (ls : List Notes) (fr : Frame) (v : ℤ) (k : Continuation) → fr.instance ≡ place_of_continuation k → RightAt program tables sight lookup k.since ls fr (leaving v) [] → IsRightContinuation program tables sight lookup k
       → RightAt program tables sight lookup k.since (noted_top ls (Leaves fr.instance (Ok v) ∷ [])) (with_value k.parent v) (running k.parent.todo) k.under
   pop_right ls fr v k e s h =
       let p = place_of_continuation k in
@@ -180,7 +180,7 @@ same_head : (x : ℕ) (a : Place) (y : ℕ) (b : Place) (s t : Bool) → nat_eq 
 same_head x a y b true t e h k = ap₂ ◌∷◌ (eqb-true x y e) (k h)
 same_head x a y b false t e h k = absurd (both_ways false h refl)
 
-same_name_true : (a b : Place) → same_name a b ≡ true → a ≡ b
+pub same_name_true : (a b : Place) → same_name a b ≡ true → a ≡ b
 same_name_true [] [] e = refl
 same_name_true [] (y ∷ b) e = cc
 same_name_true (x ∷ a) [] e = cc
@@ -204,7 +204,7 @@ spot_through (behind m k') n q k c h (inl s) =
       | inr e ↦ inr (record { child = h.child; path = e.0; later = h.later; is = s.0 ∙ e.1 })
     ]
 
-fringe_through : (m : Start) (n q : Place) (k c : ℕ) (ph : Phase) → Higher m (child_of n k) → Fringe (behind n k) q c ph → Fringe m q c ph
+pub fringe_through : (m : Start) (n q : Place) (k c : ℕ) (ph : Phase) → Higher m (child_of n k) → Fringe (behind n k) q c ph → Fringe m q c ph
 fringe_through m n q k c (entering child) h f = higher_through m n q k h f
 fringe_through m n q k c (running todo) h f = spot_through m n q k c h f
 fringe_through m n q k c (spawning d x child todo) h f = spot_through m n q k c h f
@@ -212,7 +212,7 @@ fringe_through m n q k c (returning v) h f = spot_through m n q k c h f
 fringe_through m n q k c (broken v) h f = tt
 fringe_through m n q k c (leaving v) h f = higher_through m n q k h f
 
-inside_through : (m : Start) (n : Place) (k : ℕ) → Higher m (child_of n k) → (es : Log) → Every (SyncInside (behind n k)) es → Every (SyncInside m) es
+pub inside_through : (m : Start) (n : Place) (k : ℕ) → Higher m (child_of n k) → (es : Log) → Every (SyncInside (behind n k)) es → Every (SyncInside m) es
 inside_through m n k h [] i = tt
 inside_through m n k h (Reads r ∷ es) i = (tt, inside_through m n k h es i.1)
 inside_through m n k h (Enters f args d ∷ es) i = (tt, inside_through m n k h es i.1)
@@ -286,17 +286,17 @@ module _ (m : Start) (B C : Log) (e : Place) (v : ℤ) (starts : StartsAfter m B
   settle_fits n W x (waits j) b check (lost k i w) =
       settle_lost n W x j k (same_name (child_of n j) e) refl i w
 
-  settle_env : (n : Place) (W : List ℕ) (k : ℕ) (env : List Slot) (E : Env) → Every (λ s. (j : ℕ) → s ≡ waits j → EndsAfter m (child_of n j) → ⊥) (map (settle_slot e v n) env) → EnvFits (B ++ (C ++ Leaves e (Ok v) ∷ [])) n W k env E → EnvFits B n W k (map (settle_slot e v n) env) E
+  pub settle_env : (n : Place) (W : List ℕ) (k : ℕ) (env : List Slot) (E : Env) → Every (λ s. (j : ℕ) → s ≡ waits j → EndsAfter m (child_of n j) → ⊥) (map (settle_slot e v n) env) → EnvFits (B ++ (C ++ Leaves e (Ok v) ∷ [])) n W k env E → EnvFits B n W k (map (settle_slot e v n) env) E
   settle_env n W k [] [] check h = tt
   settle_env n W k [] (o ∷ E) check h = h
   settle_env n W k (s ∷ env) [] check h = h
   settle_env n W k (s ∷ env) (o ∷ E) check h = (settle_fits n W k s o check.0 h.0, settle_env n W (suc k) env E check.1 h.1)
 
-  settle_doom : (n : Place) (o : Option Fault) → DoomFits (B ++ (C ++ Leaves e (Ok v) ∷ [])) n o → DoomFits B n o
+  pub settle_doom : (n : Place) (o : Option Fault) → DoomFits (B ++ (C ++ Leaves e (Ok v) ∷ [])) n o → DoomFits B n o
   settle_doom n None sound = sound
   settle_doom n (Some q) (hit j k i) = hit j k (lost_before (child_of n j) k i)
 
-  settle_under : (program : Tree) (t : List Parent) (Es : List Beside) → NoneWaitsUnder m (settled_under e v t) → UnderFits program (B ++ (C ++ Leaves e (Ok v) ∷ [])) t Es → UnderFits program B (settled_under e v t) Es
+  pub settle_under : (program : Tree) (t : List Parent) (Es : List Beside) → NoneWaitsUnder m (settled_under e v t) → UnderFits program (B ++ (C ++ Leaves e (Ok v) ∷ [])) t Es → UnderFits program B (settled_under e v t) Es
   settle_under program [] [] check u = tt
   settle_under program [] (E ∷ Es) check u = u
   settle_under program (p ∷ t) [] check u = u
@@ -311,7 +311,7 @@ settle_new : (e : Place) (v : ℤ) (n : Place) (E : Env) → map (settle_slot e 
 settle_new e v n [] = refl
 settle_new e v n (o ∷ E) = ap₂ ◌∷◌ (settle_one e v n o) (settle_new e v n E)
 
-settle_stacked : (e : Place) (v : ℤ) (n : Place) (t : List Parent) → Stacked n t → Stacked n (settled_under e v t)
+pub settle_stacked : (e : Place) (v : ℤ) (n : Place) (t : List Parent) → Stacked n t → Stacked n (settled_under e v t)
 settle_stacked e v n [] h = tt
 settle_stacked e v n (p ∷ t) h = (record { number = h.0.number; is = h.0.is; counted = h.0.counted }, settle_stacked e v p.frame.instance t h.1)
 
@@ -342,7 +342,7 @@ module _ (program : Tree) (tables : Tables) (sight : Accumulators) (lookup : Loo
   settle_below e v (p ∷ t) [] o = refl
   settle_below e v (p ∷ t) (g ∷ gs) o = λ i. finished_by program tables sight (look_of lookup) p.frame.instance (settle_parent e v p p.spawned g o i) (λ o'. settle_below e v t gs o' i)
 
-  settle_rest : (e : Place) (v : ℤ) (fr : Frame) (ph : Phase) (t : List Parent) (g : Beside) (gs : List Beside) → full_rest program tables sight lookup (settled_frame e v fr) ph (settled_under e v t) g gs ≡ full_rest program tables sight lookup fr ph t g gs
+  pub settle_rest : (e : Place) (v : ℤ) (fr : Frame) (ph : Phase) (t : List Parent) (g : Beside) (gs : List Beside) → full_rest program tables sight lookup (settled_frame e v fr) ph (settled_under e v t) g gs ≡ full_rest program tables sight lookup fr ph t g gs
   settle_rest e v fr ph t g gs = λ i. (finished_by program tables sight (look_of lookup) fr.instance (settle_walk e v fr ph g i) (λ o. settle_below e v t gs o i)).events
 
   pub one_layer : (lr : Notes) (ss : List Log) → LayersFit program (lr ∷ []) ss → SameNotes (notes program (stretch ss)) lr
@@ -350,7 +350,7 @@ module _ (program : Tree) (tables : Tables) (sight : Accumulators) (lookup : Loo
   one_layer lr (s ∷ []) h = same_sym lr (notes program s) h.0
   one_layer lr (s ∷ s' ∷ ss) h = absurd h.1
 
-  join_logged : StretchesMultiply program tables sight lookup → (ph : Phase) (lr : Notes) (x y : Log) (e : Place) (v : ℤ) (ls : List Notes) (ss sr : List Log) → x ++ (stretch (grown program tables sight lookup ss (Leaves e (Ok v) ∷ stretch sr)) ++ y) ≡ trail_at program tables sight (look_of lookup) → LayersFit program ls ss → Logged program ph (lr ∷ []) sr → Logged program ph (take_top program lr ls) (grown program tables sight lookup ss (Leaves e (Ok v) ∷ stretch sr))
+  pub join_logged : StretchesMultiply program tables sight lookup → (ph : Phase) (lr : Notes) (x y : Log) (e : Place) (v : ℤ) (ls : List Notes) (ss sr : List Log) → x ++ (stretch (grown program tables sight lookup ss (Leaves e (Ok v) ∷ stretch sr)) ++ y) ≡ trail_at program tables sight (look_of lookup) → LayersFit program ls ss → Logged program ph (lr ∷ []) sr → Logged program ph (take_top program lr ls) (grown program tables sight lookup ss (Leaves e (Ok v) ∷ stretch sr))
   join_logged law (entering child) lr x y e v ls ss sr q h k = taken_fits program tables sight lookup law lr x y (Leaves e (Ok v) ∷ stretch sr) ls ss (one_layer lr sr k) q h
   join_logged law (running todo) lr x y e v ls ss sr q h k = taken_fits program tables sight lookup law lr x y (Leaves e (Ok v) ∷ stretch sr) ls ss (one_layer lr sr k) q h
   join_logged law (spawning d x' child todo) lr x y e v ls ss sr q h k = taken_fits program tables sight lookup law lr x y (Leaves e (Ok v) ∷ stretch sr) ls ss (one_layer lr sr k) q h
@@ -358,7 +358,7 @@ module _ (program : Tree) (tables : Tables) (sight : Accumulators) (lookup : Loo
   join_logged law (leaving w) lr x y e v ls ss sr q h k = taken_fits program tables sight lookup law lr x y (Leaves e (Ok v) ∷ stretch sr) ls ss (one_layer lr sr k) q h
   join_logged law (broken j) lr x y e v ls ss sr q h k = tt
 
-  settle_orderly : (W : List ℕ) (e : Place) (v : ℤ) (fr : Frame) (ph : Phase) → IsOrderlyPhase program W fr ph → IsOrderlyPhase program W (settled_frame e v fr) ph
+  pub settle_orderly : (W : List ℕ) (e : Place) (v : ℤ) (fr : Frame) (ph : Phase) → IsOrderlyPhase program W fr ph → IsOrderlyPhase program W (settled_frame e v fr) ph
   settle_orderly W e v fr (entering child) h =
       let q : fr.env ≡ map slot (env_of program child) = ap (λ f. f.env) h in
       ap (with_env fr) (ap (map (settle_slot e v fr.instance)) q ∙ settle_new e v fr.instance (env_of program child) ∙ sym q) ∙ h
@@ -369,13 +369,13 @@ module _ (program : Tree) (tables : Tables) (sight : Accumulators) (lookup : Loo
   settle_orderly W e v fr (broken k) h = h
 
   -- a fold leaves where the instances stand among the reads
-  settle_phase : (done : Log) (e : Place) (v : ℤ) (fr : Frame) (ph : Phase) → PhaseReads done fr.instance ph → PhaseReads done (settled_frame e v fr).instance ph
+  pub settle_phase : (done : Log) (e : Place) (v : ℤ) (fr : Frame) (ph : Phase) → PhaseReads done fr.instance ph → PhaseReads done (settled_frame e v fr).instance ph
   settle_phase done e v fr ph h = h
 
-  join_seam : (a b c : Log) (e : Event) → (a ++ (b ++ e ∷ [])) ++ c ≡ a ++ (b ++ e ∷ c)
+  pub join_seam : (a b c : Log) (e : Event) → (a ++ (b ++ e ∷ [])) ++ c ≡ a ++ (b ++ e ∷ c)
   join_seam a b c e = simp append_assoc
 
-  pub join_at : StretchesMultiply program tables sight lookup → (s : Start) (ls : List Notes) (frl : Frame) (v : ℤ) (m : Place) (k : ℕ) (lr : Notes) (fr : Frame) (ph : Phase) (t : List Parent)
+  unfoldable pub join_at : StretchesMultiply program tables sight lookup → (s : Start) (ls : List Notes) (frl : Frame) (v : ℤ) (m : Place) (k : ℕ) (lr : Notes) (fr : Frame) (ph : Phase) (t : List Parent)
       → RightAt program tables sight lookup s ls frl (leaving v) [] → RightAt program tables sight lookup (behind m k) (lr ∷ []) fr ph t → frl.instance ≡ child_of m k
       → NoneWaits s (settled_frame frl.instance v fr) → NoneWaitsUnder s (settled_under frl.instance v t)
       → RightAt program tables sight lookup s (take_top program lr ls) (settled_frame frl.instance v fr) ph (settled_under frl.instance v t)

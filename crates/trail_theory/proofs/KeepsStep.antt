@@ -1,5 +1,5 @@
 -- What one small step keeps.
-use Rattle.std.specs.Prelude.{◌-◌, List, ◌++◌, ◌≡◌}
+use Rattle.std.specs.Prelude.{◌-◌, List, [], ◌++◌, length, ◌≡◌}
 use Rattle.program_tree.specs.Plain.{Tree}
 use Rattle.meaning.specs.Tables.{Tables}
 use Rattle.meaning.specs.Outcome.{Log, Accumulators}
@@ -7,6 +7,8 @@ use Rattle.meaning.specs.Records.{Kept}
 use Rattle.meaning.specs.SmallStep.{Start, Frame, Phase, Parent, Step, moved, taken, paused, Lookup}
 use Rattle.trail_theory.specs.SerialRest.{Beside}
 use Rattle.meaning.specs.Layers.{SameNotes, notes, notes_of}
+use Rattle.meaning.specs.Tallies.{executions}
+use Rattle.trail_theory.specs.Counts.{reuses}
 use Rattle.trail_theory.specs.Order.{Every}
 use Rattle.trail_theory.specs.TaskFits.{TaskFits, SyncInside}
 use Rattle.trail_theory.specs.Right.{full_rest}
@@ -27,6 +29,8 @@ module _ (program : Tree) (tables : Tables) (sight : Accumulators) (lookup : Loo
     pub events : Log
     pub kept : KeptBy B m was (evs ++ events) fr ph t
     pub noted : SameNotes (notes program events) (notes_of k (depth_limit - fr.left))
+    pub unexecuted : executions events ≡ []
+    pub answered : length (reuses events) ≡ 1
     pub elsewhere : IsNotMain fr.instance → Every SpawnsElsewhere events
 
   abbrev pub Keeps : Log → Start → Log → Step → Type 0

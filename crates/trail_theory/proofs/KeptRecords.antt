@@ -1,5 +1,5 @@
 -- The valid one of sound records answers by a sound record.
-use Rattle.std.proofs.Common.{ℕ, zero, suc, ◌+◌, ◌<◌, ◌≤◌, List, [], ◌∷◌, Option, Some, None, ℤ, Bool, true, false, cond, ◌≡◌, refl, sym, ap, ◌∙◌, arith}
+use Rattle.std.proofs.Common.{ℕ, zero, suc, ◌+◌, List, [], ◌∷◌, Option, Some, None, ℤ, Bool, true, false, cond, ◌≡◌, refl, arith}
 use Rattle.std.specs.Prelude.{nat_le, ◌&&◌}
 use Rattle.std.specs.Str.{bytes_eq}
 use Rattle.std.specs.Ordering.{int_eq}
@@ -11,20 +11,19 @@ use Rattle.program_tree.specs.Plain.{Name}
 use Rattle.meaning.specs.Tables.{Tables}
 use Rattle.meaning.specs.Records.{Revised, Kept, IsSound, same_args, record_of, if_valid, is_valid, holds_now}
 use Rattle.meaning.specs.Elision.{depth_limit}
-use Rattle.meaning.specs.Tallies.{valid_record}
 use Rattle.trail_theory.specs.Order.{Every}
 use Rattle.trail_theory.specs.MadeRecords.{IsAnswer}
 use Rattle.trail_theory.specs.KeptRecords.{ValidAnswers}
 
-both_left : (a b : Bool) → a && b ≡ true → a ≡ true
+pub both_left : (a b : Bool) → a && b ≡ true → a ≡ true
 both_left true b e = refl
 both_left false b e = e
 
-both_right : (a b : Bool) → a && b ≡ true → b ≡ true
+pub both_right : (a b : Bool) → a && b ≡ true → b ≡ true
 both_right true b e = e
 both_right false b e = absurd cc
 
-args_same : (xs ys : List ℤ) → same_args xs ys ≡ true → xs ≡ ys
+pub args_same : (xs ys : List ℤ) → same_args xs ys ≡ true → xs ≡ ys
 args_same [] [] e = refl
 args_same [] (y ∷ ys) e = absurd cc
 args_same (x ∷ xs) [] e = absurd cc

@@ -35,10 +35,10 @@ tested_at p [] i x e l q = absurd (omega arith)
 tested_at p (y ∷ xs) zero x e l q = ap p (sym q) ∙ test_left (p y) (every p xs) e
 tested_at p (y ∷ xs) (suc i) x e l q = tested_at p xs i x (test_right (p y) (every p xs) e) (omega arith) q
 
-tested : {A : Type 0} (p : A → Bool) (xs : List A) (x : A) → every p xs ≡ true → Contains xs x → p x ≡ true
+pub tested : {A : Type 0} (p : A → Bool) (xs : List A) (x : A) → every p xs ≡ true → Contains xs x → p x ≡ true
 tested p xs x e c = tested_at p xs c.0 x e c.1 c.2
 
-all_tested : {A : Type 0} (p : A → Bool) (xs : List A) → ((x : A) → Contains xs x → p x ≡ true) → every p xs ≡ true
+pub all_tested : {A : Type 0} (p : A → Bool) (xs : List A) → ((x : A) → Contains xs x → p x ≡ true) → every p xs ≡ true
 all_tested p [] h = refl
 all_tested p (x ∷ xs) h = rw (h x (contains_head x xs)) (all_tested p xs (λ y c. h y (contains_tail x y xs c)))
 
@@ -52,7 +52,7 @@ numbered_in [] f i l q = absurd (omega arith)
 numbered_in (p ∷ ps) f zero l q = record { number = p.1; is = (0, omega arith, ap (λ z. (z, p.1)) q) }
 numbered_in (p ∷ ps) f (suc i) l q = let h = numbered_in ps f i (omega arith) q in record { number = h.number; is = contains_tail p (f, h.number) ps h.is }
 
-first_deep : (program : Tree) (tables : Tables) (l : ℕ) (f : Name) (vs : List ℤ) (acc : Accumulators) → depth_limit - l ≤ deepest (elide program tables (suc l) start f vs acc).log
+pub first_deep : (program : Tree) (tables : Tables) (l : ℕ) (f : Name) (vs : List ℤ) (acc : Accumulators) → depth_limit - l ≤ deepest (elide program tables (suc l) start f vs acc).log
 unfolding elide
 first_deep program tables l f vs acc = omega arith
 

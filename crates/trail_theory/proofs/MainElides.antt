@@ -20,25 +20,25 @@ use Rattle.trail_theory.specs.ReadsAtEnd.{IsOther, EntersOnlyDeed, EntersOnly, I
 use Rattle.trail_theory.specs.Order.{Every}
 use Rattle.trail_theory.proofs.Places.{every_append}
 use Rattle.trail_theory.proofs.Inside.{doomed}
-use Rattle.trail_theory.proofs.Walks.{GoodRuns, good_runs}
+use Rattle.trail_theory.proofs.Walks.{Opens, half_opens, GoodRuns, good_runs}
 use Rattle.trail_theory.proofs.Elides.{after_append, bind_assoc, step_apart, fits_led, GoesOn, Elides, finish, fits_closed, Goes, step_fits, rest_doomed, deed_fits, AreQuiet, same_back, forgotten_opening, quiet_opening, over_doomed, elide_fits, quiet_fits}
 
--- ---- evaluations update nothing
+-- ---- evaluations update, enter and mark nothing
 
-abbrev pub UpdatesNothing : Event → Type 0
-UpdatesNothing (Updates n kind w) = ⊥
-UpdatesNothing (Reuses f args ws) = ⊥
-UpdatesNothing (Reads r) = Unit {0}
-UpdatesNothing (Enters f args d) = Unit {0}
-UpdatesNothing (Begins n d) = Unit {0}
-UpdatesNothing (Syncs n) = Unit {0}
-UpdatesNothing (Spawns n) = Unit {0}
-UpdatesNothing (Leaves n v) = Unit {0}
-UpdatesNothing (Faults k) = Unit {0}
-UpdatesNothing (Marks f args c) = Unit {0}
+abbrev pub ChangesNothing : Event → Type 0
+ChangesNothing (Updates n kind w) = ⊥
+ChangesNothing (Reuses f args ws) = ⊥
+ChangesNothing (Reads r) = Unit {0}
+ChangesNothing (Enters f args d) = ⊥
+ChangesNothing (Begins n d) = Unit {0}
+ChangesNothing (Syncs n) = Unit {0}
+ChangesNothing (Spawns n) = Unit {0}
+ChangesNothing (Leaves n v) = Unit {0}
+ChangesNothing (Faults k) = Unit {0}
+ChangesNothing (Marks f args c) = ⊥
 
 abbrev pub Still : Log → Type 0
-Still log = Every UpdatesNothing log
+Still log = Every ChangesNothing log
 
 still_after : (es : Log) → Still es → (acc : Accumulators) → after es acc ≡ acc
 still_after [] h acc = refl
@@ -55,7 +55,7 @@ still_after (Marks f args c ∷ es) h acc = still_after es h.1 acc
 
 still_onward : {F A B : Type 0} (log : Log) (r : Result A F) (f : A → Out F B) → Still log → ((a : A) → Still (f a).log) → Still (onward log r f).log
 still_onward log (Err e) f h k = h
-still_onward log (Ok a) f h k = every_append UpdatesNothing log (f a).log h (k a)
+still_onward log (Ok a) f h k = every_append ChangesNothing log (f a).log h (k a)
 
 still_cond : {F A : Type 0} (b : Bool) (x y : Out F A) → Still x.log → Still y.log → Still (cond b x y).log
 still_cond true x y h k = h
@@ -89,22 +89,22 @@ still_value tables env (binary op e f) = still_onward _ (value tables env e).ans
 
 -- ---- nor does what stands after a read
 
-abbrev Stays : Accumulators → Out Fault ℤ → Type 0
-Stays acc o = after o.log acc ≡ acc
+abbrev pub Stays : Accumulators → Out Fault ℤ → Type 0
+Stays acc o = Still o.log
 
 eval_stays : {A : Type 0} (site : Site) (o : Out FaultKind A) (f : A → Run ℤ) (acc : Accumulators) → Still o.log → ((a : A) (acc : Accumulators) → Stays acc (f a acc)) → Stays acc ((at site o >>= f) acc)
 eval_stays site o f acc still h = at_stays o.log o.answer still
   where
     at_stays : (log : Log) (r : Result _ FaultKind) → Still log → Stays acc (onward log (placed site r) (λ a. f a (after log acc)))
-    at_stays log (Err k) t = still_after log t acc
-    at_stays log (Ok a) t = after_append log (f a (after log acc)).log acc ∙ h a (after log acc) ∙ still_after log t acc
+    at_stays log (Err k) t = t
+    at_stays log (Ok a) t = every_append ChangesNothing log (f a (after log acc)).log t (h a (after log acc))
 
 cond_stays : (b : Bool) (x y : Run Next) (kont : Env → Run ℤ) (acc : Accumulators) → Stays acc ((x >>= finish kont) acc) → Stays acc ((y >>= finish kont) acc) → Stays acc ((cond b x y >>= finish kont) acc)
 cond_stays true x y kont acc h k = h
 cond_stays false x y kont acc h k = k
 
 module _ (program : Tree) (tables : Tables) (enters : Enter) where
-  abbrev AllStay : (Env → Run ℤ) → Type 0
+  abbrev pub AllStay : (Env → Run ℤ) → Type 0
   AllStay kont = (env : Env) (acc : Accumulators) → Stays acc (kont env acc)
 
   mutual
@@ -121,7 +121,7 @@ module _ (program : Tree) (tables : Tables) (enters : Enter) where
         cond_stays (int_eq v (pos 0)) (body program tables enters site.procedure env b) (body program tables enters site.procedure env a) kont acc' (block_stays site.procedure b p.1 env acc' kont h) (block_stays site.procedure a p.0 env acc' kont h)))
     deed_stays site (loop x e f grain g es) p env acc kont h = absurd p
     deed_stays site (give e) p env acc kont h =
-        subst (Stays acc) (sym (bind_assoc (at site (value tables env e)) (λ v. pure (Back v)) (finish kont) acc)) (eval_stays site (value tables env e) (λ v. pure (Back v) >>= finish kont) acc (still_value tables env e) (λ v acc'. refl))
+        subst (Stays acc) (sym (bind_assoc (at site (value tables env e)) (λ v. pure (Back v)) (finish kont) acc)) (eval_stays site (value tables env e) (λ v. pure (Back v) >>= finish kont) acc (still_value tables env e) (λ v acc'. tt))
 
     block_stays : (here : Name) (b : Body) → IsPlain b → (env : Env) (acc : Accumulators) (kont : Env → Run ℤ) → AllStay kont → Stays acc ((body program tables enters here env b >>= finish kont) acc)
     block_stays here end p env acc kont h = h env acc
@@ -133,7 +133,7 @@ module _ (program : Tree) (tables : Tables) (enters : Enter) where
       subst (Stays acc) (sym (step_apart program tables enters here s d b env kont acc)) (deed_stays (record { procedure = here; statement = s }) d p env acc (λ env'. body program tables enters here env' b >>= finish kont) h)
 
   -- what stands after a read updates nothing
-  ending_stays : (here : Name) (b : Body) → IsEnding b → (env : Env) (acc : Accumulators) (kont : Env → Run ℤ) → AllStay kont → Stays acc ((body program tables enters here env b >>= finish kont) acc)
+  pub ending_stays : (here : Name) (b : Body) → IsEnding b → (env : Env) (acc : Accumulators) (kont : Env → Run ℤ) → AllStay kont → Stays acc ((body program tables enters here env b >>= finish kont) acc)
   ending_stays here end p env acc kont h = h env acc
   ending_stays here (step s (bind x e) b) p env acc kont h = plain_stays here s (bind x e) b p.0 env acc kont (λ env' acc'. ending_stays here b p.1 env' acc' kont h)
   ending_stays here (step s (enter x way f es) b) p env acc kont h = absurd p.0
@@ -208,7 +208,7 @@ ruled_of_none program calm alone = record { in_main = reads_of_none (proc_of pro
 
 -- ---- main
 
-module _ (program : Tree) (tables : Tables) (sight : Accumulators) (enters : Enter) (sub : Runner) (good : Elides IsOther program tables sight enters sub sub) (left : ℕ) (sound : GoodRuns (λ n c d r. (k : Fault) → d ≡ Some k → r.outcome ≡ Err k) (λ n r. Unit {0}) doomed program tables sight sub) where
+module _ (program : Tree) (tables : Tables) (sight : Accumulators) (enters : Enter) (sub : Runner) (good : Elides IsOther program tables sight enters sub sub) (left : ℕ) (sound : GoodRuns (Every Opens) (λ n c d r. (k : Fault) → d ≡ Some k → r.outcome ≡ Err k) (λ n r. Unit {0}) doomed half_opens program tables sight sub) where
   -- the piece ends with what a read sees
   abbrev Seen : Accumulators → Out Fault ℤ → Type 0
   Seen acc o = after o.log acc ≡ sight
@@ -237,7 +237,7 @@ module _ (program : Tree) (tables : Tables) (sight : Accumulators) (enters : Ent
         let env1 = put env x (reading acc num) in
         step_fits IsOther program tables sight enters sub good Seen seen left sound n here s (read x r) b env c kont k acc
         (λ seen_then.
-        let e : acc ≡ sight = sym (ending_stays program tables enters here b h.1 env1 acc kont stays) ∙ seen_then in
+        let e : acc ≡ sight = sym (still_after _ (ending_stays program tables enters here b h.1 env1 acc kont stays) acc) ∙ seen_then in
         subst (λ a. Matches ((body program tables enters here env1 b >>= finish kont) acc) (body_walk program tables sight sub left n here b (put env x (reading a num)) c None k)) e (main_fits b true (ending_reads b h.1) en.1 env1 c acc seen_then)) known
     main_fits (step s sync b) synced h en env c acc known = before_read s sync b tt en.0 (main_fits b true h en.1) env c acc known
     main_fits (step s (update r es) b) synced h en env c acc known = before_read s (update r es) b h.0 en.0 (main_fits b _ h.1 en.1) env c acc known
@@ -268,7 +268,7 @@ module _ (program : Tree) (tables : Tables) (sight : Accumulators) (ruled : Read
       let good = elide_fits IsOther program tables sight others_quiet left k in
       let sound = good_runs _ _ doomed program tables sight left k in
       let fit : Matches o w = subst (λ m. after m.log acc ≡ sight → Matches m w) (λ q. (b >>= (λ x. sym (same_back IsOther program tables sight x) q)) acc)
-      (main_fits program tables sight enters sub good left sound n p.called (λ env'. pure (pos 0)) (λ env' c d. over n d (pos 0)) (λ env' acc'. refl) ((λ env' c acc' q. (refl, refl)), (λ env' c d e q. over_doomed IsOther program tables sight n d e q)) p.body true ruled.in_main (ruled.alone main) env 1 acc) known in
+      (main_fits program tables sight enters sub good left sound n p.called (λ env'. pure (pos 0)) (λ env' c d. over n d (pos 0)) (λ env' acc'. tt) ((λ env' c acc' q. (refl, refl)), (λ env' c d e q. over_doomed IsOther program tables sight n d e q)) p.body true ruled.in_main (ruled.alone main) env 1 acc) known in
       fits_led (Enters main vs (depth_limit - left) ∷ []) (w.events ++ Leaves n w.outcome ∷ []) o (opening program look left main vs n) w.outcome (sym (forgotten_opening IsOther program tables sight look left main vs n p.memo)) (quiet_opening IsOther program tables sight look left main vs n p.memo) (fits_closed o n w.events w.outcome fit)
 
 -- main from scratch

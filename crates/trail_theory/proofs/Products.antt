@@ -75,7 +75,7 @@ module _ (program : Tree) (good : HasMonoids program) where
   abbrev Worthy : Notes → Type 0
   Worthy l = AreWorths cs l.worth
 
-  blank_worthy : Worthy (blank program)
+  pub blank_worthy : Worthy (blank program)
   blank_worthy = rw (identities_are (reducers program)) (AreWorths-identities cs)
 
   worthy_one : (l : Notes) (e : Event) → IsTyped cs e → Worthy l → Worthy (noted_one l e)
@@ -112,11 +112,11 @@ module _ (program : Tree) (good : HasMonoids program) where
   product_one a l (Faults k) t h g = refl
   product_one a l (Marks f args b) t h g = refl
 
-  product_log : (a l : Notes) (es : Log) → Every (IsTyped cs) es → Worthy a → Worthy l → multiplied program a (noted l es) ≡ noted (multiplied program a l) es
+  pub product_log : (a l : Notes) (es : Log) → Every (IsTyped cs) es → Worthy a → Worthy l → multiplied program a (noted l es) ≡ noted (multiplied program a l) es
   product_log a l [] t h g = refl
   product_log a l (e ∷ es) t h g = product_log a (noted_one l e) es t.1 h (worthy_one l e t.0 g) ∙ ap (λ v. noted v es) (product_one a l e t.0 h g)
 
-  product_blank : (a : Notes) → Worthy a → multiplied program a (blank program) ≡ a
+  pub product_blank : (a : Notes) → Worthy a → multiplied program a (blank program) ≡ a
   product_blank a h =
       let w : combined a.worth (with_kinds (reducers program) (identities program)) ≡ a.worth =
       product_is (reducers program) a.worth (identities program) h blank_worthy ∙ ap (operate_all cs a.worth) (identities_are (reducers program)) ∙ operate_all_identities cs a.worth (monoids cs good) h in

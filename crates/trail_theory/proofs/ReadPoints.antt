@@ -8,12 +8,13 @@ use Rattle.meaning.specs.Elision.{main, start, elide, depth_limit}
 use Rattle.meaning.specs.Trail.{Trace, over, opening, inner, run_inside, runner, run, sight_of, trail_at}
 use Rattle.meaning.specs.SmallStep.{Start, root, behind, Frame, blocks, halves, second, turns, Phase, entering, running, spawning, returning, leaving, broken, Parent, Lookup, look_of}
 use Rattle.trail_theory.specs.SerialRest.{todo_walk}
+use Rattle.meaning.specs.LayeredStrand.{LayeredStrand}
 use Rattle.meaning.specs.Layers.{Notes, blank, notes, noted, noted_one, total, bottom}
 use Rattle.trail_theory.specs.Order.{Every}
 use Rattle.trail_theory.specs.TaskFits.{Spot, Stacked, SyncInside}
 use Rattle.trail_theory.specs.ReadsAtEnd.{IsEnding, ReadsAtMainsEnd, KeepsRules}
 use Rattle.trail_theory.specs.MainReads.{synced_after, IsSynced, TodoReads, of_other, of_main}
-use Rattle.trail_theory.specs.Right.{stretch, RightAt, IsOneLayer, ReadsByOneLayer, Sees, StretchesMultiply, RecordedAreSound}
+use Rattle.trail_theory.specs.Right.{IsRight, stretch, RightAt, IsOneLayer, ReadsByOneLayer, Sees, StretchesMultiply, RecordedAreSound}
 use Rattle.trail_theory.specs.ElisionBeside.{forgotten, first_fault, before_fault, Fits}
 use Rattle.trail_theory.specs.Theorems.{ReadsStandAtRoot, ReadsSeeTheEnd, AdvanceReadingStaysRight, AdvanceByProductStaysRight}
 use Rattle.trail_theory.proofs.Places.{every_append, no_end, both_ways}
@@ -24,7 +25,7 @@ use Rattle.trail_theory.proofs.Stepping.{noted_append}
 use Rattle.trail_theory.proofs.Advances.{ordered_at, total_fits, advance_by, advance_right}
 use Rattle.trail_theory.proofs.Joins.{one_layer}
 use Rattle.trail_theory.proofs.Ends.{worth_of}
-use Rattle.trail_theory.proofs.MainElides.{UpdatesNothing, Still, main_from_scratch}
+use Rattle.trail_theory.proofs.MainElides.{ChangesNothing, Still, main_from_scratch}
 use Rattle.trail_theory.proofs.AfterReads.{ending_block}
 
 -- ---- where a read stands
@@ -79,18 +80,18 @@ module _ (program : Tree) (tables : Tables) (sight : Accumulators) (lookup : Loo
 
 -- ---- what updates nothing
 
-still_before : (es : Log) → Still es → Still (before_fault es)
+pub still_before : (es : Log) → Still es → Still (before_fault es)
 still_before [] h = tt
 still_before (Updates n kind w ∷ es) h = absurd h.0
 still_before (Reuses f args ws ∷ es) h = absurd h.0
-still_before (Reads r ∷ es) h = (tt, still_before es h.1)
-still_before (Enters f args d ∷ es) h = (tt, still_before es h.1)
-still_before (Begins n d ∷ es) h = (tt, still_before es h.1)
-still_before (Syncs n ∷ es) h = (tt, still_before es h.1)
-still_before (Spawns n ∷ es) h = (tt, still_before es h.1)
-still_before (Leaves n v ∷ es) h = (tt, still_before es h.1)
+still_before (Reads r ∷ es) h = (h.0, still_before es h.1)
+still_before (Enters f args d ∷ es) h = (h.0, still_before es h.1)
+still_before (Begins n d ∷ es) h = (h.0, still_before es h.1)
+still_before (Syncs n ∷ es) h = (h.0, still_before es h.1)
+still_before (Spawns n ∷ es) h = (h.0, still_before es h.1)
+still_before (Leaves n v ∷ es) h = (h.0, still_before es h.1)
 still_before (Faults k ∷ es) h = tt
-still_before (Marks f args c ∷ es) h = (tt, still_before es h.1)
+still_before (Marks f args c ∷ es) h = (h.0, still_before es h.1)
 
 worth_still : (l : Notes) (es : Log) → Still es → (noted l es).worth ≡ l.worth
 worth_still l [] h = refl
@@ -168,7 +169,7 @@ module _ (program : Tree) (tables : Tables) (lookup : Lookup) (ruled : ReadsAtMa
       let q = same_split [] (here ++ W.events) h.beyond (ops ++ within_main.events) [] W.outcome within_main.outcome (ordered_at program tables S lookup _ f) (ordered_at program tables S lookup _ f') (f ∙ sym f') in
       let z : here ++ (W.events ++ Leaves [] W.outcome ∷ []) ≡ T = sym (append_assoc here W.events (Leaves [] W.outcome ∷ [])) ∙ ap (λ b. (here ++ W.events) ++ Leaves [] W.outcome ∷ b) (sym q.later) ∙ f in
       let still : Still W.events = ending_block program tables S (runner program tables S fr.left (look_of lookup)) fr.left fr.instance fr.here (step s (read x r) b) ending h.top.env fr.next h.top.doom (λ env c doom. over fr.instance doom (pos 0)) (λ env c doom. (tt, tt)) in
-      worth_after here (W.events ++ Leaves [] W.outcome ∷ []) z (inside_none root here h.inside) (every_append UpdatesNothing W.events (Leaves [] W.outcome ∷ []) still (tt, tt))
+      worth_after here (W.events ++ Leaves [] W.outcome ∷ []) z (inside_none root here h.inside) (every_append ChangesNothing W.events (Leaves [] W.outcome ∷ []) still (tt, tt))
 
   at_read : (m : Start) (ls : List Notes) (fr : Frame) (s x : ℕ) (r : Name) (b : Body) (bs : List Body) (t : List Parent) → RightAt program tables S lookup m ls fr (running (blocks (step s (read x r) b ∷ bs))) t → (P : Accumulators → Type 0)
       → ((h : RightAt program tables S lookup root ls fr (running (blocks (step s (read x r) b ∷ []))) []) → (notes program (stretch h.segments)).worth ≡ S → P S) → P S
@@ -191,12 +192,15 @@ module _ (program : Tree) (tables : Tables) (lookup : Lookup) (ruled : ReadsAtMa
   reads_see s h one =
       sees_when (bottom s.layers) S s.phase (λ n x r b bs e. bottom_at s.start s.layers s.frame n x r b bs s.under (subst (λ w. RightAt program tables S lookup s.start s.layers s.frame w s.under) e h) (subst (ReadsByOneLayer s.layers) e one))
 
+-- at a read the product of the layers is what the elision has in the end
+pub sees_by_product : (program : Tree) (tables : Tables) (lookup : Lookup) → StretchesMultiply program tables (sight_of program tables) lookup → ReadsAtMainsEnd program → (s : LayeredStrand) → IsRight program tables (sight_of program tables) lookup s → Sees (total program s.layers).worth (sight_of program tables) s.phase
+sees_by_product program tables lookup law ruled s h =
+    sees_when (total program s.layers).worth (sight_of program tables) s.phase (λ n x r b bs e. total_at program tables lookup ruled law s.start s.layers s.frame n x r b bs s.under (subst (λ w. RightAt program tables (sight_of program tables) lookup s.start s.layers s.frame w s.under) e h))
+
 -- a small step keeps right without a premise on what a read sees: where a read gives the product of the layers
 pub advances_by_product : (program : Tree) (tables : Tables) (lookup : Lookup) → StretchesMultiply program tables (sight_of program tables) lookup → KeepsRules program → RecordedAreSound program tables (sight_of program tables) lookup → AdvanceByProductStaysRight program tables (sight_of program tables) lookup
 advances_by_product program tables lookup law rules sound kit s h =
-    let acc = (total program s.layers).worth in
-    advance_by program tables (sight_of program tables) lookup law rules.waiting sound kit acc s h
-    (sees_when acc (sight_of program tables) s.phase (λ n x r b bs e. total_at program tables lookup rules.reads law s.start s.layers s.frame n x r b bs s.under (subst (λ w. RightAt program tables (sight_of program tables) lookup s.start s.layers s.frame w s.under) e h)))
+    advance_by program tables (sight_of program tables) lookup law rules.waiting sound kit (total program s.layers).worth s h (sees_by_product program tables lookup law rules.reads s h)
 
 -- and where it gives the bottom layer's values, and there is no other
 pub advances_reading : (program : Tree) (tables : Tables) (lookup : Lookup) → StretchesMultiply program tables (sight_of program tables) lookup → KeepsRules program → RecordedAreSound program tables (sight_of program tables) lookup → AdvanceReadingStaysRight program tables (sight_of program tables) lookup

@@ -1,7 +1,7 @@
 -- A right strand's next statement uses no name that waits.
-use Rattle.std.proofs.Common.{ℕ, zero, suc, ◌+◌, List, [], ◌∷◌, Option, Some, None, ℤ, ◌≡◌, refl, subst, arith}
+use Rattle.std.proofs.Common.{ℕ, zero, suc, ◌+◌, List, [], ◌∷◌, Option, Some, ℤ, ◌≡◌, refl, subst, arith}
 use Rattle.std.specs.Prelude.{slice_get}
-use Rattle.program_tree.specs.Plain.{Term, number, name, cell, has as has_row, limit, negate, binary, Deed, bind, enter, read, sync, update, choose, loop, give, Body, end, step, Tree}
+use Rattle.program_tree.specs.Plain.{Term, number, name, cell, has as has_row, limit, negate, binary, Deed, bind, enter, read, sync, update, choose, loop, give, end, step, Tree}
 use Rattle.program_tree.specs.declared.Way.TheVariants.{Call, Spawn}
 use Rattle.meaning.specs.Tables.{Tables}
 use Rattle.meaning.specs.Outcome.{Log, Accumulators, Place}

@@ -1,5 +1,5 @@
 -- One small step keeps a task where the serial run stands.
-use Rattle.std.proofs.Common.{ℕ, zero, suc, ◌+◌, ◌-◌, List, [], ◌∷◌, ◌++◌, Option, Some, None, Result, Ok, Err, ℤ, pos, ◌≡◌, refl, sym, ap, ◌∙◌, subst, arith, append_assoc, map, true, false, Bool, cond, ◌&&◌}
+use Rattle.std.proofs.Common.{ℕ, zero, suc, ◌+◌, ◌-◌, List, [], ◌∷◌, ◌++◌, Option, Some, None, Result, Ok, Err, ℤ, pos, ◌≡◌, refl, sym, ap, ap₂, ◌∙◌, subst, arith, append_assoc, length, map, true, false, Bool, cond, ◌&&◌}
 use Rattle.std.specs.Prelude.{nat_le, ◌/◌, ◌+ℤ◌}
 use Rattle.std.specs.Ordering.{int_eq}
 use Rattle.program_tree.specs.Plain.{Name, Term, Deed, bind, enter, read, sync, update, choose, loop, give, Body, end, step, Tree}
@@ -7,7 +7,7 @@ use Rattle.program_tree.specs.declared.Way.TheVariants.{Call, Spawn}
 use Rattle.meaning.specs.declared.FaultKind.{FaultKind}
 use Rattle.meaning.specs.declared.FaultKind.TheVariants.{TooDeep}
 use Rattle.meaning.specs.Tables.{Tables, is_there}
-use Rattle.meaning.specs.Outcome.{Log, Accumulators, Fault, Site, Outcome, Place, Enters, Begins, Syncs, Leaves, Spawns, Out}
+use Rattle.meaning.specs.Outcome.{Log, Accumulators, Fault, Site, Outcome, Place, Enters, Begins, Syncs, Leaves, Marks, Spawns, Out}
 use Rattle.meaning.specs.Values.{Env, put, value, values}
 use Rattle.meaning.specs.Statements.{reducers, numbered, reading, put_into, Job, job_of, proc_of, fresh, update_of, bounds, turn_values}
 use Rattle.meaning.specs.Records.{Kept}
@@ -15,11 +15,15 @@ use Rattle.meaning.specs.Trail.{Trace, led, child_of, fault_at, env_after, doom_
 use Rattle.meaning.specs.SmallStep.{seen, Start, is_entry, Frame, Todo, blocks, halves, second, turns, Child, instance, half, Phase, entering, running, spawning, returning, leaving, broken, Parent, child_name, awaiting, noting, Step, moved, taken, paused, led_step, unless, settling, on_value, on_depth, Lookup, look_of, memo_answer, first_todo, opened, env_of, with_layer, layer_of, enter_by, enter_step, enter_child, todo_step, micro}
 use Rattle.trail_theory.specs.SerialRest.{Beside, finished_by, todo_walk, parent_walk, below}
 use Rattle.meaning.specs.Layers.{SameNotes, notes_of, Notes, noted_one, noted, blank}
+use Rattle.meaning.specs.Tallies.{executions}
+use Rattle.trail_theory.specs.Counts.{reuses}
 use Rattle.trail_theory.specs.Order.{Every}
 use Rattle.trail_theory.specs.Waiting.{IsChecked, IsOrderlyTodo}
 use Rattle.trail_theory.specs.TaskFits.{EnvFits, DoomFits, sound, FrameFits, UnderFits, Higher, Spot, Fringe, Stacked, SyncInside, TaskFits}
 use Rattle.trail_theory.specs.Right.{full_rest, RecordedAreSound, Sees}
 use Rattle.trail_theory.proofs.Places.{IsEarly}
+use Rattle.trail_theory.proofs.Keys.{executions_append, reuses_append, unmarked_keys}
+use Rattle.trail_theory.proofs.Unmarked.{unmarked_inside}
 use Rattle.trail_theory.proofs.KeepsStep.{Keeps}
 use Rattle.trail_theory.proofs.Inside.{inside_calm}
 use Rattle.trail_theory.proofs.Synced.{IsElsewhere, no_spawns, opening_elsewhere, inside_elsewhere}
@@ -66,6 +70,8 @@ module _ (program : Tree) (tables : Tables) (sight : Accumulators) (lookup : Loo
         events = k.events;
         kept = record { top = q.top; others = q.others; task = q.task; goes_on = e ∙ ap (λ w. es ++ w) q.goes_on ∙ sym (append_assoc es (evs ++ k.events) _) ∙ ap (λ w. w ++ full_rest program tables sight lookup fr ph t q.top q.others) (sym (append_assoc es evs k.events)); inside = rw (append_assoc es evs k.events) (every_append (SyncInside m) es (evs ++ k.events) i q.inside) };
         noted = k.noted;
+        unexecuted = k.unexecuted;
+        answered = k.answered;
         elsewhere = k.elsewhere;
       }
   led_kept was was' es (paused p) i e k = tt
@@ -145,6 +151,11 @@ module _ (program : Tree) (tables : Tables) (sight : Accumulators) (lookup : Loo
   notes_marked l f vs n d es false = refl
   notes_marked l f vs n d es true = refl
 
+  -- its entering is marked as answered
+  opening_answered : (f : Name) (vs : List ℤ) (n : Place) (d : ℕ) (memo : Bool) (k : Kept) → memo ≡ true → lookup f vs d ≡ Some k → (executions (Begins n d ∷ (mark L f vs d memo ++ Enters f vs d ∷ [])) ≡ []) × (reuses (Begins n d ∷ (mark L f vs d memo ++ Enters f vs d ∷ [])) ≡ (f, vs) ∷ [])
+  opening_answered f vs n d false k q e = absurd cc
+  opening_answered f vs n d true k q e = (ap (λ o. executions (Begins n d ∷ (Marks f vs (is_there o) ∷ Enters f vs d ∷ []))) e, ap (λ o. reuses (Begins n d ∷ (Marks f vs (is_there o) ∷ Enters f vs d ∷ []))) e)
+
   -- an instance that a record answers
   enter_some : (left : ℕ) (f : Name) (vs : List ℤ) (n : Place) (t : List Parent) (gs : List Beside) (g : Beside) → UnderFits program B t gs → Higher m n → Stacked n t → (k : Kept) → (proc_of program f).memo ≡ true → lookup f vs (depth_limit - left) ≡ Some k
       → inner program L left f vs ≡ None → K (rest_of (opened program left (instance f vs) n) (entering (instance f vs)) t g gs) (taken [] k (opened program left (instance f vs) n) (leaving k.value) t)
@@ -152,6 +163,7 @@ module _ (program : Tree) (tables : Tables) (sight : Accumulators) (lookup : Loo
       let ops = opening program L left f vs n in
       let r = inside_of None left f vs n in
       let q : r.outcome ≡ Ok k.value = is_sound.runs f vs left n k memo found in
+      let inside = unmarked_keys program r.events (unmarked_inside program tables sight left f vs n) in
       let whole = λ (k : Look). ends_by ops (inside_of k left f vs n).events n t gs (inside_of k left f vs n).outcome in
       record {
         events = ops ++ r.events;
@@ -168,6 +180,8 @@ module _ (program : Tree) (tables : Tables) (sight : Accumulators) (lookup : Loo
           inside = every_append (SyncInside m) ops r.events (calm_opening left f vs n) (run_calm None left f vs n k.value high q);
         };
         noted = subst (λ w. SameNotes w (notes_of k (depth_limit - left))) (sym (notes_marked (blank program) f vs n (depth_limit - left) r.events (proc_of program f).memo ∙ sym (noted_append (noted (blank program) (Begins n (depth_limit - left) ∷ Enters f vs (depth_limit - left) ∷ [])) r.events (Leaves n r.outcome ∷ [])))) (is_sound.notes_are f vs left n k memo found);
+        unexecuted = executions_append ops r.events ∙ ap₂ ◌++◌ (opening_answered f vs n (depth_limit - left) (proc_of program f).memo k memo found).0 (sym inside.executed_are);
+        answered = ap length (reuses_append ops r.events ∙ ap₂ ◌++◌ (opening_answered f vs n (depth_limit - left) (proc_of program f).memo k memo found).1 (sym inside.reused_are));
         elsewhere = λ m. no_spawns (ops ++ r.events) (every_append IsElsewhere ops r.events (opening_elsewhere program L left f vs n) (inside_elsewhere program tables sight left None f vs n m));
       }
 

@@ -13,7 +13,7 @@ use Rattle.trail_theory.specs.TaskFits.{SyncInside}
 use Rattle.trail_theory.specs.MainReads.{synced_one, synced_after, IsSynced, IsNotMain}
 use Rattle.trail_theory.proofs.Places.{every_append, no_end}
 use Rattle.trail_theory.proofs.Evaluations.{Told}
-use Rattle.trail_theory.proofs.Walks.{Opens, Closed, has_loop, good_runs, has_inside}
+use Rattle.trail_theory.proofs.Walks.{half_opens, Opens, Closed, has_loop, good_runs, has_inside}
 
 -- not a spawn by main
 abbrev pub SpawnsElsewhere : Event → Type 0
@@ -197,7 +197,7 @@ opening_elsewhere program look left f vs n = ((tt, tt), marks look (proc_of prog
 pub child_elsewhere : (program : Tree) (tables : Tables) (sight : Accumulators) (look : Look) (left : ℕ) (child : Child) (n : Place) → IsNotMain n → Every IsElsewhere (child_inside program tables sight look left child n).events
 child_elsewhere program tables sight look left (instance f vs) n m = every_append IsElsewhere (opening program look left f vs n) _ (opening_elsewhere program look left f vs n) (inside_elsewhere program tables sight left (inner program look left f vs) f vs n m)
 child_elsewhere program tables sight look left (half k job count i) n m =
-    ((tt, tt), has_loop Elsewhere ElsewhereRun elsewhere program tables sight (runner program tables sight left look) (good_runs Elsewhere ElsewhereRun elsewhere program tables sight left look) left k job count i n 1 None m)
+    ((tt, tt), has_loop (Every Opens) Elsewhere ElsewhereRun elsewhere half_opens program tables sight (runner program tables sight left look) (good_runs Elsewhere ElsewhereRun elsewhere program tables sight left look) left k job count i n 1 None m)
 
 -- inside a strand that begins behind a child of main there is no sync of main
 pub inside_syncs : (k : ℕ) (es : Log) → Every (SyncInside (behind [] k)) es → Every SyncsElsewhere es

@@ -3,8 +3,7 @@ use Rattle.std.proofs.Common.{List, [], ◌∷◌, ◌≡◌, refl, sym, ap, sub
 use Rattle.program_tree.specs.Plain.{Tree}
 use Rattle.meaning.specs.Tables.{Tables}
 use Rattle.meaning.specs.Outcome.{Accumulators}
-use Rattle.meaning.specs.SmallStep.{Start, Phase, Parent, Lookup, noting, closing_one}
-use Rattle.std.specs.Prelude.{cond}
+use Rattle.meaning.specs.SmallStep.{Start, Phase, Parent, Lookup}
 use Rattle.meaning.specs.Layers.{Notes, take_top}
 use Rattle.meaning.specs.LayeredStrand.{LayeredStrand, joined_layers, resumed, joined}
 use Rattle.meaning.specs.Trail.{sight_of}

@@ -198,7 +198,7 @@ module _ (program : Tree) (tables : Tables) (sight : Accumulators) (numbers : Pr
   good_runs are zero look = tt
   good_runs are (suc left) look = λ f vs n m h. good_closed Fits (opening program look left f vs n) n _ (typed_opening look left f vs n) (good_inside (runner program tables sight left (inner program look left f vs)) (good_runs are left (inner program look left f vs)) are left f vs n m h)
 
-  run_typed : AreSafe → (left : ℕ) (look : Look) (f : Name) (vs : List ℤ) (n : Place) → May f → Every Fits vs → Good (run program tables sight left look f vs n)
+  pub run_typed : AreSafe → (left : ℕ) (look : Look) (f : Name) (vs : List ℤ) (n : Place) → May f → Every Fits vs → Good (run program tables sight left look f vs n)
   run_typed are left look f vs n m h = good_closed Fits (opening program look left f vs n) n _ (typed_opening look left f vs n) (good_inside (runner program tables sight left (inner program look left f vs)) (good_runs are left (inner program look left f vs)) are left f vs n m h)
 
 pub trail_typed : (program : Tree) (tables : Tables) (sight : Accumulators) → ProgramFits program → TablesFit tables → SightFits program sight → (look : Look) → Every (IsTyped (kinds_of program)) (trail_at program tables sight look)

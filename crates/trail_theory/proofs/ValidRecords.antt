@@ -21,7 +21,7 @@ use Rattle.trail_theory.proofs.Ends.{worth_of}
 use Rattle.trail_theory.proofs.Records.{notes_forgotten, sound_for, recorded_other}
 use Rattle.trail_theory.proofs.MainElides.{other_fits}
 
-noted_reads : (l : Notes) (es : Log) → (noted l es).read ≡ l.read ++ reads es
+pub noted_reads : (l : Notes) (es : Log) → (noted l es).read ≡ l.read ++ reads es
 noted_reads l [] = sym (append-nil l.read)
 noted_reads l (Reads r ∷ es) = noted_reads (noted_one l (Reads r)) es ∙ append_assoc l.read (r ∷ []) (reads es)
 noted_reads l (Enters f args d ∷ es) = noted_reads (noted_one l (Enters f args d)) es
@@ -34,7 +34,7 @@ noted_reads l (Leaves n v ∷ es) = noted_reads l es
 noted_reads l (Faults k ∷ es) = noted_reads l es
 noted_reads l (Marks f args b ∷ es) = noted_reads l es
 
-noted_entered : (l : Notes) (es : Log) → (noted l es).entered ≡ l.entered ++ entered es
+pub noted_entered : (l : Notes) (es : Log) → (noted l es).entered ≡ l.entered ++ entered es
 noted_entered l [] = sym (append-nil l.entered)
 noted_entered l (Enters f args d ∷ es) = noted_entered (noted_one l (Enters f args d)) es ∙ append_assoc l.entered (f ∷ []) (entered es)
 noted_entered l (Reads r ∷ es) = noted_entered (noted_one l (Reads r)) es
@@ -47,7 +47,7 @@ noted_entered l (Leaves n v ∷ es) = noted_entered l es
 noted_entered l (Faults k ∷ es) = noted_entered l es
 noted_entered l (Marks f args b ∷ es) = noted_entered l es
 
-noted_deepest : (l : Notes) (es : Log) → (noted l es).deepest ≡ max l.deepest (deepest es)
+pub noted_deepest : (l : Notes) (es : Log) → (noted l es).deepest ≡ max l.deepest (deepest es)
 noted_deepest l [] = omega arith
 noted_deepest l (Enters f args d ∷ es) = let h : (noted (noted_one l (Enters f args d)) es).deepest ≡ max (max l.deepest d) (deepest es) = noted_deepest (noted_one l (Enters f args d)) es in omega arith
 noted_deepest l (Reads r ∷ es) = noted_deepest (noted_one l (Reads r)) es

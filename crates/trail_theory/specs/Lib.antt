@@ -12,3 +12,8 @@ pub mod Theorems
 pub mod Calm
 pub mod Ready
 pub mod KeptRecords
+pub mod Counts
+pub mod Defines
+pub mod OpenLayers
+pub mod OwedLayers
+pub mod TalliedTheorems

@@ -1,9 +1,9 @@
 -- The names that a strand's next statement uses: none of them waits for a spawned child.
-use Rattle.std.specs.Prelude.{ℕ, List, [], ◌∷◌, Option, Some, None, slice_get}
-use Rattle.program_tree.specs.Plain.{Term, number, name, cell, has as has_row, limit, negate, binary, Deed, bind, enter, read, sync, update, choose, loop, give, Body, end, step, Tree}
+use Rattle.std.specs.Prelude.{List, [], ◌∷◌, Option, Some, slice_get}
+use Rattle.program_tree.specs.Plain.{Term, number, name, cell, has as has_row, limit, negate, binary, Deed, bind, enter, read, sync, update, choose, loop, give, step, Tree}
 use Rattle.meaning.specs.Tables.{Tables}
 use Rattle.meaning.specs.Outcome.{Accumulators}
-use Rattle.meaning.specs.SmallStep.{Slot, unset, waits, has, Todo, blocks, Phase, running, Lookup}
+use Rattle.meaning.specs.SmallStep.{Slot, waits, Todo, blocks, Phase, running, Lookup}
 use Rattle.meaning.specs.LayeredStrand.{LayeredStrand}
 use Rattle.trail_theory.specs.Right.{IsRight}
 

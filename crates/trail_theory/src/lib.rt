@@ -9,12 +9,16 @@ ghost use Rattle.meaning.specs.SmallStep.{Lookup};
 ghost use Rattle.meaning.specs.Tables.{Tables};
 ghost use Rattle.meaning.specs.Trail.{Look, sight_of, trail_at};
 ghost use Rattle.trail_theory.specs.Calm.{CalmStays};
-ghost use Rattle.trail_theory.specs.KeptRecords.{ValidAnswers};
+ghost use Rattle.trail_theory.specs.Counts.{MarksAreNeeded, NothingNeeded};
+ghost use Rattle.trail_theory.specs.Defines.{DefinesKeep};
+ghost use Rattle.trail_theory.specs.KeptRecords.{ActsByContribution, CommitsStaySound, RecordsStaySound, ValidAnswers};
 ghost use Rattle.trail_theory.specs.MadeRecords.{AnswersBySound, IsLater, IsMade, RecordedBySound};
+ghost use Rattle.trail_theory.specs.OpenLayers.{IsNumbered};
 ghost use Rattle.trail_theory.specs.Order.{Every, LeavesInOrder};
 ghost use Rattle.trail_theory.specs.ReadsAtEnd.{KeepsRules, MainIsAlone, ReadsAtMainsEnd};
 ghost use Rattle.trail_theory.specs.Ready.{StepsReady};
 ghost use Rattle.trail_theory.specs.Right.{LookupIsSound, RecordedAreSound, StretchesMultiply};
+ghost use Rattle.trail_theory.specs.TalliedTheorems.{ClosesItsOwn, EndCountsNeeded, EndLeavesNone, EntryHasOneLayer, LayersStayOwed, NoneAfterEach, ReadHasOneLayer, RerunExecutesNone, TalliedStays};
 ghost use Rattle.trail_theory.specs.Theorems.{ElisionIsTrail, OthersAreTrail, MainIsTrail, RecordsAreSound, RecordedRecordsAreSound, FirstIsRight, AdvanceStaysRight, AdvanceReadingStaysRight, AdvanceByProductStaysRight, ReadsStandAtRoot, ReadsSeeTheEnd, InlineStaysRight, DetachStaysRight, ContinuationIsRight, StolenIsRight, PopStaysRight, JoinStaysRight, EndsWithElision, FaultsWithElision};
 ghost use Rattle.trail_theory.specs.Typed.{HasMonoids, IsTyped, ProgramFits, SightFits, TablesFit, kinds_of};
 ghost use Rattle.trail_theory.specs.Waiting.{IsChecked, HasNoReads};
@@ -187,4 +191,79 @@ pub fn steps_are_ready()
 /// Where all records are sound, the one of a name and arguments that is valid at a depth answers by a sound record that holds now and fits there.
 pub fn valid_record_answers()
     ensures answers { (program : Revised) (tables : Tables) (records : List Kept) → ValidAnswers program tables records }
+{}
+
+/// In a program that keeps the rules, whose procedures have numbers that were used before, each move of a strand keeps it right, with its open layers those of the instances that it opened, each beginning with its instance's run on the trail; and the record of each layer that it closes is sound and holds now; and its tally counts the marks of its stretch.
+pub fn new_records_are_sound()
+    ensures tallied { (program : Revised) (tables : Tables) (lookup : Lookup) → StretchesMultiply program.tree tables (sight_of program.tree tables) lookup → KeepsRules program.tree → IsNumbered program → RecordedAreSound program.tree tables (sight_of program.tree tables) lookup → TalliedStays program tables lookup }
+{}
+
+/// Each move of a strand keeps the layers that strands owe each other: those of the instances that it has and those that strands to the right have of it are those that it opened and those that it has of strands to the left.
+pub fn layers_stay_owed()
+    ensures owed { (program : Revised) (tables : Tables) (lookup : Lookup) → ReadsAtMainsEnd program.tree → LayersStayOwed program tables lookup }
+{}
+
+/// So the layer that an instance closes is its own.
+pub fn instances_close_their_own()
+    ensures own { (program : Revised) (tables : Tables) (lookup : Lookup) → ClosesItsOwn program tables lookup }
+{}
+
+/// A strand that stands at its entry's sync, with nothing behind it, has one layer.
+pub fn entry_has_one_layer()
+    ensures one { (program : Revised) (tables : Tables) (lookup : Lookup) → EntryHasOneLayer program tables lookup }
+{}
+
+/// Where main alone reads reducers, at its end, a strand that stands at a read, with nothing behind it and no layer owed, has one layer.
+pub fn read_has_one_layer()
+    ensures one { (program : Revised) (tables : Tables) (lookup : Lookup) → ReadsAtMainsEnd program.tree → ReadHasOneLayer program tables lookup }
+{}
+
+/// Sound records stay sound as new ones are put in.
+pub fn commits_stay_sound()
+    ensures sound { (program : Revised) → CommitsStaySound program }
+{}
+
+/// All sound records stay sound as procedures are defined anew, where a procedure whose revision number is as it was is the same.
+pub fn records_stay_sound()
+    ensures sound { (program : Revised) (later : Revised) → IsLater program later → RecordsStaySound program later }
+{}
+
+/// Where main alone reads reducers, at its end, each kind is a monoid and numbers fit 64 bits, an instance of another procedure that ends without a fault leaves the values that it found, times its contribution.
+pub fn instances_act_by_contribution()
+    ensures acts { (program : Tree) (tables : Tables) → ReadsAtMainsEnd program → HasMonoids program → ProgramFits program → TablesFit tables → ActsByContribution program tables }
+{}
+
+/// Where main alone reads reducers, at its end, and all records are sound, the trail marks up to its first fault the needed instances: as executed those that no valid record answers, as answered the others, in the order of the elision.
+pub fn marks_are_needed()
+    ensures needed { (program : Revised) (tables : Tables) (sight : Accumulators) (records : List Kept) → ReadsAtMainsEnd program.tree → Every (IsSound program) records → MarksAreNeeded program tables records sight }
+{}
+
+/// Where main alone reads reducers, at its end, and all records are sound, the tally of main's strand that is over has counted the needed instances: as executed those that no valid record answers, as reused the others.
+pub fn end_counts_needed()
+    ensures counted { (program : Revised) (tables : Tables) (records : List Kept) → ReadsAtMainsEnd program.tree → Every (IsSound program) records → EndCountsNeeded program tables records }
+{}
+
+/// Where main alone reads reducers, at its end, each procedure has a number that was used before and all records are sound: after a run that finishes and records each instance that it executes, all records are sound, and the same program on the same tables needs to execute no recorded procedure.
+pub fn nothing_is_needed_again()
+    ensures needed { (program : Revised) (tables : Tables) (records : List Kept) → ReadsAtMainsEnd program.tree → IsNumbered program → Every (IsSound program) records → NothingNeeded program tables records }
+{}
+
+/// Under the same premises, in a run of the same program on the same tables by the records after that run, the tally of main's strand that is over has counted no execution.
+pub fn rerun_executes_nothing()
+    ensures none { (program : Revised) (tables : Tables) (records : List Kept) → ReadsAtMainsEnd program.tree → IsNumbered program → Every (IsSound program) records → RerunExecutesNone program tables records }
+{}
+
+/// Under the same premises, the same program on the same tables needs to execute no recorded procedure by any records into which a finished run has put new ones, where each needed execution has one of its name and arguments.
+pub fn new_records_settle()
+    ensures settled { (program : Revised) (tables : Tables) (records : List Kept) → ReadsAtMainsEnd program.tree → IsNumbered program → Every (IsSound program) records → NoneAfterEach program tables records }
+{}
+
+/// Under the same premises, where main's strand that is over has as many new records as it has counted executions, the same program on the same tables needs to execute no recorded procedure by the records with these put in.
+pub fn end_leaves_nothing()
+    ensures none { (program : Revised) (tables : Tables) (records : List Kept) → ReadsAtMainsEnd program.tree → IsNumbered program → Every (IsSound program) records → EndLeavesNone program tables records }
+{}
+
+/// Where a program's procedures are defined anew and its reducers stay, it is a later program, in which a procedure whose number is as it was is the same; and its procedures have numbers that were used before, if each that is entered is there.
+pub fn defines_keep_numbers()
+    ensures kept { (old : Revised) (tree : Tree) → IsNumbered old → DefinesKeep old tree }
 {}
