@@ -1,0 +1,27 @@
+pub mod Lefts
+pub mod Flags
+pub mod Owned
+pub mod Names
+pub mod Pieces
+pub mod Broken
+pub mod Steps
+pub mod Steals
+pub mod Stalls
+pub mod Folds
+pub mod Paths
+pub mod Kits
+pub mod Books
+pub mod Ascending
+pub mod Telling
+pub mod Histories
+pub mod Unions
+pub mod Legal
+pub mod Awaited
+pub mod Waits
+pub mod WaitsOn
+pub mod Neighbours
+pub mod Rests
+pub mod Serial
+pub mod Overs
+pub mod Fronts
+mod Samples

@@ -1,0 +1,97 @@
+-- What is left to do of a run before its first step, and at its end.
+use Rattle.std.proofs.Common.{Bool, true, ◌-◌, ℕ, List, [], ◌∷◌, ◌++◌, ℤ, Ok, Err, ◌≡◌, inl, inr, refl, sym, ap, ◌∙◌, subst}
+use Rattle.meaning.specs.Tables.{Tables}
+use Rattle.meaning.specs.Outcome.{Log, Accumulators, Fault, combined}
+use Rattle.meaning.specs.Statements.{reducers, identities}
+use Rattle.meaning.specs.Elision.{Answer, Finished, Faulted, main, depth_limit}
+use Rattle.meaning.specs.Records.{Revised, Kept, with_kinds}
+use Rattle.meaning.specs.Trail.{trail_at}
+use Rattle.meaning.specs.SmallStep.{Start, instance, Frame, Phase, entering, running, spawning, returning, leaving, broken, Parent, look_of, opened, Continuation}
+use Rattle.meaning.specs.Layers.{Notes, notes}
+use Rattle.meaning.specs.Rest.{Course, then_on, phase_left, parents_left, answered, rest}
+use Rattle.meaning.specs.RestOfRun.{with_hand_under, below, times_layers, rest_of_run}
+use Rattle.meaning.specs.Strands.{State, Held, Ended, Stalled, BookStep}
+use Rattle.meaning.specs.Strands as strands
+use Rattle.meaning.specs.Tallies.{Tally}
+use Rattle.meaning.specs.Schedules.{Memory, Piece, RunState, answer_by, answer_of_pieces, end_of}
+use Rattle.trail_theory.specs.Right.{stretch, RightAt}
+use Rattle.trail_theory.proofs.Joins.{one_layer}
+use Rattle.theory.proofs.Steps.{steps_keep}
+use Rattle.run_theory.specs.Theorems.{IsReady, IsRightNow, RestBegins, RestEnds}
+use Rattle.run_theory.proofs.Pieces.{ForSome, some_is}
+use Rattle.run_theory.proofs.Steps.{piece_of, S, L, FitPiece, FitAll}
+use Rattle.run_theory.proofs.Paths.{law}
+
+then_pure : (c : Course ℤ) → then_on c (λ w acc. (Ok w, acc)) ≡ c
+then_pure (Ok v, acc) = refl
+then_pure (Err k, acc) = refl
+
+module _ (program : Revised) (tables : Tables) (memory : Memory) (ready : IsReady program tables memory) where
+  -- the identities, and then a stretch of the trail
+  unit_of : (a b : Log) → a ++ b ≡ trail_at program.tree tables (S program tables memory) (look_of (L program tables memory)) → combined (identities program.tree) (with_kinds (reducers program.tree) (notes program.tree a).worth) ≡ (notes program.tree a).worth
+  unit_of a b e = ap (λ n. n.worth) (law program tables memory ready [] [] a b e)
+
+  pub begins : RestBegins program tables memory
+  unfolding rest_of_run rest
+  begins kits =
+      let F = λ (acc : Accumulators). then_on (phase_left program.tree tables (opened program.tree (depth_limit - 1) (instance main []) []) (entering (instance main [])) acc) (parents_left program.tree tables []) in
+      ap (answered program.tree tables) (then_pure (F (times_layers program.tree tables (identities program.tree) (notes program.tree [] ∷ []))))
+      ∙ ap (λ acc. answered program.tree tables (F acc)) (unit_of [] (trail_at program.tree tables (S program tables memory) (look_of (L program tables memory))) refl)
+      ∙ (steps_keep program.tree tables).begins
+
+  -- one layer, behind the identities
+  unit_layer : (m : Start) (l : Notes) (fr : Frame) (v : ℤ) (t : List Parent) → RightAt program.tree tables (S program tables memory) (L program tables memory) m (l ∷ []) fr (leaving v) t → combined (identities program.tree) (with_kinds (reducers program.tree) l.worth) ≡ l.worth
+  unit_layer m l fr v t h =
+      let s = stretch h.segments in
+      let one = (one_layer program.tree tables (S program tables memory) (L program tables memory) l h.segments h.logged).worth in
+      subst (λ x. combined (identities program.tree) (with_kinds (reducers program.tree) x) ≡ x) one (ap (λ n. n.worth) (law program tables memory ready h.before [] s _ h.is_trail))
+
+  abbrev LeftOver : Piece → ℕ → List BookStep → Answer → Type 0
+  LeftOver p kits history a = rest_of_run program.tree tables (record { pieces = p ∷ []; kits = kits; history = history }) ≡ a
+
+  finished_rest : (m : Start) (l : Notes) (fr : Frame) (v : ℤ) (t : List Parent) (ks : List Continuation) (st : State) (ta : Tally) (kits : ℕ) (history : List BookStep) → combined (identities program.tree) (with_kinds (reducers program.tree) l.worth) ≡ l.worth → t ≡ [] → ks ≡ []
+      → LeftOver (piece_of m (l ∷ []) fr (leaving v) t ks st ta) kits history (Finished v l.worth)
+  unfolding rest_of_run
+  finished_rest m l fr v [] [] st ta kits history e a b = ap (Finished v) e
+  finished_rest m l fr v [] (k ∷ ks) st ta kits history e a b = absurd cc
+  finished_rest m l fr v (p ∷ t) ks st ta kits history e a b = absurd cc
+
+  faulted_rest : (p : Piece) (k : Fault) (kits : ℕ) (history : List BookStep) → p.strand.phase ≡ broken k → LeftOver p kits history (Faulted k)
+  unfolding rest_of_run
+  faulted_rest p k kits history e =
+      ap (λ ph. answered program.tree tables (then_on (then_on (phase_left program.tree tables p.strand.frame ph (times_layers program.tree tables (identities program.tree) p.strand.layers)) (parents_left program.tree tables (with_hand_under [] (below program.tree tables p)))) (λ w acc. (Ok w, acc)))) e
+
+  rest_at : (found later : List Bool) (m : Start) (ls : List Notes) (fr : Frame) (ph : Phase) (t : List Parent) (ks : List Continuation) (st : State) (ta : Tally) (kits : ℕ) (history : List BookStep) → FitPiece program tables memory true (piece_of m ls fr ph t ks st ta) found later []
+      → ForSome (LeftOver (piece_of m ls fr ph t ks st ta) kits history) (answer_by st ph ls)
+  rest_at found later m (l ∷ []) fr (leaving v) t ks strands.Finished ta kits history i =
+      elim i.fits [
+        | inr c ↦ absurd (let q : leaving v ≡ broken c.fault = c.phase in cc)
+        | inl h ↦ finished_rest m l fr v t ks strands.Finished ta kits history (unit_layer m l fr v t h.right) i.laid.under i.laid.deque
+      ]
+  rest_at found later m ls fr (broken k) t ks strands.Faulted ta kits history i = faulted_rest (piece_of m ls fr (broken k) t ks strands.Faulted ta) k kits history refl
+  rest_at found later m [] fr (leaving v) t ks strands.Finished ta kits history i = tt
+  rest_at found later m (l ∷ k ∷ ls) fr (leaving v) t ks strands.Finished ta kits history i = tt
+  rest_at found later m ls fr (entering child) t ks strands.Finished ta kits history i = tt
+  rest_at found later m ls fr (running todo) t ks strands.Finished ta kits history i = tt
+  rest_at found later m ls fr (spawning d x child todo) t ks strands.Finished ta kits history i = tt
+  rest_at found later m ls fr (returning v) t ks strands.Finished ta kits history i = tt
+  rest_at found later m ls fr (broken k) t ks strands.Finished ta kits history i = tt
+  rest_at found later m ls fr (entering child) t ks strands.Faulted ta kits history i = tt
+  rest_at found later m ls fr (running todo) t ks strands.Faulted ta kits history i = tt
+  rest_at found later m ls fr (spawning d x child todo) t ks strands.Faulted ta kits history i = tt
+  rest_at found later m ls fr (returning v) t ks strands.Faulted ta kits history i = tt
+  rest_at found later m ls fr (leaving v) t ks strands.Faulted ta kits history i = tt
+  rest_at found later m ls fr ph t ks (Held w) ta kits history i = tt
+  rest_at found later m ls fr ph t ks Ended ta kits history i = tt
+  rest_at found later m ls fr ph t ks Stalled ta kits history i = tt
+
+  rest_of : (s : RunState) (ps : List Piece) → s.pieces ≡ ps → IsRightNow program tables memory s → ForSome (λ a. rest_of_run program.tree tables s ≡ a) (answer_of_pieces ps)
+  rest_of s [] e h = tt
+  rest_of s (p ∷ []) e h =
+      let g : FitAll program tables memory true (p ∷ []) [] = subst (λ ps. FitAll program tables memory true ps []) e h in
+      subst (λ ps. ForSome (λ a. rest_of_run program.tree tables (record { pieces = ps; kits = s.kits; history = s.history }) ≡ a) (answer_of_pieces (p ∷ []))) (sym e)
+      (rest_at [] g.0 p.strand.start p.strand.layers p.strand.frame p.strand.phase p.strand.under p.deque p.state p.tally s.kits s.history g.1)
+  rest_of s (p ∷ q ∷ ps) e h = tt
+
+  pub ends : RestEnds program tables memory
+  ends s a h e = some_is (λ a. rest_of_run program.tree tables s ≡ a) (end_of s) a (rest_of s s.pieces refl h) e

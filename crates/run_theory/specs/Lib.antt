@@ -1,0 +1,3 @@
+pub mod RightRuns
+pub mod OverRuns
+pub mod Theorems

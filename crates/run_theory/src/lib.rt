@@ -1,0 +1,72 @@
+//! The theory of runs on several workers: what follows from the definitions alone.
+#![tactic(auto)]
+
+ghost use Rattle.meaning.specs.Records.{Revised};
+ghost use Rattle.meaning.specs.Schedules.{Memory};
+ghost use Rattle.meaning.specs.Tables.{Tables};
+ghost use Rattle.run_theory.specs.Theorems.{IsReady, StepsStayRight, PathsAreRight, RightRunsAnswer, PathsAnswer, StepsKeepKits, PathsKeepKits, EndsFreeKits, PathsKeepHistory, NeighboursFold, RestBegins, RestEnds, OverRunsAnswer, FrontRunsAnswer};
+
+/// Each step of a run on several workers keeps it right.
+pub fn steps_stay_right()
+    ensures right { (program : Revised) (tables : Tables) (memory : Memory) → IsReady program tables memory → StepsStayRight program tables memory }
+{}
+
+/// A run on several workers is right after any steps, whoever takes them, in whatever order.
+pub fn paths_are_right()
+    ensures right { (program : Revised) (tables : Tables) (memory : Memory) → IsReady program tables memory → PathsAreRight program tables memory }
+{}
+
+/// A right run that has come to its end has the elision's answer from scratch: its value and every reducer's, or its first fault.
+pub fn right_runs_answer()
+    ensures answer { (program : Revised) (tables : Tables) (memory : Memory) → IsReady program tables memory → RightRunsAnswer program tables memory }
+{}
+
+/// Whatever steps several workers take, a run that comes to its end answers the elision from scratch.
+pub fn paths_answer()
+    ensures answer { (program : Revised) (tables : Tables) (memory : Memory) → IsReady program tables memory → PathsAnswer program tables memory }
+{}
+
+/// Each step of a right run keeps the number of kits: the free ones, and one for each layer of each strand.
+pub fn steps_keep_kits()
+    ensures kept { (program : Revised) (tables : Tables) (memory : Memory) → IsReady program tables memory → StepsKeepKits program tables memory }
+{}
+
+/// After any steps the free kits and those of the strands' layers are as many as the run began with.
+pub fn paths_keep_kits()
+    ensures kept { (program : Revised) (tables : Tables) (memory : Memory) → IsReady program tables memory → PathsKeepKits program tables memory }
+{}
+
+/// Where a run has come to its end, all kits are free again but the one that has the answer.
+pub fn ends_free_kits()
+    ensures free { (program : Revised) (tables : Tables) (memory : Memory) → IsReady program tables memory → EndsFreeKits program tables memory }
+{}
+
+/// After any steps the history that was kept is legal, and gives the list of the strands with their states.
+pub fn paths_keep_history()
+    ensures kept { (program : Revised) (tables : Tables) (memory : Memory) → IsReady program tables memory → PathsKeepHistory program tables memory }
+{}
+
+/// After any steps, neighbours of which the left one is over or has a fault and the right one waits may be folded by any worker that holds nothing: no name that waits stands against it.
+pub fn neighbours_fold()
+    ensures folds { (program : Revised) (tables : Tables) (memory : Memory) → IsReady program tables memory → NeighboursFold program tables memory }
+{}
+
+/// Before the first step the elision from scratch is left to do.
+pub fn rest_begins()
+    ensures begins { (program : Revised) (tables : Tables) (memory : Memory) → IsReady program tables memory → RestBegins program tables memory }
+{}
+
+/// Of a right run that has come to its end nothing is left but its answer.
+pub fn rest_ends()
+    ensures ends { (program : Revised) (tables : Tables) (memory : Memory) → IsReady program tables memory → RestEnds program tables memory }
+{}
+
+/// Of a right run whose strands are over, up to the first that has a fault, the elision's answer from scratch is left.
+pub fn over_runs_answer()
+    ensures answer { (program : Revised) (tables : Tables) (memory : Memory) → IsReady program tables memory → OverRunsAnswer program tables memory }
+{}
+
+/// Of a right run whose first strand is at work, with no reducer to read in what is left of it, and whose other strands are over, up to the first that has a fault, the elision's answer from scratch is left.
+pub fn front_runs_answer()
+    ensures answer { (program : Revised) (tables : Tables) (memory : Memory) → IsReady program tables memory → FrontRunsAnswer program tables memory }
+{}
