@@ -1,0 +1,6 @@
+pub mod Searching
+pub mod Evaluating
+pub mod Forgetting
+pub mod Noted
+pub mod Steps
+pub mod Scratch

@@ -1,0 +1,7 @@
+pub mod Listing
+pub mod Keeping
+pub mod Results
+pub mod Worths
+pub mod Ranges
+pub mod Pieces
+pub mod Answers

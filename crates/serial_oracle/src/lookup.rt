@@ -1,0 +1,84 @@
+//! What is read of tables.
+
+ghost use Rattle.std.specs.Prelude.{◌≡◌, ℕ, ◌+◌, ◌<◌, ◌≤◌, map, length, string_bytes, slice_get, option_map};
+ghost use Rattle.meaning.specs.Tables.{rows_of, columns_of, place_of, row_of, at_column, above_all, cell_of, has_row, limit_of};
+ghost use Rattle.serial_oracle.specs.Listing.{rows_plain, tables_plain};
+
+use crate::tables::{Row, TableRows};
+
+/// The rows of a table, none where there is no such table.
+pub fn rows<'a>(tables: &'a [TableRows], name: &str) -> &'a [Row]
+    ensures { rows_plain result.now ≡ rows_of (tables_plain tables.now) name.now }
+{
+    for table in tables {
+        if table.name.as_str() == name {
+            return &table.rows;
+        }
+    }
+    &[]
+}
+
+/// The place of a column in a table.
+pub fn column(tables: &[TableRows], name: &str, wanted: &str) -> usize
+    ensures { result ≡ place_of (columns_of (tables_plain tables.now) name.now) wanted.now }
+{
+    for table in tables {
+        if table.name.as_str() == name {
+            return place(&table.columns, wanted);
+        }
+    }
+    0
+}
+
+fn place(columns: &[String], wanted: &str) -> usize
+    ensures { result ≡ place_of (map string_bytes columns.now) wanted.now }
+{
+    for (i, c) in columns.iter().enumerate() {
+        if c.as_str() == wanted {
+            return i;
+        }
+    }
+    columns.len()
+}
+
+/// The row of a number.
+pub fn row_values(rows: &[Row], number: i64) -> Option<&Vec<i64>>
+    ensures { option_map (λ v. v.now.items) result ≡ row_of (rows_plain rows.now) number }
+{
+    for row in rows {
+        if row.number == number {
+            return Some(&row.values);
+        }
+    }
+    None
+}
+
+/// A cell.
+pub fn cell(tables: &[TableRows], table: &str, row: i64, wanted: &str) -> Option<i64>
+    ensures { result ≡ cell_of (tables_plain tables.now) table.now row wanted.now }
+{
+    match row_values(rows(tables, table), row) {
+        None => None,
+        Some(values) => values.get(column(tables, table, wanted)).copied(),
+    }
+}
+
+/// Whether there is a row of a number.
+pub fn has(tables: &[TableRows], table: &str, row: i64) -> bool
+    ensures { result ≡ has_row (tables_plain tables.now) table.now row }
+{
+    row_values(rows(tables, table), row).is_some()
+}
+
+/// One more than the greatest number of a row, or 0.
+pub fn limit(tables: &[TableRows], table: &str) -> i64
+    ensures { result ≡ limit_of (tables_plain tables.now) table.now }
+{
+    let mut above: i64 = 0;
+    for row in rows(tables, table) {
+        if row.number >= above {
+            above = row.number.wrapping_add(1);
+        }
+    }
+    above
+}

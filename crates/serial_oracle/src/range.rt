@@ -1,0 +1,21 @@
+//! The range of a loop.
+ghost use Rattle.std.specs.Prelude.{◌≡◌, ◌<◌, ◌≤◌, ◌+ℤ◌, ◌≤ℤ◌, pos};
+
+/// So many numbers from a low one on.
+#[derive(Clone, Copy)]
+pub struct Range {
+    pub low: i64,
+    pub count: u64,
+    ghost short: { count ≤ 1048576 },
+    ghost inside: { (low +ℤ pos count) ≤ℤ pos 9223372036854775807 },
+}
+
+impl Range {
+    /// The i-th number.
+    pub fn at(self, i: u64) -> i64
+        requires { i < self.count }
+        ensures { result ≡ self.low +ℤ pos i }
+    {
+        self.low.wrapping_add(i as i64)
+    }
+}

@@ -1,0 +1,482 @@
+//! A run of a program, statement by statement, in the order of a run on one worker.
+ghost use Rattle.std.specs.Prelude.{◌≡◌, ℕ, ◌<◌, ◌-◌, map, slice_get, string_bytes, Some};
+ghost use Rattle.program_tree.specs.Plain.{Name};
+ghost use Rattle.program_tree.specs.View.{term, proc};
+ghost use Rattle.program_tree.specs.View.{deed as deed_plain, statements as statements_plain, block as block_plain};
+ghost use Rattle.meaning.specs.Outcome.{Site};
+ghost use Rattle.meaning.specs.Statements.{job_of};
+ghost use Rattle.meaning.specs.Statements.{turn_values as turn_values_of};
+ghost use Rattle.meaning.specs.Elision.{deed, body, all_turns, depth_limit};
+ghost use Rattle.meaning.specs.Records.{if_valid, record_of};
+ghost use Rattle.program_tree.specs.Plain.{Tree};
+ghost use Rattle.serial_oracle.specs.Listing.{tables_plain};
+ghost use Rattle.serial_oracle.specs.Results.{Gives, Does, GivesNext, EvaluatesAll, Standing, results, site_at, with_executed, with_reused};
+ghost use Rattle.serial_oracle.specs.Keeping.{kept, tree_in, tables_in, records_in, revised_in, enters_in};
+ghost use Rattle.serial_oracle.specs.Worths.{AreFit, standing};
+ghost use Rattle.serial_oracle.specs.Pieces.{bound, back, told, updates_here, entered, chosen, looped, inside, turn, memoised, by_record};
+
+use crate::expressions::{all_values, evaluate};
+use crate::journal::{Journal, note_executed, note_reused};
+use crate::names::{find_procedure, fresh, put, put_into, with_name};
+use crate::range::Range;
+use crate::ranges::range_of;
+use crate::scope::Scope;
+use crate::stops::{Stop, Trouble, stopped};
+use crate::tables::TableRows;
+use crate::updates;
+use crate::validity::{Found, valid_record};
+use meaning::FaultKind;
+use program_tree::{Action, Expr, Procedure, Statement};
+use std::alloc::Global;
+
+/// Binds a name to the value of an expression.
+fn run_bind<'p>(
+    tables: &[TableRows],
+    here: &'p str,
+    number: u32,
+    x: usize,
+    e: &Expr,
+    env: &mut Vec<Option<i64>>,
+) -> Result<Option<i64>, Stop<'p>>
+    ensures { (program : Tree) (s : Standing) → GivesNext result env.new.items s (results program (bound (tables_plain tables.now) (site_at here.now number) env.old.items x (term e.now)) s) }
+{
+    match evaluate(tables, env, e) {
+        Err(kind) => Err(stopped(kind, here, number)),
+        Ok(v) => {
+            put(env, x, v);
+            Ok(None)
+        }
+    }
+}
+
+/// Gives the value of an expression back.
+fn run_return<'p>(
+    tables: &[TableRows],
+    here: &'p str,
+    number: u32,
+    e: &Expr,
+    env: &[Option<i64>],
+) -> Result<Option<i64>, Stop<'p>>
+    ensures { (program : Tree) (s : Standing) → GivesNext result env.now s (results program (back (tables_plain tables.now) (site_at here.now number) env.now (term e.now)) s) }
+{
+    match evaluate(tables, env, e) {
+        Err(kind) => Err(stopped(kind, here, number)),
+        Ok(v) => Ok(Some(v)),
+    }
+}
+
+/// Binds a name to the number of a reducer.
+fn run_read<'p, 's>(
+    alloc: Global,
+    scope: &Scope<'p, 's>,
+    x: usize,
+    r: &str,
+    env: &mut Vec<Option<i64>>,
+    journal: &Journal<'p>,
+) -> Result<Option<i64>, Stop<'p>>
+    requires fit { AreFit (tree_in scope.now) (records_in scope.now) }
+    ensures { GivesNext result env.new.items (standing scope.now journal.now) (results (tree_in scope.now) (told (tree_in scope.now) env.old.items x r.now) (standing scope.now journal.now)) }
+{
+    match updates::read(alloc, scope, r, &journal.changes) {
+        Err(_) => Err(Stop::NoMemory),
+        Ok(v) => {
+            put(env, x, v);
+            Ok(None)
+        }
+    }
+}
+
+/// Updates a reducer.
+fn run_update<'p, 's>(
+    alloc: Global,
+    scope: &Scope<'p, 's>,
+    here: &'p str,
+    number: u32,
+    r: &str,
+    es: &[Expr],
+    env: &[Option<i64>],
+    journal: &mut Journal<'p>,
+) -> Result<Option<i64>, Stop<'p>>
+    ensures { GivesNext result env.now (standing scope.now journal.new) (results (tree_in scope.now) (updates_here (tree_in scope.now) (tables_in scope.now) (site_at here.now number) env.now r.now (map term es.now)) (standing scope.now journal.old)) }
+{
+    match updates::update_reducer(alloc, scope, env, r, es, &mut journal.changes) {
+        Err(trouble) => Err(trouble.at(here, number)),
+        Ok(()) => Ok(None),
+    }
+}
+
+/// The arguments of the i-th iteration of a loop.
+fn turn_values(
+    alloc: Global,
+    tables: &[TableRows],
+    env: &[Option<i64>],
+    x: usize,
+    range: Range,
+    i: u64,
+    es: &[Expr],
+) -> Result<Vec<i64>, Trouble>
+    requires { i < range.count }
+    ensures { (site : Site) (f : Name) (grain : ℕ) → EvaluatesAll result (turn_values_of (tables_plain tables.now) (job_of site env.now x f (map term es.now) grain range.low) i).answer }
+{
+    match with_name(alloc, env, x, range.at(i)) {
+        Err(_) => Err(Trouble::NoMemory),
+        Ok(inner) => all_values(alloc, tables, &inner, es),
+    }
+}
+
+/// Answers a memo instance by a record.
+fn answer_by<'p, 's>(
+    alloc: Global,
+    scope: &Scope<'p, 's>,
+    found: Found<'s>,
+    name: &'p str,
+    args: &[i64],
+    journal: &mut Journal<'p>,
+) -> Result<i64, Stop<'p>>
+    requires place { slice_get (records_in scope.now) found.place ≡ Some (kept found.known.now) }
+    ensures { Gives result (standing scope.now journal.new) (by_record (tree_in scope.now) (kept found.entry.known.now) (name.now, args.now) (standing scope.now journal.old)) }
+{
+    match note_reused(alloc, journal, found.place, name, args) {
+        Err(_) => Err(Stop::NoMemory),
+        Ok(()) => Ok(found.known.value),
+    }
+}
+
+/// Enters an instance at a statement, where so many levels are left.
+#[cycle(run)]
+pub fn enter<'p, 's>(
+    alloc: Global,
+    scope: &Scope<'p, 's>,
+    left: u32,
+    here: &'p str,
+    statement: u32,
+    name: &'p str,
+    args: &[i64],
+    journal: &mut Journal<'p>,
+) -> Result<i64, Stop<'p>>
+    requires fit { AreFit (tree_in scope.now) (records_in scope.now) }
+    ensures { Gives result (standing scope.now journal.new) (results (tree_in scope.now) (enters_in scope.now left (site_at here.now statement) name.now args.now) (standing scope.now journal.old)) }
+{
+    if left == 0 {
+        return Err(stopped(FaultKind::TooDeep, here, statement));
+    }
+    match find_procedure(scope.program, name) {
+        None => Ok(0),
+        Some(p) => {
+            if p.memo {
+                run_memo(alloc, scope, left - 1, p, name, args, journal)
+            } else {
+                run_instance(alloc, scope, left - 1, p, args, journal)
+            }
+        }
+    }
+}
+
+/// Answers a memo instance by its valid record, or runs it.
+#[cycle(run)]
+fn run_memo<'p, 's>(
+    alloc: Global,
+    scope: &Scope<'p, 's>,
+    left: u32,
+    p: &'p Procedure,
+    name: &'p str,
+    args: &[i64],
+    journal: &mut Journal<'p>,
+) -> Result<i64, Stop<'p>>
+    requires fit { AreFit (tree_in scope.now) (records_in scope.now) }
+    ensures { Gives result (standing scope.now journal.new) (memoised (tree_in scope.now) (if_valid (revised_in scope.now) (tables_in scope.now) (depth_limit - left) (record_of (records_in scope.now) name.now args.now)) (name.now, args.now) (inside (tree_in scope.now) (tables_in scope.now) (enters_in scope.now left) (proc p.now) args.now) (standing scope.now journal.old)) }
+{
+    match valid_record(scope, 64u32.saturating_sub(left), name, args) {
+        Some(found) => answer_by(alloc, scope, found, name, args, journal),
+        None => run_new(alloc, scope, left, p, name, args, journal),
+    }
+}
+
+/// Runs a memo instance that no record answers.
+#[cycle(run)]
+fn run_new<'p, 's>(
+    alloc: Global,
+    scope: &Scope<'p, 's>,
+    left: u32,
+    p: &'p Procedure,
+    name: &'p str,
+    args: &[i64],
+    journal: &mut Journal<'p>,
+) -> Result<i64, Stop<'p>>
+    requires fit { AreFit (tree_in scope.now) (records_in scope.now) }
+    ensures { Gives result (standing scope.now journal.new) (results (tree_in scope.now) (inside (tree_in scope.now) (tables_in scope.now) (enters_in scope.now left) (proc p.now) args.now) (with_executed (standing scope.now journal.old) (name.now, args.now))) }
+{
+    match note_executed(alloc, journal, name, args) {
+        Err(_) => Err(Stop::NoMemory),
+        Ok(()) => run_instance(alloc, scope, left, p, args, journal),
+    }
+}
+
+/// Runs an instance of a procedure.
+#[cycle(run)]
+fn run_instance<'p, 's>(
+    alloc: Global,
+    scope: &Scope<'p, 's>,
+    left: u32,
+    p: &'p Procedure,
+    args: &[i64],
+    journal: &mut Journal<'p>,
+) -> Result<i64, Stop<'p>>
+    requires fit { AreFit (tree_in scope.now) (records_in scope.now) }
+    ensures { Gives result (standing scope.now journal.new) (results (tree_in scope.now) (inside (tree_in scope.now) (tables_in scope.now) (enters_in scope.now left) (proc p.now) args.now) (standing scope.now journal.old)) }
+{
+    match fresh(alloc, &p.names, args) {
+        Err(_) => Err(Stop::NoMemory),
+        Ok(mut env) => match run_block(
+            alloc,
+            scope,
+            left,
+            p,
+            p.blocks.len(),
+            0,
+            &mut env,
+            journal,
+        ) {
+            Err(stop) => Err(stop),
+            Ok(None) => Ok(0),
+            Ok(Some(v)) => Ok(v),
+        },
+    }
+}
+
+/// Runs a block, where blocks nest so many levels below it.
+#[cycle(run)]
+fn run_block<'p, 's>(
+    alloc: Global,
+    scope: &Scope<'p, 's>,
+    left: u32,
+    p: &'p Procedure,
+    levels: usize,
+    n: usize,
+    env: &mut Vec<Option<i64>>,
+    journal: &mut Journal<'p>,
+) -> Result<Option<i64>, Stop<'p>>
+    requires fit { AreFit (tree_in scope.now) (records_in scope.now) }
+    ensures { GivesNext result env.new.items (standing scope.now journal.new) (results (tree_in scope.now) (body (tree_in scope.now) (tables_in scope.now) (enters_in scope.now left) (string_bytes p.now.name) env.old.items (block_plain p.now.blocks.items levels n)) (standing scope.now journal.old)) }
+{
+    if levels == 0 {
+        return Ok(None);
+    }
+    match p.blocks.get(n) {
+        None => Ok(None),
+        Some(b) => run_statements(
+            alloc,
+            scope,
+            left,
+            p,
+            levels - 1,
+            &b.statements,
+            env,
+            journal,
+        ),
+    }
+}
+
+/// Runs statements.
+#[cycle(run)]
+fn run_statements<'p, 's>(
+    alloc: Global,
+    scope: &Scope<'p, 's>,
+    left: u32,
+    p: &'p Procedure,
+    levels: usize,
+    statements: &'p [Statement],
+    env: &mut Vec<Option<i64>>,
+    journal: &mut Journal<'p>,
+) -> Result<Option<i64>, Stop<'p>>
+    requires fit { AreFit (tree_in scope.now) (records_in scope.now) }
+    ensures { GivesNext result env.new.items (standing scope.now journal.new) (results (tree_in scope.now) (body (tree_in scope.now) (tables_in scope.now) (enters_in scope.now left) (string_bytes p.now.name) env.old.items (statements_plain (block_plain p.now.blocks.items levels) statements.now)) (standing scope.now journal.old)) }
+{
+    for s in statements {
+        match run_statement(alloc, scope, left, p, levels, s, env, journal) {
+            Err(stop) => return Err(stop),
+            Ok(Some(v)) => return Ok(Some(v)),
+            Ok(None) => {}
+        }
+    }
+    Ok(None)
+}
+
+/// Runs one statement.
+#[cycle(run)]
+fn run_statement<'p, 's>(
+    alloc: Global,
+    scope: &Scope<'p, 's>,
+    left: u32,
+    p: &'p Procedure,
+    levels: usize,
+    s: &'p Statement,
+    env: &mut Vec<Option<i64>>,
+    journal: &mut Journal<'p>,
+) -> Result<Option<i64>, Stop<'p>>
+    requires fit { AreFit (tree_in scope.now) (records_in scope.now) }
+    ensures { GivesNext result env.new.items (standing scope.now journal.new) (results (tree_in scope.now) (deed (tree_in scope.now) (tables_in scope.now) (enters_in scope.now left) (site_at (string_bytes p.now.name) s.now.number) env.old.items (deed_plain (block_plain p.now.blocks.items levels) s.now.action)) (standing scope.now journal.old)) }
+{
+    let here = &p.name;
+    match &s.action {
+        Action::Bind(x, e) => run_bind(scope.tables, here, s.number, *x, e, env),
+        Action::Enter(x, _, f, es) => run_entry(
+            alloc, scope, left, here, s.number, *x, f, es, env, journal,
+        ),
+        Action::Read(x, r) => run_read(alloc, scope, *x, r, env, journal),
+        Action::Sync => Ok(None),
+        Action::Update(r, es) => run_update(alloc, scope, here, s.number, r, es, env, journal),
+        Action::If(e, a, b) => run_if(
+            alloc, scope, left, p, levels, s.number, e, *a, *b, env, journal,
+        ),
+        Action::Loop(x, e, f, _, g, es) => run_loop(
+            alloc, scope, left, here, s.number, *x, e, f, g, es, env, journal,
+        ),
+        Action::Return(e) => run_return(scope.tables, here, s.number, e, env),
+    }
+}
+
+/// Enters a procedure with the values of the arguments.
+#[cycle(run)]
+fn run_entry<'p, 's>(
+    alloc: Global,
+    scope: &Scope<'p, 's>,
+    left: u32,
+    here: &'p str,
+    number: u32,
+    x: Option<usize>,
+    f: &'p str,
+    es: &[Expr],
+    env: &mut Vec<Option<i64>>,
+    journal: &mut Journal<'p>,
+) -> Result<Option<i64>, Stop<'p>>
+    requires fit { AreFit (tree_in scope.now) (records_in scope.now) }
+    ensures { GivesNext result env.new.items (standing scope.now journal.new) (results (tree_in scope.now) (entered (tables_in scope.now) (enters_in scope.now left) (site_at here.now number) env.old.items x f.now (map term es.now)) (standing scope.now journal.old)) }
+{
+    match all_values(alloc, scope.tables, env, es) {
+        Err(trouble) => Err(trouble.at(here, number)),
+        Ok(vs) => match enter(alloc, scope, left, here, number, f, &vs, journal) {
+            Err(stop) => Err(stop),
+            Ok(v) => {
+                put_into(env, x, v);
+                Ok(None)
+            }
+        },
+    }
+}
+
+/// Runs one of two blocks.
+#[cycle(run)]
+fn run_if<'p, 's>(
+    alloc: Global,
+    scope: &Scope<'p, 's>,
+    left: u32,
+    p: &'p Procedure,
+    levels: usize,
+    number: u32,
+    e: &Expr,
+    a: usize,
+    b: usize,
+    env: &mut Vec<Option<i64>>,
+    journal: &mut Journal<'p>,
+) -> Result<Option<i64>, Stop<'p>>
+    requires fit { AreFit (tree_in scope.now) (records_in scope.now) }
+    ensures { GivesNext result env.new.items (standing scope.now journal.new) (results (tree_in scope.now) (chosen (tree_in scope.now) (tables_in scope.now) (enters_in scope.now left) (site_at (string_bytes p.now.name) number) env.old.items (term e.now) (block_plain p.now.blocks.items levels a) (block_plain p.now.blocks.items levels b)) (standing scope.now journal.old)) }
+{
+    match evaluate(scope.tables, env, e) {
+        Err(kind) => Err(stopped(kind, &p.name, number)),
+        Ok(v) => {
+            let n = if v == 0 { b } else { a };
+            run_block(alloc, scope, left, p, levels, n, env, journal)
+        }
+    }
+}
+
+/// Runs a loop.
+#[cycle(run)]
+fn run_loop<'p, 's>(
+    alloc: Global,
+    scope: &Scope<'p, 's>,
+    left: u32,
+    here: &'p str,
+    number: u32,
+    x: usize,
+    e: &Expr,
+    f: &Expr,
+    g: &'p str,
+    es: &[Expr],
+    env: &[Option<i64>],
+    journal: &mut Journal<'p>,
+) -> Result<Option<i64>, Stop<'p>>
+    requires fit { AreFit (tree_in scope.now) (records_in scope.now) }
+    ensures { (grain : ℕ) → GivesNext result env.now (standing scope.now journal.new) (results (tree_in scope.now) (looped (tree_in scope.now) (tables_in scope.now) (enters_in scope.now left) (site_at here.now number) env.now x (term e.now) (term f.now) grain g.now (map term es.now)) (standing scope.now journal.old)) }
+{
+    match range_of(scope.tables, env, e, f) {
+        Err(kind) => Err(stopped(kind, here, number)),
+        Ok(range) => match run_turns(
+            alloc, scope, left, here, number, x, range, g, es, env, journal,
+        ) {
+            Err(stop) => Err(stop),
+            Ok(()) => Ok(None),
+        },
+    }
+}
+
+/// Runs the iterations of a loop.
+#[cycle(run)]
+fn run_turns<'p, 's>(
+    alloc: Global,
+    scope: &Scope<'p, 's>,
+    left: u32,
+    here: &'p str,
+    number: u32,
+    x: usize,
+    range: Range,
+    g: &'p str,
+    es: &[Expr],
+    env: &[Option<i64>],
+    journal: &mut Journal<'p>,
+) -> Result<(), Stop<'p>>
+    requires fit { AreFit (tree_in scope.now) (records_in scope.now) }
+    ensures { (grain : ℕ) → Does result (standing scope.now journal.new) (results (tree_in scope.now) (all_turns (tree_in scope.now) (tables_in scope.now) (enters_in scope.now left) (job_of (site_at here.now number) env.now x g.now (map term es.now) grain range.low) range.count) (standing scope.now journal.old)) }
+{
+    let mut i = 0;
+    while i < range.count {
+        match run_turn(
+            alloc, scope, left, here, number, x, range, i, g, es, env, journal,
+        ) {
+            Err(stop) => return Err(stop),
+            Ok(()) => i += 1,
+        }
+    }
+    Ok(())
+}
+
+/// Runs the i-th iteration of a loop.
+#[cycle(run)]
+fn run_turn<'p, 's>(
+    alloc: Global,
+    scope: &Scope<'p, 's>,
+    left: u32,
+    here: &'p str,
+    number: u32,
+    x: usize,
+    range: Range,
+    i: u64,
+    g: &'p str,
+    es: &[Expr],
+    env: &[Option<i64>],
+    journal: &mut Journal<'p>,
+) -> Result<(), Stop<'p>>
+    requires within { i < range.count }
+    requires fit { AreFit (tree_in scope.now) (records_in scope.now) }
+    ensures { (grain : ℕ) → Does result (standing scope.now journal.new) (results (tree_in scope.now) (turn (tables_in scope.now) (enters_in scope.now left) (job_of (site_at here.now number) env.now x g.now (map term es.now) grain range.low) i) (standing scope.now journal.old)) }
+{
+    match turn_values(alloc, scope.tables, env, x, range, i, es) {
+        Err(trouble) => Err(trouble.at(here, number)),
+        Ok(vs) => match enter(alloc, scope, left, here, number, g, &vs, journal) {
+            Err(stop) => Err(stop),
+            Ok(_) => Ok(()),
+        },
+    }
+}

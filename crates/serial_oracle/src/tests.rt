@@ -1,0 +1,6 @@
+//! Small programs and their answers.
+
+mod building;
+mod fitting;
+mod rerunning;
+mod scratch;
