@@ -1,0 +1,5 @@
+pub mod Ending
+pub mod Sequences
+pub mod Readings
+pub mod Meant
+pub mod Slots

@@ -1,0 +1,13 @@
+use Rattle.std.proofs.Common.{◌≡◌, ◌++◌, length, drop, take, map}
+use Rattle.linked_program.specs.CodeView.{expression as plain}
+use Rattle.evaluation.specs.declared.slot.Slot.TheVariants.{Has}
+use Rattle.evaluation.specs.Slots.{padded, slots_for}
+use Rattle.evaluation.specs.Values.{values_at, changed}
+use Rattle.evaluation.proofs.entry.slots_of.Given as goal
+
+abbrev pub invariant-loop-argument : goal.invariant-loop-argument
+invariant-loop-argument l = record {
+  answer : changed (slots_for l.size) (values_at l.tables.tables l.slots (map plain l.arguments)).answer ≡ changed (λ vs. padded l.size (l.made.items ++ map Has vs)) (values_at l.tables.tables l.slots (map plain (drop l.argument-index l.arguments))).answer;
+  notes : l.fn.notes.items ++ (values_at l.tables.tables l.slots (map plain l.arguments)).notes ≡ l.notes.items ++ (values_at l.tables.tables l.slots (map plain (drop l.argument-index l.arguments))).notes;
+  front : take (length l.fn.notes.items) l.notes.items ≡ l.fn.notes.items;
+}

@@ -1,0 +1,68 @@
+//! The slots that an instance begins with.
+
+ghost use Rattle.std.specs.Prelude.{◌≡◌, map};
+ghost use Rattle.linked_program.specs.CodeView.{expression as plain};
+ghost use Rattle.evaluation.specs.Values.{entry_at};
+ghost use Rattle.evaluation.specs.Ends.{Ends, Stops};
+
+use crate::note::Note;
+use crate::slot::Slot;
+use crate::stop::Stop;
+use crate::values::evaluate;
+use input_tables::Tables;
+use linked_program::code::Expression;
+use std::alloc::Global;
+
+/// The slots of an instance of `size` names that is entered with these arguments: their values, and then no values; or the
+/// first fault. What they read is noted. Where memory is refused the notes are as they were.
+pub fn entry_slots(
+    alloc: Global,
+    size: usize,
+    arguments: &[Expression],
+    slots: &[Slot],
+    tables: &Tables,
+    notes: &mut Vec<Note>,
+) -> Result<Vec<Slot>, Stop>
+    ensures ends { Ends (λ v. v.items) (entry_at tables.now.tables slots.now size (map plain arguments.now)) notes.old.items notes.new.items result }
+{
+    let before = notes.len();
+    match slots_of(alloc, size, arguments, slots, tables, notes) {
+        Ok(made) => Ok(made),
+        Err(Stop::Fault(kind)) => Err(Stop::Fault(kind)),
+        Err(Stop::NoMemory) => {
+            notes.truncate(before);
+            Err(Stop::NoMemory)
+        }
+    }
+}
+
+// The slots of a new instance; where memory is refused, the notes so far stay.
+fn slots_of(
+    alloc: Global,
+    size: usize,
+    arguments: &[Expression],
+    slots: &[Slot],
+    tables: &Tables,
+    notes: &mut Vec<Note>,
+) -> Result<Vec<Slot>, Stop>
+    ensures stops { Stops (λ v. v.items) (entry_at tables.now.tables slots.now size (map plain arguments.now)) notes.old.items notes.new.items result }
+{
+    let mut made = Vec::new(alloc);
+    if made.reserve(size).is_err() {
+        return Err(Stop::NoMemory);
+    }
+    for argument in arguments {
+        match evaluate(argument, slots, tables, notes) {
+            Ok(value) => {
+                if made.push(Slot::Has(value)).is_err() {
+                    return Err(Stop::NoMemory);
+                }
+            }
+            Err(stop) => return Err(stop),
+        }
+    }
+    if made.resize(size, Slot::Unset).is_err() {
+        return Err(Stop::NoMemory);
+    }
+    Ok(made)
+}

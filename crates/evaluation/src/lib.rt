@@ -1,0 +1,13 @@
+//! The values of code's expressions over an instance's slots and the tables, with what was read on the way.
+#![tactic(auto)]
+
+pub mod entry;
+pub mod laws;
+pub mod note;
+mod operators;
+pub mod ranges;
+pub mod slot;
+pub mod stop;
+#[cfg(test)]
+mod tests;
+pub mod values;

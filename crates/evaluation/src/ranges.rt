@@ -1,0 +1,94 @@
+//! The ranges that loops go through.
+
+ghost use Rattle.std.specs.Prelude.{◌≡◌, IfSome, IfNone, ◌≤◌, ◌<◌, ◌+ℤ◌, pos, FitsSigned};
+ghost use Rattle.std.specs.Int.Width.{w64};
+ghost use Rattle.linked_program.specs.CodeView.{expression as plain};
+ghost use Rattle.meaning.specs.Statements.{span};
+ghost use Rattle.evaluation.specs.Values.{bounds_at};
+ghost use Rattle.evaluation.specs.Ends.{Ends, Stops};
+
+use crate::note::Note;
+use crate::slot::Slot;
+use crate::stop::Stop;
+use crate::values::evaluate;
+use input_tables::Tables;
+use linked_program::code::Expression;
+use meaning::FaultKind;
+
+/// How many iterations a loop has at most.
+const MOST_ITERATIONS: i64 = 1_048_576;
+
+/// A loop's first number, and how many iterations it has.
+#[derive(Clone, Copy, Debug, PartialEq, Eq)]
+pub struct LoopRange {
+    pub low: i64,
+    pub count: u32,
+    ghost few: { count ≤ 1048576 },
+    ghost fits: { FitsSigned w64 (low +ℤ pos count) },
+}
+
+// How many numbers there are from `low` to below `high`, where they are not too many for a loop.
+fn count(low: i64, high: i64) -> Option<u32>
+    ensures counted { IfSome result (λ n. n ≡ span low high) }
+    ensures within { IfSome result (λ n. n ≤ 1048576) }
+    ensures fits { IfSome result (λ n. FitsSigned w64 (low +ℤ pos n)) }
+    ensures above { IfNone result (1048576 < span low high) }
+{
+    if high <= low {
+        return Some(0);
+    }
+    match high.checked_sub(low) {
+        None => None,
+        Some(difference) => {
+            if difference <= MOST_ITERATIONS {
+                Some(difference as u32)
+            } else {
+                None
+            }
+        }
+    }
+}
+
+/// The range of a loop between the values of two expressions, or a fault: that of the first, of the second, or that the range
+/// is too long. What they read is noted. Where memory is refused the notes are as they were.
+pub fn bounds(
+    low: &Expression,
+    high: &Expression,
+    slots: &[Slot],
+    tables: &Tables,
+    notes: &mut Vec<Note>,
+) -> Result<LoopRange, Stop>
+    ensures ends { Ends (λ r. (r.low, r.count)) (bounds_at tables.now.tables slots.now (plain low.now) (plain high.now)) notes.old.items notes.new.items result }
+{
+    let before = notes.len();
+    match range(low, high, slots, tables, notes) {
+        Ok(range) => Ok(range),
+        Err(Stop::Fault(kind)) => Err(Stop::Fault(kind)),
+        Err(Stop::NoMemory) => {
+            notes.truncate(before);
+            Err(Stop::NoMemory)
+        }
+    }
+}
+
+// The range of a loop; where memory is refused, the notes so far stay.
+fn range(
+    low: &Expression,
+    high: &Expression,
+    slots: &[Slot],
+    tables: &Tables,
+    notes: &mut Vec<Note>,
+) -> Result<LoopRange, Stop>
+    ensures stops { Stops (λ r. (r.low, r.count)) (bounds_at tables.now.tables slots.now (plain low.now) (plain high.now)) notes.old.items notes.new.items result }
+{
+    match evaluate(low, slots, tables, notes) {
+        Ok(low) => match evaluate(high, slots, tables, notes) {
+            Ok(high) => match count(low, high) {
+                Some(count) => Ok(LoopRange { low, count }),
+                None => Err(Stop::Fault(FaultKind::RangeTooLong)),
+            },
+            Err(stop) => Err(stop),
+        },
+        Err(stop) => Err(stop),
+    }
+}

@@ -1,0 +1,10 @@
+//! Why an evaluation stopped.
+
+use meaning::FaultKind;
+
+/// No memory, or a fault of the program.
+#[derive(Clone, Copy, Debug, PartialEq, Eq)]
+pub enum Stop {
+    NoMemory,
+    Fault(FaultKind),
+}

@@ -1,0 +1,205 @@
+//! The values of expressions.
+
+ghost use Rattle.std.specs.Prelude.{◌≡◌, ◌++◌, ◌∷◌, [], OnOk, OnErr, IfErr, map, slice_get};
+ghost use Rattle.linked_program.specs.CodeView.{expression as plain};
+ghost use Rattle.input_tables.specs.Edited as read;
+ghost use Rattle.meaning.specs.Values.{one_if as one_for};
+ghost use Rattle.evaluation.specs.Slots.{number_in as number_of};
+ghost use Rattle.evaluation.specs.Values.{value_at, values_at, looked, reading, applied as applied_to};
+ghost use Rattle.evaluation.specs.Ends.{Ends, Stops};
+
+use crate::note::Note;
+use crate::operators::{apply, one_if};
+use crate::slot::Slot;
+use crate::stop::Stop;
+use input_tables::Tables;
+use linked_program::code::Expression;
+use meaning::FaultKind;
+use program_tree::Operator;
+
+/// The value of an expression, or its fault; what it reads is noted. Where memory is refused the notes are as they were.
+pub fn value(
+    expression: &Expression,
+    slots: &[Slot],
+    tables: &Tables,
+    notes: &mut Vec<Note>,
+) -> Result<i64, Stop>
+    ensures ends { Ends (λ v. v) (value_at tables.now.tables slots.now (plain expression.now)) notes.old.items notes.new.items result }
+{
+    let before = notes.len();
+    match evaluate(expression, slots, tables, notes) {
+        Ok(value) => Ok(value),
+        Err(Stop::Fault(kind)) => Err(Stop::Fault(kind)),
+        Err(Stop::NoMemory) => {
+            notes.truncate(before);
+            Err(Stop::NoMemory)
+        }
+    }
+}
+
+/// The values of expressions, from left to right, in place of what `numbers` held, or the first fault; what they read is
+/// noted. Where memory is refused the notes are as they were.
+pub fn values(
+    expressions: &[Expression],
+    slots: &[Slot],
+    tables: &Tables,
+    numbers: &mut Vec<i64>,
+    notes: &mut Vec<Note>,
+) -> Result<(), Stop>
+    ensures ends { Ends (λ u. numbers.new.items) (values_at tables.now.tables slots.now (map plain expressions.now)) notes.old.items notes.new.items result }
+{
+    let before = notes.len();
+    numbers.clear();
+    match evaluate_all(expressions, slots, tables, numbers, notes) {
+        Ok(()) => Ok(()),
+        Err(Stop::Fault(kind)) => Err(Stop::Fault(kind)),
+        Err(Stop::NoMemory) => {
+            notes.truncate(before);
+            Err(Stop::NoMemory)
+        }
+    }
+}
+
+// The values of expressions; where memory is refused, the notes so far stay.
+fn evaluate_all(
+    expressions: &[Expression],
+    slots: &[Slot],
+    tables: &Tables,
+    numbers: &mut Vec<i64>,
+    notes: &mut Vec<Note>,
+) -> Result<(), Stop>
+    requires { numbers.old.items ≡ [] }
+    ensures stops { Stops (λ u. numbers.new.items) (values_at tables.now.tables slots.now (map plain expressions.now)) notes.old.items notes.new.items result }
+{
+    for expression in expressions {
+        match evaluate(expression, slots, tables, notes) {
+            Ok(value) => {
+                if numbers.push(value).is_err() {
+                    return Err(Stop::NoMemory);
+                }
+            }
+            Err(stop) => return Err(stop),
+        }
+    }
+    Ok(())
+}
+
+/// The value of an expression, or why there is none; where memory is refused, the notes so far stay.
+pub(crate) fn evaluate(
+    expression: &Expression,
+    slots: &[Slot],
+    tables: &Tables,
+    notes: &mut Vec<Note>,
+) -> Result<i64, Stop>
+    ensures stops { Stops (λ v. v) (value_at tables.now.tables slots.now (plain expression.now)) notes.old.items notes.new.items result }
+{
+    match expression {
+        Expression::Number(number) => Ok(*number),
+        Expression::Slot(number) => Ok(number_in(slots, *number)),
+        Expression::Cell(table, row, column) => match evaluate(row, slots, tables, notes) {
+            Ok(row) => cell(tables, *table, row, *column, notes),
+            Err(stop) => Err(stop),
+        },
+        Expression::Has(table, row) => match evaluate(row, slots, tables, notes) {
+            Ok(row) => has(tables, *table, row, notes),
+            Err(stop) => Err(stop),
+        },
+        Expression::Limit(table) => limit(tables, *table, notes),
+        Expression::Negate(inner) => match evaluate(inner, slots, tables, notes) {
+            Ok(number) => Ok(number.wrapping_neg()),
+            Err(stop) => Err(stop),
+        },
+        Expression::Binary(operator, left, right) => match evaluate(left, slots, tables, notes) {
+            Ok(left) => match evaluate(right, slots, tables, notes) {
+                Ok(right) => applied(*operator, left, right),
+                Err(stop) => Err(stop),
+            },
+            Err(stop) => Err(stop),
+        },
+    }
+}
+
+// The number in a slot, and 0 where there is none.
+fn number_in(slots: &[Slot], number: usize) -> i64
+    ensures { result ≡ number_of (slice_get slots.now number) }
+{
+    match slots.get(number) {
+        None => 0,
+        Some(slot) => match slot {
+            Slot::Has(value) => *value,
+            Slot::Unset => 0,
+            Slot::Waits(_) => 0,
+        },
+    }
+}
+
+// Adds a note.
+fn add(notes: &mut Vec<Note>, note: Note) -> Result<(), Stop>
+    ensures added { OnOk result (notes.new.items ≡ notes.old.items ++ note ∷ []) }
+    ensures cause { IfErr result (λ stop. stop ≡ Stop.NoMemory) }
+    ensures same { OnErr result (notes.new.items ≡ notes.old.items) }
+{
+    match notes.push(note) {
+        Ok(()) => Ok(()),
+        Err(_) => Err(Stop::NoMemory),
+    }
+}
+
+// The value of a cell.
+fn cell(
+    tables: &Tables,
+    table: usize,
+    row: i64,
+    column: usize,
+    notes: &mut Vec<Note>,
+) -> Result<i64, Stop>
+    ensures { Ends (λ v. v) (looked table row column (read.cell_at tables.now.tables table row column)) notes.old.items notes.new.items result }
+{
+    match tables.cell(table, row, column) {
+        None => Err(Stop::Fault(FaultKind::MissingRow)),
+        Some(value) => {
+            let note = Note::Cell {
+                table,
+                row,
+                column,
+                value,
+            };
+            match add(notes, note) {
+                Ok(()) => Ok(value),
+                Err(_) => Err(Stop::NoMemory),
+            }
+        }
+    }
+}
+
+// 1 where there is such a row, or 0.
+fn has(tables: &Tables, table: usize, row: i64, notes: &mut Vec<Note>) -> Result<i64, Stop>
+    ensures { Ends (λ v. v) (reading (Note.Has table row (read.has_at tables.now.tables table row)) (one_for (read.has_at tables.now.tables table row))) notes.old.items notes.new.items result }
+{
+    let found = tables.has(table, row);
+    match add(notes, Note::Has { table, row, found }) {
+        Ok(()) => Ok(one_if(found)),
+        Err(_) => Err(Stop::NoMemory),
+    }
+}
+
+// One more than the greatest number of a row.
+fn limit(tables: &Tables, table: usize, notes: &mut Vec<Note>) -> Result<i64, Stop>
+    ensures { Ends (λ v. v) (reading (Note.Limit table (read.limit_at tables.now.tables table)) (read.limit_at tables.now.tables table)) notes.old.items notes.new.items result }
+{
+    let value = tables.limit(table);
+    match add(notes, Note::Limit { table, value }) {
+        Ok(()) => Ok(value),
+        Err(_) => Err(Stop::NoMemory),
+    }
+}
+
+// The value of an operator on two numbers, or its fault.
+fn applied(operator: Operator, left: i64, right: i64) -> Result<i64, Stop>
+    ensures { Ends (λ v. v) (applied_to operator left right) [] [] result }
+{
+    match apply(operator, left, right) {
+        Ok(value) => Ok(value),
+        Err(kind) => Err(Stop::Fault(kind)),
+    }
+}

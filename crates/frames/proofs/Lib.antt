@@ -1,0 +1,9 @@
+pub mod Worths
+pub mod Lowest
+pub mod Slots
+pub mod Updates
+pub mod Flags
+pub mod Settling
+pub mod Keeping
+pub mod Results
+pub mod Names

@@ -1,0 +1,10 @@
+use Rattle.std.proofs.Common.{sym, subst}
+use Rattle.positions.specs.Strands.{PlainStrand}
+use Rattle.positions.specs.Simulation.{IsResumed}
+use Rattle.positions.proofs.Moves.{resumed_is}
+use Rattle.frames.proofs.strand.Strand.resume.Goals as goal
+
+pub returns-clause-definition : goal.returns-clause-definition
+returns-clause-definition g c ts t codes =
+    subst (λ (z : PlainStrand). IsResumed ts t codes c.args.task c.args.self.now z) (sym c.go_on_with.ensures.resumed)
+    (resumed_is ts t codes c.args.task c.args.self.now)

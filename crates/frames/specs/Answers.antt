@@ -1,0 +1,34 @@
+-- The answer of a strand that is over.
+use Rattle.std.specs.Prelude.{◌≡◌, ℕ, ℤ, List, [], map}
+use Rattle.monoid_laws.specs.Worth.{Worth}
+use Rattle.monoid_laws.specs.Kinds.{meaning}
+use Rattle.positions.specs.declared.phase.Fault.{Fault}
+use Rattle.positions.specs.declared.phase.Phase.{Phase}
+use Rattle.positions.specs.declared.phase.Phase.TheVariants.{Leaving, Broken}
+use Rattle.positions.specs.Activations.{PlainActivation}
+use Rattle.positions.specs.Strands.{PlainStrand}
+use Rattle.frames.specs.declared.answer.RunAnswer.{RunAnswer}
+use Rattle.frames.specs.declared.answer.RunAnswer.TheVariants as answer
+
+-- how a run ends: with a result, by a fault, or not yet
+pub data Ending : Type 0 where
+  over : ℤ → Ending
+  stopped : Fault → Ending
+  underway : Ending
+
+abbrev pub ending_at : Phase → List PlainActivation → List ℕ → Ending
+ending_at (Leaving v) [] [] = over v
+ending_at (Broken f) below path = stopped f
+ending_at _ _ _ = underway
+
+-- how a strand ends the run: main leaves, or there was a fault
+abbrev pub ending_of : PlainStrand → Ending
+ending_of s = ending_at s.phase s.below s.path
+
+-- the answer of a run that ends so, with those values of the reducers
+abbrev pub IsAnswer : Ending → List Worth → RunAnswer → Type 0
+IsAnswer (over v) worths (answer.Finished w values) = (w ≡ v) × (map meaning values.items ≡ worths)
+IsAnswer (over v) worths answer.NoMemory = Unit {0}
+IsAnswer (stopped f) worths (answer.Fault g) = g ≡ f
+IsAnswer underway worths answer.Unfinished = Unit {0}
+IsAnswer _ _ _ = ⊥

@@ -1,0 +1,19 @@
+-- How the evaluations of a strand end.
+use Rattle.std.specs.Prelude.{◌≡◌, ℕ, Option, Some, None, Result, Ok, Err}
+use Rattle.evaluation.specs.declared.stop.Stop.{Stop}
+use Rattle.evaluation.specs.declared.stop.Stop.TheVariants.{NoMemory, Fault}
+use Rattle.evaluation.specs.Values.{NumberedOut}
+use Rattle.positions.specs.Layers.{PlainLayer, noting}
+use Rattle.positions.specs.Strands.{PlainStrand}
+use Rattle.positions.specs.Advance.{noted, evaluated}
+
+-- a layer has noted what the evaluation read, which ends as that; where memory is refused it is as it was
+abbrev pub Notes : {A B : Type 0} → (B → A) → NumberedOut A → PlainLayer → PlainLayer → Result B Stop → Type 0
+Notes view o old new (Ok b) = (o.answer ≡ Ok (view b)) × (new ≡ noting o.notes old)
+Notes view o old new (Err (Fault k)) = (o.answer ≡ Err k) × (new ≡ noting o.notes old)
+Notes view o old new (Err NoMemory) = new ≡ old
+
+-- a strand has evaluated at that statement: it goes on with a value, or it is faulted
+abbrev pub Evaluates : {A B : Type 0} → (B → A) → ℕ → NumberedOut A → PlainStrand → PlainStrand → Option B → Type 0
+Evaluates {A} view n o old new (Some b) = (o.answer ≡ Ok (view b)) × (new ≡ noted o.notes old)
+Evaluates {A} view n o old new None = (next : A → PlainStrand → PlainStrand) → new ≡ evaluated n o next old

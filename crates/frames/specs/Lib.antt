@@ -1,0 +1,5 @@
+pub mod Ends
+pub mod Ready
+pub mod Updates
+pub mod Joins
+pub mod Answers

@@ -1,0 +1,27 @@
+-- What lies ready at a spawn, and slots that are put back.
+use Rattle.std.specs.Prelude.{◌≡◌, ℕ, ◌<◌, List, length, Option, Some, None, slice_set}
+use Rattle.evaluation.specs.declared.slot.Slot.{Slot}
+use Rattle.positions.specs.declared.phase.Phase.{Phase}
+use Rattle.positions.specs.declared.phase.Phase.TheVariants.{Entering, Running, AtSpawn, Returning, Leaving, Broken}
+
+-- a strand at a spawn has the child over an instance that waits, and its name once more
+abbrev pub IsReady : {A : Type 0} → Phase → List A → List ℕ → List ℕ → Type 0
+IsReady Entering below place path = Unit {0}
+IsReady Running below place path = Unit {0}
+IsReady AtSpawn below place path = (0 < length below) × (place ≡ path)
+IsReady (Returning v) below place path = Unit {0}
+IsReady (Leaving v) below place path = Unit {0}
+IsReady (Broken f) below place path = Unit {0}
+
+abbrev pub IsNotSpawned : Phase → Type 0
+IsNotSpawned Entering = Unit {0}
+IsNotSpawned Running = Unit {0}
+IsNotSpawned AtSpawn = ⊥
+IsNotSpawned (Returning v) = Unit {0}
+IsNotSpawned (Leaving v) = Unit {0}
+IsNotSpawned (Broken f) = Unit {0}
+
+-- what a slot held is put back
+abbrev pub restored_slots : ℕ → Option Slot → List Slot → List Slot
+restored_slots x None slots = slots
+restored_slots x (Some s) slots = slice_set slots x s

@@ -1,0 +1,247 @@
+//! An instance of a procedure or of a loop, by numbers.
+ghost use Rattle.std.specs.Prelude.{◌≡◌, ◌+◌, ◌<◌, ◌^◌, length, OnErr, OnOk, None, IfOk, map, [], slice_get, slice_set};
+ghost use Rattle.evaluation.specs.declared.slot.Slot.TheVariants.{Has, Waits};
+ghost use Rattle.positions.specs.Activations.{WorkFits, bound, at, waiting, made, inside, outside, next_of};
+ghost use Rattle.frames.specs.Ready.{restored_slots};
+ghost use Rattle.positions.specs.Moves.{settled, settled_slot};
+
+use evaluation::slot::Slot;
+use positions::work::{Position, Work};
+use std::alloc::{AllocError, Global};
+use std::marker::Model;
+
+/// One instance: how many may be nested in it, how many it has entered, its procedure, its slots, the places behind its
+/// innermost block, what it has left; and of the one that it entered last whether that was spawned, and the slot for its value.
+#[derive(Drop)]
+pub struct Activation {
+    left: u32,
+    children: usize,
+    procedure: usize,
+    slots: Vec<Slot>,
+    outer: Vec<Position>,
+    work: Work,
+    spawned: bool,
+    into: Option<usize>,
+}
+
+impl Model for Activation {
+    ghost use Rattle.std.specs.Prelude.{reverse};
+    ghost use Rattle.positions.specs.Activations.{PlainActivation, WorkFits};
+
+    ghost Value = { PlainActivation };
+
+    ghost view = { λ a. record { left = a.left; children = a.children; procedure = a.procedure; slots = a.slots.items; outer = reverse a.outer.items; work = a.work; spawned = a.spawned; into = a.into } };
+
+    ghost invariant = { λ a. WorkFits a.work };
+}
+
+impl Activation {
+    /// An instance that begins, with those slots and so many levels below it.
+    pub(crate) fn new(
+        alloc: Global,
+        procedure: usize,
+        slots: Vec<Slot>,
+        work: Work,
+        left: u32,
+    ) -> Activation
+        requires fits { WorkFits work }
+        ensures made { result ≡ made procedure slots.items work left }
+    {
+        Activation {
+            left,
+            children: 0,
+            procedure,
+            slots,
+            outer: Vec::new(alloc),
+            work,
+            spawned: false,
+            into: None,
+        }
+    }
+
+    /// How many levels there are below it.
+    pub(crate) fn left(&self) -> u32
+        ensures left { result ≡ self.now.left }
+    {
+        self.left
+    }
+
+    /// How many instances it has entered.
+    pub(crate) fn children(&self) -> usize
+        ensures children { result ≡ self.now.children }
+    {
+        self.children
+    }
+
+    /// The number of its procedure.
+    pub(crate) fn procedure(&self) -> usize
+        ensures procedure { result ≡ self.now.procedure }
+    {
+        self.procedure
+    }
+
+    /// What it has left; the iterations fit.
+    pub(crate) fn work(&self) -> Work
+        ensures work { result ≡ self.now.work }
+        ensures fits { WorkFits result }
+    {
+        self.work
+    }
+
+    /// How many blocks there are around its innermost one.
+    pub(crate) fn depth(&self) -> usize
+        ensures depth { result ≡ length self.now.outer }
+    {
+        self.outer.len()
+    }
+
+    /// Lends its slots.
+    pub(crate) fn slots(&self) -> &[Slot]
+        ensures slots { result.now ≡ self.now.slots }
+    {
+        &self.slots
+    }
+
+    /// A copy of its slots.
+    pub(crate) fn copied_slots(&self, alloc: Global) -> Result<Vec<Slot>, AllocError>
+        ensures slots { IfOk result (λ v. v.items ≡ self.now.slots) }
+    {
+        Vec::from_slice(alloc, &self.slots)
+    }
+
+    /// Gives its slots away.
+    pub(crate) fn take_slots(&mut self, alloc: Global) -> Vec<Slot>
+        ensures slots { result.items ≡ self.old.slots }
+        ensures left { self.new ≡ record self.old { slots = [] } }
+    {
+        std::mem::replace(&mut self.slots, Vec::new(alloc))
+    }
+
+    /// Puts that into a slot, where there is such a slot.
+    pub(crate) fn bind(&mut self, name: Option<usize>, slot: Slot)
+        ensures bound { self.new ≡ bound name slot self.old }
+    {
+        if let Some(name) = name {
+            if name < self.slots.len() {
+                self.slots[name] = slot;
+            }
+        }
+    }
+
+    /// Puts that into a slot, and gives what it held.
+    pub(crate) fn exchange(&mut self, name: usize, slot: Slot) -> Option<Slot>
+        ensures held { result ≡ slice_get self.old.slots name }
+        ensures bound { self.new ≡ record self.old { slots = slice_set self.old.slots name slot } }
+    {
+        let held = self.slots.get(name).copied();
+        self.bind(Some(name), slot);
+        held
+    }
+
+    /// Puts back what a slot held.
+    pub(crate) fn restore(&mut self, name: usize, held: Option<Slot>)
+        ensures restored { self.new ≡ record self.old { slots = restored_slots name held self.old.slots } }
+    {
+        match held {
+            None => {}
+            Some(slot) => self.bind(Some(name), slot),
+        }
+    }
+
+    /// Gives the value of the instance that it entered last to the slot for it.
+    pub(crate) fn receive(&mut self, value: i64)
+        ensures received { self.new ≡ bound self.old.into (Has value) self.old }
+    {
+        let into = self.into;
+        self.bind(into, Slot::Has(value));
+    }
+
+    /// Puts into the slot for the value of the instance that it entered last that it waits for it.
+    pub(crate) fn mark(&mut self)
+        ensures marked { self.new ≡ bound self.old.into (Waits self.old.children) self.old }
+    {
+        let into = self.into;
+        self.bind(into, Slot::Waits(self.children));
+    }
+
+    /// Has that left.
+    pub(crate) fn set_work(&mut self, work: Work)
+        requires fits { WorkFits work }
+        ensures work { self.new ≡ at work self.old }
+    {
+        self.work = work;
+    }
+
+    /// Has entered one more instance, for whose value that slot is, and has that left.
+    pub(crate) fn wait(&mut self, spawned: bool, into: Option<usize>, work: Work)
+        requires room { self.old.children + 1 < 2 ^ 64 }
+        requires fits { WorkFits work }
+        ensures waiting { self.new ≡ waiting spawned into work self.old }
+    {
+        self.children += 1;
+        self.spawned = spawned;
+        self.into = into;
+        self.work = work;
+    }
+
+    /// Goes into a block of the statement at that place; refused for want of memory alone.
+    pub(crate) fn go_inside(&mut self, block: usize, place: Position) -> Result<(), AllocError>
+        requires room { place.index + 1 < 2 ^ 64 }
+        ensures inside { OnOk result (self.new ≡ inside block place self.old) }
+        ensures unchanged { OnErr result (self.new ≡ self.old) }
+    {
+        self.outer.push(next_of(place))?;
+        self.work = Work::Block(Position { block, index: 0 });
+        Ok(())
+    }
+
+    /// Goes behind its innermost block.
+    pub(crate) fn go_outside(&mut self)
+        ensures outside { self.new ≡ outside self.old }
+    {
+        self.work = match self.outer.pop() {
+            None => Work::Over,
+            Some(place) => Work::Block(place),
+        };
+    }
+
+    /// Gives that value to the slots that wait for the child of that number; a loop's slots wait for none.
+    pub(crate) fn settle(&mut self, child: usize, value: i64)
+        ensures settled { self.new ≡ settled child value self.old }
+    {
+        match self.work {
+            Work::Block(_) | Work::Over => settle_all(&mut self.slots, child, value),
+            _ => {}
+        }
+    }
+}
+
+/// The place behind an instruction.
+pub(crate) fn next_of(place: Position) -> Position
+    requires room { place.index + 1 < 2 ^ 64 }
+    ensures next { result ≡ next_of place }
+{
+    Position {
+        block: place.block,
+        index: place.index + 1,
+    }
+}
+
+/// Gives that value to the slots that wait for the child of that number.
+fn settle_all(slots: &mut Vec<Slot>, child: usize, value: i64)
+    ensures settled { slots.new.items ≡ map (settled_slot child value) slots.old.items }
+{
+    for i in 0..slots.len() {
+        slots[i] = settled_slot(slots[i], child, value);
+    }
+}
+
+/// That value where the slot waits for the child of that number, else the slot.
+fn settled_slot(slot: Slot, child: usize, value: i64) -> Slot
+    ensures settled { result ≡ settled_slot child value slot }
+{
+    match slot {
+        Slot::Waits(number) if number == child => Slot::Has(value),
+        _ => slot,
+    }
+}

@@ -1,0 +1,169 @@
+//! A layer of a strand: the views of a kit, and what was read and entered since they were opened.
+ghost use Rattle.std.specs.Prelude.{◌≡◌, ℕ, ◌<◌, ◌+◌, ◌⊎◌, OnOk, OnErr, IfOk, IfErr, Some, All, if◌then◌else◌, true, false, length, map, take, slice_get};
+ghost use Rattle.monoid_laws.specs.declared.Kind.{Kind};
+ghost use Rattle.monoid_laws.specs.Kinds.{IsMonoid, meaning, names_element, operate_all};
+ghost use Rattle.linked_program.specs.CodeView.{expression as plain};
+ghost use Rattle.meaning.specs.Statements.{number_of};
+ghost use Rattle.evaluation.specs.Values.{value_at, values_at, entry_at, bounds_at};
+ghost use Rattle.positions.specs.Layers.{blank, entering, updating, multiplied};
+ghost use Rattle.frames.specs.Ends.{Notes};
+
+use evaluation::entry::entry_slots;
+use evaluation::note::Note;
+use evaluation::ranges::{LoopRange, bounds};
+use evaluation::slot::Slot;
+use evaluation::stop::Stop;
+use evaluation::values::{value, values};
+use hypermaps::Hypermap;
+use input_tables::Tables;
+use linked_program::code::Expression;
+use monoid_laws::{Kind, Val};
+use std::alloc::{AllocError, Global};
+use std::marker::Model;
+use view_pool::{Kit, View};
+
+/// The reducers' views, what was read, for each procedure whether it was entered, and the greatest depth of an instance.
+#[derive(Drop)]
+pub struct Layer<V: View = Box<dyn View>> {
+    pub(crate) hypermap: Hypermap<V>,
+    pub(crate) notes: Vec<Note>,
+    pub(crate) entered: Vec<bool>,
+    pub(crate) deepest: u32,
+}
+
+impl<V: View> Model for Layer<V> {
+    ghost use Rattle.positions.specs.Layers.{PlainLayer};
+
+    ghost Value = { PlainLayer };
+
+    ghost view = { λ l. record { kinds = l.hypermap.kinds; worths = l.hypermap.worths; notes = l.notes.items; entered = l.entered.items; deepest = l.deepest } };
+}
+
+impl<V: View> Layer<V> {
+    /// A layer that has noted nothing, for a program of so many procedures; refused for want of memory alone, and then the kit
+    /// is handed back.
+    pub(crate) fn open(
+        alloc: Global,
+        kit: Kit<V>,
+        procedures: usize,
+    ) -> Result<Layer<V>, (AllocError, Kit<V>)>
+        ensures open { IfOk result (λ layer. layer ≡ blank kit procedures) }
+        ensures handed_back { IfErr result (λ e. e.1 ≡ kit) }
+    {
+        let mut entered = Vec::new(alloc);
+        if entered.resize(procedures, false).is_err() {
+            return Err((AllocError, kit));
+        }
+        Ok(Layer {
+            hypermap: Hypermap::open(alloc, kit),
+            notes: Vec::new(alloc),
+            entered,
+            deepest: 0,
+        })
+    }
+
+    /// The kit, each view at its identity again.
+    pub(crate) fn close(self) -> Kit<V>
+        ensures kit { result ≡ self.kinds }
+    {
+        self.hypermap.close()
+    }
+
+    /// How many readings it has noted.
+    pub(crate) fn readings(&self) -> usize
+        ensures count { result ≡ length self.now.notes }
+    {
+        self.notes.len()
+    }
+
+    /// Forgets all readings but so many first ones.
+    pub(crate) fn forget(&mut self, readings: usize)
+        ensures forgotten { self.new ≡ record self.old { notes = take readings self.old.notes } }
+    {
+        self.notes.truncate(readings);
+    }
+
+    /// The value of an expression.
+    pub(crate) fn value(
+        &mut self,
+        expression: &Expression,
+        slots: &[Slot],
+        tables: &Tables,
+    ) -> Result<i64, Stop>
+        ensures notes { Notes (λ v. v) (value_at tables.now.tables slots.now (plain expression.now)) self.old self.new result }
+    {
+        value(expression, slots, tables, &mut self.notes)
+    }
+
+    /// The values of expressions, in place of what `numbers` held.
+    pub(crate) fn values(
+        &mut self,
+        expressions: &[Expression],
+        slots: &[Slot],
+        tables: &Tables,
+        numbers: &mut Vec<i64>,
+    ) -> Result<(), Stop>
+        ensures notes { Notes (λ u. numbers.new.items) (values_at tables.now.tables slots.now (map plain expressions.now)) self.old self.new result }
+    {
+        values(expressions, slots, tables, numbers, &mut self.notes)
+    }
+
+    /// The slots of an instance that is entered with these arguments.
+    pub(crate) fn entry(
+        &mut self,
+        alloc: Global,
+        size: usize,
+        arguments: &[Expression],
+        slots: &[Slot],
+        tables: &Tables,
+    ) -> Result<Vec<Slot>, Stop>
+        ensures notes { Notes (λ v. v.items) (entry_at tables.now.tables slots.now size (map plain arguments.now)) self.old self.new result }
+    {
+        entry_slots(alloc, size, arguments, slots, tables, &mut self.notes)
+    }
+
+    /// A loop's range.
+    pub(crate) fn bounds(
+        &mut self,
+        low: &Expression,
+        high: &Expression,
+        slots: &[Slot],
+        tables: &Tables,
+    ) -> Result<LoopRange, Stop>
+        ensures notes { Notes (λ r. (r.low, r.count)) (bounds_at tables.now.tables slots.now (plain low.now) (plain high.now)) self.old self.new result }
+    {
+        bounds(low, high, slots, tables, &mut self.notes)
+    }
+
+    /// An instance of that procedure is entered at that depth.
+    pub(crate) fn enter(&mut self, procedure: usize, depth: u32)
+        ensures entered { self.new ≡ entering procedure depth self.old }
+    {
+        if procedure < self.entered.len() {
+            self.entered[procedure] = true;
+        }
+        self.deepest = self.deepest.max(depth);
+    }
+
+    /// The number that a reducer's value gives to `read`; 0 where there is no such reducer.
+    pub(crate) fn number(&self, reducer: usize) -> Result<i64, AllocError>
+        ensures number { IfOk result (λ v. v ≡ number_of (slice_get self.now.worths reducer)) }
+    {
+        if reducer >= self.hypermap.len() {
+            return Ok(0);
+        }
+        let value = self.hypermap.value(reducer)?;
+        Ok(number_of(&value))
+    }
+}
+
+/// The number that a value gives to `read`.
+fn number_of(value: &Val) -> i64
+    ensures number { result ≡ number_of (Some (meaning value.now)) }
+{
+    match value {
+        Val::Int(number) => *number,
+        Val::Elem(element) => i64::from(*element),
+        _ => 0,
+    }
+}

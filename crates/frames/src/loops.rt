@@ -1,0 +1,311 @@
+// Loops: the loop's instance, its halves, and its iterations.
+ghost use Rattle.std.specs.Prelude.{◌≡◌, ◌+◌, ◌+ℤ◌, pos, ◌<◌, ◌^◌, FitsSigned, OnErr, OnOk, IfOk, map, slice_get, slice_set};
+ghost use Rattle.std.specs.Int.Width.{w64};
+ghost use Rattle.linked_program.specs.CodeView.{expression as plain, slots_of};
+ghost use Rattle.evaluation.specs.Values.{bounds_at, entry_at};
+ghost use Rattle.evaluation.specs.declared.slot.Slot.TheVariants.{Has};
+ghost use Rattle.positions.specs.Activations.{ShareFits};
+ghost use Rattle.positions.specs.Code.{loop_at, PlainLoop};
+ghost use Rattle.positions.specs.Advance.{evaluated, looping, split, halved, second_half, turned, turn_by, turn_slots, left_of as first_half_of, right_of as second_half_of, rest_of as later_of};
+ghost use Rattle.frames.specs.Ends.{Evaluates, Notes};
+
+use crate::activation::{Activation, next_of};
+use crate::code::{LoopCode, loop_code};
+use crate::strand::Strand;
+use evaluation::ranges::LoopRange;
+use evaluation::slot::Slot;
+use evaluation::stop::Stop;
+use input_tables::Tables;
+use linked_program::checked::Checked;
+use linked_program::code::Expression;
+use positions::phase::Phase;
+use positions::work::{Loop, Position, Share, Work};
+use program_tree::Way;
+use std::alloc::{AllocError, Global};
+use std::mem;
+use view_pool::View;
+
+/// How many times a loop may be halved.
+const HALVINGS: u32 = 42;
+
+/// The first half.
+fn left_of(loop_place: Loop, share: Share) -> Share
+    requires fits { ShareFits loop_place share }
+    ensures half { result ≡ first_half_of share }
+    ensures fits { ShareFits loop_place result }
+{
+    Share {
+        first: share.first,
+        count: share.count / 2,
+    }
+}
+
+/// The second half.
+fn right_of(loop_place: Loop, share: Share) -> Share
+    requires fits { ShareFits loop_place share }
+    ensures half { result ≡ second_half_of share }
+    ensures fits { ShareFits loop_place result }
+{
+    Share {
+        first: share.first + share.count / 2,
+        count: share.count - share.count / 2,
+    }
+}
+
+/// All but the first.
+fn rest_of(loop_place: Loop, share: Share) -> Share
+    requires fits { ShareFits loop_place share }
+    requires more { 0 < share.count }
+    ensures rest { result ≡ later_of share }
+    ensures fits { ShareFits loop_place result }
+{
+    Share {
+        first: share.first + 1,
+        count: share.count - 1,
+    }
+}
+
+/// The number of the first iteration.
+fn number_of(loop_place: Loop, share: Share) -> i64
+    requires fits { ShareFits loop_place share }
+    ensures number { result ≡ loop_place.low +ℤ pos share.first }
+{
+    loop_place.low + i64::from(share.first)
+}
+
+impl<V: View> Strand<V> {
+    /// Enters a loop's instance over the numbers between two values.
+    pub(crate) fn repeat(
+        &mut self,
+        alloc: Global,
+        tables: &Tables,
+        statement: u32,
+        place: Position,
+        low: &Expression,
+        high: &Expression,
+    ) -> Result<(), AllocError>
+        requires room { place.index + 1 < 2 ^ 64 }
+        ensures looped { OnOk result (self.new ≡ evaluated statement (bounds_at tables.now.tables self.old.top.slots (plain low.now) (plain high.now)) (looping place) self.old) }
+        ensures unchanged { OnErr result (self.new ≡ self.old) }
+    {
+        let before = self.layer.readings();
+        match self.bounds(tables, statement, low, high)? {
+            Some(range) => match self.push_loop(alloc, place, range) {
+                Ok(()) => Ok(()),
+                Err(AllocError) => {
+                    self.forget(before);
+                    Err(AllocError)
+                }
+            },
+            None => Ok(()),
+        }
+    }
+
+    /// Enters a loop's instance over that range.
+    fn push_loop(
+        &mut self,
+        alloc: Global,
+        place: Position,
+        range: LoopRange,
+    ) -> Result<(), AllocError>
+        requires room { place.index + 1 < 2 ^ 64 }
+        ensures looped { OnOk result (self.new ≡ looping place (range.low, range.count) self.old) }
+        ensures unchanged { OnErr result (self.new ≡ self.old) }
+    {
+        let slots = self.top.copied_slots(alloc)?;
+        let site = Loop {
+            block: place.block,
+            index: place.index,
+            low: range.low,
+        };
+        let whole = Share {
+            first: 0,
+            count: range.count,
+        };
+        let work = Work::Halves(site, HALVINGS, whole);
+        let procedure = self.top.procedure();
+        let child = Activation::new(alloc, procedure, slots, work, self.top.left());
+        self.push_called(child, Work::Block(next_of(place)), None, Phase::Running)
+    }
+
+    /// Spawns the first half of the iterations, or goes over to iterations one by one.
+    pub(crate) fn halve(
+        &mut self,
+        alloc: Global,
+        program: &Checked,
+        site: Loop,
+        halvings: u32,
+        share: Share,
+    ) -> Result<(), AllocError>
+        requires fits { ShareFits site share }
+        requires running { self.old.phase ≡ Phase.Running }
+        ensures halved { OnOk result (self.new ≡ halved program.now.codes site halvings share self.old) }
+        ensures unchanged { OnErr result (self.new ≡ self.old) }
+    {
+        let code = loop_code(program, self.top.procedure(), site);
+        if halvings == 0 || share.count <= code.grain {
+            self.top.set_work(Work::Turns(site, share));
+            return Ok(());
+        }
+        self.split(alloc, site, halvings - 1, share)
+    }
+
+    fn split(
+        &mut self,
+        alloc: Global,
+        site: Loop,
+        halvings: u32,
+        share: Share,
+    ) -> Result<(), AllocError>
+        requires fits { ShareFits site share }
+        requires running { self.old.phase ≡ Phase.Running }
+        ensures split { OnOk result (self.new ≡ split site halvings share self.old) }
+        ensures unchanged { OnErr result (self.new ≡ self.old) }
+    {
+        let slots = self.top.copied_slots(alloc)?;
+        let work = Work::Halves(site, halvings, left_of(site, share));
+        let procedure = self.top.procedure();
+        let child = Activation::new(alloc, procedure, slots, work, self.top.left());
+        let later = Work::Second(site, halvings, right_of(site, share));
+        self.push_spawned(child, later, None)
+    }
+
+    /// Calls the second half of the iterations. The instance gives its slots away.
+    pub(crate) fn second_half(
+        &mut self,
+        alloc: Global,
+        site: Loop,
+        halvings: u32,
+        share: Share,
+    ) -> Result<(), AllocError>
+        requires fits { ShareFits site share }
+        ensures second { OnOk result (self.new ≡ second_half site halvings share self.old) }
+        ensures unchanged { OnErr result (self.new ≡ self.old) }
+    {
+        let Some(number) = self.top.children().checked_add(1) else {
+            return Err(AllocError);
+        };
+        self.path.reserve(1)?;
+        self.below.reserve(1)?;
+        let slots = self.top.take_slots(alloc);
+        let work = Work::Halves(site, halvings, share);
+        let procedure = self.top.procedure();
+        let child = Activation::new(alloc, procedure, slots, work, self.top.left());
+        self.path.push_reserved(number);
+        let mut parent = mem::replace(&mut self.top, child);
+        parent.wait(false, None, Work::Over);
+        self.below.push_reserved(parent);
+        self.phase = Phase::Running;
+        Ok(())
+    }
+
+    /// Enters the next iteration, or ends the loop.
+    pub(crate) fn turn(
+        &mut self,
+        alloc: Global,
+        program: &Checked,
+        tables: &Tables,
+        site: Loop,
+        share: Share,
+    ) -> Result<(), AllocError>
+        requires fits { ShareFits site share }
+        requires running { self.old.phase ≡ Phase.Running }
+        ensures turned { OnOk result (self.new ≡ turned program.now.codes tables.now.tables site share self.old) }
+        ensures unchanged { OnErr result (self.new ≡ self.old) }
+    {
+        if share.count == 0 {
+            self.phase = Phase::Returning(0);
+            return Ok(());
+        }
+        let code = loop_code(program, self.top.procedure(), site);
+        self.iterate(alloc, program, tables, code, site, share)
+    }
+
+    /// Enters the next iteration of a loop that has more.
+    fn iterate(
+        &mut self,
+        alloc: Global,
+        program: &Checked,
+        tables: &Tables,
+        code: LoopCode,
+        site: Loop,
+        share: Share,
+    ) -> Result<(), AllocError>
+        requires fits { ShareFits site share }
+        requires more { 0 < share.count }
+        requires running { self.old.phase ≡ Phase.Running }
+        ensures turned { OnOk result (self.new ≡ turn_by program.now.codes tables.now.tables (record { number = code.entry.number; variable = code.entry.variable; grain = code.entry.grain; callee = code.entry.callee; arguments = code.entry.arguments.now }) site share self.old) }
+        ensures unchanged { OnErr result (self.new ≡ self.old) }
+    {
+        let before = self.layer.readings();
+        let size = program.slots(code.callee);
+        match self.turn_entry(alloc, tables, size, code, site, share)? {
+            Some(slots) => {
+                let work = Work::Turns(site, rest_of(site, share));
+                match self.nest(
+                    alloc,
+                    code.number,
+                    Way::Call,
+                    None,
+                    work,
+                    code.callee,
+                    slots,
+                ) {
+                    Ok(()) => Ok(()),
+                    Err(AllocError) => {
+                        self.forget(before);
+                        Err(AllocError)
+                    }
+                }
+            }
+            None => Ok(()),
+        }
+    }
+
+    /// The slots of the next iteration; none where the strand is faulted by an argument.
+    fn turn_entry(
+        &mut self,
+        alloc: Global,
+        tables: &Tables,
+        size: usize,
+        code: LoopCode,
+        site: Loop,
+        share: Share,
+    ) -> Result<Option<Vec<Slot>>, AllocError>
+        requires fits { ShareFits site share }
+        ensures evaluated { IfOk result (Evaluates (λ v. v.items) code.entry.number (entry_at tables.now.tables (turn_slots (record { number = code.entry.number; variable = code.entry.variable; grain = code.entry.grain; callee = code.entry.callee; arguments = code.entry.arguments.now }) site share self.old) size (map plain code.entry.arguments.now)) self.old self.new) }
+        ensures unchanged { OnErr result (self.new ≡ self.old) }
+    {
+        let number = Slot::Has(number_of(site, share));
+        match self.entry_with(alloc, tables, size, code.arguments, code.variable, number) {
+            Ok(slots) => Ok(Some(slots)),
+            Err(Stop::Fault(kind)) => {
+                self.fault(code.number, kind);
+                Ok(None)
+            }
+            Err(Stop::NoMemory) => Err(AllocError),
+        }
+    }
+
+    /// The slots of an instance that is entered with these arguments, with that in a slot meanwhile.
+    #[tactic(auto, using(crate::proofs::Slots::put_back))]
+    fn entry_with(
+        &mut self,
+        alloc: Global,
+        tables: &Tables,
+        size: usize,
+        arguments: &[Expression],
+        variable: usize,
+        number: Slot,
+    ) -> Result<Vec<Slot>, Stop>
+        ensures notes { Notes (λ v. v.items) (entry_at tables.now.tables (slice_set self.old.top.slots variable number) size (map plain arguments.now)) self.old.layer self.new.layer result }
+        ensures rest { self.new ≡ record self.old { layer = self.new.layer } }
+    {
+        let held = self.top.exchange(variable, number);
+        let outcome = self
+            .layer
+            .entry(alloc, size, arguments, self.top.slots(), tables);
+        self.top.restore(variable, held);
+        outcome
+    }
+}

@@ -1,0 +1,269 @@
+// Strands that begin, and what is taken out of a strand and put back.
+ghost use Rattle.std.specs.Prelude.{◌≡◌, ◌∷◌, [], List, IfOk, IfErr, length};
+ghost use Rattle.evaluation.specs.Slots.{slots_for};
+ghost use Rattle.program_tree.specs.Plain.{Tree};
+ghost use Rattle.program_tree.specs.View.{tree};
+ghost use Rattle.linked_program.specs.declared.code.Code.{Code};
+ghost use Rattle.linked_program.specs.TableNames.{Columned};
+ghost use Rattle.positions.specs.Simulation.{IsFirst, IsStolen, IsInlined, IsDetached, IsResumed, IsUpdateNext};
+ghost use Rattle.positions.specs.Advance.{next_statement};
+ghost use Rattle.positions.specs.Moves.{first_strand, stolen, stolen_with, inlined, detached, attached, returned_of, resumed, is_update_there, at_update};
+
+use crate::activation::Activation;
+use crate::layer::Layer;
+use crate::strand::Strand;
+use crate::task::Task;
+use evaluation::slot::Slot;
+use linked_program::checked::Checked;
+use linked_program::code::Operation;
+use positions::phase::Phase;
+use positions::start::Start;
+use positions::work::{Position, Work};
+use std::alloc::{AllocError, Global};
+use std::mem;
+use view_pool::{Kit, View};
+
+/// How many levels there are below the instance of `main`.
+const LEVELS_BELOW_MAIN: u32 = 63;
+
+/// So many slots without values.
+fn unset(alloc: Global, size: usize) -> Result<Vec<Slot>, AllocError>
+    ensures slots { IfOk result (λ v. v.items ≡ slots_for size []) }
+{
+    let mut slots = Vec::new(alloc);
+    slots.resize(size, Slot::Unset)?;
+    Ok(slots)
+}
+
+impl<V: View> Strand<V> {
+    /// The strand of a run's beginning, in which `main` is to be entered. Want of memory is the only error; it hands the kit
+    /// back.
+    pub fn first(
+        alloc: Global,
+        program: &Checked,
+        kit: Kit<V>,
+    ) -> Result<Strand<V>, (AllocError, Kit<V>)>
+        ensures first { IfOk result (λ strand. strand ≡ first_strand program.now.codes kit program.now.main) }
+        ensures beginning { kit ≡ program.now.kinds → IfOk result (λ strand. IsFirst program.now.tables (tree program.now.program) program.now.codes strand) }
+        ensures handed_back { IfErr result (λ e. e.1 ≡ kit) }
+    {
+        program.linked();
+        Strand::begin(alloc, program, kit)
+    }
+
+    /// The same, by numbers.
+    fn begin(
+        alloc: Global,
+        program: &Checked,
+        kit: Kit<V>,
+    ) -> Result<Strand<V>, (AllocError, Kit<V>)>
+        ensures first { IfOk result (λ strand. strand ≡ first_strand program.now.codes kit program.now.main) }
+        ensures handed_back { IfErr result (λ e. e.1 ≡ kit) }
+    {
+        let main = program.main();
+        let slots = match unset(alloc, program.slots(main)) {
+            Ok(slots) => slots,
+            Err(AllocError) => return Err((AllocError, kit)),
+        };
+        let layer = match Layer::open(alloc, kit, program.codes().len()) {
+            Ok(layer) => layer,
+            Err(refused) => return Err(refused),
+        };
+        let work = Work::Block(Position { block: 0, index: 0 });
+        Ok(Strand {
+            start: Start::Root,
+            layer,
+            lower: Vec::new(alloc),
+            path: Vec::new(alloc),
+            place: Vec::new(alloc),
+            top: Activation::new(alloc, main, slots, work, LEVELS_BELOW_MAIN),
+            below: Vec::new(alloc),
+            phase: Phase::Entering,
+            numbers: Vec::new(alloc),
+        })
+    }
+
+    /// The strand of a stolen continuation, which begins behind the spawned child. Want of memory is the only error; it hands
+    /// the continuation and the kit back.
+    pub fn stolen(
+        alloc: Global,
+        program: &Checked,
+        task: Task,
+        kit: Kit<V>,
+    ) -> Result<Strand<V>, (AllocError, Task, Kit<V>)>
+        ensures stolen { IfOk result (λ strand. strand ≡ stolen program.now.codes kit task) }
+        ensures definition { kit ≡ program.now.kinds → IfOk result (λ strand. IsStolen program.now.tables (tree program.now.program) program.now.codes task strand) }
+        ensures task_back { IfErr result (λ e. e.1 ≡ task) }
+        ensures kit_back { IfErr result (λ e. e.2 ≡ kit) }
+    {
+        program.linked();
+        Strand::begin_behind(alloc, program, task, kit)
+    }
+
+    /// The same, by numbers.
+    fn begin_behind(
+        alloc: Global,
+        program: &Checked,
+        task: Task,
+        kit: Kit<V>,
+    ) -> Result<Strand<V>, (AllocError, Task, Kit<V>)>
+        ensures stolen { IfOk result (λ strand. strand ≡ stolen program.now.codes kit task) }
+        ensures task_back { IfErr result (λ e. e.1 ≡ task) }
+        ensures kit_back { IfErr result (λ e. e.2 ≡ kit) }
+    {
+        let layer = match Layer::open(alloc, kit, program.codes().len()) {
+            Ok(layer) => layer,
+            Err((error, kit)) => return Err((error, task, kit)),
+        };
+        Ok(Strand::behind(alloc, task, layer))
+    }
+
+    /// The strand of a continuation with that layer.
+    fn behind(alloc: Global, task: Task, layer: Layer<V>) -> Strand<V>
+        ensures stolen { result ≡ stolen_with layer task }
+    {
+        let Task {
+            mut place,
+            mut top,
+            below,
+        } = task;
+        let _ = place.pop();
+        let start = Start::Behind {
+            depth: place.len(),
+            child: top.children(),
+        };
+        top.mark();
+        Strand {
+            start,
+            layer,
+            lower: Vec::new(alloc),
+            path: place,
+            place: Vec::new(alloc),
+            top,
+            below,
+            phase: Phase::Running,
+            numbers: Vec::new(alloc),
+        }
+    }
+
+    /// At a spawn: takes out the parent and what waits below it, and goes on with the child alone, which is to be entered. It
+    /// takes no memory.
+    pub fn detach(&mut self, alloc: Global) -> Task
+        requires at_spawn { self.old.phase ≡ Phase.AtSpawn }
+        ensures task { self.old.below ≡ result.top ∷ result.below }
+        ensures place { result.place ≡ self.old.path }
+        ensures child { self.new ≡ detached self.old }
+        ensures definition { (ts : List Columned) (t : Tree) (codes : List Code) → IsDetached ts t codes self.old self.new result }
+    {
+        self.take_out(alloc)
+    }
+
+    /// The same, by numbers.
+    fn take_out(&mut self, alloc: Global) -> Task
+        requires at_spawn { self.old.phase ≡ Phase.AtSpawn }
+        ensures task { self.old.below ≡ result.top ∷ result.below }
+        ensures place { result.place ≡ self.old.path }
+        ensures child { self.new ≡ detached self.old }
+    {
+        self.phase = Phase::Entering;
+        let place = mem::replace(&mut self.place, Vec::new(alloc));
+        let mut below = mem::replace(&mut self.below, Vec::new(alloc));
+        match below.pop() {
+            Some(top) => Task { place, top, below },
+            None => unreachable!(),
+        }
+    }
+
+    /// Puts a continuation back, so that the child is a call. It takes no memory.
+    pub fn attach(&mut self, task: Task)
+        requires bare { self.old.below ≡ [] }
+        requires entering { self.old.phase ≡ Phase.Entering }
+        ensures called { self.new ≡ attached task self.old }
+    {
+        let Task {
+            place,
+            top,
+            mut below,
+        } = task;
+        let _ = below.push(top);
+        self.below = below;
+        self.place = place;
+    }
+
+    /// At a spawn: makes the child a call, which is to be entered. It takes no memory.
+    pub fn inline(&mut self)
+        requires at_spawn { self.old.phase ≡ Phase.AtSpawn }
+        ensures called { self.new ≡ inlined self.old }
+        ensures definition { (ts : List Columned) (t : Tree) (codes : List Code) → IsInlined ts t codes self.old self.new }
+    {
+        let called = Phase::Entering;
+        self.phase = called;
+    }
+
+    /// The value of the spawned child, where it has returned.
+    pub fn returned(&self) -> Option<i64>
+        ensures returned { result ≡ returned_of self.now }
+    {
+        match self.phase {
+            Phase::Leaving(value) if self.below.is_empty() && !self.path.is_empty() => Some(value),
+            _ => None,
+        }
+    }
+
+    /// Where the spawned child has returned: goes on with a continuation; elsewhere nothing changes. It takes no memory.
+    pub fn resume(&mut self, task: Task)
+        ensures resumed { self.new ≡ resumed task self.old }
+        ensures definition { (ts : List Columned) (t : Tree) (codes : List Code) → IsResumed ts t codes task self.old self.new }
+    {
+        self.go_on_with(task);
+    }
+
+    /// The same, by numbers.
+    fn go_on_with(&mut self, task: Task)
+        ensures resumed { self.new ≡ resumed task self.old }
+    {
+        if let Some(value) = self.returned() {
+            let Task {
+                place,
+                mut top,
+                below,
+            } = task;
+            top.receive(value);
+            self.top = top;
+            self.below = below;
+            let _ = self.path.pop();
+            self.place = place;
+            self.phase = Phase::Running;
+        }
+    }
+
+    /// Whether the next small step is that of an update.
+    pub fn at_update(&self, program: &Checked) -> bool
+        ensures update { result ≡ at_update program.now.codes self.now }
+        ensures next { IsUpdateNext program.now.tables (tree program.now.program) program.now.codes self.now result }
+    {
+        self.updates_next(program)
+    }
+
+    fn updates_next(&self, program: &Checked) -> bool
+        ensures update { result ≡ at_update program.now.codes self.now }
+    {
+        match self.phase {
+            Phase::Running => self.is_at_update(program),
+            _ => false,
+        }
+    }
+
+    /// Whether the topmost instance's next statement is an update.
+    fn is_at_update(&self, program: &Checked) -> bool
+        ensures update { result ≡ is_update_there (next_statement program.now.codes self.now) }
+    {
+        match self.next_statement(program) {
+            Some(instruction) => match &instruction.operation {
+                Operation::Update(_, _) => true,
+                _ => false,
+            },
+            None => false,
+        }
+    }
+}

@@ -1,0 +1,212 @@
+// The statements of procedures.
+ghost use Rattle.std.specs.Prelude.{◌≡◌, ◌+◌, ◌<◌, ◌^◌, OnErr, OnOk, map, slice_get, if◌then◌else◌};
+ghost use Rattle.linked_program.specs.CodeView.{expression as plain, slots_of};
+ghost use Rattle.evaluation.specs.Values.{value_at, values_at, entry_at};
+ghost use Rattle.positions.specs.Activations.{WorkFits, next_of as place_after};
+ghost use Rattle.positions.specs.Layers.{lowest as lowest_of};
+ghost use Rattle.positions.specs.Strands.{is_entry};
+ghost use Rattle.positions.specs.Advance.{evaluated, moved_on, binding, reading, combining, choosing, giving, nested, performed};
+
+use crate::activation::{Activation, next_of};
+use crate::layer::Layer;
+use crate::strand::Strand;
+use evaluation::slot::Slot;
+use input_tables::Tables;
+use linked_program::checked::Checked;
+use linked_program::code::Expression;
+use meaning::FaultKind;
+use positions::phase::Phase;
+use positions::work::{Position, Work};
+use program_tree::Way;
+use std::alloc::{AllocError, Global};
+use view_pool::View;
+
+impl<V: View> Strand<V> {
+    /// Goes on behind the instruction at that place.
+    pub(crate) fn pass(&mut self, place: Position)
+        requires room { place.index + 1 < 2 ^ 64 }
+        ensures passed { self.new ≡ moved_on place self.old }
+    {
+        self.top.set_work(Work::Block(next_of(place)));
+    }
+
+    /// Puts a value into a slot, and goes on behind the instruction at that place.
+    pub(crate) fn set(&mut self, place: Position, name: usize, value: i64)
+        requires room { place.index + 1 < 2 ^ 64 }
+        ensures set { self.new ≡ binding place name value self.old }
+    {
+        self.top.bind(Some(name), Slot::Has(value));
+        self.top.set_work(Work::Block(next_of(place)));
+    }
+
+    /// Puts the value of an expression into a slot, or is faulted at that statement.
+    pub(crate) fn bind(
+        &mut self,
+        tables: &Tables,
+        statement: u32,
+        place: Position,
+        name: usize,
+        expression: &Expression,
+    ) -> Result<(), AllocError>
+        requires room { place.index + 1 < 2 ^ 64 }
+        ensures bound { OnOk result (self.new ≡ evaluated statement (value_at tables.now.tables self.old.top.slots (plain expression.now)) (binding place name) self.old) }
+        ensures unchanged { OnErr result (self.new ≡ self.old) }
+    {
+        match self.value(tables, statement, expression)? {
+            Some(value) => self.set(place, name, value),
+            None => {}
+        }
+        Ok(())
+    }
+
+    /// The lowest layer, whose values `read` gives.
+    pub(crate) fn lowest(&self) -> &Layer<V>
+        ensures lowest { result.now ≡ lowest_of self.now.layer self.now.lower }
+    {
+        match self.lower.first() {
+            Some(layer) => layer,
+            None => &self.layer,
+        }
+    }
+
+    /// Puts the number of a reducer's value into a slot; refused for want of memory alone.
+    pub(crate) fn read(
+        &mut self,
+        place: Position,
+        name: usize,
+        reducer: usize,
+    ) -> Result<(), AllocError>
+        requires room { place.index + 1 < 2 ^ 64 }
+        ensures read { OnOk result (self.new ≡ binding place name (reading reducer self.old) self.old) }
+        ensures unchanged { OnErr result (self.new ≡ self.old) }
+    {
+        let value = self.lowest().number(reducer)?;
+        self.set(place, name, value);
+        Ok(())
+    }
+
+    /// Passes a sync, but not in the instance in which the strand begins.
+    pub(crate) fn sync(&mut self, place: Position)
+        requires room { place.index + 1 < 2 ^ 64 }
+        ensures synced { self.new ≡ (if is_entry self.old then self.old else moved_on place self.old) }
+    {
+        if !self.is_entry() {
+            self.pass(place);
+        }
+    }
+
+    /// Goes into one of two blocks by a condition, or is faulted at that statement.
+    pub(crate) fn choose(
+        &mut self,
+        tables: &Tables,
+        statement: u32,
+        place: Position,
+        condition: &Expression,
+        first: usize,
+        second: usize,
+    ) -> Result<(), AllocError>
+        requires room { place.index + 1 < 2 ^ 64 }
+        ensures chosen { OnOk result (self.new ≡ evaluated statement (value_at tables.now.tables self.old.top.slots (plain condition.now)) (choosing place first second) self.old) }
+        ensures unchanged { OnErr result (self.new ≡ self.old) }
+    {
+        let before = self.layer.readings();
+        match self.value(tables, statement, condition)? {
+            Some(value) => {
+                let block = if value == 0 { second } else { first };
+                match self.top.go_inside(block, place) {
+                    Ok(()) => Ok(()),
+                    Err(AllocError) => {
+                        self.forget(before);
+                        Err(AllocError)
+                    }
+                }
+            }
+            None => Ok(()),
+        }
+    }
+
+    /// Gives the value of an expression back, or is faulted at that statement.
+    pub(crate) fn give(
+        &mut self,
+        tables: &Tables,
+        statement: u32,
+        expression: &Expression,
+    ) -> Result<(), AllocError>
+        ensures given { OnOk result (self.new ≡ evaluated statement (value_at tables.now.tables self.old.top.slots (plain expression.now)) giving self.old) }
+        ensures unchanged { OnErr result (self.new ≡ self.old) }
+    {
+        match self.value(tables, statement, expression)? {
+            Some(value) => self.phase = Phase::Returning(value),
+            None => {}
+        }
+        Ok(())
+    }
+
+    /// Enters an instance of that procedure, with those slots, at that statement, which is then left as `work` says; or too deep.
+    pub(crate) fn nest(
+        &mut self,
+        alloc: Global,
+        statement: u32,
+        way: Way,
+        into: Option<usize>,
+        work: Work,
+        callee: usize,
+        slots: Vec<Slot>,
+    ) -> Result<(), AllocError>
+        requires fits { WorkFits work }
+        requires running { self.old.phase ≡ Phase.Running }
+        ensures nested { OnOk result (self.new ≡ nested statement way into work callee slots.items self.old) }
+        ensures unchanged { OnErr result (self.new ≡ self.old) }
+    {
+        let left = self.top.left();
+        if left == 0 {
+            self.fault(statement, FaultKind::TooDeep);
+            return Ok(());
+        }
+        let first = Work::Block(Position { block: 0, index: 0 });
+        let child = Activation::new(alloc, callee, slots, first, left - 1);
+        match way {
+            Way::Call => {
+                self.push_called(child, work, into, Phase::Entering)?;
+                self.start();
+                Ok(())
+            }
+            Way::Spawn => self.push_spawned(child, work, into),
+        }
+    }
+
+    /// Calls or spawns an instance of a procedure, or is faulted at that statement.
+    pub(crate) fn enter(
+        &mut self,
+        alloc: Global,
+        program: &Checked,
+        tables: &Tables,
+        statement: u32,
+        place: Position,
+        way: Way,
+        into: Option<usize>,
+        callee: usize,
+        arguments: &[Expression],
+    ) -> Result<(), AllocError>
+        requires room { place.index + 1 < 2 ^ 64 }
+        requires running { self.old.phase ≡ Phase.Running }
+        ensures entered { OnOk result (self.new ≡ evaluated statement (entry_at tables.now.tables self.old.top.slots (slots_of program.now.codes callee) (map plain arguments.now)) (nested statement way into (Work.Block (place_after place)) callee) self.old) }
+        ensures unchanged { OnErr result (self.new ≡ self.old) }
+    {
+        let before = self.layer.readings();
+        let size = program.slots(callee);
+        match self.entry(alloc, tables, statement, size, arguments)? {
+            Some(slots) => {
+                let work = Work::Block(next_of(place));
+                match self.nest(alloc, statement, way, into, work, callee, slots) {
+                    Ok(()) => Ok(()),
+                    Err(AllocError) => {
+                        self.forget(before);
+                        Err(AllocError)
+                    }
+                }
+            }
+            None => Ok(()),
+        }
+    }
+}

@@ -1,0 +1,12 @@
+pub mod Entering
+pub mod Evaluations
+pub mod Joins
+pub mod Layering
+pub mod Loops
+pub mod Moves
+pub mod Pauses
+pub mod Places
+pub mod Statements
+pub mod Starts
+pub mod Stepping
+pub mod Working

@@ -1,0 +1,47 @@
+-- The layers of a strand as plain values: the reducers' values, and what was read and entered, by numbers.
+use Rattle.std.specs.Prelude.{ℕ, max, ℤ, Bool, true, false, ◌||◌, List, [], ◌∷◌, ◌++◌, Option, Some, None, replicate, slice_get, slice_set}
+use Rattle.monoid_laws.specs.declared.Kind.{Kind}
+use Rattle.monoid_laws.specs.Worth.{Worth}
+use Rattle.monoid_laws.specs.Kinds.{operate, operate_all, identities, element_of}
+use Rattle.evaluation.specs.declared.note.Note.{Note}
+
+-- the reducers' kinds and values, what was read, for each procedure whether it was entered, and the greatest depth of an instance
+pub record PlainLayer : Type 0 where
+  pub kinds : List Kind
+  pub worths : List Worth
+  pub notes : List Note
+  pub entered : List Bool
+  pub deepest : ℕ
+
+-- a layer that has noted nothing, for a program of so many procedures
+abbrev pub blank : List Kind → ℕ → PlainLayer
+blank kinds procedures = record { kinds = kinds; worths = identities kinds; notes = []; entered = replicate procedures false; deepest = 0 }
+
+abbrev pub noting : List Note → PlainLayer → PlainLayer
+noting ns l = record l { notes = l.notes ++ ns }
+
+-- a procedure is entered at a depth
+abbrev pub entering : ℕ → ℕ → PlainLayer → PlainLayer
+entering p depth l = record l { entered = slice_set l.entered p true; deepest = max l.deepest depth }
+
+abbrev pub updated_by : ℕ → Kind → List ℤ → List Worth → Option Worth → List Worth
+updated_by r kind vs worths None = worths
+updated_by r kind vs worths (Some w) = slice_set worths r (operate kind w (element_of kind vs))
+
+-- the element that the numbers name is combined on the right of a reducer's value
+abbrev pub updating : ℕ → Kind → List ℤ → PlainLayer → PlainLayer
+updating r kind vs l = record l { worths = updated_by r kind vs l.worths (slice_get l.worths r) }
+
+abbrev pub either : List Bool → List Bool → List Bool
+either [] ys = []
+either (x ∷ xs) [] = x ∷ xs
+either (x ∷ xs) (y ∷ ys) = (x || y) ∷ either xs ys
+
+-- a layer, and one behind it
+abbrev pub multiplied : PlainLayer → PlainLayer → PlainLayer
+multiplied l r = record l { worths = operate_all l.kinds l.worths r.worths; notes = l.notes ++ r.notes; entered = either l.entered r.entered; deepest = max l.deepest r.deepest }
+
+-- the lowest layer of a strand whose topmost is that
+abbrev pub lowest : PlainLayer → List PlainLayer → PlainLayer
+lowest l [] = l
+lowest l (m ∷ ls) = lowest m ls

@@ -1,0 +1,115 @@
+-- What the steps on strands of numbers are for the strands of the definitions that they stand for.
+use Rattle.std.specs.Prelude.{◌≡◌, ℕ, ℤ, Bool, true, false, List, [], ◌∷◌, Option, Some, None, take}
+use Rattle.program_tree.specs.Plain.{Body, update, step, Tree}
+use Rattle.meaning.specs.Tables.{Tables}
+use Rattle.meaning.specs.Records.{Revised}
+use Rattle.meaning.specs.Trail.{child_of}
+use Rattle.meaning.specs.SmallStep.{Child, Todo, blocks, Phase as NamedPhase, running, spawning, leaving, Pause, at_spawn, at_sync, returned, faulted, noting, opening_one, closing_one, Step, moved, taken, paused as paused_step, micro, Continuation}
+use Rattle.meaning.specs.Layers.{bottom}
+use Rattle.meaning.specs.LayeredStrand.{LayeredStrand, advance, first_layered, inlined, detached, continuation, resumed, stolen}
+use Rattle.meaning.specs.OneStrand.{nothing_kept}
+use Rattle.meaning.specs.Schedules.{Memory, bottom_alone, joined_pair}
+use Rattle.linked_program.specs.declared.code.Code.{Code}
+use Rattle.linked_program.specs.TableNames.{Columned}
+use Rattle.positions.specs.declared.phase.Phase.{Phase}
+use Rattle.positions.specs.declared.phase.Phase.TheVariants.{AtSpawn}
+use Rattle.positions.specs.declared.phase.Paused.{Paused}
+use Rattle.positions.specs.declared.phase.Paused.TheVariants as paused
+use Rattle.positions.specs.declared.start.Start.{Start}
+use Rattle.positions.specs.declared.start.Start.TheVariants.{Root, Behind}
+use Rattle.positions.specs.Strands.{PlainStrand, PlainTask}
+use Rattle.positions.specs.Stands.{StandsFor, StandsForTask}
+
+-- how the definitions name a point
+abbrev pub named_pause : Paused → Option Pause
+named_pause paused.Working = None
+named_pause paused.AtSpawn = Some at_spawn
+named_pause paused.AtSync = Some at_sync
+named_pause paused.Returned = Some returned
+named_pause paused.Finished = Some returned
+named_pause paused.Faulted = Some faulted
+
+-- the name of the child behind which a strand begins
+abbrev pub place_of : Start → List ℕ → List ℕ
+place_of Root path = []
+place_of (Behind depth child) path = child_of (take depth path) child
+
+-- a strand is not at a spawn
+abbrev pub IsNotAtSpawn : Phase → Type 0
+IsNotAtSpawn AtSpawn = ⊥
+IsNotAtSpawn _ = Unit {0}
+
+-- the next small step is that of an update
+abbrev pub updates_body : List Body → Bool
+updates_body (step n (update r es) b ∷ bs) = true
+updates_body _ = false
+
+abbrev pub updates : NamedPhase → Bool
+updates (running (blocks bs)) = updates_body bs
+updates _ = false
+
+-- a step is taken that opens and closes no layer
+abbrev pub IsTaken : Step → Type 0
+IsTaken (moved noting es fr ph t) = Unit {0}
+IsTaken (moved opening_one es fr ph t) = ⊥
+IsTaken (moved closing_one es fr ph t) = ⊥
+IsTaken (taken es k fr ph t) = ⊥
+IsTaken (paused_step p) = ⊥
+
+module _ (ts : List Columned) (t : Tree) (codes : List Code) where
+  -- what the second stands for is the small step of what the first stands for
+  abbrev pub IsSmallStep : Tables → PlainStrand → PlainStrand → Type 0
+  IsSmallStep tables s s' = (x : LayeredStrand) → StandsFor ts t codes s x → StandsFor ts t codes s' (advance t tables nothing_kept false x)
+
+  abbrev pub IsPauseBy : Option Pause → Tables → LayeredStrand → Type 0
+  IsPauseBy None tables x = Unit {0}
+  IsPauseBy (Some p) tables x = micro t tables nothing_kept false (bottom x.layers) x.start x.frame x.phase x.under ≡ paused_step p
+
+  -- what the strand stands for has no small step at that point
+  abbrev pub IsPause : Tables → Paused → PlainStrand → Type 0
+  IsPause tables p s = (x : LayeredStrand) → StandsFor ts t codes s x → IsPauseBy (named_pause p) tables x
+
+  -- what the strand stands for has a small step
+  abbrev pub IsStepTaken : Tables → PlainStrand → Type 0
+  IsStepTaken tables s = (x : LayeredStrand) → StandsFor ts t codes s x → IsTaken (micro t tables nothing_kept false (bottom x.layers) x.start x.frame x.phase x.under)
+
+  -- the strand of a run's beginning
+  abbrev pub IsFirst : PlainStrand → Type 0
+  IsFirst s = StandsFor ts t codes s (first_layered t)
+
+  -- at a spawn: the child as a call
+  abbrev pub IsInlined : PlainStrand → PlainStrand → Type 0
+  IsInlined s s' =
+      (x : LayeredStrand) (d : ℕ) (into : Option ℕ) (child : Child) (todo : Todo) → StandsFor ts t codes s x → x.phase ≡ spawning d into child todo → StandsFor ts t codes s' (inlined t x d into child todo)
+
+  -- at a spawn: the child alone, and the continuation
+  abbrev pub IsDetached : PlainStrand → PlainStrand → PlainTask → Type 0
+  IsDetached s s' task =
+      (x : LayeredStrand) (d : ℕ) (into : Option ℕ) (child : Child) (todo : Todo) → StandsFor ts t codes s x → x.phase ≡ spawning d into child todo
+      → StandsFor ts t codes s' (detached t x d child) × StandsForTask ts t codes task (continuation x into todo)
+
+  -- on with the continuation of a child that has returned
+  abbrev pub IsResumed : PlainTask → PlainStrand → PlainStrand → Type 0
+  IsResumed task s s' =
+      (x : LayeredStrand) (k : Continuation) (v : ℤ) → s.path ≡ task.place → StandsFor ts t codes s x → StandsForTask ts t codes task k → x.phase ≡ leaving v → x.under ≡ []
+      → StandsFor ts t codes s' (resumed t x k v)
+
+  -- the strand of a stolen continuation
+  abbrev pub IsStolen : PlainTask → PlainStrand → Type 0
+  IsStolen task s' = (k : Continuation) → StandsForTask ts t codes task k → StandsFor ts t codes s' (stolen t k)
+
+  -- two neighbours as one strand, where they may be folded
+  abbrev pub IsJoined : PlainStrand → PlainStrand → PlainStrand → Type 0
+  IsJoined l r s' =
+      (program : Revised) (tables : Tables) (memory : Memory) (x y z : LayeredStrand) → program.tree ≡ t → IsNotAtSpawn r.phase → r.lower ≡ []
+      → StandsFor ts t codes l x → StandsFor ts t codes r y → joined_pair program tables memory x x.phase y y.phase ≡ Some z → StandsFor ts t codes s' z
+
+  -- the strand with its lowest layer alone
+  abbrev pub IsAlone : PlainStrand → PlainStrand → Type 0
+  IsAlone s s' =
+      (program : Revised) (tables : Tables) (memory : Memory) (x : LayeredStrand) → StandsFor ts t codes s x
+      → StandsFor ts t codes s' (record x { layers = bottom_alone program tables memory x.layers })
+
+  -- whether the next small step is that of an update
+  abbrev pub IsUpdateNext : PlainStrand → Bool → Type 0
+  IsUpdateNext s b = (x : LayeredStrand) → StandsFor ts t codes s x → b ≡ updates x.phase
