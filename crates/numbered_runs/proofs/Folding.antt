@@ -1,0 +1,282 @@
+-- A fold, in runs of numbers and in those of the definitions.
+use Rattle.std.proofs.Common.{◌≡◌, ◌⊎◌, inl, inr, ℕ, ◌+◌, Bool, true, false, cond, ◌&&◌, List, [], ◌∷◌, ◌++◌, append_assoc, Option, Some, None, Result, Ok, Err, refl, sym, ◌∙◌, ap, subst}
+use Rattle.std.specs.Prelude.{ℤ, ◌-◌, length, if◌then◌else◌, ◌==◌}
+use Rattle.monoid_laws.specs.declared.Kind.{Kind}
+use Rattle.monoid_laws.specs.Worth.{Worth}
+use Rattle.monoid_laws.specs.Kinds.{operate_all}
+use Rattle.program_tree.specs.Plain.{Tree}
+use Rattle.meaning.specs.Tables.{Tables}
+use Rattle.meaning.specs.Outcome.{Place, Fault}
+use Rattle.meaning.specs.Records.{Revised}
+use Rattle.meaning.specs.SmallStep.{Phase as NamedPhase, entering, running, spawning, returning, leaving, broken, same_name}
+use Rattle.meaning.specs.LayeredStrand.{LayeredStrand}
+use Rattle.meaning.specs.Strands.{State, Held, Ended, Stalled, BookStep, Fold, done, waits}
+use Rattle.meaning.specs.Strands as strands
+use Rattle.meaning.specs.Tallies.{tallies_joined}
+use Rattle.meaning.specs.Schedules.{Piece, RunState, without_memo, joined_pair}
+use Rattle.meaning.specs.Schedules as schedules
+use Rattle.linked_program.specs.declared.code.Code.{Code}
+use Rattle.linked_program.specs.TableNames.{Columned}
+use Rattle.positions.specs.declared.phase.Phase.{Phase}
+use Rattle.positions.specs.declared.phase.Phase.TheVariants as phase
+use Rattle.positions.specs.declared.start.Start.{Start}
+use Rattle.positions.specs.declared.start.Start.TheVariants.{Root, Behind}
+use Rattle.positions.specs.Activations.{PlainActivation}
+use Rattle.positions.specs.Strands.{PlainStrand}
+use Rattle.positions.specs.Layers.{multiplied}
+use Rattle.positions.specs.Moves.{settled_by, joined, joined_at, joined_after, joined_ended}
+use Rattle.positions.specs.Stands.{StandsAt, StandsFor, named_fault}
+use Rattle.positions.specs.Simulation.{IsNotAtSpawn}
+use Rattle.positions.proofs.Joins.{joined_is}
+use Rattle.numbered_runs.specs.declared.refusal.Refusal.TheVariants.{NotThere}
+use Rattle.numbered_runs.specs.Pieces.{PlainPiece, place_of, may_join_at, may_fold, folded}
+use Rattle.numbered_runs.specs.Runs.{folded_if, folded_at}
+use Rattle.numbered_runs.specs.Stands.{with_worths, valued, IsLaidAs, StandsForPiece, StandFolding, StandForPieces}
+use Rattle.numbered_runs.proofs.Agreeing.{piece_place, none_there, with_first, in_front, either_agrees, RunAgrees}
+
+-- a strand that waits isn't at a spawn
+waiting_point : (st : State) (ph : Phase) → waits st ≡ true → IsLaidAs st ph → IsNotAtSpawn ph
+waiting_point (Held w) phase.AtSpawn e l = absurd cc
+waiting_point Ended phase.AtSpawn e l = absurd l
+waiting_point Stalled phase.AtSpawn e l = absurd l
+waiting_point strands.Faulted phase.AtSpawn e l = absurd l
+waiting_point strands.Finished phase.AtSpawn e l = absurd l
+waiting_point st phase.Entering e l = tt
+waiting_point st phase.Running e l = tt
+waiting_point st (phase.Returning v) e l = tt
+waiting_point st (phase.Leaving v) e l = tt
+waiting_point st (phase.Broken f) e l = tt
+
+after_lower : (ph : Phase) (l r : PlainStrand) (v : ℤ) → (joined_after ph l v r).lower ≡ l.lower
+after_lower phase.Entering l r v = refl
+after_lower phase.Running l r v = refl
+after_lower phase.AtSpawn l r v = refl
+after_lower (phase.Returning u) l r v = refl
+after_lower (phase.Leaving u) l r v = refl
+after_lower (phase.Broken f) l r v = refl
+
+joined_lower : (ph : Phase) (l r : PlainStrand) → (joined_at ph l r).lower ≡ l.lower
+joined_lower phase.Entering l r = refl
+joined_lower phase.Running l r = refl
+joined_lower phase.AtSpawn l r = refl
+joined_lower (phase.Returning u) l r = refl
+joined_lower (phase.Leaving u) l r = after_lower r.phase l r u
+joined_lower (phase.Broken f) l r = refl
+
+left_true : (a b : Bool) → a && b ≡ true → a ≡ true
+left_true true b e = refl
+left_true false b e = absurd cc
+
+if_true : {A : Type 0} (b : Bool) (x y : A) → cond b (Some x) None ≡ Some y → b ≡ true
+if_true true x y e = refl
+if_true false x y e = absurd cc
+
+module _ (ts : List Columned) (program : Revised) (codes : List Code) (tables : Tables) where
+  abbrev t : Tree
+  t = program.tree
+
+  abbrev pair_of : LayeredStrand → NamedPhase → LayeredStrand → NamedPhase → Option LayeredStrand
+  pair_of = joined_pair program tables without_memo
+
+  -- ---- where the definitions fold, the numbers do
+
+  right_named : (x y z : LayeredStrand) (v : ℤ) (q : NamedPhase) → pair_of x (leaving v) y q ≡ Some z → same_name x.frame.instance (schedules.place_of_start y.start) ≡ true
+  right_named x y z v (broken k) e = if_true _ _ z e
+  right_named x y z v (entering c) e = left_true _ _ (if_true _ _ z e)
+  right_named x y z v (running c) e = left_true _ _ (if_true _ _ z e)
+  right_named x y z v (spawning d i c u) e = left_true _ _ (if_true _ _ z e)
+  right_named x y z v (returning c) e = left_true _ _ (if_true _ _ z e)
+  right_named x y z v (leaving c) e = left_true _ _ (if_true _ _ z e)
+
+  joins_by : (l r : PlainPiece) (x y : Piece) (z : LayeredStrand) (ph : Phase) (below : List PlainActivation) → StandsAt ts t codes ph below l.strand x.strand → schedules.place_of y ≡ place_of r → pair_of x.strand x.strand.phase y.strand y.strand.phase ≡ Some z → may_join_at ph l r ≡ true
+  joins_by l r x y z (phase.Broken f) below i q e = refl
+  joins_by l r x y z (phase.Leaving v) below i q e =
+      ap (same_name l.strand.path) (sym q) ∙ ap (λ fr. same_name fr.instance (schedules.place_of y)) (sym i.frame)
+      ∙ right_named x.strand y.strand z v y.strand.phase (sym (ap (λ p. pair_of x.strand p y.strand y.strand.phase) i.phase) ∙ e)
+  joins_by l r x y z phase.AtSpawn [] i q e = absurd i
+  joins_by l r x y z phase.AtSpawn (a ∷ below) i q e = let none : None ≡ Some z = sym (ap (λ p. pair_of x.strand p y.strand y.strand.phase) i.phase) ∙ e in absurd cc
+  joins_by l r x y z phase.Entering below i q e = let none : None ≡ Some z = sym (ap (λ p. pair_of x.strand p y.strand y.strand.phase) i.phase) ∙ e in absurd cc
+  joins_by l r x y z phase.Running below i q e = let none : None ≡ Some z = sym (ap (λ p. pair_of x.strand p y.strand y.strand.phase) i.phase) ∙ e in absurd cc
+  joins_by l r x y z (phase.Returning v) below i q e = let none : None ≡ Some z = sym (ap (λ p. pair_of x.strand p y.strand y.strand.phase) i.phase) ∙ e in absurd cc
+
+  module _ (w : ℕ) where
+    abbrev one_of : Piece → Piece → LayeredStrand → Piece
+    one_of x y z = record { strand = z; deque = []; state = Held w; tally = tallies_joined x.tally y.tally }
+
+    from_folded : (x y p : Piece) (b : Bool) (o : Option LayeredStrand) → cond b (schedules.folded_by program tables without_memo w x y o) None ≡ Some p → (z : LayeredStrand) × (o ≡ Some z) × (one_of x y z ≡ p)
+    from_folded x y p true (Some z) e = (z, refl, (let q : one_of x y z ≡ p = cc in q))
+    from_folded x y p true None e = absurd cc
+    from_folded x y p false o e = absurd cc
+
+    -- what the definitions' fold gives is stood for
+    record Folds (l r : PlainPiece) (p : Piece) : Type 0 where
+      pub may : may_join_at l.strand.phase l r ≡ true
+      pub one : StandsForPiece ts t codes (folded w l r) p
+
+    folds_exact : (l r : PlainPiece) (x y p : Piece) → StandsForPiece ts t codes l x → StandsForPiece ts t codes r y → waits r.state ≡ true → schedules.folded program tables without_memo w x y ≡ Some p → Folds l r p
+    folds_exact l r x y p hl hr wt e =
+        let f = from_folded x y p (schedules.may_fold program tables without_memo x.state y.state) (pair_of x.strand x.strand.phase y.strand y.strand.phase) e in
+        record {
+          may = joins_by l r x y f.0 l.strand.phase l.strand.below hl.strand.now (piece_place ts t codes r y hr) f.1;
+          one = subst (StandsForPiece ts t codes (folded w l r)) f.2 (record {
+            strand = joined_is ts t codes l.strand r.strand program tables without_memo x.strand y.strand f.0 refl (waiting_point r.state r.strand.phase wt hr.laid) hr.one_layer hl.strand hr.strand f.1;
+            one_layer = joined_lower l.strand.phase l.strand r.strand ∙ hl.one_layer;
+            tasks = tt;
+            state = refl;
+            laid = tt;
+          });
+        }
+
+    -- ---- where a fold was refused for memory before
+
+    may_valued : (ph : Phase) (l r : PlainPiece) (us vs : List Worth) → may_join_at ph (valued us l) (valued vs r) ≡ may_join_at ph l r
+    may_valued phase.Entering l r us vs = refl
+    may_valued phase.Running l r us vs = refl
+    may_valued phase.AtSpawn l r us vs = refl
+    may_valued (phase.Returning v) l r us vs = refl
+    may_valued (phase.Leaving v) l r us vs = refl
+    may_valued (phase.Broken f) l r us vs = refl
+
+    module _ (l r : PlainStrand) (us vs : List Worth) (product : operate_all l.layer.kinds l.layer.worths r.layer.worths ≡ operate_all l.layer.kinds us vs) (v : ℤ) where
+      abbrev put : List Worth → PlainStrand → PlainStrand
+      put ws s = record s { start = l.start; layer = record (multiplied l.layer r.layer) { worths = ws }; lower = l.lower }
+
+      put_if : (ws : List Worth) (b : Bool) (a a' c c' : PlainStrand) → put ws a ≡ put ws a' → put ws c ≡ put ws c' → put ws (if b then a else c) ≡ put ws (if b then a' else c')
+      put_if ws true a a' c c' h k = h
+      put_if ws false a a' c c' h k = k
+
+      put_settled : (ws : List Worth) (st : Start) → put ws (settled_by st v (with_worths vs r)) ≡ put ws (settled_by st v r)
+      put_settled ws Root = refl
+      put_settled ws (Behind d c) = put_if ws (length r.path - d == 0) _ _ _ _ refl refl
+
+      ended_same : joined_ended (with_worths us l) v (with_worths vs r) ≡ joined_ended l v r
+      ended_same = put_settled (operate_all l.layer.kinds us vs) r.start ∙ ap (λ ws. put ws (settled_by r.start v r)) (sym product)
+
+      after_same : (ph : Phase) → IsLaidAs Stalled ph → joined_after ph (with_worths us l) v (with_worths vs r) ≡ joined_after ph l v r
+      after_same phase.Running h = ended_same
+      after_same (phase.Returning u) h = ended_same
+      after_same phase.Entering h = absurd h
+      after_same phase.AtSpawn h = absurd h
+      after_same (phase.Leaving u) h = absurd h
+      after_same (phase.Broken f) h = absurd h
+
+    at_same : (ph : Phase) (l r : PlainStrand) (us vs : List Worth) → operate_all l.layer.kinds l.layer.worths r.layer.worths ≡ operate_all l.layer.kinds us vs → IsLaidAs Ended ph → IsLaidAs Stalled r.phase → joined_at ph (with_worths us l) (with_worths vs r) ≡ joined_at ph l r
+    at_same (phase.Leaving v) l r us vs e h k = after_same l r us vs e v r.phase k
+    at_same phase.Entering l r us vs e h k = absurd h
+    at_same phase.Running l r us vs e h k = absurd h
+    at_same phase.AtSpawn l r us vs e h k = absurd h
+    at_same (phase.Returning u) l r us vs e h k = absurd h
+    at_same (phase.Broken f) l r us vs e h k = absurd h
+
+    folds_pair : (l r : PlainPiece) (x y p : Piece) → StandFolding ts t codes l r x y → schedules.folded program tables without_memo w x y ≡ Some p → Folds l r p
+    folds_pair l r x y p h e =
+        let f = folds_exact (valued h.to_left l) (valued h.to_right r) x y p h.left h.right (ap waits h.stalled) e in
+        let same : joined (with_worths h.to_left l.strand) (with_worths h.to_right r.strand) ≡ joined l.strand r.strand =
+        at_same l.strand.phase l.strand r.strand h.to_left h.to_right h.product (subst (λ st. IsLaidAs st l.strand.phase) h.ended h.left.laid) (subst (λ st. IsLaidAs st r.strand.phase) h.stalled h.right.laid) in
+        record {
+          may = sym (may_valued l.strand.phase l r h.to_left h.to_right) ∙ f.may;
+          one = subst (λ s. StandsForPiece ts t codes (record { strand = s; deque = []; state = Held w }) p) same f.one;
+        }
+
+    -- ---- in the list
+
+    first_is : (r : PlainPiece) (ps : List PlainPiece) (y : Piece) (xs : List Piece) → StandForPieces ts t codes (r ∷ ps) (y ∷ xs) → (schedules.place_of y ≡ place_of r) × (y.state ≡ r.state)
+    first_is r [] y [] h = (piece_place ts t codes r y h, h.state)
+    first_is r [] y (z ∷ xs) h = absurd h
+    first_is r (q ∷ ps) y [] h = absurd h
+    first_is r (q ∷ ps) y (z ∷ xs) (inl h) = (piece_place ts t codes r y h.0, h.0.state)
+    first_is r (q ∷ ps) y (z ∷ xs) (inr h) = (piece_place ts t codes (valued h.0.to_left r) y h.0.left, h.0.left.state)
+
+    waiting_first : (r : PlainPiece) (ps : List PlainPiece) (y : Piece) (xs : List Piece) → waits r.state ≡ true → StandForPieces ts t codes (r ∷ ps) (y ∷ xs) → StandsForPiece ts t codes r y × StandForPieces ts t codes ps xs
+    waiting_first r [] y [] e h = (h, tt)
+    waiting_first r [] y (z ∷ xs) e h = absurd h
+    waiting_first r (q ∷ ps) y [] e h = absurd h
+    waiting_first r (q ∷ ps) y (z ∷ xs) e (inl h) = h
+    waiting_first r (q ∷ ps) y (z ∷ xs) e (inr h) = let f : waits r.state ≡ false = ap waits h.0.ended in absurd cc
+
+    all_three : (a b c : Bool) → a ≡ true → b ≡ true → c ≡ true → a && b && c ≡ true
+    all_three true true true e f g = refl
+    all_three false b c e f g = absurd cc
+    all_three true false c e f g = absurd cc
+    all_three true true false e f g = absurd cc
+
+    not_both : (a b c : Bool) → a && b ≡ false → a && b && c ≡ false
+    not_both true true c e = absurd cc
+    not_both true false c e = refl
+    not_both false b c e = refl
+
+    both_are : (a b : Bool) → a && b ≡ true → (a ≡ true) × (b ≡ true)
+    both_are true true e = (refl, refl)
+    both_are true false e = absurd cc
+    both_are false b e = absurd cc
+
+    module _ (kits kits' : ℕ) (same : kits' ≡ kits) (history history' : List BookStep) (same_history : history' ≡ history) where
+      abbrev FoldAgrees : PlainPiece → PlainPiece → Piece → Piece → List PlainPiece → List PlainPiece → List Piece → List Piece → Type 0
+      FoldAgrees l r x y before later us xs =
+          RunAgrees ts t codes (folded_if (may_fold l r) w kits before l r later history)
+          (schedules.folded_among program tables without_memo w kits' us xs history' (Fold (schedules.place_of x) (schedules.place_of y) w) (schedules.folded program tables without_memo w x y))
+
+      fold_refused : (l r : PlainPiece) (x y : Piece) (before later : List PlainPiece) (us xs : List Piece) → x.state ≡ l.state → y.state ≡ r.state → done l.state && waits r.state ≡ false → FoldAgrees l r x y before later us xs
+      fold_refused l r x y before later us xs a b e =
+          subst (λ m. RunAgrees ts t codes (folded_if m w kits before l r later history) (schedules.folded_among program tables without_memo w kits' us xs history' (Fold (schedules.place_of x) (schedules.place_of y) w) (schedules.folded program tables without_memo w x y)))
+          (sym (not_both (done l.state) (waits r.state) (may_join_at l.strand.phase l r) e))
+          (subst (λ m. RunAgrees ts t codes (Err NotThere) (schedules.folded_among program tables without_memo w kits' us xs history' (Fold (schedules.place_of x) (schedules.place_of y) w) (cond m (schedules.folded_by program tables without_memo w x y (pair_of x.strand x.strand.phase y.strand y.strand.phase)) None)))
+          (sym (ap (λ st. done st && waits y.state) a ∙ ap (λ st. done l.state && waits st) b ∙ e)) tt)
+
+      fold_taken : (l r : PlainPiece) (x y p : Piece) (before later : List PlainPiece) (us xs : List Piece) → schedules.place_of x ≡ place_of l → schedules.place_of y ≡ place_of r → done l.state ≡ true → waits r.state ≡ true
+          → StandForPieces ts t codes before us → StandForPieces ts t codes later xs → schedules.folded program tables without_memo w x y ≡ Some p → Folds l r p → FoldAgrees l r x y before later us xs
+      fold_taken l r x y p before later us xs a b d wt hb hl e f =
+          subst (λ m. RunAgrees ts t codes (folded_if m w kits before l r later history) (schedules.folded_among program tables without_memo w kits' us xs history' (Fold (schedules.place_of x) (schedules.place_of y) w) (schedules.folded program tables without_memo w x y)))
+          (sym (all_three (done l.state) (waits r.state) (may_join_at l.strand.phase l r) d wt f.may))
+          (subst (λ o. RunAgrees ts t codes (folded_if true w kits before l r later history) (schedules.folded_among program tables without_memo w kits' us xs history' (Fold (schedules.place_of x) (schedules.place_of y) w) o)) (sym e)
+          (record {
+            pieces = in_front ts t codes before (folded w l r ∷ later) us (p ∷ xs) hb (with_first ts t codes (folded w l r) later p xs f.one hl);
+            kits = ap (λ n. n + 1) same;
+            history = ap (λ n. n ++ Fold (schedules.place_of x) (schedules.place_of y) w ∷ []) same_history ∙ ap (λ m. history ++ Fold m (schedules.place_of y) w ∷ []) a ∙ ap (λ m. history ++ Fold (place_of l) m w ∷ []) b;
+          }))
+
+      module _ (q : Place) (all : List Piece)
+          (joins : (us xs : List Piece) (x y : Piece) → all ≡ us ++ x ∷ y ∷ xs → done x.state ≡ true → waits y.state ≡ true → (p : Piece) × (schedules.folded program tables without_memo w x y ≡ Some p)) where
+        -- the left one has its own values
+        fold_at : (l r : PlainPiece) (x y : Piece) (before later : List PlainPiece) (us xs : List Piece) → StandForPieces ts t codes before us → StandsForPiece ts t codes l x → StandForPieces ts t codes (r ∷ later) (y ∷ xs) → all ≡ us ++ x ∷ y ∷ xs
+            → (m : Bool) → done l.state && waits r.state ≡ m → FoldAgrees l r x y before later us xs
+        fold_at l r x y before later us xs hb hl hr a false e = fold_refused l r x y before later us xs hl.state (first_is r later y xs hr).1 e
+        fold_at l r x y before later us xs hb hl hr a true e =
+            let both = both_are (done l.state) (waits r.state) e in
+            let k = waiting_first r later y xs both.1 hr in
+            let j = joins us xs x y a (ap done hl.state ∙ both.0) (ap waits k.0.state ∙ both.1) in
+            fold_taken l r x y j.0 before later us xs (piece_place ts t codes l x hl) (piece_place ts t codes r y k.0) both.0 both.1 hb k.1 j.1 (folds_exact l r x y j.0 hl k.0 both.1 j.1)
+
+        pub folded_agrees : (before ps : List PlainPiece) (us xs : List Piece) → StandForPieces ts t codes before us → StandForPieces ts t codes ps xs → all ≡ us ++ xs
+            → RunAgrees ts t codes (folded_at w q kits before ps history) (schedules.folded_at program tables without_memo w q kits' us xs history')
+        folded_agrees before [] us [] hb h a = tt
+        folded_agrees before [] us (x ∷ xs) hb h a = absurd h
+        folded_agrees before (l ∷ ps) us [] hb h a = absurd (none_there ts t codes l ps h)
+        folded_agrees before (l ∷ []) us (x ∷ []) hb h a = tt
+        folded_agrees before (l ∷ []) us (x ∷ y ∷ xs) hb h a = absurd h
+        folded_agrees before (l ∷ r ∷ ps) us (x ∷ []) hb h a = absurd h
+        folded_agrees before (l ∷ r ∷ ps) us (x ∷ y ∷ xs) hb (inl h) a =
+            either_agrees ts t codes (same_name (place_of r) q) (same_name (schedules.place_of y) q) _ _ _ _ (ap (λ n. same_name n q) (first_is r ps y xs h.1).0)
+            (λ b. fold_at l r x y before ps us xs hb h.0 h.1 a (done l.state && waits r.state) refl)
+            (λ b. folded_agrees (before ++ l ∷ []) (r ∷ ps) (us ++ x ∷ []) (y ∷ xs) (in_front ts t codes before (l ∷ []) us (x ∷ []) hb h.0) h.1 (a ∙ sym (append_assoc us (x ∷ []) (y ∷ xs))))
+        folded_agrees before (l ∷ r ∷ ps) us (x ∷ y ∷ xs) hb (inr h) a =
+            either_agrees ts t codes (same_name (place_of r) q) (same_name (schedules.place_of y) q) _ _ _ _ (ap (λ n. same_name n q) (piece_place ts t codes (valued h.0.to_right r) y h.0.right))
+            (λ b. let j = joins us xs x y a (ap done (h.0.left.state ∙ h.0.ended)) (ap waits (h.0.right.state ∙ h.0.stalled)) in
+            fold_taken l r x y j.0 before ps us xs (piece_place ts t codes (valued h.0.to_left l) x h.0.left) (piece_place ts t codes (valued h.0.to_right r) y h.0.right) (ap done h.0.ended) (ap waits h.0.stalled) hb h.1 j.1 (folds_pair l r x y j.0 h.0 j.1))
+            (past ps xs h.1 a (λ e. folded_agrees ((before ++ l ∷ []) ++ r ∷ []) ps ((us ++ x ∷ []) ++ y ∷ []) xs
+            (subst (λ bs. StandForPieces ts t codes bs ((us ++ x ∷ []) ++ y ∷ [])) (sym (append_assoc before (l ∷ []) (r ∷ [])))
+            (subst (λ zs. StandForPieces ts t codes (before ++ l ∷ r ∷ []) zs) (sym (append_assoc us (x ∷ []) (y ∷ [])))
+            (in_front ts t codes before (l ∷ r ∷ []) us (x ∷ y ∷ []) hb (inr (h.0, tt))))) h.1
+            (a ∙ sym (append_assoc us (x ∷ []) (y ∷ xs)) ∙ sym (append_assoc (us ++ x ∷ []) (y ∷ []) xs))))
+          where
+            -- the stalled one isn't a left one
+            past : (ps : List PlainPiece) (xs : List Piece) → StandForPieces ts t codes ps xs → all ≡ us ++ x ∷ y ∷ xs
+                → ((e : Unit {0}) → RunAgrees ts t codes (folded_at w q kits ((before ++ l ∷ []) ++ r ∷ []) ps history) (schedules.folded_at program tables without_memo w q kits' ((us ++ x ∷ []) ++ y ∷ []) xs history'))
+                → same_name (place_of r) q ≡ false → RunAgrees ts t codes (folded_at w q kits (before ++ l ∷ []) (r ∷ ps) history) (schedules.folded_at program tables without_memo w q kits' (us ++ x ∷ []) (y ∷ xs) history')
+            past [] [] k a f b = tt
+            past [] (z ∷ xs) k a f b = absurd k
+            past (m ∷ ps) [] k a f b = absurd (none_there ts t codes m ps k)
+            past (m ∷ ps) (z ∷ xs) k a f b =
+                either_agrees ts t codes (same_name (place_of m) q) (same_name (schedules.place_of z) q) _ _ _ _ (ap (λ n. same_name n q) (first_is m ps z xs k).0)
+                (λ c. fold_refused r m y z (before ++ l ∷ []) ps (us ++ x ∷ []) xs h.0.right.state (first_is m ps z xs k).1 (ap (λ st. done st && waits m.state) h.0.stalled))
+                (λ c. f tt)

@@ -1,0 +1,5 @@
+pub mod Named
+pub mod Pieces
+pub mod Runs
+pub mod Stands
+pub mod Simulation
