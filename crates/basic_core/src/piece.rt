@@ -4,10 +4,10 @@ ghost use Rattle.basic_frames.specs.Answers.{IsAnswer};
 ghost use Rattle.basic_core.specs.Pieces.{worked, pushed, inlined, popped, stalled, stepped, takes_memory, holds, end_of, RefusedAs};
 
 use crate::step::{Refusal, Step};
-use checked_program::checked::Checked;
 use basic_frames::answer::{Paused, Phase, RunAnswer};
 use basic_frames::strand::Strand;
 use basic_frames::task::Task;
+use checked_program::checked::Checked;
 use std::alloc::Global;
 use std::marker::Model;
 

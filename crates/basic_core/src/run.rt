@@ -10,9 +10,9 @@ ghost use Rattle.basic_core.specs.Cores.{is_open_to, taken, failed_by, is_failur
 use crate::kits::Kits;
 use crate::piece::Piece;
 use crate::step::{Refusal, StartError, Step};
-use checked_program::checked::Checked;
 use basic_frames::answer::RunAnswer;
 use basic_frames::strand::Strand;
+use checked_program::checked::Checked;
 use std::alloc::Global;
 use std::marker::Model;
 

@@ -8,9 +8,9 @@ ghost use Rattle.basic_core.specs.Samples.{leaf_name, leaf, spawning, sample, sa
 use crate::kits::Kits;
 use crate::run::Core;
 use crate::step::{Refusal, StartError, Step};
+use basic_frames::answer::RunAnswer;
 use checked_program::checked::Checked;
 use checked_program::code::{Arguments, Code, Instruction, Operation};
-use basic_frames::answer::RunAnswer;
 use program_tree::{Action, Block, Declaration, Procedure, Program, Statement, Way};
 use std::alloc::{AllocError, Global};
 use std::process::Abort;

@@ -1,5 +1,5 @@
 -- A step of a run, taken or refused: the run stays the same one, and where worker 0 takes none it has ended.
-use Rattle.std.proofs.Common.{◌≡◌, ℕ, ◌+◌, ◌-◌, ◌<◌, ◌==◌, nat_lt, Bool, true, false, not, ◌&&◌, Option, Some, None, List, [], ◌∷◌, ◌++◌, length, Result, Ok, Err, refl, ap, sym, subst, ◌∙◌, IfErr, OnOk, is_ok, if◌then◌else◌, ◌⊎◌, inl, inr, arith, ℤ, lt-ltb}
+use Rattle.std.proofs.Common.{◌≡◌, ℕ, ◌+◌, ◌<◌, ◌==◌, nat_lt, Bool, true, false, not, ◌&&◌, Option, Some, None, List, [], ◌∷◌, ◌++◌, length, Result, Ok, Err, refl, ap, sym, subst, ◌∙◌, IfErr, OnOk, is_ok, if◌then◌else◌, ◌⊎◌, inl, inr, arith, ℤ, lt-ltb}
 use Rattle.std.proofs.lemmas.Bool.{eqb-false}
 use Rattle.checked_program.specs.Checked.{PlainChecked}
 use Rattle.checked_program.specs.Linked.{IsLinked}
@@ -11,10 +11,10 @@ use Rattle.basic_frames.specs.declared.answer.RunAnswer.{RunAnswer}
 use Rattle.basic_frames.specs.declared.answer.RunAnswer.TheVariants as answer
 use Rattle.basic_frames.specs.Activations.{PlainActivation, PlainTask}
 use Rattle.basic_frames.specs.Advance.{advanced, pause_at, pause_of, returned_at, returned_of, returned_by, resumed, bottom_pause, first_of}
-use Rattle.basic_frames.specs.Answers.{Ending, underway, over, stopped, ending_at, ending_of, over_at, IsAnswer}
-use Rattle.basic_core.specs.Cores.{PlainCore, taken, taken_if, is_open_to, worker_of, put, failed_by, is_failure, IsCause, first_core, EndsRun, IsEnd, given_back}
-use Rattle.basic_core.specs.Pieces.{PlainPiece, stepped, worked, worked_at, pushed_at, pushed_over, inlined_at, popped_by, popped_of, popped, stalled_at, stalled, ended_with, takes_memory, end_at, end_of, inlined, holds, held_by}
-use Rattle.basic_core.specs.Keeps.{IsRight, InDepth, Depths, DepthsAt}
+use Rattle.basic_frames.specs.Answers.{Ending, underway, over, stopped, ending_of, over_at, IsAnswer}
+use Rattle.basic_core.specs.Cores.{PlainCore, taken, taken_if, is_open_to, worker_of, put, failed_by, is_failure, IsCause, first_core, EndsRun, IsEnd}
+use Rattle.basic_core.specs.Pieces.{PlainPiece, stepped, worked_at, pushed_at, pushed_over, inlined_at, popped_by, popped_of, stalled_at, takes_memory, end_at, end_of, holds, held_by}
+use Rattle.basic_core.specs.Keeps.{InDepth, DepthsAt}
 use Rattle.basic_core.specs.Stands.{activations}
 use Rattle.basic_core.specs.Kits.{PlainKits}
 use Rattle.basic_core.specs.declared.piece.State.{State}
@@ -22,7 +22,7 @@ use Rattle.basic_core.specs.declared.piece.State.TheVariants as state
 use Rattle.basic_core.specs.declared.step.Step.{Step}
 use Rattle.basic_core.specs.declared.step.Step.TheVariants.{Work, Push, Inline, Pop, Stall, Steal, Fold}
 use Rattle.basic_core.specs.declared.step.Refusal.{Refusal}
-use Rattle.basic_core.specs.declared.step.Refusal.TheVariants.{NoMemory, Nothing, NotThere}
+use Rattle.basic_core.specs.declared.step.Refusal.TheVariants.{NoMemory}
 use Rattle.basic_core.proofs.Keeps.{IsRight-step, IsRight-first}
 use Rattle.basic_core.proofs.Cores.{open_holds}
 use Rattle.cli.specs.Runs.{HasEnded, IsUnderway, IsRunOf0, IsSameRun, IsRefused, Cannot, NotTaken}

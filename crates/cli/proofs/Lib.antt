@@ -1,5 +1,6 @@
 pub mod Answering
 pub mod Commands
 pub mod Cores
+pub mod Lines
 pub mod Totals
 pub mod Written

@@ -1,4 +1,5 @@
 pub mod Commands
+pub mod Line
 pub mod Preparing
 pub mod Reports
 pub mod Runs

@@ -1,11 +1,10 @@
 -- What a session over two files, a script and a writer comes to, and why it is not begun.
-use Rattle.std.specs.Prelude.{◌≡◌, ◌⊎◌, ℕ, List, Option, Some, None, Ok, Err, string_bytes, IsUtf8}
+use Rattle.std.specs.Prelude.{◌≡◌, ◌⊎◌, ℕ, List, Option, Some, None, string_bytes, IsUtf8}
 use Rattle.std.specs.Io.KnownBytes.{Appends, Keeps}
 use Rattle.program_tree.specs.View.{tree}
 use Rattle.meaning.specs.Tables.{Tables}
 use Rattle.meaning.specs.Text.{answers_text}
 use Rattle.checked_program.specs.Checked.{PlainChecked}
-use Rattle.cli.specs.declared.streams.SessionError.{SessionError}
 use Rattle.cli.specs.declared.streams.SessionError.TheVariants as s
 use Rattle.cli.specs.declared.program.ProgramError.{ProgramError}
 use Rattle.cli.specs.declared.program.ProgramError.TheVariants.{Line, File, Prepare, Session}

@@ -1,7 +1,7 @@
 -- How far a run by worker 0 has come.
-use Rattle.std.specs.Prelude.{◌≡◌, ◌⊎◌, true, Result, Ok, Err}
+use Rattle.std.specs.Prelude.{◌≡◌, ◌⊎◌, true, Err}
 use Rattle.basic_frames.specs.Answers.{underway}
-use Rattle.basic_core.specs.Pieces.{PlainPiece, end_of}
+use Rattle.basic_core.specs.Pieces.{end_of}
 use Rattle.basic_core.specs.Keeps.{IsRight}
 use Rattle.basic_core.specs.Cores.{PlainCore, is_open_to, taken}
 use Rattle.basic_core.specs.declared.step.Step.{Step}

@@ -7,14 +7,14 @@ use super::prepare::prepare;
 use super::runs::run;
 use super::script::{Command, commands};
 use super::streams::{read_all, write_whole};
-use checked_program::checked::Checked;
+use basic_core::kits::Kits;
 use basic_frames::answer::{Fault, RunAnswer};
+use checked_program::checked::Checked;
 use meaning::FaultKind;
 use monoid_laws::Kind;
 use program_tree::Reducer;
 use std::alloc::Global;
 use std::process::Abort;
-use basic_core::kits::Kits;
 
 const TWO_REDUCERS: &str =
     "reducer a : add; proc main() { update b 5; update a 7; return 0 - 3; } reducer b : add;";

@@ -10,8 +10,8 @@ ghost use Rattle.basic_core.specs.Keeps.{IsElision};
 ghost use Rattle.meaning.specs.Text.{outcome_text, unknown_text, run_line, result_text, fault_name, fault_text, worth_line, worths_text};
 
 use crate::streams::SessionError;
-use checked_program::checked::Checked;
 use basic_frames::answer::{Fault, RunAnswer};
+use checked_program::checked::Checked;
 use meaning::FaultKind;
 use program_tree::{Declaration, Program, Reducer};
 use std::alloc::AllocError;

@@ -1,16 +1,16 @@
 // Runs of one strand, step by step.
 
+use basic_core::kits::Kits;
+use basic_core::run::Core;
+use basic_core::step::{Refusal, StartError, Step};
+use basic_frames::answer::{Fault, RunAnswer};
 use basic_parser::parse;
 use checked_program::checked::Checked;
-use basic_frames::answer::{Fault, RunAnswer};
 use input_tables::Tables;
 use meaning::FaultKind;
 use spawn_checker::basic::check;
 use std::alloc::Global;
 use std::process::Abort;
-use basic_core::kits::Kits;
-use basic_core::run::Core;
-use basic_core::step::{Refusal, StartError, Step};
 
 const FIRST: &str =
     "reducer total : add;\nproc leaf(v) { update total v; return v; }\nproc main() { x = spawn leaf(1); y = spawn leaf(2); update total 9; sync; return x + y; }\n";

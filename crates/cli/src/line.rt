@@ -1,21 +1,22 @@
 // The words of the program's line.
-ghost use Rattle.std.specs.Prelude.{◌≡◌, ◌≤◌, IfOk};
+ghost use Rattle.std.specs.Prelude.{◌≡◌, ◌≢◌, ◌≤◌, ◌⊎◌, ℕ, List, IfOk, IfErr, OnOk, map, option_map};
+ghost use Rattle.clap.specs.Words.{app_of, found_of, first_value, kind_of};
+ghost use Rattle.clap.specs.declared.error.kind.ErrorKind.TheVariants.{OutOfMemory};
+ghost use Rattle.cli.specs.Line.{line_form, given, HasForm, AsksFor, IsLine};
+ghost use Rattle.cli.specs.declared.options.OptionsError.TheVariants as refusal;
 
 use crate::options::{Options, OptionsError};
 use clap::error::ErrorKind;
-use clap::{Arg, ArgAction, Command};
+use clap::{Arg, ArgAction, ArgMatches, Command, Error};
 use std::alloc::{AllocError, Global};
 
 /// The options of a line, whose first word is the program's own name; refused for another form or want of memory.
 pub fn options<'a>(alloc: Global, words: &'a [&'a str]) -> Result<Options<'a>, OptionsError>
+    ensures read { IfOk result (λ options. IsLine (map (λ word. word.now) words.now) options.program.now options.tables.now options.workers) }
     ensures workers { IfOk result (λ options. (1 ≤ options.workers) × (options.workers ≤ 16)) }
+    ensures refused { IfErr result (λ error. (error ≡ refusal.NoMemory) ⊎ ((error ≡ refusal.Usage) × ((program tables : List ℕ) (n : ℕ) → IsLine (map (λ word. word.now) words.now) program tables n → ⊥))) }
 {
-    let command = form(alloc).map_err(|_| OptionsError::NoMemory)?;
-    let matches = match command.try_get_matches_from(words) {
-        Ok(matches) => matches,
-        Err(error) if error.kind() == ErrorKind::OutOfMemory => return Err(OptionsError::NoMemory),
-        Err(_) => return Err(OptionsError::Usage),
-    };
+    let matches = matched(alloc, words)?;
     let workers = worker_count(matches.get_str("workers"))?;
     match (matches.get_str("program"), matches.get_str("tables")) {
         (Some(program), Some(tables)) => Ok(Options {
@@ -27,8 +28,35 @@ pub fn options<'a>(alloc: Global, words: &'a [&'a str]) -> Result<Options<'a>, O
     }
 }
 
+// What the words give for each name of the form.
+fn matched<'a>(alloc: Global, words: &'a [&'a str]) -> Result<ArgMatches<'a>, OptionsError>
+    ensures form { OnOk result (HasForm (map (λ word. word.now) words.now)) }
+    ensures given { IfOk result (λ matches. (name : List ℕ) → first_value (found_of matches) name ≡ given name (map (λ word. word.now) words.now)) }
+    ensures refused { IfErr result (λ error. (error ≡ refusal.NoMemory) ⊎ ((error ≡ refusal.Usage) × (HasForm (map (λ word. word.now) words.now) → ⊥))) }
+{
+    let Ok(command) = form(alloc) else {
+        return Err(OptionsError::NoMemory);
+    };
+    match command.try_get_matches_from(words) {
+        Ok(matches) => Ok(matches),
+        Err(error) => Err(refusal(error)),
+    }
+}
+
+// The refusal for an error of the words.
+fn refusal(error: Error) -> OptionsError
+    ensures { (result ≡ refusal.NoMemory) ⊎ ((result ≡ refusal.Usage) × (kind_of error ≢ OutOfMemory)) }
+{
+    if error.kind() == ErrorKind::OutOfMemory {
+        return OptionsError::NoMemory;
+    }
+    OptionsError::Usage
+}
+
 // The form of the line.
-fn form<'a>(alloc: Global) -> Result<Command<'a>, AllocError> {
+fn form<'a>(alloc: Global) -> Result<Command<'a>, AllocError>
+    ensures { IfOk result (λ command. app_of command ≡ line_form) }
+{
     let program = Arg::new(alloc, "program")
         .required(true)
         .action(ArgAction::Set);
@@ -46,13 +74,18 @@ fn form<'a>(alloc: Global) -> Result<Command<'a>, AllocError> {
 
 // How many workers a text asks for; one where there is none.
 fn worker_count(text: Option<&str>) -> Result<usize, OptionsError>
+    ensures asked { IfOk result (AsksFor (option_map (λ t. t.now) text.entry)) }
     ensures workers { IfOk result (λ n. (1 ≤ n) × (n ≤ 16)) }
+    ensures refused { IfErr result (λ error. (error ≡ refusal.Usage) × ((n : ℕ) → AsksFor (option_map (λ t. t.now) text.entry) n → ⊥)) }
 {
     let Some(text) = text else {
         return Ok(1);
     };
-    match text.parse::<usize>() {
-        Ok(workers) if 1 <= workers && workers <= 16 => Ok(workers),
-        _ => Err(OptionsError::Usage),
+    let Ok(workers) = text.parse::<usize>() else {
+        return Err(OptionsError::Usage);
+    };
+    if 1 <= workers && workers <= 16 {
+        return Ok(workers);
     }
+    Err(OptionsError::Usage)
 }

@@ -11,13 +11,13 @@ use crate::options::{Options, OptionsError};
 use crate::prepare::{PrepareError, prepare};
 use crate::session::{Session, session_text};
 use crate::streams::SessionError;
+use basic_core::kits::Kits;
 use std::alloc::Global;
 use std::io::{BufReader, BufWriter, ErrorKind, Read, Write};
 use std::rt::Runtime;
 use std::sync::Wait;
 use std::{env, io};
 use thiserror::Error;
-use basic_core::kits::Kits;
 
 /// The kits of a session's pool.
 const KITS: usize = 64;

@@ -8,14 +8,14 @@ ghost use Rattle.basic_core.specs.Cores.{taken};
 ghost use Rattle.cli.specs.Runs.{IsSameRun, IsRunOf0, HasEnded, NotTaken};
 
 use crate::streams::SessionError;
-use checked_program::checked::Checked;
-use basic_frames::answer::RunAnswer;
-use std::alloc::Global;
-use std::mem;
-use std::sync::Wait;
 use basic_core::kits::Kits;
 use basic_core::run::Core;
 use basic_core::step::{StartError, Step};
+use basic_frames::answer::RunAnswer;
+use checked_program::checked::Checked;
+use std::alloc::Global;
+use std::mem;
+use std::sync::Wait;
 
 /// A run of a checked program, by worker 0; refused where no kit is free, or for want of memory as it starts.
 pub fn run(

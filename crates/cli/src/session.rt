@@ -13,12 +13,12 @@ use crate::answers::{push_outcome, push_run, push_unknown};
 use crate::runs::run;
 use crate::script::{Command, commands};
 use crate::streams::{SessionError, read_all, write_whole};
+use basic_core::kits::Kits;
 use checked_program::checked::Checked;
 use input_tables::Tables;
 use std::alloc::Global;
 use std::io::{Read, Write};
 use std::sync::Wait;
-use basic_core::kits::Kits;
 
 /// A checked program, its tables and its pool of kits.
 #[derive(Drop)]

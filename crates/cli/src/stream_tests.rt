@@ -2,12 +2,12 @@
 use super::prepare::prepare;
 use super::session::{Session, session_text};
 use super::streams::{SessionError, read_all, write_whole};
+use basic_core::kits::Kits;
 use std::alloc::Global;
 use std::io;
 use std::io::{ErrorKind, Read, Write};
 use std::process::Abort;
 use std::sync::Wait;
-use basic_core::kits::Kits;
 
 // A reader that gives one byte of `run` and an end of line a call, and errors of this kind before some.
 #[derive(Drop)]

@@ -4,12 +4,12 @@ use super::options::OptionsError;
 use super::prepare::{PrepareError, prepare};
 use super::session::{Session, session_text};
 use super::streams::SessionError;
+use basic_core::kits::Kits;
 use std::alloc::Global;
 use std::io;
 use std::io::{ErrorKind, Read, Write};
 use std::process::Abort;
 use std::sync::Wait;
-use basic_core::kits::Kits;
 
 const FIRST: &str = "reducer total : add;
 proc leaf(v) { update total v; return v; }

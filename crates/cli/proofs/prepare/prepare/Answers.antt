@@ -1,4 +1,3 @@
-use Rattle.std.proofs.Common.{◌≡◌}
 use Rattle.program_tree.specs.View.{tree, lines}
 use Rattle.cli.proofs.prepare.prepare.Goals as goal
 

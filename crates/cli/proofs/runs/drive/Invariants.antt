@@ -1,4 +1,3 @@
-use Rattle.std.proofs.Common.{◌≡◌}
 use Rattle.cli.specs.Runs.{IsSameRun, IsRunOf0}
 use Rattle.cli.proofs.runs.drive.Given as goal
 

@@ -1,4 +1,4 @@
-use Rattle.std.proofs.Common.{◌≡◌, ◌∙◌, ap, subst, sym}
+use Rattle.std.proofs.Common.{◌∙◌, ap, subst}
 use Rattle.program_tree.specs.View.{tree}
 use Rattle.meaning.specs.Elision.{from_scratch}
 use Rattle.basic_core.specs.Keeps.{IsElision}

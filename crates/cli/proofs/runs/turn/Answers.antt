@@ -1,4 +1,4 @@
-use Rattle.std.proofs.Common.{◌≡◌, refl, inr}
+use Rattle.std.proofs.Common.{refl, inr}
 use Rattle.basic_core.specs.Cores.{PlainCore}
 use Rattle.basic_core.specs.declared.step.Step.TheVariants.{Work, Push, Inline, Pop, Stall}
 use Rattle.cli.specs.Runs.{Cannot}

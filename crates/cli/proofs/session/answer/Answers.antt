@@ -1,4 +1,3 @@
-use Rattle.std.proofs.Common.{◌≡◌}
 use Rattle.program_tree.specs.View.{tree}
 use Rattle.meaning.specs.Elision.{from_scratch}
 use Rattle.cli.proofs.Answering.{answer_text-run}

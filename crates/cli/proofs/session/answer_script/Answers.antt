@@ -1,7 +1,6 @@
-use Rattle.std.proofs.Common.{◌≡◌, ◌<◌, sym, ◌∙◌, ◌++◌, ◌≤◌, ◌+◌, ap, map, subst, refl, append_assoc, arith, ℕ}
+use Rattle.std.proofs.Common.{◌<◌, sym, ◌∙◌, ap, map, subst, append_assoc}
 use Rattle.program_tree.specs.View.{tree}
-use Rattle.meaning.specs.Script as script
-use Rattle.meaning.specs.Text.{answers_from, runs_after}
+use Rattle.meaning.specs.Text.{answers_from}
 use Rattle.cli.specs.Commands.{said}
 use Rattle.cli.specs.Written.{HasBeginning}
 use Rattle.cli.proofs.Answering.{one_more_answer, runs_after-le}

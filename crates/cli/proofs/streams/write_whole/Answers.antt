@@ -1,6 +1,4 @@
-use Rattle.std.proofs.Common.{rules, ◌≡◌, ◌+◌, ◌-◌, ◌≤◌, length, take, drop, arith, length-drop, length-take, ◌∙◌}
-use Rattle.std.specs.Result.{OnErr}
-use Rattle.std.specs.Io.KnownBytes.{Keeps}
+use Rattle.std.proofs.Common.{arith, length-drop, length-take}
 use Rattle.cli.proofs.Written.{Appends-next, Appends-kept}
 use Rattle.cli.proofs.streams.write_whole.Goals.{in-Ok, in-Err}
 use Rattle.cli.proofs.streams.write_whole.Goals as goal

@@ -1,0 +1,36 @@
+-- What the words of the program's line ask for, as clap reads them.
+use Rattle.std.specs.Prelude.{◌≡◌, ◌≤◌, ℕ, List, [], Option, Some, None, true, codes}
+use Rattle.std.specs.Str.Parse.{IsNumeral, digits_value, without_leading_plus}
+use Rattle.clap.specs.Words.{App, Rule, fault_of, first_of, matches_of, new_app, new_rule, with_rule}
+use Rattle.clap.specs.declared.builder.action.ArgAction.TheVariants.{Set}
+
+-- a path that each line has, and the option that a line may have
+abbrev pub path_rule : List ℕ → Rule
+path_rule name = record (new_rule name) { required = true; action = Some Set }
+
+abbrev pub workers_rule : Rule
+workers_rule = record (new_rule (codes "workers")) { long = Some (codes "workers"); action = Some Set }
+
+-- the form of a line: PROGRAM TABLES [--workers N]
+abbrev pub line_form : App
+line_form = with_rule (with_rule (with_rule (new_app (codes "cilkreport")) (path_rule (codes "program"))) (path_rule (codes "tables"))) workers_rule
+
+-- what the words give for a name of the form
+unfoldable pub given : List ℕ → List (List ℕ) → Option (List ℕ)
+given name words = first_of name (matches_of line_form words)
+
+-- the words have the form
+unfoldable pub HasForm : List (List ℕ) → Type 0
+HasForm words = fault_of line_form words ≡ []
+
+-- n workers are asked for: one where nothing is said, else a number of 1 to 16
+abbrev pub AsksFor : Option (List ℕ) → ℕ → Type 0
+AsksFor None n = n ≡ 1
+AsksFor (Some text) n = IsNumeral 10 (without_leading_plus text) × (digits_value 10 (without_leading_plus text) ≡ n) × (1 ≤ n) × (n ≤ 16)
+
+-- the words are a line with these two paths, for n workers
+pub record IsLine (words : List (List ℕ)) (program tables : List ℕ) (n : ℕ) : Type 0 where
+  pub form : HasForm words
+  pub program_is : given (codes "program") words ≡ Some program
+  pub tables_are : given (codes "tables") words ≡ Some tables
+  pub workers_are : AsksFor (given (codes "workers") words) n
