@@ -12,4 +12,4 @@ cp "$top/bench/tables/main.rt.txt" "$copy/crates/tables_bench/src/main.rt" # the
 grep -E '^(monoid_laws|program_tree|meaning|input_tables):' "$top/crates.txt" > "$copy/crates.txt"
 echo 'tables_bench: input_tables' >> "$copy/crates.txt"
 cd "$copy/crates/tables_bench"
-"${RT:-rt}" run
+${RT:-rt} run
