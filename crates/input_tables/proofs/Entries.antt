@@ -1,5 +1,5 @@
 -- What a map's look-up, insert, removal and last key are of the rows that it holds.
-use Rattle.std.proofs.Common.{◌≡◌, ℕ, zero, suc, ℤ, pos, negsuc, List, [], ◌∷◌, Option, Some, None, option_map, Bool, true, false, cond, Vec, Global, Ordering, Less, Equal, Greater, refl, ap, sym, ◌∙◌, subst, ◌+◌, ◌-◌, ◌<◌, ◌≤◌, arith, ltb, leb-true, ltb-true, lt-ltb, inl, inr, ◌+ℤ◌}
+use Rattle.std.proofs.Common.{◌≡◌, ℕ, zero, suc, ℤ, pos, negsuc, List, [], ◌∷◌, Option, Some, None, option_map, Bool, true, false, cond, Vec, Global, Ordering, Less, Equal, Greater, refl, ap, sym, ◌∙◌, subst, ◌+◌, ◌<◌, ◌≤◌, arith, ltb, leb-true, ltb-true, lt-ltb, inl, inr, ◌+ℤ◌}
 use Rattle.std.specs.Int.{w64, int_wrapping_add}
 use Rattle.std.specs.Int.RustNames.{FitsSigned}
 use Rattle.std.proofs.lemmas.Int.{ints, wrapping_add_is, int_wrap_fits}
@@ -13,7 +13,10 @@ use Rattle.std.specs.BTreeMap.{insert_entry, is_at}
 use Rattle.std.proofs.lemmas.Cmp.{int_eq_equiv, int_ranked}
 use Rattle.meaning.specs.Tables.{row_of, above_all, is_there}
 use Rattle.meaning.specs.Edits.{row_put, row_gone, in_range}
-use Rattle.input_tables.specs.Rows.{Row, seen, AreNumbered}
+use Rattle.monoid_laws.specs.Kinds.{Fits}
+use Rattle.meaning.specs.Tables.{at_column}
+use Rattle.input_tables.specs.Rows.{Row, seen, AreNumbered, AreCells, HaveCells}
+use Rattle.input_tables.specs.Edited.{RowsFit}
 
 abbrev pub Entry : Type 0
 Entry = ℤ × Vec ℤ Global
@@ -192,3 +195,48 @@ pub put_or_same : {A B : Type 0} (r : Result A B) (es more : List Entry) (m n : 
     → OnErr r (more ≡ es) → in_range n ≡ true → AreNumbered es → AreNumbered more
 put_or_same (Ok a) es more m n v same put kept here all = put_numbers es more m n v same put here all
 put_or_same (Err b) es more m n v same put kept here all = subst AreNumbered (sym kept) all
+
+-- ---- each cell is a number of 64 bits
+
+put_cells : (o : Ordering) (n : ℤ) (v : Vec ℤ Global) (e : Entry) (es more : List Entry) → AreCells v.items → HaveCells (e ∷ es) → HaveCells more
+    → HaveCells (match_ordering o ((n, v) ∷ e ∷ es) ((e.0, v) ∷ es) (e ∷ more))
+put_cells Less n v e es more here all left = (here, all)
+put_cells Equal n v e es more here all left = (here, all.1)
+put_cells Greater n v e es more here all left = (all.0, left)
+
+HaveCells-put : (es : List Entry) (n : ℤ) (v : Vec ℤ Global) → AreCells v.items → HaveCells es → HaveCells (insert_entry int_cmp es n v)
+HaveCells-put [] n v here all = (here, tt)
+HaveCells-put (e ∷ es) n v here all =
+    put_cells (int_cmp n e.0) n v e es (insert_entry int_cmp es n v) here all (HaveCells-put es n v here all.1)
+
+gone_cells : (b : Bool) (e : Entry) (es less : List Entry) → HaveCells (e ∷ es) → HaveCells less → HaveCells (cond b es (e ∷ less))
+gone_cells true e es less all left = all.1
+gone_cells false e es less all left = (all.0, left)
+
+HaveCells-gone : (es : List Entry) (n : ℤ) → HaveCells es → HaveCells (remove_entry (is_at (int_cmp n)) es)
+HaveCells-gone [] n all = tt
+HaveCells-gone (e ∷ es) n all =
+    gone_cells (is_eq (int_cmp n e.0)) e es (remove_entry (is_at (int_cmp n)) es) all (HaveCells-gone es n all.1)
+
+pub less_has_cells : (es less : List Entry) (m : ℤ) → less ≡ remove_entry (is_at (int_cmp m)) es → HaveCells es → HaveCells less
+less_has_cells es less m is all = subst HaveCells (sym is) (HaveCells-gone es m all)
+
+pub more_has_cells : {A B : Type 0} (r : Result A B) (es more : List Entry) (m : ℤ) (v : Vec ℤ Global) → OnOk r (more ≡ insert_entry int_cmp es m v)
+    → OnErr r (more ≡ es) → AreCells v.items → HaveCells es → HaveCells more
+more_has_cells (Ok a) es more m v put kept here all = subst HaveCells (sym put) (HaveCells-put es m v here all)
+more_has_cells (Err b) es more m v put kept here all = subst HaveCells (sym kept) all
+
+cell_fits : (vs : List ℤ) (column : ℕ) (v : ℤ) → AreCells vs → slice_get vs column ≡ Some v → Fits v
+cell_fits [] column v all at = absurd cc
+cell_fits (x ∷ xs) zero v all at = let same : x ≡ v = cc in subst Fits same all.0
+cell_fits (x ∷ xs) (suc n) v all at = cell_fits xs n v all.1 at
+
+in_row : (b : Bool) (vs : List ℤ) (o : Option (List ℤ)) (column : ℕ) (v : ℤ) → AreCells vs → (at_column o column ≡ Some v → Fits v)
+    → at_column (cond b (Some vs) o) column ≡ Some v → Fits v
+in_row true vs o column v all later at = cell_fits vs column v all at
+in_row false vs o column v all later at = later at
+
+pub rows_fit : (es : List Entry) → HaveCells es → RowsFit (seen es)
+rows_fit [] all row column v at = absurd cc
+rows_fit (e ∷ es) all row column v at =
+    in_row (int_eq e.0 row) e.1.items (row_of (seen es) row) column v all.0 (rows_fit es all.1 row column v) at

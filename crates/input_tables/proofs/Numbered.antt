@@ -1,12 +1,12 @@
 -- Tables by number, and by name.
-use Rattle.std.proofs.Common.{◌≡◌, ℕ, zero, suc, ℤ, List, [], ◌∷◌, length, Option, Some, None, Bool, true, false, cond, refl, ap, sym, ◌∙◌, subst}
+use Rattle.std.proofs.Common.{◌≡◌, ℕ, zero, suc, ℤ, List, [], ◌∷◌, length, Option, Some, None, Bool, true, false, cond, refl, ap, sym, ◌∙◌, subst, ◌≤◌, drop, arith}
 use Rattle.std.specs.Prelude.{slice_get, slice_set}
 use Rattle.std.specs.Str.{bytes_eq}
 use Rattle.program_tree.specs.Plain.{Name}
 use Rattle.meaning.specs.Tables.{Tables, Listed, rows_of, columns_of, place_of, cell_of, has_row, limit_of}
 use Rattle.meaning.specs.Edits.{table_of, table_changed}
 use Rattle.input_tables.specs.Rows.{Row}
-use Rattle.input_tables.specs.Edited.{names_of, rows_at, columns_at, changed_at, cell_at, has_at, limit_at}
+use Rattle.input_tables.specs.Edited.{AreFit, RowsFit, CellsFit, names_of, rows_at, columns_at, changed_at, cell_at, has_at, limit_at}
 
 pub rows_at-there : (ts : Tables) (n : ℕ) (t : Listed) → slice_get ts n ≡ Some t → rows_at ts n ≡ t.rows
 rows_at-there [] n t at = absurd cc
@@ -85,3 +85,22 @@ pub set_at : (f : Listed → Listed) (ts : Tables) (n : ℕ) (x y : Listed) → 
 set_at f [] n x y at is = absurd cc
 set_at f (t ∷ ts) zero x y at is = let same : t ≡ x = cc in ap (λ z. z ∷ ts) (is ∙ ap f (sym same))
 set_at f (t ∷ ts) (suc n) x y at is = ap (λ zs. t ∷ zs) (set_at f ts n x y at is)
+
+-- ---- each cell is a number of 64 bits
+
+rows_either_fit : (b : Bool) (xs ys : List Row) → RowsFit xs → RowsFit ys → RowsFit (cond b xs ys)
+rows_either_fit true xs ys f g = f
+rows_either_fit false xs ys f g = g
+
+rows_of_fit : (ts : Tables) (t : Name) → AreFit ts → RowsFit (rows_of ts t)
+rows_of_fit [] t all = λ row column v at. absurd cc
+rows_of_fit (x ∷ xs) t all = rows_either_fit (bytes_eq x.called t) x.rows (rows_of xs t) all.0 (rows_of_fit xs t all.1)
+
+pub cells_of_fit : (ts : Tables) → AreFit ts → CellsFit ts
+cells_of_fit ts all t row c v at = rows_of_fit ts t all row (place_of (columns_of ts t) c) v at
+
+pub none_left : (ts : Tables) (i : ℕ) → length ts ≤ i → AreFit (drop i ts)
+none_left [] zero h = tt
+none_left [] (suc i) h = tt
+none_left (x ∷ xs) zero h = absurd (omega arith)
+none_left (x ∷ xs) (suc i) h = none_left xs i (omega arith)

@@ -1,8 +1,9 @@
 -- Tables that are edited, and what is read of them by number.
-use Rattle.std.specs.Prelude.{◌≡◌, ℕ, zero, suc, ℤ, pos, Bool, List, [], ◌∷◌, Option, Result, Err, IsOk, map}
+use Rattle.std.specs.Prelude.{◌≡◌, ℕ, zero, suc, ℤ, pos, Bool, List, [], ◌∷◌, Option, Some, Result, Err, IsOk, map}
 use Rattle.program_tree.specs.Plain.{Name}
 use Rattle.meaning.specs.Records.{Revised}
-use Rattle.meaning.specs.Tables.{Tables, Listed, row_of, at_column, is_there, above_all}
+use Rattle.monoid_laws.specs.Kinds.{Fits}
+use Rattle.meaning.specs.Tables.{Tables, Listed, row_of, at_column, is_there, above_all, cell_of}
 use Rattle.meaning.specs.Edits.{row_put, row_gone, with_rows, table_changed, Standing, EditRefusal, UnknownTable, WrongColumns, RowRange, NoRow, Exhausted}
 use Rattle.input_tables.specs.Rows.{Row}
 use Rattle.input_tables.specs.declared.refusal.EditError.{EditError}
@@ -64,3 +65,14 @@ IsEditCause answer e.Columns = answer ≡ Err WrongColumns
 IsEditCause answer e.RowRange = answer ≡ Err RowRange
 IsEditCause answer e.NoRow = answer ≡ Err NoRow
 IsEditCause answer e.Exhausted = answer ≡ Err Exhausted
+
+-- each cell of the rows, and of the tables, is a number of 64 bits
+abbrev pub RowsFit : List Row → Type 0
+RowsFit rows = (row : ℤ) (column : ℕ) (v : ℤ) → at_column (row_of rows row) column ≡ Some v → Fits v
+
+abbrev pub AreFit : Tables → Type 0
+AreFit [] = Unit {0}
+AreFit (t ∷ ts) = RowsFit t.rows × AreFit ts
+
+abbrev pub CellsFit : Tables → Type 0
+CellsFit ts = (t : Name) (row : ℤ) (c : Name) (v : ℤ) → cell_of ts t row c ≡ Some v → Fits v

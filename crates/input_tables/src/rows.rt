@@ -2,7 +2,10 @@
 
 ghost use Rattle.std.specs.Prelude.{◌≡◌, pos, [], true, IfOk, OnOk, OnErr, option_map};
 ghost use Rattle.meaning.specs.Tables.{row_of, above_all, is_there};
+ghost use Rattle.monoid_laws.specs.Kinds.{Fits};
 ghost use Rattle.meaning.specs.Edits.{row_put, row_gone, in_range};
+ghost use Rattle.input_tables.specs.Rows.{AreCells};
+ghost use Rattle.input_tables.specs.Edited.{RowsFit};
 
 use std::alloc::{AllocError, Global};
 use std::collections::BTreeMap;
@@ -16,13 +19,28 @@ pub struct Rows {
 
 impl Model for Rows {
     ghost use Rattle.std.specs.Prelude.{List};
-    ghost use Rattle.input_tables.specs.Rows.{Row, seen, AreNumbered};
+    ghost use Rattle.input_tables.specs.Rows.{Row, seen, AreNumbered, HaveCells};
 
     ghost Value = { List Row };
 
     ghost view = { λ rows. seen rows.by_number.entries };
 
-    ghost invariant = { λ rows. AreNumbered rows.by_number.entries };
+    ghost invariant = { λ rows. AreNumbered rows.by_number.entries × HaveCells rows.by_number.entries };
+}
+
+fn number_fits(number: i64)
+    ensures fits { Fits number }
+{
+    let _ = number;
+}
+
+// Each value is a number of 64 bits, as its type says.
+fn values_fit(values: &[i64])
+    ensures fit { AreCells values.now }
+{
+    for value in values {
+        number_fits(*value);
+    }
 }
 
 impl Rows {
@@ -49,6 +67,13 @@ impl Rows {
         self.by_number.contains_key(&number)
     }
 
+    /// What the type keeps: each cell is a number of 64 bits.
+    pub fn cells_fit(&self)
+        ensures fit { RowsFit self.now }
+    {
+        let _ = &self.by_number;
+    }
+
     /// One more than the greatest number, or 0 where there are no rows.
     pub fn limit(&self) -> i64
         ensures { result ≡ above_all (pos 0) self.now }
@@ -66,6 +91,7 @@ impl Rows {
         ensures put { OnOk result (self.new ≡ row_put number values.items self.old) }
         ensures same { OnErr result (self.new ≡ self.old) }
     {
+        values_fit(&values);
         match self.by_number.insert(number, values) {
             Ok(before) => Ok(before.is_some()),
             Err(_) => Err(AllocError),

@@ -5,7 +5,7 @@ ghost use Rattle.std.specs.Str.{bytes_eq};
 ghost use Rattle.toml.specs.View.{view, table_view};
 ghost use Rattle.meaning.specs.Tables.{row_of, at_column, is_there, above_all, place_of};
 ghost use Rattle.meaning.specs.Edits.{with_rows, row_put, row_gone, in_range, table_of};
-ghost use Rattle.input_tables.specs.Edited.{names_of};
+ghost use Rattle.input_tables.specs.Edited.{names_of, RowsFit};
 ghost use Rattle.input_tables.specs.Shapes.{table_in, listed_in, with_rows_of};
 ghost use Rattle.input_tables.specs.Faults.{IsFaulty};
 
@@ -99,6 +99,13 @@ impl Table {
         ensures { result ≡ above_all (pos 0) self.now.rows }
     {
         self.rows.limit()
+    }
+
+    /// What the type keeps: each cell is a number of 64 bits.
+    pub fn cells_fit(&self)
+        ensures fit { RowsFit self.now.rows }
+    {
+        self.rows.cells_fit();
     }
 
     /// Puts a row in the place of the one of its number.

@@ -6,7 +6,7 @@ ghost use Rattle.meaning.specs.Tables.{place_of, columns_of, cell_of, has_row, l
 ghost use Rattle.input_tables.specs.Document.{reading, HasCause};
 ghost use Rattle.meaning.specs.Records.{Revised};
 ghost use Rattle.meaning.specs.Edits.{after_put, after_delete, in_range, table_of};
-ghost use Rattle.input_tables.specs.Edited.{beside, IsEditCause, edited, changed_at, row_into, row_out_of, names_of, columns_at, cell_at, has_at, limit_at};
+ghost use Rattle.input_tables.specs.Edited.{beside, IsEditCause, edited, changed_at, row_into, row_out_of, names_of, columns_at, cell_at, has_at, limit_at, CellsFit};
 
 use crate::document::tables_in;
 use crate::refusal::{EditError, TablesError};
@@ -81,6 +81,15 @@ impl Tables {
         ensures { map string_bytes result.now ≡ columns_at self.now.tables table }
     {
         self.listed[table].columns()
+    }
+
+    /// What the type keeps: each cell is a number of 64 bits. It takes time in proportion to the number of tables.
+    pub fn cells_fit(&self)
+        ensures fit { CellsFit self.now.tables }
+    {
+        for table in &self.listed {
+            table.cells_fit();
+        }
     }
 
     // The table of a number.

@@ -9,11 +9,11 @@ fits_next n h = rw h.1 (omega (arith, ints, h.2), omega (arith, ints, h.2))
 
 pub overflow_add-result : goal.overflow_add-result
 overflow_add-result c =
-    let here = number_of c.in-Some.last.now (at_numbered c.self.inside.by_number.entries _ _ _ c.self.invariant c.in-Some.ensures.last) in
+    let here = number_of c.in-Some.last.now (at_numbered c.self.inside.by_number.entries _ _ _ c.self.invariant.0 c.in-Some.ensures.last) in
     rw here.1 (omega (arith, ints, here.2))
 
 pub returns-in-Some : goal.returns-in-Some
 returns-in-Some c =
-    let fits = fits_next c.in-Some.last.now (number_of c.in-Some.last.now (at_numbered c.self.inside.by_number.entries _ _ _ c.self.invariant c.in-Some.ensures.last)) in
+    let fits = fits_next c.in-Some.last.now (number_of c.in-Some.last.now (at_numbered c.self.inside.by_number.entries _ _ _ c.self.invariant.0 c.in-Some.ensures.last)) in
     rw (to_z-of_z w64 _ fits.0, to_z-of_z w64 _ fits.1, ← c.self.view_is)
-    (sym (above_greatest c.self.inside.by_number.entries _ c.in-Some.last.now _ c.self.invariant c.in-Some.ensures.all_up_to c.in-Some.ensures.last))
+    (sym (above_greatest c.self.inside.by_number.entries _ c.in-Some.last.now _ c.self.invariant.0 c.in-Some.ensures.all_up_to c.in-Some.ensures.last))
