@@ -25,6 +25,14 @@ is_at_map f xs i x h e = ap f e ∙ sym (get_or-map f xs i x (f x) h)
 same_not : {b : Bool} → b ≡ true → b ≡ false → ⊥
 same_not p q = cc
 
+eq_swap : (a b : ℕ) → nat_eq a b ≡ nat_eq b a
+eq_swap a b = grind (arith, common_steps)
+
+-- whether a number is among others, asked from either side
+pub any_swap : (x : ℕ) (ys : List ℕ) → list_any (λ y. nat_eq y x) ys ≡ list_any (nat_eq x) ys
+any_swap x [] = refl
+any_swap x (y ∷ ys) = rw (eq_swap y x, any_swap x ys) refl
+
 either_false : (a b b' c : Bool) → (a || b') ≡ false → (b' ≡ false → (b ≡ false) × (c ≡ false)) → ((a || b) ≡ false) × (c ≡ false)
 either_false true b b' c h f = absurd (same_not refl h)
 either_false false b b' c h f = f h

@@ -3,6 +3,7 @@
 
 ghost use Rattle.std.specs.Prelude.{◌≡◌, ℕ, ◌≤◌, ◌<◌, ◌+◌, OnOk, OnErr, IfOk, IfErr, IsOk, IsSome, IsTrue, IsNone, IfSome, length, List, map, All, ◌++◌, ◌∷◌, [], slice_index_or, slice_set, ◌↔◌, Bool, false, true, vec_len, nat_eq, ◌⊎◌};
 ghost use Rattle.std.specs.List.{list_any};
+ghost use Rattle.indexmap.specs.IndexSet.{insert_key};
 ghost use Rattle.monoid_laws.specs.Worth.{Worth};
 ghost use Rattle.monoid_laws.specs.declared.Kind.{Kind};
 ghost use Rattle.monoid_laws.specs.Kinds.{operate, identity_of, identities, meaning, element_of, IsWorth, AreWorths, arity, names_element, refusal, operate_all, IsMonoid};
@@ -34,6 +35,28 @@ impl<V: View> Model for Hypermap<V> {
     ghost view = { λ s. record { kinds = map V.kind_of s.views.items; worths = map V.worth_of s.views.items } };
 
     ghost invariant = { λ s. IsLayer (map V.kind_of s.views.items) (map V.worth_of s.views.items) s.used.keys };
+}
+
+/// Whether a reducer was used. The used ones are so few that looking through them is quicker than a hash.
+#[tactic(auto, using(crate::proofs::Layers::any_swap))]
+fn is_used(used: &IndexSet<usize>, reducer: usize) -> bool
+    ensures used { result ≡ list_any (nat_eq reducer) used.now.keys }
+{
+    used.as_slice().contains(&reducer)
+}
+
+/// Notes that a reducer is used.
+fn note_use(used: &mut IndexSet<usize>, reducer: usize) -> Result<(), AllocError>
+    ensures keys { OnOk result (used.new.keys ≡ insert_key nat_eq used.old.keys reducer) }
+    ensures same { OnErr result (used.new.keys ≡ used.old.keys) }
+{
+    if is_used(used, reducer) {
+        return Ok(());
+    }
+    match used.insert(reducer) {
+        Ok(_) => Ok(()),
+        Err(_) => Err(AllocError),
+    }
 }
 
 /// Moves what `right` is worth into `left`, on its right.
@@ -158,7 +181,7 @@ impl<V: View> Hypermap<V> {
         ensures refused { OnErr result (self.new.worths ≡ self.old.worths) }
         ensures cause { (c : Kind) → IsAt self.old.kinds reducer c → IfErr result (λ e. (e ≡ NoMemory) ⊎ (e ≡ refusal c numbers.now)) }
     {
-        if self.used.insert(reducer).is_err() {
+        if note_use(&mut self.used, reducer).is_err() {
             return Err(InjectError::NoMemory);
         }
         let view = &mut self.views[reducer];

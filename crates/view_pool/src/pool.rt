@@ -1,5 +1,5 @@
 //! The pool of kits, and where kits come from and go home to.
-ghost use Rattle.std.specs.Prelude.{◌≡◌, ◌≤◌, ◌<◌, OnOk, OnErr, IfErr, IsOk, IsNone, IfSome, length, ◌++◌, ◌∷◌, [], option_to_list, ◌↔◌, ◌⊎◌, Contains};
+ghost use Rattle.std.specs.Prelude.{◌≡◌, ℕ, suc, ◌≤◌, ◌<◌, OnOk, OnErr, IfErr, IsOk, IsNone, IfSome, length, ◌++◌, ◌∷◌, [], option_to_list, ◌↔◌, ◌⊎◌, Contains};
 
 use std::marker::Model;
 
@@ -11,18 +11,31 @@ pub trait KitSource<K> {
     /// A kit that is seen as this may come home.
     ghost fits: { K → Self → Type 0 };
 
+    /// How many kits are free.
+    ghost free: { Self → ℕ };
+
+    /// How many kits there are in all, free or not.
+    ghost total: { Self → ℕ };
+
     /// A free kit, if there is one.
     fn take(&mut self) -> Option<K>
         ensures given { IfSome result (λ k. gives k self.old) }
         ensures fitting { (k : K) → fits k self.old → fits k self.new }
-        ensures kept { (k : K) → gives k self.new → gives k self.old };
+        ensures kept { (k : K) → gives k self.new → gives k self.old }
+        ensures taken { IfSome result (λ k. free self.old ≡ suc (free self.new)) }
+        ensures untaken { IsNone result → free self.new ≡ free self.old }
+        ensures total { total self.new ≡ total self.old };
 
-    /// Takes a kit home, or hands it back.
+    /// Takes a kit home; hands it back only where all are there already.
     fn give(&mut self, kit: K) -> Result<(), K>
         requires fits { fits kit self.old }
         ensures fitting { (k : K) → fits k self.old → fits k self.new }
         ensures kept { (k : K) → gives k self.new → gives k self.old ⊎ kit ≡ k }
-        ensures handed_back { IfErr result (λ k. k ≡ kit) };
+        ensures handed_back { IfErr result (λ k. k ≡ kit) }
+        ensures room { free self.old < total self.old → IsOk result }
+        ensures home { OnOk result (free self.new ≡ suc (free self.old)) }
+        ensures away { OnErr result (free self.new ≡ free self.old) }
+        ensures total { total self.new ≡ total self.old };
 }
 
 /// The kits of type `K` that are free, and how many there are in all.
@@ -96,10 +109,16 @@ impl<K> KitSource<K> for Pool<K> {
 
     ghost fits = { λ k s. Unit {0} };
 
+    ghost free = { λ s. length s.kits };
+
+    ghost total = { λ s. s.total };
+
     fn take(&mut self) -> Option<K>
         ensures given { IfSome result (λ k. Contains self.old.kits k) }
         ensures fitting { (k : K) → Unit {0} → Unit {0} }
         ensures kept { (k : K) → Contains self.new.kits k → Contains self.old.kits k }
+        ensures taken { IfSome result (λ k. length self.old.kits ≡ suc (length self.new.kits)) }
+        ensures untaken { IsNone result → length self.new.kits ≡ length self.old.kits }
         ensures one { self.old.kits ≡ self.new.kits ++ option_to_list result }
         ensures none { IsNone result → self.old.kits ≡ [] }
         ensures total { self.new.total ≡ self.old.total }
@@ -111,6 +130,9 @@ impl<K> KitSource<K> for Pool<K> {
         ensures fitting { (k : K) → Unit {0} → Unit {0} }
         ensures kept { (k : K) → Contains self.new.kits k → Contains self.old.kits k ⊎ kit ≡ k }
         ensures handed_back { IfErr result (λ k. k ≡ kit) }
+        ensures room { length self.old.kits < self.old.total → IsOk result }
+        ensures home { OnOk result (length self.new.kits ≡ suc (length self.old.kits)) }
+        ensures away { OnErr result (length self.new.kits ≡ length self.old.kits) }
         ensures given { OnOk result (self.new.kits ≡ self.old.kits ++ kit ∷ []) }
         ensures full { IsOk result ↔ (length self.old.kits < self.old.total) }
         ensures unchanged { OnErr result (self.new.kits ≡ self.old.kits) }

@@ -26,7 +26,7 @@ invariant_of-self-2 g c =
     let right : IsWorth (g.V.View.kind_of c.index_mut-view.result.now) (g.V.View.worth_of c.update.new.self) =
     IsWorth-combined c.update.result _ _ _ _ c.update.ensures.done c.update.ensures.element c.update.ensures.refused
     (IsWorth-old g.V.View.kind_of g.V.View.worth_of c.self.inside.views.items c.args.reducer old new h c.index_mut-view.ensures.value c.update.ensures.same_kind c.self.inside.used.keys c.self.invariant) in
-    rw (was_ok c.insert.result (c.insert.new.self.keys ≡ insert_key nat_eq c.self.inside.used.keys c.args.reducer) (sym (c.is_err.ensures.value) ∙ c.if-is_err.false) c.insert.ensures.keys)
+    rw (was_ok c.note_use.result (c.note_use.new.used.keys ≡ insert_key nat_eq c.self.inside.used.keys c.args.reducer) (sym (c.is_err.ensures.value) ∙ c.if-is_err.false) c.note_use.ensures.keys)
     (IsLayer-written g.V.View.kind_of g.V.View.worth_of c.self.inside.views.items c.args.reducer old new h c.index_mut-view.ensures.value c.update.ensures.same_kind c.self.inside.used.keys c.self.invariant right)
 
 pub returns-clause-kinds : goal.returns-clause-kinds
