@@ -37,7 +37,7 @@ regroup : (a w x y : Log) (e f : Event) (z : Log) → a ++ e ∷ (((w ++ f ∷ [
 regroup a w x y e f z h = simp append_assoc (simp append_assoc at h)
 
 -- where there is no fault, the layers are claimed
-layers_of : (program : Tree) (ph : Phase) (ls : List Notes) (ss : List Log) → ((k : Fault) → ph ≡ broken k → ⊥) → Logged program ph ls ss → LayersFit program ls ss
+pub layers_of : (program : Tree) (ph : Phase) (ls : List Notes) (ss : List Log) → ((k : Fault) → ph ≡ broken k → ⊥) → Logged program ph ls ss → LayersFit program ls ss
 layers_of program (entering child) ls ss n h = h
 layers_of program (running todo) ls ss n h = h
 layers_of program (spawning d x child todo) ls ss n h = h
@@ -45,13 +45,13 @@ layers_of program (returning v) ls ss n h = h
 layers_of program (leaving v) ls ss n h = h
 layers_of program (broken k) ls ss n h = absurd (n k refl)
 
-answered_fell : (program : Tree) (tables : Tables) (c : Course ℤ) (f : ℤ → Accumulators → Course ℤ) (k : Fault) → c.0 ≡ Err k → answered program tables (then_on c f) ≡ Faulted k
+pub answered_fell : (program : Tree) (tables : Tables) (c : Course ℤ) (f : ℤ → Accumulators → Course ℤ) (k : Fault) → c.0 ≡ Err k → answered program tables (then_on c f) ≡ Faulted k
 answered_fell program tables (Ok v, acc) f k e = absurd cc
 answered_fell program tables (Err j, acc) f k e = let q : j ≡ k = cc in ap Faulted q
 
 module _ (program : Revised) (tables : Tables) (memory : Memory) (ready : IsReady program tables memory) where
   -- what is left of some instances, and then of more
-  split : (t u : List Parent) (c : Course ℤ) → then_on (then_on c (parents_left program.tree tables t)) (parents_left program.tree tables u) ≡ then_on c (parents_left program.tree tables (t ++ u))
+  pub split : (t u : List Parent) (c : Course ℤ) → then_on (then_on c (parents_left program.tree tables t)) (parents_left program.tree tables u) ≡ then_on c (parents_left program.tree tables (t ++ u))
   split [] u c = ap (λ x. then_on x (parents_left program.tree tables u)) (then_pure c)
   split (p ∷ t) u c =
       let F = λ (v : ℤ). todo_left program.tree tables p.frame.left p.frame.here p.todo (put_into p.into (values_of p.frame.env) v) in
@@ -67,7 +67,7 @@ module _ (program : Revised) (tables : Tables) (memory : Memory) (ready : IsRead
     pub is_trail : whole ++ Leaves n outcome ∷ later ≡ T program tables memory ready
     pub came : Came c (identities program.tree) whole outcome
 
-  fault_answer : (W X : Log) (k : Fault) → W ++ X ≡ T program tables memory ready → first_fault W ≡ Some k → from_scratch program.tree tables ≡ Faulted k
+  pub fault_answer : (W X : Log) (k : Fault) → W ++ X ≡ T program tables memory ready → first_fault W ≡ Some k → from_scratch program.tree tables ≡ Faulted k
   unfolding from_scratch
   fault_answer W X k e h =
       let P = program.tree in

@@ -24,4 +24,14 @@ pub mod Rests
 pub mod Serial
 pub mod Overs
 pub mod Fronts
+pub mod Hands
+pub mod Blame
+pub mod MainLeft
+pub mod Anchored
+pub mod Remains
+pub mod News
+pub mod EndCounts
+pub mod LaidDown
+pub mod Holders
+pub mod Progress
 mod Samples

@@ -128,7 +128,7 @@ module _ (program : Revised) (tables : Tables) (memory : Memory) where
   same_true a b e = subst (λ w. same_name a w ≡ true) e (same_name_refl a)
 
   -- a strand that is over ends at its neighbour's place
-  over_named : (b : Bool) (l : Piece) (found later : List Bool) (e : Place) → FitPiece program tables memory b l found later e → ((k : Fault) → l.strand.phase ≡ broken k → ⊥) → l.strand.under ≡ [] → l.deque ≡ [] → l.strand.frame.instance ≡ e
+  pub over_named : (b : Bool) (l : Piece) (found later : List Bool) (e : Place) → FitPiece program tables memory b l found later e → ((k : Fault) → l.strand.phase ≡ broken k → ⊥) → l.strand.under ≡ [] → l.deque ≡ [] → l.strand.frame.instance ≡ e
   over_named b l found later e i sound u d =
       elim i.fits [
         | inl h ↦

@@ -4,7 +4,7 @@ use Rattle.meaning.specs.Tables.{Tables}
 use Rattle.meaning.specs.Outcome.{Log, Accumulators, Fault, Outcome, Place, Leaves, Faults, combined, after}
 use Rattle.meaning.specs.Statements.{reducers, identities}
 use Rattle.meaning.specs.Elision.{Finished, Faulted, from_scratch, answer_of, main, start, elide, depth_limit}
-use Rattle.meaning.specs.Records.{Revised, Kept, with_kinds}
+use Rattle.meaning.specs.Records.{Revised, with_kinds}
 use Rattle.meaning.specs.Trail.{Look, opening, inner, run_inside, runner, child_of, trail_at}
 use Rattle.meaning.specs.SmallStep.{Start, root, behind, Frame, leaving, broken, look_of}
 use Rattle.meaning.specs.Layers.{Notes, notes, blank}
@@ -20,7 +20,7 @@ use Rattle.trail_theory.specs.ElisionBeside.{first_fault, forgotten, Fits}
 use Rattle.trail_theory.proofs.MainElides.{main_from_scratch}
 use Rattle.trail_theory.proofs.Ends.{worth_of}
 use Rattle.run_theory.specs.RightRuns.{front, Begins, Links, BrokenAt, IsOver}
-use Rattle.run_theory.specs.OverRuns.{AreOver}
+use Rattle.run_theory.specs.OverRuns.{HasFault, AreOver}
 use Rattle.run_theory.specs.Theorems.{IsReady, OverRunsAnswer}
 use Rattle.run_theory.proofs.Steps.{piece_of, S, L, FitPiece, FitAll}
 use Rattle.run_theory.proofs.Broken.{broken_from_scratch}
@@ -32,7 +32,7 @@ abbrev pub Ends : Start → Log → Type 0
 Ends root D = D ≡ []
 Ends (behind m k) D = (a : Log) × (o : Outcome) × (D ≡ a ++ Leaves (child_of m k) o ∷ [])
 
-starts_end : (m : Start) (B : Log) → StartsAfter m B → Ends m B
+pub starts_end : (m : Start) (B : Log) → StartsAfter m B → Ends m B
 starts_end root B h = h
 starts_end (behind m k) B h = (h.sooner, h.value, h.is)
 
@@ -183,13 +183,17 @@ module _ (program : Revised) (tables : Tables) (memory : Memory) (ready : IsRead
             )
       ]
 
-  pub rest_from : (ps : List Piece) (p : Piece) (first : Bool) (found : List Bool) (D : Log) (hand : Hand) (v : ℤ) → FitAll program tables memory first (p ∷ ps) found → HasCome D p.strand.start → AreOver (p ∷ ps) → LeftIs (p ∷ ps) hand v (worth_at D)
-  rest_from ps p first found D hand v i d (inl k) =
+  -- a strand with a fault
+  pub broken_left : (ps : List Piece) (p : Piece) (first : Bool) (found later : List Bool) (D : Log) (hand : Hand) (v : ℤ) → FitPiece program tables memory first p found later (front ps) → HasCome D p.strand.start → HasFault p → LeftIs (p ∷ ps) hand v (worth_at D)
+  broken_left ps p first found later D hand v i d k =
       let s = p.strand in
-      let at_fault = subst (λ ph. FitPiece program tables memory first (piece_of s.start s.layers s.frame ph s.under p.deque p.state p.tally) found i.0 (front ps)) k.1 i.1 in
-      let b = broken_of program tables memory first s.start s.layers s.frame k.0 s.under p.deque p.state p.tally found i.0 (front ps) at_fault in
+      let at_fault = subst (λ ph. FitPiece program tables memory first (piece_of s.start s.layers s.frame ph s.under p.deque p.state p.tally) found later (front ps)) k.1 i in
+      let b = broken_of program tables memory first s.start s.layers s.frame k.0 s.under p.deque p.state p.tally found later (front ps) at_fault in
       ap (λ c. answered program.tree tables (then_on c (λ w. pieces_left program.tree tables ps ((lowest s.frame (below program.tree tables p), w) ∷ hand) w))) (fault_left p k.0 k.1 hand (worth_at D))
       ∙ sym (broke D s.start k.0 d b.0)
+
+  pub rest_from : (ps : List Piece) (p : Piece) (first : Bool) (found : List Bool) (D : Log) (hand : Hand) (v : ℤ) → FitAll program tables memory first (p ∷ ps) found → HasCome D p.strand.start → AreOver (p ∷ ps) → LeftIs (p ∷ ps) hand v (worth_at D)
+  rest_from ps p first found D hand v i d (inl k) = broken_left ps p first found i.0 D hand v i.1 d k
   rest_from [] p first found D hand v i d (inr h) =
       let s = p.strand in
       let r = over_right first p found i.0 [] h.0 i.1 in

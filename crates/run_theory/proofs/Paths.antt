@@ -41,7 +41,7 @@ module _ (program : Revised) (tables : Tables) (memory : Memory) (ready : IsRead
   pub law : StretchesMultiply program.tree tables (S program tables memory) (L program tables memory)
   law = stretches_multiply_reading program.tree tables (S program tables memory) (L program tables memory) ready.rules.reads ready.monoids ready.numbers ready.cells
 
-  sound : RecordedAreSound program.tree tables (S program tables memory) (L program tables memory)
+  pub sound : RecordedAreSound program.tree tables (S program tables memory) (L program tables memory)
   sound = valid_recorded_are_sound program tables (S program tables memory) ready.rules.reads (L program tables memory) (λ f vs d k r e. valid_answers program tables memory.records ready.sound f vs d k e)
 
   pub step_right : (s : RunState) (e : RunStep) → IsRightNow program tables memory s → ForSome (IsRightNow program tables memory) (after_step program tables memory s e)

@@ -4,7 +4,7 @@ use Rattle.meaning.specs.Tables.{Tables}
 use Rattle.meaning.specs.Outcome.{Log, Accumulators, Fault, combined}
 use Rattle.meaning.specs.Statements.{reducers, identities}
 use Rattle.meaning.specs.Elision.{Answer, Finished, Faulted, main, depth_limit}
-use Rattle.meaning.specs.Records.{Revised, Kept, with_kinds}
+use Rattle.meaning.specs.Records.{Revised, with_kinds}
 use Rattle.meaning.specs.Trail.{trail_at}
 use Rattle.meaning.specs.SmallStep.{Start, instance, Frame, Phase, entering, running, spawning, returning, leaving, broken, Parent, look_of, opened, Continuation}
 use Rattle.meaning.specs.Layers.{Notes, notes}

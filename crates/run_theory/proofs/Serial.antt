@@ -71,7 +71,7 @@ pub then_pure : (c : Course ℤ) → then_on c (λ w acc. (Ok w, acc)) ≡ c
 then_pure (Ok v, acc) = refl
 then_pure (Err k, acc) = refl
 
-then_fell : (c : Course ℤ) (f : ℤ → Accumulators → Course ℤ) (k : Fault) → c.0 ≡ Err k → (then_on c f).0 ≡ Err k
+pub then_fell : (c : Course ℤ) (f : ℤ → Accumulators → Course ℤ) (k : Fault) → c.0 ≡ Err k → (then_on c f).0 ≡ Err k
 then_fell (Ok v, acc) f k e = absurd cc
 then_fell (Err j, acc) f k e = e
 
@@ -103,7 +103,7 @@ module _ (program : Tree) (tables : Tables) (sight : Accumulators) (ruled : Read
     next_same here bs h (On env) acc = h env acc
     next_same here bs h (Back v) acc = refl
 
-    blocks_course : (here : Name) (bs : List Body) (env : Env) (acc : Accumulators) → blocks_left program tables left here bs env acc ≡ course_of (blocks_run here bs env) acc
+    pub blocks_course : (here : Name) (bs : List Body) (env : Env) (acc : Accumulators) → blocks_left program tables left here bs env acc ≡ course_of (blocks_run here bs env) acc
     blocks_course here [] env acc = refl
     blocks_course here (b ∷ bs) env acc =
         let m = body program tables (elide program tables left) here env b in
@@ -169,7 +169,7 @@ module _ (program : Tree) (tables : Tables) (sight : Accumulators) (ruled : Read
       pub is : es ≡ done ++ Leaves n outcome ∷ []
       pub came : Came c acc done outcome
 
-    parent_same : (p : Parent) (g : Beside) (spawned : Bool) (v : ℤ) → g.doom ≡ None → todo_walk program tables sight look p.frame p.todo (put_into p.into g.env v) p.frame.next None ≡ parent_walk program tables sight look p spawned g (Ok v)
+    pub parent_same : (p : Parent) (g : Beside) (spawned : Bool) (v : ℤ) → g.doom ≡ None → todo_walk program tables sight look p.frame p.todo (put_into p.into g.env v) p.frame.next None ≡ parent_walk program tables sight look p spawned g (Ok v)
     parent_same p g true v d = ap (todo_walk program tables sight look p.frame p.todo (put_into p.into g.env v) p.frame.next) (sym d)
     parent_same p g false v d = ap (todo_walk program tables sight look p.frame p.todo (put_into p.into g.env v) p.frame.next) (sym d)
 

@@ -238,7 +238,7 @@ module _ (program : Revised) (tables : Tables) (memory : Memory) where
         };
       }
 
-  at_root : (m : Start) (n : Place) → Higher m n → n ≡ [] → place_of_start m ≡ []
+  pub at_root : (m : Start) (n : Place) → Higher m n → n ≡ [] → place_of_start m ≡ []
   at_root root n h e = refl
   at_root (behind m k) n h e = absurd (no_end m h.child h.path (sym e ∙ h.is))
 
@@ -246,7 +246,7 @@ module _ (program : Revised) (tables : Tables) (memory : Memory) where
   entry_not_root root n h e = cc
   entry_not_root (behind m k) n h e = no_end m k [] (sym e)
 
-  is_last : (later : List Bool) (ps : List Piece) → FitAll program tables memory false ps later → front ps ≡ [] → ps ≡ []
+  pub is_last : (later : List Bool) (ps : List Piece) → FitAll program tables memory false ps later → front ps ≡ [] → ps ≡ []
   is_last later [] h e = refl
   is_last later (p ∷ ps) h e = absurd (not_root p.strand.start h.1.begins e)
 

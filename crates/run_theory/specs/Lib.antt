@@ -1,3 +1,4 @@
 pub mod RightRuns
 pub mod OverRuns
 pub mod Theorems
+pub mod Progress

@@ -1,15 +1,19 @@
 -- What is proved of runs on several workers.
-use Rattle.std.specs.Prelude.{true, ◌++◌, ◌≡◌, ℕ, suc, ◌+◌, ◌<◌, List, [], ◌∷◌, length, map, Some}
+use Rattle.std.specs.Prelude.{ℤ, true, ◌++◌, ◌≡◌, ℕ, suc, ◌+◌, ◌<◌, List, [], ◌∷◌, length, map, Some}
 use Rattle.meaning.specs.Tables.{Tables}
-use Rattle.meaning.specs.Elision.{Answer, from_scratch}
+use Rattle.meaning.specs.Outcome.{Accumulators}
+use Rattle.meaning.specs.Elision.{Answer, Finished, from_scratch}
 use Rattle.meaning.specs.Trail.{sight_of}
-use Rattle.meaning.specs.Records.{Revised, IsSound}
+use Rattle.meaning.specs.Records.{Revised, IsSound, needed, executed}
+use Rattle.meaning.specs.Commits.{committed}
 use Rattle.meaning.specs.Strands.{Book, replayed, done, waits}
 use Rattle.meaning.specs.Tallies.{valid_record}
 use Rattle.meaning.specs.RestOfRun.{rest_of_run}
 use Rattle.meaning.specs.Schedules.{Memory, Piece, line_of, RunState, RunStep, first_state, after_step, path, end_of, fold, place_of, is_idle}
 use Rattle.trail_theory.specs.Order.{Every}
 use Rattle.trail_theory.specs.ReadsAtEnd.{KeepsRules}
+use Rattle.trail_theory.specs.Counts.{CountsNeeded}
+use Rattle.trail_theory.specs.OpenLayers.{IsNewRecord}
 use Rattle.trail_theory.specs.Typed.{HasMonoids, ProgramFits, TablesFit}
 use Rattle.run_theory.specs.RightRuns.{IsRightRun}
 use Rattle.run_theory.specs.OverRuns.{ReadsNoMore, AreOver}
@@ -77,6 +81,21 @@ module _ (program : Revised) (tables : Tables) (memory : Memory) where
   NeighboursFold = (kits : ℕ) (es : List RunStep) (before later : List Piece) (l r : Piece) (w : ℕ) → let s = path program tables memory (first_state program.tree kits) es in
       s.pieces ≡ before ++ l ∷ r ∷ later → done l.state ≡ true → waits r.state ≡ true → is_idle w s.pieces ≡ true → (t : RunState) × (after_step program tables memory s (fold w (place_of r)) ≡ Some t)
 
+  -- ---- new records
+
+  -- each record that the strands have made is sound, holds now, and fits at the least depth
+  abbrev pub PathsMakeNews : Type 0
+  PathsMakeNews = (kits : ℕ) (es : List RunStep) → Every (λ p. Every (IsNewRecord program tables) p.tally.made) (path program tables memory (first_state program.tree kits) es).pieces
+
+  -- where a run has come to its end without a fault, its tally has counted the needed instances
+  abbrev pub PathsCountNeeded : Type 0
+  PathsCountNeeded = (kits : ℕ) (es : List RunStep) (p : Piece) (v : ℤ) (acc : Accumulators) → let s = path program tables memory (first_state program.tree kits) es in s.pieces ≡ p ∷ [] → end_of s ≡ Some (Finished v acc) → CountsNeeded program tables memory.records p.tally
+
+  -- and where it left none of them unrecorded, with its new records put in nothing is executed
+  abbrev pub PathsLeaveNothing : Type 0
+  PathsLeaveNothing = (kits : ℕ) (es : List RunStep) (p : Piece) (v : ℤ) (acc : Accumulators) → let s = path program tables memory (first_state program.tree kits) es in
+      s.pieces ≡ p ∷ [] → end_of s ≡ Some (Finished v acc) → p.tally.unrecorded ≡ 0 → executed program.tree (needed program tables (committed memory.records p.tally.made)) ≡ []
+
   -- ---- what is left to do
 
   abbrev pub RestBegins : Type 0
@@ -84,6 +103,10 @@ module _ (program : Revised) (tables : Tables) (memory : Memory) where
 
   abbrev pub RestEnds : Type 0
   RestEnds = (s : RunState) (a : Answer) → IsRightNow s → end_of s ≡ Some a → rest_of_run program.tree tables s ≡ a
+
+  -- after any steps, whoever has taken them, it is the elision from scratch
+  abbrev pub PathsKeepRest : Type 0
+  PathsKeepRest = (kits : ℕ) (es : List RunStep) → rest_of_run program.tree tables (path program tables memory (first_state program.tree kits) es) ≡ from_scratch program.tree tables
 
   -- where each strand is over, up to the first that has a fault, what is left is the elision's answer: the values in serial order, or that fault
   abbrev pub OverRunsAnswer : Type 0

@@ -4,7 +4,9 @@
 ghost use Rattle.meaning.specs.Records.{Revised};
 ghost use Rattle.meaning.specs.Schedules.{Memory};
 ghost use Rattle.meaning.specs.Tables.{Tables};
-ghost use Rattle.run_theory.specs.Theorems.{IsReady, StepsStayRight, PathsAreRight, RightRunsAnswer, PathsAnswer, StepsKeepKits, PathsKeepKits, EndsFreeKits, PathsKeepHistory, NeighboursFold, RestBegins, RestEnds, OverRunsAnswer, FrontRunsAnswer};
+ghost use Rattle.run_theory.specs.Theorems.{IsReady, StepsStayRight, PathsAreRight, RightRunsAnswer, PathsAnswer, StepsKeepKits, PathsKeepKits, EndsFreeKits, PathsKeepHistory, NeighboursFold, PathsMakeNews, PathsCountNeeded, PathsLeaveNothing, RestBegins, PathsKeepRest, RestEnds, OverRunsAnswer, FrontRunsAnswer};
+ghost use Rattle.trail_theory.specs.OpenLayers.{IsNumbered};
+ghost use Rattle.run_theory.specs.Progress.{HoldersGoOn, LaidRunsGoOn, SomeStepIsThere};
 
 /// Each step of a run on several workers keeps it right.
 pub fn steps_stay_right()
@@ -51,9 +53,29 @@ pub fn neighbours_fold()
     ensures folds { (program : Revised) (tables : Tables) (memory : Memory) → IsReady program tables memory → NeighboursFold program tables memory }
 {}
 
+/// After any steps each record that a strand has made is sound, holds now, and fits at the least depth.
+pub fn paths_make_news()
+    ensures news { (program : Revised) (tables : Tables) (memory : Memory) → IsReady program tables memory → IsNumbered program → PathsMakeNews program tables memory }
+{}
+
+/// Where a run has come to its end without a fault, its tally has counted the needed instances: as executed those that no valid record answers, as reused the others.
+pub fn paths_count_needed()
+    ensures counted { (program : Revised) (tables : Tables) (memory : Memory) → IsReady program tables memory → IsNumbered program → PathsCountNeeded program tables memory }
+{}
+
+/// Where such a run left no execution unrecorded, the next one, with the new records put in and no edit between, has nothing to execute.
+pub fn paths_leave_nothing()
+    ensures none { (program : Revised) (tables : Tables) (memory : Memory) → IsReady program tables memory → IsNumbered program → PathsLeaveNothing program tables memory }
+{}
+
 /// Before the first step the elision from scratch is left to do.
 pub fn rest_begins()
     ensures begins { (program : Revised) (tables : Tables) (memory : Memory) → IsReady program tables memory → RestBegins program tables memory }
+{}
+
+/// After any steps of several workers, what is left to do of the run, done serially, is the elision from scratch.
+pub fn paths_keep_rest()
+    ensures kept { (program : Revised) (tables : Tables) (memory : Memory) → IsReady program tables memory → PathsKeepRest program tables memory }
 {}
 
 /// Of a right run that has come to its end nothing is left but its answer.
@@ -69,4 +91,19 @@ pub fn over_runs_answer()
 /// Of a right run whose first strand is at work, with no reducer to read in what is left of it, and whose other strands are over, up to the first that has a fault, the elision's answer from scratch is left.
 pub fn front_runs_answer()
     ensures answer { (program : Revised) (tables : Tables) (memory : Memory) → IsReady program tables memory → FrontRunsAnswer program tables memory }
+{}
+
+/// After any steps a worker that holds a strand can go on with it, by work, a push, a pop or by laying it down.
+pub fn holders_go_on()
+    ensures goes { (program : Revised) (tables : Tables) (memory : Memory) → IsReady program tables memory → HoldersGoOn program tables memory }
+{}
+
+/// After any steps, where no strand is held, a run has come to its end, or each worker may fold two neighbours.
+pub fn laid_runs_go_on()
+    ensures goes { (program : Revised) (tables : Tables) (memory : Memory) → IsReady program tables memory → LaidRunsGoOn program tables memory }
+{}
+
+/// No run gets stuck: after any steps it has come to its end, or a worker that holds a strand goes on with it, or one that holds nothing folds, whichever that is.
+pub fn some_step_is_there()
+    ensures there { (program : Revised) (tables : Tables) (memory : Memory) → IsReady program tables memory → SomeStepIsThere program tables memory }
 {}

@@ -52,3 +52,4 @@ pub mod Depths
 pub mod Remade
 pub mod TwoLooks
 pub mod NothingNeeded
+pub mod AddingUp

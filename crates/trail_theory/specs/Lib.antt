@@ -13,6 +13,7 @@ pub mod Calm
 pub mod Ready
 pub mod KeptRecords
 pub mod Counts
+pub mod AddingUp
 pub mod Defines
 pub mod OpenLayers
 pub mod OwedLayers

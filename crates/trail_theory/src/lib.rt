@@ -8,6 +8,7 @@ ghost use Rattle.meaning.specs.Records.{IsSound, Kept, Revised};
 ghost use Rattle.meaning.specs.SmallStep.{Lookup};
 ghost use Rattle.meaning.specs.Tables.{Tables};
 ghost use Rattle.meaning.specs.Trail.{Look, sight_of, trail_at};
+ghost use Rattle.trail_theory.specs.AddingUp.{TalliesAddUp};
 ghost use Rattle.trail_theory.specs.Calm.{CalmStays};
 ghost use Rattle.trail_theory.specs.Counts.{MarksAreNeeded, NothingNeeded};
 ghost use Rattle.trail_theory.specs.Defines.{DefinesKeep};
@@ -261,6 +262,11 @@ pub fn new_records_settle()
 /// Under the same premises, where main's strand that is over has as many new records as it has counted executions, the same program on the same tables needs to execute no recorded procedure by the records with these put in.
 pub fn end_leaves_nothing()
     ensures none { (program : Revised) (tables : Tables) (records : List Kept) → ReadsAtMainsEnd program.tree → IsNumbered program → Every (IsSound program) records → EndLeavesNone program tables records }
+{}
+
+/// Tallies add up through steps and folds: each execution has a new record, an open layer, or is counted as unrecorded; with nothing open and nothing unrecorded there are as many new records as executions.
+pub fn tallies_add_up()
+    ensures sums { (program : Revised) → TalliesAddUp program }
 {}
 
 /// Where a program's procedures are defined anew and its reducers stay, it is a later program, in which a procedure whose number is as it was is the same; and its procedures have numbers that were used before, if each that is entered is there.
