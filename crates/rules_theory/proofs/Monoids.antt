@@ -1,8 +1,11 @@
--- The rule on table reducers: their operations are monoids.
+-- The rule on table reducers: their operations are monoids, and so are those of all kinds.
 use Rattle.std.proofs.Common.{◌≡◌, ℕ, ◌+◌, Bool, true, false, not, List, [], ◌∷◌, ◌++◌, map, take, refl}
+use Rattle.std.specs.Prelude.{All}
+use Rattle.std.proofs.lemmas.List.Elements.{All-nil, All-cons, All-same}
 use Rattle.monoid_laws.specs.declared.Kind.{Kind}
 use Rattle.monoid_laws.specs.declared.Kind.TheVariants as k
-use Rattle.monoid_laws.specs.Kinds.{IsTableMonoid}
+use Rattle.monoid_laws.specs.Kinds.{IsMonoid, IsTableMonoid}
+use Rattle.monoid_laws.proofs.Laws.{IsMonoid-kind}
 use Rattle.program_tree.specs.declared.Declaration.{Declaration}
 use Rattle.program_tree.specs.declared.Declaration.TheVariants as d
 use Rattle.program_tree.specs.declared.Program.{Program}
@@ -15,6 +18,8 @@ use Rattle.linked_program.specs.Violations.{at, when}
 use Rattle.linked_program.specs.TableNames.{Columned}
 use Rattle.linked_program.specs.Monoids.{is_monoid_kind, is_monoid_table}
 use Rattle.linked_program.specs.Rules.{reducer_of}
+use Rattle.linked_program.specs.Checked.{PlainChecked, IsChecked}
+use Rattle.linked_program.specs.Linked.{kinds_of}
 use Rattle.linked_program.specs.Declarations.{IsClean, reducer_rules, procedure_rules, proc_violations, decls_violations, missing_main}
 use Rattle.linked_program.proofs.Tried.{monoid_from_true}
 use Rattle.trail_theory.specs.Order.{Every}
@@ -57,3 +62,12 @@ pub has_monoids : (ts : List Columned) (p : Program) → IsClean ts p → HasMon
 has_monoids ts p clean =
     let ds = p.declarations.items in
     monoids_of (tree p) ts 0 ds (nil_right (missing_main (tree p)) (decls_violations (tree p) ts 0 (map decl ds) (map lined ds)) clean)
+
+all_monoids : (kinds : List Kind) → Every IsTableMonoid kinds → All IsMonoid kinds
+all_monoids [] h = All-nil IsMonoid
+all_monoids (kind ∷ kinds) h = All-cons IsMonoid kind kinds (IsMonoid-kind kind h.0) (all_monoids kinds h.1)
+
+pub checked_monoids : (checked : PlainChecked) → IsChecked checked → All IsMonoid checked.kinds
+checked_monoids checked is =
+    let kinds = kinds_of (tree checked.program) in
+    All-same IsMonoid checked.kinds kinds is.kinds_are (all_monoids kinds (has_monoids checked.tables checked.program is.clean))

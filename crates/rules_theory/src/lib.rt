@@ -1,7 +1,8 @@
 //! What the rules of the language give the theory of the trail, each as the contract of a function that does nothing.
 #![tactic(auto)]
 
-ghost use Rattle.std.specs.Prelude.{List};
+ghost use Rattle.std.specs.Prelude.{List, All};
+ghost use Rattle.monoid_laws.specs.Kinds.{IsMonoid};
 ghost use Rattle.program_tree.specs.declared.Program.{Program};
 ghost use Rattle.program_tree.specs.View.{tree};
 ghost use Rattle.linked_program.specs.TableNames.{Columned};
@@ -35,8 +36,9 @@ pub fn tables_are_monoids()
     ensures monoids { (tables : List Columned) (program : Program) → IsClean tables program → HasMonoids (tree program) }
 {}
 
-/// A checked program keeps the rules of the theory, and its table reducers are monoids.
+/// A checked program keeps the rules of the theory, its table reducers are monoids, and so are the kinds that it keeps.
 pub fn checked_programs_keep_the_rules()
     ensures kept { (checked : PlainChecked) → IsChecked checked → KeepsRules (tree checked.program) }
     ensures monoids { (checked : PlainChecked) → IsChecked checked → HasMonoids (tree checked.program) }
+    ensures kinds { (checked : PlainChecked) → IsChecked checked → All IsMonoid checked.kinds }
 {}
