@@ -1,5 +1,5 @@
 // The end of a strand: its upper layers are let go, and it answers.
-ghost use Rattle.std.specs.Prelude.{◌≡◌, List, All, IfOk, map, reverse, []};
+ghost use Rattle.std.specs.Prelude.{◌≡◌, ◌+◌, ◌≤◌, ◌<◌, suc, length, List, All, IfOk, map, reverse, []};
 ghost use Rattle.monoid_laws.specs.declared.Kind.{Kind};
 ghost use Rattle.monoid_laws.specs.Kinds.{meaning};
 ghost use Rattle.program_tree.specs.Plain.{Tree};
@@ -20,6 +20,16 @@ use std::alloc::{AllocError, Global};
 use std::mem;
 use view_pool::{Kit, KitSource, View};
 
+/// Sends a kit home.
+fn send_home<V: View, K: KitSource<Kit<V>>>(kits: &mut K, kit: Kit<V>)
+    requires fits { K.fits kit kits.old }
+    ensures fitting { (k : List Kind) → K.fits k kits.old → K.fits k kits.new }
+    ensures given { K.free kits.old < K.total kits.old → K.free kits.new ≡ suc (K.free kits.old) }
+    ensures total { K.total kits.new ≡ K.total kits.old }
+{
+    let _ = kits.give(kit);
+}
+
 /// Lets all layers go but the lowest, and sends their kits home.
 fn close_all<V: View, K: KitSource<Kit<V>>>(
     layer: &mut Layer<V>,
@@ -32,10 +42,12 @@ fn close_all<V: View, K: KitSource<Kit<V>>>(
     ensures none { lower.new.items ≡ [] }
     ensures same_kinds { layer.new.kinds ≡ layer.old.kinds }
     ensures fitting { (k : List Kind) → K.fits k kits.old → K.fits k kits.new }
+    ensures given { length lower.old.items + K.free kits.old ≤ K.total kits.old → K.free kits.new ≡ length lower.old.items + K.free kits.old }
+    ensures total { K.total kits.new ≡ K.total kits.old }
 {
     while let Some(next) = lower.pop() {
         let upper = mem::replace(layer, next);
-        let _ = kits.give(upper.close());
+        send_home(kits, upper.close());
     }
 }
 
@@ -61,7 +73,8 @@ impl<V: View> Layer<V> {
 }
 
 impl<V: View> Strand<V> {
-    /// A faulted strand: keeps its lowest layer alone, and sends the other kits home. It takes no memory.
+    /// A faulted strand: keeps its lowest layer alone, and sends the other kits home, each of them where there is room for them all.
+    /// It takes no memory.
     pub fn close_upper<K: KitSource<Kit<V>>>(&mut self, kits: &mut K)
         requires kinds { All (λ l. l.kinds ≡ self.old.layer.kinds) self.old.lower }
         requires fits { K.fits self.old.layer.kinds kits.old }
@@ -70,20 +83,24 @@ impl<V: View> Strand<V> {
         ensures kinds { self.new.layer.kinds ≡ self.old.layer.kinds }
         ensures home { K.fits self.old.layer.kinds kits.new }
         ensures fitting { (k : List Kind) → K.fits k kits.old → K.fits k kits.new }
+        ensures given { length self.old.lower + K.free kits.old ≤ K.total kits.old → K.free kits.new ≡ length self.old.lower + K.free kits.old }
+        ensures total { K.total kits.new ≡ K.total kits.old }
     {
         close_all(&mut self.layer, &mut self.lower, kits);
     }
 
-    /// The answer of a strand that is over, else Unfinished; every kit goes home.
+    /// The answer of a strand that is over, else Unfinished; every kit goes home where there is room for them all.
     pub fn end<K: KitSource<Kit<V>>>(mut self, alloc: Global, kits: &mut K) -> RunAnswer
         requires kinds { All (λ l. l.kinds ≡ self.layer.kinds) self.lower }
         requires fits { K.fits self.layer.kinds kits.old }
         ensures answer { IsAnswer (ending_of self) (lowest_of self.layer self.lower).worths result }
         ensures fitting { (k : List Kind) → K.fits k kits.old → K.fits k kits.new }
+        ensures given { suc (length self.lower) + K.free kits.old ≤ K.total kits.old → K.free kits.new ≡ suc (length self.lower) + K.free kits.old }
+        ensures total { K.total kits.new ≡ K.total kits.old }
     {
         self.close_upper(kits);
         let answer = self.answer(alloc);
-        let _ = kits.give(self.close());
+        send_home(kits, self.close());
         answer
     }
 

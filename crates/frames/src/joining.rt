@@ -5,7 +5,7 @@ ghost use Rattle.program_tree.specs.Plain.{Tree};
 ghost use Rattle.linked_program.specs.declared.code.Code.{Code};
 ghost use Rattle.linked_program.specs.TableNames.{Columned};
 ghost use Rattle.positions.specs.Layers.{either, multiplied};
-ghost use Rattle.positions.specs.Moves.{joined, joined_ended, settled_by};
+ghost use Rattle.positions.specs.Moves.{joined, joined_ended, settled_by, FoldsViews};
 ghost use Rattle.positions.specs.Simulation.{IsJoined};
 ghost use Rattle.frames.specs.Joins.{IsDone, with_worths, flag_at};
 
@@ -80,8 +80,8 @@ impl<V: View> Strand<V> {
     }
 
     /// Puts the right neighbour behind this strand, which has ended or has a fault; the left's fault comes first. Gives the kit
-    /// of the right one. Where memory is refused the right one is handed back: some reducers have moved to the left and the
-    /// others have not, and nothing else has changed.
+    /// of the right one. Memory is refused only where views are folded; then the right one is handed back, some reducers have
+    /// moved to the left and the others have not, and nothing else has changed.
     pub fn join(&mut self, right: Strand<V>) -> Result<Kit<V>, (AllocError, Strand<V>)>
         requires done { IsDone self.old.phase }
         requires one_layer { right.lower ≡ [] }
@@ -93,6 +93,7 @@ impl<V: View> Strand<V> {
         ensures left_kept { OnErr result (self.new ≡ with_worths self.new.layer.worths self.old) }
         ensures right_kept { IfErr result (λ e. e.1 ≡ with_worths e.1.layer.worths right) }
         ensures product { IfErr result (λ e. operate_all self.old.layer.kinds self.new.layer.worths e.1.layer.worths ≡ operate_all self.old.layer.kinds self.old.layer.worths right.layer.worths) }
+        ensures views { OnErr result (FoldsViews self.old.phase right.phase) }
     {
         self.join_neighbour(right)
     }
@@ -108,6 +109,7 @@ impl<V: View> Strand<V> {
         ensures left_kept { OnErr result (self.new ≡ with_worths self.new.layer.worths self.old) }
         ensures right_kept { IfErr result (λ e. e.1 ≡ with_worths e.1.layer.worths right) }
         ensures product { IfErr result (λ e. operate_all self.old.layer.kinds self.new.layer.worths e.1.layer.worths ≡ operate_all self.old.layer.kinds self.old.layer.worths right.layer.worths) }
+        ensures views { OnErr result (FoldsViews self.old.phase right.phase) }
     {
         match self.phase {
             Phase::Leaving(value) => match right.phase {

@@ -136,6 +136,12 @@ joined_at _ l r = l
 abbrev pub joined : PlainStrand → PlainStrand → PlainStrand
 joined l r = joined_at l.phase l r
 
+-- views are folded only where the left has ended and the right has no fault
+abbrev pub FoldsViews : Phase → Phase → Type 0
+FoldsViews (Leaving v) (Broken f) = ⊥
+FoldsViews (Leaving v) _ = Unit {0}
+FoldsViews _ _ = ⊥
+
 -- ---- layers, updates, the end
 
 -- a faulted strand keeps its lowest layer alone
