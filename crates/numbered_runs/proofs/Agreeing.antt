@@ -1,11 +1,11 @@
 -- Steps of runs of numbers and of the definitions that agree: both are taken, and what comes of the one stands for what comes of the other, or both are refused.
-use Rattle.std.proofs.Common.{◌≡◌, ◌⊎◌, inl, inr, ℕ, Bool, true, false, cond, List, [], ◌∷◌, ◌++◌, append_assoc, Option, Some, None, Result, Ok, Err, refl, sym, ◌∙◌, ap, subst}
+use Rattle.std.proofs.Common.{◌≡◌, inl, inr, ℕ, Bool, true, false, cond, List, [], ◌∷◌, ◌++◌, append_assoc, Option, Some, None, Result, Ok, Err, refl, sym, ◌∙◌, ap, subst}
 use Rattle.std.specs.Prelude.{take}
 use Rattle.program_tree.specs.Plain.{Tree}
 use Rattle.meaning.specs.Outcome.{Place}
 use Rattle.meaning.specs.Trail.{child_of}
 use Rattle.meaning.specs.SmallStep.{root, behind, Start as NamedStart}
-use Rattle.meaning.specs.Strands.{State, Held, Ended, Stalled, BookStep, holds_by}
+use Rattle.meaning.specs.Strands.{State, Held, Ended, Stalled, BookStep, holds_by, waits}
 use Rattle.meaning.specs.Strands as strands
 use Rattle.meaning.specs.Schedules.{Piece, RunState}
 use Rattle.meaning.specs.Schedules as schedules
@@ -18,9 +18,8 @@ use Rattle.positions.specs.Stands.{IsStart}
 use Rattle.positions.specs.Simulation.{place_of as place_behind}
 use Rattle.numbered_runs.specs.declared.refusal.Refusal.{Refusal}
 use Rattle.numbered_runs.specs.Pieces.{PlainPiece, Change, place_of, is_held_by}
-use Rattle.numbered_runs.specs.Pieces as pieces
 use Rattle.numbered_runs.specs.Runs.{PlainRun, among, changed}
-use Rattle.numbered_runs.specs.Stands.{IsLaidAs, StandsForPiece, StandFolding, StandForPieces, StandsForRun}
+use Rattle.numbered_runs.specs.Stands.{IsLaidAs, StandsForPiece, StandForPieces, StandsForRun}
 
 -- what holds of each of them
 abbrev pub Each : {A : Type 0} → (A → Type 0) → List A → Type 0
@@ -65,6 +64,14 @@ module _ (ts : List Columned) (t : Tree) (codes : List Code) where
   pub none_there : (q : PlainPiece) (ps : List PlainPiece) → StandForPieces ts t codes (q ∷ ps) [] → ⊥
   none_there q [] h = h
   none_there q (r ∷ ps) h = h
+
+  -- a strand that waits is no left one of two between which a fold was refused
+  pub waiting_first : (r : PlainPiece) (ps : List PlainPiece) (y : Piece) (xs : List Piece) → waits r.state ≡ true → StandForPieces ts t codes (r ∷ ps) (y ∷ xs) → StandsForPiece ts t codes r y × StandForPieces ts t codes ps xs
+  waiting_first r [] y [] e h = (h, tt)
+  waiting_first r [] y (z ∷ xs) e h = absurd h
+  waiting_first r (q ∷ ps) y [] e h = absurd h
+  waiting_first r (q ∷ ps) y (z ∷ xs) e (inl h) = h
+  waiting_first r (q ∷ ps) y (z ∷ xs) e (inr h) = let f : waits r.state ≡ false = ap waits h.0.ended in absurd cc
 
   pub with_first : (p : PlainPiece) (ps : List PlainPiece) (x : Piece) (xs : List Piece) → StandsForPiece ts t codes p x → StandForPieces ts t codes ps xs → StandForPieces ts t codes (p ∷ ps) (x ∷ xs)
   with_first p [] x [] h r = h

@@ -1,5 +1,5 @@
 -- A pop and a steal, in runs of numbers and in those of the definitions.
-use Rattle.std.proofs.Common.{◌≡◌, ◌⊎◌, inl, inr, ℕ, zero, suc, ◌+◌, ◌-◌, Bool, true, false, List, [], ◌∷◌, ◌++◌, length, Option, Some, None, Result, Ok, Err, refl, sym, ◌∙◌, ap, subst, arith}
+use Rattle.std.proofs.Common.{◌≡◌, inl, inr, ℕ, zero, suc, ◌+◌, Bool, true, false, List, [], ◌∷◌, ◌++◌, length, Option, Some, None, refl, sym, ◌∙◌, ap, subst, arith}
 use Rattle.std.specs.Prelude.{ℤ}
 use Rattle.std.proofs.lemmas.List.{length-append}
 use Rattle.monoid_laws.specs.declared.Kind.{Kind}
@@ -9,7 +9,7 @@ use Rattle.meaning.specs.Outcome.{Place, Fault}
 use Rattle.meaning.specs.Trail.{child_of, sight_of}
 use Rattle.meaning.specs.Records.{Revised}
 use Rattle.meaning.specs.Tallies.{valid_record}
-use Rattle.meaning.specs.SmallStep.{Phase as NamedPhase, entering, running, spawning, returning, leaving, broken, Parent, Continuation, place_of_continuation}
+use Rattle.meaning.specs.SmallStep.{Phase as NamedPhase, leaving, broken, Parent, Continuation, place_of_continuation}
 use Rattle.meaning.specs.Strands as strands
 use Rattle.meaning.specs.RestOfRun.{lowest}
 use Rattle.meaning.specs.Schedules.{Piece, without_memo}
@@ -24,13 +24,12 @@ use Rattle.positions.specs.declared.phase.Phase.{Phase}
 use Rattle.positions.specs.declared.phase.Phase.TheVariants as phase
 use Rattle.positions.specs.Activations.{PlainActivation}
 use Rattle.positions.specs.Strands.{PlainStrand, PlainTask, shorter}
-use Rattle.positions.specs.Moves.{returned_at, returned_of, resumed_by, resumed, stolen}
-use Rattle.positions.specs.Stands.{AreParents, StandsAt, StandsFor, StandsForTask}
+use Rattle.positions.specs.Moves.{returned_at, returned_of, resumed_by}
+use Rattle.positions.specs.Stands.{AreParents, StandsAt, StandsForTask}
 use Rattle.positions.proofs.Moves.{resumed_is, stolen_is}
-use Rattle.numbered_runs.specs.declared.refusal.Refusal.TheVariants.{Nothing, NoKit, NotThere}
-use Rattle.numbered_runs.specs.Pieces.{PlainPiece, place_of, is_held_by, popped_of, popped_by, popped, oldest, robbed, robbed_if, stolen_of, stolen_from}
+use Rattle.numbered_runs.specs.Pieces.{PlainPiece, place_of, is_held_by, popped_of, popped_by, popped, oldest, robbed, stolen_of, stolen_from}
 use Rattle.numbered_runs.specs.Stands.{StandForTasks, StandsForPiece}
-use Rattle.numbered_runs.proofs.Agreeing.{Each, held_any, piece_place, StandsForChange, Agrees}
+use Rattle.numbered_runs.proofs.Agreeing.{Each, held_any, piece_place, Agrees}
 
 -- where the strand of a piece has no fault, its instances end where its newest continuation waits
 abbrev pub Linked : Piece → Type 0

@@ -1,12 +1,11 @@
 -- A fold, in runs of numbers and in those of the definitions.
-use Rattle.std.proofs.Common.{◌≡◌, ◌⊎◌, inl, inr, ℕ, ◌+◌, Bool, true, false, cond, ◌&&◌, List, [], ◌∷◌, ◌++◌, append_assoc, Option, Some, None, Result, Ok, Err, refl, sym, ◌∙◌, ap, subst}
+use Rattle.std.proofs.Common.{◌≡◌, inl, inr, ℕ, ◌+◌, Bool, true, false, cond, ◌&&◌, List, [], ◌∷◌, ◌++◌, append_assoc, Option, Some, None, Err, refl, sym, ◌∙◌, ap, subst}
 use Rattle.std.specs.Prelude.{ℤ, ◌-◌, length, if◌then◌else◌, ◌==◌}
-use Rattle.monoid_laws.specs.declared.Kind.{Kind}
 use Rattle.monoid_laws.specs.Worth.{Worth}
 use Rattle.monoid_laws.specs.Kinds.{operate_all}
 use Rattle.program_tree.specs.Plain.{Tree}
 use Rattle.meaning.specs.Tables.{Tables}
-use Rattle.meaning.specs.Outcome.{Place, Fault}
+use Rattle.meaning.specs.Outcome.{Place}
 use Rattle.meaning.specs.Records.{Revised}
 use Rattle.meaning.specs.SmallStep.{Phase as NamedPhase, entering, running, spawning, returning, leaving, broken, same_name}
 use Rattle.meaning.specs.LayeredStrand.{LayeredStrand}
@@ -25,14 +24,14 @@ use Rattle.positions.specs.Activations.{PlainActivation}
 use Rattle.positions.specs.Strands.{PlainStrand}
 use Rattle.positions.specs.Layers.{multiplied}
 use Rattle.positions.specs.Moves.{settled_by, joined, joined_at, joined_after, joined_ended}
-use Rattle.positions.specs.Stands.{StandsAt, StandsFor, named_fault}
+use Rattle.positions.specs.Stands.{StandsAt}
 use Rattle.positions.specs.Simulation.{IsNotAtSpawn}
 use Rattle.positions.proofs.Joins.{joined_is}
 use Rattle.numbered_runs.specs.declared.refusal.Refusal.TheVariants.{NotThere}
 use Rattle.numbered_runs.specs.Pieces.{PlainPiece, place_of, may_join_at, may_fold, folded}
 use Rattle.numbered_runs.specs.Runs.{folded_if, folded_at}
 use Rattle.numbered_runs.specs.Stands.{with_worths, valued, IsLaidAs, StandsForPiece, StandFolding, StandForPieces}
-use Rattle.numbered_runs.proofs.Agreeing.{piece_place, none_there, with_first, in_front, either_agrees, RunAgrees}
+use Rattle.numbered_runs.proofs.Agreeing.{piece_place, none_there, waiting_first, with_first, in_front, either_agrees, RunAgrees}
 
 -- a strand that waits isn't at a spawn
 waiting_point : (st : State) (ph : Phase) → waits st ≡ true → IsLaidAs st ph → IsNotAtSpawn ph
@@ -187,13 +186,6 @@ module _ (ts : List Columned) (program : Revised) (codes : List Code) (tables : 
     first_is r (q ∷ ps) y (z ∷ xs) (inl h) = (piece_place ts t codes r y h.0, h.0.state)
     first_is r (q ∷ ps) y (z ∷ xs) (inr h) = (piece_place ts t codes (valued h.0.to_left r) y h.0.left, h.0.left.state)
 
-    waiting_first : (r : PlainPiece) (ps : List PlainPiece) (y : Piece) (xs : List Piece) → waits r.state ≡ true → StandForPieces ts t codes (r ∷ ps) (y ∷ xs) → StandsForPiece ts t codes r y × StandForPieces ts t codes ps xs
-    waiting_first r [] y [] e h = (h, tt)
-    waiting_first r [] y (z ∷ xs) e h = absurd h
-    waiting_first r (q ∷ ps) y [] e h = absurd h
-    waiting_first r (q ∷ ps) y (z ∷ xs) e (inl h) = h
-    waiting_first r (q ∷ ps) y (z ∷ xs) e (inr h) = let f : waits r.state ≡ false = ap waits h.0.ended in absurd cc
-
     all_three : (a b c : Bool) → a ≡ true → b ≡ true → c ≡ true → a && b && c ≡ true
     all_three true true true e f g = refl
     all_three false b c e f g = absurd cc
@@ -243,7 +235,7 @@ module _ (ts : List Columned) (program : Revised) (codes : List Code) (tables : 
         fold_at l r x y before later us xs hb hl hr a false e = fold_refused l r x y before later us xs hl.state (first_is r later y xs hr).1 e
         fold_at l r x y before later us xs hb hl hr a true e =
             let both = both_are (done l.state) (waits r.state) e in
-            let k = waiting_first r later y xs both.1 hr in
+            let k = waiting_first ts t codes r later y xs both.1 hr in
             let j = joins us xs x y a (ap done hl.state ∙ both.0) (ap waits k.0.state ∙ both.1) in
             fold_taken l r x y j.0 before later us xs (piece_place ts t codes l x hl) (piece_place ts t codes r y k.0) both.0 both.1 hb k.1 j.1 (folds_exact l r x y j.0 hl k.0 both.1 j.1)
 

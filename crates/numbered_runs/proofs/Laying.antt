@@ -1,14 +1,13 @@
 -- Laying a strand down, in runs of numbers and in those of the definitions.
-use Rattle.std.proofs.Common.{◌≡◌, ℕ, ◌+◌, ◌-◌, Bool, true, false, List, [], ◌∷◌, length, Option, Some, None, Result, Ok, Err, refl, sym, ◌∙◌, ap, subst, arith}
+use Rattle.std.proofs.Common.{◌≡◌, ℕ, Bool, true, false, List, [], ◌∷◌, length, Option, None, refl, sym, ◌∙◌, ap, subst, arith}
 use Rattle.std.specs.Prelude.{ℤ, ◌&&◌}
 use Rattle.program_tree.specs.Plain.{Tree}
 use Rattle.meaning.specs.Tables.{Tables}
 use Rattle.meaning.specs.Outcome.{Place, Fault}
 use Rattle.meaning.specs.Records.{Revised}
 use Rattle.meaning.specs.OneStrand.{nothing_kept}
-use Rattle.meaning.specs.SmallStep.{Phase as NamedPhase, entering, running, spawning, returning, leaving, broken, Parent, Pause, at_spawn, at_sync, noting, opening_one, closing_one, Step, moved, taken, paused as paused_step, micro, Continuation}
+use Rattle.meaning.specs.SmallStep.{Phase as NamedPhase, entering, running, spawning, returning, leaving, broken, Parent, noting, opening_one, closing_one, Step, moved, taken, paused as paused_step, micro, Continuation}
 use Rattle.meaning.specs.Layers.{bottom}
-use Rattle.meaning.specs.LayeredStrand.{LayeredStrand}
 use Rattle.meaning.specs.Strands.{State, Ended, Stalled, BookStep}
 use Rattle.meaning.specs.Strands as strands
 use Rattle.meaning.specs.Schedules.{Piece, without_memo, step_of, bottom_alone}
@@ -21,7 +20,7 @@ use Rattle.positions.specs.declared.phase.Fault.{Fault as NumberedFault}
 use Rattle.positions.specs.declared.phase.Paused.{Paused}
 use Rattle.positions.specs.declared.phase.Paused.TheVariants as paused
 use Rattle.positions.specs.Activations.{PlainActivation}
-use Rattle.positions.specs.Strands.{PlainStrand, PlainTask, is_entry}
+use Rattle.positions.specs.Strands.{PlainTask, is_entry}
 use Rattle.positions.specs.Advance.{next_statement, sync_pause, is_sync, bottom_pause, leaving_pause, pause_at, pause_of}
 use Rattle.positions.specs.Moves.{lowest_alone}
 use Rattle.positions.specs.Stands.{AreParents, StandsAt, StandsFor, named_fault}
@@ -29,10 +28,9 @@ use Rattle.positions.specs.Simulation.{named_pause, IsTaken, IsPauseBy}
 use Rattle.positions.proofs.Working.{working_is}
 use Rattle.positions.proofs.Pauses.{pause_is}
 use Rattle.positions.proofs.Moves.{alone_is}
-use Rattle.numbered_runs.specs.declared.refusal.Refusal.TheVariants.{NotThere}
-use Rattle.numbered_runs.specs.Pieces.{PlainPiece, place_of, laid, stalled_at, stalled}
+use Rattle.numbered_runs.specs.Pieces.{PlainPiece, laid, stalled_at}
 use Rattle.numbered_runs.specs.Stands.{IsLaidAs, StandForTasks, StandsForPiece}
-use Rattle.numbered_runs.proofs.Agreeing.{piece_place, StandsForChange, Agrees}
+use Rattle.numbered_runs.proofs.Agreeing.{piece_place, Agrees}
 use Rattle.numbered_runs.proofs.Small.{one_long, step_is}
 
 -- a strand that has no fault and hasn't ended at its bottom

@@ -4,3 +4,7 @@ pub mod Deques
 pub mod Laying
 pub mod Folding
 pub mod Steps
+pub mod Halves
+pub mod Ends
+pub mod Workers
+pub mod Progress

@@ -1,5 +1,5 @@
 -- A small step, a push and a step into a child as a call, in runs of numbers and in those of the definitions.
-use Rattle.std.proofs.Common.{◌≡◌, ℕ, zero, suc, Bool, true, false, List, [], ◌∷◌, length, Option, Some, None, Result, Ok, Err, refl, sym, ◌∙◌, ap, subst}
+use Rattle.std.proofs.Common.{◌≡◌, ℕ, zero, suc, true, false, List, [], ◌∷◌, length, Some, Err, refl, sym, ◌∙◌, ap, subst}
 use Rattle.std.specs.Prelude.{ℤ}
 use Rattle.monoid_laws.specs.declared.Kind.{Kind}
 use Rattle.program_tree.specs.Plain.{Name}
@@ -8,7 +8,7 @@ use Rattle.meaning.specs.Outcome.{Log}
 use Rattle.meaning.specs.Records.{Revised}
 use Rattle.meaning.specs.Tallies.{valid_record}
 use Rattle.meaning.specs.OneStrand.{nothing_kept}
-use Rattle.meaning.specs.SmallStep.{Phase as NamedPhase, entering, running, spawning, returning, leaving, broken, Pause, noting, opening_one, closing_one, Step, moved, taken, paused as paused_step, micro}
+use Rattle.meaning.specs.SmallStep.{Phase as NamedPhase, spawning, Pause, noting, opening_one, closing_one, Step, moved, taken, paused as paused_step, micro}
 use Rattle.meaning.specs.Layers.{Notes, noted_top, total, bottom}
 use Rattle.meaning.specs.LayeredStrand.{LayeredStrand, advanced}
 use Rattle.meaning.specs.Schedules.{Piece, without_memo, step_of}
@@ -27,7 +27,6 @@ use Rattle.positions.specs.Layers.{PlainLayer}
 use Rattle.positions.specs.Strands.{PlainStrand, PlainTask}
 use Rattle.positions.specs.Advance as positions
 use Rattle.positions.specs.Advance.{pause_of}
-use Rattle.positions.specs.Moves.{detached, inlined as inlined_strand}
 use Rattle.positions.specs.Stands.{AreNotes, StandsAt, StandsFor}
 use Rattle.positions.specs.Simulation.{named_pause, IsTaken, IsPauseBy}
 use Rattle.positions.proofs.Stepping.{small_step_is}
@@ -37,7 +36,7 @@ use Rattle.positions.proofs.Moves.{inlined_is, detached_is}
 use Rattle.numbered_runs.specs.declared.refusal.Refusal.TheVariants.{NotThere}
 use Rattle.numbered_runs.specs.Pieces.{PlainPiece, is_held_by, pushed_over, pushed_at, pushed, inlined_at, inlined, worked_at, worked, alone}
 use Rattle.numbered_runs.specs.Stands.{StandsForPiece}
-use Rattle.numbered_runs.proofs.Agreeing.{held_any, StandsForChange, Agrees}
+use Rattle.numbered_runs.proofs.Agreeing.{held_any, Agrees}
 
 module _ (program : Revised) (tables : Tables) where
   -- no record answers where there is none

@@ -1,13 +1,12 @@
 -- Each step of a run of numbers is that of the definitions' run that it stands for, and a refusal is where there is none.
-use Rattle.std.proofs.Common.{◌≡◌, inl, inr, ℕ, Bool, true, false, not, ◌&&◌, List, [], ◌∷◌, ◌++◌, Option, Some, None, Result, Ok, Err, refl, sym, ◌∙◌, ap, subst}
+use Rattle.std.proofs.Common.{◌≡◌, inl, inr, ℕ, Bool, true, false, not, ◌&&◌, List, [], ◌∷◌, ◌++◌, Option, Some, None, Result, Ok, Err, refl, ◌∙◌, ap, subst}
 use Rattle.monoid_laws.specs.declared.Kind.{Kind}
 use Rattle.program_tree.specs.Plain.{Tree}
 use Rattle.meaning.specs.Tables.{Tables}
 use Rattle.meaning.specs.Records.{Revised}
-use Rattle.meaning.specs.Strands.{Held, done, waits, holds_by}
+use Rattle.meaning.specs.Strands.{holds_by}
 use Rattle.meaning.specs.Schedules.{Piece, RunState, RunStep, work, push, inline, pop, stall, steal, fold, without_memo, first_state, after_step, or_same, path}
 use Rattle.meaning.specs.Schedules as schedules
-use Rattle.run_theory.specs.RightRuns.{IsRightRun}
 use Rattle.run_theory.specs.Theorems.{IsReady, IsRightNow}
 use Rattle.run_theory.proofs.Paths.{paths_right}
 use Rattle.run_theory.proofs.Neighbours.{neighbours_join}
@@ -47,7 +46,7 @@ module _ (ts : List Columned) (program : Revised) (codes : List Code) (tables : 
   idle_with : (w : ℕ) (p : PlainPiece) (x : Piece) (b c : Bool) → x.state ≡ p.state → c ≡ b → not (holds_by w x.state) && c ≡ not (holds_by w p.state) && b
   idle_with w p x b c e f = ap (λ st. not (holds_by w st) && c) e ∙ ap (λ d. not (holds_by w p.state) && d) f
 
-  idle_is : (w : ℕ) (ps : List PlainPiece) (xs : List Piece) → StandForPieces ts t codes ps xs → schedules.is_idle w xs ≡ is_idle w ps
+  pub idle_is : (w : ℕ) (ps : List PlainPiece) (xs : List Piece) → StandForPieces ts t codes ps xs → schedules.is_idle w xs ≡ is_idle w ps
   idle_is w [] [] h = refl
   idle_is w [] (x ∷ xs) h = absurd h
   idle_is w (p ∷ ps) [] h = absurd (none_there ts t codes p ps h)

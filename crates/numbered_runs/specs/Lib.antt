@@ -3,3 +3,6 @@ pub mod Pieces
 pub mod Runs
 pub mod Stands
 pub mod Simulation
+pub mod Halves
+pub mod Ends
+pub mod Progress

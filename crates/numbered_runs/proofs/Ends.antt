@@ -1,0 +1,105 @@
+-- The end and the history of a run of numbers are those of the definitions' run that it stands for.
+use Rattle.std.proofs.Common.{◌≡◌, inl, inr, List, [], ◌∷◌, map, Some, refl, sym, ◌∙◌, ap, subst}
+use Rattle.program_tree.specs.Plain.{Tree}
+use Rattle.meaning.specs.Tables.{Tables}
+use Rattle.meaning.specs.Records.{Revised}
+use Rattle.meaning.specs.Elision as elision
+use Rattle.meaning.specs.Elision.{Answer, from_scratch}
+use Rattle.meaning.specs.SmallStep.{leaving}
+use Rattle.meaning.specs.Layers.{Notes}
+use Rattle.meaning.specs.Strands.{State, Held, Ended, Stalled, replayed}
+use Rattle.meaning.specs.Strands as strands
+use Rattle.meaning.specs.Schedules.{Piece, RunState, without_memo, answer_by, answer_of_pieces, end_of}
+use Rattle.meaning.specs.Schedules as schedules
+use Rattle.run_theory.specs.Theorems.{IsReady}
+use Rattle.run_theory.specs.Theorems as theorems
+use Rattle.run_theory.proofs.Paths.{paths_answer}
+use Rattle.run_theory.proofs.Legal.{paths_history}
+use Rattle.linked_program.specs.declared.code.Code.{Code}
+use Rattle.linked_program.specs.TableNames.{Columned}
+use Rattle.positions.specs.declared.phase.Phase.{Phase}
+use Rattle.positions.specs.declared.phase.Phase.TheVariants as phase
+use Rattle.positions.specs.Activations.{PlainActivation}
+use Rattle.positions.specs.Layers.{PlainLayer}
+use Rattle.positions.specs.Stands.{AreNotes, StandsAt}
+use Rattle.numbered_runs.specs.Pieces.{PlainPiece, place_of}
+use Rattle.numbered_runs.specs.Runs.{PlainRun, line_of}
+use Rattle.numbered_runs.specs.Stands.{valued, IsLaidAs, StandsForPiece, StandForPieces, StandsForRun}
+use Rattle.numbered_runs.specs.Ends.{answer_at, answer_in, HistoryGives}
+use Rattle.numbered_runs.specs.Simulation.{IsReached}
+use Rattle.numbered_runs.proofs.Agreeing.{piece_place, none_there}
+
+module _ (ts : List Columned) (t : Tree) (codes : List Code) where
+  -- ---- the answer
+
+  one_note : (l : PlainLayer) (ls : List PlainLayer) (ns : List Notes) → ls ≡ [] → AreNotes ts t codes (l ∷ ls) ns → (n : Notes) × (ns ≡ n ∷ []) × (n.worth ≡ l.worths)
+  one_note l [] [] e h = absurd h
+  one_note l [] (n ∷ []) e h = (n, refl, h.0.worths)
+  one_note l [] (n ∷ k ∷ ns) e h = absurd h.1
+  one_note l (m ∷ ls) ns e h = absurd cc
+
+  module _ (p : PlainPiece) (x : Piece) (n : Notes) (one : x.strand.layers ≡ n ∷ []) (worth : n.worth ≡ p.strand.layer.worths) where
+    answer_there : (st : State) (ph : Phase) (below : List PlainActivation) → IsLaidAs st ph → StandsAt ts t codes ph below p.strand x.strand
+        → answer_by st x.strand.phase x.strand.layers ≡ answer_at ts t codes st ph p.strand.layer.worths
+    answer_there strands.Finished (phase.Leaving v) below l i =
+        ap (λ q. answer_by strands.Finished q x.strand.layers) i.phase ∙ ap (answer_by strands.Finished (leaving v)) one ∙ ap (λ ws. Some (elision.Finished v ws)) worth
+    answer_there strands.Faulted (phase.Broken f) below l i = ap (λ q. answer_by strands.Faulted q x.strand.layers) i
+    answer_there (Held w) ph below l i = refl
+    answer_there Ended ph below l i = refl
+    answer_there Stalled ph below l i = refl
+    answer_there strands.Finished phase.Entering below l i = absurd l
+    answer_there strands.Finished phase.Running below l i = absurd l
+    answer_there strands.Finished phase.AtSpawn below l i = absurd l
+    answer_there strands.Finished (phase.Returning v) below l i = absurd l
+    answer_there strands.Finished (phase.Broken f) below l i = absurd l
+    answer_there strands.Faulted phase.Entering below l i = absurd l
+    answer_there strands.Faulted phase.Running below l i = absurd l
+    answer_there strands.Faulted phase.AtSpawn below l i = absurd l
+    answer_there strands.Faulted (phase.Returning v) below l i = absurd l
+    answer_there strands.Faulted (phase.Leaving v) below l i = absurd l
+
+  one_answer : (p : PlainPiece) (x : Piece) → StandsForPiece ts t codes p x → answer_by x.state x.strand.phase x.strand.layers ≡ answer_at ts t codes p.state p.strand.phase p.strand.layer.worths
+  one_answer p x h =
+      let n = one_note p.strand.layer p.strand.lower x.strand.layers h.one_layer h.strand.layers in
+      ap (λ st. answer_by st x.strand.phase x.strand.layers) h.state ∙ answer_there p x n.0 n.1 n.2 p.state p.strand.phase p.strand.below h.laid h.strand.now
+
+  answers : (ps : List PlainPiece) (xs : List Piece) → StandForPieces ts t codes ps xs → answer_of_pieces xs ≡ answer_in ts t codes ps
+  answers [] [] h = refl
+  answers [] (x ∷ xs) h = absurd h
+  answers (p ∷ ps) [] h = absurd (none_there ts t codes p ps h)
+  answers (p ∷ []) (x ∷ []) h = one_answer p x h
+  answers (p ∷ []) (x ∷ y ∷ xs) h = absurd h
+  answers (p ∷ q ∷ ps) (x ∷ []) h = absurd h
+  answers (p ∷ q ∷ ps) (x ∷ y ∷ xs) h = refl
+
+  pub same_answer : (s : PlainRun) (x : RunState) → StandsForRun ts t codes s x → end_of x ≡ answer_in ts t codes s.pieces
+  same_answer s x h = answers s.pieces x.pieces h.pieces
+
+  -- ---- the list of strands
+
+  same_line : (p : PlainPiece) (x : Piece) → StandsForPiece ts t codes p x → schedules.line_of x ≡ line_of p
+  same_line p x h = ap (λ n. (n, x.state)) (piece_place ts t codes p x h) ∙ ap (λ st. (place_of p, st)) h.state
+
+  same_lines : (ps : List PlainPiece) (xs : List Piece) → StandForPieces ts t codes ps xs → map schedules.line_of xs ≡ map line_of ps
+  same_lines [] [] h = refl
+  same_lines [] (x ∷ xs) h = absurd h
+  same_lines (p ∷ ps) [] h = absurd (none_there ts t codes p ps h)
+  same_lines (p ∷ []) (x ∷ []) h = ap (λ l. l ∷ []) (same_line p x h)
+  same_lines (p ∷ []) (x ∷ y ∷ xs) h = absurd h
+  same_lines (p ∷ q ∷ ps) (x ∷ []) h = absurd h
+  same_lines (p ∷ q ∷ ps) (x ∷ y ∷ xs) (inl h) =
+      ap (λ l. l ∷ map schedules.line_of (y ∷ xs)) (same_line p x h.0) ∙ ap (λ ls. line_of p ∷ ls) (same_lines (q ∷ ps) (y ∷ xs) h.1)
+  same_lines (p ∷ q ∷ ps) (x ∷ y ∷ xs) (inr h) =
+      ap (λ l. l ∷ map schedules.line_of (y ∷ xs)) (same_line (valued h.0.to_left p) x h.0.left) ∙ ap (λ l. line_of p ∷ l ∷ map schedules.line_of xs) (same_line (valued h.0.to_right q) y h.0.right)
+      ∙ ap (λ ls. line_of p ∷ line_of q ∷ ls) (same_lines ps xs h.1)
+
+-- ---- of runs that the steps lead to
+
+module _ (ts : List Columned) (program : Revised) (codes : List Code) (tables : Tables) (ready : IsReady program tables without_memo) where
+  pub answers_elision : (s : PlainRun) (x : RunState) (a : Answer) → IsReached program tables x → StandsForRun ts program.tree codes s x → answer_in ts program.tree codes s.pieces ≡ Some a → a ≡ from_scratch program.tree tables
+  answers_elision s x a r h e = paths_answer program tables without_memo ready r.kits r.steps a (ap end_of r.is ∙ same_answer ts program.tree codes s x h ∙ e)
+
+  pub keeps_history : (s : PlainRun) (x : RunState) → IsReached program tables x → StandsForRun ts program.tree codes s x → HistoryGives s
+  keeps_history s x r h =
+      let k = subst theorems.HistoryGives r.is (paths_history program tables without_memo ready r.kits r.steps) in
+      (k.0, ap replayed (sym h.history) ∙ k.1, k.2 ∙ same_lines ts program.tree codes s.pieces x.pieces h.pieces)

@@ -1,0 +1,33 @@
+-- Two neighbours of which a fold was refused for memory.
+use Rattle.std.specs.Prelude.{◌≡◌, ℕ, true, List, ◌∷◌, ◌++◌}
+use Rattle.monoid_laws.specs.Kinds.{operate_all}
+use Rattle.positions.specs.Moves.{FoldsViews}
+use Rattle.numbered_runs.specs.Pieces.{PlainPiece, may_fold}
+use Rattle.numbered_runs.specs.Runs.{PlainRun}
+use Rattle.numbered_runs.specs.Stands.{valued}
+
+-- some reducers have moved from the right to the left, and the others have not
+pub record IsHalfFolded (l r m n : PlainPiece) : Type 0 where
+  pub left : m ≡ valued m.strand.layer.worths l
+  pub right : n ≡ valued n.strand.layer.worths r
+  pub product : operate_all l.strand.layer.kinds m.strand.layer.worths n.strand.layer.worths ≡ operate_all l.strand.layer.kinds l.strand.layer.worths r.strand.layer.worths
+
+-- nothing has changed but the values of two neighbours that may become one, whose product is the same
+pub record AreHalfFolded (ps qs : List PlainPiece) : Type 0 where
+  pub before : List PlainPiece
+  pub later : List PlainPiece
+  pub left : PlainPiece
+  pub right : PlainPiece
+  pub new_left : PlainPiece
+  pub new_right : PlainPiece
+  pub old : ps ≡ before ++ left ∷ right ∷ later
+  pub new : qs ≡ before ++ new_left ∷ new_right ∷ later
+  pub may : may_fold left right ≡ true
+  pub views : FoldsViews left.strand.phase right.strand.phase
+  pub half : IsHalfFolded left right new_left new_right
+
+-- a fold was refused for memory
+pub record IsHalfFoldedRun (s t : PlainRun) : Type 0 where
+  pub pieces : AreHalfFolded s.pieces t.pieces
+  pub kits : t.kits ≡ s.kits
+  pub history : t.history ≡ s.history
