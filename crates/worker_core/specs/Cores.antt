@@ -1,0 +1,114 @@
+-- A run by steps: why one is refused, and how the run ends.
+use Rattle.std.specs.Prelude.{◌≡◌, ℕ, ◌<◌, length, Bool, true, false, not, ◌&&◌, ◌||◌, List, [], ◌∷◌, Result, Err}
+use Rattle.monoid_laws.specs.declared.Kind.{Kind}
+use Rattle.monoid_laws.specs.Worth.{Worth}
+use Rattle.view_pool.specs.Stock.{Stock}
+use Rattle.meaning.specs.Strands.{State, Finished, Faulted}
+use Rattle.input_tables.specs.Edited.{Edited}
+use Rattle.linked_program.specs.Checked.{PlainChecked}
+use Rattle.frames.specs.Answers.{Ending, underway, ending_of, IsAnswer}
+use Rattle.frames.specs.declared.answer.RunAnswer.{RunAnswer}
+use Rattle.frames.specs.declared.answer.RunAnswer.TheVariants as answer
+use Rattle.numbered_runs.specs.Named.{run_step}
+use Rattle.numbered_runs.specs.Pieces.{PlainPiece}
+use Rattle.numbered_runs.specs.Runs.{PlainRun, first_run, stepped, are_workers, may_be_tried_again}
+use Rattle.numbered_runs.specs.declared.step.Step.{Step}
+use Rattle.numbered_runs.specs.declared.step.Step.TheVariants as step
+use Rattle.numbered_runs.specs.declared.refusal.Refusal.{Refusal}
+use Rattle.numbered_runs.specs.declared.refusal.Refusal.TheVariants as refusal
+use Rattle.numbered_runs.specs.declared.refusal.StartError.{StartError}
+use Rattle.numbered_runs.specs.declared.refusal.StartError.TheVariants as start
+use Rattle.worker_core.specs.Standing.{Standing, run_of}
+use Rattle.worker_core.specs.Folds.{KeepsProducts}
+
+-- a run: its program and tables, its strands with the pool and the history, its workers, and whether memory was refused in the middle of a step
+pub record PlainCore : Type 0 where
+  pub program : PlainChecked
+  pub tables : Edited
+  pub standing : Standing
+  pub workers : ℕ
+  pub failed : Bool
+
+-- the steps that take memory
+abbrev pub takes_memory : Step → Bool
+takes_memory (step.Inline w) = false
+takes_memory (step.Pop w) = false
+takes_memory _ = true
+
+-- the step on the run of numbers
+abbrev pub stepped_on : PlainCore → Step → Result PlainRun Refusal
+stepped_on c s = stepped c.program.codes c.program.kinds c.tables.tables (run_of c.standing) (run_step s)
+
+-- whether there are such workers, in a run that has not failed
+abbrev pub is_open_to : PlainCore → Step → Bool
+is_open_to c s = not c.failed && are_workers c.workers (run_step s)
+
+abbrev pub taken_if : Bool → PlainCore → Step → Result PlainRun Refusal
+taken_if true c s = stepped_on c s
+taken_if false c s = Err refusal.NotThere
+
+-- one step of a run
+abbrev pub taken : PlainCore → Step → Result PlainRun Refusal
+taken c s = taken_if (is_open_to c s) c s
+
+abbrev pub is_no_memory : Refusal → Bool
+is_no_memory refusal.NoMemory = true
+is_no_memory _ = false
+
+-- memory was refused, and the step can't be tried again
+abbrev pub is_failure : Step → Refusal → Bool
+is_failure s e = is_no_memory e && not (may_be_tried_again (run_step s))
+
+-- what a refused step leaves: the run has failed where memory was refused in the middle of a step
+abbrev pub failed_by : Step → Refusal → PlainCore → PlainCore
+failed_by s e c = record c { failed = is_failure s e || c.failed }
+
+-- a fold that memory was refused for keeps the product of the two neighbours, and nothing else changes the strands
+abbrev pub StandsAfter : Step → Refusal → Standing → Standing → Type 0
+StandsAfter (step.Fold w q) refusal.NoMemory s t = KeepsProducts s t
+StandsAfter _ _ s t = t ≡ s
+
+-- how a run with those strands ends
+abbrev pub ending_at : State → PlainPiece → Ending
+ending_at Finished p = ending_of p.strand
+ending_at Faulted p = ending_of p.strand
+ending_at _ p = underway
+
+abbrev pub ending_in : List PlainPiece → Ending
+ending_in (p ∷ []) = ending_at p.state p
+ending_in _ = underway
+
+abbrev pub worths_in : List PlainPiece → List Worth
+worths_in (p ∷ []) = p.strand.layer.worths
+worths_in _ = []
+
+abbrev pub IsEnd : Bool → List PlainPiece → RunAnswer → Type 0
+IsEnd true ps given = given ≡ answer.NoMemory
+IsEnd false ps given = IsAnswer (ending_in ps) (worths_in ps) given
+
+-- the beginning of a run: main's strand, held by worker 0, with one kit of the pool
+pub record IsFirstCore (program : PlainChecked) (tables : Edited) (pool : Stock (List Kind)) (workers : ℕ) (core : PlainCore) : Type 0 where
+  pub program_is : core.program ≡ program
+  pub tables_are : core.tables ≡ tables
+  pub run : run_of core.standing ≡ first_run program.codes program.kinds program.main (length pool.kits)
+  pub total : core.standing.total ≡ pool.total
+  pub workers_are : core.workers ≡ workers
+  pub going : core.failed ≡ false
+
+abbrev pub CannotStart : Stock (List Kind) → StartError → Type 0
+CannotStart pool start.NoKit = pool.kits ≡ []
+CannotStart pool start.NoMemory = 0 < length pool.kits
+
+-- one strand is left, and it is laid down as finished or faulted
+abbrev pub is_last : State → Bool
+is_last Finished = true
+is_last Faulted = true
+is_last _ = false
+
+abbrev pub are_over : List PlainPiece → Bool
+are_over (p ∷ []) = is_last p.state
+are_over _ = false
+
+-- there is no more to do: the run has come to its end, or has failed
+abbrev pub is_over : PlainCore → Bool
+is_over c = c.failed || are_over c.standing.pieces

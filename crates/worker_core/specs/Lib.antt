@@ -1,0 +1,7 @@
+pub mod Moves
+pub mod Standing
+pub mod Folds
+pub mod Cores
+pub mod Keeps
+pub mod Going
+pub mod Leaving

@@ -1,0 +1,63 @@
+-- What a worker does with the strand that it holds, and how it is laid down.
+use Rattle.std.specs.Prelude.{◌≡◌, ℕ, Bool, true, false, List, [], ◌∷◌, Option, Some, None, Result, Ok, Err}
+use Rattle.monoid_laws.specs.declared.Kind.{Kind}
+use Rattle.meaning.specs.Tables.{Tables}
+use Rattle.meaning.specs.Outcome.{Place}
+use Rattle.meaning.specs.Strands as strands
+use Rattle.linked_program.specs.declared.code.Code.{Code}
+use Rattle.positions.specs.declared.phase.Paused.{Paused}
+use Rattle.positions.specs.declared.phase.Paused.TheVariants as paused
+use Rattle.positions.specs.Strands.{PlainTask}
+use Rattle.numbered_runs.specs.Pieces.{PlainPiece, Change, worked, pushed, inlined, popped}
+use Rattle.numbered_runs.specs.declared.refusal.Refusal.{Refusal}
+use Rattle.numbered_runs.specs.declared.refusal.Refusal.TheVariants.{NoMemory}
+use Rattle.numbered_runs.specs.declared.step.State.{State}
+use Rattle.numbered_runs.specs.declared.step.State.TheVariants as state
+use Rattle.worker_core.specs.declared.piece.Move.{Move}
+use Rattle.worker_core.specs.declared.piece.Move.TheVariants.{Work, Push, Inline, Pop}
+
+-- what a move makes of the piece
+abbrev pub moved : List Code → List Kind → Tables → Move → ℕ → PlainPiece → Result Change Refusal
+moved codes kinds tables Work kits p = worked codes kinds tables kits p
+moved codes kinds tables Push kits p = pushed kits p
+moved codes kinds tables Inline kits p = inlined kits p
+moved codes kinds tables Pop kits p = popped kits p
+
+-- the moves that take memory
+abbrev pub takes_memory : Move → Bool
+takes_memory Work = true
+takes_memory Push = true
+takes_memory Inline = false
+takes_memory Pop = false
+
+-- the refusal's cause: that of the definition, or no memory where the step takes some and was to be taken
+abbrev pub RefusedAs : {A : Type 0} → Bool → Result A Refusal → Refusal → Type 0
+RefusedAs lacks (Err f) e = e ≡ f
+RefusedAs true (Ok p) e = e ≡ NoMemory
+RefusedAs false (Ok p) e = ⊥
+
+-- a strand with one layer, which has views of those kinds
+pub record IsFit (kinds : List Kind) (p : PlainPiece) : Type 0 where
+  pub views : p.strand.layer.kinds ≡ kinds
+  pub one_layer : p.strand.lower ≡ []
+
+-- as what a strand is laid down at a point, with those continuations on the deque
+abbrev pub rest_at : Paused → List PlainTask → Option State
+rest_at paused.Faulted ks = Some state.Faulted
+rest_at paused.AtSync [] = Some state.Stalled
+rest_at paused.Returned [] = Some state.Ended
+rest_at paused.Finished [] = Some state.Finished
+rest_at _ ks = None
+
+-- what the history notes where a strand is laid down so
+abbrev pub rest_noted : State → Place → strands.BookStep
+rest_noted (state.Held w) p = strands.Stall p
+rest_noted state.Stalled p = strands.Stall p
+rest_noted state.Ended p = strands.End p
+rest_noted state.Faulted p = strands.Fault p
+rest_noted state.Finished p = strands.Finish p
+
+-- there is a continuation to take
+abbrev pub has_tasks : List PlainTask → Bool
+has_tasks [] = false
+has_tasks (k ∷ ks) = true

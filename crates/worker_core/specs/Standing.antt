@@ -1,0 +1,82 @@
+-- The strands of a run with the pool and the history, as plain values.
+use Rattle.std.specs.Prelude.{◌≡◌, ℕ, suc, ◌+◌, ◌<◌, true, cond, List, [], ◌∷◌, length, take, drop, slice_index_or, slice_set, ◌++◌, All, Option, Some, None, Ok}
+use Rattle.monoid_laws.specs.declared.Kind.{Kind}
+use Rattle.meaning.specs.Tables.{Tables}
+use Rattle.meaning.specs.Outcome.{Place}
+use Rattle.meaning.specs.SmallStep.{same_name}
+use Rattle.meaning.specs.Strands.{BookStep}
+use Rattle.linked_program.specs.declared.code.Code.{Code}
+use Rattle.positions.specs.Advance.{pause_of}
+use Rattle.numbered_runs.specs.Named.{named_state}
+use Rattle.numbered_runs.specs.declared.step.State.{State}
+use Rattle.numbered_runs.specs.declared.refusal.Refusal.{Refusal}
+use Rattle.numbered_runs.specs.declared.refusal.Refusal.TheVariants.{NotThere, NoMemory}
+use Rattle.numbered_runs.specs.Pieces.{PlainPiece, place_of, is_held_by, stolen_of}
+use Rattle.numbered_runs.specs.Runs.{PlainRun, among}
+use Rattle.worker_core.specs.Moves.{IsFit, has_tasks, rest_at, rest_noted}
+
+-- the pieces in serial order, the free kits by their kinds, how many kits there are in all, and the history
+pub record Standing : Type 0 where
+  pub pieces : List PlainPiece
+  pub kits : List (List Kind)
+  pub total : ℕ
+  pub history : List BookStep
+
+-- of the kits only the number counts
+abbrev pub run_of : Standing → PlainRun
+run_of s = record { pieces = s.pieces; kits = length s.kits; history = s.history }
+
+-- the kits that are free and those that strands have
+abbrev pub kits_in : Standing → ℕ
+kits_in s = length s.kits + length s.pieces
+
+-- all kits are of those kinds, and each strand has one of them
+pub record AreFit (kinds : List Kind) (s : Standing) : Type 0 where
+  pub pieces : All (IsFit kinds) s.pieces
+  pub kits : All (λ k. k ≡ kinds) s.kits
+
+-- the number of the strand that a worker holds, of those from a number on
+abbrev pub held_from : ℕ → ℕ → List PlainPiece → Option ℕ
+held_from w i [] = None
+held_from w i (p ∷ ps) = cond (is_held_by w p) (Some i) (held_from w (suc i) ps)
+
+-- the number of the strand that a worker holds
+abbrev pub held_at : ℕ → List PlainPiece → Option ℕ
+held_at w ps = held_from w 0 ps
+
+-- the number of the first strand that begins at a place, of those from a number on
+abbrev pub behind_from : Place → ℕ → List PlainPiece → Option ℕ
+behind_from q i [] = None
+behind_from q i (p ∷ ps) = cond (same_name (place_of p) q) (Some i) (behind_from q (suc i) ps)
+
+-- the number of the left neighbour of the strand that begins at a place
+abbrev pub neighbour_at : Place → List PlainPiece → Option ℕ
+neighbour_at q [] = None
+neighbour_at q (p ∷ ps) = behind_from q 0 ps
+
+-- the strand of that number has a continuation to take
+abbrev pub MayRob : ℕ → List PlainPiece → Type 0
+MayRob i ps = (d : PlainPiece) → i < length ps → has_tasks (slice_index_or ps i d).deque ≡ true
+
+-- a thief has taken the oldest continuation of the strand of that number
+abbrev pub IsRobbed : List Code → List Kind → ℕ → ℕ → Standing → Standing → Type 0
+IsRobbed codes kinds thief i s t =
+    (tables : Tables) (d : PlainPiece) (kits : ℕ) → among (take i s.pieces) (drop (suc i) s.pieces) s.history (stolen_of codes kinds tables thief (suc kits) (slice_index_or s.pieces i d) (slice_index_or s.pieces i d).deque) ≡ Ok (record { pieces = t.pieces; kits = kits; history = t.history })
+
+-- the strand of that number, which is p, laid down so
+abbrev pub laid_down : ℕ → State → PlainPiece → Standing → Standing
+laid_down i state p s = record s { pieces = slice_set s.pieces i (record { strand = p.strand; deque = []; state = named_state state }); history = s.history ++ rest_noted state (place_of p) ∷ [] }
+
+abbrev pub LaysDown : Option State → ℕ → PlainPiece → Standing → Standing → Type 0
+LaysDown None i p s t = ⊥
+LaysDown (Some state) i p s t = t ≡ laid_down i state p s
+
+-- the strand of that number is laid down as what its holder leaves it
+abbrev pub IsLaid : List Code → ℕ → Standing → Standing → Type 0
+IsLaid codes i s t =
+    (d : PlainPiece) → LaysDown (rest_at (pause_of codes (slice_index_or s.pieces i d).strand) (slice_index_or s.pieces i d).deque) i (slice_index_or s.pieces i d) s t
+
+-- memory is refused where the strand was to be laid down
+abbrev pub IsLayingRefused : Option State → Refusal → Type 0
+IsLayingRefused None e = e ≡ NotThere
+IsLayingRefused (Some state) e = e ≡ NoMemory

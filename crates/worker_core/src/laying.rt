@@ -1,0 +1,107 @@
+// A strand is laid down.
+ghost use Rattle.std.specs.Prelude.{◌≡◌, slice_index_or, ◌<◌, true, IfOk, IfErr, OnErr, OnOk, Ok, [], length};
+ghost use Rattle.meaning.specs.Tables.{Tables};
+ghost use Rattle.positions.specs.Advance.{pause_of};
+ghost use Rattle.numbered_runs.specs.Named.{named_state, book_step};
+ghost use Rattle.numbered_runs.specs.Pieces.{PlainPiece, stalled};
+ghost use Rattle.numbered_runs.specs.Runs.{changed};
+ghost use Rattle.worker_core.specs.Moves.{RefusedAs, rest_at, rest_noted};
+ghost use Rattle.worker_core.specs.Standing.{run_of, kits_in, AreFit, laid_down, IsLaid, IsLayingRefused};
+
+use crate::piece::Piece;
+use crate::strands::{Strands, held_at};
+use linked_program::checked::Checked;
+use numbered_runs::refusal::Refusal;
+use numbered_runs::step::{BookStep, Place, State};
+use positions::phase::Paused;
+use std::alloc::Global;
+use view_pool::View;
+
+/// What the history notes where the strand of that place is laid down so.
+fn noted(state: State, place: Place) -> BookStep
+    ensures noted { book_step result ≡ rest_noted state place.items }
+{
+    match state {
+        State::Held(_) | State::Stalled => BookStep::Stall(place),
+        State::Ended => BookStep::End(place),
+        State::Faulted => BookStep::Fault(place),
+        State::Finished => BookStep::Finish(place),
+    }
+}
+
+impl<V: View> Piece<V> {
+    /// As what the strand is laid down; none where its holder has something to do with it.
+    fn rest(&self, program: &Checked) -> Option<State>
+        ensures rest { result ≡ rest_at (pause_of program.now.codes self.now.strand) self.now.deque }
+    {
+        match self.strand.pause(program) {
+            Paused::Faulted => Some(State::Faulted),
+            Paused::AtSync if self.deque.is_empty() => Some(State::Stalled),
+            Paused::Returned if self.deque.is_empty() => Some(State::Ended),
+            Paused::Finished if self.deque.is_empty() => Some(State::Finished),
+            _ => None,
+        }
+    }
+
+    /// Lays the strand down, and gives up its deque. It takes no memory.
+    fn lay(&mut self, state: State)
+        ensures laid { self.new ≡ record self.old { deque = []; state = named_state state } }
+    {
+        self.deque.clear();
+        self.state = state;
+    }
+}
+
+impl<V: View> Strands<V> {
+    /// Lays a worker's strand down where its holder has nothing to do with it, or refuses that and changes nothing.
+    pub(crate) fn stall(
+        &mut self,
+        alloc: Global,
+        program: &Checked,
+        worker: usize,
+    ) -> Result<(), Refusal>
+        requires fit { AreFit program.now.kinds self.old }
+        ensures taken { OnOk result ((tables : Tables) → changed Refusal.NotThere worker (stalled program.now.codes program.now.kinds tables (length self.old.kits)) [] self.old.pieces self.old.history ≡ Ok (run_of self.new)) }
+        ensures refused { IfErr result (λ e. (tables : Tables) → RefusedAs true (changed Refusal.NotThere worker (stalled program.now.codes program.now.kinds tables (length self.old.kits)) [] self.old.pieces self.old.history) e) }
+        ensures unchanged { OnErr result (self.new ≡ self.old) }
+        ensures fit { AreFit program.now.kinds self.new }
+        ensures total { self.new.total ≡ self.old.total }
+        ensures kits { kits_in self.new ≡ kits_in self.old }
+    {
+        match held_at(&self.pieces, worker) {
+            None => Err(Refusal::NotThere),
+            Some(number) => self.stall_at(alloc, program, number),
+        }
+    }
+
+    /// Lays the strand of that number down where its holder has nothing to do with it, or refuses that and changes nothing.
+    fn stall_at(&mut self, alloc: Global, program: &Checked, number: usize) -> Result<(), Refusal>
+        requires number { number < length self.old.pieces }
+        ensures taken { OnOk result (IsLaid program.now.codes number self.old self.new) }
+        ensures refused { IfErr result (λ e. (d : PlainPiece) → IsLayingRefused (rest_at (pause_of program.now.codes (slice_index_or self.old.pieces number d).strand) (slice_index_or self.old.pieces number d).deque) e) }
+        ensures unchanged { OnErr result (self.new ≡ self.old) }
+    {
+        match self.pieces[number].rest(program) {
+            None => Err(Refusal::NotThere),
+            Some(state) => self.lay_at(alloc, number, state),
+        }
+    }
+
+    /// Lays the strand of that number down so; refused for want of memory alone, and then nothing has changed.
+    fn lay_at(&mut self, alloc: Global, number: usize, state: State) -> Result<(), Refusal>
+        requires number { number < length self.old.pieces }
+        ensures laid { OnOk result ((d : PlainPiece) → self.new ≡ laid_down number state (slice_index_or self.old.pieces number d) self.old) }
+        ensures cause { IfErr result (λ e. e ≡ Refusal.NoMemory) }
+        ensures unchanged { OnErr result (self.new ≡ self.old) }
+    {
+        let Ok(place) = self.pieces[number].place(alloc) else {
+            return Err(Refusal::NoMemory);
+        };
+        if self.history.reserve(1).is_err() {
+            return Err(Refusal::NoMemory);
+        }
+        self.pieces[number].lay(state);
+        self.history.push_reserved(noted(state, place));
+        Ok(())
+    }
+}

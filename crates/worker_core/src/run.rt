@@ -1,0 +1,226 @@
+// A run by steps.
+ghost use Rattle.std.specs.Prelude.{◌≡◌, ◌⊎◌, true, All, Ok, IfOk, IfErr, OnOk, map, length};
+ghost use Rattle.numbered_runs.specs.Named.{run_step, book_step, line};
+ghost use Rattle.numbered_runs.specs.Runs.{are_workers, line_of};
+ghost use Rattle.worker_core.specs.Moves.{RefusedAs};
+ghost use Rattle.worker_core.specs.Standing.{run_of, kits_in};
+ghost use Rattle.monoid_laws.specs.Kinds.{IsMonoid};
+ghost use Rattle.meaning.specs.Schedules.{without_memo};
+ghost use Rattle.run_theory.specs.Theorems.{IsReady};
+ghost use Rattle.linked_program.specs.Checked.{IsChecked, revised_of};
+ghost use Rattle.linked_program.specs.TableNames.{columned_of};
+ghost use Rattle.worker_core.specs.Going.{GoesOn};
+ghost use Rattle.worker_core.specs.Leaving.{LeavesElision};
+ghost use Rattle.worker_core.specs.Keeps.{IsBeginning, IsStep, IsNoStep, IsLegal, AnswersElision, IsGiven};
+ghost use Rattle.worker_core.specs.Cores.{IsFirstCore, CannotStart, is_failure, takes_memory, stepped_on, taken, failed_by, StandsAfter, IsEnd, is_over};
+
+use crate::strands::Strands;
+use frames::answer::RunAnswer;
+use frames::records::Records;
+use input_tables::Tables;
+use linked_program::checked::Checked;
+use numbered_runs::refusal::{Refusal, StartError};
+use numbered_runs::step::{BookStep, Step, StrandLine};
+use rules_theory::{checked_programs_keep_the_rules, numbers_fit};
+use std::alloc::{AllocError, Global};
+use std::marker::Model;
+use view_pool::{Kit, Pool, View};
+
+/// A run of a checked program on tables, by steps of so many workers.
+#[derive(Drop)]
+pub struct Core<'a, V: View = Box<dyn View>> {
+    program: &'a Checked,
+    tables: &'a Tables,
+    records: &'a Records,
+    strands: Strands<V>,
+    workers: usize,
+    failed: bool,
+}
+
+impl<'a, V: View> Model for Core<'a, V> {
+    ghost use Rattle.worker_core.specs.Cores.{PlainCore};
+    ghost use Rattle.worker_core.specs.Standing.{AreFit};
+    ghost use Rattle.worker_core.specs.Keeps.{KeepsRun};
+    ghost use Rattle.worker_core.specs.Going.{AreHeldBy};
+
+    ghost Value = { PlainCore };
+
+    ghost use Rattle.linked_program.specs.contracts.code.Expression as e;
+    ghost use Rattle.program_tree.specs.contracts.Expr as t;
+    ghost use Rattle.std.specs.Coded.{codes};
+
+    ghost coded = { Prim.hlevel (codes, e.the_row.coded, t.the_row.coded) };
+
+    ghost view = { λ c. record { program = c.program.now; tables = c.tables.now; standing = c.strands; workers = c.workers; failed = c.failed } };
+
+    ghost invariant = { λ c. AreFit c.program.now.kinds c.strands × KeepsRun c.program.now c.tables.now c.strands × AreHeldBy c.workers c.strands };
+}
+
+impl<'a, V: View> Core<'a, V> {
+    /// The beginning of a run: main's strand, held by worker 0, with a kit of the pool. Refused where no kit is free, or for
+    /// want of memory; the pool is handed back.
+    pub fn start(
+        alloc: Global,
+        program: &'a Checked,
+        tables: &'a Tables,
+        records: &'a Records,
+        pool: Pool<Kit<V>>,
+        workers: usize,
+    ) -> Result<Core<'a, V>, (StartError, Pool<Kit<V>>)>
+        requires kits { All (λ k. k ≡ program.now.kinds) pool.kits }
+        requires tables { program.now.tables ≡ columned_of tables.now.tables }
+        ensures started { IfOk result (λ core. IsFirstCore program.now tables.now pool workers core) }
+        ensures beginning { IfOk result (IsBeginning (length pool.kits)) }
+        ensures kits { IfOk result (λ core. kits_in core.standing ≡ length pool.kits) }
+        ensures refused { IfErr result (λ e. CannotStart pool e.0) }
+        ensures handed_back { IfErr result (λ e. e.1 ≡ pool) }
+    {
+        are_ready(program, tables);
+        match Strands::first(alloc, program, pool) {
+            Ok(strands) => Ok(Core {
+                program,
+                tables,
+                records,
+                strands,
+                workers,
+                failed: false,
+            }),
+            Err(refused) => Err(refused),
+        }
+    }
+
+    /// Takes one step, or refuses it: there is no such worker or the run has failed, then the worker holds a strand, then
+    /// there is no such step, nothing to take, no kit, no memory. A refusal changes nothing, but where memory is refused: after
+    /// a fold some reducers may have moved between the two strands, whose product is the same, and after a step that is no push
+    /// and no fold the run has failed.
+    pub fn step(&mut self, alloc: Global, step: Step) -> Result<(), Refusal>
+        ensures taken { OnOk result (taken self.old step ≡ Ok (run_of self.new.standing)) }
+        ensures step { OnOk result (IsStep step self.old self.new) }
+        ensures refused { IfErr result (RefusedAs (takes_memory step) (taken self.old step)) }
+        ensures no_step { IfErr result (λ e. (e ≡ Refusal.NoMemory) ⊎ IsNoStep step self.old) }
+        ensures stands { IfErr result (λ e. StandsAfter step e self.old.standing self.new.standing) }
+        ensures failed { IfErr result (λ e. self.new ≡ record (failed_by step e self.old) { standing = self.new.standing }) }
+        ensures going { OnOk result (self.new ≡ record self.old { standing = self.new.standing }) }
+        ensures total { self.new.standing.total ≡ self.old.standing.total }
+        ensures kits { kits_in self.new.standing ≡ kits_in self.old.standing }
+    {
+        if self.failed || !are_workers(self.workers, &step) {
+            return Err(Refusal::NotThere);
+        }
+        match self.take(alloc, &step) {
+            Ok(()) => Ok(()),
+            Err(refusal) => {
+                if is_failure(&step, refusal) {
+                    self.failed = true;
+                }
+                Err(refusal)
+            }
+        }
+    }
+
+    /// The step by workers that there are, in a run that has not failed.
+    fn take(&mut self, alloc: Global, step: &Step) -> Result<(), Refusal>
+        requires workers { are_workers self.old.workers (run_step step.now) ≡ true }
+        ensures taken { OnOk result (stepped_on self.old step.now ≡ Ok (run_of self.new.standing)) }
+        ensures refused { IfErr result (RefusedAs (takes_memory step.now) (stepped_on self.old step.now)) }
+        ensures stands { IfErr result (λ e. StandsAfter step.now e self.old.standing self.new.standing) }
+        ensures same { self.new ≡ record self.old { standing = self.new.standing } }
+        ensures total { self.new.standing.total ≡ self.old.standing.total }
+        ensures kits { kits_in self.new.standing ≡ kits_in self.old.standing }
+    {
+        self.strands
+            .take(alloc, self.program, self.tables, self.records, step)
+    }
+
+    /// What the type keeps: the run stands for one of the definitions, of which the elision's answer from scratch is left to do.
+    pub fn kept(&self)
+        ensures rest { LeavesElision self.now }
+    {
+        let _ = &self.strands;
+    }
+
+    /// What changed the list of strands so far.
+    pub fn history(&self) -> &[BookStep]
+        ensures history { map book_step result.now ≡ self.now.standing.history }
+        ensures legal { IsLegal self.now }
+    {
+        let strands = &self.strands;
+        &strands.history
+    }
+
+    /// The strands in serial order; want of memory is the only error.
+    pub fn strands(&self, alloc: Global) -> Result<Vec<StrandLine>, AllocError>
+        ensures strands { IfOk result (λ lines. map line lines.items ≡ map line_of self.now.standing.pieces) }
+    {
+        self.strands.lines(alloc)
+    }
+
+    /// Whether there is no more to do: one strand is left, and it is laid down as finished or faulted, or the run has failed.
+    /// Until then one of its workers has a step, where there is a worker.
+    pub fn is_over(&self) -> bool
+        ensures over { result ≡ is_over self.now }
+        ensures goes_on { GoesOn self.now }
+    {
+        self.failed || self.strands.are_over()
+    }
+
+    /// The run's answer where it has come to its end, else Unfinished, NoMemory where it has failed; and the pool, with each
+    /// strand's kit given back.
+    pub fn finish(self, alloc: Global) -> (RunAnswer, Pool<Kit<V>>)
+        ensures elision { AnswersElision self.entry result.0 }
+        ensures over { is_over self.entry ≡ true → IsGiven result.0 }
+        ensures end { IsEnd self.entry.failed self.entry.standing.pieces result.0 }
+        ensures free { length result.1.kits ≡ kits_in self.entry.standing }
+        ensures kinds { All (λ k. k ≡ self.entry.program.kinds) result.1.kits }
+        ensures total { result.1.total ≡ self.entry.standing.total }
+    {
+        let Core {
+            strands,
+            failed,
+            ..
+        } = self;
+        strands.end(alloc, failed)
+    }
+}
+
+/// What the theory asks for of a checked program and its tables.
+fn are_ready(program: &Checked, tables: &Tables)
+    ensures ready { IsReady (revised_of program.now) tables.now.tables without_memo }
+    ensures checked { IsChecked program.now }
+    ensures monoids { All IsMonoid program.now.kinds }
+{
+    program.clean();
+    program.linked();
+    program.revised();
+    numbers_fit(program.program());
+    tables.cells_fit();
+    checked_programs_keep_the_rules();
+}
+
+/// Whether there are so many workers.
+fn are_workers(workers: usize, step: &Step) -> bool
+    ensures workers { result ≡ are_workers workers (run_step step.now) }
+{
+    match step {
+        Step::Work(worker)
+        | Step::Push(worker)
+        | Step::Inline(worker)
+        | Step::Pop(worker)
+        | Step::Stall(worker)
+        | Step::Fold(worker, _) => *worker < workers,
+        Step::Steal(thief, victim) => *thief < workers && *victim < workers,
+    }
+}
+
+/// Whether a run has failed with a refusal of that step.
+fn is_failure(step: &Step, refusal: Refusal) -> bool
+    ensures failure { result ≡ is_failure step.now refusal }
+{
+    match refusal {
+        Refusal::NoMemory => match step {
+            Step::Push(_) | Step::Fold(_, _) => false,
+            _ => true,
+        },
+        _ => false,
+    }
+}
