@@ -1,0 +1,7 @@
+//! Programs, each on one strand.
+
+mod answers;
+mod driving;
+mod faults;
+mod names;
+mod statements;
