@@ -3,7 +3,7 @@ use Rattle.std.proofs.Common.{◌≡◌, ℕ, ◌+◌, ◌<◌, List, [], ◌++�
 use Rattle.std.proofs.Math.Seq.{drop-cons}
 use Rattle.program_tree.specs.Plain.{Tree}
 use Rattle.program_tree.specs.View.{tree}
-use Rattle.checked_program.specs.Checked.{PlainChecked}
+use Rattle.linked_program.specs.Checked.{PlainChecked}
 use Rattle.meaning.specs.Script as script
 use Rattle.meaning.specs.Statements.{reducers}
 use Rattle.meaning.specs.Tables.{Tables}

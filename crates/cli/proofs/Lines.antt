@@ -40,18 +40,27 @@ no_form app words x e h other empty =
 
 -- lines written out
 
-pub two_workers : IsLine (codes "cilkreport" ∷ codes "p.ck" ∷ codes "--workers" ∷ codes "2" ∷ codes "t.toml" ∷ []) (codes "p.ck") (codes "t.toml") 2
+pub two_workers : IsLine (codes "cilkreport" ∷ codes "p.ck" ∷ codes "--workers" ∷ codes "2" ∷ codes "t.toml" ∷ []) (codes "p.ck") (codes "t.toml") 2 64
 unfolding given HasForm clap_on_literals
 two_workers =
     let written : 0 < 1 = omega arith in
     let digit : 2 < 10 = omega arith in
     let one : 1 ≤ 2 = omega arith in
     let sixteen : 2 ≤ 16 = omega arith in
-    record { form = refl; program_is = refl; tables_are = refl; workers_are = ((written, (digit, tt)), refl, one, sixteen) }
+    record { form = refl; program_is = refl; tables_are = refl; workers_are = ((written, (digit, tt)), refl, one, sixteen); kits_are = refl }
 
-pub one_worker : IsLine (codes "cilkreport" ∷ codes "p.ck" ∷ codes "t.toml" ∷ []) (codes "p.ck") (codes "t.toml") 1
+pub one_worker : IsLine (codes "cilkreport" ∷ codes "p.ck" ∷ codes "t.toml" ∷ []) (codes "p.ck") (codes "t.toml") 1 64
 unfolding given HasForm clap_on_literals
-one_worker = record { form = refl; program_is = refl; tables_are = refl; workers_are = refl }
+one_worker = record { form = refl; program_is = refl; tables_are = refl; workers_are = refl; kits_are = refl }
+
+pub eight_kits : IsLine (codes "cilkreport" ∷ codes "--kits" ∷ codes "8" ∷ codes "p.ck" ∷ codes "t.toml" ∷ []) (codes "p.ck") (codes "t.toml") 1 8
+unfolding given HasForm clap_on_literals
+eight_kits =
+    let written : 0 < 1 = omega arith in
+    let digit : 8 < 10 = omega arith in
+    let one : 1 ≤ 8 = omega arith in
+    let most : 8 ≤ 4096 = omega arith in
+    record { form = refl; program_is = refl; tables_are = refl; workers_are = refl; kits_are = ((written, (digit, tt)), refl, one, most) }
 
 pub no_tables : HasForm (codes "cilkreport" ∷ codes "p.ck" ∷ []) → ⊥
 unfolding HasForm clap_on_literals

@@ -2,6 +2,7 @@
 use Rattle.std.proofs.Common.{◌≡◌, ℕ, ◌+◌, ◌-◌, ◌≤◌, List, [], ◌++◌, Option, Some, None, length, take, drop, refl, sym, append_assoc, append-nil, arith, length-drop}
 use Rattle.std.proofs.Math.Seq.{take-add, take-append_seam}
 use Rattle.std.proofs.lemmas.List.{take_all, take-append-drop}
+use Rattle.std.specs.Prelude.{IfSome}
 use Rattle.std.specs.Io.KnownBytes.{Appends, Keeps}
 use Rattle.cli.specs.Written.{HasBeginning}
 
@@ -50,3 +51,8 @@ beginning_kept a b all kept = (0, Appends-kept a a b [] (Appends-nothing a) kept
 -- what is kept after a beginning
 pub beginning_then_kept : (a b c : Option (List ℕ)) (all : List ℕ) → HasBeginning a b all → Keeps b c → HasBeginning a c all
 beginning_then_kept a b c all (n, wrote) kept = (n, Appends-kept a b c (take n all) wrote kept)
+
+-- where nothing is written, whatever was to be
+pub nothing_written : (o a : Option (List ℕ)) (all : List ℕ → List ℕ) → IfSome o (λ x. HasBeginning a a (all x))
+nothing_written None a all = tt
+nothing_written (Some x) a all = (0, Appends-nothing a)

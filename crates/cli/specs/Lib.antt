@@ -1,3 +1,4 @@
+pub mod Amounts
 pub mod Commands
 pub mod Line
 pub mod Preparing

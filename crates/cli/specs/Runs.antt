@@ -1,42 +1,20 @@
--- How far a run by worker 0 has come.
-use Rattle.std.specs.Prelude.{◌≡◌, ◌⊎◌, true, Err}
-use Rattle.basic_frames.specs.Answers.{underway}
-use Rattle.basic_core.specs.Pieces.{end_of}
-use Rattle.basic_core.specs.Keeps.{IsRight}
-use Rattle.basic_core.specs.Cores.{PlainCore, is_open_to, taken}
-use Rattle.basic_core.specs.declared.step.Step.{Step}
-use Rattle.basic_core.specs.declared.step.Step.TheVariants.{Work, Push, Inline, Pop, Stall, Steal, Fold}
-use Rattle.basic_core.specs.declared.step.Refusal.{Refusal}
+-- What the steps of a run keep, and how it ends.
+use Rattle.std.specs.Prelude.{◌≡◌}
+use Rattle.frames.specs.declared.answer.RunAnswer.{RunAnswer}
+use Rattle.frames.specs.declared.answer.RunAnswer.TheVariants as answer
+use Rattle.worker_core.specs.Standing.{kits_in}
+use Rattle.worker_core.specs.Cores.{PlainCore}
 
--- the run has come to its end, or has failed
-abbrev pub HasEnded : PlainCore → Type 0
-HasEnded c = (c.failed ≡ true) ⊎ (end_of c.piece ≡ underway → ⊥)
-
--- worker 0 holds the strand of a run that has not failed
-abbrev pub IsUnderway : PlainCore → Type 0
-IsUnderway c = (is_open_to 0 c ≡ true) × IsRight c.program c.piece
-
-abbrev pub IsRunOf0 : PlainCore → Type 0
-IsRunOf0 c = IsUnderway c ⊎ HasEnded c
-
--- another state of the same run
+-- another state of the same run: its program, its tables, and as many kits
 pub record IsSameRun (c d : PlainCore) : Type 0 where
   pub program : d.program ≡ c.program
-  pub kits : d.kits ≡ c.kits
+  pub tables : d.tables ≡ c.tables
+  pub kits : kits_in d.standing ≡ kits_in c.standing
+  pub total : d.standing.total ≡ c.standing.total
 
-abbrev pub IsRefused : Step → PlainCore → Type 0
-IsRefused step c = (e : Refusal) × (taken step c ≡ Err e)
-
--- the definition refuses the step; a push may have been refused for memory
-abbrev pub Cannot : Step → PlainCore → Type 0
-Cannot (Work w) c = IsRefused (Work w) c
-Cannot (Push w) c = Unit {0}
-Cannot (Inline w) c = IsRefused (Inline w) c
-Cannot (Pop w) c = IsRefused (Pop w) c
-Cannot (Stall w) c = IsRefused (Stall w) c
-Cannot (Steal t v) c = Unit {0}
-Cannot (Fold w) c = Unit {0}
-
--- after a step that was not taken: the run has ended, or nothing has changed and the definition refuses the step
-abbrev pub NotTaken : Step → PlainCore → PlainCore → Type 0
-NotTaken step c d = HasEnded d ⊎ ((d ≡ c) × Cannot step c)
+-- a run ended with its result or by a fault
+abbrev pub HasEnded : RunAnswer → Type 0
+HasEnded (answer.Finished result values) = Unit {0}
+HasEnded (answer.Fault fault) = Unit {0}
+HasEnded answer.Unfinished = ⊥
+HasEnded answer.NoMemory = ⊥

@@ -1,27 +1,35 @@
 // Each line of an answer, and each part of a session on its own.
+ghost use Rattle.std.specs.Prelude.{◌≡◌, All};
+ghost use Rattle.linked_program.specs.TableNames.{columned_of};
+
+use super::amounts::merged;
 use super::answers::{
-    kind_name, push_fault, push_outcome, push_result, push_run, push_total, push_totals,
-    push_unknown,
+    kind_name, push_fault, push_outcome, push_reducer, push_result, push_run, push_unknown,
+    push_value, push_values,
 };
-use super::prepare::prepare;
+use super::beginning::begin;
 use super::runs::run;
 use super::script::{Command, commands};
+use super::session::Session;
 use super::streams::{read_all, write_whole};
-use basic_core::kits::Kits;
-use basic_frames::answer::{Fault, RunAnswer};
-use checked_program::checked::Checked;
+use frames::answer::RunAnswer;
 use meaning::FaultKind;
-use monoid_laws::Kind;
+use monoid_laws::{Kind, Val};
+use positions::phase::Fault;
 use program_tree::Reducer;
-use std::alloc::Global;
+use std::alloc::{AllocError, Global};
 use std::process::Abort;
+use view_pool::PlainView;
 
 const TWO_REDUCERS: &str =
-    "reducer a : add; proc main() { update b 5; update a 7; return 0 - 3; } reducer b : add;";
+    "reducer a : add; proc main() { update b 5; update a 7; return 0 - 3; } reducer b : list;";
 
-fn checked(rt: &impl Abort, alloc: Global, text: &str) -> Checked {
-    let (checked, _tables) = prepare(alloc, text.as_bytes(), "").expect(rt, "a program");
-    checked
+fn session(rt: &impl Abort, alloc: Global) -> Session<PlainView>
+    ensures kinds { All (λ kit. kit ≡ result.checked.kinds) result.kits.kits }
+    ensures tables { result.checked.tables ≡ columned_of result.tables.tables }
+{
+    let make = |kind: Kind| -> Result<PlainView, AllocError> { Ok(PlainView::new(alloc, kind)) };
+    begin(alloc, TWO_REDUCERS.as_bytes(), "", 1, &make).expect(rt, "a session")
 }
 
 #[test]
@@ -61,28 +69,68 @@ fn line_of_a_reducer(rt: HostRuntime) {
         kind: Kind::Add,
     };
     let mut text = String::new(rt.alloc());
-    push_total(&mut text, &reducer, i64::MIN).expect(&rt, "memory");
+    push_reducer(rt.alloc(), &mut text, &reducer, &Val::Int(i64::MIN)).expect(&rt, "memory");
     assert_eq!(&rt; text.as_str(), "total -9223372036854775808\n");
 }
 
 #[test]
-fn lines_of_reducers(rt: HostRuntime) {
-    let checked = checked(&rt, rt.alloc(), TWO_REDUCERS);
+fn values_that_take_no_memory(rt: HostRuntime) {
     let mut text = String::new(rt.alloc());
-    push_totals(&mut text, checked.program(), &[7, 5]).expect(&rt, "memory");
+    for value in [
+        Val::Int(-1),
+        Val::Arg(None),
+        Val::Arg(Some((100, 3))),
+        Val::Pair(6, 7),
+        Val::Elem(2),
+    ] {
+        push_value(rt.alloc(), &mut text, &value).expect(&rt, "memory");
+    }
+    assert_eq!(&rt; text.as_str(), " -1 none 100 3 6 7 2");
+}
+
+#[test]
+fn values_in_pieces(rt: HostRuntime) {
+    let alloc = rt.alloc();
+    let mut text = String::new(alloc);
+    let first = vec![in alloc; 1, 2].expect(&rt, "memory");
+    let last = vec![in alloc; 9].expect(&rt, "memory");
+    let lists = vec![in alloc; first, Vec::new(alloc), last].expect(&rt, "memory");
+    push_value(alloc, &mut text, &Val::Pieces(lists)).expect(&rt, "memory");
+    let first = vec![in alloc; (3, 2), (5, 1)].expect(&rt, "memory");
+    let second = vec![in alloc; (2, 7), (5, -1)].expect(&rt, "memory");
+    let pieces = vec![in alloc; first, second].expect(&rt, "memory");
+    let amounts = merged(alloc, pieces.as_slice()).expect(&rt, "memory");
+    assert_eq!(&rt; amounts.as_slice(), [(2, 7), (3, 2), (5, 0)].as_slice());
+    push_value(alloc, &mut text, &Val::HistPieces(pieces)).expect(&rt, "memory");
+    push_value(alloc, &mut text, &Val::Hist(amounts)).expect(&rt, "memory");
+    assert_eq!(&rt; text.as_str(), " 1 2 9 2:7 3:2 5:0 2:7 3:2 5:0");
+}
+
+#[test]
+fn lines_of_reducers(rt: HostRuntime) {
+    let session = session(&rt, rt.alloc());
+    let mut text = String::new(rt.alloc());
+    let values = [Val::Int(7), Val::Int(5)];
+    push_values(rt.alloc(), &mut text, session.checked.program(), &values).expect(&rt, "memory");
     assert_eq!(&rt; text.as_str(), "a 7\nb 5\n");
 }
 
 #[test]
 fn lines_of_an_outcome(rt: HostRuntime) {
-    let checked = checked(&rt, rt.alloc(), TWO_REDUCERS);
+    let session = session(&rt, rt.alloc());
     let mut text = String::new(rt.alloc());
     let fault = Fault {
         kind: FaultKind::TooDeep,
         procedure: 0,
         statement: 2,
     };
-    push_outcome(&mut text, &checked, &RunAnswer::Fault(fault)).expect(&rt, "memory");
+    push_outcome(
+        rt.alloc(),
+        &mut text,
+        &session.checked,
+        &RunAnswer::Fault(fault),
+    )
+    .expect(&rt, "memory");
     assert_eq!(&rt; text.as_str(), "fault too deep in main at 2\n");
 }
 
@@ -95,13 +143,16 @@ fn commands_of_a_script(rt: HostRuntime) {
 
 #[test]
 fn a_run_gives_its_kit_back(rt: HostRuntime) {
-    let checked = checked(&rt, rt.alloc(), TWO_REDUCERS);
-    let mut kits = Kits::new(1);
-    let answer = run(&rt, rt.alloc(), &checked, &mut kits, 1);
+    let Session {
+        checked,
+        tables,
+        mut kits,
+    } = session(&rt, rt.alloc());
+    let answer = run(&rt, rt.alloc(), &checked, &tables, &mut kits, 1);
     match answer {
-        Ok(RunAnswer::Finished { result, totals }) => {
+        Ok(RunAnswer::Finished { result, values }) => {
             assert_eq!(&rt; result, -3);
-            assert_eq!(&rt; totals.as_slice(), [7, 5].as_slice());
+            assert_eq!(&rt; values.len(), 2);
         }
         _ => assert!(&rt; false),
     }

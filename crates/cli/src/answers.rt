@@ -1,20 +1,24 @@
 // The text of answers, line by line.
-ghost use Rattle.std.specs.Prelude.{◌≡◌, ◌++◌, ◌∷◌, IfOk, IfErr, OnOk, drop, map, string_bytes};
-ghost use Rattle.monoid_laws.specs.Worth.{number};
-ghost use Rattle.meaning.specs.Statements.{reducers};
+ghost use Rattle.std.specs.Prelude.{◌≡◌, ℤ, ◌++◌, ◌∷◌, Option, IfOk, IfErr, OnOk, drop, flat_map, map, slice_get, string_bytes};
+ghost use Rattle.monoid_laws.specs.Kinds.{meaning, joined};
+ghost use Rattle.meaning.specs.Statements.{reducers, found};
+ghost use Rattle.linked_program.specs.Procedures.{procedures};
 ghost use Rattle.program_tree.specs.Plain.{Tree};
 ghost use Rattle.program_tree.specs.View.{tree, decl, red};
 ghost use Rattle.meaning.specs.Elision.{Answer};
-ghost use Rattle.basic_frames.specs.Stands.{named_fault};
-ghost use Rattle.basic_core.specs.Keeps.{IsElision};
-ghost use Rattle.meaning.specs.Text.{outcome_text, unknown_text, run_line, result_text, fault_name, fault_text, worth_line, worths_text};
+ghost use Rattle.positions.specs.Stands.{named_fault};
+ghost use Rattle.worker_core.specs.Keeps.{IsElision};
+ghost use Rattle.meaning.specs.Text.{outcome_text, unknown_text, run_line, result_text, fault_name, fault_text, spaced, spaced_amount, best_text, worth_text, worth_line, worths_text};
 
+use crate::amounts::merged;
 use crate::streams::SessionError;
-use basic_frames::answer::{Fault, RunAnswer};
-use checked_program::checked::Checked;
+use frames::answer::RunAnswer;
+use linked_program::checked::Checked;
 use meaning::FaultKind;
+use monoid_laws::Val;
+use positions::phase::Fault;
 use program_tree::{Declaration, Program, Reducer};
-use std::alloc::AllocError;
+use std::alloc::{AllocError, Global};
 use std::fmt::Write;
 
 /// Puts the answer to a line that is no command at the end of the text.
@@ -65,62 +69,148 @@ pub fn push_fault(
     writeln!(text, "fault {name} in {procedure} at {statement}")
 }
 
-/// Puts the line of a reducer that adds at the end of the text.
-pub fn push_total(text: &mut String, reducer: &Reducer, total: i64) -> Result<(), AllocError>
-    ensures { OnOk result (string_bytes text.new ≡ string_bytes text.old ++ worth_line (red reducer.now) (number total)) }
+// Puts numbers at the end of the text, each after a space.
+fn push_numbers(text: &mut String, numbers: &[i64]) -> Result<(), AllocError>
+    ensures { OnOk result (string_bytes text.new ≡ string_bytes text.old ++ flat_map spaced numbers.now) }
 {
-    let name = reducer.name.as_str();
-    writeln!(text, "{name} {total}")
+    for number in numbers {
+        write!(text, " {number}")?;
+    }
+    Ok(())
 }
 
-// Puts the line of a declared reducer at the end of the text, and gives the place of the next total.
+// Puts the numbers of all pieces at the end of the text.
+fn push_pieces(text: &mut String, pieces: &[Vec<i64>]) -> Result<(), AllocError>
+    ensures { OnOk result (string_bytes text.new ≡ string_bytes text.old ++ flat_map spaced (joined (map (λ p. p.items) pieces.now))) }
+{
+    for piece in pieces {
+        push_numbers(text, piece)?;
+    }
+    Ok(())
+}
+
+// Puts amounts at the end of the text, each with its key.
+fn push_amounts(text: &mut String, amounts: &[(i64, i64)]) -> Result<(), AllocError>
+    ensures { OnOk result (string_bytes text.new ≡ string_bytes text.old ++ flat_map spaced_amount amounts.now) }
+{
+    for (key, amount) in amounts {
+        write!(text, " {key}:{amount}")?;
+    }
+    Ok(())
+}
+
+// Puts the best pair at the end of the text.
+fn push_best(text: &mut String, best: Option<(i64, i64)>) -> Result<(), AllocError>
+    ensures { OnOk result (string_bytes text.new ≡ string_bytes text.old ++ best_text best) }
+{
+    match best {
+        None => write!(text, " none"),
+        Some((value, row)) => write!(text, " {value} {row}"),
+    }
+}
+
+/// Puts a reducer's value at the end of the text, a space before each of its parts.
+pub fn push_value(alloc: Global, text: &mut String, value: &Val) -> Result<(), AllocError>
+    ensures { OnOk result (string_bytes text.new ≡ string_bytes text.old ++ worth_text (meaning value.now)) }
+{
+    match value {
+        Val::Int(number) => write!(text, " {number}"),
+        Val::List(numbers) => push_numbers(text, numbers),
+        Val::Pieces(pieces) => push_pieces(text, pieces),
+        Val::Arg(best) => push_best(text, *best),
+        Val::Pair(factor, term) => write!(text, " {factor} {term}"),
+        Val::Hist(amounts) => push_amounts(text, amounts),
+        Val::HistPieces(pieces) => {
+            let amounts = merged(alloc, pieces)?;
+            push_amounts(text, &amounts)
+        }
+        Val::Elem(element) => write!(text, " {element}"),
+    }
+}
+
+/// Puts the line of a reducer at the end of the text.
+pub fn push_reducer(
+    alloc: Global,
+    text: &mut String,
+    reducer: &Reducer,
+    value: &Val,
+) -> Result<(), AllocError>
+    ensures { OnOk result (string_bytes text.new ≡ string_bytes text.old ++ worth_line (red reducer.now) (meaning value.now)) }
+{
+    text.push_str(reducer.name.as_str())?;
+    push_value(alloc, text, value)?;
+    writeln!(text)
+}
+
+// Puts the line of a declared reducer at the end of the text, and gives the place of the next value.
 fn push_declared(
+    alloc: Global,
     text: &mut String,
     declaration: &Declaration,
-    totals: &[i64],
+    values: &[Val],
     at: usize,
 ) -> Result<usize, AllocError>
     ensures { IfOk result (λ next. (rest : Tree)
-        → string_bytes text.old ++ worths_text (reducers (decl declaration.now ∷ rest)) (map number (drop at totals.now))
-        ≡ string_bytes text.new ++ worths_text (reducers rest) (map number (drop next totals.now))) }
+        → string_bytes text.old ++ worths_text (reducers (decl declaration.now ∷ rest)) (map meaning (drop at values.now))
+        ≡ string_bytes text.new ++ worths_text (reducers rest) (map meaning (drop next values.now))) }
 {
     match declaration {
         Declaration::Procedure(_) => Ok(at),
-        Declaration::Reducer(reducer) => match totals.get(at) {
+        Declaration::Reducer(reducer) => match values.get(at) {
             None => Ok(at),
-            Some(total) => {
-                push_total(text, reducer, *total)?;
+            Some(value) => {
+                push_reducer(alloc, text, reducer, value)?;
                 Ok(at + 1)
             }
         },
     }
 }
 
-/// Puts the lines of a program's reducers, all of which add, at the end of the text.
-pub fn push_totals(text: &mut String, program: &Program, totals: &[i64]) -> Result<(), AllocError>
+/// Puts the lines of a program's reducers at the end of the text.
+pub fn push_values(
+    alloc: Global,
+    text: &mut String,
+    program: &Program,
+    values: &[Val],
+) -> Result<(), AllocError>
     ensures { OnOk result (string_bytes text.new ≡ string_bytes text.old
-        ++ worths_text (reducers (tree program.now)) (map number totals.now)) }
+        ++ worths_text (reducers (tree program.now)) (map meaning values.now)) }
 {
     let mut at = 0;
     for declaration in program.declarations.iter() {
-        at = push_declared(text, declaration, totals, at)?;
+        at = push_declared(alloc, text, declaration, values, at)?;
     }
     Ok(())
+}
+
+// The name of the procedure of that number, counted from 0; empty where there is no such procedure.
+fn procedure_name(declarations: &[Declaration], number: usize) -> &str
+    ensures { result.now ≡ (found (slice_get (procedures (map decl declarations.now)) number)).called }
+{
+    let mut left = number;
+    for declaration in declarations {
+        if let Declaration::Procedure(procedure) = declaration {
+            if left == 0 {
+                return procedure.name.as_str();
+            }
+            left -= 1;
+        }
+    }
+    ""
 }
 
 // Puts the line of a run's fault at the end of the text.
 fn push_fault_of(text: &mut String, checked: &Checked, fault: Fault) -> Result<(), AllocError>
     ensures { OnOk result (string_bytes text.new ≡ string_bytes text.old
-        ++ fault_text (named_fault checked.now fault)) }
+        ++ fault_text (named_fault checked.now.tables (tree checked.now.program) checked.now.codes fault)) }
 {
-    match checked.procedure_name(fault.procedure) {
-        Some(name) => push_fault(text, fault.kind, name, fault.statement),
-        None => push_fault(text, fault.kind, "", fault.statement),
-    }
+    let name = procedure_name(&checked.program().declarations, fault.procedure);
+    push_fault(text, fault.kind, name, fault.statement)
 }
 
 /// Puts what a run came to at the end of the text; a run that came to no end is refused as want of memory.
 pub fn push_outcome(
+    alloc: Global,
     text: &mut String,
     checked: &Checked,
     answer: &RunAnswer,
@@ -130,9 +220,9 @@ pub fn push_outcome(
     ensures refused { IfErr result (λ e. e ≡ SessionError.NoMemory) }
 {
     match answer {
-        RunAnswer::Finished { result, totals } => {
+        RunAnswer::Finished { result, values } => {
             push_result(text, *result)?;
-            push_totals(text, checked.program(), totals.as_slice())?;
+            push_values(alloc, text, checked.program(), values.as_slice())?;
             Ok(())
         }
         RunAnswer::Fault(fault) => {

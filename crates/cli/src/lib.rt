@@ -1,12 +1,13 @@
 //! The program's parts: what it is given, what it reads and what it writes.
 #![tactic(auto)]
 
+pub mod amounts;
 #[cfg(test)]
 mod answer_tests;
 pub mod answers;
-#[cfg(test)]
-mod core_tests;
+pub mod beginning;
 pub mod files;
+pub mod kits;
 pub mod line;
 #[cfg(test)]
 mod memory_tests;
@@ -15,6 +16,8 @@ pub mod prepare;
 pub mod program;
 #[cfg(test)]
 mod program_tests;
+#[cfg(test)]
+mod row_tests;
 pub mod runs;
 pub mod script;
 pub mod session;

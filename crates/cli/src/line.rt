@@ -12,17 +12,21 @@ use std::alloc::{AllocError, Global};
 
 /// The options of a line, whose first word is the program's own name; refused for another form or want of memory.
 pub fn options<'a>(alloc: Global, words: &'a [&'a str]) -> Result<Options<'a>, OptionsError>
-    ensures read { IfOk result (λ options. IsLine (map (λ word. word.now) words.now) options.program.now options.tables.now options.workers) }
+    ensures read { IfOk result (λ options. IsLine (map (λ word. word.now) words.now) options.program.now options.tables.now options.workers options.kits) }
     ensures workers { IfOk result (λ options. (1 ≤ options.workers) × (options.workers ≤ 16)) }
-    ensures refused { IfErr result (λ error. (error ≡ refusal.NoMemory) ⊎ ((error ≡ refusal.Usage) × ((program tables : List ℕ) (n : ℕ) → IsLine (map (λ word. word.now) words.now) program tables n → ⊥))) }
+    ensures kits { IfOk result (λ options. (1 ≤ options.kits) × (options.kits ≤ 4096)) }
+    ensures refused { IfErr result (λ error. (error ≡ refusal.NoMemory) ⊎ ((error ≡ refusal.Usage)
+        × ((program tables : List ℕ) (n m : ℕ) → IsLine (map (λ word. word.now) words.now) program tables n m → ⊥))) }
 {
     let matches = matched(alloc, words)?;
-    let workers = worker_count(matches.get_str("workers"))?;
+    let workers = asked(matches.get_str("workers"), 1, 16)?;
+    let kits = asked(matches.get_str("kits"), 64, 4096)?;
     match (matches.get_str("program"), matches.get_str("tables")) {
         (Some(program), Some(tables)) => Ok(Options {
             program,
             tables,
             workers,
+            kits,
         }),
         _ => Err(OptionsError::Usage),
     }
@@ -66,26 +70,29 @@ fn form<'a>(alloc: Global) -> Result<Command<'a>, AllocError>
     let workers = Arg::new(alloc, "workers")
         .long("workers")
         .action(ArgAction::Set);
+    let kits = Arg::new(alloc, "kits").long("kits").action(ArgAction::Set);
     Command::new(alloc, "cilkreport")
         .arg(program)?
         .arg(tables)?
-        .arg(workers)
+        .arg(workers)?
+        .arg(kits)
 }
 
-// How many workers a text asks for; one where there is none.
-fn worker_count(text: Option<&str>) -> Result<usize, OptionsError>
-    ensures asked { IfOk result (AsksFor (option_map (λ t. t.now) text.entry)) }
-    ensures workers { IfOk result (λ n. (1 ≤ n) × (n ≤ 16)) }
-    ensures refused { IfErr result (λ error. (error ≡ refusal.Usage) × ((n : ℕ) → AsksFor (option_map (λ t. t.now) text.entry) n → ⊥)) }
+// The number that a text asks for, of 1 to the most; where there is no text, the one that is meant then.
+fn asked(text: Option<&str>, unsaid: usize, most: usize) -> Result<usize, OptionsError>
+    requires { (1 ≤ unsaid) × (unsaid ≤ most) }
+    ensures asked { IfOk result (AsksFor unsaid most (option_map (λ t. t.now) text.entry)) }
+    ensures within { IfOk result (λ n. (1 ≤ n) × (n ≤ most)) }
+    ensures refused { IfErr result (λ error. (error ≡ refusal.Usage) × ((n : ℕ) → AsksFor unsaid most (option_map (λ t. t.now) text.entry) n → ⊥)) }
 {
     let Some(text) = text else {
-        return Ok(1);
+        return Ok(unsaid);
     };
-    let Ok(workers) = text.parse::<usize>() else {
+    let Ok(number) = text.parse::<usize>() else {
         return Err(OptionsError::Usage);
     };
-    if 1 <= workers && workers <= 16 {
-        return Ok(workers);
+    if 1 <= number && number <= most {
+        return Ok(number);
     }
     Err(OptionsError::Usage)
 }

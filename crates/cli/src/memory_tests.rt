@@ -4,11 +4,13 @@ use super::line::options;
 use super::options::{Options, OptionsError};
 use super::prepare::{PrepareError, prepare};
 use super::program::{report_on, status};
-use std::alloc::Global;
+use monoid_laws::Kind;
+use std::alloc::{AllocError, Global};
 use std::io;
 use std::io::{ErrorKind, Write};
 use std::process::Abort;
 use std::sync::Wait;
+use view_pool::PlainView;
 
 const FIRST: &[u8] = b"reducer total : add;
 proc leaf(v) { update total v; return v; }
@@ -58,7 +60,9 @@ fn is_written(rt: &(impl Abort + Wait), alloc: Global, text: &[u8], answers: &[u
         program: "p",
         tables: "t",
         workers: 1,
+        kits: 2,
     };
+    let make = |kind: Kind| -> Result<PlainView, AllocError> { Ok(PlainView::new(alloc, kind)) };
     let mut reader = b"run\nhere\n".as_slice();
     let mut page = Page {
         bytes: [0; 64],
@@ -68,6 +72,7 @@ fn is_written(rt: &(impl Abort + Wait), alloc: Global, text: &[u8], answers: &[u
         rt,
         alloc,
         options,
+        &make,
         &Program { text },
         &mut reader,
         &mut page,
@@ -116,9 +121,9 @@ fn of_tables(rt: HostRuntime) {
 
 #[test]
 fn of_a_line(rt: HostRuntime) {
-    let words = ["cilkreport", "p", "t", "--workers", "3"];
+    let words = ["cilkreport", "p", "t", "--workers", "3", "--kits", "5"];
     match options(rt.alloc(), &words) {
-        Ok(given) => assert_eq!(&rt; given.workers, 3),
+        Ok(given) => assert_eq!(&rt; (given.workers, given.kits), (3, 5)),
         Err(OptionsError::NoMemory) => {}
         Err(OptionsError::Usage) => assert!(&rt; false),
     }

@@ -7,6 +7,7 @@ pub struct Options<'a> {
     pub program: &'a str,
     pub tables: &'a str,
     pub workers: usize,
+    pub kits: usize,
 }
 
 /// Why a line is refused.
@@ -14,6 +15,6 @@ pub struct Options<'a> {
 pub enum OptionsError {
     #[error("out of memory")]
     NoMemory,
-    #[error("usage: cilkreport PROGRAM TABLES [--workers 1..16]")]
+    #[error("usage: cilkreport PROGRAM TABLES [--workers 1..16] [--kits 1..4096]")]
     Usage,
 }

@@ -2,17 +2,19 @@
 ghost use Rattle.std.specs.Prelude.{◌≡◌, ℕ, List, IfOk, IfErr};
 ghost use Rattle.program_tree.specs.Plain.{Tree};
 ghost use Rattle.program_tree.specs.View.{Lined};
+ghost use Rattle.source_tree.specs.Source.{Source};
 ghost use Rattle.meaning.specs.Tables.{Tables as TableModel};
 ghost use Rattle.input_tables.specs.Document.{reading, HasCause};
-ghost use Rattle.basic_parser.specs.Correct.{IsText, IsFault};
-ghost use Rattle.spawn_checker.specs.Answer.{IsRefusal};
+ghost use Rattle.procedure_parser.specs.Correct.{IsText, IsSource, IsFault, Answers};
+ghost use Rattle.linked_program.specs.TableNames.{columned_of};
+ghost use Rattle.spawn_checker.specs.Refused.{IsRefused as IsRefusedBy};
 ghost use Rattle.cli.specs.Preparing.{IsPrepared, IsProgram, IsRefused};
 
-use basic_parser::{TextError, parse};
-use checked_program::checked::Checked;
-use checked_program::violation::Rule;
 use input_tables::{Tables, TablesError};
-use spawn_checker::basic::{CheckError, check};
+use linked_program::checked::Checked;
+use linked_program::violation::Rule;
+use procedure_parser::{TextError, parse};
+use spawn_checker::{CheckError, check};
 use std::alloc::Global;
 use thiserror::Error;
 
@@ -39,6 +41,7 @@ pub fn prepare(
     tables: &str,
 ) -> Result<(Checked, Tables), PrepareError>
     ensures prepared { IfOk result (λ pair. IsPrepared program.now tables.now pair.0 pair.1.tables) }
+    ensures unedited { IfOk result (λ pair. pair.1.edits ≡ 0) }
     ensures refused { IfErr result (IsRefused program.now tables.now) }
 {
     let tree = match parse(alloc, program) {
@@ -57,7 +60,7 @@ pub fn prepare(
 
 // The refusal of a program's text.
 fn text_refusal(error: TextError) -> PrepareError
-    ensures { (text tables : List ℕ) → IsFault text error → IsRefused text tables result }
+    ensures { (text tables : List ℕ) → IsFault text error → ((s : Source) → IsSource s text → Answers (Err error) s) → IsRefused text tables result }
 {
     match error {
         TextError::NoMemory => PrepareError::NoMemory,
@@ -76,13 +79,13 @@ fn tables_refusal(error: TablesError) -> PrepareError
     }
 }
 
-// The refusal of a check.
+// The refusal of a check; a first check never wants for revision numbers.
 fn check_refusal(error: CheckError) -> PrepareError
     ensures { (text tables_text : List ℕ) (tables : TableModel) (t : Tree) (l : List Lined)
-        → reading tables_text ≡ Ok tables → IsText text t l → IsRefusal t l error → IsRefused text tables_text result }
+        → reading tables_text ≡ Ok tables → IsText text t l → IsRefusedBy (columned_of tables) t l error → IsRefused text tables_text result }
 {
     match error {
-        CheckError::NoMemory => PrepareError::NoMemory,
+        CheckError::NoMemory | CheckError::Exhausted => PrepareError::NoMemory,
         CheckError::Check { rule, name, line } => PrepareError::Check { rule, name, line },
     }
 }

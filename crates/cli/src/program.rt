@@ -1,26 +1,26 @@
 // The program: its line, its files, its session on standard input and output.
-ghost use Rattle.std.specs.Prelude.{◌≡◌, ◌≢◌, ℕ, List, Some, Err, IfOk, IfErr, OnOk, OnErr, string_bytes};
+ghost use Rattle.std.specs.Prelude.{◌≡◌, ◌≢◌, ◌<◌, ℕ, List, Some, Err, All, IfOk, IfErr, OnOk, OnErr, length, string_bytes};
 ghost use Rattle.std.specs.Io.KnownBytes.{Keeps, IsAtEnd};
 ghost use Rattle.std.specs.IoError.{error_kind};
+ghost use Rattle.linked_program.specs.TableNames.{columned_of};
 ghost use Rattle.cli.specs.Statuses.{status_of};
 ghost use Rattle.cli.specs.Reports.{IsOpened, IsUnopened, IsFailed, IsReported, IsBegun, WritesNothing};
 
+use crate::beginning::begin;
 use crate::files::{FileSource, SystemFiles};
 use crate::line::options;
 use crate::options::{Options, OptionsError};
-use crate::prepare::{PrepareError, prepare};
+use crate::prepare::PrepareError;
 use crate::session::{Session, session_text};
 use crate::streams::SessionError;
-use basic_core::kits::Kits;
-use std::alloc::Global;
+use monoid_laws::Kind;
+use std::alloc::{AllocError, Global};
 use std::io::{BufReader, BufWriter, ErrorKind, Read, Write};
 use std::rt::Runtime;
 use std::sync::Wait;
 use std::{env, io};
 use thiserror::Error;
-
-/// The kits of a session's pool.
-const KITS: usize = 64;
+use view_pool::View;
 
 /// Why the program ended before its script did.
 #[derive(Debug, Drop, Error)]
@@ -49,8 +49,14 @@ pub fn status(error: &ProgramError) -> u8
     }
 }
 
-/// Does the session that the program's line asks for, from standard input to standard output. It has kits.
-pub fn report<S: Runtime + AllocGlobal + Wait>(rt: &S, alloc: Global) -> Result<(), ProgramError>
+/// Does the session that the program's line asks for, from standard input to standard output, with views that the caller
+/// makes. It has kits.
+pub fn report<V: View, M: Fn(Kind) -> Result<V, AllocError>, S: Runtime + AllocGlobal + Wait>(
+    rt: &S,
+    alloc: Global,
+    make: &M,
+) -> Result<(), ProgramError>
+    requires { M.IsAlwaysCallable make.now }
     ensures kits { result ≢ Err (ProgramError.Session SessionError.NoKit) }
 {
     let held = line_of(rt, alloc)?;
@@ -66,22 +72,26 @@ pub fn report<S: Runtime + AllocGlobal + Wait>(rt: &S, alloc: Global) -> Result<
         rt,
         alloc,
         options,
+        make,
         &SystemFiles { rt },
         &mut reader,
         &mut writer,
     )
 }
 
-/// Does the session that the options ask for: its program and its tables are those of two files, its script is all that
-/// the reader has, its answers go to the writer. Where a file fails or is refused nothing is written.
-pub fn report_on<F: FileSource, R: Read, W: Write>(
+/// Does the session that the options ask for: its program and its tables are those of two files, its kits are of views
+/// that the caller makes, its script is all that the reader has, its answers go to the writer. Where a file fails or is
+/// refused nothing is written.
+pub fn report_on<V: View, M: Fn(Kind) -> Result<V, AllocError>, F: FileSource, R: Read, W: Write>(
     rt: &impl Wait,
     alloc: Global,
     options: Options<'_>,
+    make: &M,
     files: &F,
     reader: &mut R,
     writer: &mut W,
 ) -> Result<(), ProgramError>
+    requires { M.IsAlwaysCallable make.now }
     ensures answered { OnOk result ((program tables script : List ℕ) → F.held files.now options.entry.program.now ≡ Some program
         → F.held files.now options.entry.tables.now ≡ Some tables → R.remaining reader.old ≡ Some script
         → IsReported program tables script (W.contents writer.old) (W.contents writer.new)) }
@@ -91,9 +101,9 @@ pub fn report_on<F: FileSource, R: Read, W: Write>(
         → F.held files.now options.entry.tables.now ≡ Some tables → R.remaining reader.old ≡ Some script
         → IsBegun program tables script (W.contents writer.old) (W.contents writer.new) }
     ensures unwritten { IfErr result (λ e. WritesNothing e → Keeps (W.contents writer.old) (W.contents writer.new)) }
-    ensures kits { result ≢ Err (ProgramError.Session SessionError.NoKit) }
+    ensures kits { 0 < options.entry.kits → result ≢ Err (ProgramError.Session SessionError.NoKit) }
 {
-    let session = session_of(alloc, options, files)?;
+    let session = session_of(alloc, options, make, files)?;
     match session_text(rt, alloc, session, options.workers, reader, writer) {
         Ok(()) => Ok(()),
         Err(error) => Err(ProgramError::Session(error)),
@@ -128,15 +138,19 @@ fn lent(alloc: Global, held: &[String]) -> Result<Vec<&str>, ProgramError>
 }
 
 // The session of a program's file and a tables' file.
-fn session_of<F: FileSource>(
+fn session_of<V: View, M: Fn(Kind) -> Result<V, AllocError>, F: FileSource>(
     alloc: Global,
     options: Options<'_>,
+    make: &M,
     files: &F,
-) -> Result<Session, ProgramError>
+) -> Result<Session<V>, ProgramError>
+    requires { M.IsAlwaysCallable make.now }
     ensures opened { IfOk result (λ session. IsOpened (F.held files.now) options.entry.program.now options.entry.tables.now session.checked session.tables.tables) }
-    ensures kits { IfOk result (λ session. session.kits.free ≡ 64) }
+    ensures kinds { IfOk result (λ session. All (λ kit. kit ≡ session.checked.kinds) session.kits.kits) }
+    ensures tables { IfOk result (λ session. session.checked.tables ≡ columned_of session.tables.tables) }
+    ensures count { IfOk result (λ session. length session.kits.kits ≡ options.entry.kits) }
     ensures unopened { IfErr result (IsUnopened (F.held files.now) options.entry.program.now options.entry.tables.now) }
-    ensures has_kits { result ≢ Err (ProgramError.Session SessionError.NoKit) }
+    ensures kits { result ≢ Err (ProgramError.Session SessionError.NoKit) }
 {
     let program = match files.read(alloc, options.program) {
         Ok(program) => program,
@@ -149,12 +163,8 @@ fn session_of<F: FileSource>(
     let Ok(text) = str::from_utf8(tables.as_slice()) else {
         return Err(failed_file(alloc, options.tables));
     };
-    match prepare(alloc, program.as_slice(), text) {
-        Ok((checked, tables)) => Ok(Session {
-            checked,
-            tables,
-            kits: Kits::new(KITS),
-        }),
+    match begin(alloc, program.as_slice(), text, options.kits, make) {
+        Ok(session) => Ok(session),
         Err(error) => Err(ProgramError::Prepare(error)),
     }
 }

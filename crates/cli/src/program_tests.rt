@@ -5,11 +5,13 @@ use super::options::OptionsError;
 use super::prepare::PrepareError;
 use super::program::{ProgramError, report_on, status};
 use super::streams::SessionError;
-use std::alloc::Global;
+use monoid_laws::Kind;
+use std::alloc::{AllocError, Global};
 use std::io;
 use std::io::ErrorKind;
 use std::process::Abort;
 use std::sync::Wait;
+use view_pool::{PlainView, View};
 
 const FIRST: &[u8] = b"reducer total : add;
 proc leaf(v) { update total v; return v; }
@@ -30,6 +32,27 @@ y = x + 1; sync;
 return y;
 }
 ";
+
+const SYNCED_IN_BOTH: &[u8] = b"proc leaf(v) { return v; }
+proc main() {
+x = spawn leaf(1);
+if 1 { y = x + 1; sync; } else { sync; }
+}
+";
+
+const LINES: &[u8] = b"reducer total : add;
+reducer top : argmax;
+memo proc line(r) { v = sales[r].qty * sales[r].price; update total v; update top v, r; return v; }
+proc main() { cilk_for r in 1 .. limit sales : line(r); t = read total; return t; }
+";
+
+const SALES: &[u8] = b"[sales]
+columns = [\"qty\", \"price\"]
+rows = [[1, 2, 5], [2, 3, 7], [3, 1, 100]]
+";
+
+const NOT_ASSOCIATIVE: &[u8] =
+    b"reducer m : table 3 unit 0 [0, 1, 2, 1, 2, 1, 2, 2, 2]; proc main() { return 0; }";
 
 // The files `p` and `t`, where they are there.
 #[derive(Clone, Copy)]
@@ -60,10 +83,11 @@ fn ran(
     tables: Option<&[u8]>,
 ) -> (Vec<u8>, String, u8) {
     let options = options(alloc, &["cilkreport", "p", "t"]).expect(rt, "options");
+    let make = |kind: Kind| -> Result<PlainView, AllocError> { Ok(PlainView::new(alloc, kind)) };
     let files = Two { program, tables };
     let mut reader = b"run\n".as_slice();
     let mut written = Vec::new(alloc);
-    match report_on(rt, alloc, options, &files, &mut reader, &mut written) {
+    match report_on(rt, alloc, options, &make, &files, &mut reader, &mut written) {
         Ok(()) => (written, String::new(alloc), 0),
         Err(error) => {
             let said = error.to_string(alloc).expect(rt, "memory");
@@ -73,14 +97,54 @@ fn ran(
 }
 
 #[test]
-fn a_report(rt: HostRuntime) {
-    let (written, said, status) = ran(&rt, rt.alloc(), Some(FIRST), Some(b""));
+fn reports(rt: HostRuntime) {
+    for (program, tables, wanted) in [
+        (
+            FIRST,
+            b"".as_slice(),
+            b"run 1\nresult 3\ntotal 12\n".as_slice(),
+        ),
+        (
+            LINES,
+            SALES,
+            b"run 1\nresult 131\ntotal 131\ntop 100 3\n".as_slice(),
+        ),
+    ] {
+        let (written, said, status) = ran(&rt, rt.alloc(), Some(program), Some(tables));
+        assert_eq!(&rt; written.as_slice(), wanted);
+        assert_eq!(&rt; said.as_str(), "");
+        assert_eq!(&rt; status, 0);
+    }
+}
+
+#[test]
+fn a_report_with_boxed_views(rt: HostRuntime) {
+    let alloc = rt.alloc();
+    let words = ["cilkreport", "p", "t", "--workers", "16", "--kits", "1"];
+    let options = options(alloc, &words).expect(&rt, "options");
+    let make = |kind: Kind| -> Result<Box<dyn View>, AllocError> {
+        Ok(Box::new(alloc, PlainView::new(alloc, kind))?)
+    };
+    let files = Two {
+        program: Some(LINES),
+        tables: Some(SALES),
+    };
+    let mut reader = b"run\n".as_slice();
+    let mut written = Vec::new(alloc);
+    report_on(
+        &rt,
+        alloc,
+        options,
+        &make,
+        &files,
+        &mut reader,
+        &mut written,
+    )
+    .expect(&rt, "a report");
     assert_eq!(&rt;
         written.as_slice(),
-        b"run 1\nresult 3\ntotal 12\n".as_slice()
+        b"run 1\nresult 131\ntotal 131\ntop 100 3\n".as_slice()
     );
-    assert_eq!(&rt; said.as_str(), "");
-    assert_eq!(&rt; status, 0);
 }
 
 #[test]
@@ -109,6 +173,9 @@ fn texts_that_are_refused(rt: HostRuntime) {
         (b"proc main() {".as_slice(), b"".as_slice(), "refused E8 1"),
         (UNSYNCED, b"".as_slice(), "refused E9 C3 main 4"),
         (SYNCED_TOO_LATE, b"".as_slice(), "refused E9 C3 main 4"),
+        (SYNCED_IN_BOTH, b"".as_slice(), "refused E9 C3 main 4"),
+        (NOT_ASSOCIATIVE, b"".as_slice(), "refused E9 C9 m 1"),
+        (LINES, b"".as_slice(), "refused E9 C8 line 3"),
         (FIRST, b"[sales]\n".as_slice(), "refused E3 sales"),
         (FIRST, b"[sales".as_slice(), "refused E2"),
     ] {

@@ -1,7 +1,8 @@
 // Sessions: a checked program, its tables and its pool of kits, and the answers to a script.
-ghost use Rattle.std.specs.Prelude.{◌≡◌, ◌+◌, ◌<◌, ◌^◌, ◌++◌, ◌⊎◌, [], length, map, vec_len, string_bytes, IfOk, IfErr, OnOk, OnErr, IfSome};
+ghost use Rattle.std.specs.Prelude.{◌≡◌, ◌+◌, ◌<◌, ◌^◌, ◌++◌, ◌⊎◌, [], All, length, map, vec_len, string_bytes, IfOk, IfErr, OnOk, OnErr, IfSome};
 ghost use Rattle.std.specs.Io.KnownBytes.{Appends, Keeps, IsAtEnd};
 ghost use Rattle.program_tree.specs.View.{tree};
+ghost use Rattle.linked_program.specs.TableNames.{columned_of};
 ghost use Rattle.meaning.specs.Script.{commands as commands_of};
 ghost use Rattle.meaning.specs.Statements.{reducers};
 ghost use Rattle.meaning.specs.Elision.{from_scratch};
@@ -13,38 +14,40 @@ use crate::answers::{push_outcome, push_run, push_unknown};
 use crate::runs::run;
 use crate::script::{Command, commands};
 use crate::streams::{SessionError, read_all, write_whole};
-use basic_core::kits::Kits;
-use checked_program::checked::Checked;
 use input_tables::Tables;
+use linked_program::checked::Checked;
 use std::alloc::Global;
 use std::io::{Read, Write};
 use std::sync::Wait;
+use view_pool::{Kit, Pool, View};
 
 /// A checked program, its tables and its pool of kits.
 #[derive(Drop)]
-pub struct Session {
+pub struct Session<V: View = Box<dyn View>> {
     pub checked: Checked,
     pub tables: Tables,
-    pub kits: Kits,
+    pub kits: Pool<Kit<V>>,
 }
 
 /// Answers the script that a reader has, all of it read before anything runs. It ends early where memory is refused,
 /// no kit is free, or a read or a write fails; a failed read leaves the writer as it was.
-pub fn session_text<R: Read, W: Write>(
+pub fn session_text<V: View, R: Read, W: Write>(
     rt: &impl Wait,
     alloc: Global,
-    session: Session,
+    session: Session<V>,
     workers: usize,
     reader: &mut R,
     writer: &mut W,
 ) -> Result<(), SessionError>
+    requires kits { All (λ k. k ≡ session.checked.kinds) session.kits.kits }
+    requires tables { session.checked.tables ≡ columned_of session.tables.tables }
     ensures answered { OnOk result (IfSome (R.remaining reader.old) (λ script.
         Appends (W.contents writer.old) (W.contents writer.new) (answers_text (tree session.checked.program) session.tables.tables script))) }
     ensures over { OnOk result (IsAtEnd (R.remaining reader.new)) }
     ensures unread { result ≡ Err SessionError.Read → Keeps (W.contents writer.old) (W.contents writer.new) }
     ensures beginning { IfSome (R.remaining reader.old) (λ script.
         HasBeginning (W.contents writer.old) (W.contents writer.new) (answers_text (tree session.checked.program) session.tables.tables script)) }
-    ensures no_kit { result ≡ Err SessionError.NoKit → session.kits.free ≡ 0 }
+    ensures no_kit { result ≡ Err SessionError.NoKit → session.kits.kits ≡ [] }
 {
     let script = read_all(alloc, reader)?;
     let mut session = session;
@@ -55,18 +58,20 @@ pub fn session_text<R: Read, W: Write>(
 }
 
 // Writes the answers to a script.
-fn answer_script<W: Write>(
+fn answer_script<V: View, W: Write>(
     rt: &impl Wait,
     alloc: Global,
-    session: &mut Session,
+    session: &mut Session<V>,
     workers: usize,
     script: &[u8],
     writer: &mut W,
 ) -> Result<(), SessionError>
+    requires kits { All (λ k. k ≡ session.old.checked.kinds) session.old.kits.kits }
+    requires tables { session.old.checked.tables ≡ columned_of session.old.tables.tables }
     ensures written { OnOk result (Appends (W.contents writer.old) (W.contents writer.new) (answers_text (tree session.old.checked.program) session.old.tables.tables script.now)) }
     ensures beginning { HasBeginning (W.contents writer.old) (W.contents writer.new) (answers_text (tree session.old.checked.program) session.old.tables.tables script.now) }
     ensures read { OnErr result (¬ (result ≡ Err SessionError.Read)) }
-    ensures no_kit { result ≡ Err SessionError.NoKit → session.old.kits.free ≡ 0 }
+    ensures no_kit { result ≡ Err SessionError.NoKit → session.old.kits.kits ≡ [] }
 {
     let commands = match commands(alloc, script) {
         Ok(commands) => commands,
@@ -83,23 +88,27 @@ fn answer_script<W: Write>(
 }
 
 // Puts the answer to a command, after so many runs, at the end of the text, and gives the number of runs after it.
-fn answer(
+fn answer<V: View>(
     rt: &impl Wait,
     alloc: Global,
-    session: &mut Session,
+    session: &mut Session<V>,
     workers: usize,
     runs: usize,
     command: Command,
     text: &mut String,
 ) -> Result<usize, SessionError>
-    requires { runs + 1 < 2 ^ 64 }
+    requires few { runs + 1 < 2 ^ 64 }
+    requires kits { All (λ k. k ≡ session.old.checked.kinds) session.old.kits.kits }
+    requires tables { session.old.checked.tables ≡ columned_of session.old.tables.tables }
     ensures answered { OnOk result (string_bytes text.new ≡ string_bytes text.old
         ++ answer_text (tree session.old.checked.program) session.old.tables.tables runs (said command)) }
     ensures runs { IfOk result (λ n. n ≡ runs_after runs (said command)) }
     ensures same { session.new ≡ record session.old { kits = session.new.kits } }
     ensures refused { IfErr result (λ e. (e ≡ SessionError.NoMemory) ⊎ (e ≡ SessionError.NoKit)) }
-    ensures no_kit { result ≡ Err SessionError.NoKit → session.old.kits.free ≡ 0 }
-    ensures kits { 0 < session.old.kits.free → session.new.kits ≡ session.old.kits }
+    ensures no_kit { result ≡ Err SessionError.NoKit → session.old.kits.kits ≡ [] }
+    ensures free { length session.new.kits.kits ≡ length session.old.kits.kits }
+    ensures kinds { All (λ k. k ≡ session.old.checked.kinds) session.new.kits.kits }
+    ensures total { session.new.kits.total ≡ session.old.kits.total }
 {
     match command {
         Command::Unknown(line) => {
@@ -107,9 +116,14 @@ fn answer(
             Ok(runs)
         }
         Command::Run => {
-            let outcome = run(rt, alloc, &session.checked, &mut session.kits, workers)?;
+            let Session {
+                checked,
+                tables,
+                kits,
+            } = session;
+            let outcome = run(rt, alloc, checked, tables, kits, workers)?;
             push_run(text, runs + 1)?;
-            push_outcome(text, &session.checked, &outcome)?;
+            push_outcome(alloc, text, checked, &outcome)?;
             Ok(runs + 1)
         }
     }

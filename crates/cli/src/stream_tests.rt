@@ -1,13 +1,17 @@
 // Readers and writers that fail in mid-stream, or only for a moment.
-use super::prepare::prepare;
+ghost use Rattle.std.specs.Prelude.{◌≡◌, All};
+ghost use Rattle.linked_program.specs.TableNames.{columned_of};
+
+use super::beginning::begin;
 use super::session::{Session, session_text};
 use super::streams::{SessionError, read_all, write_whole};
-use basic_core::kits::Kits;
-use std::alloc::Global;
+use monoid_laws::Kind;
+use std::alloc::{AllocError, Global};
 use std::io;
 use std::io::{ErrorKind, Read, Write};
 use std::process::Abort;
 use std::sync::Wait;
+use view_pool::PlainView;
 
 // A reader that gives one byte of `run` and an end of line a call, and errors of this kind before some.
 #[derive(Drop)]
@@ -76,14 +80,12 @@ fn halting_reader(error: ErrorKind, at: usize, times: usize) -> Halting {
     }
 }
 
-fn session(rt: &impl Abort, alloc: Global) -> Session {
-    let program = b"proc main() { return 4; }";
-    let (checked, tables) = prepare(alloc, program, "").expect(rt, "a program");
-    Session {
-        checked,
-        tables,
-        kits: Kits::new(1),
-    }
+fn session(rt: &impl Abort, alloc: Global) -> Session<PlainView>
+    ensures kinds { All (λ kit. kit ≡ result.checked.kinds) result.kits.kits }
+    ensures tables { result.checked.tables ≡ columned_of result.tables.tables }
+{
+    let make = |kind: Kind| -> Result<PlainView, AllocError> { Ok(PlainView::new(alloc, kind)) };
+    begin(alloc, b"proc main() { return 4; }", "", 1, &make).expect(rt, "a session")
 }
 
 #[test]

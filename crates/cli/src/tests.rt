@@ -1,15 +1,20 @@
 // Programs, scripts and lines, with what is written for them.
+ghost use Rattle.std.specs.Prelude.{◌≡◌, All};
+ghost use Rattle.linked_program.specs.TableNames.{columned_of};
+
+use super::beginning::begin;
 use super::line::options;
 use super::options::OptionsError;
 use super::prepare::{PrepareError, prepare};
 use super::session::{Session, session_text};
 use super::streams::SessionError;
-use basic_core::kits::Kits;
-use std::alloc::Global;
+use monoid_laws::Kind;
+use std::alloc::{AllocError, Global};
 use std::io;
 use std::io::{ErrorKind, Read, Write};
 use std::process::Abort;
 use std::sync::Wait;
+use view_pool::PlainView;
 
 const FIRST: &str = "reducer total : add;
 proc leaf(v) { update total v; return v; }
@@ -49,13 +54,13 @@ impl Read for Broken {
     }
 }
 
-fn session(rt: &impl Abort, alloc: Global, program: &str, kits: usize) -> Session {
-    let (checked, tables) = prepare(alloc, program.as_bytes(), "").expect(rt, "a program");
-    Session {
-        checked,
-        tables,
-        kits: Kits::new(kits),
-    }
+// The session of a program without tables.
+fn session(rt: &impl Abort, alloc: Global, program: &str, kits: usize) -> Session<PlainView>
+    ensures kinds { All (λ kit. kit ≡ result.checked.kinds) result.kits.kits }
+    ensures tables { result.checked.tables ≡ columned_of result.tables.tables }
+{
+    let make = |kind: Kind| -> Result<PlainView, AllocError> { Ok(PlainView::new(alloc, kind)) };
+    begin(alloc, program.as_bytes(), "", kits, &make).expect(rt, "a session")
 }
 
 fn answers(
@@ -133,9 +138,11 @@ fn lines(rt: HostRuntime) {
     assert_eq!(&rt; given.program, "p");
     assert_eq!(&rt; given.tables, "t");
     assert_eq!(&rt; given.workers, 16);
-    let words = ["cilkreport", "p", "t"];
+    assert_eq!(&rt; given.kits, 64);
+    let words = ["cilkreport", "--kits", "4096", "p", "t"];
     let given = options(rt.alloc(), &words).expect(&rt, "options");
     assert_eq!(&rt; given.workers, 1);
+    assert_eq!(&rt; given.kits, 4096);
 }
 
 #[test]
@@ -145,8 +152,23 @@ fn refused_lines(rt: HostRuntime) {
         let refused = options(rt.alloc(), &words);
         assert!(&rt; matches!(&refused, Err(OptionsError::Usage)), "{workers}");
     }
+    for kits in ["4097", "0", "", "two", "-1"] {
+        let words = ["cilkreport", "p", "t", "--kits", kits];
+        let refused = options(rt.alloc(), &words);
+        assert!(&rt; matches!(&refused, Err(OptionsError::Usage)), "{kits}");
+    }
     let refused = options(rt.alloc(), &["cilkreport", "p"]);
     assert!(&rt; matches!(&refused, Err(OptionsError::Usage)));
+}
+
+#[test]
+fn views_of_another_kind(rt: HostRuntime) {
+    let alloc = rt.alloc();
+    let make = |_kind: Kind| -> Result<PlainView, AllocError> {
+        Ok(PlainView::new(alloc, Kind::Mul))
+    };
+    let refused = begin(alloc, FIRST.as_bytes(), "", 1, &make);
+    assert!(&rt; matches!(&refused, Err(PrepareError::NoMemory)));
 }
 
 #[test]

@@ -1,14 +1,8 @@
 pub mod Lists
-pub mod Noted
 pub mod Noting
 pub mod Named
 pub mod Steps
 pub mod Blocks
 pub mod Counting
 pub mod NewNumbers
-pub mod Numbers
-pub mod Scopes
-pub mod Bodies
-pub mod Links
-pub mod Clean
 pub mod FilledLines

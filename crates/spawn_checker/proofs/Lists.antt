@@ -1,5 +1,5 @@
 -- Lists by what is left of them after some elements.
-use Rattle.std.proofs.Common.{◌≡◌, ℕ, zero, suc, ◌+◌, ◌≤◌, List, [], ◌∷◌, ◌++◌, take, Option, Some, None, option_map, drop, slice_get, slice_set, map, length, get_or, ◌<◌, refl, ap, sym, ◌∙◌, add-one, drop-cons, arith}
+use Rattle.std.proofs.Common.{◌≡◌, ℕ, zero, suc, ◌+◌, ◌≤◌, List, [], ◌∷◌, ◌++◌, take, Some, None, option_map, drop, slice_get, slice_set, map, length, get_or, ◌<◌, refl, ap, sym, ◌∙◌, add-one, drop-cons, arith}
 use Rattle.std.proofs.lemmas.List.{take_more}
 use Rattle.std.proofs.lemmas.Option.{slice_get-map}
 

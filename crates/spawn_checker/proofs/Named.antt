@@ -1,6 +1,6 @@
 -- The names of tables, table by table.
-use Rattle.std.proofs.Common.{◌≡◌, ℕ, zero, suc, ◌+◌, List, [], ◌∷◌, ◌++◌, Option, Some, None, map, take, string_bytes, slice_get, refl, ap, sym, ◌∙◌, add-one}
-use Rattle.meaning.specs.Tables.{Tables, Listed}
+use Rattle.std.proofs.Common.{◌≡◌, ℕ, zero, suc, ◌+◌, List, [], ◌∷◌, ◌++◌, Some, map, take, string_bytes, slice_get, refl, ap, sym, ◌∙◌, add-one}
+use Rattle.meaning.specs.Tables.{Tables}
 use Rattle.input_tables.specs.Edited.{names_of, columns_at}
 use Rattle.linked_program.specs.declared.tables.TableNames.{TableNames}
 use Rattle.linked_program.specs.TableNames.{Columned, columned, columned_of}

@@ -1,5 +1,5 @@
 -- The first violation of lists joined.
-use Rattle.std.proofs.Common.{◌≡◌, ℕ, List, [], ◌∷◌, ◌++◌, Option, Some, None, refl, ap, ◌∙◌}
+use Rattle.std.proofs.Common.{◌≡◌, ℕ, List, [], ◌∷◌, ◌++◌, Option, Some, refl}
 use Rattle.linked_program.specs.declared.violation.Rule.{Rule}
 use Rattle.linked_program.specs.declared.violation.Violation.{Violation}
 use Rattle.linked_program.specs.Violations.{noted, at, earlier}

@@ -1,5 +1,5 @@
 -- What is known, and lines, after one step more.
-use Rattle.std.proofs.Common.{◌≡◌, ℕ, Bool, true, false, cond, List, [], ◌∷◌, ◌++◌, Option, Some, None, slice_get, slice_set, refl, ap, sym, ◌∙◌, append_assoc, append-nil}
+use Rattle.std.proofs.Common.{◌≡◌, ℕ, true, false, List, [], ◌∷◌, ◌++◌, slice_get, refl, ap, sym, ◌∙◌, append_assoc, append-nil}
 use Rattle.program_tree.specs.declared.Block.{Block}
 use Rattle.program_tree.specs.View.{block_lines, statement_lines}
 use Rattle.linked_program.specs.declared.knowledge.Moment.{Moment}

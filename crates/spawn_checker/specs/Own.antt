@@ -1,5 +1,5 @@
 -- What a statement changes of what is known, its blocks aside.
-use Rattle.std.specs.Prelude.{ℕ, false}
+use Rattle.std.specs.Prelude.{false}
 use Rattle.program_tree.specs.Plain.{Deed, bind, enter, read, sync, update, choose, loop, give}
 use Rattle.linked_program.specs.declared.knowledge.Moment.{Moment}
 use Rattle.linked_program.specs.Scope.{Scope, bound, entered, has_read, passed, looped}

@@ -1,5 +1,5 @@
 -- What the check of the whole language answers.
-use Rattle.std.specs.Prelude.{◌≡◌, ℕ, List, Option, Some, string_bytes}
+use Rattle.std.specs.Prelude.{◌≡◌, List, Option, Some, string_bytes}
 use Rattle.program_tree.specs.Plain.{Tree}
 use Rattle.program_tree.specs.View.{Lined}
 use Rattle.linked_program.specs.TableNames.{Columned}

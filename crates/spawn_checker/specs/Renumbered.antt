@@ -1,5 +1,5 @@
 -- The revision numbers of a program that takes the place of another.
-use Rattle.std.specs.Prelude.{◌≡◌, ℕ, suc, ◌<◌, nat_lt, true, cond, List, [], ◌∷◌, Option, Some, None, string_bytes}
+use Rattle.std.specs.Prelude.{◌≡◌, ℕ, suc, nat_lt, true, cond, List, [], ◌∷◌, Option, Some, None, string_bytes}
 use Rattle.program_tree.specs.Plain.{Proc, Tree}
 use Rattle.program_tree.specs.View.{Lined}
 use Rattle.meaning.specs.Records.{Revised}

@@ -1,7 +1,6 @@
 //! Checks a program by the rules of the language and makes its code.
 #![tactic(auto)]
 
-pub mod basic;
 mod checking;
 mod declarations;
 mod lines;

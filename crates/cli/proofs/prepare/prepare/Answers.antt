@@ -2,7 +2,8 @@ use Rattle.program_tree.specs.View.{tree, lines}
 use Rattle.cli.proofs.prepare.prepare.Goals as goal
 
 pub returns-in-Err-clause-refused : goal.returns-in-Err-clause-refused
-returns-in-Err-clause-refused c = c.text_refusal.ensures c.args.program.now c.args.tables.now c.in-Err.ensures.fault
+returns-in-Err-clause-refused c =
+    c.text_refusal.ensures c.args.program.now c.args.tables.now c.in-Err.ensures.fault c.in-Err.ensures.only
 
 pub returns-in-Err-from_toml-clause-refused : goal.returns-in-Err-from_toml-clause-refused
 returns-in-Err-from_toml-clause-refused c =

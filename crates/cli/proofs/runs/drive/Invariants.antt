@@ -1,4 +1,4 @@
-use Rattle.cli.specs.Runs.{IsSameRun, IsRunOf0}
+use Rattle.cli.specs.Runs.{IsSameRun}
 use Rattle.cli.proofs.runs.drive.Given as goal
 
 abbrev pub invariant-loop : goal.invariant-loop
@@ -6,5 +6,4 @@ invariant-loop g l = record {
   can_next : (goal.iterator-loop g).can_next l.iterator';
   is_finite : (goal.iterator-loop g).is_finite l.iterator';
   same : IsSameRun l.fn.core l.core;
-  run : IsRunOf0 l.fn.core → IsRunOf0 l.core;
 }

@@ -8,4 +8,4 @@ returns-in_ok-push_outcome-in-Run-clause-answered g c =
     let session = c.args.session.now in
     let program = tree session.checked.program in
     rw c.in-Run.is (answer_text-run program session.tables.tables c.args.runs _ _ _ c.in_ok-push_run-in-Run.ensures
-    (c.in_ok-push_outcome-in-Run.ensures.shown (from_scratch program session.tables.tables) (c.in_ok-outcome-in-Run.ensures.answer session.tables.tables)))
+    (c.in_ok-push_outcome-in-Run.ensures.shown (from_scratch program session.tables.tables) c.in_ok-outcome-in-Run.ensures.answer))

@@ -1,4 +1,4 @@
-use Rattle.std.proofs.Common.{◌<◌, sym, ◌∙◌, ap, map, subst, append_assoc}
+use Rattle.std.proofs.Common.{◌≡◌, ◌<◌, sym, ◌∙◌, ap, map, subst, append_assoc, length, All}
 use Rattle.program_tree.specs.View.{tree}
 use Rattle.meaning.specs.Text.{answers_from}
 use Rattle.cli.specs.Commands.{said}
@@ -29,9 +29,8 @@ loop-command-preserved g c =
     record {
       same_program = ap (λ s. s.checked) c.in_ok-runs.ensures.same ∙ c.loop-command.invariant.same_program;
       same_tables = ap (λ s. s.tables) c.in_ok-runs.ensures.same ∙ c.loop-command.invariant.same_tables;
-      kits = λ some.
-          let before = c.loop-command.invariant.kits some in
-          c.in_ok-runs.ensures.kits (subst (λ k. 0 < k.free) (sym before) some) ∙ before;
+      free = c.in_ok-runs.ensures.free ∙ c.loop-command.invariant.free;
+      kinds = subst (λ p. All (λ k. k ≡ p.kinds) c.answer.new.session.kits.kits) c.loop-command.invariant.same_program c.in_ok-runs.ensures.kinds;
       few = runs_after-le _ _ _ _ c.in_ok-runs.ensures.runs c.loop-command.invariant.few;
       written = (_, Appends-more _ _ _ w.0 _ w.1 c.in_ok-write_whole.ensures.written, rw append_assoc next);
     }

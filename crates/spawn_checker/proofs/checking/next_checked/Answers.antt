@@ -1,8 +1,8 @@
-use Rattle.std.proofs.Common.{◌≡◌, ◌<◌, length, map, All, None, IfNone, sym, ap, ◌∙◌, subst}
-use Rattle.program_tree.specs.View.{tree, decl}
+use Rattle.std.proofs.Common.{◌≡◌, ◌<◌, sym}
+use Rattle.program_tree.specs.View.{tree}
 use Rattle.meaning.specs.Edits.{most}
 use Rattle.linked_program.specs.Procedures.{procedures}
-use Rattle.linked_program.specs.Checked.{revised_of, named}
+use Rattle.linked_program.specs.Checked.{revised_of}
 use Rattle.spawn_checker.specs.Renumbered.{renumbered, counter_after}
 use Rattle.spawn_checker.proofs.NewNumbers.{renumbered_length, renumbered_below, revised_is, too_many}
 use Rattle.spawn_checker.proofs.checking.next_checked.Goals as goal

@@ -1,4 +1,4 @@
-use Rattle.std.proofs.Common.{◌≡◌, ◌+◌, map, drop, ap, sym, ◌∙◌, refl}
+use Rattle.std.proofs.Common.{◌+◌, map, drop, ap, ◌∙◌, refl}
 use Rattle.program_tree.specs.View.{decl, lined}
 use Rattle.linked_program.specs.Violations.{noted}
 use Rattle.linked_program.specs.Declarations.{decl_violations, decls_violations}

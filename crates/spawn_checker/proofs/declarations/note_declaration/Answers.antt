@@ -1,7 +1,7 @@
-use Rattle.std.proofs.Common.{◌≡◌, ◌+◌, map, take, ap, sym, ◌∙◌}
+use Rattle.std.proofs.Common.{◌+◌, map, take}
 use Rattle.std.proofs.lemmas.List.{take-map}
 use Rattle.program_tree.specs.View.{decl, proc, block_lines}
-use Rattle.linked_program.specs.Violations.{noted, at}
+use Rattle.linked_program.specs.Violations.{at}
 use Rattle.linked_program.specs.Declarations.{procedure_rules, proc_violations}
 use Rattle.spawn_checker.proofs.Noting.{noted_append}
 use Rattle.linked_program.specs.TableNames.{columned}

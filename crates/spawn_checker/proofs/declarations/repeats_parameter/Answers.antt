@@ -1,6 +1,5 @@
-use Rattle.std.proofs.Common.{◌≡◌, map, take, length, min, string_bytes}
+use Rattle.std.proofs.Common.{string_bytes}
 use Rattle.std.proofs.lemmas.List.{take_min, take-map}
-use Rattle.linked_program.specs.Declarations.{repeats}
 use Rattle.spawn_checker.proofs.declarations.repeats_parameter.Goals as goal
 
 pub returns : goal.returns

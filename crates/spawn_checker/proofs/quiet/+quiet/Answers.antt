@@ -1,6 +1,5 @@
-use Rattle.std.proofs.Common.{◌≡◌, length, Some, refl, slice_get, ap, sym, ◌∙◌, arith}
+use Rattle.std.proofs.Common.{◌≡◌, length, Some, refl, slice_get, ◌∙◌, arith}
 use Rattle.std.proofs.lemmas.Option.{slice_get_read}
-use Rattle.linked_program.specs.Rules.{are_quiet}
 use Rattle.spawn_checker.proofs.Blocks.{block_found}
 use Rattle.spawn_checker.proofs.quiet.+quiet.Goals as goal
 

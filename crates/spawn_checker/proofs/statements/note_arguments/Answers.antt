@@ -1,5 +1,5 @@
-use Rattle.std.proofs.Common.{◌≡◌, ◌∙◌, sym, refl}
-use Rattle.spawn_checker.proofs.Steps.{ended_again, known_still}
+use Rattle.std.proofs.Common.{◌∙◌, sym}
+use Rattle.spawn_checker.proofs.Steps.{ended_again}
 use Rattle.spawn_checker.proofs.statements.note_arguments.Goals as goal
 
 pub returns-then-not-was_known-clause-looped : goal.returns-then-not-was_known-clause-looped

@@ -1,4 +1,4 @@
-use Rattle.std.proofs.Common.{◌≡◌, Some, map, string_bytes, slice_get, sym, ◌∙◌, ap}
+use Rattle.std.proofs.Common.{◌≡◌, Some, map, string_bytes, slice_get, ◌∙◌, ap}
 use Rattle.input_tables.specs.Edited.{names_of, columns_at}
 use Rattle.spawn_checker.proofs.Named.{named_push}
 use Rattle.spawn_checker.proofs.table_names.table_names.Goals as goal

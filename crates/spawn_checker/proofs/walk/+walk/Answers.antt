@@ -1,4 +1,4 @@
-use Rattle.std.proofs.Common.{◌≡◌, ℕ, ◌+◌, drop, ap, sym, ◌∙◌, refl}
+use Rattle.std.proofs.Common.{◌+◌, drop, ap, sym, ◌∙◌, refl}
 use Rattle.program_tree.specs.declared.Action.TheVariants.{If}
 use Rattle.program_tree.specs.View.{block, deed, statements}
 use Rattle.linked_program.specs.Scope.{moment, after_deed, after_body, second}

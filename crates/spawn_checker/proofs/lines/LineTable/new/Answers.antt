@@ -1,5 +1,4 @@
-use Rattle.std.proofs.Common.{◌≡◌, ◌++◌, take, ap, ◌∙◌, sym, refl}
-use Rattle.program_tree.specs.View.{block_lines, statement_lines}
+use Rattle.std.proofs.Common.{take, ◌∙◌, refl}
 use Rattle.spawn_checker.proofs.Lists.{take_one_more}
 use Rattle.spawn_checker.proofs.Steps.{block_lines_more}
 use Rattle.spawn_checker.proofs.lines.LineTable.new.Goals as goal

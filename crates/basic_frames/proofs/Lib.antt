@@ -1,5 +1,0 @@
-pub mod Totals
-pub mod Values
-pub mod Places
-pub mod Simulation
-pub mod Samples

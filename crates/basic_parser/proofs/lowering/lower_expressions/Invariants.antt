@@ -1,8 +1,0 @@
-use Rattle.std.proofs.Common.{◌≡◌, [], map, drop}
-use Rattle.program_tree.specs.View.{term}
-use Rattle.basic_parser.specs.Source.{phrases}
-use Rattle.basic_parser.specs.Lowering.{lower_terms}
-use Rattle.basic_parser.proofs.lowering.lower_expressions.Given as goal
-
-abbrev pub invariant-loop-expr : goal.invariant-loop-expr
-invariant-loop-expr l = lower_terms (l.pool, map term l.out.items) (phrases (drop l.expr-index l.exprs)) ≡ lower_terms (l.initial.pool, []) (phrases l.exprs)

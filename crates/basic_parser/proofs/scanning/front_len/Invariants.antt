@@ -1,9 +1,0 @@
-use Rattle.std.proofs.Common.{◌≡◌, ◌+◌, drop}
-use Rattle.basic_parser.specs.Scanning.{front_len, belongs}
-use Rattle.basic_parser.proofs.scanning.front_len.Given as goal
-
-abbrev pub invariant-loop-b : goal.invariant-loop-b
-invariant-loop-b l = record {
-  count : l.n ≡ l.b-index;
-  rest : l.n + front_len (belongs l.class) (drop l.b-index l.bytes) ≡ front_len (belongs l.class) l.bytes;
-}

@@ -1,9 +1,0 @@
-use Rattle.std.proofs.Common.{◌≡◌, ◌-◌, length}
-use Rattle.basic_parser.specs.Words.{words, starts}
-use Rattle.basic_parser.specs.Source.{phrases}
-use Rattle.basic_parser.specs.declared.token.Mark.TheVariants.{Comma}
-use Rattle.basic_parser.specs.Reading.{comma_expr_at, many_at, many_go, with_front}
-use Rattle.basic_parser.proofs.statement.more_expressions.Given as goal
-
-abbrev pub invariant-loop : goal.invariant-loop
-invariant-loop l = with_front (phrases l.all.items) (many_go (starts Comma) comma_expr_at (length (words l.tokens) - l.counter) (words l.rest)) ≡ with_front (phrases l.fn.all.items) (many_at (starts Comma) comma_expr_at (words l.tokens))

@@ -1,9 +1,0 @@
-use Rattle.std.proofs.Common.{◌≡◌, map, drop}
-use Rattle.program_tree.specs.View.{term}
-use Rattle.checked_program.specs.Violations.{noted, at}
-use Rattle.checked_program.specs.Rules.{terms_rules}
-use Rattle.spawn_checker.proofs.basic.rules.note_terms.Given as goal
-
-abbrev pub invariant-loop-expr : goal.invariant-loop-expr
-invariant-loop-expr l =
-    noted l.initial.found (at l.place.declaration l.place.line (terms_rules l.scope (map term l.exprs))) ≡ noted l.found (at l.place.declaration l.place.line (terms_rules l.scope (map term (drop l.expr-index l.exprs))))
