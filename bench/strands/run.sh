@@ -2,18 +2,10 @@
 # Times a loop of a million iterations on one strand: the program of this folder, as LLVM builds it, in a copy of the crates that
 # it stands on, and the same interpreter written in Rust. The copy is thrown away.
 set -eu
-top=$(cd "$(dirname "$0")/../.." && pwd)
-copy=$(mktemp -d)
-trap 'rm -rf "$copy"' EXIT
-mkdir "$copy/crates"
-crates='monoid_laws program_tree meaning linked_program input_tables token_scanner source_tree program_edits procedure_parser tree_equality spawn_checker evaluation positions view_pool hypermaps frames'
-for crate in $crates; do cp -a "$top/crates/$crate" "$copy/crates/"; done
-mkdir -p "$copy/crates/strands_bench/src"
-cp "$top/bench/strands/main.rt.txt" "$copy/crates/strands_bench/src/main.rt" # the gate reads every .rt file, so it has another name here
-grep -E "^(${crates// /|}):" "$top/crates.txt" > "$copy/crates.txt"
-echo 'strands_bench: frames procedure_parser spawn_checker positions view_pool linked_program input_tables monoid_laws' >> "$copy/crates.txt"
+source "$(dirname "$0")/../in_a_copy.sh"
+in_a_copy strands 'frames procedure_parser spawn_checker positions view_pool linked_program input_tables monoid_laws' \
+    'monoid_laws program_tree meaning linked_program input_tables token_scanner source_tree program_edits procedure_parser tree_equality spawn_checker evaluation positions view_pool hypermaps frames'
 rustc -O --edition 2024 -o "$copy/strands" "$top/bench/strands/strands.rs"
-cd "$copy/crates/strands_bench"
 "${RT:-rt}" run # builds and proves it
 for _ in 1 2 3; do
     "$copy/strands"

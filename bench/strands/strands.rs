@@ -12,16 +12,25 @@ use std::time::Instant;
 #[derive(Clone, Copy)]
 enum Operator {
     Add,
+    Subtract,
     Multiply,
-    Remainder,
     Divide,
+    Remainder,
+    Equal,
+    Unequal,
     Less,
+    AtMost,
+    Greater,
+    AtLeast,
 }
 
 enum Expression {
     Number(i64),
     Slot(usize),
     Cell(usize, Box<Expression>, usize),
+    Has(usize, Box<Expression>),
+    Limit(usize),
+    Negate(Box<Expression>),
     Binary(Operator, Box<Expression>, Box<Expression>),
 }
 
@@ -77,6 +86,19 @@ impl Tables {
             .get(column)
             .copied()
     }
+
+    fn has(&self, table: usize, row: i64) -> bool {
+        self.tables
+            .get(table)
+            .is_some_and(|rows| rows.by_number.contains_key(&row))
+    }
+
+    fn limit(&self, table: usize) -> i64 {
+        self.tables
+            .get(table)
+            .and_then(|rows| rows.by_number.last_key_value())
+            .map_or(0, |(number, _)| number.wrapping_add(1))
+    }
 }
 
 // ---- reducers
@@ -94,15 +116,24 @@ enum Kind {
     Mul,
     Min,
     Max,
+    And,
+    Or,
+    Xor,
     List,
+    First(u16),
+    Last(u16),
+    Argmax,
     Affine,
+    Hist,
     Table(Table),
 }
 
 enum Val {
     Int(i64),
     List(Vec<i64>),
+    Arg(Option<(i64, i64)>),
     Pair(i64, i64),
+    Hist(Vec<(i64, i64)>),
     Elem(u8),
 }
 
@@ -114,12 +145,15 @@ struct View {
 impl View {
     fn new(kind: Kind) -> View {
         let value = match kind {
-            Kind::Add => Val::Int(0),
+            Kind::Add | Kind::Or | Kind::Xor => Val::Int(0),
             Kind::Mul => Val::Int(1),
             Kind::Min => Val::Int(i64::MAX),
             Kind::Max => Val::Int(i64::MIN),
-            Kind::List => Val::List(Vec::new()),
+            Kind::And => Val::Int(-1),
+            Kind::List | Kind::First(_) | Kind::Last(_) => Val::List(Vec::new()),
+            Kind::Argmax => Val::Arg(None),
             Kind::Affine => Val::Pair(1, 0),
+            Kind::Hist => Val::Hist(Vec::new()),
             Kind::Table(table) => Val::Elem(table.unit),
         };
         View { kind, value }
@@ -131,7 +165,32 @@ impl View {
             (Kind::Mul, Val::Int(value)) => *value = value.wrapping_mul(numbers[0]),
             (Kind::Min, Val::Int(value)) => *value = (*value).min(numbers[0]),
             (Kind::Max, Val::Int(value)) => *value = (*value).max(numbers[0]),
+            (Kind::And, Val::Int(value)) => *value &= numbers[0],
+            (Kind::Or, Val::Int(value)) => *value |= numbers[0],
+            (Kind::Xor, Val::Int(value)) => *value ^= numbers[0],
             (Kind::List, Val::List(list)) => list.push(numbers[0]),
+            (Kind::First(count), Val::List(list)) => {
+                if list.len() < usize::from(*count) {
+                    list.push(numbers[0]);
+                }
+            }
+            (Kind::Last(count), Val::List(list)) => {
+                list.push(numbers[0]);
+                if list.len() > usize::from(*count) {
+                    list.remove(0);
+                }
+            }
+            (Kind::Argmax, Val::Arg(best)) => {
+                if best.is_none_or(|(key, _)| key < numbers[0]) {
+                    *best = Some((numbers[0], numbers[1]));
+                }
+            }
+            (Kind::Hist, Val::Hist(amounts)) => {
+                match amounts.binary_search_by_key(&numbers[0], |(key, _)| *key) {
+                    Ok(i) => amounts[i].1 = amounts[i].1.wrapping_add(numbers[1]),
+                    Err(i) => amounts.insert(i, (numbers[0], numbers[1])),
+                }
+            }
             (Kind::Affine, Val::Pair(factor, term)) => {
                 *term = numbers[0].wrapping_mul(*term).wrapping_add(numbers[1]);
                 *factor = factor.wrapping_mul(numbers[0]);
@@ -180,6 +239,15 @@ enum Note {
         table: usize,
         row: i64,
         column: usize,
+        value: i64,
+    },
+    Has {
+        table: usize,
+        row: i64,
+        found: bool,
+    },
+    Limit {
+        table: usize,
         value: i64,
     },
 }
@@ -315,20 +383,43 @@ fn evaluate(
             });
             Ok(value)
         }
+        Expression::Has(table, row) => {
+            let (table, row) = (*table, evaluate(row, slots, tables, notes)?);
+            let found = tables.has(table, row);
+            notes.push(Note::Has { table, row, found });
+            Ok(i64::from(found))
+        }
+        Expression::Limit(table) => {
+            let (table, value) = (*table, tables.limit(*table));
+            notes.push(Note::Limit { table, value });
+            Ok(value)
+        }
+        Expression::Negate(inner) => Ok(evaluate(inner, slots, tables, notes)?.wrapping_neg()),
         Expression::Binary(operator, left, right) => {
             let left = evaluate(left, slots, tables, notes)?;
             let right = evaluate(right, slots, tables, notes)?;
-            match operator {
-                Operator::Add => Ok(left.wrapping_add(right)),
-                Operator::Multiply => Ok(left.wrapping_mul(right)),
-                Operator::Divide if right == 0 => Err(FaultKind::DivideByZero),
-                Operator::Divide => Ok(left.wrapping_div(right)),
-                Operator::Remainder if right == 0 => Err(FaultKind::DivideByZero),
-                Operator::Remainder => Ok(left.wrapping_rem(right)),
-                Operator::Less => Ok(i64::from(left < right)),
-            }
+            apply(*operator, left, right)
         }
     }
+}
+
+fn apply(operator: Operator, left: i64, right: i64) -> Result<i64, FaultKind> {
+    Ok(match operator {
+        Operator::Add => left.wrapping_add(right),
+        Operator::Subtract => left.wrapping_sub(right),
+        Operator::Multiply => left.wrapping_mul(right),
+        Operator::Divide | Operator::Remainder if right == 0 => {
+            return Err(FaultKind::DivideByZero);
+        }
+        Operator::Divide => left.wrapping_div(right),
+        Operator::Remainder => left.wrapping_rem(right),
+        Operator::Equal => i64::from(left == right),
+        Operator::Unequal => i64::from(left != right),
+        Operator::Less => i64::from(left < right),
+        Operator::AtMost => i64::from(left <= right),
+        Operator::Greater => i64::from(left > right),
+        Operator::AtLeast => i64::from(left >= right),
+    })
 }
 
 fn entry_slots(
@@ -442,6 +533,21 @@ impl Strand {
         self.phase = Phase::Running;
     }
 
+    fn entry_slots(
+        &mut self,
+        size: usize,
+        arguments: &[Expression],
+        tables: &Tables,
+    ) -> Result<Vec<Slot>, FaultKind> {
+        entry_slots(
+            size,
+            arguments,
+            &self.top.slots,
+            tables,
+            &mut self.layer.notes,
+        )
+    }
+
     fn fault(&mut self, statement: u32, kind: FaultKind) {
         self.phase = Phase::Broken(kind, self.top.procedure, statement);
     }
@@ -498,13 +604,7 @@ impl Strand {
             }
             Operation::Enter(into, way, callee, arguments) => {
                 let size = program.codes[*callee].slots;
-                let slots = entry_slots(
-                    size,
-                    arguments,
-                    &self.top.slots,
-                    tables,
-                    &mut self.layer.notes,
-                )?;
+                let slots = self.entry_slots(size, arguments, tables)?;
                 let after = Work::Block(Position {
                     block: place.block,
                     index: place.index + 1,
@@ -682,13 +782,7 @@ impl Strand {
         let size = program.codes[callee].slots;
         let value = Slot::Has(site.low + i64::from(share.first));
         let held = mem::replace(&mut self.top.slots[variable], value);
-        let slots = entry_slots(
-            size,
-            arguments,
-            &self.top.slots,
-            tables,
-            &mut self.layer.notes,
-        );
+        let slots = self.entry_slots(size, arguments, tables);
         self.top.slots[variable] = held;
         let rest = Share {
             first: share.first + 1,

@@ -37,6 +37,7 @@ impl Model for Activation {
 
 impl Activation {
     /// An instance that begins, with those slots and so many levels below it.
+    #[inline(always)]
     pub(crate) fn new(
         alloc: Global,
         procedure: usize,

@@ -109,6 +109,7 @@ impl<V: View> Layer<V> {
     }
 
     /// The slots of an instance that is entered with these arguments.
+    #[inline(always)]
     pub(crate) fn entry(
         &mut self,
         alloc: Global,

@@ -143,6 +143,7 @@ impl<V: View> Strand<V> {
     }
 
     /// Enters an instance of that procedure, with those slots, at that statement, which is then left as `work` says; or too deep.
+    #[inline(always)]
     pub(crate) fn nest(
         &mut self,
         alloc: Global,

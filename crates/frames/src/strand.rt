@@ -96,6 +96,7 @@ impl<V: View> Strand<V> {
 
     /// Puts a called child on top, which has that to do next; the topmost instance waits with that left. Refused for want of
     /// memory, or where there are no more numbers for children.
+    #[inline(always)]
     pub(crate) fn push_called(
         &mut self,
         child: Activation,

@@ -33,6 +33,7 @@ impl Model for Stubborn {
 }
 
 impl Stubborn {
+    /// An empty list that hands the first value back where it refuses, with this count of drops.
     pub fn new(alloc: Global, refuses: bool, drops: Arc<AtomicUsize>) -> Stubborn {
         Stubborn {
             alloc,
@@ -75,7 +76,7 @@ impl View for Stubborn {
     }
 
     fn update(&mut self, numbers: &[i64]) -> Result<(), InjectError> {
-        add_element(self.alloc, Kind::List, &mut self.list, numbers)
+        add_element(self.alloc, &Kind::List, &mut self.list, numbers)
     }
 
     fn absorb(&mut self, value: Val) -> Result<(), Val> {

@@ -83,7 +83,7 @@ pub fn combine(alloc: Global, kind: Kind, left: &mut Val, right: Val) -> Result<
     ensures room { meaning left.old ≡ identity_of kind → IsOk result }
 {
     if is_fixed(kind) {
-        *left = combine_fixed(kind, left, &right);
+        *left = combine_fixed(&kind, left, &right);
         return Ok(());
     }
     match combine_growing(alloc, kind, left, right) {

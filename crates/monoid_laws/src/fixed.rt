@@ -36,7 +36,7 @@ pub(crate) fn is_fixed(kind: Kind) -> bool
 }
 
 /// The number, or 0 at a value of another form.
-fn number_of(value: &Val) -> i64
+pub(crate) fn number_of(value: &Val) -> i64
     ensures { result ≡ the_number (meaning value.now) }
 {
     match value {
@@ -103,8 +103,8 @@ fn better(left: Option<(i64, i64)>, right: Option<(i64, i64)>) -> Option<(i64, i
 }
 
 /// Combines two numbers by a kind of numbers.
-fn combine_numbers(kind: Kind, left: i64, right: i64) -> i64
-    ensures { (x y : Worth) → left ≡ the_number x → right ≡ the_number y → IsNumberKind kind → operate kind x y ≡ number result }
+pub(crate) fn combine_numbers(kind: &Kind, left: i64, right: i64) -> i64
+    ensures { (x y : Worth) → left ≡ the_number x → right ≡ the_number y → IsNumberKind kind.now → operate kind.now x y ≡ number result }
 {
     match kind {
         Kind::Add => sum_of(left, right),
@@ -131,16 +131,16 @@ fn combine_lines(left: &Val, right: &Val) -> Val
 }
 
 /// Combines two values of a kind that takes no memory.
-pub(crate) fn combine_fixed(kind: Kind, left: &Val, right: &Val) -> Val
-    requires fixed { is_fixed kind ≡ true }
-    requires left_value { IsWorth kind (meaning left.now) }
-    requires right_value { IsWorth kind (meaning right.now) }
-    ensures { meaning result ≡ operate kind (meaning left.now) (meaning right.now) }
+pub(crate) fn combine_fixed(kind: &Kind, left: &Val, right: &Val) -> Val
+    requires fixed { is_fixed kind.now ≡ true }
+    requires left_value { IsWorth kind.now (meaning left.now) }
+    requires right_value { IsWorth kind.now (meaning right.now) }
+    ensures { meaning result ≡ operate kind.now (meaning left.now) (meaning right.now) }
 {
     match kind {
         Kind::Argmax => Val::Arg(better(best_of(left), best_of(right))),
         Kind::Affine => combine_lines(left, right),
-        Kind::Table(table) => Val::Elem(entry(&table, element_in(left), element_in(right))),
+        Kind::Table(table) => Val::Elem(entry(table, element_in(left), element_in(right))),
         _ => Val::Int(combine_numbers(kind, number_of(left), number_of(right))),
     }
 }

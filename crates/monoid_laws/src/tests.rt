@@ -16,8 +16,8 @@ fn combined(alloc: Global, kind: Kind, left: &[i64], right: &[i64]) -> Option<Va
     let more = inject(alloc, kind, right).ok()?;
     combine(alloc, kind, &mut value, more).ok()?;
     let mut updated = identity(alloc, kind);
-    add_element(alloc, kind, &mut updated, left).ok()?;
-    add_element(alloc, kind, &mut updated, right).ok()?;
+    add_element(alloc, &kind, &mut updated, left).ok()?;
+    add_element(alloc, &kind, &mut updated, right).ok()?;
     if updated == value { Some(value) } else { None }
 }
 
@@ -191,7 +191,7 @@ fn updated(alloc: Global, kind: Kind, mut value: Val, numbers: &[i64]) -> Option
         Ok(()) => {}
         Err(_) => return None,
     }
-    match add_element(alloc, kind, &mut value, numbers) {
+    match add_element(alloc, &kind, &mut value, numbers) {
         Ok(()) => Some(value),
         Err(_) => None,
     }
@@ -303,7 +303,7 @@ fn amounts_of_either_form_are_merged(rt: HostRuntime) {
 #[test]
 fn elements_are_added(rt: HostRuntime) {
     let mut value = Val::Int(5);
-    assert!(rt; add_element(rt.alloc(), Kind::Max, &mut value, &[7]).is_ok());
+    assert!(rt; add_element(rt.alloc(), &Kind::Max, &mut value, &[7]).is_ok());
     assert!(rt; value == Val::Int(7));
     assert_eq!(rt; sum_of(i64::MIN, -1), i64::MAX);
 }

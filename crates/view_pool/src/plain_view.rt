@@ -50,7 +50,7 @@ impl View for PlainView {
     }
 
     fn update(&mut self, numbers: &[i64]) -> Result<(), InjectError> {
-        add_element(self.alloc, self.kind, &mut self.value, numbers)
+        add_element(self.alloc, &self.kind, &mut self.value, numbers)
     }
 
     fn absorb(&mut self, value: Val) -> Result<(), Val> {

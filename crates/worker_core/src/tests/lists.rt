@@ -89,7 +89,7 @@ impl View for CountedList {
             self.refuses = Refuses::Nothing;
             return Err(InjectError::NoMemory);
         }
-        add_element(self.alloc, Kind::List, &mut self.list, numbers)
+        add_element(self.alloc, &Kind::List, &mut self.list, numbers)
     }
 
     fn absorb(&mut self, value: Val) -> Result<(), Val> {

@@ -12,8 +12,8 @@ fn step_refusals(rt: HostRuntime) {
         // Worker 0 has pushed nothing, and holds a strand.
         ("S10 S00", "S10 refused E14;S00 refused E13;"),
         (
-            "W7 P0 I0 O0 L0",
-            "W7 refused E16;P0 refused E16;I0 refused E16;O0 refused E16;L0 refused E16;",
+            "P7 P0 I0 O0 L0",
+            "P7 refused E16;P0 refused E16;I0 refused E16;O0 refused E16;L0 refused E16;",
         ),
         (
             "W0* W0 O0 L0",
