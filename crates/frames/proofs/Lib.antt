@@ -6,4 +6,5 @@ pub mod Flags
 pub mod Settling
 pub mod Keeping
 pub mod Results
+pub mod Endings
 pub mod Names

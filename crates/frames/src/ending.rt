@@ -8,7 +8,7 @@ ghost use Rattle.linked_program.specs.TableNames.{Columned};
 ghost use Rattle.positions.specs.Layers.{lowest as lowest_of};
 ghost use Rattle.positions.specs.Moves.{lowest_alone};
 ghost use Rattle.positions.specs.Simulation.{IsAlone};
-ghost use Rattle.frames.specs.Answers.{ending_of, over, IsAnswer};
+ghost use Rattle.frames.specs.Answers.{ending_of, over, IsAnswer, IsAnswerOf};
 
 use crate::answer::RunAnswer;
 use crate::layer::Layer;
@@ -90,7 +90,20 @@ impl<V: View> Strand<V> {
     }
 
     /// The answer of a strand that is over, else Unfinished; every kit goes home where there is room for them all.
-    pub fn end<K: KitSource<Kit<V>>>(mut self, alloc: Global, kits: &mut K) -> RunAnswer
+    pub fn end<K: KitSource<Kit<V>>>(self, alloc: Global, kits: &mut K) -> RunAnswer
+        requires kinds { All (λ l. l.kinds ≡ self.layer.kinds) self.lower }
+        requires fits { K.fits self.layer.kinds kits.old }
+        ensures answer { IsAnswer (ending_of self) (lowest_of self.layer self.lower).worths result }
+        ensures definition { (ts : List Columned) (t : Tree) (codes : List Code) → IsAnswerOf ts t codes self result }
+        ensures fitting { (k : List Kind) → K.fits k kits.old → K.fits k kits.new }
+        ensures given { suc (length self.lower) + K.free kits.old ≤ K.total kits.old → K.free kits.new ≡ suc (length self.lower) + K.free kits.old }
+        ensures total { K.total kits.new ≡ K.total kits.old }
+    {
+        self.go_home(alloc, kits)
+    }
+
+    /// The same, by numbers.
+    fn go_home<K: KitSource<Kit<V>>>(mut self, alloc: Global, kits: &mut K) -> RunAnswer
         requires kinds { All (λ l. l.kinds ≡ self.layer.kinds) self.lower }
         requires fits { K.fits self.layer.kinds kits.old }
         ensures answer { IsAnswer (ending_of self) (lowest_of self.layer self.lower).worths result }

@@ -5,7 +5,7 @@ ghost use Rattle.program_tree.specs.Plain.{Tree};
 ghost use Rattle.program_tree.specs.View.{tree};
 ghost use Rattle.linked_program.specs.declared.code.Code.{Code};
 ghost use Rattle.linked_program.specs.TableNames.{Columned};
-ghost use Rattle.positions.specs.Simulation.{IsFirst, IsStolen, IsInlined, IsDetached, IsResumed, IsUpdateNext};
+ghost use Rattle.positions.specs.Simulation.{IsFirst, IsStolen, IsInlined, IsDetached, IsAttached, IsResumed, IsUpdateNext};
 ghost use Rattle.positions.specs.Advance.{next_statement};
 ghost use Rattle.positions.specs.Moves.{first_strand, stolen, stolen_with, inlined, detached, attached, returned_of, resumed, is_update_there, at_update};
 
@@ -178,6 +178,15 @@ impl<V: View> Strand<V> {
     pub fn attach(&mut self, task: Task)
         requires bare { self.old.below ≡ [] }
         requires entering { self.old.phase ≡ Phase.Entering }
+        ensures called { self.new ≡ attached task self.old }
+        ensures definition { (ts : List Columned) (t : Tree) (codes : List Code) → IsAttached ts t codes task self.old self.new }
+    {
+        self.put_back(task);
+    }
+
+    /// The same, by numbers.
+    fn put_back(&mut self, task: Task)
+        requires bare { self.old.below ≡ [] }
         ensures called { self.new ≡ attached task self.old }
     {
         let Task {

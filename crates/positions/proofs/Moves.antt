@@ -31,9 +31,9 @@ use Rattle.positions.specs.declared.phase.Phase.TheVariants as phase
 use Rattle.positions.specs.Activations.{PlainActivation, bound, made, first_of}
 use Rattle.positions.specs.Layers.{PlainLayer, blank, lowest}
 use Rattle.positions.specs.Strands.{PlainStrand, PlainTask, shorter}
-use Rattle.positions.specs.Moves.{inlined, detached, returned_at, resumed_by, resumed, first_strand, stolen, lowest_alone}
-use Rattle.positions.specs.Stands.{IsStart, IsNotes, AreNotes, procedure_at, frame_of, frame_at, slots_by, IsTodoAt, IsTodo, IsParent, AreParents, IsNewInstance, IsNew, IsSpawning, StandsAt, StandsFor}
-use Rattle.positions.specs.Simulation.{IsFirst, IsInlined, IsDetached, IsResumed, IsStolen, IsAlone}
+use Rattle.positions.specs.Moves.{inlined, detached, attached, returned_at, resumed_by, resumed, first_strand, stolen, lowest_alone}
+use Rattle.positions.specs.Stands.{IsStart, IsNotes, AreNotes, procedure_at, frame_of, frame_at, slots_by, IsTodoAt, IsTodo, IsParent, AreParents, IsNewInstance, IsNew, IsEntering, IsSpawning, StandsAt, StandsFor}
+use Rattle.positions.specs.Simulation.{IsFirst, IsInlined, IsDetached, IsAttached, IsResumed, IsStolen, IsAlone}
 use Rattle.positions.proofs.Places.{slots_at, found_at}
 use Rattle.positions.proofs.Starts.{start_moved}
 use Rattle.positions.proofs.Stepping.{top_leaves, todo_bound, bound_frame, with_value_is, start_below}
@@ -141,6 +141,33 @@ module _ (ts : List Columned) (t : Tree) (codes : List Code) where
           under = subst (λ below. AreParents ts t codes (shorter task.place) below x.under) rest (subst (λ n. AreParents ts t codes (shorter n) at.rest x.under) (sym place) at.is.under);
         },
       )
+
+  -- a strand that stands for one in which a child is to be entered enters it
+  record EntersIt (s : PlainStrand) (ph : Phase) (below : List PlainActivation) (x : LayeredStrand) : Type 0 where
+    phase : ph ≡ phase.Entering
+    is : IsEntering ts t codes s.path s.top below x
+
+  enters_it : (s : PlainStrand) (x : LayeredStrand) (child : Child) (ph : Phase) (below : List PlainActivation) → StandsAt ts t codes ph below s x → x.phase ≡ entering child → EntersIt s ph below x
+  enters_it s x child phase.Entering below h e = record { phase = refl; is = h }
+  enters_it s x child phase.Running below h e = let c : running h.todo ≡ entering child = sym h.phase ∙ e in absurd cc
+  enters_it s x child phase.AtSpawn [] h e = absurd h
+  enters_it s x child phase.AtSpawn (p ∷ below) h e = let c : spawning s.top.left p.into h.child h.todo ≡ entering child = sym h.phase ∙ e in absurd cc
+  enters_it s x child (phase.Returning v) below h e = let c : returning v ≡ entering child = sym h.phase ∙ e in absurd cc
+  enters_it s x child (phase.Leaving v) below h e = let c : leaving v ≡ entering child = sym h.phase ∙ e in absurd cc
+  enters_it s x child (phase.Broken f) below h e = let c : broken _ ≡ entering child = sym h ∙ e in absurd cc
+
+  pub attached_is : (task : PlainTask) (s : PlainStrand) → IsAttached ts t codes task s (attached task s)
+  attached_is task s x d into child todo place h task_is =
+      let enters = enters_it s (strands.detached t x d child) child s.phase s.below h.now refl in
+      let waits : IsParent ts t codes s.path task.top (awaiting x.frame true into todo) = subst (λ n. IsParent ts t codes n task.top (awaiting x.frame true into todo)) (sym place) task_is.parent in
+      let under : AreParents ts t codes (shorter s.path) task.below x.under = subst (λ n. AreParents ts t codes (shorter n) task.below x.under) (sym place) task_is.under in
+      let now : IsEntering ts t codes s.path s.top (task.top ∷ task.below) (strands.inlined t x d into child todo) =
+      record { child = enters.is.child; new = enters.is.new; phase = enters.is.phase; frame = enters.is.frame; under = (waits, under) } in
+      record {
+        start = h.start;
+        layers = h.layers;
+        now = subst (λ ph. StandsAt ts t codes ph (task.top ∷ task.below) (attached task s) (strands.inlined t x d into child todo)) (sym enters.phase) now;
+      }
 
   -- ---- a spawned child has returned
 

@@ -88,6 +88,12 @@ module _ (ts : List Columned) (t : Tree) (codes : List Code) where
       (x : LayeredStrand) (d : ℕ) (into : Option ℕ) (child : Child) (todo : Todo) → StandsFor ts t codes s x → x.phase ≡ spawning d into child todo
       → StandsFor ts t codes s' (detached t x d child) × StandsForTask ts t codes task (continuation x into todo)
 
+  -- the child alone and the continuation put together again: the child as a call
+  abbrev pub IsAttached : PlainTask → PlainStrand → PlainStrand → Type 0
+  IsAttached task s s' =
+      (x : LayeredStrand) (d : ℕ) (into : Option ℕ) (child : Child) (todo : Todo) → s.path ≡ task.place → StandsFor ts t codes s (detached t x d child) → StandsForTask ts t codes task (continuation x into todo)
+      → StandsFor ts t codes s' (inlined t x d into child todo)
+
   -- on with the continuation of a child that has returned
   abbrev pub IsResumed : PlainTask → PlainStrand → PlainStrand → Type 0
   IsResumed task s s' =

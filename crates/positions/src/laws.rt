@@ -10,8 +10,8 @@ ghost use Rattle.linked_program.specs.Linked.{kinds_of, main_number};
 ghost use Rattle.linked_program.specs.CodeView.{AreCodesOf};
 ghost use Rattle.positions.specs.Strands.{PlainStrand, PlainTask};
 ghost use Rattle.positions.specs.Advance.{advanced, pause_of};
-ghost use Rattle.positions.specs.Moves.{inlined, detached, resumed, first_strand, stolen, joined, lowest_alone, at_update};
-ghost use Rattle.positions.specs.Simulation.{IsSmallStep, IsPause, IsStepTaken, IsFirst, IsInlined, IsDetached, IsResumed, IsStolen, IsJoined, IsAlone, IsUpdateNext};
+ghost use Rattle.positions.specs.Moves.{inlined, detached, attached, resumed, first_strand, stolen, joined, lowest_alone, at_update};
+ghost use Rattle.positions.specs.Simulation.{IsSmallStep, IsPause, IsStepTaken, IsFirst, IsInlined, IsDetached, IsAttached, IsResumed, IsStolen, IsJoined, IsAlone, IsUpdateNext};
 
 use crate::phase::Paused;
 
@@ -40,6 +40,7 @@ pub fn moves_are_the_definitions()
     ensures inlined { (ts : List Columned) (t : Tree) (codes : List Code) (s : PlainStrand) → IsInlined ts t codes s (inlined s) }
     ensures detached { (ts : List Columned) (t : Tree) (codes : List Code) (s : PlainStrand) (task : PlainTask) → task.place ≡ s.path → s.below ≡ task.top ∷ task.below
         → IsDetached ts t codes s (detached s) task }
+    ensures attached { (ts : List Columned) (t : Tree) (codes : List Code) (task : PlainTask) (s : PlainStrand) → IsAttached ts t codes task s (attached task s) }
     ensures resumed { (ts : List Columned) (t : Tree) (codes : List Code) (task : PlainTask) (s : PlainStrand) → IsResumed ts t codes task s (resumed task s) }
     ensures joined { (ts : List Columned) (t : Tree) (codes : List Code) (l r : PlainStrand) → IsJoined ts t codes l r (joined l r) }
     ensures alone { (ts : List Columned) (t : Tree) (codes : List Code) (s : PlainStrand) → IsAlone ts t codes s (lowest_alone s) }
