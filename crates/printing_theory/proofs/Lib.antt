@@ -8,3 +8,6 @@ pub mod KindForms
 pub mod Declarations
 pub mod Collected
 pub mod Round
+pub mod Putting
+pub mod Known
+pub mod Defined

@@ -2,9 +2,11 @@
 #![tactic(auto)]
 
 mod again;
+mod definitions;
 mod round_trip;
 
 pub use again::print_and_parse;
+pub use definitions::laws_of_definitions;
 pub use round_trip::laws_of_the_round_trip;
 
 #[cfg(test)]

@@ -95,3 +95,21 @@ fn procedures_defined(rt: HostRuntime) -> Result<(), Fail> {
     assert!(rt; prints_as(rt.alloc(), &program, wanted)?);
     Ok(())
 }
+
+/// What two definitions, one after the other, make of the countdown.
+#[test]
+fn defined_twice(rt: HostRuntime) -> Result<(), Fail> {
+    let text =
+        b"reducer steps : add;\nmemo proc down(n) { update steps 1; if n > 0 { call down(n - 1); } return n; }\nproc main() { v = call down(60); return v; }\n";
+    let first =
+        b"proc b() { v = call down(60); return v; }\nproc a() { v = call b(); return v; }\nproc main() { v = call a(); return v; }\n";
+    let second =
+        b"proc c() { v = call down(60); return v; }\nproc b() { v = call c(); return v; }\n";
+    let wanted =
+        b"reducer steps : add ;\nmemo proc down ( n ) {\nupdate steps 1 ;\nif ( n > 0 ) {\ncall down ( ( n - 1 ) ) ;\n}\nreturn n ;\n}\nproc main ( ) {\nv = call a ( ) ;\nreturn v ;\n}\nproc b ( ) {\nv = call c ( ) ;\nreturn v ;\n}\nproc a ( ) {\nv = call b ( ) ;\nreturn v ;\n}\nproc c ( ) {\nv = call down ( 60 ) ;\nreturn v ;\n}\n";
+    let before = parse(rt.alloc(), text)?;
+    let between = parse_define(rt.alloc(), first, &before)?;
+    let program = parse_define(rt.alloc(), second, &between)?;
+    assert!(rt; prints_as(rt.alloc(), &program, wanted)?);
+    Ok(())
+}

@@ -5,3 +5,6 @@ mod copies;
 mod putting;
 
 pub use putting::with_procedures;
+
+#[cfg(test)]
+mod tests;

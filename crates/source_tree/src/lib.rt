@@ -9,3 +9,6 @@ mod terms;
 
 pub use lowering::{lower, lower_procedure};
 pub use source::{Declaration, Expr, Measured, Procedure, Reducer, Statement};
+
+#[cfg(test)]
+mod tests;

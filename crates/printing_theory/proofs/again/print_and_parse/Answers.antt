@@ -1,7 +1,6 @@
-use Rattle.std.proofs.Common.{◌≡◌, ◌≤◌, List, length, ℕ, sym, subst, ◌∙◌}
+use Rattle.std.proofs.Common.{◌≡◌, List, ℕ, sym, subst, ◌∙◌}
 use Rattle.program_tree.specs.View.{tree}
-use Rattle.source_tree.specs.Source.{Source}
-use Rattle.procedure_parser.specs.Correct.{IsSource, Answers}
+use Rattle.procedure_parser.specs.Correct.{IsSource}
 use Rattle.program_printer.specs.Printing.{printed}
 use Rattle.printing_theory.proofs.Round.{prints_again, collected_prints, reads_again}
 use Rattle.printing_theory.proofs.again.print_and_parse.Goals as goal
