@@ -305,7 +305,7 @@ fn unedited(listed: Vec<Table>) -> Tables
 
 #[cfg(test)]
 impl Tables {
-    // The tables after so many edits.
+    /// The tables, with so many edits counted.
     pub fn with_edits(self, edits: u64) -> Tables {
         Tables {
             listed: self.listed,

@@ -99,6 +99,11 @@ fn faulty_rows(rt: HostRuntime) -> Result<(), Fail> {
         "[[]]",
         "[1, 2, 5]",
         "1",
+        "true",
+        "\"1, 2, 5\"",
+        "{ first = [1, 2, 5] }",
+        "[\"1\"]",
+        "[[1, 2, \"5\"]]",
     ] {
         let text = sales_of(rt.alloc(), "[\"qty\", \"price\"]", rows)?;
         assert_eq!(rt;
@@ -152,6 +157,11 @@ fn other_keys(rt: HostRuntime) -> Result<(), Fail> {
         ),
         ("[sales]\ncolumns = [\"a\"]\n", "refused E3 sales"),
         ("[sales]\ncolumns = [\"a\"]\nrow = []\n", "refused E3 sales"),
+        ("[sales]\nrows = [[1, 2, 5]]\n", "refused E3 sales"),
+        ("[sales]\nrows = []\n", "refused E3 sales"),
+        ("[sales]\ncolumn = [\"a\"]\nrows = []\n", "refused E3 sales"),
+        ("[sales]\ncolumns = []\nrows = [[1]]\n", "refused E3 sales"),
+        ("[sales]\n", "refused E3 sales"),
         ("sales = 1\n", "refused E3 sales"),
         (
             "[Sales]\ncolumns = [\"a\"]\nrows = []\n",
@@ -215,6 +225,20 @@ fn tables_are_numbered_by_their_names(rt: HostRuntime) -> Result<(), Fail> {
     assert_eq!(rt; tables.limit(0), 0);
     assert_eq!(rt; tables.limit(1), 8);
     Ok(())
+}
+
+#[test]
+fn names_are_lent(rt: HostRuntime) -> Result<(), Fail> {
+    let tables = Tables::from_toml(rt.alloc(), SALES)?;
+    if tables.count() == 1 {
+        assert_eq!(rt; tables.name(0), "sales");
+        let columns = tables.columns(0);
+        assert_eq!(rt; columns.len(), 2);
+        assert_eq!(rt; columns.first().map(|name| name.as_str()), Some("qty"));
+        assert_eq!(rt; columns.last().map(|name| name.as_str()), Some("price"));
+        return Ok(());
+    }
+    panic!(rt; "no table");
 }
 
 #[test]

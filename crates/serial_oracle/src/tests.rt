@@ -1,6 +1,8 @@
 //! Small programs and their answers.
 
 mod building;
+mod depths;
 mod fitting;
+mod nested;
 mod rerunning;
 mod scratch;

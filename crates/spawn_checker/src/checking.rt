@@ -22,8 +22,8 @@ use linked_program::tables::TableNames;
 use program_tree::Program;
 use std::alloc::Global;
 
-// The names of these tables, where a program breaks no rule over them; else its refusal.
-fn names_if_clean(
+/// The names of these tables, where a program breaks no rule over them; else its refusal.
+pub(crate) fn names_if_clean(
     alloc: Global,
     program: &Program,
     tables: &Tables,

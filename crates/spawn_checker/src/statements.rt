@@ -1,9 +1,9 @@
 //! The rules that a statement can break by itself.
-ghost use Rattle.std.specs.Prelude.{◌≡◌, ℕ, false, map, option_copied};
+ghost use Rattle.std.specs.Prelude.{◌≡◌, ℕ, false, map, option_copied, ◌++◌, ◌&&◌, ◌==◌};
 ghost use Rattle.program_tree.specs.Plain.{Body};
 ghost use Rattle.program_tree.specs.View.{decl, deed, term};
-ghost use Rattle.linked_program.specs.Scope.{bound, entered, looped};
-ghost use Rattle.linked_program.specs.Rules.{bind_rules, target_rules, callee_rules, enter_rules, update_rules, kind_rules, read_rules, terms_rules, entry_rules, range_rules, own_rules};
+ghost use Rattle.linked_program.specs.Scope.{bound, entered, has_read, looped};
+ghost use Rattle.linked_program.specs.Rules.{bind_rules, target_rules, callee_rules, enter_rules, update_rules, kind_rules, read_rules, term_rules, terms_rules, entry_rules, range_rules, own_rules, kind_of as reducer_kind};
 ghost use Rattle.linked_program.specs.Violations.{noted, at};
 ghost use Rattle.linked_program.specs.TableNames.{columned};
 ghost use Rattle.spawn_checker.specs.Settings.{plain};
@@ -187,6 +187,49 @@ fn note_range(
     note_bind(first, place, scope, name)
 }
 
+// The same of a plain bind, with what is known after it.
+#[tactic(auto, using(crate::proofs::Noting::noted_more))]
+fn note_binding(
+    setting: &Setting,
+    first: Option<Violation>,
+    place: Place,
+    scope: &mut Scope,
+    now: Moment,
+    name: usize,
+    value: &Expr,
+) -> Option<Violation>
+    ensures noted { result ≡ noted first (at place.declaration place.line (term_rules (map columned setting.now.tables.now) scope.old (term value.now) ++ bind_rules scope.old name)) }
+    ensures bound { scope.new ≡ bound now false scope.old name }
+{
+    let first = note_term(first, place, setting.tables, scope, value);
+    let first = note_bind(first, place, scope, name);
+    scope.bind(now, false, name);
+    first
+}
+
+// The same of a read, with what is known after it.
+#[tactic(auto, using(crate::proofs::Noting::noted_more))]
+fn note_reading(
+    setting: &Setting,
+    first: Option<Violation>,
+    place: Place,
+    scope: &mut Scope,
+    now: Moment,
+    name: usize,
+    reducer: &str,
+) -> Option<Violation>
+    ensures noted { result ≡ noted first (at place.declaration place.line (bind_rules scope.old name ++ read_rules (setting.now.in_main && (now.depth == 0)) scope.old (reducer_kind (map decl setting.now.declarations.now) reducer.now))) }
+    ensures read { scope.new ≡ has_read now (bound now false scope.old name) }
+{
+    let first = note_bind(first, place, scope, name);
+    let in_place = setting.in_main && now.depth == 0;
+    let kind = kind_of(setting.declarations, reducer);
+    let first = note_read(first, place, scope, in_place, kind);
+    scope.bind(now, false, name);
+    scope.read(now);
+    first
+}
+
 /// The first violation so far or that of a statement by itself; what is known after it, its blocks aside.
 #[tactic(auto, using(crate::proofs::Noting::noted_more, crate::proofs::Lists::length_of_map))]
 pub fn note_own(
@@ -201,33 +244,16 @@ pub fn note_own(
     ensures after { (inner : ℕ → Body) → scope.new ≡ after_own now scope.old (deed inner action.now) }
 {
     match action {
-        Action::Bind(name, value) => {
-            let first = note_term(first, place, setting.tables, scope, value);
-            let first = note_bind(first, place, scope, *name);
-            scope.bind(now, false, *name);
-            first
-        }
+        Action::Bind(name, value) => note_binding(setting, first, place, scope, now, *name, value),
         Action::Enter(name, way, callee, arguments) => {
-            let first = note_entry(
-                setting,
-                first,
-                place,
-                scope,
-                *name,
-                callee.as_str(),
-                arguments,
-            );
+            let callee = callee.as_str();
+            let first = note_entry(setting, first, place, scope, *name, callee, arguments);
             enter(scope, now, *name, *way);
             first
         }
         Action::Read(name, reducer) => {
-            let first = note_bind(first, place, scope, *name);
-            let in_place = setting.in_main && now.depth == 0;
-            let kind = kind_of(setting.declarations, reducer.as_str());
-            let first = note_read(first, place, scope, in_place, kind);
-            scope.bind(now, false, *name);
-            scope.read(now);
-            first
+            let reducer = reducer.as_str();
+            note_reading(setting, first, place, scope, now, *name, reducer)
         }
         Action::Sync => {
             scope.sync(now);
@@ -240,15 +266,10 @@ pub fn note_own(
         }
         Action::If(condition, _, _) => note_term(first, place, setting.tables, scope, condition),
         Action::Loop(name, low, high, _, callee, arguments) => {
+            let callee = callee.as_str();
             let first = note_range(setting, first, place, scope, *name, low, high);
             let first = note_arguments(first, place, setting.tables, scope, now, *name, arguments);
-            note_enter(
-                first,
-                place,
-                setting.declarations,
-                callee.as_str(),
-                arguments.len(),
-            )
+            note_enter(first, place, setting.declarations, callee, arguments.len())
         }
         Action::Return(value) => note_term(first, place, setting.tables, scope, value),
     }

@@ -1,6 +1,7 @@
 //! Programs that break one rule each, and programs that break none. A statement's number is its line here.
 
 mod declared;
+mod exhausted;
 mod names;
 mod programs;
 mod reads;

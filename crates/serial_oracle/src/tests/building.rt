@@ -7,10 +7,12 @@ use program_tree::{
 };
 use std::alloc::{AllocError, Global};
 
+/// A name or a text.
 pub fn text(alloc: Global, name: &str) -> Result<String, AllocError> {
     String::from_str(alloc, name)
 }
 
+/// A reducer of a kind, at line 1.
 pub fn reducer(alloc: Global, name: &str, kind: Kind) -> Result<Declaration, AllocError> {
     let name = text(alloc, name)?;
     Ok(Declaration::Reducer(Reducer {
@@ -26,6 +28,7 @@ fn pool(alloc: Global) -> Result<Vec<String>, AllocError> {
     Ok(vec![in alloc; x, y]?)
 }
 
+/// A procedure at line 1, recorded or not, with so many parameters.
 pub fn procedure(
     alloc: Global,
     name: &str,
@@ -56,6 +59,7 @@ pub fn plain(
     procedure(alloc, name, false, parameters, blocks)
 }
 
+/// The statement of a number, at line 1.
 pub fn statement(number: u32, action: Action) -> Statement {
     Statement {
         line: 1,
@@ -64,6 +68,7 @@ pub fn statement(number: u32, action: Action) -> Statement {
     }
 }
 
+/// An operator on two expressions.
 pub fn binary(
     alloc: Global,
     operator: Operator,
@@ -83,12 +88,14 @@ pub fn cell(alloc: Global, row: Expr, column: &str) -> Result<Expr, AllocError> 
     Ok(Expr::Cell(table, row, column))
 }
 
+/// `update name number;`
 pub fn update_one(alloc: Global, name: &str, number: Expr) -> Result<Action, AllocError> {
     let name = text(alloc, name)?;
     let numbers = vec![in alloc; number]?;
     Ok(Action::Update(name, numbers))
 }
 
+/// `update name first, second;`
 pub fn update_two(
     alloc: Global,
     name: &str,
@@ -132,6 +139,7 @@ pub fn loop_over(
     Ok(Action::Loop(0, low, high, 1, name, arguments))
 }
 
+/// The statements 1 and 2.
 pub fn two(alloc: Global, first: Action, second: Action) -> Result<Vec<Statement>, AllocError> {
     Ok(vec![in alloc; statement(1, first), statement(2, second)]?)
 }

@@ -19,9 +19,14 @@ fn outcome(alloc: Global, program: &Program) -> Option<(i64, i64)> {
     }
 }
 
-fn fault(alloc: Global, program: &Program, tables: &[TableRows]) -> Option<(FaultKind, u32)> {
+// The fault that a program comes to: its kind, its procedure and its statement.
+fn fault<'p>(
+    alloc: Global,
+    program: &'p Program,
+    tables: &[TableRows],
+) -> Option<(FaultKind, &'p str, u32)> {
     match from_scratch(alloc, program, tables) {
-        Ok(Answer::Faulted(fault)) => Some((fault.kind, fault.statement)),
+        Ok(Answer::Faulted(fault)) => Some((fault.kind, fault.procedure, fault.statement)),
         _ => None,
     }
 }
@@ -97,12 +102,27 @@ fn wrapping_fold(rt: HostRuntime) -> Result<(), Fail> {
     Ok(())
 }
 
-// update n 2, 1; update n 3, 4;
-fn affine(alloc: Global) -> Result<Program, AllocError> {
-    let left = update_two(alloc, "n", Expr::Number(2), Expr::Number(1))?;
+// proc one(x, y) { update n x, y; }
+fn one_of_two(alloc: Global) -> Result<Declaration, AllocError> {
+    let added = update_two(alloc, "n", Expr::Name(0), Expr::Name(1))?;
+    let statements = vec![in alloc; statement(1, added)]?;
+    plain(alloc, "one", 2, statements)
+}
+
+// spawn one(2, 1); update n 3, 4; sync; return 0;
+fn affine_main(alloc: Global) -> Result<Declaration, AllocError> {
+    let arguments = vec![in alloc; Expr::Number(2), Expr::Number(1)]?;
+    let spawned = Action::Enter(None, Way::Spawn, text(alloc, "one")?, arguments);
     let right = update_two(alloc, "n", Expr::Number(3), Expr::Number(4))?;
-    let main = two(alloc, left, right)?;
-    with_one(alloc, Kind::Affine, main)
+    let mut main = two(alloc, spawned, right)?;
+    then(&mut main, 3, Action::Sync)?;
+    plain(alloc, "main", 0, main)
+}
+
+fn affine(alloc: Global) -> Result<Program, AllocError> {
+    let n = reducer(alloc, "n", Kind::Affine)?;
+    let one = one_of_two(alloc)?;
+    program_of_three(alloc, n, one, affine_main(alloc)?)
 }
 
 #[test]
@@ -179,9 +199,19 @@ fn each_iteration_once(rt: HostRuntime) -> Result<(), Fail> {
 }
 
 #[test]
+fn the_longest_range(rt: HostRuntime) -> Result<(), Fail> {
+    let alloc = rt.alloc();
+    assert_eq!(&rt;
+        outcome(alloc, &range(alloc, 0, 1048576)?),
+        Some((0, 1048576))
+    );
+    Ok(())
+}
+
+#[test]
 fn ranges_too_long(rt: HostRuntime) -> Result<(), Fail> {
     let alloc = rt.alloc();
-    let long = Some((FaultKind::RangeTooLong, 1));
+    let long = Some((FaultKind::RangeTooLong, "main", 1));
     assert_eq!(&rt; fault(alloc, &range(alloc, 0, 1048577)?, &[]), long);
     assert_eq!(&rt;
         fault(alloc, &range(alloc, -i64::MAX, i64::MAX)?, &[]),
@@ -212,7 +242,7 @@ fn division_at_the_edge(rt: HostRuntime) -> Result<(), Fail> {
     );
     assert_eq!(&rt;
         fault(alloc, &quotient(alloc, 1, 0)?, &[]),
-        Some((FaultKind::DivideByZero, 1))
+        Some((FaultKind::DivideByZero, "main", 1))
     );
     Ok(())
 }
@@ -224,7 +254,10 @@ fn too_deep(rt: HostRuntime) -> Result<(), Fail> {
     let again = call(alloc, None, "main")?;
     let main = vec![in alloc; statement(1, again)]?;
     let program = with_one(alloc, Kind::Add, main)?;
-    assert_eq!(&rt; fault(alloc, &program, &[]), Some((FaultKind::TooDeep, 1)));
+    assert_eq!(&rt;
+        fault(alloc, &program, &[]),
+        Some((FaultKind::TooDeep, "main", 1))
+    );
     Ok(())
 }
 
@@ -258,12 +291,12 @@ fn first_fault_serial(rt: HostRuntime) -> Result<(), Fail> {
     let both = two_faults(alloc, 0)?;
     assert_eq!(&rt;
         fault(alloc, &both, &tables),
-        Some((FaultKind::DivideByZero, 1))
+        Some((FaultKind::DivideByZero, "bad", 1))
     );
     let absent = two_faults(alloc, 1)?;
     assert_eq!(&rt;
         fault(alloc, &absent, &tables),
-        Some((FaultKind::MissingRow, 2))
+        Some((FaultKind::MissingRow, "main", 2))
     );
     Ok(())
 }

@@ -62,8 +62,11 @@ fn checked(
     Ok(check(alloc, Program { declarations }, &Tables::new(alloc)))
 }
 
-// `refused ..` as it is printed; nothing for a checked program.
-fn refusal_text(alloc: Global, answer: Result<Checked, CheckError>) -> Result<String, AllocError> {
+/// `refused ..` as it is printed; nothing for a checked program.
+pub fn refusal_text(
+    alloc: Global,
+    answer: Result<Checked, CheckError>,
+) -> Result<String, AllocError> {
     match answer {
         Ok(_checked) => Ok(String::new(alloc)),
         Err(error) => Ok(format!(in alloc; "{error}")?),
@@ -105,8 +108,8 @@ fn procedures_get_their_first_revisions(rt: HostRuntime) -> Result<(), Fail> {
     Ok(())
 }
 
-// `total : add`, then `leaf`, `main` and `extra`, each at this line, which return their numbers.
-fn of_three(alloc: Global, line: u32, given: i64) -> Result<Program, AllocError> {
+/// `total : add`, then `leaf`, `main` and `extra`, each at this line, which return their numbers.
+pub fn of_three(alloc: Global, line: u32, given: i64) -> Result<Program, AllocError> {
     let total = reducer(alloc, "total", line, Kind::Add)?;
     let body = one_block(alloc, vec![in alloc; give(line, Expr::Name(0))]?)?;
     let leaf = procedure(alloc, "leaf", line, 1, body)?;
