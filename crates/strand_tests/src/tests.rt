@@ -5,3 +5,4 @@ mod driving;
 mod faults;
 mod names;
 mod statements;
+mod thefts;

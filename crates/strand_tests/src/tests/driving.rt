@@ -56,6 +56,18 @@ pub enum Child {
     Alone,
 }
 
+/// The continuation at a spawn; an error elsewhere.
+pub fn parent(alloc: Global, strand: &mut Strand<PlainView>) -> Result<Task, AllocError>
+    ensures kinds { strand.new.layer.kinds ≡ strand.old.layer.kinds }
+    ensures lower { strand.new.lower ≡ strand.old.lower }
+{
+    let Phase::AtSpawn = strand.phase() else {
+        return Err(AllocError);
+    };
+    strand.ready();
+    Ok(strand.detach(alloc))
+}
+
 /// At a spawn: the child goes that way.
 fn spawn(
     alloc: Global,

@@ -1,7 +1,7 @@
 //! By which names strands are known, and at which points they are.
 ghost use Rattle.std.specs.Prelude.{◌≡◌, IfOk};
 
-use super::driving::{begin, checked, kit, to_pause};
+use super::driving::{begin, checked, kit, parent, to_pause};
 use frames::answer::RunAnswer;
 use frames::strand::Strand;
 use frames::task::Task;
@@ -35,17 +35,6 @@ fn thief(alloc: Global, program: &Checked, parent: Task) -> Result<Strand<PlainV
         Ok(thief) => Ok(thief),
         Err(_) => Err(AllocError),
     }
-}
-
-// The continuation at a spawn; an error elsewhere.
-fn parent(alloc: Global, strand: &mut Strand<PlainView>) -> Result<Task, AllocError>
-    ensures kinds { strand.new.layer.kinds ≡ strand.old.layer.kinds }
-{
-    let Phase::AtSpawn = strand.phase() else {
-        return Err(AllocError);
-    };
-    strand.ready();
-    Ok(strand.detach(alloc))
 }
 
 // The program, and its strand at its first spawn.
