@@ -8,6 +8,8 @@ use super::answers::{
     push_value, push_values,
 };
 use super::beginning::begin;
+use super::kits::pool;
+use super::prepare::prepare;
 use super::runs::run;
 use super::script::{Command, commands};
 use super::session::Session;
@@ -139,6 +141,26 @@ fn commands_of_a_script(rt: HostRuntime) {
     let found = commands(rt.alloc(), b"run\n#run\nruns\n\nrun\t").expect(&rt, "memory");
     let wanted = [Command::Run, Command::Unknown(3), Command::Run];
     assert_eq!(&rt; found.as_slice(), wanted.as_slice());
+}
+
+#[test]
+fn a_program_and_its_tables(rt: HostRuntime) {
+    let tables = "[sales]\ncolumns = [\"qty\"]\nrows = [[3, 7]]\n";
+    match prepare(rt.alloc(), TWO_REDUCERS.as_bytes(), tables) {
+        Ok((checked, tables)) => {
+            assert_eq!(&rt; checked.kinds(), [Kind::Add, Kind::List].as_slice());
+            assert_eq!(&rt; tables.limit(0), 4);
+        }
+        Err(_) => assert!(&rt; false),
+    }
+}
+
+#[test]
+fn a_pool_of_kits(rt: HostRuntime) {
+    let alloc = rt.alloc();
+    let make = |kind: Kind| -> Result<PlainView, AllocError> { Ok(PlainView::new(alloc, kind)) };
+    let kits = pool(alloc, &[Kind::Add, Kind::List], 3, &make).expect(&rt, "memory");
+    assert_eq!(&rt; kits.free(), 3);
 }
 
 #[test]

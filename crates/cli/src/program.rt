@@ -1,5 +1,5 @@
 // The program: its line, its files, its session on standard input and output.
-ghost use Rattle.std.specs.Prelude.{◌≡◌, ◌≢◌, ◌<◌, ℕ, List, Some, Err, All, IfOk, IfErr, OnOk, OnErr, length, string_bytes};
+ghost use Rattle.std.specs.Prelude.{◌≡◌, ◌≢◌, ◌<◌, ◌⊎◌, ℕ, List, Some, Err, All, IfOk, IfErr, OnOk, OnErr, length, map, string_bytes};
 ghost use Rattle.std.specs.Io.KnownBytes.{Keeps, IsAtEnd};
 ghost use Rattle.std.specs.IoError.{error_kind};
 ghost use Rattle.linked_program.specs.TableNames.{columned_of};
@@ -112,6 +112,7 @@ pub fn report_on<V: View, M: Fn(Kind) -> Result<V, AllocError>, F: FileSource, R
 
 // The words of the program's line.
 fn line_of<S: Runtime + AllocGlobal>(rt: &S, alloc: Global) -> Result<Vec<String>, ProgramError>
+    ensures refused { IfErr result (λ e. (e ≡ ProgramError.Session SessionError.NoMemory) ⊎ (e ≡ ProgramError.Line OptionsError.Usage)) }
     ensures kits { result ≢ Err (ProgramError.Session SessionError.NoKit) }
 {
     let mut words = Vec::new(alloc);
@@ -128,10 +129,12 @@ fn line_of<S: Runtime + AllocGlobal>(rt: &S, alloc: Global) -> Result<Vec<String
 
 // The words, lent.
 fn lent(alloc: Global, held: &[String]) -> Result<Vec<&str>, ProgramError>
+    ensures words { IfOk result (λ words. map (λ word. word.now) words.items ≡ map string_bytes held.now) }
+    ensures refused { IfErr result (λ e. e ≡ ProgramError.Session SessionError.NoMemory) }
     ensures kits { result ≢ Err (ProgramError.Session SessionError.NoKit) }
 {
     let mut words = Vec::new(alloc);
-    for word in held.iter() {
+    for word in held {
         words.push(word.as_str()).map_err(|_| no_memory())?;
     }
     Ok(words)

@@ -18,6 +18,11 @@ proc leaf(v) { update total v; return v; }
 proc main() { x = spawn leaf(1); y = spawn leaf(2); update total 9; sync; return x + y; }
 ";
 
+const FIRST_LIST: &[u8] = b"reducer seen : list;
+proc leaf(v) { update seen v; return v; }
+proc main() { x = spawn leaf(1); y = spawn leaf(2); update seen 9; sync; return x + y; }
+";
+
 const UNSYNCED: &[u8] = b"proc leaf(v) { return v; }
 proc main() {
 x = spawn leaf(1);
@@ -117,34 +122,37 @@ fn reports(rt: HostRuntime) {
     }
 }
 
+// By the words of a line, with boxes of views.
 #[test]
-fn a_report_with_boxed_views(rt: HostRuntime) {
+fn sixteen_workers_and_one_kit(rt: HostRuntime) {
     let alloc = rt.alloc();
     let words = ["cilkreport", "p", "t", "--workers", "16", "--kits", "1"];
     let options = options(alloc, &words).expect(&rt, "options");
     let make = |kind: Kind| -> Result<Box<dyn View>, AllocError> {
         Ok(Box::new(alloc, PlainView::new(alloc, kind))?)
     };
-    let files = Two {
-        program: Some(LINES),
-        tables: Some(SALES),
-    };
-    let mut reader = b"run\n".as_slice();
-    let mut written = Vec::new(alloc);
-    report_on(
-        &rt,
-        alloc,
-        options,
-        &make,
-        &files,
-        &mut reader,
-        &mut written,
-    )
-    .expect(&rt, "a report");
-    assert_eq!(&rt;
-        written.as_slice(),
-        b"run 1\nresult 131\ntotal 131\ntop 100 3\n".as_slice()
-    );
+    for (program, wanted) in [
+        (LINES, "run 1\nresult 131\ntotal 131\ntop 100 3\n"),
+        (FIRST_LIST, "run 1\nresult 3\nseen 1 2 9\n"),
+    ] {
+        let files = Two {
+            program: Some(program),
+            tables: Some(SALES),
+        };
+        let mut reader = b"run\n".as_slice();
+        let mut written = Vec::new(alloc);
+        report_on(
+            &rt,
+            alloc,
+            options,
+            &make,
+            &files,
+            &mut reader,
+            &mut written,
+        )
+        .expect(&rt, "a report");
+        assert_eq!(&rt; written.as_slice(), wanted.as_bytes());
+    }
 }
 
 #[test]
@@ -192,7 +200,12 @@ fn seventeen_workers(rt: HostRuntime) {
     let refused = options(rt.alloc(), &words).map_err(|error| ProgramError::Line(error));
     match refused {
         Ok(_) => assert!(&rt; false),
-        Err(error) => assert_eq!(&rt; status(&error), 2),
+        Err(error) => {
+            assert_eq!(&rt; status(&error), 2);
+            let said = error.to_string(rt.alloc()).expect(&rt, "memory");
+            let form = "usage: cilkreport PROGRAM TABLES [--workers 1..16] [--kits 1..4096]";
+            assert_eq!(&rt; said.as_str(), form);
+        }
     }
 }
 
@@ -216,7 +229,9 @@ fn statuses_of_errors(rt: HostRuntime) {
 }
 
 #[test]
-fn no_file_of_the_system(rt: HostRuntime) {
+fn files_of_the_system(rt: HostRuntime) {
     let files = SystemFiles { rt: &rt };
+    let empty = files.read(rt.alloc(), "/dev/null").expect(&rt, "a file");
+    assert_eq!(&rt; empty.len(), 0);
     assert!(&rt; files.read(rt.alloc(), "no such folder/p").is_err());
 }

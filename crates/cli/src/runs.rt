@@ -22,7 +22,8 @@ use worker_core::run::Core;
 // So many small steps a worker does at most before the others have their turns.
 const SMALL_STEPS: usize = 256;
 
-/// A run of a checked program on tables, by so many workers; refused where no kit is free, or for want of memory.
+/// A run of a checked program on tables, by so many workers; refused where no kit is free, or for want of memory. Without
+/// workers it counts as one without memory.
 pub fn run<V: View>(
     rt: &impl Wait,
     alloc: Global,

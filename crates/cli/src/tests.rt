@@ -143,6 +143,13 @@ fn lines(rt: HostRuntime) {
     let given = options(rt.alloc(), &words).expect(&rt, "options");
     assert_eq!(&rt; given.workers, 1);
     assert_eq!(&rt; given.kits, 4096);
+    let words = ["cilkreport", "--workers=4", "p", "--kits", "+08", "t"];
+    let given = options(rt.alloc(), &words).expect(&rt, "options");
+    assert_eq!(&rt; (given.workers, given.kits), (4, 8));
+}
+
+fn is_usage<'a>(alloc: Global, words: &'a [&'a str]) -> bool {
+    matches!(&options(alloc, words), Err(OptionsError::Usage))
 }
 
 #[test]
@@ -157,8 +164,14 @@ fn refused_lines(rt: HostRuntime) {
         let refused = options(rt.alloc(), &words);
         assert!(&rt; matches!(&refused, Err(OptionsError::Usage)), "{kits}");
     }
-    let refused = options(rt.alloc(), &["cilkreport", "p"]);
-    assert!(&rt; matches!(&refused, Err(OptionsError::Usage)));
+    let alloc = rt.alloc();
+    assert!(&rt; is_usage(alloc, &[]));
+    assert!(&rt; is_usage(alloc, &["cilkreport", "p"]));
+    assert!(&rt; is_usage(alloc, &["cilkreport", "p", "t", "u"]));
+    assert!(&rt; is_usage(alloc, &["cilkreport", "p", "t", "--kits"]));
+    assert!(&rt; is_usage(alloc, &["cilkreport", "p", "t", "--kits=1", "--kits=1"]));
+    assert!(&rt; is_usage(alloc, &["cilkreport", "p", "t", "--threads", "2"]));
+    assert!(&rt; is_usage(alloc, &["cilkreport", "p", "t", "--help"]));
 }
 
 #[test]
