@@ -2,45 +2,12 @@
 # Refuses each allocation of the built program in turn, over one script and over a program and tables of each refusal. Each run must give
 # the right answer or end with status 3, `out of memory` and a beginning of the right answer. The first argument is the program's file.
 set -eu
-program=$(realpath "${1:-$(dirname "$0")/../../crates/cilkreport/out/cilkreport}")
+here=$(cd "$(dirname "$0")" && pwd)
+program=$(realpath "${1:-$here/../../crates/cilkreport/out/cilkreport}")
 folder=$(mktemp -d)
 trap 'rm -rf "$folder"' EXIT
 cd "$folder"
-cat > refuse.c <<'C'
-#define _GNU_SOURCE
-#include <dlfcn.h>
-#include <errno.h>
-#include <stdio.h>
-#include <stdlib.h>
-static long count, refused = -1;
-static int refuses(void) {
-  if (refused < 0) { const char *text = getenv("REFUSED"); refused = text ? atol(text) : 0; }
-  return ++count == refused;
-}
-void *malloc(size_t size) {
-  static void *(*real)(size_t);
-  if (!real) real = dlsym(RTLD_NEXT, "malloc");
-  if (refuses()) { errno = ENOMEM; return 0; }
-  return real(size);
-}
-void *realloc(void *old, size_t size) {
-  static void *(*real)(void *, size_t);
-  if (!real) real = dlsym(RTLD_NEXT, "realloc");
-  if (refuses()) { errno = ENOMEM; return 0; }
-  return real(old, size);
-}
-int posix_memalign(void **out, size_t align, size_t size) {
-  static int (*real)(void **, size_t, size_t);
-  if (!real) real = dlsym(RTLD_NEXT, "posix_memalign");
-  return refuses() ? ENOMEM : real(out, align, size);
-}
-__attribute__((destructor)) static void tell(void) {
-  const char *name = getenv("COUNTED");
-  FILE *file = name ? fopen(name, "w") : 0;
-  if (file) { fprintf(file, "%ld\n", count); fclose(file); }
-}
-C
-cc -shared -fPIC -O1 -o refuse.so refuse.c -ldl
+cc -shared -fPIC -O1 -o refuse.so "$here/refuse.c" -ldl
 printf 'run\n# again\nrun\nhello\nrun\n' > script
 printf 'reducer total : add;\nproc leaf(v) { update total v; return v; }\nproc main() { x = spawn leaf(1); y = spawn leaf(2); update total 9; sync; return x + y; }\n' > good
 printf 'proc f(n) { x = call f(n + 1); return x; }\nproc main() { x = call f(1); return x; }\n' > deep
