@@ -1,9 +1,9 @@
 -- The first of violations is one of them, and none of them comes before it.
-use Rattle.std.proofs.Common.{◌≡◌, ℕ, ◌<◌, ◌≤◌, Bool, true, false, cond, ◌==◌, ◌&&◌, ◌||◌, nat_lt, rules, List, [], ◌∷◌, Option, Some, None, ◌⊎◌, inl, inr, refl, ap, sym, ◌∙◌, arith}
-use Rattle.std.proofs.lemmas.Bool.{eqb-true, eqb-false, ltb-true, ltb-false, le-ltb}
+use Rattle.std.proofs.Common.{◌≡◌, ℕ, ◌≤◌, Bool, true, false, cond, ◌==◌, ◌&&◌, ◌||◌, nat_lt, rules, List, [], ◌∷◌, Some, ◌⊎◌, inl, inr, refl, arith}
+use Rattle.std.proofs.lemmas.Bool.{eqb-true, ltb-true, ltb-false, le-ltb}
 use Rattle.linked_program.specs.declared.violation.Violation.{Violation}
 use Rattle.linked_program.specs.Violations.{number_of, comes_before, earlier, noted, first_of}
-use Rattle.linked_program.specs.First.{IsIn, IsFirst, IsFirstOf}
+use Rattle.linked_program.specs.First.{IsFirst, IsFirstOf}
 
 -- one pair of numbers isn't before another
 record IsNotBefore (a b : ℕ) (rest : Bool) : Type 0 where

@@ -2,3 +2,5 @@ pub mod Least
 pub mod Tried
 pub mod Numbers
 pub mod Pushes
+pub mod Named
+pub mod Quiet

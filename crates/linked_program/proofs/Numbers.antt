@@ -1,8 +1,8 @@
 -- The number of a name is that of what it means.
-use Rattle.std.proofs.Common.{◌≡◌, ℕ, zero, suc, ◌+◌, Bool, true, false, cond, ◌||◌, List, [], ◌∷◌, Option, Some, None, slice_get, refl, ap, ◌∙◌, sym, add-one, add-zero, add-suc, zero-add, arith, rules}
+use Rattle.std.proofs.Common.{◌≡◌, ℕ, suc, ◌+◌, Bool, true, false, cond, ◌||◌, List, [], ◌∷◌, Some, slice_get, refl, ap, add-one, add-zero, zero-add, arith, rules}
 use Rattle.std.specs.Str.{bytes_eq}
 use Rattle.std.proofs.lemmas.Slice.Eq.{bytes_eq-Decides}
-use Rattle.program_tree.specs.Plain.{Name, Proc, Red, procedure, reducer, Tree}
+use Rattle.program_tree.specs.Plain.{Name, Red, procedure, reducer, Tree}
 use Rattle.meaning.specs.Statements.{reducers, procedure_of, numbered}
 use Rattle.meaning.specs.Tables.{place_of}
 use Rattle.linked_program.specs.TableNames.{Columned, table_of, has_name}

@@ -1,7 +1,6 @@
 -- Code made element by element.
-use Rattle.std.proofs.Common.{◌≡◌, ℕ, zero, suc, ◌+◌, ◌<◌, List, [], ◌∷◌, ◌++◌, Option, Some, None, take, length, slice_get, map, get_or, refl, ap, ap₂, sym, ◌∙◌}
+use Rattle.std.proofs.Common.{◌≡◌, ℕ, zero, suc, ◌+◌, ◌<◌, List, [], ◌∷◌, ◌++◌, take, length, slice_get, map, get_or, refl, ap, sym, ◌∙◌}
 use Rattle.std.proofs.lemmas.List.{take_more}
-use Rattle.program_tree.specs.declared.Action.{Action}
 use Rattle.program_tree.specs.declared.Statement.{Statement}
 use Rattle.program_tree.specs.declared.Block.{Block}
 use Rattle.program_tree.specs.declared.Declaration.{Declaration}
@@ -15,7 +14,7 @@ use Rattle.linked_program.specs.declared.code.Operation.TheVariants as o
 use Rattle.linked_program.specs.declared.code.Instruction.{Instruction}
 use Rattle.linked_program.specs.declared.code.CodeBlock.{CodeBlock}
 use Rattle.linked_program.specs.declared.code.Code.{Code}
-use Rattle.linked_program.specs.Linked.{Act, Acts, ends, steps, linked_deed, linked_body}
+use Rattle.linked_program.specs.Linked.{Acts, ends, steps, linked_deed, linked_body}
 use Rattle.linked_program.specs.CodeView.{act, acts, acts_of, code_block, AreBlocksOf, IsCodeOf, AreCodesOf}
 
 pub take_one_more : {A : Type 0} → (xs : List A) (i : ℕ) (x : A) → i < length xs → x ≡ get_or xs i x → take (i + 1) xs ≡ take i xs ++ x ∷ []

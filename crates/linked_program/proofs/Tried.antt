@@ -1,5 +1,5 @@
 -- A table's operation is a monoid exactly where trying every element says so.
-use Rattle.std.proofs.Common.{◌≡◌, ℕ, zero, suc, ◌<◌, Bool, true, false, ◌==◌, ◌&&◌, refl, ap, sym, ◌∙◌, rules, arith}
+use Rattle.std.proofs.Common.{◌≡◌, ℕ, zero, suc, ◌<◌, Bool, true, false, ◌==◌, ◌&&◌, refl, sym, rules, arith}
 use Rattle.std.proofs.lemmas.Bool.{eqb-true, eqb-false, false_from_ne_true}
 use Rattle.monoid_laws.specs.declared.Table.{Table}
 use Rattle.monoid_laws.specs.declared.table_check.TableAnswer.{TableAnswer}

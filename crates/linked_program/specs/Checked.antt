@@ -1,7 +1,11 @@
 -- A checked program as a plain value.
-use Rattle.std.specs.Prelude.{◌≡◌, ℕ, suc, ◌<◌, List, [], ◌∷◌, length, All}
+use Rattle.std.specs.Prelude.{◌≡◌, ℕ, ◌<◌, cond, List, [], ◌∷◌, Option, Some, None, map, All, string_bytes}
+use Rattle.std.specs.Global.{Global}
+use Rattle.std.specs.Str.{bytes_eq}
+use Rattle.std.specs.declared.string.String.{String}
+use Rattle.indexmap.specs.IndexMap.{IndexMap}
 use Rattle.monoid_laws.specs.declared.Kind.{Kind}
-use Rattle.program_tree.specs.Plain.{Name, Proc}
+use Rattle.program_tree.specs.Plain.{Name}
 use Rattle.program_tree.specs.declared.Program.{Program}
 use Rattle.program_tree.specs.View.{tree}
 use Rattle.meaning.specs.Records.{Revised}
@@ -13,39 +17,48 @@ use Rattle.linked_program.specs.declared.code.Code.{Code}
 use Rattle.linked_program.specs.CodeView.{AreCodesOf}
 
 -- the program, the names of its tables, its procedures' codes in their order, its reducers' kinds in theirs, the number of `main`,
--- its procedures' revision numbers, and the least number that was never used
+-- its procedures' names in their order, each with its revision number, and the least number that was never used
 pub record PlainChecked : Type 0 where
   pub program : Program
   pub tables : List Columned
   pub codes : List Code
   pub kinds : List Kind
   pub main : ℕ
-  pub revisions : List ℕ
+  pub revisions : List (Name × ℕ)
   pub counter : ℕ
 
--- the procedures' names, each with its number
-abbrev pub named : List Proc → List ℕ → List (Name × ℕ)
-named (p ∷ ps) (n ∷ ns) = (p.called, n) ∷ named ps ns
-named _ _ = []
+-- ---- numbers of names
+
+abbrev pub numbered_name : String Global × ℕ → Name × ℕ
+numbered_name e = (string_bytes e.0, e.1)
+
+-- the names that a map has, each with its number, in the map's order
+abbrev pub numbers_in : {S : Type 0} → IndexMap (String Global) ℕ S → List (Name × ℕ)
+numbers_in m = map numbered_name m.entries
+
+abbrev pub names_in : List (Name × ℕ) → List Name
+names_in numbers = map (λ e. e.0) numbers
+
+-- the number of a name
+abbrev pub number_in : List (Name × ℕ) → Name → Option ℕ
+number_in [] f = None
+number_in (e ∷ rest) f = cond (bytes_eq f e.0) (Some e.1) (number_in rest f)
+
+-- ---- checked programs
 
 -- the program with its revision numbers
 abbrev pub revised_of : PlainChecked → Revised
-revised_of c = record { tree = tree c.program; revisions = named (procedures (tree c.program)) c.revisions; counter = c.counter }
+revised_of c = record { tree = tree c.program; revisions = c.revisions; counter = c.counter }
 
--- no rule is broken, the codes, kinds and number of `main` are those of the tree, each procedure has a revision number,
+-- no rule is broken, the codes, kinds and number of `main` are those of the tree, the procedures in their order have revision numbers,
 -- and all of them lie below the counter
 pub record IsChecked (c : PlainChecked) : Type 0 where
   pub clean : IsClean c.tables c.program
   pub linked : AreCodesOf c.tables (tree c.program) c.codes (procedures (tree c.program))
   pub kinds_are : c.kinds ≡ kinds_of (tree c.program)
   pub main_is : c.main ≡ main_number (tree c.program)
-  pub each : length c.revisions ≡ length (procedures (tree c.program))
-  pub below : All (λ n. n < c.counter) c.revisions
-
--- so many numbers from n on
-abbrev pub counted : ℕ → List Proc → List ℕ
-counted n [] = []
-counted n (p ∷ ps) = n ∷ counted (suc n) ps
+  pub each : names_in c.revisions ≡ map (λ p. p.called) (procedures (tree c.program))
+  pub below : All (λ e. e.1 < c.counter) c.revisions
 
 -- a program that nothing stands for yet
 abbrev pub nothing : Revised

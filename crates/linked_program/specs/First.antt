@@ -1,5 +1,5 @@
 -- What it is to be the first of violations.
-use Rattle.std.specs.Prelude.{◌≡◌, Bool, true, false, List, [], ◌∷◌, Option, Some, None, ◌⊎◌}
+use Rattle.std.specs.Prelude.{◌≡◌, false, List, [], ◌∷◌, Option, Some, None, ◌⊎◌}
 use Rattle.linked_program.specs.declared.violation.Violation.{Violation}
 use Rattle.linked_program.specs.Violations.{comes_before, first_of}
 

@@ -1,20 +1,24 @@
 //! The type of a checked program.
-ghost use Rattle.std.specs.Prelude.{◌≡◌, ◌+◌, ◌<◌, ◌^◌, [], length, map, All, option_copied, OnSome};
+ghost use Rattle.std.specs.Prelude.{◌≡◌, ◌+◌, ◌<◌, ◌^◌, [], map, All, option_copied, is_some, IfSome, OnSome};
+ghost use Rattle.meaning.specs.Edits.{revision_of};
+ghost use Rattle.meaning.specs.Statements.{procedure_of};
+ghost use Rattle.meaning.specs.Tables.{is_there};
 ghost use Rattle.program_tree.specs.View.{tree, lines};
 ghost use Rattle.linked_program.specs.TableNames.{columned};
 ghost use Rattle.linked_program.specs.Declarations.{violations};
 ghost use Rattle.linked_program.specs.Procedures.{procedures};
-ghost use Rattle.linked_program.specs.Linked.{kinds_of, main_number};
+ghost use Rattle.linked_program.specs.Linked.{kinds_of, main_number, procedure_number};
 ghost use Rattle.linked_program.specs.CodeView.{AreCodesOf, slots_of, instruction_at};
-ghost use Rattle.linked_program.specs.Checked.{IsChecked};
+ghost use Rattle.linked_program.specs.Checked.{IsChecked, numbers_in, names_in, number_in};
 
 use crate::code::{Code, Instruction};
 use crate::tables::TableNames;
+use indexmap::IndexMap;
 use monoid_laws::Kind;
 use program_tree::Program;
 use std::marker::Model;
 
-/// A program in which no rule is broken, the names of the tables that it was checked against, its code, and its procedures' revision numbers.
+/// A program in which no rule is broken, the names of the tables that it was checked against, its code, and its procedures in their order, each name with its revision number.
 #[derive(Drop)]
 pub struct Checked {
     program: Program,
@@ -22,7 +26,7 @@ pub struct Checked {
     codes: Vec<Code>,
     kinds: Vec<Kind>,
     main: usize,
-    revisions: Vec<u64>,
+    revisions: IndexMap<String, u64>,
     counter: u64,
 }
 
@@ -39,26 +43,26 @@ impl Model for Checked {
 
     ghost use Rattle.std.specs.Prelude.{map};
     ghost use Rattle.linked_program.specs.TableNames.{columned};
-    ghost use Rattle.linked_program.specs.Checked.{IsChecked};
+    ghost use Rattle.linked_program.specs.Checked.{IsChecked, numbers_in};
 
-    ghost view = { λ c. record { program = c.program; tables = map columned c.tables.items; codes = c.codes.items; kinds = c.kinds.items; main = c.main; revisions = c.revisions.items; counter = c.counter } };
+    ghost view = { λ c. record { program = c.program; tables = map columned c.tables.items; codes = c.codes.items; kinds = c.kinds.items; main = c.main; revisions = numbers_in c.revisions; counter = c.counter } };
 
-    ghost invariant = { λ c. IsChecked (record { program = c.program; tables = map columned c.tables.items; codes = c.codes.items; kinds = c.kinds.items; main = c.main; revisions = c.revisions.items; counter = c.counter }) };
+    ghost invariant = { λ c. IsChecked (record { program = c.program; tables = map columned c.tables.items; codes = c.codes.items; kinds = c.kinds.items; main = c.main; revisions = numbers_in c.revisions; counter = c.counter }) };
 }
 
 impl Checked {
-    /// The program with these tables' names, its code, its reducers' kinds, the number of `main`, its procedures' revision numbers and the least number that was never used.
+    /// The program with these tables' names, its code, its reducers' kinds, the number of `main`, its procedures' names with their revision numbers and the least number that was never used.
     pub fn new(
         program: Program,
         tables: Vec<TableNames>,
         codes: Vec<Code>,
         kinds: Vec<Kind>,
         main: usize,
-        revisions: Vec<u64>,
+        revisions: IndexMap<String, u64>,
         counter: u64,
     ) -> Checked
-        requires checked { IsChecked (record { program = program; tables = map columned tables.items; codes = codes.items; kinds = kinds.items; main = main; revisions = revisions.items; counter = counter }) }
-        ensures checked { result ≡ record { program = program; tables = map columned tables.items; codes = codes.items; kinds = kinds.items; main = main; revisions = revisions.items; counter = counter } }
+        requires checked { IsChecked (record { program = program; tables = map columned tables.items; codes = codes.items; kinds = kinds.items; main = main; revisions = numbers_in revisions; counter = counter }) }
+        ensures checked { result ≡ record { program = program; tables = map columned tables.items; codes = codes.items; kinds = kinds.items; main = main; revisions = numbers_in revisions; counter = counter } }
     {
         Checked {
             program,
@@ -130,11 +134,20 @@ impl Checked {
         self.main
     }
 
-    /// Lends the procedures' revision numbers, in the order of the program.
-    pub fn revisions(&self) -> &[u64]
-        ensures revisions { result.now ≡ self.now.revisions }
+    /// The number of the procedure of a name among the procedures; none where there is no such procedure.
+    pub fn procedure(&self, name: &str) -> Option<usize>
+        ensures number { IfSome result (λ n. n ≡ procedure_number (procedures (tree self.now.program)) name.now) }
+        ensures known { is_some result ≡ is_there (procedure_of (tree self.now.program) name.now) }
     {
-        &self.revisions
+        self.revisions.get_index_of(name)
+    }
+
+    /// The revision number of the procedure of a name; none where there is no such procedure.
+    pub fn revision(&self, name: &str) -> Option<u64>
+        ensures number { result ≡ number_in self.now.revisions name.now }
+        ensures revision { IfSome result (λ n. n ≡ revision_of self.now.revisions name.now) }
+    {
+        self.revisions.get(name).copied()
     }
 
     /// The least revision number that was never used.
@@ -160,10 +173,10 @@ impl Checked {
         let _ = &self.program;
     }
 
-    /// What the type keeps: each procedure has a revision number, below the counter.
+    /// What the type keeps: the procedures, in the program's order, have revision numbers, all below the counter.
     pub fn revised(&self)
-        ensures each { length self.now.revisions ≡ length (procedures (tree self.now.program)) }
-        ensures below { All (λ n. n < self.now.counter) self.now.revisions }
+        ensures each { names_in self.now.revisions ≡ map (λ p. p.called) (procedures (tree self.now.program)) }
+        ensures below { All (λ e. e.1 < self.now.counter) self.now.revisions }
     {
         let _ = &self.program;
     }

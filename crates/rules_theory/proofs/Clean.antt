@@ -14,23 +14,8 @@ use Rattle.linked_program.specs.TableNames.{Columned}
 use Rattle.linked_program.specs.Scope.{Scope, moment, after_deed}
 use Rattle.linked_program.specs.Rules.{Setting, deed_rules}
 use Rattle.linked_program.specs.Bodies.{line_of, body_violations, inner_violations}
+use Rattle.linked_program.proofs.Quiet.{nil_left, nil_right, no_rules}
 use Rattle.linked_program.specs.Declarations.{procedure_rules, reducer_rules, proc_violations, decls_violations}
-
-pub nil_left : {A : Type 0} (xs ys : List A) → xs ++ ys ≡ [] → xs ≡ []
-nil_left [] ys e = refl
-nil_left (x ∷ xs) ys e = cc
-
-pub nil_right : {A : Type 0} (xs ys : List A) → xs ++ ys ≡ [] → ys ≡ []
-nil_right [] ys e = e
-nil_right (x ∷ xs) ys e = cc
-
-pub no_rules : (declaration line : ℕ) (rules : List Rule) → at declaration line rules ≡ [] → rules ≡ []
-no_rules declaration line [] e = refl
-no_rules declaration line (r ∷ rules) e = cc
-
-pub no_when : (b : Bool) (rule : Rule) → when b rule ≡ [] → b ≡ false
-no_when true rule e = cc
-no_when false rule e = refl
 
 pub same_bytes : (x y : Name) → bytes_eq x y ≡ true → x ≡ y
 same_bytes x y e = (bytes_eq-Decides x y).0 e

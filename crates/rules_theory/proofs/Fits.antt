@@ -1,5 +1,5 @@
 -- The numbers of a tree fit where those of its parts do.
-use Rattle.std.proofs.Common.{◌≡◌, ℕ, zero, suc, ◌<◌, ◌≤◌, Bool, true, false, cond, List, [], ◌∷◌, Option, Some, None, map, drop, length, slice_get, refl, sym, subst, arith}
+use Rattle.std.proofs.Common.{ℕ, zero, suc, ◌≤◌, true, false, cond, List, [], ◌∷◌, Some, map, drop, length, slice_get, arith}
 use Rattle.std.specs.Str.{bytes_eq}
 use Rattle.program_tree.specs.declared.Block.{Block}
 use Rattle.program_tree.specs.declared.Declaration.{Declaration}

@@ -24,7 +24,7 @@ use Rattle.linked_program.specs.Declarations.{IsClean, reducer_rules, procedure_
 use Rattle.linked_program.proofs.Tried.{monoid_from_true}
 use Rattle.trail_theory.specs.Order.{Every}
 use Rattle.trail_theory.specs.Typed.{HasMonoids}
-use Rattle.rules_theory.proofs.Clean.{nil_left, nil_right, no_rules, no_when}
+use Rattle.linked_program.proofs.Quiet.{nil_left, nil_right, no_rules, no_when}
 
 not_false : (b : Bool) → not b ≡ false → b ≡ true
 not_false true e = refl

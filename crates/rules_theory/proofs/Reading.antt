@@ -21,7 +21,8 @@ use Rattle.linked_program.specs.Bodies.{body_violations, inner_violations}
 use Rattle.linked_program.specs.Declarations.{IsClean, repeats, main_rules, setting_of, missing_main, decls_violations}
 use Rattle.trail_theory.specs.Waiting.{NoReadsDeed, NoReads}
 use Rattle.trail_theory.specs.ReadsAtEnd.{IsOther, EntersOnlyDeed, EntersOnly, IsPlainDeed, IsPlain, IsEnding, spawns_nothing_deed, spawns_nothing, ReadsAtEnd, ReadsAtMainsEnd}
-use Rattle.rules_theory.proofs.Clean.{nil_left, nil_right, no_when, same_bytes, other_bytes, first_deed, inside_deed, later_deeds, IsNamed, clean_procedure}
+use Rattle.linked_program.proofs.Quiet.{nil_left, nil_right, no_when}
+use Rattle.rules_theory.proofs.Clean.{same_bytes, other_bytes, first_deed, inside_deed, later_deeds, IsNamed, clean_procedure}
 
 -- ---- nothing enters main
 

@@ -16,7 +16,8 @@ use Rattle.linked_program.specs.Bodies.{body_violations, inner_violations}
 use Rattle.linked_program.specs.Declarations.{IsClean, setting_of, missing_main, decls_violations}
 use Rattle.trail_theory.specs.Order.{In}
 use Rattle.trail_theory.specs.Waiting.{IsFree, AreFree, waiting_deed, waiting_body, IsOrderlyDeed, IsOrderly, IsChecked}
-use Rattle.rules_theory.proofs.Clean.{nil_left, nil_right, no_when, first_deed, inside_deed, later_deeds, clean_procedure}
+use Rattle.linked_program.proofs.Quiet.{nil_left, nil_right, no_when}
+use Rattle.rules_theory.proofs.Clean.{first_deed, inside_deed, later_deeds, clean_procedure}
 use Rattle.rules_theory.proofs.Moments.{precedes_depth, not_before_itself, before_inside, before_next, now_before_next}
 use Rattle.rules_theory.proofs.Known.{look, told_at, told_there, either, Moves, moves_on, looped_moves, closed_moves, Shallow, deeper_too, shallow_deed, shallow_block}
 use Rattle.rules_theory.proofs.Reading.{by_name, own_of}

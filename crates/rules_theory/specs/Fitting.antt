@@ -1,11 +1,10 @@
 -- The parts of a Rust tree whose numbers fit 64 bits.
-use Rattle.std.specs.Prelude.{ℕ, List, [], ◌∷◌}
+use Rattle.std.specs.Prelude.{ℕ}
 use Rattle.program_tree.specs.declared.Block.{Block}
 use Rattle.program_tree.specs.declared.Declaration.{Declaration}
 use Rattle.program_tree.specs.declared.Declaration.TheVariants as d
 use Rattle.program_tree.specs.Plain.{Body}
 use Rattle.program_tree.specs.View.{statements, proc}
-use Rattle.trail_theory.specs.Order.{Every}
 use Rattle.trail_theory.specs.Typed.{FitsBody}
 
 -- whatever blocks stand inside, where their numbers fit

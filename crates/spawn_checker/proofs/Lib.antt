@@ -5,4 +5,6 @@ pub mod Steps
 pub mod Blocks
 pub mod Counting
 pub mod NewNumbers
+pub mod NewNames
+pub mod NewRevisions
 pub mod FilledLines

@@ -1,7 +1,6 @@
 -- Revision numbers of a program in the place of another.
-use Rattle.std.proofs.Common.{◌≡◌, ℕ, suc, ◌<◌, ◌≤◌, Bool, true, false, cond, List, [], ◌∷◌, Option, Some, None, length, slice_get, All, refl, ap, sym, ◌∙◌, arith, nat_lt, lt-ltb}
+use Rattle.std.proofs.Common.{◌≡◌, ℕ, suc, ◌<◌, ◌≤◌, Bool, true, false, cond, List, [], ◌∷◌, Option, Some, None, map, All, refl, ap, sym, subst, ◌∙◌, arith, nat_lt, lt-ltb}
 use Rattle.std.proofs.lemmas.List.Elements.{All-nil, All-cons, All-head, All-tail}
-use Rattle.std.specs.Option.{unwrap_or}
 use Rattle.std.specs.Str.{bytes_eq}
 use Rattle.program_tree.specs.Plain.{Name, Proc, reducer, procedure, Tree}
 use Rattle.program_tree.specs.View.{Lined}
@@ -9,121 +8,135 @@ use Rattle.meaning.specs.Records.{Revised}
 use Rattle.meaning.specs.Statements.{procedure_of}
 use Rattle.meaning.specs.Edits.{is_same, same_proc, revision_of, revised, most}
 use Rattle.linked_program.specs.Procedures.{procedures}
-use Rattle.linked_program.specs.Linked.{procedure_number}
-use Rattle.linked_program.specs.Checked.{named}
+use Rattle.linked_program.specs.Checked.{names_in, number_in}
 use Rattle.linked_program.specs.TableNames.{Columned}
+use Rattle.linked_program.proofs.Named.{bytes_turned, revision_found}
 use Rattle.spawn_checker.specs.declared.violation.CheckError.{CheckError}
 use Rattle.spawn_checker.specs.declared.violation.CheckError.TheVariants.{NoMemory, Check, Exhausted}
 use Rattle.spawn_checker.specs.Refused.{IsRefused}
-use Rattle.spawn_checker.specs.Renumbered.{IsRefusedAnew, kept, number_for, next_after, renumbered, counter_after}
+use Rattle.spawn_checker.specs.Renumbered.{IsRefusedAnew, kept, behind}
+
+abbrev pub Numbered : Type 0
+Numbered = List (Name × ℕ) × ℕ
 
 -- ---- a number by its name
 
-pub number_of_name : (ps : List Proc) (ns : List ℕ) (f : Name) → length ns ≡ length ps → revision_of (named ps ns) f ≡ unwrap_or (slice_get ns (procedure_number ps f)) 0
-number_of_name [] [] f e = refl
-number_of_name [] (n ∷ ns) f e = cc
-number_of_name (p ∷ ps) [] f e = refl
-number_of_name (p ∷ ps) (n ∷ ns) f e =
-    let more : length ns ≡ length ps = omega (arith, e) in
-    elim (bytes_eq p.called f) as (λ b. cond b n (revision_of (named ps ns) f) ≡ unwrap_or (slice_get (n ∷ ns) (cond b 0 (suc (procedure_number ps f)))) 0) [
-      | true ↦ refl
-      | false ↦ number_of_name ps ns f more
-    ]
+-- a procedure that there is has a number
+number_there : (t : Tree) (ns : List (Name × ℕ)) (f : Name) (q : Proc) → names_in ns ≡ map (λ p. p.called) (procedures t) → procedure_of t f ≡ Some q → (n : ℕ) × (number_in ns f ≡ Some n)
+number_there [] ns f q e there = absurd cc
+number_there (reducer r ∷ rest) ns f q e there = number_there rest ns f q e there
+number_there (procedure p ∷ rest) [] f q e there = absurd cc
+number_there (procedure p ∷ rest) ((g, k) ∷ ns) f q e there =
+    let here : g ≡ p.called = (cc) in
+    let more : names_in ns ≡ map (λ p. p.called) (procedures rest) = (cc) in
+    let turned : bytes_eq f g ≡ bytes_eq p.called f = ap (bytes_eq f) here ∙ bytes_turned f p.called in
+    rw turned (elim (bytes_eq p.called f) as (λ b. cond b (Some p) (procedure_of rest f) ≡ Some q → (n : ℕ) × (cond b (Some k) (number_in ns f) ≡ Some n)) [
+      | true ↦ λ h. (k, refl)
+      | false ↦ λ h. number_there rest ns f q more h
+    ] there)
+
+-- what the code finds
+pub kept_is : (old : Revised) (p q : Proc) (o : Option ℕ) → names_in old.revisions ≡ map (λ p. p.called) (procedures old.tree) → Some q ≡ procedure_of old.tree p.called → true ≡ same_proc q p → o ≡ number_in old.revisions p.called → o ≡ kept old p
+kept_is old p q o each found same number =
+    let n = number_there old.tree old.revisions p.called q each (sym found) in
+    rw (← found, ← same) (number ∙ n.1 ∙ ap Some (revision_found old.revisions p.called n.0 n.1))
 
 -- ---- the numbers of the definitions
 
-abbrev with_number : Name → ℕ → List (Name × ℕ) × ℕ → List (Name × ℕ) × ℕ
+abbrev with_number : Name → ℕ → Numbered → Numbered
 with_number f n m = ((f, n) ∷ m.0, m.1)
 
-abbrev pub paired : Revised → Tree → ℕ → List (Name × ℕ) × ℕ
-paired old t next = (named (procedures t) (renumbered old (procedures t) next), counter_after old (procedures t) next)
+numbers_kept : (old : Revised) (p : Proc) (rest : Tree) (next k : ℕ) (b : Bool) → cond b (Some (revision_of old.revisions p.called)) None ≡ Some k
+    → cond b (with_number p.called (revision_of old.revisions p.called) (revised old rest next)) (with_number p.called next (revised old rest (suc next))) ≡ with_number p.called k (revised old rest next)
+numbers_kept old p rest next k true e = let same : revision_of old.revisions p.called ≡ k = (cc) in ap (λ (n : ℕ). with_number p.called n (revised old rest next)) same
+numbers_kept old p rest next k false e = absurd cc
 
-paired_more : (old : Revised) (rest : Tree) (p : Proc) (next : ℕ) (b : Bool) → ((n : ℕ) → revised old rest n ≡ paired old rest n)
-    → cond b (with_number p.called (revision_of old.revisions p.called) (revised old rest next)) (with_number p.called next (revised old rest (suc next)))
-    ≡ with_number p.called (number_for (cond b (Some (revision_of old.revisions p.called)) None) next) (paired old rest (next_after (cond b (Some (revision_of old.revisions p.called)) None) next))
-paired_more old rest p next true h = ap (with_number p.called (revision_of old.revisions p.called)) (h next)
-paired_more old rest p next false h = ap (with_number p.called next) (h (suc next))
+numbers_new : (old : Revised) (p : Proc) (rest : Tree) (next : ℕ) (b : Bool) → cond b (Some (revision_of old.revisions p.called)) None ≡ None
+    → cond b (with_number p.called (revision_of old.revisions p.called) (revised old rest next)) (with_number p.called next (revised old rest (suc next))) ≡ with_number p.called next (revised old rest (suc next))
+numbers_new old p rest next true e = absurd cc
+numbers_new old p rest next false e = refl
 
-pub revised_is : (old : Revised) (t : Tree) (next : ℕ) → revised old t next ≡ paired old t next
-revised_is old [] next = refl
-revised_is old (reducer r ∷ rest) next = revised_is old rest next
-revised_is old (procedure p ∷ rest) next = paired_more old rest p next (is_same (procedure_of old.tree p.called) p) (revised_is old rest)
+-- a procedure that keeps its number, and one that gets a new one
+pub revised_kept : (old : Revised) (p : Proc) (rest : Tree) (next k : ℕ) → kept old p ≡ Some k → revised old (procedure p ∷ rest) next ≡ with_number p.called k (revised old rest next)
+revised_kept old p rest next k e = numbers_kept old p rest next k (is_same (procedure_of old.tree p.called) p) e
+
+pub revised_new : (old : Revised) (p : Proc) (rest : Tree) (next : ℕ) → kept old p ≡ None → revised old (procedure p ∷ rest) next ≡ with_number p.called next (revised old rest (suc next))
+revised_new old p rest next e = numbers_new old p rest next (is_same (procedure_of old.tree p.called) p) e
+
+pub revised_names : (old : Revised) (t : Tree) (next : ℕ) → names_in (revised old t next).0 ≡ map (λ p. p.called) (procedures t)
+revised_names old [] next = refl
+revised_names old (reducer r ∷ rest) next = revised_names old rest next
+revised_names old (procedure p ∷ rest) next =
+    elim (is_same (procedure_of old.tree p.called) p) as (λ b. names_in (cond b (with_number p.called (revision_of old.revisions p.called) (revised old rest next)) (with_number p.called next (revised old rest (suc next)))).0 ≡ map (λ p. p.called) (procedures (procedure p ∷ rest))) [
+      | true ↦ ap (λ (xs : List Name). p.called ∷ xs) (revised_names old rest next)
+      | false ↦ ap (λ (xs : List Name). p.called ∷ xs) (revised_names old rest (suc next))
+    ]
 
 -- ---- below the counter
 
-next_grows : (k : Option ℕ) (n : ℕ) → n ≤ next_after k n
-next_grows (Some x) n = omega arith
-next_grows None n = omega arith
+counter_grows : (old : Revised) (t : Tree) (next : ℕ) → next ≤ (revised old t next).1
+counter_grows old [] next = omega arith
+counter_grows old (reducer r ∷ rest) next = counter_grows old rest next
+counter_grows old (procedure p ∷ rest) next =
+    elim (is_same (procedure_of old.tree p.called) p) as (λ b. next ≤ (cond b (with_number p.called (revision_of old.revisions p.called) (revised old rest next)) (with_number p.called next (revised old rest (suc next)))).1) [
+      | true ↦ counter_grows old rest next
+      | false ↦ let more = counter_grows old rest (suc next) in omega (arith, more)
+    ]
 
-pub counter_grows : (old : Revised) (ps : List Proc) (n : ℕ) → n ≤ counter_after old ps n
-counter_grows old [] n = omega arith
-counter_grows old (p ∷ ps) n =
-    let here = next_grows (kept old p) n in
-    let more = counter_grows old ps (next_after (kept old p) n) in
-    omega (arith, here, more)
+number_below : (ns : List (Name × ℕ)) (m : ℕ) (f : Name) (n : ℕ) → All (λ e. e.1 < m) ns → number_in ns f ≡ Some n → n < m
+number_below [] m f n h e = absurd cc
+number_below ((g, k) ∷ ns) m f n h e =
+    elim (bytes_eq f g) as (λ b. cond b (Some k) (number_in ns f) ≡ Some n → n < m) [
+      | true ↦ λ i. let same : k ≡ n = (cc) in let here = All-head (λ (e : Name × ℕ). e.1 < m) (g, k) ns h in omega (arith, here, same)
+      | false ↦ λ i. number_below ns m f n (All-tail (λ (e : Name × ℕ). e.1 < m) (g, k) ns h) i
+    ] e
 
--- the number of a procedure that there is
-found_at : (b : Bool) (p q : Proc) (o : Option Proc) (n k m : ℕ) → n < m → (o ≡ Some q → k < m) → cond b (Some p) o ≡ Some q → cond b n k < m
-found_at true p q o n k m here later is = here
-found_at false p q o n k m here later is = later is
+same_there : (o : Option Proc) (p : Proc) → is_same o p ≡ true → (q : Proc) × (o ≡ Some q)
+same_there None p e = absurd cc
+same_there (Some q) p e = (q, refl)
 
-found_below : (t : Tree) (ns : List ℕ) (m : ℕ) (f : Name) (q : Proc) → length ns ≡ length (procedures t) → All (λ n. n < m) ns → procedure_of t f ≡ Some q → revision_of (named (procedures t) ns) f < m
-found_below [] ns m f q e h there = cc
-found_below (reducer r ∷ rest) ns m f q e h there = found_below rest ns m f q e h there
-found_below (procedure p ∷ rest) [] m f q e h there = cc
-found_below (procedure p ∷ rest) (n ∷ ns) m f q e h there =
-    let more : length ns ≡ length (procedures rest) = omega (arith, e) in
-    found_at (bytes_eq p.called f) p q (procedure_of rest f) n (revision_of (named (procedures rest) ns) f) m (All-head (λ k. k < m) n ns h)
-    (λ is. found_below rest ns m f q more (All-tail (λ k. k < m) n ns h) is) there
+abbrev AreBelow : Numbered → Type 0
+AreBelow m = All (λ (e : Name × ℕ). e.1 < m.1) m.0
 
-kept_there : (o : Option Proc) (p : Proc) → is_same o p ≡ true → (q : Proc) × (o ≡ Some q)
-kept_there None p e = cc
-kept_there (Some q) p e = (q, refl)
+module _ (old : Revised) (each : names_in old.revisions ≡ map (λ p. p.called) (procedures old.tree)) (below : All (λ (e : Name × ℕ). e.1 < old.counter) old.revisions) where
+  kept_below : (p : Proc) → is_same (procedure_of old.tree p.called) p ≡ true → revision_of old.revisions p.called < old.counter
+  kept_below p same =
+      let q = same_there (procedure_of old.tree p.called) p same in
+      let n = number_there old.tree old.revisions p.called q.0 each q.1 in
+      let here = number_below old.revisions old.counter p.called n.0 below n.1 in
+      let k = revision_found old.revisions p.called n.0 n.1 in
+      omega (arith, here, k)
 
-number_below : (old : Revised) (p : Proc) (next bound : ℕ) → ((q : Proc) → procedure_of old.tree p.called ≡ Some q → revision_of old.revisions p.called < old.counter)
-    → old.counter ≤ next → (b : Bool) → is_same (procedure_of old.tree p.called) p ≡ b → next_after (cond b (Some (revision_of old.revisions p.called)) None) next ≤ bound
-    → number_for (cond b (Some (revision_of old.revisions p.called)) None) next < bound
-number_below old p next bound below low true same fits =
-    let q = kept_there (procedure_of old.tree p.called) p same in
-    let here = below q.0 q.1 in
-    omega (arith, here, low, fits)
-number_below old p next bound below low false same fits = omega (arith, fits)
+  one_below : (p : Proc) (rest : Tree) (next : ℕ) → old.counter ≤ next → ((n : ℕ) → old.counter ≤ n → AreBelow (revised old rest n)) → (b : Bool) → is_same (procedure_of old.tree p.called) p ≡ b
+      → AreBelow (cond b (with_number p.called (revision_of old.revisions p.called) (revised old rest next)) (with_number p.called next (revised old rest (suc next))))
+  one_below p rest next low later true same =
+      let here = kept_below p same in
+      let more = counter_grows old rest next in
+      All-cons (λ (e : Name × ℕ). e.1 < (revised old rest next).1) (p.called, revision_of old.revisions p.called) (revised old rest next).0 (omega (arith, here, more, low)) (later next low)
+  one_below p rest next low later false same =
+      let more = counter_grows old rest (suc next) in
+      All-cons (λ (e : Name × ℕ). e.1 < (revised old rest (suc next)).1) (p.called, next) (revised old rest (suc next)).0 (omega (arith, more)) (later (suc next) (omega (arith, low)))
 
-numbers_below : (old : Revised) → ((f : Name) (q : Proc) → procedure_of old.tree f ≡ Some q → revision_of old.revisions f < old.counter)
-    → (ps : List Proc) (next : ℕ) → old.counter ≤ next → All (λ n. n < counter_after old ps next) (renumbered old ps next)
-numbers_below old below [] next low = All-nil (λ n. n < next)
-numbers_below old below (p ∷ ps) next low =
-    let here = next_grows (kept old p) next in
-    let last = counter_after old ps (next_after (kept old p) next) in
-    All-cons (λ n. n < last) (number_for (kept old p) next) (renumbered old ps (next_after (kept old p) next))
-    (number_below old p next last (below p.called) low (is_same (procedure_of old.tree p.called) p) refl (counter_grows old ps (next_after (kept old p) next)))
-    (numbers_below old below ps (next_after (kept old p) next) (omega (arith, low, here)))
+  numbers_below : (t : Tree) (next : ℕ) → old.counter ≤ next → AreBelow (revised old t next)
+  numbers_below [] next low = All-nil (λ (e : Name × ℕ). e.1 < next)
+  numbers_below (reducer r ∷ rest) next low = numbers_below rest next low
+  numbers_below (procedure p ∷ rest) next low = one_below p rest next low (numbers_below rest) (is_same (procedure_of old.tree p.called) p) refl
 
-abbrev pub standing : Tree → List ℕ → ℕ → Revised
-standing t ns counter = record { tree = t; revisions = named (procedures t) ns; counter = counter }
+  pub revised_below : (t : Tree) (ns : List (Name × ℕ)) (counter : ℕ) → (ns, counter) ≡ revised old t old.counter → All (λ (e : Name × ℕ). e.1 < counter) ns
+  revised_below t ns counter e = subst AreBelow (sym e) (numbers_below t old.counter (omega arith))
 
-pub renumbered_below : (t : Tree) (ns : List ℕ) (counter : ℕ) (ps : List Proc) → length ns ≡ length (procedures t) → All (λ n. n < counter) ns
-    → All (λ n. n < counter_after (standing t ns counter) ps counter) (renumbered (standing t ns counter) ps counter)
-renumbered_below t ns counter ps each below =
-    numbers_below (standing t ns counter) (λ f q there. found_below t ns counter f q each below there) ps counter (omega arith)
-
-pub renumbered_length : (old : Revised) (ps : List Proc) (next : ℕ) → length (renumbered old ps next) ≡ length ps
-renumbered_length old [] next = refl
-renumbered_length old (p ∷ ps) next = ap suc (renumbered_length old ps (next_after (kept old p) next))
-
--- ---- what the code finds
-
-pub kept_is : (t : Tree) (ns : List ℕ) (counter : ℕ) (p q : Proc) (k n : ℕ) → length ns ≡ length (procedures t) → Some q ≡ procedure_of t p.called → k ≡ procedure_number (procedures t) p.called
-    → true ≡ same_proc q p → n ≡ unwrap_or (slice_get ns k) 0 → Some n ≡ kept (standing t ns counter) p
-kept_is t ns counter p q k n each found at same number =
-    let value : n ≡ revision_of (named (procedures t) ns) p.called = number ∙ ap (λ j. unwrap_or (slice_get ns j) 0) at ∙ sym (number_of_name (procedures t) ns p.called each) in
-    rw (← found, ← same) (ap Some value)
+-- numbers below one are below a greater one
+pub below_greater : (ns : List (Name × ℕ)) (m n : ℕ) → m ≤ n → All (λ (e : Name × ℕ). e.1 < m) ns → All (λ (e : Name × ℕ). e.1 < n) ns
+below_greater [] m n le h = All-nil (λ (e : Name × ℕ). e.1 < n)
+below_greater (x ∷ ns) m n le h =
+    let here = All-head (λ (e : Name × ℕ). e.1 < m) x ns h in
+    All-cons (λ (e : Name × ℕ). e.1 < n) x ns (omega (arith, le, here)) (below_greater ns m n le (All-tail (λ (e : Name × ℕ). e.1 < m) x ns h))
 
 -- a new procedure where the counter stands at its greatest number
-pub exhausted_at : (old : Revised) (p : Proc) (ps : List Proc) (n all : ℕ) → all ≡ counter_after old (p ∷ ps) n → kept old p ≡ None → n ≡ most → most < all
-exhausted_at old p ps n all is new full =
-    let more = counter_grows old ps (suc n) in
-    let here : all ≡ counter_after old ps (suc n) = is ∙ ap (λ k. counter_after old ps (next_after k n)) new in
+pub exhausted_at : (old : Revised) (p : Proc) (rest : Tree) (first : List (Name × ℕ)) (n all : ℕ) → all ≡ (behind first (revised old (procedure p ∷ rest) n)).1 → kept old p ≡ None → n ≡ most → most < all
+exhausted_at old p rest first n all is new full =
+    let more = counter_grows old rest (suc n) in
+    let here : all ≡ (revised old rest (suc n)).1 = is ∙ ap (λ (m : Numbered). m.1) (revised_new old p rest n new) in
     omega (arith, more, here, full)
 
 -- ---- refusals
@@ -133,5 +146,5 @@ refused_anew old tables program lines NoMemory h = tt
 refused_anew old tables program lines (Check rule name line) h = h
 refused_anew old tables program lines Exhausted h = absurd h
 
-pub too_many : (old : Revised) (t : Tree) → most < counter_after old (procedures t) old.counter → nat_lt most (revised old t old.counter).1 ≡ true
-too_many old t h = rw (revised_is old t old.counter) (lt-ltb most (counter_after old (procedures t) old.counter) h)
+pub too_many : (n : ℕ) → most < n → nat_lt most n ≡ true
+too_many n h = lt-ltb most n h

@@ -1,11 +1,11 @@
 -- The revision numbers of a program that takes the place of another.
-use Rattle.std.specs.Prelude.{◌≡◌, ℕ, suc, nat_lt, true, cond, List, [], ◌∷◌, Option, Some, None, string_bytes}
-use Rattle.program_tree.specs.Plain.{Proc, Tree}
+use Rattle.std.specs.Prelude.{◌≡◌, ℕ, nat_lt, true, false, cond, List, [], ◌∷◌, ◌++◌, Option, Some, None, string_bytes}
+use Rattle.program_tree.specs.Plain.{Name, Proc, reducer, procedure, Tree}
 use Rattle.program_tree.specs.View.{Lined}
 use Rattle.meaning.specs.Records.{Revised}
 use Rattle.meaning.specs.Statements.{procedure_of}
 use Rattle.meaning.specs.Edits.{is_same, revision_of, revised, most}
-use Rattle.linked_program.specs.TableNames.{Columned}
+use Rattle.linked_program.specs.TableNames.{Columned, has_name}
 use Rattle.linked_program.specs.Declarations.{reported, violations}
 use Rattle.linked_program.specs.Violations.{first_of}
 use Rattle.spawn_checker.specs.declared.violation.CheckError.{CheckError}
@@ -15,23 +15,15 @@ use Rattle.spawn_checker.specs.declared.violation.CheckError.TheVariants.{NoMemo
 abbrev pub kept : Revised → Proc → Option ℕ
 kept old p = cond (is_same (procedure_of old.tree p.called) p) (Some (revision_of old.revisions p.called)) None
 
-abbrev pub number_for : Option ℕ → ℕ → ℕ
-number_for (Some k) next = k
-number_for None next = next
+-- these numbers before those
+abbrev pub behind : List (Name × ℕ) → List (Name × ℕ) × ℕ → List (Name × ℕ) × ℕ
+behind first numbers = (first ++ numbers.0, numbers.1)
 
-abbrev pub next_after : Option ℕ → ℕ → ℕ
-next_after (Some k) next = next
-next_after None next = suc next
-
--- the revision numbers of procedures, where `next` is the least that was never used
-abbrev pub renumbered : Revised → List Proc → ℕ → List ℕ
-renumbered old [] next = []
-renumbered old (p ∷ ps) next = number_for (kept old p) next ∷ renumbered old ps (next_after (kept old p) next)
-
--- the least number that was never used, after these
-abbrev pub counter_after : Revised → List Proc → ℕ → ℕ
-counter_after old [] next = next
-counter_after old (p ∷ ps) next = counter_after old ps (next_after (kept old p) next)
+-- no procedure has one of these names, or that of a procedure before it
+abbrev pub AreNew : List Name → Tree → Type 0
+AreNew names [] = Unit {0}
+AreNew names (reducer r ∷ rest) = AreNew names rest
+AreNew names (procedure p ∷ rest) = (has_name names p.called ≡ false) × AreNew (names ++ p.called ∷ []) rest
 
 -- a program in the place of another is refused by its first violation, for want of numbers where none is violated, or for want of memory
 abbrev pub IsRefusedAnew : Revised → List Columned → Tree → List Lined → CheckError → Type 0

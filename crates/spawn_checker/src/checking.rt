@@ -51,9 +51,8 @@ fn first_checked(
     ensures revisions { IfOk result (λ checked. ((revised_of checked).revisions, checked.counter) ≡ revised nothing (tree program) 0) }
     ensures refused { IfErr result (λ error. error ≡ NoMemory) }
 {
-    let revisions = first_revisions(alloc, &program.declarations)?;
-    let counter = revisions.len() as u64;
-    Ok(linked(alloc, program, tables, revisions, counter)?)
+    let numbers = first_revisions(alloc, &program.declarations)?;
+    Ok(linked(alloc, program, tables, numbers.revisions, numbers.counter)?)
 }
 
 /// Checks a program by the rules of the language, against these tables' names; refused by its first violation, or for want of memory.

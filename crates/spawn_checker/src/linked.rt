@@ -1,10 +1,12 @@
 //! Makes a checked program of one that breaks no rule.
-ghost use Rattle.std.specs.Prelude.{◌≡◌, ◌<◌, All, map, length, IfOk};
+ghost use Rattle.std.specs.Prelude.{◌≡◌, ◌<◌, All, map, IfOk};
 ghost use Rattle.program_tree.specs.View.{tree};
 ghost use Rattle.linked_program.specs.TableNames.{columned};
 ghost use Rattle.linked_program.specs.Declarations.{IsClean};
 ghost use Rattle.linked_program.specs.Procedures.{procedures};
+ghost use Rattle.linked_program.specs.Checked.{numbers_in, names_in};
 
+use indexmap::IndexMap;
 use linked_program::checked::Checked;
 use linked_program::linking::{codes, kinds, procedure_number};
 use linked_program::tables::TableNames;
@@ -16,15 +18,15 @@ pub fn linked(
     alloc: Global,
     program: Program,
     tables: Vec<TableNames>,
-    revisions: Vec<u64>,
+    revisions: IndexMap<String, u64>,
     counter: u64,
 ) -> Result<Checked, AllocError>
     requires clean { IsClean (map columned tables.items) program }
-    requires each { length revisions.items ≡ length (procedures (tree program)) }
-    requires below { All (λ n. n < counter) revisions.items }
+    requires each { names_in (numbers_in revisions) ≡ map (λ p. p.called) (procedures (tree program)) }
+    requires below { All (λ e. e.1 < counter) (numbers_in revisions) }
     ensures program { IfOk result (λ checked. checked.program ≡ program) }
     ensures tables { IfOk result (λ checked. checked.tables ≡ map columned tables.items) }
-    ensures revisions { IfOk result (λ checked. checked.revisions ≡ revisions.items) }
+    ensures revisions { IfOk result (λ checked. checked.revisions ≡ numbers_in revisions) }
     ensures counter { IfOk result (λ checked. checked.counter ≡ counter) }
 {
     let codes = codes(alloc, &program.declarations, &tables)?;

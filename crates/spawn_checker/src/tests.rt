@@ -126,28 +126,6 @@ fn one_block(alloc: Global, statements: Vec<Statement>) -> Result<Vec<Block>, Al
     Ok(vec![in alloc; Block { statements }]?)
 }
 
-fn two_blocks(
-    alloc: Global,
-    outer: Vec<Statement>,
-    inner: Vec<Statement>,
-) -> Result<Vec<Block>, AllocError> {
-    let outer = Block { statements: outer };
-    let inner = Block { statements: inner };
-    Ok(vec![in alloc; outer, inner]?)
-}
-
-fn three_blocks(
-    alloc: Global,
-    outer: Vec<Statement>,
-    first: Vec<Statement>,
-    second: Vec<Statement>,
-) -> Result<Vec<Block>, AllocError> {
-    let outer = Block { statements: outer };
-    let first = Block { statements: first };
-    let second = Block { statements: second };
-    Ok(vec![in alloc; outer, first, second]?)
-}
-
 // `total : add`, `seen : list`, `proc leaf(x) { return x; }`, the first three declarations.
 fn beginning(alloc: Global) -> Result<Vec<Declaration>, AllocError> {
     let total = reducer(alloc, "total", 1, Kind::Add)?;
@@ -171,6 +149,19 @@ fn in_blocks(alloc: Global, blocks: Vec<Block>) -> Result<Option<Violation>, All
     let mut declarations = beginning(alloc)?;
     declarations.push(procedure(alloc, "main", 2, 0, blocks)?)?;
     first_violation(alloc, &declarations, &sales(alloc)?)
+}
+
+// The same with `main`'s own block, and those of its `if`.
+fn in_branches(
+    alloc: Global,
+    outer: Vec<Statement>,
+    first: Vec<Statement>,
+    second: Vec<Statement>,
+) -> Result<Option<Violation>, AllocError> {
+    let outer = Block { statements: outer };
+    let first = Block { statements: first };
+    let second = Block { statements: second };
+    in_blocks(alloc, vec![in alloc; outer, first, second]?)
 }
 
 fn in_main(alloc: Global, statements: Vec<Statement>) -> Result<Option<Violation>, AllocError> {

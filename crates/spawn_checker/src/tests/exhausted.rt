@@ -1,9 +1,9 @@
 //! Revision numbers up to the last one.
-ghost use Rattle.std.specs.Prelude.{◌≡◌, ◌<◌, All, map, true};
+ghost use Rattle.std.specs.Prelude.{map};
 ghost use Rattle.linked_program.specs.TableNames.{columned};
 ghost use Rattle.linked_program.specs.Declarations.{IsClean};
 
-use super::programs::{of_three, refusal_text};
+use super::programs::{of_three, of_three_are, refusal_text};
 use crate::checking::{names_if_clean, redefine};
 use crate::linked::linked;
 use crate::revisions::first_revisions;
@@ -15,18 +15,6 @@ use program_tree::Program;
 use std::alloc::{AllocError, Global};
 use std::test::Fail;
 
-// Whether the numbers are all below this one.
-fn are_below(numbers: &[u64], bound: u64) -> bool
-    ensures { result ≡ true → All (λ n. n < bound) numbers.now }
-{
-    for number in numbers {
-        if *number >= bound {
-            return false;
-        }
-    }
-    true
-}
-
 // A program that breaks no rule, with its first revision numbers, and this one as the least that was never used.
 fn counted_to(
     alloc: Global,
@@ -36,11 +24,11 @@ fn counted_to(
 ) -> Result<Checked, CheckError>
     requires { IsClean (map columned tables.items) program }
 {
-    let revisions = first_revisions(alloc, &program.declarations)?;
-    if !are_below(&revisions, counter) {
+    let numbers = first_revisions(alloc, &program.declarations)?;
+    if counter < numbers.counter {
         return Err(CheckError::Exhausted);
     }
-    Ok(linked(alloc, program, tables, revisions, counter)?)
+    Ok(linked(alloc, program, tables, numbers.revisions, counter)?)
 }
 
 // `leaf`, `main` and `extra`, with the numbers 0, 1 and 2, where this is the least number that was never used.
@@ -95,7 +83,7 @@ fn the_last_number_is_given(rt: HostRuntime) -> Result<(), Fail> {
     let changed = of_three(rt.alloc(), 4, 1)?;
     if let Ok(old) = before(rt.alloc(), u64::MAX - 1) {
         if let Ok(after) = redefine(rt.alloc(), &old, changed, &tables) {
-            assert_eq!(&rt; after.revisions(), [0, u64::MAX - 1, 2].as_slice());
+            assert!(&rt; of_three_are(&after, 0, u64::MAX - 1, 2));
             assert_eq!(&rt; after.counter(), u64::MAX);
             return Ok(());
         }

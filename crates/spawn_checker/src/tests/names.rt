@@ -16,8 +16,8 @@ fn a_name_is_known_after_its_statement(rt: HostRuntime) -> Result<(), Fail> {
 fn a_name_ends_with_its_block(rt: HostRuntime) -> Result<(), Fail> {
     let outer = vec![in rt.alloc(); choose(3, 1, 2), give(5, Expr::Name(0))]?;
     let first = vec![in rt.alloc(); bind(4, 0, Expr::Number(1))]?;
-    let blocks = three_blocks(rt.alloc(), outer, first, Vec::new(rt.alloc()))?;
-    assert_eq!(&rt; in_blocks(rt.alloc(), blocks)?, broken(5, Rule::Unknown));
+    let found = in_branches(rt.alloc(), outer, first, Vec::new(rt.alloc()))?;
+    assert_eq!(&rt; found, broken(5, Rule::Unknown));
     Ok(())
 }
 
@@ -26,8 +26,8 @@ fn a_name_of_the_other_branch(rt: HostRuntime) -> Result<(), Fail> {
     let outer = vec![in rt.alloc(); choose(3, 1, 2)]?;
     let first = vec![in rt.alloc(); bind(4, 0, Expr::Number(1))]?;
     let second = vec![in rt.alloc(); give(5, Expr::Name(0))]?;
-    let blocks = three_blocks(rt.alloc(), outer, first, second)?;
-    assert_eq!(&rt; in_blocks(rt.alloc(), blocks)?, broken(5, Rule::Unknown));
+    let found = in_branches(rt.alloc(), outer, first, second)?;
+    assert_eq!(&rt; found, broken(5, Rule::Unknown));
     Ok(())
 }
 
@@ -35,8 +35,8 @@ fn a_name_of_the_other_branch(rt: HostRuntime) -> Result<(), Fail> {
 fn a_name_is_seen_in_blocks_inside(rt: HostRuntime) -> Result<(), Fail> {
     let outer = vec![in rt.alloc(); bind(3, 0, Expr::Number(1)), choose(4, 1, 2)]?;
     let first = vec![in rt.alloc(); give(5, Expr::Name(0))]?;
-    let blocks = three_blocks(rt.alloc(), outer, first, Vec::new(rt.alloc()))?;
-    assert_eq!(&rt; in_blocks(rt.alloc(), blocks)?, None);
+    let found = in_branches(rt.alloc(), outer, first, Vec::new(rt.alloc()))?;
+    assert_eq!(&rt; found, None);
     Ok(())
 }
 
@@ -101,8 +101,8 @@ fn a_name_bound_in_both_branches(rt: HostRuntime) -> Result<(), Fail> {
     let outer = vec![in rt.alloc(); choose(3, 1, 2)]?;
     let first = vec![in rt.alloc(); bind(4, 0, Expr::Number(1))]?;
     let second = vec![in rt.alloc(); bind(5, 0, Expr::Number(1))]?;
-    let blocks = three_blocks(rt.alloc(), outer, first, second)?;
-    assert_eq!(&rt; in_blocks(rt.alloc(), blocks)?, broken(5, Rule::Twice));
+    let found = in_branches(rt.alloc(), outer, first, second)?;
+    assert_eq!(&rt; found, broken(5, Rule::Twice));
     Ok(())
 }
 
@@ -124,9 +124,14 @@ fn bound_again_inside_is_still_known(rt: HostRuntime) -> Result<(), Fail> {
         give(3, Expr::Name(0)),
     ]?;
     let first = vec![in rt.alloc(); bind(3, 0, Expr::Number(2))]?;
-    let blocks = three_blocks(rt.alloc(), outer, first, Vec::new(rt.alloc()))?;
-    assert_eq!(&rt; in_blocks(rt.alloc(), blocks)?, broken(3, Rule::Twice));
+    let found = in_branches(rt.alloc(), outer, first, Vec::new(rt.alloc()))?;
+    assert_eq!(&rt; found, broken(3, Rule::Twice));
     Ok(())
+}
+
+// What `main` breaks where it returns this value at line 3.
+fn given(alloc: Global, value: Expr) -> Result<Option<Violation>, AllocError> {
+    in_main(alloc, vec![in alloc; give(3, value)]?)
 }
 
 #[test]
@@ -137,8 +142,7 @@ fn unknown_tables_and_columns(rt: HostRuntime) -> Result<(), Fail> {
         ("sales", "cost", broken(3, Rule::Table)),
     ] {
         let value = cell(rt.alloc(), table, column)?;
-        let whole = vec![in rt.alloc(); give(3, value)]?;
-        assert_eq!(&rt; in_main(rt.alloc(), whole)?, found);
+        assert_eq!(&rt; given(rt.alloc(), value)?, found);
     }
     Ok(())
 }
@@ -146,11 +150,9 @@ fn unknown_tables_and_columns(rt: HostRuntime) -> Result<(), Fail> {
 #[test]
 fn a_tables_limit_and_rows(rt: HostRuntime) -> Result<(), Fail> {
     let limit = Expr::Limit(String::from_str(rt.alloc(), "stock")?);
-    let whole = vec![in rt.alloc(); give(3, limit)]?;
-    assert_eq!(&rt; in_main(rt.alloc(), whole)?, broken(3, Rule::Table));
+    assert_eq!(&rt; given(rt.alloc(), limit)?, broken(3, Rule::Table));
     let row = Box::new(rt.alloc(), Expr::Number(1))?;
     let has = Expr::Has(String::from_str(rt.alloc(), "stock")?, row);
-    let whole = vec![in rt.alloc(); give(3, has)]?;
-    assert_eq!(&rt; in_main(rt.alloc(), whole)?, broken(3, Rule::Table));
+    assert_eq!(&rt; given(rt.alloc(), has)?, broken(3, Rule::Table));
     Ok(())
 }

@@ -20,13 +20,23 @@ fn main_missing_before_all(rt: HostRuntime) -> Result<(), Fail> {
     Ok(())
 }
 
+// A procedure of one statement.
+fn giving(
+    alloc: Global,
+    name: &str,
+    line: u32,
+    parameters: usize,
+    statement: Statement,
+) -> Result<Declaration, AllocError> {
+    let body = one_block(alloc, vec![in alloc; statement]?)?;
+    procedure(alloc, name, line, parameters, body)
+}
+
 // By declaration before line: the earlier declaration has the later line.
 #[test]
 fn the_earlier_declaration(rt: HostRuntime) -> Result<(), Fail> {
-    let body = one_block(rt.alloc(), vec![in rt.alloc(); give(9, Expr::Name(0))]?)?;
-    let main = procedure(rt.alloc(), "main", 8, 0, body)?;
-    let body = one_block(rt.alloc(), vec![in rt.alloc(); give(2, Expr::Name(0))]?)?;
-    let leaf = procedure(rt.alloc(), "leaf", 1, 0, body)?;
+    let main = giving(rt.alloc(), "main", 8, 0, give(9, Expr::Name(0)))?;
+    let leaf = giving(rt.alloc(), "leaf", 1, 0, give(2, Expr::Name(0)))?;
     let whole = vec![in rt.alloc(); main, leaf]?;
     let found = first_violation(rt.alloc(), &whole, &[])?;
     assert_eq!(&rt; found.map(|v| v.line), Some(9));
@@ -100,7 +110,8 @@ fn procedures_get_their_first_revisions(rt: HostRuntime) -> Result<(), Fail> {
     let whole = vec![in rt.alloc(); give(3, Expr::Number(0))]?;
     match checked(rt.alloc(), whole)? {
         Ok(program) => {
-            assert_eq!(&rt; program.revisions(), [0, 1].as_slice());
+            assert_eq!(&rt; program.revision("leaf"), Some(0));
+            assert_eq!(&rt; program.revision("main"), Some(1));
             assert_eq!(&rt; program.counter(), 2);
         }
         Err(_error) => assert!(&rt; false),
@@ -111,14 +122,21 @@ fn procedures_get_their_first_revisions(rt: HostRuntime) -> Result<(), Fail> {
 /// `total : add`, then `leaf`, `main` and `extra`, each at this line, which return their numbers.
 pub fn of_three(alloc: Global, line: u32, given: i64) -> Result<Program, AllocError> {
     let total = reducer(alloc, "total", line, Kind::Add)?;
-    let body = one_block(alloc, vec![in alloc; give(line, Expr::Name(0))]?)?;
-    let leaf = procedure(alloc, "leaf", line, 1, body)?;
-    let body = one_block(alloc, vec![in alloc; give(line, Expr::Number(given))]?)?;
-    let main = procedure(alloc, "main", line, 0, body)?;
-    let body = one_block(alloc, vec![in alloc; give(line, Expr::Number(7))]?)?;
-    let extra = procedure(alloc, "extra", line, 0, body)?;
+    let leaf = giving(alloc, "leaf", line, 1, give(line, Expr::Name(0)))?;
+    let main = giving(alloc, "main", line, 0, give(line, Expr::Number(given)))?;
+    let extra = giving(alloc, "extra", line, 0, give(line, Expr::Number(7)))?;
     let declarations = vec![in alloc; total, leaf, main, extra]?;
     Ok(Program { declarations })
+}
+
+/// Whether `leaf`, `main` and `extra` stand in this order and have these revision numbers.
+pub fn of_three_are(checked: &Checked, leaf: u64, main: u64, extra: u64) -> bool {
+    checked.procedure("leaf") == Some(0)
+        && checked.procedure("main") == Some(1)
+        && checked.procedure("extra") == Some(2)
+        && checked.revision("leaf") == Some(leaf)
+        && checked.revision("main") == Some(main)
+        && checked.revision("extra") == Some(extra)
 }
 
 // `leaf` and `extra` are as they were, `main` is changed: 2 is kept, 3 is new.
@@ -129,7 +147,7 @@ fn an_unchanged_procedure_keeps_its_number(rt: HostRuntime) -> Result<(), Fail> 
     let second = of_three(rt.alloc(), 4, 1)?;
     if let Ok(before) = check(rt.alloc(), first, &tables) {
         if let Ok(after) = redefine(rt.alloc(), &before, second, &tables) {
-            assert_eq!(&rt; after.revisions(), [0, 3, 2].as_slice());
+            assert!(&rt; of_three_are(&after, 0, 3, 2));
             assert_eq!(&rt; after.counter(), 4);
             return Ok(());
         }

@@ -16,21 +16,26 @@ fn a_read_in_a_block_inside(rt: HostRuntime) -> Result<(), Fail> {
     let outer = vec![in rt.alloc(); choose(3, 1, 2)]?;
     let total = read(rt.alloc(), 4, 0, "total")?;
     let first = vec![in rt.alloc(); total]?;
-    let blocks = three_blocks(rt.alloc(), outer, first, Vec::new(rt.alloc()))?;
-    assert_eq!(&rt; in_blocks(rt.alloc(), blocks)?, broken(4, Rule::Read));
+    let found = in_branches(rt.alloc(), outer, first, Vec::new(rt.alloc()))?;
+    assert_eq!(&rt; found, broken(4, Rule::Read));
     Ok(())
+}
+
+// The first violation of the beginning, this declaration, the fourth, and `proc main()` without statements.
+fn before_main(alloc: Global, fourth: Declaration) -> Result<Option<Violation>, AllocError> {
+    let mut declarations = beginning(alloc)?;
+    declarations.push(fourth)?;
+    let body = one_block(alloc, Vec::new(alloc))?;
+    declarations.push(procedure(alloc, "main", 4, 0, body)?)?;
+    first_violation(alloc, &declarations, &[])
 }
 
 #[test]
 fn a_read_elsewhere_than_in_main(rt: HostRuntime) -> Result<(), Fail> {
-    let mut declarations = beginning(rt.alloc())?;
     let total = read(rt.alloc(), 3, 0, "total")?;
     let body = one_block(rt.alloc(), vec![in rt.alloc(); total]?)?;
-    declarations.push(procedure(rt.alloc(), "twig", 2, 0, body)?)?;
-    let body = one_block(rt.alloc(), Vec::new(rt.alloc()))?;
-    declarations.push(procedure(rt.alloc(), "main", 4, 0, body)?)?;
-    let found = first_violation(rt.alloc(), &declarations, &[])?;
-    assert_eq!(&rt; found, broken(3, Rule::Read));
+    let twig = procedure(rt.alloc(), "twig", 2, 0, body)?;
+    assert_eq!(&rt; before_main(rt.alloc(), twig)?, broken(3, Rule::Read));
     Ok(())
 }
 
@@ -75,8 +80,8 @@ fn a_sync_inside_doesnt_count(rt: HostRuntime) -> Result<(), Fail> {
     let outer = vec![in rt.alloc(); choose(3, 1, 2), total]?;
     let spawned = spawn_leaf(rt.alloc(), 4, 0)?;
     let first = vec![in rt.alloc(); spawned, sync(5)]?;
-    let blocks = three_blocks(rt.alloc(), outer, first, Vec::new(rt.alloc()))?;
-    assert_eq!(&rt; in_blocks(rt.alloc(), blocks)?, broken(6, Rule::Read));
+    let found = in_branches(rt.alloc(), outer, first, Vec::new(rt.alloc()))?;
+    assert_eq!(&rt; found, broken(6, Rule::Read));
     Ok(())
 }
 
@@ -94,7 +99,7 @@ fn late_if(alloc: Global, inside: Statement) -> Result<Option<Violation>, AllocE
     let total = read(alloc, 3, 0, "total")?;
     let outer = vec![in alloc; total, choose(4, 1, 2)]?;
     let first = vec![in alloc; inside]?;
-    in_blocks(alloc, three_blocks(alloc, outer, first, Vec::new(alloc))?)
+    in_branches(alloc, outer, first, Vec::new(alloc))
 }
 
 #[test]
@@ -108,13 +113,23 @@ fn an_if_after_a_read(rt: HostRuntime) -> Result<(), Fail> {
     Ok(())
 }
 
+// What an update by these values at line 3 breaks.
+fn updated(
+    alloc: Global,
+    reducer: &str,
+    values: Vec<Expr>,
+) -> Result<Option<Violation>, AllocError> {
+    let only = update(alloc, 3, reducer, values)?;
+    in_main(alloc, vec![in alloc; only]?)
+}
+
 #[test]
 fn values_of_an_update(rt: HostRuntime) -> Result<(), Fail> {
     let values = vec![in rt.alloc(); Expr::Number(1), Expr::Number(2)]?;
-    let whole = vec![in rt.alloc(); update(rt.alloc(), 3, "total", values)?]?;
-    assert_eq!(&rt; in_main(rt.alloc(), whole)?, broken(3, Rule::Update));
+    let found = updated(rt.alloc(), "total", values)?;
+    assert_eq!(&rt; found, broken(3, Rule::Update));
     let values = vec![in rt.alloc(); Expr::Number(1)]?;
-    let whole = vec![in rt.alloc(); update(rt.alloc(), 3, "other", values)?]?;
-    assert_eq!(&rt; in_main(rt.alloc(), whole)?, broken(3, Rule::Update));
+    let found = updated(rt.alloc(), "other", values)?;
+    assert_eq!(&rt; found, broken(3, Rule::Update));
     Ok(())
 }

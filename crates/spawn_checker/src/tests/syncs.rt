@@ -27,8 +27,8 @@ fn unsynced_use_in_a_branch(rt: HostRuntime) -> Result<(), Fail> {
     let more = one_more(rt.alloc(), 0)?;
     let first = vec![in rt.alloc(); bind(4, 1, more), sync(4)]?;
     let second = vec![in rt.alloc(); sync(4)]?;
-    let blocks = three_blocks(rt.alloc(), outer, first, second)?;
-    assert_eq!(&rt; in_blocks(rt.alloc(), blocks)?, broken(4, Rule::Waiting));
+    let found = in_branches(rt.alloc(), outer, first, second)?;
+    assert_eq!(&rt; found, broken(4, Rule::Waiting));
     Ok(())
 }
 
@@ -48,7 +48,7 @@ fn after_branches(
 ) -> Result<Option<Violation>, AllocError> {
     let spawned = spawn_leaf(alloc, 3, 0)?;
     let outer = vec![in alloc; spawned, choose(4, 1, 2), give(7, Expr::Name(0))]?;
-    in_blocks(alloc, three_blocks(alloc, outer, first, second)?)
+    in_branches(alloc, outer, first, second)
 }
 
 #[test]

@@ -1,4 +1,4 @@
-use Rattle.std.proofs.Common.{◌≡◌, ◌+◌, ◌∷◌, ◌++◌, [], map, take, drop, length, string_bytes, refl, ap, sym, ◌∙◌}
+use Rattle.std.proofs.Common.{map, take}
 use Rattle.program_tree.specs.View.{decl}
 use Rattle.linked_program.specs.TableNames.{columned}
 use Rattle.linked_program.proofs.Pushes.{take_one_more, block_push}

@@ -1,4 +1,4 @@
-use Rattle.std.proofs.Common.{◌≡◌, ◌+◌, ◌≤◌, ℕ, map, take, drop, string_bytes}
+use Rattle.std.proofs.Common.{map, take}
 use Rattle.program_tree.specs.View.{decl}
 use Rattle.linked_program.specs.TableNames.{columned}
 use Rattle.linked_program.specs.CodeView.{AreBlocksOf}

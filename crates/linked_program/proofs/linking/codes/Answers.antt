@@ -1,5 +1,5 @@
 use Rattle.std.proofs.lemmas.List.{append-nil}
-use Rattle.std.proofs.Common.{◌≡◌, ◌+◌, ◌∷◌, ◌++◌, [], map, take, drop, length, string_bytes, refl, ap, sym, ◌∙◌}
+use Rattle.std.proofs.Common.{map, take}
 use Rattle.program_tree.specs.View.{decl, proc}
 use Rattle.linked_program.specs.TableNames.{columned}
 use Rattle.linked_program.specs.Procedures.{procedures}

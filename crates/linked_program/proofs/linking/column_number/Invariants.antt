@@ -1,4 +1,4 @@
-use Rattle.std.proofs.Common.{◌≡◌, ◌+◌, ◌≤◌, ℕ, map, take, drop, string_bytes}
+use Rattle.std.proofs.Common.{◌≡◌, map, drop}
 use Rattle.linked_program.specs.TableNames.{columned}
 use Rattle.linked_program.specs.Linked.{column_number}
 use Rattle.linked_program.proofs.linking.column_number.Given as goal

@@ -1,4 +1,4 @@
-use Rattle.std.proofs.Common.{◌≡◌, ◌+◌, ◌≤◌, ℕ, map, take, drop, string_bytes}
+use Rattle.std.proofs.Common.{◌≡◌, ℕ, map, take}
 use Rattle.program_tree.specs.Plain.{Body}
 use Rattle.program_tree.specs.View.{decl, statements}
 use Rattle.linked_program.specs.TableNames.{columned}

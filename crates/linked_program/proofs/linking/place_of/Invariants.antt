@@ -1,4 +1,4 @@
-use Rattle.std.proofs.Common.{◌≡◌, ◌+◌, ◌≤◌, ℕ, map, take, drop, string_bytes}
+use Rattle.std.proofs.Common.{◌≡◌, ◌+◌, ◌≤◌, map, drop, string_bytes}
 use Rattle.meaning.specs.Tables.{place_of}
 use Rattle.linked_program.proofs.linking.place_of.Given as goal
 

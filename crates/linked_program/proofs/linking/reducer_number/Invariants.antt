@@ -1,4 +1,4 @@
-use Rattle.std.proofs.Common.{◌≡◌, ◌+◌, ◌≤◌, ℕ, map, take, drop, string_bytes}
+use Rattle.std.proofs.Common.{◌≡◌, ◌+◌, ◌≤◌, map, drop}
 use Rattle.program_tree.specs.View.{decl}
 use Rattle.meaning.specs.Statements.{reducers}
 use Rattle.linked_program.specs.Linked.{reducer_number}

@@ -1,4 +1,4 @@
-use Rattle.std.proofs.Common.{◌≡◌, ◌+◌, ◌≤◌, ℕ, map, take, drop, string_bytes}
+use Rattle.std.proofs.Common.{◌≡◌, ◌+◌, ◌≤◌, map, drop}
 use Rattle.linked_program.specs.TableNames.{columned}
 use Rattle.linked_program.specs.Linked.{table_number}
 use Rattle.linked_program.proofs.linking.table_number.Given as goal

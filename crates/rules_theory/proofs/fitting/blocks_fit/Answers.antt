@@ -1,4 +1,4 @@
-use Rattle.std.proofs.Common.{◌<◌, ◌≤◌, length, arith}
+use Rattle.std.proofs.Common.{arith}
 use Rattle.rules_theory.specs.Fitting.{BlockFits}
 use Rattle.rules_theory.proofs.Fits.{none_left, block_fits}
 use Rattle.rules_theory.proofs.fitting.blocks_fit.Goals as goal

@@ -1,4 +1,4 @@
-use Rattle.std.proofs.Common.{◌≡◌, ◌<◌, ◌≤◌, length, ap, arith}
+use Rattle.std.proofs.Common.{◌≡◌, length, ap, arith}
 use Rattle.rules_theory.specs.Fitting.{DeclarationFits}
 use Rattle.rules_theory.proofs.Fits.{none_left, names_fit}
 use Rattle.rules_theory.proofs.fitting.numbers_fit.Goals as goal

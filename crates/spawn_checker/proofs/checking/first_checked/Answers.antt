@@ -1,26 +1,23 @@
-use Rattle.std.proofs.Common.{◌≡◌, ◌+◌, length, map, ap, arith}
-use Rattle.program_tree.specs.View.{decl}
-use Rattle.linked_program.specs.Procedures.{procedures}
-use Rattle.linked_program.specs.Checked.{counted}
-use Rattle.spawn_checker.proofs.Counting.{counted_length, counted_below, first_numbers}
+use Rattle.std.proofs.Common.{◌≡◌, map, refl, ap, ◌∙◌, arith}
+use Rattle.program_tree.specs.View.{tree}
+use Rattle.meaning.specs.Edits.{revised}
+use Rattle.linked_program.specs.TableNames.{columned}
+use Rattle.linked_program.specs.Checked.{numbers_in, names_in, nothing}
+use Rattle.spawn_checker.proofs.NewNames.{names_are_new}
+use Rattle.spawn_checker.proofs.NewNumbers.{Numbered, revised_names, revised_below}
 use Rattle.spawn_checker.proofs.checking.first_checked.Goals as goal
 
-pub linked-requires : goal.linked-requires
-linked-requires c =
-    let ps = procedures (map decl c.args.program.declarations.items) in
-    let made : c.in_ok-revisions.revisions.items ≡ counted 0 ps = rw c.deref.ensures.value at c.in_ok-revisions.ensures.counted in
-    let size = counted_length 0 ps in
-    let count : c.len-counter.result ≡ 0 + length ps = omega (arith, c.len-counter.ensures, ap length made, size) in
-    record {
-      clean = c.requires;
-      each = rw made size;
-      below = rw made (counted_below 0 c.len-counter.result ps count);
-    }
+pub first_revisions-requires : goal.first_revisions-requires
+first_revisions-requires c = record { new = rw c.deref.ensures.value (names_are_new (map columned c.args.tables.items) c.args.program c.requires) }
 
-pub returns-clause-revisions : goal.returns-clause-revisions
-returns-clause-revisions c =
-    let t = map decl c.args.program.declarations.items in
-    let ps = procedures t in
-    let made : c.in_ok-revisions.revisions.items ≡ counted 0 ps = rw c.deref.ensures.value at c.in_ok-revisions.ensures.counted in
-    let count : c.len-counter.result ≡ 0 + length ps = omega (arith, c.len-counter.ensures, ap length made, counted_length 0 ps) in
-    rw (c.in_ok-linked.ensures.program, c.in_ok-linked.ensures.revisions, c.in_ok-linked.ensures.counter, made, count) (first_numbers t 0)
+pub linked-requires-clause-each : goal.linked-requires-clause-each
+linked-requires-clause-each c =
+    let t = tree c.args.program in
+    let made : (numbers_in c.in_ok-numbers.numbers.revisions, c.in_ok-numbers.numbers.counter) ≡ revised nothing t 0 = rw c.deref.ensures.value at c.in_ok-numbers.ensures.numbers in
+    ap (λ (m : Numbered). names_in m.0) made ∙ revised_names nothing t 0
+
+pub linked-requires-clause-below : goal.linked-requires-clause-below
+linked-requires-clause-below c =
+    let t = tree c.args.program in
+    let made : (numbers_in c.in_ok-numbers.numbers.revisions, c.in_ok-numbers.numbers.counter) ≡ revised nothing t 0 = rw c.deref.ensures.value at c.in_ok-numbers.ensures.numbers in
+    revised_below nothing refl (λ k d lt. absurd (omega (arith, lt))) t (numbers_in c.in_ok-numbers.numbers.revisions) c.in_ok-numbers.numbers.counter made

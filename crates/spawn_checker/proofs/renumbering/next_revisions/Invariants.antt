@@ -1,12 +1,12 @@
-use Rattle.std.proofs.Common.{◌≡◌, ◌++◌, map, drop}
+use Rattle.std.proofs.Common.{◌≡◌, map, drop}
 use Rattle.program_tree.specs.View.{decl}
-use Rattle.linked_program.specs.Procedures.{procedures}
-use Rattle.linked_program.specs.Checked.{revised_of}
-use Rattle.spawn_checker.specs.Renumbered.{renumbered, counter_after}
+use Rattle.meaning.specs.Edits.{revised}
+use Rattle.linked_program.specs.Checked.{revised_of, numbers_in, names_in}
+use Rattle.spawn_checker.specs.Renumbered.{AreNew, behind}
 use Rattle.spawn_checker.proofs.renumbering.next_revisions.Given as goal
 
 abbrev pub invariant-loop-declaration : goal.invariant-loop-declaration
 invariant-loop-declaration l = record {
-  revisions : renumbered (revised_of l.old) (procedures (map decl l.declarations)) l.old.counter ≡ l.revisions.items ++ renumbered (revised_of l.old) (procedures (map decl (drop l.declaration-index l.declarations))) l.counter;
-  counter : counter_after (revised_of l.old) (procedures (map decl l.declarations)) l.old.counter ≡ counter_after (revised_of l.old) (procedures (map decl (drop l.declaration-index l.declarations))) l.counter;
+  numbers : revised (revised_of l.old) (map decl l.declarations) l.old.counter ≡ behind (numbers_in l.revisions) (revised (revised_of l.old) (map decl (drop l.declaration-index l.declarations)) l.counter);
+  new : AreNew (names_in (numbers_in l.revisions)) (map decl (drop l.declaration-index l.declarations));
 }
