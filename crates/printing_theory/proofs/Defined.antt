@@ -10,17 +10,16 @@ use Rattle.source_tree.specs.Source.{Decl, Reduces, Defines, Source, stmts_of}
 use Rattle.source_tree.specs.Lowering.{Lowered, lowered_decl, lower_decl, lowered, settled, lower_proc, body_lines}
 use Rattle.program_edits.specs.Putting.{is_in, last_place, spot_of, put_at, put_all}
 use Rattle.procedure_parser.specs.Grammar.{ReducerForm, reduces, ProcedureForm, defines, Declarations, no_declaration, a_reducer, a_procedure, reducer_over, procedure_over}
-use Rattle.procedure_parser.specs.Defining.{Room, room_of, turns_of, procedure_names, Procedures, no_procedure, one_procedure, no_room, behind_name}
+use Rattle.procedure_parser.specs.Defining.{Room, room_of, turns_of, Procedures, no_procedure, one_procedure, no_room, behind_name}
 use Rattle.procedure_parser.specs.Correct.{IsSource, IsDefinition, IsDefined}
 use Rattle.procedure_parser.proofs.DefiningLaw.{less_room}
 use Rattle.program_printer.specs.Printing.{printed}
 use Rattle.printing_theory.specs.Again.{IsOfText, IsIn, IsOfSome, AllOfSome, IsOfTexts, PrintsAgain, reducer_count, procedure_count}
-use Rattle.printing_theory.specs.Defined.{AllApart}
 use Rattle.printing_theory.proofs.Read.{AllRead, tokens_read}
 use Rattle.printing_theory.proofs.Declarations.{procedure_prints, word_left}
 use Rattle.printing_theory.proofs.Round.{collected_prints}
 use Rattle.printing_theory.proofs.Putting.{some_put, put_grows}
-use Rattle.printing_theory.proofs.Known.{Fits, fits_behind, names_stand, names_count}
+use Rattle.printing_theory.proofs.Known.{Fits, fits_behind, names_apart, names_stand, names_few, names_count}
 
 -- ---- a text's tree
 
@@ -82,7 +81,7 @@ module _ (text : List ℕ) (all : Source) (is : IsSource all text) where
 
 definition_defined : (t : Tree) (s : Source) (text : List ℕ) → procedure_count (settled t) ≤ 256 → IsDefinition t s text → Defined s
 definition_defined t s text le i =
-    let turns : turns_of (room_of t) ≤ 256 = omega (arith, names_count t, le) in
+    let turns : turns_of (room_of t) ≤ 256 = omega (arith, names_few t, names_count t, le) in
     each_defined text s (i.0, declared (room_of t) s (tokens_of text) [] (tokens_read text) i.1.1 256 turns) s (λ d j. j)
 
 -- ---- a text's procedures put in
@@ -112,19 +111,12 @@ put_all_procedures _ _ _ _ (one_procedure room after i k m f d s ts us vs ws w e
     put_all_procedures after s vs ws q (seen ++ f ∷ []) (put_at spot (plain.procedure proc) t) (put_at spot (record { line = i; statements = body_lines (stmts_of ss) }) l) (fits_behind room.0 room.1 after proc seen t e fits)
 put_all_procedures _ _ _ _ (no_room known k i m ts us w) seen t l fits = omega (arith, fits.few)
 
--- where no more procedures come of it
-pub counted_of_texts : (t : Tree) (l : List Lined) (text : List ℕ) (after : Tree × List Lined) → IsOfTexts t → IsDefined (t, l) text after → procedure_count (settled after.0) ≤ 256 → IsOfTexts after.0
-counted_of_texts t l text after (a, r, p) (s, i, e) h =
+pub defined_of_texts : (t : Tree) (l : List Lined) (text : List ℕ) (after : Tree × List Lined) → IsOfTexts t → IsDefined (t, l) text after → IsOfTexts after.0
+defined_of_texts t l text after (a, r, p) (s, i, e) =
     let q : after.0 ≡ (put_all [] s (t, l)).0 = ap (λ (z : Tree × List Lined). z.0) e in
-    (subst (λ (z : Tree). AllOfSome z) (sym q) (put_all_of_some s [] t l (definition_defined t s text p i) a), subst (λ (z : Tree). reducer_count (settled z) ≤ 16) (sym q) (put_all_reducers s [] t l r), h)
-
--- where no two had the same name
-pub defined_of_texts : (t : Tree) (l : List Lined) (text : List ℕ) (after : Tree × List Lined) → IsOfTexts t → AllApart (procedure_names t) → IsDefined (t, l) text after → IsOfTexts after.0
-defined_of_texts t l text after (a, r, p) apart (s, i, e) =
-    let q : after.0 ≡ (put_all [] s (t, l)).0 = ap (λ (z : Tree × List Lined). z.0) e in
-    let fits : Fits (room_of t) [] t = record { apart = apart; stand = names_stand t; few = omega (arith, names_count t, p) } in
+    let fits : Fits (room_of t) [] t = record { apart = names_apart t; stand = names_stand t; few = omega (arith, names_count t, p) } in
     let h = put_all_procedures (room_of t) s (tokens_of text) [] i.1.1 [] t l fits in
-    counted_of_texts t l text after (a, r, p) (s, i, e) (subst (λ (z : Tree). procedure_count (settled z) ≤ 256) (sym q) h)
+    (subst (λ (z : Tree). AllOfSome z) (sym q) (put_all_of_some s [] t l (definition_defined t s text p i) a), subst (λ (z : Tree). reducer_count (settled z) ≤ 16) (sym q) (put_all_reducers s [] t l r), subst (λ (z : Tree). procedure_count (settled z) ≤ 256) (sym q) h)
 
-pub defined_prints : (t : Tree) (l : List Lined) (text : List ℕ) (after : Tree × List Lined) → IsOfTexts t → AllApart (procedure_names t) → IsDefined (t, l) text after → length (printed after.0) ≤ 1048576 → PrintsAgain after.0
-defined_prints t l text after i apart d h = collected_prints after.0 (defined_of_texts t l text after i apart d) h
+pub defined_prints : (t : Tree) (l : List Lined) (text : List ℕ) (after : Tree × List Lined) → IsOfTexts t → IsDefined (t, l) text after → length (printed after.0) ≤ 1048576 → PrintsAgain after.0
+defined_prints t l text after i d h = collected_prints after.0 (defined_of_texts t l text after i d) h

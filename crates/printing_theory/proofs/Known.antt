@@ -1,16 +1,15 @@
 -- The names that a text's procedures may still replace, while they are put in one by one.
-use Rattle.std.proofs.Common.{◌≡◌, ℕ, zero, suc, ◌+◌, ◌-◌, ◌≤◌, Bool, true, false, cond, ltb, List, [], ◌∷◌, ◌++◌, length, Option, Some, None, refl, sym, ap, subst, ◌∙◌, arith, inl, inr, ◌⊎◌}
+use Rattle.std.proofs.Common.{◌≡◌, ℕ, zero, suc, ◌+◌, ◌-◌, ◌≤◌, Bool, true, false, cond, ltb, List, [], ◌∷◌, ◌++◌, length, Option, Some, None, refl, sym, ap, subst, ◌∙◌, arith, inl, inr, ◌⊎◌, length-append}
 use Rattle.std.specs.Prelude.{remove, bytes_eq}
 use Rattle.std.specs.Option.{option_map}
 use Rattle.std.proofs.lemmas.Bool.{ltb-true}
 use Rattle.std.proofs.lemmas.Slice.Eq.{bytes_eq-Decides}
-use Rattle.program_tree.specs.Plain.{Name, Proc, Decl, reducer, procedure, Tree}
+use Rattle.program_tree.specs.Plain.{Name, Proc, reducer, procedure, Tree}
 use Rattle.token_scanner.specs.Words.{for_some}
 use Rattle.source_tree.specs.Lowering.{place_of, settled}
 use Rattle.program_edits.specs.Putting.{is_in, last_place, spot_of}
-use Rattle.procedure_parser.specs.Defining.{Room, room_behind, procedure_names}
+use Rattle.procedure_parser.specs.Defining.{Room, room_behind, with_new, names_from, procedures_in}
 use Rattle.printing_theory.specs.Again.{procedure_count}
-use Rattle.printing_theory.specs.Defined.{IsApart, AllApart}
 use Rattle.printing_theory.proofs.Putting.{on_bool, on_option, put_in, put_grows, Has, count_put, has_put}
 
 -- each is the name of a procedure that stands there, and none is among those that were put in
@@ -19,6 +18,16 @@ Stand [] seen t = Unit {0}
 Stand (x ∷ xs) seen t = Has x t × (is_in x seen ≡ false) × Stand xs seen t
 
 -- ---- names apart
+
+-- a name is none of these
+abbrev IsApart : Name → List Name → Type 0
+IsApart x [] = Unit {0}
+IsApart x (y ∷ ys) = (bytes_eq x y ≡ false) × IsApart x ys
+
+-- none stands twice
+abbrev pub AllApart : List Name → Type 0
+AllApart [] = Unit {0}
+AllApart (x ∷ xs) = IsApart x xs × AllApart xs
 
 none_apart : (f : Name) (xs : List Name) → place_of f xs ≡ None → IsApart f xs
 none_apart f [] e = tt
@@ -124,16 +133,63 @@ fits_behind known left after p seen t e fits =
 
 -- ---- a program before
 
-stand_behind : (xs : List Name) (d : Decl) (t : Tree) → Stand xs [] t → Stand xs [] (d ∷ t)
-stand_behind [] d t s = tt
-stand_behind (x ∷ xs) d t s = (inr s.0, refl, stand_behind xs d t s.2)
+-- what holds of names, and of them with a new one behind, holds of them with any one more
+with_any : (P : List Name → Type 0) (xs : List Name) (x : Name) → P xs → (place_of x xs ≡ None → P (xs ++ x ∷ [])) → P (with_new xs x)
+with_any P xs x old new =
+    elim (on_option (place_of x xs)) [
+      | inl e ↦ subst (λ (o : Option ℕ). P (for_some o (xs ++ x ∷ []) (λ n. xs))) (sym e) (new e)
+      | inr (n, e) ↦ subst (λ (o : Option ℕ). P (for_some o (xs ++ x ∷ []) (λ n. xs))) (sym e) old
+    ]
 
-pub names_stand : (t : Tree) → Stand (procedure_names t) [] t
-names_stand [] = tt
-names_stand (reducer r ∷ t) = stand_behind (procedure_names t) (reducer r) t (names_stand t)
-names_stand (procedure p ∷ t) = (inl ((bytes_eq-Decides p.called p.called).1 refl), refl, stand_behind (procedure_names t) (procedure p) t (names_stand t))
+apart_turned : (x y : Name) → bytes_eq x y ≡ false → bytes_eq y x ≡ false
+apart_turned x y h =
+    elim (on_bool (bytes_eq y x)) [
+      | inl t ↦ let g : bytes_eq x y ≡ true = (bytes_eq-Decides x y).1 (sym ((bytes_eq-Decides y x).0 t)) in absurd (cc)
+      | inr f ↦ f
+    ]
 
-pub names_count : (t : Tree) → procedure_count (settled t) ≡ length (procedure_names t)
+apart_last : (y x : Name) (ys : List Name) → IsApart y ys → bytes_eq y x ≡ false → IsApart y (ys ++ x ∷ [])
+apart_last y x [] a h = (h, tt)
+apart_last y x (z ∷ ys) a h = (a.0, apart_last y x ys a.1 h)
+
+all_apart_last : (xs : List Name) (x : Name) → AllApart xs → IsApart x xs → AllApart (xs ++ x ∷ [])
+all_apart_last [] x a b = (tt, tt)
+all_apart_last (y ∷ ys) x a b = (apart_last y x ys a.0 (apart_turned x y b.0), all_apart_last ys x a.1 b.1)
+
+apart_from : (t : Tree) (xs : List Name) → AllApart xs → AllApart (names_from xs t)
+apart_from [] xs a = a
+apart_from (reducer r ∷ t) xs a = apart_from t xs a
+apart_from (procedure p ∷ t) xs a =
+    apart_from t (with_new xs p.called) (with_any AllApart xs p.called a (λ e. all_apart_last xs p.called a (none_apart p.called xs e)))
+
+stand_last : (xs : List Name) (x : Name) (t : Tree) → Stand xs [] t → Has x t → Stand (xs ++ x ∷ []) [] t
+stand_last [] x t s h = (h, refl, tt)
+stand_last (y ∷ ys) x t s h = (s.0, s.1, stand_last ys x t s.2 h)
+
+stand_from : (t : Tree) (xs : List Name) (all : Tree) → ((x : Name) → Has x t → Has x all) → Stand xs [] all → Stand (names_from xs t) [] all
+stand_from [] xs all among s = s
+stand_from (reducer r ∷ t) xs all among s = stand_from t xs all (λ x h. among x (inr h)) s
+stand_from (procedure p ∷ t) xs all among s =
+    let h : Has p.called all = among p.called (inl ((bytes_eq-Decides p.called p.called).1 refl)) in
+    stand_from t (with_new xs p.called) all (λ x h. among x (inr h)) (with_any (λ (ys : List Name). Stand ys [] all) xs p.called s (λ e. stand_last xs p.called all s h))
+
+few_from : (t : Tree) (xs : List Name) → length (names_from xs t) ≤ length xs + procedures_in t
+few_from [] xs = omega arith
+few_from (reducer r ∷ t) xs = few_from t xs
+few_from (procedure p ∷ t) xs =
+    let one : length (with_new xs p.called) ≤ suc (length xs) = with_any (λ (ys : List Name). length ys ≤ suc (length xs)) xs p.called (omega arith) (λ e. omega (arith, length-append xs (p.called ∷ []))) in
+    omega (arith, one, few_from t (with_new xs p.called))
+
+pub names_apart : (t : Tree) → AllApart (names_from [] t)
+names_apart t = apart_from t [] tt
+
+pub names_stand : (t : Tree) → Stand (names_from [] t) [] t
+names_stand t = stand_from t [] t (λ x h. h) tt
+
+pub names_few : (t : Tree) → length (names_from [] t) ≤ procedures_in t
+names_few t = omega (arith, few_from t [])
+
+pub names_count : (t : Tree) → procedure_count (settled t) ≡ procedures_in t
 names_count [] = refl
 names_count (reducer r ∷ t) = names_count t
 names_count (procedure p ∷ t) = ap (λ (n : ℕ). suc n) (names_count t)

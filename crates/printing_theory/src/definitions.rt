@@ -1,22 +1,17 @@
 //! Definitions: a program of texts, with a text's procedures put in, is one of texts, so what is printed of it is read again.
 
-ghost use Rattle.std.specs.Prelude.{◌≡◌, ◌≤◌, ℕ, List, length};
+ghost use Rattle.std.specs.Prelude.{◌≤◌, ℕ, List, length};
 ghost use Rattle.program_tree.specs.Plain.{Tree};
 ghost use Rattle.program_tree.specs.View.{Lined};
-ghost use Rattle.source_tree.specs.Lowering.{settled};
-ghost use Rattle.procedure_parser.specs.Defining.{procedure_names};
 ghost use Rattle.procedure_parser.specs.Correct.{IsDefined};
 ghost use Rattle.program_printer.specs.Printing.{printed};
-ghost use Rattle.printing_theory.specs.Again.{IsOfText, IsOfTexts, PrintsAgain, procedure_count};
-ghost use Rattle.printing_theory.specs.Defined.{AllApart};
+ghost use Rattle.printing_theory.specs.Again.{IsOfText, IsOfTexts, PrintsAgain};
 
 /// A text's tree is one of texts, and stays one when the procedures of texts are put into it.
 pub fn laws_of_definitions()
     ensures text { (t : Tree) → IsOfText t → IsOfTexts t }
-    // Where no two procedures of a program of texts have one name, as in each checked program, it stays one of texts with a text's procedures put in.
-    ensures defined { (t : Tree) (l : List Lined) (text : List ℕ) (after : Tree × List Lined) → IsOfTexts t → AllApart (procedure_names t) → IsDefined (t, l) text after → IsOfTexts after.0 }
-    // So it does whatever its names, where no more than 256 procedures come of it.
-    ensures counted { (t : Tree) (l : List Lined) (text : List ℕ) (after : Tree × List Lined) → IsOfTexts t → IsDefined (t, l) text after → procedure_count (settled after.0) ≤ 256 → IsOfTexts after.0 }
+    // A program of texts stays one of texts with a text's procedures put in.
+    ensures defined { (t : Tree) (l : List Lined) (text : List ℕ) (after : Tree × List Lined) → IsOfTexts t → IsDefined (t, l) text after → IsOfTexts after.0 }
     // Its tree is then that of its printed text, where this is within the length limit.
-    ensures printed { (t : Tree) (l : List Lined) (text : List ℕ) (after : Tree × List Lined) → IsOfTexts t → AllApart (procedure_names t) → IsDefined (t, l) text after → length (printed after.0) ≤ 1048576 → PrintsAgain after.0 }
+    ensures printed { (t : Tree) (l : List Lined) (text : List ℕ) (after : Tree × List Lined) → IsOfTexts t → IsDefined (t, l) text after → length (printed after.0) ≤ 1048576 → PrintsAgain after.0 }
 {}

@@ -1,10 +1,10 @@
 -- What readers of declarations do.
-use Rattle.std.proofs.Common.{◌≡◌, ℕ, zero, suc, ◌+◌, ◌-◌, ◌*◌, ◌<◌, ◌≤◌, ℤ, pos, Bool, true, false, cond, ltb, List, [], ◌∷◌, Option, Some, None, Ok, Err, refl, sym, ap, subst, ◌∙◌, arith, inl, inr}
+use Rattle.std.proofs.Common.{◌≡◌, ℕ, zero, suc, ◌+◌, ◌-◌, ◌*◌, ◌<◌, pos, Bool, true, false, cond, ltb, List, [], ◌∷◌, Option, Some, None, Ok, Err, refl, sym, ap, subst, ◌∙◌, arith, inl, inr}
 use Rattle.std.specs.Prelude.{codes, ◌||◌}
 use Rattle.std.proofs.lemmas.Slice.Eq.{bytes_eq-Decides}
 use Rattle.std.proofs.lemmas.Bool.{ltb-true, ltb-false}
-use Rattle.token_scanner.specs.declared.token.Mark.TheVariants.{OpenParen, CloseParen, OpenBracket, CloseBracket, OpenBrace, CloseBrace, Colon, Semicolon, Comma, Reducer, Memo, Proc}
-use Rattle.token_scanner.specs.Words.{Word, Name, Number, Sign, Bad, Over, Words, for_some, starts, starts_name, rest, front_name, line_of}
+use Rattle.token_scanner.specs.declared.token.Mark.TheVariants.{OpenParen, CloseParen, OpenBracket, CloseBracket, Colon, Semicolon, Comma, Reducer, Memo, Proc}
+use Rattle.token_scanner.specs.Words.{Name, Number, Sign, Bad, Over, Words, for_some, starts, starts_name, rest, front_name, line_of}
 use Rattle.source_tree.specs.Kinds.{WrittenKind}
 use Rattle.source_tree.specs.Kinds as kinds
 use Rattle.source_tree.specs.Source.{Stmt, Decl, Reduces, Defines, Source}
@@ -12,7 +12,7 @@ use Rattle.procedure_parser.specs.KindWords.{simple_kind}
 use Rattle.procedure_parser.specs.Reading.{◌>>=◌, Read, mark_at, name_at, over_as, with_front, within_at, comma_number_at, more_cells_at, cells_at, word_at, table_at, simple_kind_of, sized_kind_at, kind_at, reducer_at, more_params_at, params_at, block_at, procedure_at, procedure_word_at, starts_procedure, and_then, counted, declarations_at}
 use Rattle.procedure_parser.specs.Grammar.{Form, Within, within, CommaNumber, comma_number, MoreCells, no_more_cells, more_cells, Cells, cells, TableForm, table, KindForm, simple, first, last, of_table, Block, ReducerForm, reduces, MoreParams, no_more, one_more, one_over, Params, no_params, params, ProcedureForm, defines, ProcedureWord, unmarked, marked, Declarations, no_declaration, a_reducer, a_procedure, reducer_over, procedure_over}
 use Rattle.procedure_parser.proofs.Law.{LawAt, IsLocal, nothing, one, by_reply, reply_as, heads_run, if_true, if_false, some_there, none_there, gives_at, refuses_at, skip_at, map_at, then_at}
-use Rattle.procedure_parser.proofs.Head.{on_bool, on_option, starts_is, name_is, local, starts_local, over_law, expect_at, name_then_at, at_value, line_local, last_mark, behind_mark, behind_line}
+use Rattle.procedure_parser.proofs.Head.{on_bool, on_option, starts_is, name_is, local, starts_local, over_law, expect_at, name_then_at, at_value, line_local, last_mark, behind_line}
 use Rattle.procedure_parser.proofs.Numbers.{within_law, within_then_at}
 use Rattle.procedure_parser.proofs.Statements.{a_name, empty_block, block_law}
 

@@ -1,18 +1,18 @@
 -- What readers of defining texts do.
-use Rattle.std.proofs.Common.{◌≡◌, ℕ, zero, suc, ◌+◌, ◌-◌, ◌<◌, ◌≤◌, Bool, true, false, cond, ltb, List, [], ◌∷◌, length, Option, Some, None, Ok, Err, refl, sym, ap, subst, ◌∙◌, arith, inl, inr}
-use Rattle.std.specs.Prelude.{codes, remove, bytes_eq}
+use Rattle.std.proofs.Common.{◌≡◌, ℕ, zero, suc, ◌+◌, ◌-◌, ◌<◌, Bool, true, false, cond, ltb, List, [], ◌∷◌, length, Option, Some, None, Ok, Err, refl, sym, ap, subst, ◌∙◌, arith, inl, inr}
+use Rattle.std.specs.Prelude.{remove, bytes_eq}
 use Rattle.std.specs.Option.{option_map}
 use Rattle.std.proofs.lemmas.Bool.{ltb-true, ltb-false}
 use Rattle.program_tree.specs.Plain.{Name}
 use Rattle.token_scanner.specs.declared.token.Mark.TheVariants.{OpenParen, CloseParen, Proc}
 use Rattle.token_scanner.specs.Words.{Word, Over, Words, for_some, rest, front_name, line_of}
 use Rattle.token_scanner.specs.Words as word
-use Rattle.source_tree.specs.Source.{Decl, Defines, Source}
+use Rattle.source_tree.specs.Source.{Defines, Source}
 use Rattle.source_tree.specs.Lowering.{place_of}
 use Rattle.procedure_parser.specs.Reading.{◌>>=◌, Read, over_as, params_at, block_at, procedure_word_at, starts_procedure, and_then}
 use Rattle.procedure_parser.specs.Grammar.{Form, Params, no_params, Block, ProcedureWord, unmarked, marked}
 use Rattle.procedure_parser.specs.Defining.{Room, room_behind, BehindName, behind_name, Procedures, no_procedure, one_procedure, no_room, Defining, behind_name_at, nameless_at, named_at, one_at, procedures_at, turns_of, defining_at}
-use Rattle.procedure_parser.proofs.Law.{LawAt, by_reply, if_true, if_false, some_there, none_there, gives_at, refuses_at, skip_at, map_at, then_at}
+use Rattle.procedure_parser.proofs.Law.{LawAt, if_true, if_false, some_there, none_there, gives_at, refuses_at, skip_at, map_at, then_at}
 use Rattle.procedure_parser.proofs.Head.{on_bool, on_option, name_is, name_local, over_law, at_value, line_local}
 use Rattle.procedure_parser.proofs.Statements.{a_name, empty_block, block_law}
 use Rattle.procedure_parser.proofs.Declarations.{params_law, Worded, words_law, procedure_local}

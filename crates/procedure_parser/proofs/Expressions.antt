@@ -1,5 +1,5 @@
 -- What readers of expressions do.
-use Rattle.std.proofs.Common.{◌≡◌, ℕ, zero, suc, ◌+◌, ◌-◌, ◌<◌, ◌≤◌, Bool, true, false, cond, ltb, List, [], ◌∷◌, Option, Some, None, Ok, Err, refl, sym, ap, subst, ◌∙◌, arith, ◌⊎◌, inl, inr}
+use Rattle.std.proofs.Common.{◌≡◌, ℕ, zero, suc, ◌+◌, ◌-◌, ◌<◌, ◌≤◌, Bool, true, false, cond, ltb, List, [], ◌∷◌, Option, Some, Ok, Err, refl, sym, ap, subst, arith, ◌⊎◌, inl, inr}
 use Rattle.std.specs.Prelude.{nat_eq}
 use Rattle.std.proofs.lemmas.Bool.{ltb-true, eqb-true}
 use Rattle.token_scanner.specs.declared.token.Mark.{Mark}
@@ -13,7 +13,7 @@ use Rattle.source_tree.specs.Source as source
 use Rattle.procedure_parser.specs.Reading.{◌>>=◌, Read, Reader, mark_at, name_at, over_as, comparison, additive, multiplicative, after_name_at, row_at, has_at, limit_at, plain_atom_at, atom_at, unary_at, chain_at, term_at, sum_at, against_at, expr_with, inside_at, expr_at}
 use Rattle.procedure_parser.specs.Grammar.{Form, Atom, number, variable, cell, has, has_over, limit, paren, Unary, atom, negative, Chain, over, goes_on, Comparison, equal, unequal, less, at_most, greater, at_least, Additive, Multiplicative, adds, subtracts, times, divides, remains, Term, Sum, Compared, alone, against, Inside, Expression}
 use Rattle.procedure_parser.proofs.Law.{nothing, LawAt, IsLocal, by_reply, if_true, if_false, some_there, none_there, gives_at, refuses_at, skip_at, map_at, then_at}
-use Rattle.procedure_parser.proofs.Head.{nought, on_bool, on_option, starts_is, number_is, starts_local, number_local, comparison_local, additive_local, multiplicative_local, Found, picked, over_law, expect_at, name_then_at, last_mark, behind_mark}
+use Rattle.procedure_parser.proofs.Head.{nought, on_bool, on_option, number_is, starts_local, number_local, comparison_local, additive_local, multiplicative_local, Found, picked, over_law, expect_at, name_then_at, last_mark, behind_mark}
 
 abbrev pub Bounded : ℕ → Form Phrase → Form Phrase
 Bounded r R e ts us = R e ts us × (depth e ≤ r)

@@ -1,11 +1,11 @@
 -- Numbers within bounds.
-use Rattle.std.proofs.Common.{◌≡◌, ℕ, ◌≤◌, ℤ, pos, negsuc, Bool, true, false, List, [], ◌∷◌, Option, Some, None, Ok, Err, refl, sym, ap, subst, ◌∙◌, arith, inl, inr}
+use Rattle.std.proofs.Common.{◌≡◌, ℕ, ◌≤◌, ℤ, pos, negsuc, Bool, true, false, [], ◌∷◌, Option, Some, None, Ok, Err, refl, sym, ap, subst, ◌∙◌, inl, inr}
 use Rattle.std.specs.Prelude.{nat_le, ◌&&◌, cond}
 use Rattle.std.proofs.lemmas.Bool.{leb-true, le-leb}
-use Rattle.token_scanner.specs.Words.{Word, Name, Number, Sign, Bad, Over, Words, rest, for_some, front_count, count_of}
+use Rattle.token_scanner.specs.Words.{Name, Number, Sign, Bad, Over, Words, rest, for_some, front_count, count_of}
 use Rattle.procedure_parser.specs.Reading.{◌>>=◌, Read, or_stuck, count_within, within_of, within_at}
 use Rattle.procedure_parser.specs.Grammar.{Form, Within, within}
-use Rattle.procedure_parser.proofs.Law.{nothing, LawAt, IsLocal, by_reply, reply_as, gives_at, refuses_at, skip_at, heads_run}
+use Rattle.procedure_parser.proofs.Law.{nothing, LawAt, IsLocal, by_reply, reply_as, gives_at, skip_at, heads_run}
 use Rattle.procedure_parser.proofs.Head.{on_bool, on_option, local}
 
 pub count_local : IsLocal front_count

@@ -1,13 +1,13 @@
 -- What readers of statements and blocks do.
-use Rattle.std.proofs.Common.{◌≡◌, ℕ, zero, suc, ◌≤◌, Bool, true, false, cond, List, [], ◌∷◌, ◌++◌, length, Option, Some, None, Ok, Err, refl, sym, ap, subst, ◌∙◌, arith, inl, inr}
+use Rattle.std.proofs.Common.{◌≡◌, ℕ, zero, suc, cond, List, [], ◌∷◌, ◌++◌, length, Option, Some, None, Ok, Err, refl, sym, subst, arith, inl, inr}
 use Rattle.token_scanner.specs.declared.token.Mark.TheVariants as mark
 use Rattle.token_scanner.specs.declared.token.Mark.TheVariants.{OpenParen, CloseParen, OpenBrace, CloseBrace, Semicolon, Comma, Colon, Assign, Call, Spawn, Sync, Update, If, Else, CilkFor, In, Range, Grain, Return}
 use Rattle.program_tree.specs.declared.Way.{Way}
 use Rattle.program_tree.specs.declared.Way.TheVariants as way
 use Rattle.token_scanner.specs.Words.{Word, Name, Number, Sign, Over, Words, for_some, starts, rest, front_name, line_of}
 use Rattle.source_tree.specs.Source.{Phrase, Num, Stmt, none, stmts_of, Binds, Enters, Reads, Syncs, Updates, Tests, Loops, Returns}
-use Rattle.procedure_parser.specs.Reading.{◌>>=◌, Read, mark_at, name_at, over_as, many_at, whole_at, comma_expr_at, exprs_at, args_at, way_of, entry_at, value_at, read_at, bound_at, bind_at, update_at, return_at, within_at, grain_at, range_at, iteration_at, loop_at, Blocks, else_at, if_at, keyword_at, statement_at, goes_on, end_at, body_at, block_at}
-use Rattle.procedure_parser.specs.Grammar.{Form, Many, nil, cons, Whole, CommaExpr, comma_expr, Exprs, exprs, Args, no_args, args, EnterWord, calls, spawns, Entry, entry, Within, Grained, no_grain, grained, Ranged, ranged, Statement, binds, binds_entry, binds_read, enters, syncs, updates, tests, tests_else, loops, Body, plain, returning, Block}
+use Rattle.procedure_parser.specs.Reading.{◌>>=◌, Read, mark_at, name_at, many_at, whole_at, comma_expr_at, exprs_at, args_at, way_of, entry_at, value_at, read_at, bound_at, bind_at, update_at, return_at, within_at, grain_at, range_at, iteration_at, loop_at, Blocks, else_at, if_at, keyword_at, statement_at, goes_on, end_at, body_at, block_at}
+use Rattle.procedure_parser.specs.Grammar.{Form, Many, nil, Whole, CommaExpr, comma_expr, Exprs, exprs, Args, no_args, args, EnterWord, calls, spawns, Entry, entry, Within, Grained, no_grain, grained, Ranged, ranged, Statement, binds, binds_entry, binds_read, enters, syncs, updates, tests, tests_else, loops, Body, plain, returning, Block}
 use Rattle.procedure_parser.proofs.Law.{LawAt, IsLocal, if_true, if_false, some_there, none_there, gives_at, refuses_at, skip_at, map_at, then_at}
 use Rattle.procedure_parser.proofs.Head.{nought, on_bool, on_option, starts_is, name_is, local, starts_local, name_local, Found, picked, over_law, expect_at, name_then_at, at_value, line_local, last_mark, behind_mark, behind_line}
 use Rattle.procedure_parser.proofs.Expressions.{expr_law, zero_whole}

@@ -1,5 +1,5 @@
 -- Texts that define procedures of a program: the grammar, and reading by it.
-use Rattle.std.specs.Prelude.{◌≡◌, ℕ, zero, suc, ◌+◌, ◌-◌, List, [], ◌∷◌, length, Option, Some, None, Result, Ok, Err, Bool, true, nat_lt, if◌then◌else◌, remove}
+use Rattle.std.specs.Prelude.{◌≡◌, ℕ, zero, suc, ◌+◌, ◌-◌, List, [], ◌∷◌, ◌++◌, length, Option, Some, None, Result, Ok, Err, Bool, true, nat_lt, if◌then◌else◌, remove}
 use Rattle.program_tree.specs.Plain.{Name, Tree}
 use Rattle.program_tree.specs.Plain as plain
 use Rattle.token_scanner.specs.Words.{Word, Over, Words, for_some, rest, front_name, line_of, ended}
@@ -13,15 +13,25 @@ use Rattle.procedure_parser.specs.Grammar.{Form, Params, Block, ProcedureWord}
 abbrev pub Room : Type 0
 Room = List Name × ℕ
 
--- the names of a program's procedures
-abbrev pub procedure_names : Tree → List Name
-procedure_names [] = []
-procedure_names (plain.reducer r ∷ ds) = procedure_names ds
-procedure_names (plain.procedure p ∷ ds) = p.called ∷ procedure_names ds
+-- names, with one more, where it is new
+abbrev pub with_new : List Name → Name → List Name
+with_new names f = for_some (place_of f names) (names ++ f ∷ []) (λ n. names)
 
--- a program has at most 256 procedures
+-- names, with those of a program's procedures, each once
+abbrev pub names_from : List Name → Tree → List Name
+names_from names [] = names
+names_from names (plain.reducer r ∷ ds) = names_from names ds
+names_from names (plain.procedure p ∷ ds) = names_from (with_new names p.called) ds
+
+-- how many procedures a program has
+abbrev pub procedures_in : Tree → ℕ
+procedures_in [] = 0
+procedures_in (plain.reducer r ∷ ds) = procedures_in ds
+procedures_in (plain.procedure p ∷ ds) = suc (procedures_in ds)
+
+-- a program has at most 256 procedures, and one of each name may be replaced
 abbrev pub room_of : Tree → Room
-room_of t = (procedure_names t, 256 - length (procedure_names t))
+room_of t = (names_from [] t, 256 - procedures_in t)
 
 -- behind a procedure of this name, where there is room for it
 abbrev pub room_behind : Room → Name → Option Room

@@ -1,5 +1,5 @@
 -- Reading tokens from left to right: a tree and the tokens after it, or the tokens from the first on that can't follow.
-use Rattle.std.specs.Prelude.{◌≡◌, ℕ, zero, suc, ◌-◌, ◌*◌, ℤ, pos, List, [], ◌∷◌, length, Option, Some, None, Result, Ok, Err, nat_lt, nat_le, nat_eq, if◌then◌else◌, Bool, true, false, not, ◌&&◌, ◌||◌, ◌++◌, codes}
+use Rattle.std.specs.Prelude.{◌≡◌, ℕ, zero, suc, ◌-◌, ◌*◌, pos, List, [], ◌∷◌, length, Option, Some, None, Result, Ok, Err, nat_lt, nat_le, nat_eq, if◌then◌else◌, Bool, true, false, not, ◌&&◌, ◌||◌, ◌++◌, codes}
 use Rattle.program_tree.specs.declared.Operator.{Operator}
 use Rattle.program_tree.specs.declared.Operator.TheVariants as op
 use Rattle.program_tree.specs.declared.Way.{Way}

@@ -301,3 +301,53 @@ fn room_for_one(rt: HostRuntime) -> Result<(), Fail> {
     );
     Ok(())
 }
+
+/// How many parameters each of the first three declarations has, as a procedure.
+fn parameters_in_front(program: &Program) -> [usize; 3] {
+    [
+        parameters(program, 0),
+        parameters(program, 1),
+        parameters(program, 2),
+    ]
+}
+
+fn parameters(program: &Program, place: usize) -> usize {
+    match procedure(program, place) {
+        Some(procedure) => procedure.parameters as usize,
+        None => 0,
+    }
+}
+
+/// A program of two procedures f and so many others, each of a name of its own.
+fn with_two(alloc: Global, others: usize) -> Result<Program, Fail> {
+    let mut text = repeated(alloc, b"", b"proc f() { }\n", 2, b"")?;
+    for number in 0..others {
+        let other = format!(in alloc; "proc p{number}() {{ }}\n")?;
+        text.extend_from_slice(other.as_bytes())?;
+    }
+    Ok(parse(alloc, &text)?)
+}
+
+/// Of two procedures of one name the last is replaced, and a second one of that name is one more.
+#[test]
+fn two_of_one_name(rt: HostRuntime) -> Result<(), Fail> {
+    let full = with_two(rt.alloc(), 254)?;
+    assert_eq!(rt; full.declarations.len(), 256);
+    assert!(rt; refused_at(rt.alloc(), &full, b"proc f() { }\nproc f() { }", 2));
+    let after = parse_define(rt.alloc(), b"proc f(v) { return v; }", &full)?;
+    assert_eq!(rt; parameters_in_front(&after), [0, 1, 0]);
+    assert_eq!(rt; after.declarations.len(), 256);
+    Ok(())
+}
+
+/// Where there is room for one more, it comes behind the one that was replaced.
+#[test]
+fn one_more_of_a_name(rt: HostRuntime) -> Result<(), Fail> {
+    let program = with_two(rt.alloc(), 253)?;
+    let text = b"proc f(v) { }\nproc f(v, w) { }";
+    let after = parse_define(rt.alloc(), text, &program)?;
+    assert_eq!(rt; parameters_in_front(&after), [0, 1, 2]);
+    assert_eq!(rt; after.declarations.len(), 256);
+    assert!(rt; refused_at(rt.alloc(), &after, b"proc f() { }\nproc\nf() { }", 3));
+    Ok(())
+}

@@ -1,10 +1,10 @@
 //! Which procedures a text may define.
 
-ghost use Rattle.std.specs.Prelude.{◌≡◌, ◌<◌, IfOk, IfSome, map, length, option_map};
+ghost use Rattle.std.specs.Prelude.{◌≡◌, ◌<◌, [], IfOk, IfSome, OnOk, map, length, option_map};
 ghost use Rattle.program_tree.specs.View.{decl, tree};
 ghost use Rattle.source_tree.specs.Source.{texts};
 ghost use Rattle.source_tree.specs.Lowering.{place_of};
-ghost use Rattle.procedure_parser.specs.Defining.{procedure_names, room_of, room_behind, turns_of};
+ghost use Rattle.procedure_parser.specs.Defining.{with_new, names_from, procedures_in, room_of, room_behind, turns_of};
 ghost use Rattle.procedure_parser.specs.Rooms as seen;
 
 use program_tree::{Declaration, Program};
@@ -15,19 +15,6 @@ use std::alloc::{AllocError, Global};
 pub struct Room {
     known: Vec<String>,
     left: u32,
-}
-
-/// The names of the procedures among declarations.
-fn procedure_names(alloc: Global, declarations: &[Declaration]) -> Result<Vec<String>, AllocError>
-    ensures { IfOk result (λ xs. texts xs.items ≡ procedure_names (map decl declarations.now)) }
-{
-    let mut names = Vec::with_capacity(alloc, declarations.len())?;
-    for declaration in declarations {
-        if let Declaration::Procedure(procedure) = declaration {
-            names.push(String::from_str(alloc, &procedure.name)?)?;
-        }
-    }
-    Ok(names)
 }
 
 fn place_of(names: &[String], name: &str) -> Option<usize>
@@ -42,12 +29,49 @@ fn place_of(names: &[String], name: &str) -> Option<usize>
     None
 }
 
+/// Puts a name last, where it is none of these.
+fn add_new(alloc: Global, names: &mut Vec<String>, name: &str) -> Result<(), AllocError>
+    ensures { OnOk result (texts names.new.items ≡ with_new (texts names.old.items) name.now) }
+{
+    if place_of(names, name).is_some() {
+        return Ok(());
+    }
+    names.push(String::from_str(alloc, name)?)?;
+    Ok(())
+}
+
+/// The names of the procedures among declarations, each once.
+fn names_of(alloc: Global, declarations: &[Declaration]) -> Result<Vec<String>, AllocError>
+    ensures { IfOk result (λ xs. texts xs.items ≡ names_from [] (map decl declarations.now)) }
+{
+    let mut names = Vec::new(alloc);
+    for declaration in declarations {
+        if let Declaration::Procedure(procedure) = declaration {
+            add_new(alloc, &mut names, &procedure.name)?;
+        }
+    }
+    Ok(names)
+}
+
+/// How many procedures are among declarations.
+fn procedures_in(declarations: &[Declaration]) -> usize
+    ensures { result ≡ procedures_in (map decl declarations.now) }
+{
+    let mut count = 0;
+    for declaration in declarations {
+        if let Declaration::Procedure(_) = declaration {
+            count += 1;
+        }
+    }
+    count
+}
+
 /// The room that a program leaves.
 pub fn room_of(alloc: Global, program: &Program) -> Result<Room, AllocError>
     ensures { IfOk result (λ r. seen.room r ≡ room_of (tree program.now)) }
 {
-    let known = procedure_names(alloc, &program.declarations)?;
-    let left = 256usize.saturating_sub(known.len()) as u32;
+    let known = names_of(alloc, &program.declarations)?;
+    let left = 256usize.saturating_sub(procedures_in(&program.declarations)) as u32;
     Ok(Room { known, left })
 }
 

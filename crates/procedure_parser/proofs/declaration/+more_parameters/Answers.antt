@@ -1,6 +1,6 @@
-use Rattle.std.proofs.Common.{◌≡◌, ◌++◌, ◌∷◌, [], string_bytes, Some, Ok, false, sym, ap, subst, ◌∙◌}
-use Rattle.std.proofs.lemmas.List.{map_push, length-map}
-use Rattle.token_scanner.specs.Words.{Words, words, placed, starts_over}
+use Rattle.std.proofs.Common.{◌≡◌, ◌++◌, ◌∷◌, [], string_bytes, Ok, sym, subst, ◌∙◌}
+use Rattle.std.proofs.lemmas.List.{map_push}
+use Rattle.token_scanner.specs.Words.{Words, words}
 use Rattle.source_tree.specs.Source.{texts}
 use Rattle.procedure_parser.specs.Reading.{name_at}
 use Rattle.procedure_parser.proofs.Turns.{gives_along, param_turn}

@@ -1,8 +1,8 @@
-use Rattle.std.proofs.Common.{◌≡◌, ◌++◌, ◌∷◌, [], Ok, Some, subst}
+use Rattle.std.proofs.Common.{◌≡◌, ◌++◌, ◌∷◌, [], Ok, subst}
 use Rattle.std.proofs.lemmas.List.{map_push}
-use Rattle.token_scanner.specs.Words.{Words, words, front_name}
+use Rattle.token_scanner.specs.Words.{Words, words}
 use Rattle.source_tree.specs.Source.{decl, source}
-use Rattle.procedure_parser.specs.Defining.{room_behind, behind_name_at, procedures_at}
+use Rattle.procedure_parser.specs.Defining.{behind_name_at, procedures_at}
 use Rattle.procedure_parser.specs.Rooms.{room}
 use Rattle.procedure_parser.proofs.Turns.{gives_along}
 use Rattle.procedure_parser.proofs.Rooms.{named_turn}

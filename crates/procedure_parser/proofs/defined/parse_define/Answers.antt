@@ -1,5 +1,4 @@
-use Rattle.std.proofs.Common.{◌≡◌, sym, ap, subst, ◌∙◌}
-use Rattle.program_tree.specs.View.{tree, lines}
+use Rattle.program_tree.specs.View.{tree}
 use Rattle.source_tree.specs.Source.{source}
 use Rattle.procedure_parser.specs.Defining.{room_of}
 use Rattle.procedure_parser.proofs.Counts.{definition_bodies}

@@ -1,4 +1,3 @@
-use Rattle.std.proofs.Common.{◌≡◌}
 use Rattle.procedure_parser.proofs.Never.{never_over}
 use Rattle.procedure_parser.proofs.front.left.Goals as goal
 

@@ -1,4 +1,4 @@
-use Rattle.std.proofs.Common.{◌≡◌, ◌++◌, ◌∷◌, [], sym, ap, ◌∙◌}
+use Rattle.std.proofs.Common.{◌≡◌, ◌++◌, ◌∷◌, []}
 use Rattle.token_scanner.specs.Words.{words}
 use Rattle.procedure_parser.proofs.Turns.{gives_along, cell_turn}
 use Rattle.procedure_parser.proofs.kinds.+more_cells.Goals as goal

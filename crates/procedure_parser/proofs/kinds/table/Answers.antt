@@ -1,4 +1,4 @@
-use Rattle.std.proofs.Common.{rules, ◌≡◌, ◌≤◌, ◌<◌, ◌*◌, length, ℕ, Ok, take, slice_index, sym, ◌∙◌, refl, arith}
+use Rattle.std.proofs.Common.{rules, ◌≡◌, ◌≤◌, ◌<◌, ◌*◌, length, ℕ, take, slice_index, sym, ◌∙◌, refl, arith}
 use Rattle.std.specs.Prelude.{All}
 use Rattle.token_scanner.specs.Words.{words}
 use Rattle.procedure_parser.specs.Reading.{table_at}
