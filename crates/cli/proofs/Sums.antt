@@ -1,5 +1,5 @@
 -- Amounts by key in a map: what its look-up and insert give is an amount added.
-use Rattle.std.proofs.Common.{◌≡◌, ℕ, ◌+◌, ◌<◌, ◌≤◌, ℤ, List, [], ◌∷◌, Option, Some, None, Bool, true, false, cond, Ordering, Less, Equal, Greater, length, map, drop, get_or, refl, suc, ap, sym, subst, ◌∙◌, add-one, arith, ◌<ℤ◌, ◌+ℤ◌}
+use Rattle.std.proofs.Common.{◌≡◌, ℕ, ◌+◌, ◌<◌, ◌≤◌, ℤ, List, [], ◌∷◌, Option, Some, None, Bool, true, false, cond, Ordering, Less, Equal, Greater, length, map, drop, get_or, refl, ap, sym, subst, ◌∙◌, add-one, arith, ◌<ℤ◌, ◌+ℤ◌}
 use Rattle.std.specs.Prelude.{int_lt}
 use Rattle.std.specs.Ordering.{int_cmp, is_eq, match_ordering}
 use Rattle.std.specs.Map.{lookup}

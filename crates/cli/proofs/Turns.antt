@@ -1,5 +1,5 @@
 -- Steps one after another keep a run the same one, and its answer is that of its program and tables.
-use Rattle.std.proofs.Common.{◌≡◌, ℕ, List, refl, subst, ◌∙◌}
+use Rattle.std.proofs.Common.{ℕ, List, subst, ◌∙◌}
 use Rattle.program_tree.specs.View.{tree}
 use Rattle.monoid_laws.specs.declared.Kind.{Kind}
 use Rattle.meaning.specs.Elision.{from_scratch}

@@ -9,5 +9,3 @@ pub mod run;
 mod stealing;
 mod stepping;
 mod strands;
-#[cfg(test)]
-mod tests;

@@ -1,4 +1,4 @@
-use Rattle.std.proofs.Common.{◌≡◌, ℤ, pos, get_or, rules, w64, to_z, of_z}
+use Rattle.std.proofs.Common.{◌≡◌, pos, get_or, rules, w64, to_z, of_z}
 use Rattle.monoid_laws.specs.Kinds.{merge}
 use Rattle.cli.proofs.Sums.{one_more_amount}
 use Rattle.cli.proofs.amounts.add_piece.Goals as goal

@@ -1,4 +1,4 @@
-use Rattle.std.proofs.Common.{◌≡◌, ◌<◌, sym, ◌∙◌, ap, map, subst, append_assoc, length, All}
+use Rattle.std.proofs.Common.{◌≡◌, ◌∙◌, ap, map, subst, append_assoc, All}
 use Rattle.program_tree.specs.View.{tree}
 use Rattle.meaning.specs.Text.{answers_from}
 use Rattle.cli.specs.Commands.{said}

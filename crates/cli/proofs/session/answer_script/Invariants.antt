@@ -1,4 +1,4 @@
-use Rattle.std.proofs.Common.{◌≡◌, ◌<◌, ◌++◌, ◌≤◌, ℕ, List, length, All, map, drop}
+use Rattle.std.proofs.Common.{◌≡◌, ◌++◌, ◌≤◌, ℕ, List, length, All, map, drop}
 use Rattle.std.specs.Io.KnownBytes.{Appends}
 use Rattle.program_tree.specs.View.{tree}
 use Rattle.meaning.specs.Text.{answers_from}

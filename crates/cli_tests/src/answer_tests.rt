@@ -1,0 +1,192 @@
+// Each line of an answer, and each part of a session on its own.
+ghost use Rattle.std.specs.Prelude.{◌≡◌, All};
+ghost use Rattle.linked_program.specs.TableNames.{columned_of};
+
+use cli::amounts::merged;
+use cli::answers::{
+    kind_name, push_fault, push_outcome, push_reducer, push_result, push_run, push_unknown,
+    push_value, push_values,
+};
+use cli::beginning::begin;
+use cli::kits::pool;
+use cli::prepare::prepare;
+use cli::runs::run;
+use cli::script::{Command, commands};
+use cli::session::Session;
+use cli::streams::{read_all, write_whole};
+use frames::answer::RunAnswer;
+use meaning::FaultKind;
+use monoid_laws::{Kind, Val};
+use positions::phase::Fault;
+use program_tree::Reducer;
+use std::alloc::{AllocError, Global};
+use std::process::Abort;
+use view_pool::PlainView;
+
+const TWO_REDUCERS: &str =
+    "reducer a : add; proc main() { update b 5; update a 7; return 0 - 3; } reducer b : list;";
+
+fn session(rt: &impl Abort, alloc: Global) -> Session<PlainView>
+    ensures kinds { All (λ kit. kit ≡ result.checked.kinds) result.kits.kits }
+    ensures tables { result.checked.tables ≡ columned_of result.tables.tables }
+{
+    let make = |kind: Kind| -> Result<PlainView, AllocError> { Ok(PlainView::new(alloc, kind)) };
+    begin(alloc, TWO_REDUCERS.as_bytes(), "", 1, &make).expect(rt, "a session")
+}
+
+#[test]
+fn lines_of_numbers(rt: HostRuntime) {
+    let mut text = String::new(rt.alloc());
+    push_unknown(&mut text, 12).expect(&rt, "memory");
+    push_run(&mut text, 3).expect(&rt, "memory");
+    push_result(&mut text, -5).expect(&rt, "memory");
+    assert_eq!(&rt; text.as_str(), "refused E19 12\nrun 3\nresult -5\n");
+}
+
+#[test]
+fn line_of_a_fault(rt: HostRuntime) {
+    let mut text = String::new(rt.alloc());
+    push_fault(&mut text, FaultKind::MissingRow, "line", 1).expect(&rt, "memory");
+    assert_eq!(&rt; text.as_str(), "fault missing row in line at 1\n");
+}
+
+#[test]
+fn names_of_kinds(rt: HostRuntime) {
+    for (kind, name) in [
+        (FaultKind::DivideByZero, "divide by zero"),
+        (FaultKind::MissingRow, "missing row"),
+        (FaultKind::RangeTooLong, "range too long"),
+        (FaultKind::TooDeep, "too deep"),
+        (FaultKind::BadElement, "bad element"),
+    ] {
+        assert_eq!(&rt; kind_name(kind), name);
+    }
+}
+
+#[test]
+fn line_of_a_reducer(rt: HostRuntime) {
+    let reducer = Reducer {
+        name: String::from_str(rt.alloc(), "total").expect(&rt, "memory"),
+        line: 1,
+        kind: Kind::Add,
+    };
+    let mut text = String::new(rt.alloc());
+    push_reducer(rt.alloc(), &mut text, &reducer, &Val::Int(i64::MIN)).expect(&rt, "memory");
+    assert_eq!(&rt; text.as_str(), "total -9223372036854775808\n");
+}
+
+#[test]
+fn values_that_take_no_memory(rt: HostRuntime) {
+    let mut text = String::new(rt.alloc());
+    for value in [
+        Val::Int(-1),
+        Val::Arg(None),
+        Val::Arg(Some((100, 3))),
+        Val::Pair(6, 7),
+        Val::Elem(2),
+    ] {
+        push_value(rt.alloc(), &mut text, &value).expect(&rt, "memory");
+    }
+    assert_eq!(&rt; text.as_str(), " -1 none 100 3 6 7 2");
+}
+
+#[test]
+fn values_in_pieces(rt: HostRuntime) {
+    let alloc = rt.alloc();
+    let mut text = String::new(alloc);
+    let first = vec![in alloc; 1, 2].expect(&rt, "memory");
+    let last = vec![in alloc; 9].expect(&rt, "memory");
+    let lists = vec![in alloc; first, Vec::new(alloc), last].expect(&rt, "memory");
+    push_value(alloc, &mut text, &Val::Pieces(lists)).expect(&rt, "memory");
+    let first = vec![in alloc; (3, 2), (5, 1)].expect(&rt, "memory");
+    let second = vec![in alloc; (2, 7), (5, -1)].expect(&rt, "memory");
+    let pieces = vec![in alloc; first, second].expect(&rt, "memory");
+    let amounts = merged(alloc, pieces.as_slice()).expect(&rt, "memory");
+    assert_eq!(&rt; amounts.as_slice(), [(2, 7), (3, 2), (5, 0)].as_slice());
+    push_value(alloc, &mut text, &Val::HistPieces(pieces)).expect(&rt, "memory");
+    push_value(alloc, &mut text, &Val::Hist(amounts)).expect(&rt, "memory");
+    assert_eq!(&rt; text.as_str(), " 1 2 9 2:7 3:2 5:0 2:7 3:2 5:0");
+}
+
+#[test]
+fn lines_of_reducers(rt: HostRuntime) {
+    let session = session(&rt, rt.alloc());
+    let mut text = String::new(rt.alloc());
+    let values = [Val::Int(7), Val::Int(5)];
+    push_values(rt.alloc(), &mut text, session.checked.program(), &values).expect(&rt, "memory");
+    assert_eq!(&rt; text.as_str(), "a 7\nb 5\n");
+}
+
+#[test]
+fn lines_of_an_outcome(rt: HostRuntime) {
+    let session = session(&rt, rt.alloc());
+    let mut text = String::new(rt.alloc());
+    let fault = Fault {
+        kind: FaultKind::TooDeep,
+        procedure: 0,
+        statement: 2,
+    };
+    push_outcome(
+        rt.alloc(),
+        &mut text,
+        &session.checked,
+        &RunAnswer::Fault(fault),
+    )
+    .expect(&rt, "memory");
+    assert_eq!(&rt; text.as_str(), "fault too deep in main at 2\n");
+}
+
+#[test]
+fn commands_of_a_script(rt: HostRuntime) {
+    let found = commands(rt.alloc(), b"run\n#run\nruns\n\nrun\t").expect(&rt, "memory");
+    let wanted = [Command::Run, Command::Unknown(3), Command::Run];
+    assert_eq!(&rt; found.as_slice(), wanted.as_slice());
+}
+
+#[test]
+fn a_program_and_its_tables(rt: HostRuntime) {
+    let tables = "[sales]\ncolumns = [\"qty\"]\nrows = [[3, 7]]\n";
+    match prepare(rt.alloc(), TWO_REDUCERS.as_bytes(), tables) {
+        Ok((checked, tables)) => {
+            assert_eq!(&rt; checked.kinds(), [Kind::Add, Kind::List].as_slice());
+            assert_eq!(&rt; tables.limit(0), 4);
+        }
+        Err(_) => assert!(&rt; false),
+    }
+}
+
+#[test]
+fn a_pool_of_kits(rt: HostRuntime) {
+    let alloc = rt.alloc();
+    let make = |kind: Kind| -> Result<PlainView, AllocError> { Ok(PlainView::new(alloc, kind)) };
+    let kits = pool(alloc, &[Kind::Add, Kind::List], 3, &make).expect(&rt, "memory");
+    assert_eq!(&rt; kits.free(), 3);
+}
+
+#[test]
+fn a_run_gives_its_kit_back(rt: HostRuntime) {
+    let Session {
+        checked,
+        tables,
+        mut kits,
+    } = session(&rt, rt.alloc());
+    let answer = run(&rt, rt.alloc(), &checked, &tables, &mut kits, 1);
+    match answer {
+        Ok(RunAnswer::Finished { result, values }) => {
+            assert_eq!(&rt; result, -3);
+            assert_eq!(&rt; values.len(), 2);
+        }
+        _ => assert!(&rt; false),
+    }
+    assert_eq!(&rt; kits.free(), 1);
+}
+
+#[test]
+fn all_is_read_and_written(rt: HostRuntime) {
+    let mut reader = b"run\n".as_slice();
+    let read = read_all(rt.alloc(), &mut reader).expect(&rt, "bytes");
+    assert_eq!(&rt; read.as_slice(), b"run\n".as_slice());
+    let mut written = Vec::new(rt.alloc());
+    write_whole(&mut written, b"ok\n").expect(&rt, "written");
+    assert_eq!(&rt; written.as_slice(), b"ok\n".as_slice());
+}

@@ -1,0 +1,15 @@
+//! The program's parts in memory: lines, files, scripts, sessions, streams and answers, against what was found by hand.
+#![tactic(auto)]
+
+#[cfg(test)]
+mod answer_tests;
+#[cfg(test)]
+mod memory_tests;
+#[cfg(test)]
+mod program_tests;
+#[cfg(test)]
+mod row_tests;
+#[cfg(test)]
+mod session_tests;
+#[cfg(test)]
+mod stream_tests;

@@ -1,0 +1,130 @@
+// Where memory is refused, a report ends by want of memory after a beginning of its answers, or is as it should be.
+use cli::files::FileSource;
+use cli::line::options;
+use cli::options::{Options, OptionsError};
+use cli::prepare::{PrepareError, prepare};
+use cli::program::{report_on, status};
+use monoid_laws::Kind;
+use std::alloc::{AllocError, Global};
+use std::io;
+use std::io::{ErrorKind, Write};
+use std::process::Abort;
+use std::sync::Wait;
+use view_pool::PlainView;
+
+const FIRST: &[u8] = b"reducer total : add;
+proc leaf(v) { update total v; return v; }
+proc main() { x = spawn leaf(1); y = spawn leaf(2); update total 9; sync; return x + y; }
+";
+
+const DEEP: &[u8] = b"proc f() { call f(); } proc main() { call f(); }";
+
+// A program's file; that of the tables is empty.
+#[derive(Clone, Copy)]
+struct Program<'a> {
+    text: &'a [u8],
+}
+
+impl<'a> FileSource for Program<'a> {
+    fn read(&self, alloc: Global, path: &str) -> io::Result<Vec<u8>> {
+        let text = if path == "p" { self.text } else { b"" };
+        Ok(Vec::from_slice(alloc, text)?)
+    }
+}
+
+// A writer that takes no memory.
+#[derive(Drop)]
+struct Page {
+    bytes: [u8; 64],
+    len: usize,
+}
+
+impl Write for Page {
+    fn write(&mut self, buf: &[u8]) -> io::Result<usize> {
+        if self.len >= 64 || buf.is_empty() {
+            return Err(io::Error::from(ErrorKind::WriteZero));
+        }
+        self.bytes[self.len] = buf[0];
+        self.len += 1;
+        Ok(1)
+    }
+
+    fn flush(&mut self) -> io::Result<()> {
+        Ok(())
+    }
+}
+
+// Whether all of these answers are written, or a beginning of them and then memory was refused.
+fn is_written(rt: &(impl Abort + Wait), alloc: Global, text: &[u8], answers: &[u8]) -> bool {
+    let options = Options {
+        program: "p",
+        tables: "t",
+        workers: 1,
+        kits: 2,
+    };
+    let make = |kind: Kind| -> Result<PlainView, AllocError> { Ok(PlainView::new(alloc, kind)) };
+    let mut reader = b"run\nhere\n".as_slice();
+    let mut page = Page {
+        bytes: [0; 64],
+        len: 0,
+    };
+    let ended = report_on(
+        rt,
+        alloc,
+        options,
+        &make,
+        &Program { text },
+        &mut reader,
+        &mut page,
+    );
+    let written = &page.bytes[..page.len.min(64)];
+    match ended {
+        Ok(()) => written == answers,
+        Err(error) => status(&error) == 3 && answers.starts_with(written),
+    }
+}
+
+#[test]
+fn of_a_report(rt: HostRuntime) {
+    let answers = b"run 1\nresult 3\ntotal 12\nrefused E19 2\n";
+    assert!(&rt; is_written(&rt, rt.alloc(), FIRST, answers.as_slice()));
+}
+
+#[test]
+fn of_a_fault(rt: HostRuntime) {
+    let answers = b"run 1\nfault too deep in f at 1\nrefused E19 2\n";
+    assert!(&rt; is_written(&rt, rt.alloc(), DEEP, answers.as_slice()));
+}
+
+#[test]
+fn of_a_check(rt: HostRuntime) {
+    match prepare(rt.alloc(), b"proc main() { return x; }", "") {
+        Ok(_) => assert!(&rt; false),
+        Err(PrepareError::NoMemory) => {}
+        Err(PrepareError::Check { name, line, .. }) => {
+            assert_eq!(&rt; name.as_str(), "main");
+            assert_eq!(&rt; line, 1);
+        }
+        Err(_) => assert!(&rt; false),
+    }
+}
+
+#[test]
+fn of_tables(rt: HostRuntime) {
+    match prepare(rt.alloc(), FIRST, "[sales]\nrows = 1\n") {
+        Ok(_) => assert!(&rt; false),
+        Err(PrepareError::NoMemory) => {}
+        Err(PrepareError::Shape { table }) => assert_eq!(&rt; table.as_str(), "sales"),
+        Err(_) => assert!(&rt; false),
+    }
+}
+
+#[test]
+fn of_a_line(rt: HostRuntime) {
+    let words = ["cilkreport", "p", "t", "--workers", "3", "--kits", "5"];
+    match options(rt.alloc(), &words) {
+        Ok(given) => assert_eq!(&rt; (given.workers, given.kits), (3, 5)),
+        Err(OptionsError::NoMemory) => {}
+        Err(OptionsError::Usage) => assert!(&rt; false),
+    }
+}

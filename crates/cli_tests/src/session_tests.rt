@@ -1,0 +1,220 @@
+// Programs, scripts and lines, with what is written for them.
+ghost use Rattle.std.specs.Prelude.{◌≡◌, All};
+ghost use Rattle.linked_program.specs.TableNames.{columned_of};
+
+use cli::beginning::begin;
+use cli::line::options;
+use cli::options::OptionsError;
+use cli::prepare::{PrepareError, prepare};
+use cli::session::{Session, session_text};
+use cli::streams::SessionError;
+use monoid_laws::Kind;
+use std::alloc::{AllocError, Global};
+use std::io;
+use std::io::{ErrorKind, Read, Write};
+use std::process::Abort;
+use std::sync::Wait;
+use view_pool::PlainView;
+
+const FIRST: &str = "reducer total : add;
+proc leaf(v) { update total v; return v; }
+proc main() { x = spawn leaf(1); y = spawn leaf(2); update total 9; sync; return x + y; }
+";
+
+// A writer that takes so many bytes and then fails.
+#[derive(Drop)]
+struct Narrow {
+    room: usize,
+    taken: Vec<u8>,
+}
+
+impl Write for Narrow {
+    fn write(&mut self, buf: &[u8]) -> io::Result<usize> {
+        let count = buf.len().min(self.room);
+        if count == 0 {
+            return Err(io::Error::from(ErrorKind::WriteZero));
+        }
+        self.taken.extend_from_slice(&buf[..count])?;
+        self.room -= count;
+        Ok(count)
+    }
+
+    fn flush(&mut self) -> io::Result<()> {
+        Ok(())
+    }
+}
+
+// A reader that fails.
+#[derive(Drop)]
+struct Broken;
+
+impl Read for Broken {
+    fn read(&mut self, _buf: &mut [u8]) -> io::Result<usize> {
+        Err(io::Error::from(ErrorKind::InvalidData))
+    }
+}
+
+// The session of a program without tables.
+fn session(rt: &impl Abort, alloc: Global, program: &str, kits: usize) -> Session<PlainView>
+    ensures kinds { All (λ kit. kit ≡ result.checked.kinds) result.kits.kits }
+    ensures tables { result.checked.tables ≡ columned_of result.tables.tables }
+{
+    let make = |kind: Kind| -> Result<PlainView, AllocError> { Ok(PlainView::new(alloc, kind)) };
+    begin(alloc, program.as_bytes(), "", kits, &make).expect(rt, "a session")
+}
+
+fn answers(
+    rt: &(impl Abort + Wait),
+    alloc: Global,
+    program: &str,
+    script: &str,
+    workers: usize,
+) -> Vec<u8> {
+    let session = session(rt, alloc, program, 64);
+    let mut reader = script.as_bytes();
+    let mut written = Vec::new(alloc);
+    session_text(rt, alloc, session, workers, &mut reader, &mut written).expect(rt, "answers");
+    written
+}
+
+fn refusal(alloc: Global, program: &str, tables: &str) -> Option<String> {
+    match prepare(alloc, program.as_bytes(), tables) {
+        Ok(_) => None,
+        Err(error) => error.to_string(alloc).ok(),
+    }
+}
+
+#[test]
+fn first_run(rt: HostRuntime) {
+    for workers in [1, 2, 16] {
+        let written = answers(&rt, rt.alloc(), FIRST, "run\n", workers);
+        assert_eq!(&rt;
+            written.as_slice(),
+            b"run 1\nresult 3\ntotal 12\n".as_slice()
+        );
+    }
+}
+
+#[test]
+fn too_deep(rt: HostRuntime) {
+    let text = "proc f() { call f(); } proc main() { call f(); }";
+    let written = answers(&rt, rt.alloc(), text, "run", 1);
+    assert_eq!(&rt;
+        written.as_slice(),
+        b"run 1\nfault too deep in f at 1\n".as_slice()
+    );
+}
+
+#[test]
+fn other_lines_are_refused_and_the_script_goes_on(rt: HostRuntime) {
+    let script = "hello\n\n # not here\n# here\nrun\nrun now\n\trun \nrun\r\n";
+    let written = answers(&rt, rt.alloc(), FIRST, script, 1);
+    let wanted =
+        b"refused E19 1\nrefused E19 3\nrun 1\nresult 3\ntotal 12\nrefused E19 6\nrun 2\nresult 3\ntotal 12\nrefused E19 8\n";
+    assert_eq!(&rt; written.as_slice(), wanted.as_slice());
+}
+
+#[test]
+fn refusals(rt: HostRuntime) {
+    let unsynced = "proc leaf(v) { return v; }\nproc main() {\nx = spawn leaf(1);\nreturn x;\n}\n";
+    for (program, tables, wanted) in [
+        ("", "", "refused E9 C7 main 0"),
+        ("proc main() {", "", "refused E8 1"),
+        (unsynced, "", "refused E9 C3 main 4"),
+        (FIRST, "[sales]\n", "refused E3 sales"),
+        (FIRST, "[sales", "refused E2"),
+        ("", "[sales]\n", "refused E3 sales"),
+        ("proc", "[sales", "refused E8 1"),
+    ] {
+        let text = refusal(rt.alloc(), program, tables).expect(&rt, "refused");
+        assert_eq!(&rt; text.as_str(), wanted);
+    }
+}
+
+#[test]
+fn lines(rt: HostRuntime) {
+    let words = ["cilkreport", "p", "t", "--workers", "16"];
+    let given = options(rt.alloc(), &words).expect(&rt, "options");
+    assert_eq!(&rt; given.program, "p");
+    assert_eq!(&rt; given.tables, "t");
+    assert_eq!(&rt; given.workers, 16);
+    assert_eq!(&rt; given.kits, 64);
+    let words = ["cilkreport", "--kits", "4096", "p", "t"];
+    let given = options(rt.alloc(), &words).expect(&rt, "options");
+    assert_eq!(&rt; given.workers, 1);
+    assert_eq!(&rt; given.kits, 4096);
+    let words = ["cilkreport", "--workers=4", "p", "--kits", "+08", "t"];
+    let given = options(rt.alloc(), &words).expect(&rt, "options");
+    assert_eq!(&rt; (given.workers, given.kits), (4, 8));
+}
+
+fn is_usage<'a>(alloc: Global, words: &'a [&'a str]) -> bool {
+    matches!(&options(alloc, words), Err(OptionsError::Usage))
+}
+
+#[test]
+fn refused_lines(rt: HostRuntime) {
+    for workers in ["17", "0", "", "two", "-1"] {
+        let words = ["cilkreport", "p", "t", "--workers", workers];
+        let refused = options(rt.alloc(), &words);
+        assert!(&rt; matches!(&refused, Err(OptionsError::Usage)), "{workers}");
+    }
+    for kits in ["4097", "0", "", "two", "-1"] {
+        let words = ["cilkreport", "p", "t", "--kits", kits];
+        let refused = options(rt.alloc(), &words);
+        assert!(&rt; matches!(&refused, Err(OptionsError::Usage)), "{kits}");
+    }
+    let alloc = rt.alloc();
+    assert!(&rt; is_usage(alloc, &[]));
+    assert!(&rt; is_usage(alloc, &["cilkreport", "p"]));
+    assert!(&rt; is_usage(alloc, &["cilkreport", "p", "t", "u"]));
+    assert!(&rt; is_usage(alloc, &["cilkreport", "p", "t", "--kits"]));
+    assert!(&rt; is_usage(alloc, &["cilkreport", "p", "t", "--kits=1", "--kits=1"]));
+    assert!(&rt; is_usage(alloc, &["cilkreport", "p", "t", "--threads", "2"]));
+    assert!(&rt; is_usage(alloc, &["cilkreport", "p", "t", "--help"]));
+}
+
+#[test]
+fn views_of_another_kind(rt: HostRuntime) {
+    let alloc = rt.alloc();
+    let make = |_kind: Kind| -> Result<PlainView, AllocError> {
+        Ok(PlainView::new(alloc, Kind::Mul))
+    };
+    let refused = begin(alloc, FIRST.as_bytes(), "", 1, &make);
+    assert!(&rt; matches!(&refused, Err(PrepareError::NoMemory)));
+}
+
+#[test]
+fn a_failed_write(rt: HostRuntime) {
+    let alloc = rt.alloc();
+    let session = session(&rt, alloc, FIRST, 64);
+    let mut reader = b"run\n".as_slice();
+    let mut writer = Narrow {
+        room: 7,
+        taken: Vec::new(alloc),
+    };
+    let ended = session_text(&rt, alloc, session, 1, &mut reader, &mut writer);
+    assert!(&rt; matches!(&ended, Err(SessionError::Write)));
+    assert_eq!(&rt; writer.taken.as_slice(), b"run 1\nr".as_slice());
+}
+
+#[test]
+fn a_failed_read(rt: HostRuntime) {
+    let alloc = rt.alloc();
+    let session = session(&rt, alloc, FIRST, 64);
+    let mut written = Vec::new(alloc);
+    let ended = session_text(&rt, alloc, session, 1, &mut Broken, &mut written);
+    assert!(&rt; matches!(&ended, Err(SessionError::Read)));
+    assert_eq!(&rt; written.len(), 0);
+}
+
+#[test]
+fn no_kit(rt: HostRuntime) {
+    let alloc = rt.alloc();
+    let session = session(&rt, alloc, FIRST, 0);
+    let mut reader = b"here\nrun\n".as_slice();
+    let mut written = Vec::new(alloc);
+    let ended = session_text(&rt, alloc, session, 1, &mut reader, &mut written);
+    assert!(&rt; matches!(&ended, Err(SessionError::NoKit)));
+    assert_eq!(&rt; written.as_slice(), b"refused E19 1\n".as_slice());
+}

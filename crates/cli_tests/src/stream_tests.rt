@@ -1,0 +1,132 @@
+// Readers and writers that fail in mid-stream, or only for a moment.
+ghost use Rattle.std.specs.Prelude.{◌≡◌, All};
+ghost use Rattle.linked_program.specs.TableNames.{columned_of};
+
+use cli::beginning::begin;
+use cli::session::{Session, session_text};
+use cli::streams::{SessionError, read_all, write_whole};
+use monoid_laws::Kind;
+use std::alloc::{AllocError, Global};
+use std::io;
+use std::io::{ErrorKind, Read, Write};
+use std::process::Abort;
+use std::sync::Wait;
+use view_pool::PlainView;
+
+// A reader that gives one byte of `run` and an end of line a call, and errors of this kind before some.
+#[derive(Drop)]
+struct Halting {
+    given: usize,
+    error: ErrorKind,
+    at: usize,
+    times: usize,
+}
+
+impl Read for Halting {
+    fn read(&mut self, buf: &mut [u8]) -> io::Result<usize> {
+        if self.given == self.at && self.times > 0 {
+            self.times -= 1;
+            return Err(io::Error::from(self.error));
+        }
+        if self.given >= 4 || buf.is_empty() {
+            return Ok(0);
+        }
+        buf[0] = b"run\n"[self.given];
+        self.given += 1;
+        Ok(1)
+    }
+}
+
+// A writer that takes one byte a call, with an error of this kind before the first; its flush fails where told to.
+#[derive(Drop)]
+struct Slow {
+    error: Option<ErrorKind>,
+    flushes: bool,
+    taken: Vec<u8>,
+}
+
+impl Write for Slow {
+    fn write(&mut self, buf: &[u8]) -> io::Result<usize> {
+        if let Some(error) = self.error.take() {
+            return Err(io::Error::from(error));
+        }
+        let count = buf.len().min(1);
+        self.taken.extend_from_slice(&buf[..count])?;
+        Ok(count)
+    }
+
+    fn flush(&mut self) -> io::Result<()> {
+        if self.flushes {
+            return Ok(());
+        }
+        Err(io::Error::from(ErrorKind::BrokenPipe))
+    }
+}
+
+fn slow_writer(alloc: Global, error: Option<ErrorKind>, flushes: bool) -> Slow {
+    Slow {
+        error,
+        flushes,
+        taken: Vec::new(alloc),
+    }
+}
+
+fn halting_reader(error: ErrorKind, at: usize, times: usize) -> Halting {
+    Halting {
+        given: 0,
+        error,
+        at,
+        times,
+    }
+}
+
+fn session(rt: &impl Abort, alloc: Global) -> Session<PlainView>
+    ensures kinds { All (λ kit. kit ≡ result.checked.kinds) result.kits.kits }
+    ensures tables { result.checked.tables ≡ columned_of result.tables.tables }
+{
+    let make = |kind: Kind| -> Result<PlainView, AllocError> { Ok(PlainView::new(alloc, kind)) };
+    begin(alloc, b"proc main() { return 4; }", "", 1, &make).expect(rt, "a session")
+}
+
+#[test]
+fn interrupted_reads_are_done_again(rt: HostRuntime) {
+    let mut reader = halting_reader(ErrorKind::Interrupted, 2, 3);
+    let read = read_all(rt.alloc(), &mut reader).expect(&rt, "bytes");
+    assert_eq!(&rt; read.as_slice(), b"run\n".as_slice());
+}
+
+#[test]
+fn a_read_fails_in_mid_stream(rt: HostRuntime) {
+    for at in 0..5 {
+        let mut reader = halting_reader(ErrorKind::ConnectionReset, at, 1);
+        let mut writer = slow_writer(rt.alloc(), None, true);
+        let session = session(&rt, rt.alloc());
+        let ended = session_text(&rt, rt.alloc(), session, 1, &mut reader, &mut writer);
+        assert!(&rt; matches!(&ended, Err(SessionError::Read)));
+        assert_eq!(&rt; writer.taken.len(), 0);
+    }
+}
+
+#[test]
+fn a_reader_without_memory(rt: HostRuntime) {
+    let mut reader = halting_reader(ErrorKind::OutOfMemory, 1, 1);
+    let read = read_all(rt.alloc(), &mut reader);
+    assert!(&rt; matches!(&read, Err(SessionError::NoMemory)));
+}
+
+#[test]
+fn interrupted_writes_are_done_again(rt: HostRuntime) {
+    let mut writer = slow_writer(rt.alloc(), Some(ErrorKind::Interrupted), true);
+    write_whole(&mut writer, b"ok\n").expect(&rt, "written");
+    assert_eq!(&rt; writer.taken.as_slice(), b"ok\n".as_slice());
+}
+
+#[test]
+fn a_failed_flush_is_a_failed_write(rt: HostRuntime) {
+    let mut writer = slow_writer(rt.alloc(), None, false);
+    let session = session(&rt, rt.alloc());
+    let mut reader = b"run\n".as_slice();
+    let ended = session_text(&rt, rt.alloc(), session, 1, &mut reader, &mut writer);
+    assert!(&rt; matches!(&ended, Err(SessionError::Write)));
+    assert_eq!(&rt; writer.taken.as_slice(), b"run 1\nresult 4\n".as_slice());
+}
