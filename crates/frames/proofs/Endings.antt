@@ -1,9 +1,8 @@
 -- The answer of a strand is that of what it stands for.
-use Rattle.std.proofs.Common.{◌≡◌, ℕ, List, [], ◌∷◌, map, refl, sym, ◌∙◌, ap, subst}
-use Rattle.std.specs.Prelude.{ℤ}
+use Rattle.std.proofs.Common.{◌≡◌, List, [], ◌∷◌, refl, sym, ◌∙◌, ap, subst}
 use Rattle.monoid_laws.specs.Worth.{Worth}
 use Rattle.program_tree.specs.Plain.{Tree}
-use Rattle.meaning.specs.Outcome.{Place, Fault as NamedFault}
+use Rattle.meaning.specs.Outcome.{Place}
 use Rattle.meaning.specs.SmallStep.{entering, running, spawning, returning, leaving, broken, Parent}
 use Rattle.meaning.specs.Layers.{Notes, bottom}
 use Rattle.meaning.specs.LayeredStrand.{LayeredStrand}
@@ -14,7 +13,7 @@ use Rattle.positions.specs.declared.phase.Phase.TheVariants as phase
 use Rattle.positions.specs.Activations.{PlainActivation}
 use Rattle.positions.specs.Layers.{PlainLayer, lowest}
 use Rattle.positions.specs.Strands.{PlainStrand}
-use Rattle.positions.specs.Stands.{AreNotes, AreParents, StandsAt, StandsFor, named_fault}
+use Rattle.positions.specs.Stands.{AreNotes, AreParents, StandsAt, named_fault}
 use Rattle.frames.specs.declared.answer.RunAnswer.{RunAnswer}
 use Rattle.frames.specs.declared.answer.RunAnswer.TheVariants as answer
 use Rattle.frames.specs.Answers.{Ending, over, stopped, underway, ending_at, ending_of, IsAnswer, HasLeft, Answers, IsAnswerOf}

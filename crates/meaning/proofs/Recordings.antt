@@ -1,17 +1,15 @@
 -- What several workers' runs count and record, on small programs, by computation.
-use Rattle.std.specs.Prelude.{◌≡◌, ℕ, zero, suc, ℤ, pos, List, [], ◌∷◌, ◌++◌, map, Option, Some, None}
+use Rattle.std.specs.Prelude.{◌≡◌, ℕ, zero, suc, pos, List, [], ◌∷◌, ◌++◌, map, Some}
 use Rattle.std.proofs.Common.{refl}
 use Rattle.std.specs.Int.{int_wrap}
 use Rattle.monoid_laws.specs.Worth as w
-use Rattle.program_tree.specs.Plain.{Name}
 use Rattle.meaning.specs.Tables.{Tables}
 use Rattle.meaning.specs.Outcome.{CellHeld}
 use Rattle.meaning.specs.Elision.{Answer, Finished, elide, all_turns}
 use Rattle.meaning.specs.Records.{Kept, Revised, needing}
 use Rattle.meaning.specs.Trail.{halvings}
-use Rattle.meaning.specs.Commits.{committed, kept_after}
-use Rattle.meaning.specs.Tallies.{Tally}
-use Rattle.meaning.specs.Schedules.{recording_from, RunState, RunStep, work, push, inline, pop, stall, steal, fold, first_state, path, end_of, Piece}
+use Rattle.meaning.specs.Commits.{kept_after}
+use Rattle.meaning.specs.Schedules.{recording_from, RunState, RunStep, work, inline, stall, first_state, path, end_of, Piece}
 use Rattle.meaning.proofs.Samples.{lines, sales, row, n_line, n_main, n_sales, n_qty, n_price}
 
 abbrev times : ℕ → List RunStep → List RunStep

@@ -4,7 +4,7 @@ use Rattle.program_tree.specs.Plain.{Tree}
 use Rattle.meaning.specs.Tables.{Tables}
 use Rattle.meaning.specs.Outcome.{Accumulators, Place, Leaves}
 use Rattle.meaning.specs.Trail.{child_of}
-use Rattle.meaning.specs.SmallStep.{Slot, unset, waits, has, Start, root, behind, Frame, Todo, Child, instance, Phase, entering, running, Parent, opened, noting, closing_one, Step, moved, taken, paused, Lookup, Continuation, same_name, with_value, micro, child_name, awaiting, with_env, set_into}
+use Rattle.meaning.specs.SmallStep.{Slot, unset, waits, has, Start, root, behind, Frame, Todo, Child, instance, Phase, entering, running, Parent, opened, Step, moved, taken, paused, Lookup, Continuation, same_name, with_value, micro, child_name, awaiting, with_env, set_into}
 use Rattle.meaning.specs.Layers.{Notes, notes_of, layers_by, noted_top, take_top, blank, bottom}
 use Rattle.meaning.specs.Elision.{depth_limit, main}
 

@@ -1,5 +1,5 @@
 -- Two neighbours of which a fold was refused for memory.
-use Rattle.std.specs.Prelude.{◌≡◌, ℕ, true, List, ◌∷◌, ◌++◌}
+use Rattle.std.specs.Prelude.{◌≡◌, true, List, ◌∷◌, ◌++◌}
 use Rattle.monoid_laws.specs.Kinds.{operate_all}
 use Rattle.positions.specs.Moves.{FoldsViews}
 use Rattle.numbered_runs.specs.Pieces.{PlainPiece, may_fold}

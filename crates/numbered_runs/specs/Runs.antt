@@ -1,17 +1,17 @@
 -- The steps of a run on several workers, by numbers.
-use Rattle.std.specs.Prelude.{ℕ, suc, ◌+◌, ◌-◌, nat_lt, Bool, true, false, cond, not, ◌&&◌, ◌||◌, List, [], ◌∷◌, ◌++◌, map, Result, Ok, Err}
+use Rattle.std.specs.Prelude.{ℕ, ◌+◌, ◌-◌, nat_lt, Bool, true, false, cond, not, ◌&&◌, List, [], ◌∷◌, ◌++◌, Result, Ok, Err}
 use Rattle.monoid_laws.specs.declared.Kind.{Kind}
 use Rattle.meaning.specs.Tables.{Tables}
 use Rattle.meaning.specs.Every.{every}
 use Rattle.meaning.specs.Outcome.{Place}
 use Rattle.meaning.specs.SmallStep.{same_name}
-use Rattle.meaning.specs.Strands.{State, Held, BookStep, Fold, Line}
+use Rattle.meaning.specs.Strands.{Held, BookStep, Fold, Line}
 use Rattle.meaning.specs.Schedules.{RunStep, work, push, inline, pop, stall, steal, fold}
 use Rattle.linked_program.specs.declared.code.Code.{Code}
 use Rattle.positions.specs.Moves.{first_strand}
 use Rattle.numbered_runs.specs.Pieces.{PlainPiece, Change, place_of, is_held_by, pushed, inlined, popped, may_fold, folded, worked, stalled, stolen_from}
 use Rattle.numbered_runs.specs.declared.refusal.Refusal.{Refusal}
-use Rattle.numbered_runs.specs.declared.refusal.Refusal.TheVariants.{NoMemory, Busy, Nothing, NotThere}
+use Rattle.numbered_runs.specs.declared.refusal.Refusal.TheVariants.{Busy, Nothing, NotThere}
 
 -- the pieces in serial order, the number of free kits, the history
 pub record PlainRun : Type 0 where

@@ -1,9 +1,8 @@
 -- What the steps on runs of numbers are for the runs of the definitions that they stand for.
 use Rattle.std.specs.Prelude.{◌≡◌, ℕ, List, Option, Some, None}
 use Rattle.meaning.specs.Tables.{Tables}
-use Rattle.meaning.specs.Elision.{Answer}
 use Rattle.meaning.specs.Records.{Revised}
-use Rattle.meaning.specs.Schedules.{RunState, RunStep, without_memo, first_state, after_step, path, end_of}
+use Rattle.meaning.specs.Schedules.{RunState, RunStep, without_memo, first_state, after_step, path}
 use Rattle.linked_program.specs.declared.code.Code.{Code}
 use Rattle.linked_program.specs.TableNames.{Columned}
 use Rattle.numbered_runs.specs.Runs.{PlainRun}

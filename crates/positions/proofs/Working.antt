@@ -2,7 +2,7 @@
 use Rattle.std.proofs.Common.{◌≡◌, ℕ, zero, suc, ◌/◌, ◌-◌, ◌+◌, Bool, true, false, ◌&&◌, cond, List, [], ◌∷◌, length, map, Option, Some, None, Result, Ok, Err, refl, sym, ◌∙◌, ap, subst}
 use Rattle.std.specs.Prelude.{ℤ, pos, nat_le, slice_set}
 use Rattle.std.specs.Ordering.{int_eq}
-use Rattle.program_tree.specs.Plain.{Deed, bind, enter, read, sync, update, choose, loop, give, Body, end, step, Tree}
+use Rattle.program_tree.specs.Plain.{bind, enter, read, sync, update, choose, loop, give, Body, end, step, Tree}
 use Rattle.program_tree.specs.declared.Way.TheVariants.{Call, Spawn}
 use Rattle.meaning.specs.declared.FaultKind.{FaultKind}
 use Rattle.meaning.specs.Tables.{Tables}
@@ -10,8 +10,8 @@ use Rattle.meaning.specs.OneStrand.{nothing_kept}
 use Rattle.meaning.specs.Outcome.{Out, Log, Site, Accumulators, Syncs}
 use Rattle.meaning.specs.Values.{value, values}
 use Rattle.meaning.specs.Trail.{halvings}
-use Rattle.meaning.specs.Statements.{Job, job_of, reducers, update_of, bounds, turn_values}
-use Rattle.meaning.specs.SmallStep.{seen, has, with_env, on_depth, enter_child, leaving_layer, with_layer, Start as NamedStart, Frame, Todo, blocks, halves, second, turns, Child, instance, half, Phase as NamedPhase, entering, running, spawning, returning, leaving, broken, Parent, Step, moved, taken, paused as paused_step, noting, opening_one, closing_one, unless, is_entry, led_step, settling, on_value, todo_step, enter_step, micro}
+use Rattle.meaning.specs.Statements.{job_of, reducers, update_of, bounds, turn_values}
+use Rattle.meaning.specs.SmallStep.{seen, has, with_env, on_depth, enter_child, leaving_layer, with_layer, Start as NamedStart, Frame, Todo, blocks, halves, second, turns, Child, instance, half, Phase as NamedPhase, running, spawning, returning, leaving, Parent, Step, moved, taken, paused as paused_step, noting, opening_one, closing_one, unless, is_entry, led_step, settling, on_value, todo_step, enter_step, micro}
 use Rattle.meaning.specs.Layers.{bottom}
 use Rattle.meaning.specs.LayeredStrand.{LayeredStrand}
 use Rattle.linked_program.specs.declared.code.Code.{Code}
@@ -19,11 +19,11 @@ use Rattle.linked_program.specs.declared.code.Instruction.{Instruction}
 use Rattle.linked_program.specs.declared.code.Operation.{Operation}
 use Rattle.linked_program.specs.declared.code.Operation.TheVariants as o
 use Rattle.linked_program.specs.TableNames.{Columned}
-use Rattle.linked_program.specs.Linked.{Acts, syncs, linked_deed, linked_body}
+use Rattle.linked_program.specs.Linked.{Acts, syncs, linked_deed}
 use Rattle.linked_program.specs.CodeView.{act}
 use Rattle.positions.specs.declared.work.Position.{Position}
 use Rattle.positions.specs.declared.work.Work.{Work}
-use Rattle.positions.specs.declared.work.Work.TheVariants.{Block, Over, Halves, Second, Turns}
+use Rattle.positions.specs.declared.work.Work.TheVariants.{Block}
 use Rattle.positions.specs.declared.phase.Phase.{Phase}
 use Rattle.positions.specs.declared.phase.Phase.TheVariants as phase
 use Rattle.positions.specs.declared.phase.Paused.TheVariants as paused
@@ -31,11 +31,11 @@ use Rattle.positions.specs.Activations.{PlainActivation, next_of, first_of}
 use Rattle.positions.specs.Code.{instruction_inside}
 use Rattle.positions.specs.Strands.{PlainStrand, entry_by}
 use Rattle.positions.specs.Advance.{statement_by, next_statement, sync_pause, is_sync_as, is_sync, bottom_pause, pause_at, pause_of}
-use Rattle.positions.specs.Stands.{IsStart, acts_at, IsTodoAt, AreParents, StandsAt, StandsFor}
+use Rattle.positions.specs.Stands.{IsStart, acts_at, IsTodoAt, AreParents, StandsAt}
 use Rattle.positions.specs.Simulation.{IsTaken, IsStepTaken}
 use Rattle.positions.proofs.Entering.{enter_is, deep_call_quiet, deep_spawn_quiet}
 use Rattle.positions.proofs.Evaluations.{IsNoting}
-use Rattle.positions.proofs.Places.{Next, AtPlace, at_place}
+use Rattle.positions.proofs.Places.{AtPlace, at_place}
 use Rattle.positions.proofs.Starts.{start_moved, entry_is}
 
 noting_taken : (st : Step) → IsNoting st → IsTaken st

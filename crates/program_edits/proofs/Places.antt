@@ -1,8 +1,8 @@
 -- What a list shows after one is put in.
-use Rattle.std.proofs.Common.{◌≡◌, ℕ, zero, suc, ◌+◌, Bool, true, false, List, [], ◌∷◌, ◌++◌, map, Option, Some, refl, sym, ap, subst, ◌∙◌}
+use Rattle.std.proofs.Common.{◌≡◌, ℕ, zero, suc, ◌+◌, Bool, true, false, List, [], ◌∷◌, map, Option, Some, refl, ap, subst}
 use Rattle.std.specs.Prelude.{insert, slice_set}
 use Rattle.std.proofs.lemmas.List.{map-set}
-use Rattle.program_edits.specs.Putting.{Spot, spot_of, put_at}
+use Rattle.program_edits.specs.Putting.{spot_of, put_at}
 
 map_insert : {A B : Type 0} (f : A → B) (xs : List A) (i : ℕ) (x : A) → map f (insert xs i x) ≡ insert (map f xs) i (f x)
 map_insert f [] zero x = refl

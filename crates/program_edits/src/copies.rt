@@ -1,7 +1,7 @@
 //! Copies of what a program is made of.
 
 ghost use Rattle.std.specs.Prelude.{◌≡◌, IfOk, map, string_bytes};
-ghost use Rattle.program_tree.specs.Plain.{cell, binary};
+ghost use Rattle.program_tree.specs.Plain.{cell, has, negate, binary};
 ghost use Rattle.program_tree.specs.View.{term, proc, decl, lined, block_lines};
 ghost use Rattle.source_tree.specs.Source.{texts};
 ghost use Rattle.source_tree.specs.Layout.{act, entries, flats, Loop, Enter, Update};
@@ -19,6 +19,19 @@ fn copy_cell(alloc: Global, table: &str, row: Expr, column: &str) -> Result<Expr
     Ok(Expr::Cell(table, Box::new(alloc, row)?, column))
 }
 
+fn copy_has(alloc: Global, table: &str, row: Expr) -> Result<Expr, AllocError>
+    ensures { IfOk result (λ e. term e ≡ has table.now (term row)) }
+{
+    let table = String::from_str(alloc, table)?;
+    Ok(Expr::Has(table, Box::new(alloc, row)?))
+}
+
+fn copy_negate(alloc: Global, inner: Expr) -> Result<Expr, AllocError>
+    ensures { IfOk result (λ e. term e ≡ negate (term inner)) }
+{
+    Ok(Expr::Negate(Box::new(alloc, inner)?))
+}
+
 fn copy_expression(alloc: Global, expr: &Expr) -> Result<Expr, AllocError>
     ensures { IfOk result (λ e. term e ≡ term expr.now) }
 {
@@ -31,13 +44,12 @@ fn copy_expression(alloc: Global, expr: &Expr) -> Result<Expr, AllocError>
         }
         Expr::Has(table, row) => {
             let row = copy_expression(alloc, row)?;
-            let table = String::from_str(alloc, table)?;
-            Ok(Expr::Has(table, Box::new(alloc, row)?))
+            copy_has(alloc, table, row)
         }
         Expr::Limit(table) => Ok(Expr::Limit(String::from_str(alloc, table)?)),
         Expr::Negate(inner) => {
             let inner = copy_expression(alloc, inner)?;
-            Ok(Expr::Negate(Box::new(alloc, inner)?))
+            copy_negate(alloc, inner)
         }
         Expr::Binary(operator, left, right) => {
             let left = copy_expression(alloc, left)?;

@@ -171,10 +171,15 @@ fn lines_main(alloc: Global) -> Result<Declaration, AllocError> {
     procedure(alloc, "main", false, 0, &["r", "t"], blocks)
 }
 
-fn lines(alloc: Global) -> Result<Vec<u8>, AllocError> {
+// memo proc line(r) { v = ..; update total v; update top v, r; return v; }
+fn line(alloc: Global) -> Result<Declaration, AllocError> {
     let statements = lines_body(alloc)?;
     let blocks = vec![in alloc; Block { statements }]?;
-    let line = procedure(alloc, "line", true, 1, &["r", "v"], blocks)?;
+    procedure(alloc, "line", true, 1, &["r", "v"], blocks)
+}
+
+fn lines(alloc: Global) -> Result<Vec<u8>, AllocError> {
+    let line = line(alloc)?;
     let total = reducer(alloc, "total", Kind::Add)?;
     let top = reducer(alloc, "top", Kind::Argmax)?;
     let declarations = vec![in alloc; total, top, line, lines_main(alloc)?]?;
@@ -190,13 +195,19 @@ fn lines_program(rt: HostRuntime) -> Result<(), Fail> {
     Ok(())
 }
 
+// v = ..; update total v;
+fn adding(alloc: Global) -> Result<Vec<Statement>, AllocError> {
+    let first = price(alloc)?;
+    let second = update(alloc, "total", Expr::Name(1))?;
+    Ok(vec![in alloc; first, second]?)
+}
+
 // if has sales[r] { v = ..; update total v; }
 fn nested_line(alloc: Global) -> Result<Declaration, AllocError> {
     let row = Box::new(alloc, Expr::Name(0))?;
     let test = Expr::Has(name(alloc, "sales")?, row);
-    let inside = vec![in alloc; price(alloc)?, update(alloc, "total", Expr::Name(1))?]?;
     let statements = vec![in alloc; step(Action::If(test, 1, 2))]?;
-    let blocks = three_blocks(alloc, statements, inside)?;
+    let blocks = three_blocks(alloc, statements, adding(alloc)?)?;
     procedure(alloc, "line", true, 1, &["r", "v"], blocks)
 }
 
@@ -242,14 +253,18 @@ fn nested_lines_program(rt: HostRuntime) -> Result<(), Fail> {
     Ok(())
 }
 
+// call down(n - 1);
+fn going_down(alloc: Global) -> Result<Vec<Statement>, AllocError> {
+    let less = binary(alloc, Operator::Subtract, Expr::Name(0), Expr::Number(1))?;
+    Ok(vec![in alloc; enter(alloc, None, Way::Call, "down", less)?]?)
+}
+
 // update steps 1; if n > 0 { call down(n - 1); } return n;
 fn down(alloc: Global) -> Result<Declaration, AllocError> {
-    let less = binary(alloc, Operator::Subtract, Expr::Name(0), Expr::Number(1))?;
-    let inside = vec![in alloc; enter(alloc, None, Way::Call, "down", less)?]?;
     let test = binary(alloc, Operator::Greater, Expr::Name(0), Expr::Number(0))?;
     let first = update(alloc, "steps", Expr::Number(1))?;
     let statements = countdown_steps(alloc, first, test)?;
-    let blocks = three_blocks(alloc, statements, inside)?;
+    let blocks = three_blocks(alloc, statements, going_down(alloc)?)?;
     procedure(alloc, "down", true, 1, &["n"], blocks)
 }
 

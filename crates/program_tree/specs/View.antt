@@ -1,7 +1,5 @@
 -- The plain tree of a program.
-use Rattle.std.specs.Prelude.{ℕ, zero, suc, ◌-◌, ℤ, List, [], ◌∷◌, ◌++◌, Option, Some, None, map, string_bytes, slice_get, length}
-use Rattle.std.specs.Global.{Vec, Global}
-use Rattle.std.specs.declared.string.String.{String}
+use Rattle.std.specs.Prelude.{ℕ, zero, suc, List, [], ◌∷◌, ◌++◌, Option, Some, None, map, string_bytes, slice_get, length}
 use Rattle.program_tree.specs.declared.Expr.{Expr}
 use Rattle.program_tree.specs.declared.Expr.TheVariants as e
 use Rattle.program_tree.specs.declared.Action.{Action}
@@ -13,7 +11,7 @@ use Rattle.program_tree.specs.declared.Reducer.{Reducer}
 use Rattle.program_tree.specs.declared.Declaration.{Declaration}
 use Rattle.program_tree.specs.declared.Declaration.TheVariants as d
 use Rattle.program_tree.specs.declared.Program.{Program}
-use Rattle.program_tree.specs.Plain.{Name, Term, number, name, cell, has, limit, negate, binary, Deed, bind, enter, read, sync, update, choose, loop, give, Body, end, step, Proc, Red, Decl, reducer, procedure, Tree}
+use Rattle.program_tree.specs.Plain.{Term, number, name, cell, has, limit, negate, binary, Deed, bind, enter, read, sync, update, choose, loop, give, Body, end, step, Proc, Red, Decl, reducer, procedure, Tree}
 
 abbrev pub term : Expr → Term
 term (e.Number n) = number n

@@ -1,5 +1,5 @@
 -- A procedure laid out: following the numbers of its blocks gives the lowered procedure back, and its lines are those of the source.
-use Rattle.std.proofs.Common.{◌≡◌, ℕ, zero, suc, ◌+◌, ◌<◌, ◌≤◌, List, [], ◌∷◌, ◌++◌, length, map, Option, Some, None, refl, sym, ap, subst, ◌∙◌, arith, append_assoc}
+use Rattle.std.proofs.Common.{◌≡◌, ℕ, zero, suc, ◌+◌, ◌<◌, ◌≤◌, List, [], ◌∷◌, ◌++◌, length, Option, Some, None, refl, sym, ap, subst, ◌∙◌, arith, append_assoc}
 use Rattle.std.specs.Prelude.{slice_get}
 use Rattle.std.proofs.lemmas.List.{append-nil, length-append, length-map}
 use Rattle.program_tree.specs.declared.Action.{Action}
@@ -10,7 +10,7 @@ use Rattle.program_tree.specs.Plain.{Name, Deed, bind, enter, read, sync, update
 use Rattle.program_tree.specs.View.{deed, statements, statements_of, block, statement_lines, block_lines}
 use Rattle.source_tree.specs.Source.{Stmt, Binds, Enters, Reads, Syncs, Updates, Tests, Loops, Returns, Stmts, none, some}
 use Rattle.source_tree.specs.Lowering.{Walk, lower_term, lower_deed, lower_body, line_of_stmt, count, count_all, own_lines, inner_lines, inside_lines, body_lines}
-use Rattle.source_tree.specs.Layout.{Act, Bind, Enter, Read, Sync, Update, If, Loop, Return, Flat, Made, ended, laid_act, laid, act, entry, entries, flat, flats, laid_procedure}
+use Rattle.source_tree.specs.Layout.{Act, Bind, Enter, Read, Sync, Update, If, Loop, Return, Flat, Made, laid_act, laid, act, entries, flat, flats, laid_procedure}
 
 -- ---- what a table of blocks stands for
 

@@ -26,6 +26,18 @@ fn has(alloc: Global, table: &str, row: Expr) -> Result<Expr, AllocError>
     Ok(Expr::Has(table, Box::new(alloc, row)?))
 }
 
+fn limit(alloc: Global, table: &str) -> Result<Expr, AllocError>
+    ensures { IfOk result (λ e. term e ≡ plain.limit table.now) }
+{
+    Ok(Expr::Limit(String::from_str(alloc, table)?))
+}
+
+fn negate(alloc: Global, inner: Expr) -> Result<Expr, AllocError>
+    ensures { IfOk result (λ e. term e ≡ plain.negate (term inner)) }
+{
+    Ok(Expr::Negate(Box::new(alloc, inner)?))
+}
+
 fn binary(alloc: Global, operator: Operator, left: Expr, right: Expr) -> Result<Expr, AllocError>
     ensures { IfOk result (λ e. term e ≡ plain.binary operator (term left) (term right)) }
 {
@@ -53,10 +65,10 @@ pub fn lower_expression(
             let row = lower_expression(alloc, pool, row)?;
             has(alloc, table, row)
         }
-        source::Expr::Limit(table) => Ok(Expr::Limit(String::from_str(alloc, table)?)),
+        source::Expr::Limit(table) => limit(alloc, table),
         source::Expr::Negate(inner) => {
             let inner = lower_expression(alloc, pool, inner)?;
-            Ok(Expr::Negate(Box::new(alloc, inner)?))
+            negate(alloc, inner)
         }
         source::Expr::Binary(operator, left, right) => {
             let left = lower_expression(alloc, pool, left)?;

@@ -54,11 +54,17 @@ fn countdown(alloc: Global, main: Declaration) -> Result<Program, AllocError> {
     program_of_three(alloc, steps, down, main)
 }
 
+// Adds proc name() { x = call next(); return x; }
+fn pass_on(alloc: Global, program: &mut Program, name: &str, next: &str) -> Result<(), AllocError> {
+    program.declarations.push(passing(alloc, name, next)?)?;
+    Ok(())
+}
+
 // down(60) at depth 4
 fn deep(alloc: Global) -> Result<Program, AllocError> {
     let main = passing(alloc, "main", "a")?;
     let mut program = countdown(alloc, main)?;
-    program.declarations.push(passing(alloc, "a", "b")?)?;
+    pass_on(alloc, &mut program, "a", "b")?;
     program.declarations.push(starting(alloc, "b")?)?;
     Ok(program)
 }
@@ -67,8 +73,8 @@ fn deep(alloc: Global) -> Result<Program, AllocError> {
 fn deeper(alloc: Global) -> Result<Program, AllocError> {
     let main = passing(alloc, "main", "a")?;
     let mut program = countdown(alloc, main)?;
-    program.declarations.push(passing(alloc, "a", "b")?)?;
-    program.declarations.push(passing(alloc, "b", "c")?)?;
+    pass_on(alloc, &mut program, "a", "b")?;
+    pass_on(alloc, &mut program, "b", "c")?;
     program.declarations.push(starting(alloc, "c")?)?;
     Ok(program)
 }

@@ -32,15 +32,21 @@ fn line_of(alloc: Global, statements: Vec<Statement>) -> Result<Declaration, All
     procedure(alloc, "line", true, 1, blocks)
 }
 
+// memo proc all() { cilk_for x in 1 .. limit sales : line(x); }
+fn all_lines(alloc: Global) -> Result<Declaration, AllocError> {
+    let statements = vec![in alloc; statement(1, each_line(alloc)?)]?;
+    memo_block(alloc, "all", 0, statements)
+}
+
+// proc main() { call all(); y = read total; return y; }
+fn main_of_all(alloc: Global) -> Result<Declaration, AllocError> {
+    main_of(alloc, call(alloc, None, "all")?)
+}
+
 fn lines_nested(alloc: Global) -> Result<Program, AllocError> {
     let total = reducer(alloc, "total", Kind::Add)?;
-    let main = main_of(alloc, call(alloc, None, "all")?)?;
-    let all = memo_block(
-        alloc,
-        "all",
-        0,
-        vec![in alloc; statement(1, each_line(alloc)?)]?,
-    )?;
+    let main = main_of_all(alloc)?;
+    let all = all_lines(alloc)?;
     let mut program = program_of_three(alloc, total, line_if_there(alloc)?, all)?;
     program.declarations.push(main)?;
     Ok(program)
@@ -102,22 +108,32 @@ fn limit_read(alloc: Global, value: i64) -> Result<Reading, AllocError> {
     Ok(Reading::Limit(table, value))
 }
 
+// What all() did over the rows 2 5, 3 7 and 1 100.
+fn all_of_three(alloc: Global) -> Result<Record, AllocError> {
+    let read = vec![in alloc; limit_read(alloc, 4)?, cell_read(alloc, 1, "qty", 2)?]?;
+    all_record(alloc, 131, read)
+}
+
 // The records after a run over the rows 2 5, 3 7 and 1 100; that of all is the last.
 fn nested_records(alloc: Global) -> Result<Vec<Record>, AllocError> {
     let first = nested_record(alloc, 1, 2, 5)?;
     let second = nested_record(alloc, 2, 3, 7)?;
     let third = nested_record(alloc, 3, 1, 100)?;
-    let read = vec![in alloc; limit_read(alloc, 4)?, cell_read(alloc, 1, "qty", 2)?]?;
-    let all = all_record(alloc, 131, read)?;
+    let all = all_of_three(alloc)?;
     Ok(vec![in alloc; first, second, third, all]?)
+}
+
+// What line(row) did where there is no such row.
+fn absent_record(alloc: Global, row: i64) -> Result<Record, AllocError> {
+    let read = vec![in alloc; has_read(alloc, row, false)?]?;
+    memo_record(alloc, row, 0, read)
 }
 
 // The same after a run with a fifth row as well, and the fourth one absent.
 fn later_records(alloc: Global) -> Result<Vec<Record>, AllocError> {
     let mut records = nested_records(alloc)?;
     let _old = records.pop();
-    let absent = vec![in alloc; has_read(alloc, 4, false)?]?;
-    records.push(memo_record(alloc, 4, 0, absent)?)?;
+    records.push(absent_record(alloc, 4)?)?;
     records.push(nested_record(alloc, 5, 1, 1)?)?;
     later_all(alloc, records)
 }

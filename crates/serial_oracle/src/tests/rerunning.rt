@@ -134,10 +134,15 @@ pub fn main_of(alloc: Global, first: Action) -> Result<Declaration, AllocError> 
     plain(alloc, "main", 0, statements)
 }
 
+// proc main() { cilk_for x in 1 .. limit sales : line(x); y = read total; return y; }
+fn main_of_lines(alloc: Global) -> Result<Declaration, AllocError> {
+    main_of(alloc, each_line(alloc)?)
+}
+
 fn lines(alloc: Global) -> Result<Program, AllocError> {
     let total = reducer(alloc, "total", Kind::Add)?;
     let line = line(alloc)?;
-    let main = main_of(alloc, each_line(alloc)?)?;
+    let main = main_of_lines(alloc)?;
     let mut program = program_of_three(alloc, total, line, main)?;
     program
         .declarations

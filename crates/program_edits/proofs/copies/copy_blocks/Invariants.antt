@@ -1,4 +1,4 @@
-use Rattle.std.proofs.Common.{◌≡◌, ◌++◌, map, drop}
+use Rattle.std.proofs.Common.{◌≡◌, ◌++◌, drop}
 use Rattle.source_tree.specs.Layout.{flats}
 use Rattle.program_edits.proofs.copies.copy_blocks.Given as goal
 

@@ -1,4 +1,4 @@
-use Rattle.std.proofs.Common.{◌≡◌, ◌++◌, map, drop}
+use Rattle.std.proofs.Common.{◌≡◌, ◌++◌, drop}
 use Rattle.source_tree.specs.Source.{texts}
 use Rattle.program_edits.proofs.copies.copy_names.Given as goal
 

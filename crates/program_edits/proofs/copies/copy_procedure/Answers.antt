@@ -1,4 +1,4 @@
-use Rattle.std.proofs.Common.{◌≡◌, string_bytes, refl, sym, ◌∙◌}
+use Rattle.std.proofs.Common.{◌≡◌, string_bytes, refl, ◌∙◌}
 use Rattle.source_tree.specs.Source.{texts}
 use Rattle.source_tree.specs.Layout.{flats}
 use Rattle.source_tree.proofs.Laying.{same_body, same_block_lines}

@@ -1,5 +1,4 @@
-use Rattle.std.proofs.Common.{◌≡◌, ◌+◌, None, Some, map, string_bytes, refl}
-use Rattle.std.specs.Prelude.{insert}
+use Rattle.std.proofs.Common.{◌≡◌, None, Some, map, string_bytes, refl}
 use Rattle.program_tree.specs.View.{decl, lined}
 use Rattle.program_tree.specs.declared.Declaration.TheVariants as variant
 use Rattle.program_edits.specs.Putting.{last_place}

@@ -1,4 +1,4 @@
-use Rattle.std.proofs.Common.{◌≡◌, ◌≤◌, ◌+◌, arith}
+use Rattle.std.proofs.Common.{◌≡◌, ◌+◌, arith}
 use Rattle.source_tree.specs.Source.{stmt, stmts, stmts_of}
 use Rattle.source_tree.specs.Lowering.{count, count_all}
 use Rattle.source_tree.proofs.Counting.{count_next, count_if}

@@ -1,4 +1,4 @@
-use Rattle.std.proofs.Common.{◌≡◌, ◌+◌, ◌*◌, ◌≤◌, [], map, drop}
+use Rattle.std.proofs.Common.{◌≡◌, ◌+◌, ◌*◌, ◌≤◌, [], drop}
 use Rattle.source_tree.specs.Source.{stmt, stmts, stmts_of}
 use Rattle.source_tree.specs.Lowering.{count, count_all}
 use Rattle.source_tree.specs.Layout.{laid, entries, flats}

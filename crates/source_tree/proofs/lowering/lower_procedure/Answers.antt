@@ -1,10 +1,7 @@
 use Rattle.std.proofs.Common.{◌≡◌, List, length, string_bytes, refl, sym, ap, ◌∙◌}
 use Rattle.std.proofs.lemmas.List.{length-map}
-use Rattle.program_tree.specs.View.{proc, block_lines}
-use Rattle.program_tree.specs.Plain.{Name}
-use Rattle.source_tree.specs.Source.{Stmts, stmts, stmts_of, texts}
-use Rattle.source_tree.specs.Layout.{Flat, flats, laid_procedure}
-use Rattle.source_tree.specs.Lowering.{lower_body}
+use Rattle.source_tree.specs.Source.{stmts, stmts_of, texts}
+use Rattle.source_tree.specs.Layout.{flats, laid_procedure}
 use Rattle.source_tree.proofs.Laying.{layout_names, layout_body, layout_lines}
 use Rattle.source_tree.proofs.lowering.lower_procedure.Goals as goal
 

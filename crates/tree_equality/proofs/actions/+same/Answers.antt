@@ -1,4 +1,4 @@
-use Rattle.std.proofs.Common.{◌≡◌, ◌-◌, length, arith, rules, ◌∙◌, sym}
+use Rattle.std.proofs.Common.{◌≡◌, ◌-◌, length, arith, rules, ◌∙◌}
 use Rattle.std.specs.Vec.{vec_len}
 use Rattle.program_tree.specs.View.{block}
 use Rattle.tree_equality.proofs.Apart.{apart_statements, empty_right, empty_left}

@@ -1,4 +1,4 @@
-use Rattle.std.proofs.Common.{◌≡◌, length, arith}
+use Rattle.std.proofs.Common.{arith}
 use Rattle.tree_equality.proofs.Apart.{apart_terms}
 use Rattle.tree_equality.proofs.expressions.same_expressions.Goals as goal
 

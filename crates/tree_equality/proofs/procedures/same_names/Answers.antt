@@ -1,4 +1,4 @@
-use Rattle.std.proofs.Common.{◌≡◌, length, arith}
+use Rattle.std.proofs.Common.{arith}
 use Rattle.tree_equality.proofs.Apart.{apart_names}
 use Rattle.tree_equality.proofs.procedures.same_names.Goals as goal
 

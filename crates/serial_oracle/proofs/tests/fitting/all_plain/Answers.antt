@@ -1,7 +1,5 @@
-use Rattle.std.proofs.Common.{rules, ◌≡◌, ◌≤◌, length, map, drop, List, [], arith, ap, subst, sym}
-use Rattle.std.specs.Prelude.{All}
+use Rattle.std.proofs.Common.{◌≡◌, map, drop, [], arith, ap}
 use Rattle.std.proofs.lemmas.List.{drop_all}
-use Rattle.monoid_laws.specs.Kinds.{AreWorths}
 use Rattle.serial_oracle.specs.Keeping.{kept}
 use Rattle.serial_oracle.proofs.Noted.{fit_all}
 use Rattle.serial_oracle.proofs.tests.fitting.all_plain.Goals as goal

@@ -1,4 +1,4 @@
-use Rattle.std.proofs.Common.{◌≡◌, map, drop}
+use Rattle.std.proofs.Common.{map, drop}
 use Rattle.std.specs.Prelude.{All}
 use Rattle.monoid_laws.specs.Kinds.{AreWorths}
 use Rattle.serial_oracle.specs.Keeping.{kept}

@@ -1,4 +1,4 @@
-use Rattle.std.proofs.Common.{◌≡◌, ℕ, map, drop}
+use Rattle.std.proofs.Common.{map, drop}
 use Rattle.monoid_laws.specs.Kinds.{meaning, AreWorths}
 use Rattle.serial_oracle.proofs.tests.fitting.are_plain.Given as goal
 

@@ -1,4 +1,4 @@
-use Rattle.std.proofs.Common.{rules, ◌≡◌, true, refl, w64, SFits}
+use Rattle.std.proofs.Common.{rules, refl, w64, SFits}
 use Rattle.serial_oracle.proofs.tests.fitting.is_plain.Goals as goal
 
 pub returns-in-Int : goal.returns-in-Int
