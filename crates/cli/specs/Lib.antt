@@ -1,5 +1,6 @@
 pub mod Amounts
 pub mod Commands
+pub mod Failed
 pub mod Line
 pub mod Preparing
 pub mod Reports

@@ -1,5 +1,5 @@
 // Sessions: a checked program, its tables and its pool of kits, and the answers to a script.
-ghost use Rattle.std.specs.Prelude.{◌≡◌, ◌+◌, ◌<◌, ◌^◌, ◌++◌, ◌⊎◌, [], All, length, map, vec_len, string_bytes, IfOk, IfErr, OnOk, OnErr, IfSome};
+ghost use Rattle.std.specs.Prelude.{◌≡◌, ◌+◌, ◌<◌, ◌^◌, ◌++◌, ◌⊎◌, [], true, Err, All, length, map, vec_len, string_bytes, IfOk, IfErr, OnOk, OnErr, IfSome};
 ghost use Rattle.std.specs.Io.KnownBytes.{Appends, Keeps, IsAtEnd};
 ghost use Rattle.program_tree.specs.View.{tree};
 ghost use Rattle.linked_program.specs.TableNames.{columned_of};
@@ -13,7 +13,7 @@ ghost use Rattle.cli.specs.Written.{HasBeginning};
 use crate::answers::{push_outcome, push_run, push_unknown};
 use crate::runs::run;
 use crate::script::{Command, commands};
-use crate::streams::{SessionError, read_all, write_whole};
+use crate::streams::{Failures, SessionError, flush, read_all, write_whole};
 use input_tables::Tables;
 use linked_program::checked::Checked;
 use std::alloc::Global;
@@ -49,12 +49,40 @@ pub fn session_text<V: View, R: Read, W: Write>(
         HasBeginning (W.contents writer.old) (W.contents writer.new) (answers_text (tree session.checked.program) session.tables.tables script)) }
     ensures no_kit { result ≡ Err SessionError.NoKit → session.kits.kits ≡ [] }
 {
-    let script = read_all(alloc, reader)?;
+    let mut failures = Failures::none();
+    session_noting(rt, alloc, session, workers, reader, writer, &mut failures)
+}
+
+/// The same, where it is noted which streams failed: a failed read is answered only of a reader that is noted, a failed
+/// write only of a writer that is.
+pub fn session_noting<V: View, R: Read, W: Write>(
+    rt: &impl Wait,
+    alloc: Global,
+    session: Session<V>,
+    workers: usize,
+    reader: &mut R,
+    writer: &mut W,
+    failures: &mut Failures,
+) -> Result<(), SessionError>
+    requires kits { All (λ k. k ≡ session.checked.kinds) session.kits.kits }
+    requires tables { session.checked.tables ≡ columned_of session.tables.tables }
+    ensures answered { OnOk result (IfSome (R.remaining reader.old) (λ script.
+        Appends (W.contents writer.old) (W.contents writer.new) (answers_text (tree session.checked.program) session.tables.tables script))) }
+    ensures over { OnOk result (IsAtEnd (R.remaining reader.new)) }
+    ensures unread { result ≡ Err SessionError.Read → Keeps (W.contents writer.old) (W.contents writer.new) }
+    ensures beginning { IfSome (R.remaining reader.old) (λ script.
+        HasBeginning (W.contents writer.old) (W.contents writer.new) (answers_text (tree session.checked.program) session.tables.tables script)) }
+    ensures no_kit { result ≡ Err SessionError.NoKit → session.kits.kits ≡ [] }
+    ensures input { result ≡ Err SessionError.Read → failures.new.input ≡ true }
+    ensures output { result ≡ Err SessionError.Write → failures.new.output ≡ true }
+{
+    let script = read_all(alloc, reader, failures)?;
     let mut session = session;
-    let answered = answer_script(rt, alloc, &mut session, workers, script.as_slice(), writer);
-    let flushed = writer.flush();
+    let text = script.as_slice();
+    let answered = answer_script(rt, alloc, &mut session, workers, text, writer, failures);
+    let flushed = flush(writer, failures);
     answered?;
-    flushed.map_err(|_| SessionError::Write)
+    flushed
 }
 
 // Writes the answers to a script.
@@ -65,6 +93,7 @@ fn answer_script<V: View, W: Write>(
     workers: usize,
     script: &[u8],
     writer: &mut W,
+    failures: &mut Failures,
 ) -> Result<(), SessionError>
     requires kits { All (λ k. k ≡ session.old.checked.kinds) session.old.kits.kits }
     requires tables { session.old.checked.tables ≡ columned_of session.old.tables.tables }
@@ -72,6 +101,7 @@ fn answer_script<V: View, W: Write>(
     ensures beginning { HasBeginning (W.contents writer.old) (W.contents writer.new) (answers_text (tree session.old.checked.program) session.old.tables.tables script.now) }
     ensures read { OnErr result (¬ (result ≡ Err SessionError.Read)) }
     ensures no_kit { result ≡ Err SessionError.NoKit → session.old.kits.kits ≡ [] }
+    ensures output { result ≡ Err SessionError.Write → failures.new.output ≡ true }
 {
     let commands = match commands(alloc, script) {
         Ok(commands) => commands,
@@ -82,7 +112,7 @@ fn answer_script<V: View, W: Write>(
     for command in commands.iter() {
         text.clear();
         runs = answer(rt, alloc, session, workers, runs, *command, &mut text)?;
-        write_whole(writer, text.as_bytes())?;
+        write_whole(writer, text.as_bytes(), failures)?;
     }
     Ok(())
 }

@@ -1,11 +1,12 @@
 // Reading a stream to its end, and writing to one.
-ghost use Rattle.std.specs.Prelude.{◌≡◌, ◌⊎◌, IfOk, IfErr, OnOk, OnErr, IfSome};
+ghost use Rattle.std.specs.Prelude.{◌≡◌, ◌⊎◌, ◌<◌, ◌≤◌, Err, false, true, length, take, IfOk, IfErr, OnOk, OnErr, IfSome, IfNone};
 ghost use Rattle.std.specs.Io.KnownBytes.{Appends, Keeps, Consumes, IsAtEnd};
 ghost use Rattle.cli.specs.declared.streams.SessionError.TheVariants.{NoMemory};
 ghost use Rattle.cli.specs.Written.{HasBeginning};
 
 use std::alloc::{AllocError, Global};
 use std::io::{ErrorKind, Read, Write};
+use std::marker::Model;
 use thiserror::Error;
 
 /// Why a session ended before its script did.
@@ -29,38 +30,159 @@ impl From<AllocError> for SessionError {
     }
 }
 
-/// All that a reader has left; refused where a read fails or memory does.
-pub fn read_all<R: Read>(alloc: Global, reader: &mut R) -> Result<Vec<u8>, SessionError>
+/// Which streams failed: the reader, where a read of it answered an error or no end came of 2^64 - 1 reads; the writer,
+/// where a write or a flush answered an error, a write took nothing, or 2^64 - 1 writes were not enough. An interrupted
+/// call is made again and is no failure; want of memory is none either. Nothing else sets these marks.
+#[derive(Drop)]
+pub struct Failures {
+    input: bool,
+    output: bool,
+}
+
+impl Model for Failures {
+    ghost use Rattle.cli.specs.Failed.{Failed};
+
+    ghost Value = { Failed };
+
+    ghost view = { λ f. record { input = f.input; output = f.output } };
+}
+
+impl Failures {
+    /// No stream failed.
+    pub fn none() -> Failures
+        ensures none { result ≡ record { input = false; output = false } }
+    {
+        Failures {
+            input: false,
+            output: false,
+        }
+    }
+
+    /// Whether the reader failed, and whether the writer did.
+    pub fn noted(&self) -> (bool, bool)
+        ensures input { result.0 ≡ self.now.input }
+        ensures output { result.1 ≡ self.now.output }
+    {
+        (self.input, self.output)
+    }
+
+    // Notes that the reader failed.
+    fn of_input(&mut self) -> SessionError
+        ensures error { result ≡ SessionError.Read }
+        ensures noted { self.new.input ≡ true }
+        ensures others { self.new.output ≡ self.old.output }
+    {
+        self.input = true;
+        SessionError::Read
+    }
+
+    // Notes that the writer failed.
+    fn of_output(&mut self) -> SessionError
+        ensures error { result ≡ SessionError.Write }
+        ensures noted { self.new.output ≡ true }
+        ensures others { self.new.input ≡ self.old.input }
+    {
+        self.output = true;
+        SessionError::Write
+    }
+
+    // One read: how many bytes were read; none where it was interrupted.
+    fn read<R: Read>(
+        &mut self,
+        reader: &mut R,
+        buffer: &mut [u8],
+    ) -> Result<Option<usize>, SessionError>
+        ensures bound { IfOk result (λ read. IfSome read (λ n. n ≤ length buffer.new)) }
+        ensures taken { IfOk result (λ read. IfSome read (λ n. Consumes (R.remaining reader.old) (R.remaining reader.new) (take n buffer.new))) }
+        ensures over { IfOk result (λ read. IfSome read (λ n. n ≡ 0 → 0 < length buffer.new → IsAtEnd (R.remaining reader.new))) }
+        ensures interrupted { IfOk result (λ read. IfNone read (Keeps (R.remaining reader.old) (R.remaining reader.new))) }
+        ensures refused { IfErr result (λ e. (e ≡ SessionError.NoMemory) ⊎ (e ≡ SessionError.Read)) }
+        ensures noted { result ≡ Err SessionError.Read → self.new.input ≡ true }
+        ensures others { self.new.output ≡ self.old.output }
+    {
+        match reader.read(buffer) {
+            Ok(count) => Ok(Some(count)),
+            Err(error) if error.kind() == ErrorKind::Interrupted => Ok(None),
+            Err(error) if error.kind() == ErrorKind::OutOfMemory => Err(SessionError::NoMemory),
+            Err(_) => Err(self.of_input()),
+        }
+    }
+
+    // One write: how many of the bytes were taken; 0 where it was interrupted.
+    fn write<W: Write>(&mut self, writer: &mut W, bytes: &[u8]) -> Result<usize, SessionError>
+        ensures bound { IfOk result (λ n. n ≤ length bytes.now) }
+        ensures written { IfOk result (λ n. Appends (W.contents writer.old) (W.contents writer.new) (take n bytes.now)) }
+        ensures kept { OnErr result (Keeps (W.contents writer.old) (W.contents writer.new)) }
+        ensures refused { IfErr result (λ e. e ≡ SessionError.Write) }
+        ensures noted { OnErr result (self.new.output ≡ true) }
+        ensures others { self.new.input ≡ self.old.input }
+    {
+        match writer.write(bytes) {
+            Ok(0) => Err(self.of_output()),
+            Ok(count) => Ok(count),
+            Err(error) if error.kind() == ErrorKind::Interrupted => Ok(0),
+            Err(_) => Err(self.of_output()),
+        }
+    }
+}
+
+/// All that a reader has left; refused where a read fails, which is noted, or memory is wanted.
+pub fn read_all<R: Read>(
+    alloc: Global,
+    reader: &mut R,
+    failures: &mut Failures,
+) -> Result<Vec<u8>, SessionError>
     ensures known { IfOk result (λ script. IfSome (R.remaining reader.old) (λ bytes. script.items ≡ bytes)) }
     ensures taken { IfOk result (λ script. Consumes (R.remaining reader.old) (R.remaining reader.new) script.items) }
     ensures over { OnOk result (IsAtEnd (R.remaining reader.new)) }
     ensures refused { IfErr result (λ e. (e ≡ SessionError.NoMemory) ⊎ (e ≡ SessionError.Read)) }
+    ensures noted { result ≡ Err SessionError.Read → failures.new.input ≡ true }
+    ensures others { failures.new.output ≡ failures.old.output }
 {
     let mut script = Vec::new(alloc);
-    match reader.read_to_end(&mut script) {
-        Ok(_) => Ok(script),
-        Err(error) if error.kind() == ErrorKind::OutOfMemory => Err(SessionError::NoMemory),
-        Err(_) => Err(SessionError::Read),
+    let mut chunk = [0; 4096];
+    for _ in 0..u64::MAX {
+        match failures.read(reader, &mut chunk)? {
+            None => {}
+            Some(0) => return Ok(script),
+            Some(count) => script.extend_from_slice(&chunk[..count])?,
+        }
     }
+    Err(failures.of_input())
 }
 
-/// Writes the bytes; where a write fails, a beginning of them is written.
-pub fn write_whole<W: Write>(writer: &mut W, bytes: &[u8]) -> Result<(), SessionError>
+/// Writes the bytes; where a write fails, which is noted, a beginning of them is written.
+pub fn write_whole<W: Write>(
+    writer: &mut W,
+    bytes: &[u8],
+    failures: &mut Failures,
+) -> Result<(), SessionError>
     ensures written { OnOk result (Appends (W.contents writer.old) (W.contents writer.new) bytes.now) }
     ensures beginning { HasBeginning (W.contents writer.old) (W.contents writer.new) bytes.now }
     ensures refused { IfErr result (λ e. e ≡ SessionError.Write) }
+    ensures noted { OnErr result (failures.new.output ≡ true) }
+    ensures others { failures.new.input ≡ failures.old.input }
 {
     let mut at = 0;
     for _ in 0..u64::MAX {
         if at >= bytes.len() {
             return Ok(());
         }
-        match writer.write(&bytes[at..]) {
-            Ok(0) => return Err(SessionError::Write),
-            Ok(count) => at += count,
-            Err(error) if error.kind() == ErrorKind::Interrupted => {}
-            Err(_) => return Err(SessionError::Write),
-        }
+        at += failures.write(writer, &bytes[at..])?;
     }
-    Err(SessionError::Write)
+    Err(failures.of_output())
+}
+
+/// Flushes a writer; where that fails it is noted.
+pub fn flush<W: Write>(writer: &mut W, failures: &mut Failures) -> Result<(), SessionError>
+    ensures kept { Keeps (W.contents writer.old) (W.contents writer.new) }
+    ensures refused { IfErr result (λ e. e ≡ SessionError.Write) }
+    ensures noted { OnErr result (failures.new.output ≡ true) }
+    ensures stays { failures.old.output ≡ true → failures.new.output ≡ true }
+    ensures others { failures.new.input ≡ failures.old.input }
+{
+    match writer.flush() {
+        Ok(()) => Ok(()),
+        Err(_) => Err(failures.of_output()),
+    }
 }

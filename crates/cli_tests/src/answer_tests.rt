@@ -13,7 +13,7 @@ use cli::prepare::prepare;
 use cli::runs::run;
 use cli::script::{Command, commands};
 use cli::session::Session;
-use cli::streams::{read_all, write_whole};
+use cli::streams::{Failures, flush, read_all, write_whole};
 use frames::answer::RunAnswer;
 use meaning::FaultKind;
 use monoid_laws::{Kind, Val};
@@ -184,9 +184,12 @@ fn a_run_gives_its_kit_back(rt: HostRuntime) {
 #[test]
 fn all_is_read_and_written(rt: HostRuntime) {
     let mut reader = b"run\n".as_slice();
-    let read = read_all(rt.alloc(), &mut reader).expect(&rt, "bytes");
+    let mut failures = Failures::none();
+    let read = read_all(rt.alloc(), &mut reader, &mut failures).expect(&rt, "bytes");
     assert_eq!(&rt; read.as_slice(), b"run\n".as_slice());
     let mut written = Vec::new(rt.alloc());
-    write_whole(&mut written, b"ok\n").expect(&rt, "written");
+    write_whole(&mut written, b"ok\n", &mut failures).expect(&rt, "written");
+    flush(&mut written, &mut failures).expect(&rt, "flushed");
     assert_eq!(&rt; written.as_slice(), b"ok\n".as_slice());
+    assert_eq!(&rt; failures.noted(), (false, false));
 }

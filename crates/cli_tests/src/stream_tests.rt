@@ -3,8 +3,8 @@ ghost use Rattle.std.specs.Prelude.{◌≡◌, All};
 ghost use Rattle.linked_program.specs.TableNames.{columned_of};
 
 use cli::beginning::begin;
-use cli::session::{Session, session_text};
-use cli::streams::{SessionError, read_all, write_whole};
+use cli::session::{Session, session_noting};
+use cli::streams::{Failures, SessionError, read_all, write_whole};
 use monoid_laws::Kind;
 use std::alloc::{AllocError, Global};
 use std::io;
@@ -88,11 +88,25 @@ fn session(rt: &impl Abort, alloc: Global) -> Session<PlainView>
     begin(alloc, b"proc main() { return 4; }", "", 1, &make).expect(rt, "a session")
 }
 
+// The session's answer over these streams, one worker, and which of them failed.
+fn noting<R: Read, W: Write>(
+    rt: &(impl Abort + Wait),
+    alloc: Global,
+    reader: &mut R,
+    writer: &mut W,
+    failures: &mut Failures,
+) -> Result<(), SessionError> {
+    let session = session(rt, alloc);
+    session_noting(rt, alloc, session, 1, reader, writer, failures)
+}
+
 #[test]
 fn interrupted_reads_are_done_again(rt: HostRuntime) {
     let mut reader = halting_reader(ErrorKind::Interrupted, 2, 3);
-    let read = read_all(rt.alloc(), &mut reader).expect(&rt, "bytes");
+    let mut failures = Failures::none();
+    let read = read_all(rt.alloc(), &mut reader, &mut failures).expect(&rt, "bytes");
     assert_eq!(&rt; read.as_slice(), b"run\n".as_slice());
+    assert_eq!(&rt; failures.noted(), (false, false));
 }
 
 #[test]
@@ -100,33 +114,39 @@ fn a_read_fails_in_mid_stream(rt: HostRuntime) {
     for at in 0..5 {
         let mut reader = halting_reader(ErrorKind::ConnectionReset, at, 1);
         let mut writer = slow_writer(rt.alloc(), None, true);
-        let session = session(&rt, rt.alloc());
-        let ended = session_text(&rt, rt.alloc(), session, 1, &mut reader, &mut writer);
+        let mut failures = Failures::none();
+        let ended = noting(&rt, rt.alloc(), &mut reader, &mut writer, &mut failures);
         assert!(&rt; matches!(&ended, Err(SessionError::Read)));
         assert_eq!(&rt; writer.taken.len(), 0);
+        assert_eq!(&rt; failures.noted(), (true, false));
     }
 }
 
 #[test]
 fn a_reader_without_memory(rt: HostRuntime) {
     let mut reader = halting_reader(ErrorKind::OutOfMemory, 1, 1);
-    let read = read_all(rt.alloc(), &mut reader);
+    let mut failures = Failures::none();
+    let read = read_all(rt.alloc(), &mut reader, &mut failures);
     assert!(&rt; matches!(&read, Err(SessionError::NoMemory)));
+    assert_eq!(&rt; failures.noted(), (false, false));
 }
 
 #[test]
 fn interrupted_writes_are_done_again(rt: HostRuntime) {
     let mut writer = slow_writer(rt.alloc(), Some(ErrorKind::Interrupted), true);
-    write_whole(&mut writer, b"ok\n").expect(&rt, "written");
+    let mut failures = Failures::none();
+    write_whole(&mut writer, b"ok\n", &mut failures).expect(&rt, "written");
     assert_eq!(&rt; writer.taken.as_slice(), b"ok\n".as_slice());
+    assert_eq!(&rt; failures.noted(), (false, false));
 }
 
 #[test]
 fn a_failed_flush_is_a_failed_write(rt: HostRuntime) {
     let mut writer = slow_writer(rt.alloc(), None, false);
-    let session = session(&rt, rt.alloc());
     let mut reader = b"run\n".as_slice();
-    let ended = session_text(&rt, rt.alloc(), session, 1, &mut reader, &mut writer);
+    let mut failures = Failures::none();
+    let ended = noting(&rt, rt.alloc(), &mut reader, &mut writer, &mut failures);
     assert!(&rt; matches!(&ended, Err(SessionError::Write)));
     assert_eq!(&rt; writer.taken.as_slice(), b"run 1\nresult 4\n".as_slice());
+    assert_eq!(&rt; failures.noted(), (false, true));
 }

@@ -1,7 +1,7 @@
 use Rattle.program_tree.specs.View.{tree}
 use Rattle.meaning.specs.Text.{answers_text}
 use Rattle.cli.proofs.Written.{nothing_written}
-use Rattle.cli.proofs.session.session_text.Goals as goal
+use Rattle.cli.proofs.session.session_noting.Goals as goal
 
 pub returns-in_err-script-clause-beginning : goal.returns-in_err-script-clause-beginning
 returns-in_err-script-clause-beginning g c =
