@@ -3,3 +3,5 @@ pub mod Paths
 pub mod Runs
 pub mod Reruns
 pub mod Recordings
+pub mod Texts
+pub mod WithoutEdits

@@ -50,7 +50,7 @@ unfinished = refl
 -- ---- edits
 
 abbrev standing : ℕ → List (ℤ × List ℤ) → Standing
-standing n rows = record { program = record { tree = lines; revisions = []; counter = 0 }; tables = sales rows; edits = n }
+standing n rows = record { program = record { tree = lines; revisions = []; counter = 0 }; lines = []; tables = sales rows; edits = n }
 
 put_there : after_put (standing 0 (row 1 2 5 ∷ row 2 3 7 ∷ row 3 1 100 ∷ [])) n_sales (pos 2) (pos 4 ∷ pos 7 ∷ []) ≡ Ok (standing 1 (row 1 2 5 ∷ row 2 4 7 ∷ row 3 1 100 ∷ []))
 put_there = refl

@@ -6,14 +6,16 @@ use Rattle.program_tree.specs.declared.Operator.{Operator}
 use Rattle.program_tree.specs.declared.Operator.TheVariants as o
 use Rattle.program_tree.specs.declared.Way.{Way}
 use Rattle.program_tree.specs.declared.Way.TheVariants.{Call, Spawn}
+use Rattle.program_tree.specs.View.{Lined}
 use Rattle.program_tree.specs.Plain.{Name, Term, number, name, cell, has, limit, negate, binary, Deed, bind, enter, read, sync, update, choose, loop, give, Body, end, step, Proc, reducer, procedure, Tree}
 use Rattle.meaning.specs.Tables.{Tables, Listed, is_there, row_of}
 use Rattle.meaning.specs.Statements.{procedure_of}
 use Rattle.meaning.specs.Records.{Revised}
 
--- a program with its revision numbers, its tables, and how many edits of the tables were accepted
+-- a program with its revision numbers and its lines, its tables, and how many edits of the tables were accepted
 pub record Standing : Type 0 where
   pub program : Revised
+  pub lines : List Lined
   pub tables : Tables
   pub edits : ℕ
 
@@ -69,7 +71,7 @@ unless true e r = Err e
 unless false e r = r
 
 abbrev pub with_tables : Standing → Tables → Standing
-with_tables s tables = record { program = s.program; tables = tables; edits = suc s.edits }
+with_tables s tables = record { program = s.program; lines = s.lines; tables = tables; edits = suc s.edits }
 
 abbrev pub put_in : Standing → Name → ℤ → List ℤ → Option Listed → Result Standing EditRefusal
 put_in s t row vs None = Err UnknownTable
@@ -181,20 +183,28 @@ revised old (procedure p ∷ rest) next =
     (let more = revised old rest next in ((p.called, revision_of old.revisions p.called) ∷ more.0, more.1))
     (let more = revised old rest (suc next) in ((p.called, next) ∷ more.0, more.1))
 
-abbrev pub with_program : Standing → Tree → List (Name × ℕ) × ℕ → Standing
-with_program s tree numbers = record { program = record { tree = tree; revisions = numbers.0; counter = numbers.1 }; tables = s.tables; edits = s.edits }
+abbrev pub with_program : Standing → Tree × List Lined → List (Name × ℕ) × ℕ → Standing
+with_program s new numbers = record { program = record { tree = new.0; revisions = numbers.0; counter = numbers.1 }; lines = new.1; tables = s.tables; edits = s.edits }
 
-abbrev pub checked_as : Standing → Tree → Option Violation → Result Standing EditRefusal
-checked_as s tree (Some v) = Err (Broken v)
-checked_as s tree None = unless (nat_lt most (revised s.program tree s.program.counter).1) Exhausted (Ok (with_program s tree (revised s.program tree s.program.counter)))
+abbrev pub checked_as : Standing → Tree × List Lined → Option Violation → Result Standing EditRefusal
+checked_as s new (Some v) = Err (Broken v)
+checked_as s new None = unless (nat_lt most (revised s.program new.0 s.program.counter).1) Exhausted (Ok (with_program s new (revised s.program new.0 s.program.counter)))
 
-abbrev pub defined_as : (Tree → Tables → Option Violation) → Standing → Result Tree ℕ → Result Standing EditRefusal
+-- how a text's procedures are put into a program: it gives the new tree and its lines, or the line where the text is refused
+abbrev pub TextReader : Type 0
+TextReader = List ℕ → Tree × List Lined → Result (Tree × List Lined) ℕ
+
+-- how a program is checked beside its tables: it gives the first violation
+abbrev pub Checker : Type 0
+Checker = Tree → List Lined → Tables → Option Violation
+
+abbrev pub defined_as : Checker → Standing → Result (Tree × List Lined) ℕ → Result Standing EditRefusal
 defined_as checks s (Err line) = Err (BadText line)
-defined_as checks s (Ok tree) = checked_as s tree (checks tree s.tables)
+defined_as checks s (Ok new) = checked_as s new (checks new.0 new.1 s.tables)
 
--- procedures are defined: `reads` gives the program with the text's procedures put in, or the line where the text is refused; `checks` gives the first violation
-abbrev pub after_define : (List ℕ → Tree → Result Tree ℕ) → (Tree → Tables → Option Violation) → Standing → List ℕ → Result Standing EditRefusal
-after_define reads checks s text = defined_as checks s (reads text s.program.tree)
+-- procedures are defined: their text is put into the program, and the whole is checked
+abbrev pub after_define : TextReader → Checker → Standing → List ℕ → Result Standing EditRefusal
+after_define reads checks s text = defined_as checks s (reads text (s.program.tree, s.lines))
 
 -- ---- lists of edits
 
@@ -203,7 +213,7 @@ pub data Edit : Type 0 where
   Delete : Name → ℤ → Edit
   Define : List ℕ → Edit
 
-module _ (reads : List ℕ → Tree → Result Tree ℕ) (checks : Tree → Tables → Option Violation) where
+module _ (reads : TextReader) (checks : Checker) where
   abbrev pub tried : Standing → Edit → Result Standing EditRefusal
   tried s (Put t row vs) = after_put s t row vs
   tried s (Delete t row) = after_delete s t row

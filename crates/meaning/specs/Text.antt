@@ -1,15 +1,15 @@
 -- The text of the answers to a script.
-use Rattle.std.specs.Prelude.{ℕ, ◌+◌, ℤ, List, [], ◌∷◌, ◌++◌, flat_map, Option, Some, None, codes}
+use Rattle.std.specs.Prelude.{ℕ, ◌+◌, ℤ, Bool, List, [], ◌∷◌, ◌++◌, flat_map, Option, Some, None, Result, Ok, Err, codes}
 use Rattle.std.specs.Fmt.{decimal, signed_decimal}
-use Rattle.program_tree.specs.Plain.{Red, Tree}
+use Rattle.program_tree.specs.Plain.{Red}
 use Rattle.monoid_laws.specs.Worth.{Worth, number, items, best, line, amounts, element}
 use Rattle.meaning.specs.declared.FaultKind.{FaultKind}
 use Rattle.meaning.specs.declared.FaultKind.TheVariants as k
-use Rattle.meaning.specs.Tables.{Tables}
 use Rattle.meaning.specs.Outcome.{Fault, Accumulators}
 use Rattle.meaning.specs.Statements.{reducers}
 use Rattle.meaning.specs.Elision.{Answer, Finished, Faulted, from_scratch}
-use Rattle.meaning.specs.Script.{Command, Run, Unknown, commands}
+use Rattle.meaning.specs.Edits.{Standing, Violation, EditRefusal, UnknownTable, WrongColumns, RowRange, NoRow, BadText, Broken, Exhausted, TextReader, Checker, tried, after_edit}
+use Rattle.meaning.specs.Script.{Command, Run, Change, Unknown, commands}
 
 -- a number after a space
 abbrev pub spaced : ℤ → List ℕ
@@ -71,21 +71,48 @@ run_text n reds answer = run_line n ++ outcome_text reds answer
 abbrev pub unknown_text : ℕ → List ℕ
 unknown_text n = codes "refused E19 " ++ decimal n ++ codes "\n"
 
--- the answer to a command, after so many runs
-abbrev pub answer_text : Tree → Tables → ℕ → Command → List ℕ
-answer_text program tables runs Run = run_text (runs + 1) (reducers program) (from_scratch program tables)
-answer_text program tables runs (Unknown n) = unknown_text n
+-- the rule, the declaration that holds the violation, the line
+abbrev pub violation_text : Violation → List ℕ
+violation_text v = codes "refused E9 C" ++ decimal v.rule ++ codes " " ++ v.holder ++ codes " " ++ decimal v.line ++ codes "\n"
+
+abbrev pub refusal_text : EditRefusal → List ℕ
+refusal_text UnknownTable = codes "refused E4\n"
+refusal_text WrongColumns = codes "refused E5\n"
+refusal_text RowRange = codes "refused E6\n"
+refusal_text NoRow = codes "refused E7\n"
+refusal_text (BadText n) = codes "refused E8 " ++ decimal n ++ codes "\n"
+refusal_text (Broken v) = violation_text v
+refusal_text Exhausted = codes "refused E18\n"
+
+-- what an edit came to
+abbrev pub edit_text : Result Standing EditRefusal → List ℕ
+edit_text (Ok s) = codes "ok\n"
+edit_text (Err e) = refusal_text e
 
 -- how many runs there were after a command
 abbrev pub runs_after : ℕ → Command → ℕ
 runs_after runs Run = runs + 1
+runs_after runs (Change e) = runs
 runs_after runs (Unknown n) = runs
 
--- the answers to commands, after so many runs
-abbrev pub answers_from : Tree → Tables → ℕ → List Command → List ℕ
-answers_from program tables runs [] = []
-answers_from program tables runs (c ∷ cs) = answer_text program tables runs c ++ answers_from program tables (runs_after runs c) cs
+module _ (reads : TextReader) (checks : Checker) where
+  -- the answer to a command in a standing, after so many runs
+  abbrev pub answer_text : Standing → ℕ → Command → List ℕ
+  answer_text s runs Run = run_text (runs + 1) (reducers s.program.tree) (from_scratch s.program.tree s.tables)
+  answer_text s runs (Change e) = edit_text (tried reads checks s e)
+  answer_text s runs (Unknown n) = unknown_text n
 
--- the answers to a script
-abbrev pub answers_text : Tree → Tables → List ℕ → List ℕ
-answers_text program tables script = answers_from program tables 0 (commands script)
+  -- the standing after a command
+  abbrev pub standing_after : Standing → Command → Standing
+  standing_after s Run = s
+  standing_after s (Change e) = after_edit reads checks s e
+  standing_after s (Unknown n) = s
+
+  -- the answers to commands from a standing on, after so many runs
+  abbrev pub answers_from : Standing → ℕ → List Command → List ℕ
+  answers_from s runs [] = []
+  answers_from s runs (c ∷ cs) = answer_text s runs c ++ answers_from (standing_after s c) (runs_after runs c) cs
+
+  -- the answers to a script, in a language that has edits or has none
+  abbrev pub answers_text : Bool → Standing → List ℕ → List ℕ
+  answers_text edits s script = answers_from s 0 (commands edits script)

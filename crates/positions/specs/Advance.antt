@@ -9,6 +9,7 @@ use Rattle.meaning.specs.declared.FaultKind.{FaultKind}
 use Rattle.meaning.specs.declared.FaultKind.TheVariants.{TooDeep, BadElement}
 use Rattle.meaning.specs.Tables.{Tables}
 use Rattle.meaning.specs.Statements.{number_of}
+use Rattle.meaning.specs.Elision.{depth_limit}
 use Rattle.linked_program.specs.declared.code.Operation.{Operation}
 use Rattle.linked_program.specs.declared.code.Operation.TheVariants as o
 use Rattle.linked_program.specs.declared.code.Instruction.{Instruction}
@@ -58,7 +59,7 @@ evaluated n o next s = answered n o.answer next (noted o.notes s)
 
 -- the topmost instance is entered: one of a procedure is noted
 abbrev pub started_by : Work → PlainStrand → PlainStrand
-started_by (Block p) s = record s { layer = entering s.top.procedure (64 - s.top.left) s.layer; phase = Running }
+started_by (Block p) s = record s { layer = entering s.top.procedure (depth_limit - s.top.left) s.layer; phase = Running }
 started_by _ s = record s { phase = Running }
 
 abbrev pub started : PlainStrand → PlainStrand

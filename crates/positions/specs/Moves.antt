@@ -1,6 +1,7 @@
 -- What is taken out of a strand and put back, the strands that begin, and two strands that become one, by numbers.
 use Rattle.std.specs.Prelude.{ℕ, ◌-◌, ℤ, Bool, true, false, if◌then◌else◌, ◌==◌, List, [], ◌∷◌, map, length, Option, Some, None}
 use Rattle.monoid_laws.specs.declared.Kind.{Kind}
+use Rattle.meaning.specs.Elision.{depth_limit}
 use Rattle.linked_program.specs.declared.code.Code.{Code}
 use Rattle.linked_program.specs.CodeView.{slots_of}
 use Rattle.linked_program.specs.declared.code.Operation.{Operation}
@@ -62,7 +63,7 @@ first_strand codes kinds main = record {
   layer = blank kinds (length codes);
   lower = [];
   path = [];
-  top = made main (slots_for (slots_of codes main) []) (Block (first_of 0)) 63;
+  top = made main (slots_for (slots_of codes main) []) (Block (first_of 0)) (depth_limit - 1);
   below = [];
   phase = Entering;
 }
