@@ -4,3 +4,5 @@ pub mod Lists
 pub mod Pieces
 pub mod Laws
 pub mod Rows
+pub mod Zeros
+pub mod SameTables

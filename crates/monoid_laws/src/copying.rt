@@ -20,7 +20,7 @@ fn copied_pieces(
     Ok(copies)
 }
 
-/// A value worth the same.
+/// A value worth the same. Want of memory is the only error.
 pub fn copy_of(alloc: Global, value: &Val) -> Result<Val, AllocError>
     ensures { IfOk result (λ v. meaning v ≡ meaning value.now) }
 {

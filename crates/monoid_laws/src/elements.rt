@@ -40,7 +40,7 @@ pub(crate) fn one_amount(alloc: Global, key: i64, amount: i64) -> Result<Val, Al
     Ok(Val::Hist(list))
 }
 
-/// The element that the numbers of an update name; `BadElement` where a table has no such element.
+/// The element that the numbers of an update name. An error is BadElement, where a table has no such element, or NoMemory.
 pub fn inject(alloc: Global, kind: Kind, numbers: &[i64]) -> Result<Val, InjectError>
     requires count { length numbers.now ≡ arity kind }
     ensures value { IfOk result (λ v. meaning v ≡ element_of kind numbers.now) }

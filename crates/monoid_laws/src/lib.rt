@@ -1,7 +1,7 @@
 //! Kinds of reducers, their values, and the laws that hold of them.
 #![tactic(auto)]
 
-ghost use Rattle.std.specs.Prelude.{◌≡◌, ℕ, ◌≤◌, ◌<◌, ◌*◌, slice_index};
+ghost use Rattle.std.specs.Prelude.{◌≡◌, ℕ, ◌≤◌, ◌<◌, ◌-◌, ◌*◌, drop, replicate, slice_index};
 
 mod adding;
 mod combining;
@@ -26,7 +26,7 @@ pub use table_rows::table_of;
 use thiserror::Error;
 pub use updating::add_element;
 
-/// An operation on the numbers below `size`, row by row: `a op b` stands at `a * size + b`.
+/// An operation on the numbers below `size`, row by row: `a op b` stands at `a * size + b`. Cells behind the last row are 0.
 #[derive(Clone, Copy, Debug, PartialEq, Eq)]
 pub struct Table {
     pub size: u8,
@@ -35,6 +35,8 @@ pub struct Table {
     ghost unit_in: { unit < size },
     ghost few: { size ≤ 16 },
     ghost cells_in: { (i : ℕ) → i < size * size → slice_index cells i < size },
+    // So equal tables are those with the same entries.
+    ghost rest_zero: { drop (size * size) cells ≡ replicate (256 - size * size) 0 },
 }
 
 /// What a reducer's operation is.

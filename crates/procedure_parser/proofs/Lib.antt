@@ -20,3 +20,4 @@ pub mod Ends
 pub mod DefiningLaw
 pub mod OnlyDefining
 pub mod Rooms
+pub mod OneMeaning

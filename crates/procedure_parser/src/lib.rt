@@ -10,15 +10,12 @@ mod expression;
 mod fault;
 mod front;
 mod kinds;
+mod laws;
 mod room;
 mod statement;
 mod text;
 
 pub use defined::parse_define;
 pub use fault::TextError;
-pub use text::{parse, parse_source};
-
-#[cfg(test)]
-mod program_tests;
-#[cfg(test)]
-mod tests;
+pub use laws::laws_of_texts;
+pub use text::parse;

@@ -26,8 +26,8 @@ pub fn fault_line(text: &[u8], tokens: &[Placed], left: usize) -> u32
     }
 }
 
-/// The source tree of a text. An error is NoMemory, or the line of the first token that can't follow what stands before it: 0 for a text that is too long.
-pub fn parse_source(alloc: Global, text: &[u8]) -> Result<Vec<Declaration>, TextError>
+/// The source tree of a text. An error is as that of `parse`.
+fn parse_source(alloc: Global, text: &[u8]) -> Result<Vec<Declaration>, TextError>
     // What is read is the source tree of a text of the grammar, within the limits.
     ensures found { IfOk result (λ ds. IsSource (source ds.items) text.now) }
     // A text of the grammar, within the limits, is read, unless memory runs out.

@@ -71,7 +71,7 @@ fn put(
     Ok(())
 }
 
-/// The program with the procedures of a source tree put in: each in the place of the one of its name, a new name last, a second one of a name behind the first. Each keeps the lines of its own text.
+/// The program with the procedures of a source tree put in: each in the place of the one of its name, a new name last, a second one of a name behind the first. Each keeps the lines of its own text, and has at most 1,048,576 statements. Want of memory is the only error.
 pub fn with_procedures(
     alloc: Global,
     program: &Program,

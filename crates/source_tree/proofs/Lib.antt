@@ -1,3 +1,4 @@
 pub mod Pools
 pub mod Counting
 pub mod Laying
+pub mod Settled

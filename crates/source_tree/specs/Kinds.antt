@@ -20,7 +20,7 @@ pub data WrittenKind : Type 0 where
   Hist : WrittenKind
   Table : ℕ → ℕ → List ℕ → WrittenKind
 
--- as a kind is written; of a table's cells only those that its size gives it
+-- as a kind is written; of a table's cells those that its size gives it, since the others are 0
 abbrev pub written : Kind → WrittenKind
 written k.Add = Add
 written k.Mul = Mul

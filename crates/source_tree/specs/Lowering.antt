@@ -73,7 +73,7 @@ abbrev mutual
 
 -- ---- declarations
 
--- a declaration of a program's tree; of a table's cells only those that its size gives it
+-- a declaration of a program's tree, with a reducer's kind as it is written
 pub data Lowered : Type 0 where
   reducer : Name → WrittenKind → Lowered
   procedure : Proc → Lowered

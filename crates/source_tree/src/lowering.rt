@@ -29,7 +29,7 @@ fn blocks_of(
     Ok(blocks)
 }
 
-/// The procedure of a program, from that of a source tree.
+/// The procedure of a program, from that of a source tree with at most 1,048,576 statements. Want of memory is the only error.
 pub fn lower_procedure(
     alloc: Global,
     procedure: &source::Procedure,
@@ -83,7 +83,7 @@ fn lower_declaration(
     }
 }
 
-/// The tree of a program, from its source tree.
+/// The tree of a program, from its source tree, in which no procedure has more than 1,048,576 statements. Want of memory is the only error.
 pub fn lower(alloc: Global, source: &[source::Declaration]) -> Result<Program, AllocError>
     requires { BodiesWithin 1048576 (plain.source source.now) }
     ensures tree { IfOk result (λ p. settled (tree p) ≡ lowered (plain.source source.now)) }

@@ -1,23 +1,23 @@
 //! The names of a procedure's variables, each numbered by its first place.
 
 ghost use Rattle.std.specs.Prelude.{◌≡◌, ℕ, List, OnOk, OnErr};
-ghost use Rattle.std.specs.HashMap.{get_by_text};
+ghost use Rattle.std.specs.BTreeMap.{get_by_text};
 ghost use Rattle.source_tree.specs.Lowering.{kept};
 
 use std::alloc::{AllocError, Global};
-use std::collections::HashMap;
+use std::collections::BTreeMap;
 use std::marker::Model;
 
 /// A pool of names: the parameters as they are written, and then each further name once.
 #[derive(Drop)]
 pub struct Pool {
     names: Vec<String>,
-    places: HashMap<String, usize>,
+    places: BTreeMap<String, usize>,
 }
 
 impl Model for Pool {
     ghost use Rattle.std.specs.Prelude.{◌≡◌, ℕ, List};
-    ghost use Rattle.std.specs.HashMap.{get_by_text};
+    ghost use Rattle.std.specs.BTreeMap.{get_by_text};
     ghost use Rattle.source_tree.specs.Source.{texts};
     ghost use Rattle.source_tree.specs.Lowering.{place_of};
 
@@ -31,7 +31,7 @@ impl Model for Pool {
 /// Keeps the place of a name, unless it has one or memory runs out.
 fn keep(
     alloc: Global,
-    places: &mut HashMap<String, usize>,
+    places: &mut BTreeMap<String, usize>,
     name: &str,
     place: usize,
 ) -> Result<(), AllocError>
@@ -57,7 +57,7 @@ impl Pool {
     {
         Pool {
             names: Vec::new(alloc),
-            places: HashMap::new(alloc),
+            places: BTreeMap::new(alloc),
         }
     }
 

@@ -217,7 +217,7 @@ fn token_at<'a>(b: u8, bytes: &'a [u8]) -> (Token<'a>, usize)
     mark_of(b, bytes)
 }
 
-/// The tokens of a text.
+/// The tokens of a text, each with its line, counted from 1. The text has at most 1,048,576 bytes; want of memory is the only error.
 pub fn tokens<'a>(alloc: Global, text: &'a [u8]) -> Result<Vec<Placed<'a>>, AllocError>
     requires { length text.now ≤ 1048576 }
     ensures { IfOk result (λ v. words v.items ≡ tokens_of text.now) }

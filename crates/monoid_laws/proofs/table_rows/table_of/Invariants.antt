@@ -9,4 +9,5 @@ invariant-loop-i l = record {
   kept : length l.cells ≡ 256;
   below : (k : ℕ) → k < l.i → slice_index l.numbers k < l.size;
   copied : (k : ℕ) → k < l.i → slice_index l.cells k ≡ slice_index l.numbers k;
+  rest : (k : ℕ) → l.i ≤ k → slice_index l.cells k ≡ 0;
 }
