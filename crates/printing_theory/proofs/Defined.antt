@@ -51,7 +51,7 @@ module _ (text : List ℕ) (all : Source) (is : IsSource all text) where
       ((text, all, x, is, among x (inl refl), q), each_of_some t s (λ y i. among y (inr i)) r)
 
 pub text_of_texts : (t : Tree) → IsOfText t → IsOfTexts t
-text_of_texts t (text, l, (s, i, e, g)) =
+text_of_texts t (text, (l, (s, i, e, g))) =
     let w = within 16 256 s (tokens_of text) [] i.1 in
     (each_of_some text s i t s (λ d j. j) e, subst (λ (z : List Lowered). reducer_count z ≤ 16) (sym e) w.0, subst (λ (z : List Lowered). procedure_count z ≤ 256) (sym e) w.1)
 

@@ -1,19 +1,23 @@
 -- A text's tree is that of its printed text.
-use Rattle.std.proofs.Common.{◌≡◌, ℕ, ◌≤◌, List, [], ◌∷◌, length, Result, Ok, Err, refl, sym, subst, ◌∙◌}
+use Rattle.std.proofs.Common.{◌≡◌, ℕ, ◌<◌, ◌≤◌, List, [], ◌∷◌, length, Result, Ok, Err, inl, inr, refl, sym, subst, ◌∙◌, arith}
+use Rattle.std.specs.Prelude.{IfOk, IfErr}
+use Rattle.std.specs.Global.{Vec}
 use Rattle.program_tree.specs.Plain.{Tree}
+use Rattle.program_tree.specs.View.{tree, lines}
 use Rattle.program_tree.specs.declared.Program.{Program}
 use Rattle.token_scanner.specs.Words.{Word, Words}
 use Rattle.token_scanner.specs.Scanning.{tokens_of}
 use Rattle.source_tree.specs.Source.{Source}
 use Rattle.source_tree.specs.Lowering.{Lowered, settled, lowered, lines_of}
+use Rattle.source_tree.proofs.Settled.{settled_back}
 use Rattle.procedure_parser.specs.declared.fault.TextError.{TextError}
 use Rattle.procedure_parser.specs.declared.fault.TextError.TheVariants.{NoMemory, Text}
 use Rattle.procedure_parser.specs.Grammar.{Declarations}
-use Rattle.procedure_parser.specs.Correct.{InGrammar, IsSource, Answers}
+use Rattle.procedure_parser.specs.Correct.{InGrammar, IsSource, IsText, Answers, IsFault}
 use Rattle.program_printer.specs.Tokens.{AllTokens, bare}
 use Rattle.program_printer.specs.Printing.{printed_words, printed}
 use Rattle.program_printer.proofs.Rescan.{tokens_again}
-use Rattle.printing_theory.specs.Again.{IsOfText, IsOfTexts, PrintsAgain, IsAgain, reducer_count, procedure_count}
+use Rattle.printing_theory.specs.Again.{HasTree, IsOfText, IsOfTexts, PrintsAgain, IsAgain, IsTooLong, reducer_count, procedure_count}
 use Rattle.printing_theory.proofs.Said.{said}
 use Rattle.printing_theory.proofs.Names.{said_of}
 use Rattle.printing_theory.proofs.Read.{tokens_read}
@@ -34,12 +38,12 @@ source_again t s text i e =
     (f.one, subst (λ (z : Words). Declarations 16 256 f.one (tokens_of (printed t)) z) (bare_nil f.rest f.behind) f.holds, f.same)
 
 pub prints_again : (t : Tree) → IsOfText t → length (printed t) ≤ 1048576 → PrintsAgain t
-prints_again t (text, l, (s, i, e, g)) h =
+prints_again t (text, (l, (s, i, e, g))) h =
     let q = source_again t s text i.1 e in
     (lines_of q.0, (q.0, (h, q.1), e ∙ sym q.2, refl))
 
 answered : (t : Tree) (s : Source) (answer : Result Program TextError) → settled t ≡ lowered s → Answers answer s → IsAgain t answer
-answered t s (Ok p) e a = a.0 ∙ sym e
+answered t s (Ok p) e a = settled_back (tree p) t (a.0 ∙ sym e)
 answered t s (Err NoMemory) e a = tt
 answered t s (Err (Text n)) e a = a
 
@@ -55,3 +59,17 @@ collected_prints t (i, r, p) h =
     let m : procedure_count (lowered c.0) ≤ 256 = subst (λ (z : List Lowered). procedure_count z ≤ 256) c.2 p in
     let f = collected_again 16 256 c.0 c.1 n m (tokens_of (printed t)) [] (tokens_again (printed_words t) a ∙ w) in
     (lines_of f.one, (f.one, (h, subst (λ (z : Words). Declarations 16 256 f.one (tokens_of (printed t)) z) (bare_nil f.rest f.behind) f.holds), c.2 ∙ sym f.same, refl))
+
+pub too_long : (text : List ℕ) (answer : Result Program TextError) → 1048576 < length text → IfOk answer (λ p. IsText text (tree p) (lines p)) → IfErr answer (λ e. IsFault text e) → IsTooLong answer
+too_long text (Ok p) h f g = absurd (omega (arith, h, f.1.0))
+too_long text (Err NoMemory) h f g = tt
+too_long text (Err (Text l)) h f (inl e) = e.1
+too_long text (Err (Text l)) h f (inr e) = absurd (omega (arith, h, e.1))
+
+text_again : (t : Tree) (text : List ℕ) → text ≡ printed t → IsOfTexts t → length text ≤ 1048576 → HasTree text t
+text_again t text e i h =
+    subst (λ (xs : List ℕ). HasTree xs t) (sym e) (collected_prints t i (subst (λ (xs : List ℕ). length xs ≤ 1048576) e h))
+
+pub carried : {E : Type 0} (t : Tree) (answer : Result (Vec ℕ) E) → IfOk answer (λ text. text.items ≡ printed t) → IfOk answer (λ text. IsOfTexts t → length text.items ≤ 1048576 → HasTree text.items t)
+carried t (Ok text) e = λ i h. text_again t text.items e i h
+carried t (Err f) e = tt

@@ -11,9 +11,13 @@ use Rattle.procedure_parser.specs.declared.fault.TextError.TheVariants.{NoMemory
 use Rattle.procedure_parser.specs.Correct.{IsText, IsSource}
 use Rattle.program_printer.specs.Printing.{printed}
 
+-- the text is one of this tree, on some lines
+abbrev pub HasTree : List ℕ → Tree → Type 0
+HasTree text t = (l : List Lined) × IsText text t l
+
 -- the tree of some text
 abbrev pub IsOfText : Tree → Type 0
-IsOfText t = (text : List ℕ) × (l : List Lined) × IsText text t l
+IsOfText t = (text : List ℕ) × HasTree text t
 
 abbrev pub IsIn : Decl → Source → Type 0
 IsIn d [] = ⊥
@@ -43,10 +47,16 @@ IsOfTexts t = AllOfSome t × (reducer_count (settled t) ≤ 16) × (procedure_co
 
 -- its printed text has the same tree
 abbrev pub PrintsAgain : Tree → Type 0
-PrintsAgain t = (l : List Lined) × IsText (printed t) t l
+PrintsAgain t = HasTree (printed t) t
 
 -- a program with this tree, unless memory runs out
 abbrev pub IsAgain : Tree → Result Program TextError → Type 0
-IsAgain t (Ok p) = settled (tree p) ≡ settled t
+IsAgain t (Ok p) = tree p ≡ t
 IsAgain t (Err NoMemory) = Unit {0}
 IsAgain t (Err (Text l)) = ⊥
+
+-- the refusal of a text that is too long, unless memory runs out
+abbrev pub IsTooLong : Result Program TextError → Type 0
+IsTooLong (Ok p) = ⊥
+IsTooLong (Err NoMemory) = Unit {0}
+IsTooLong (Err (Text l)) = l ≡ 0

@@ -1,8 +1,8 @@
-use Rattle.std.proofs.Common.{◌≡◌, List, ℕ, sym, subst, ◌∙◌}
+use Rattle.std.proofs.Common.{◌≡◌, ◌<◌, List, ℕ, length, sym, subst, ◌∙◌}
 use Rattle.program_tree.specs.View.{tree}
 use Rattle.procedure_parser.specs.Correct.{IsSource}
 use Rattle.program_printer.specs.Printing.{printed}
-use Rattle.printing_theory.proofs.Round.{prints_again, collected_prints, reads_again}
+use Rattle.printing_theory.proofs.Round.{prints_again, collected_prints, reads_again, too_long}
 use Rattle.printing_theory.proofs.again.print_and_parse.Goals as goal
 
 pub returns-clause-text : goal.returns-clause-text
@@ -14,3 +14,8 @@ pub returns-clause-texts : goal.returns-clause-texts
 returns-clause-texts c = λ i h.
     let e : c.deref.result.now ≡ printed (tree c.args.program.now) = c.deref.ensures.value ∙ c.in_ok-text.ensures.printed in
     reads_again (tree c.args.program.now) (collected_prints (tree c.args.program.now) i h) c.parse.result (λ s j. c.parse.ensures.only s (subst (λ (text : List ℕ). IsSource s text) (sym e) j))
+
+pub returns-clause-long : goal.returns-clause-long
+returns-clause-long c = λ h.
+    let e : c.deref.result.now ≡ printed (tree c.args.program.now) = c.deref.ensures.value ∙ c.in_ok-text.ensures.printed in
+    too_long c.deref.result.now c.parse.result (subst (λ (text : List ℕ). 1048576 < length text) (sym e) h) c.parse.ensures.found c.parse.ensures.fault
