@@ -1,6 +1,7 @@
 -- Tables that are edited, and what is read of them by number.
 use Rattle.std.specs.Prelude.{◌≡◌, ℕ, zero, suc, ℤ, pos, Bool, List, [], ◌∷◌, Option, Some, Result, Err, IsOk, map}
 use Rattle.program_tree.specs.Plain.{Name}
+use Rattle.program_tree.specs.View.{Lined}
 use Rattle.meaning.specs.Records.{Revised}
 use Rattle.monoid_laws.specs.Kinds.{Fits}
 use Rattle.meaning.specs.Tables.{Tables, Listed, row_of, at_column, is_there, above_all, cell_of}
@@ -14,9 +15,9 @@ pub record Edited : Type 0 where
   pub tables : Tables
   pub edits : ℕ
 
--- the tables beside a program
-abbrev pub beside : Revised → Edited → Standing
-beside program now = record { program = program; tables = now.tables; edits = now.edits }
+-- the tables beside a program and its lines
+abbrev pub beside : Revised → List Lined → Edited → Standing
+beside program lines now = record { program = program; lines = lines; tables = now.tables; edits = now.edits }
 
 abbrev pub names_of : Tables → List Name
 names_of ts = map (λ t. t.called) ts
@@ -65,6 +66,11 @@ IsEditCause answer e.Columns = answer ≡ Err WrongColumns
 IsEditCause answer e.RowRange = answer ≡ Err RowRange
 IsEditCause answer e.NoRow = answer ≡ Err NoRow
 IsEditCause answer e.Exhausted = answer ≡ Err Exhausted
+
+-- the same of an edit that takes no memory
+abbrev pub IsDeleteCause : Result Standing EditRefusal → EditError → Type 0
+IsDeleteCause answer e.NoMemory = ⊥
+IsDeleteCause answer error = IsEditCause answer error
 
 -- each cell of the rows, and of the tables, is a number of 64 bits
 abbrev pub RowsFit : List Row → Type 0

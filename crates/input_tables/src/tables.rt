@@ -2,11 +2,12 @@
 
 ghost use Rattle.std.specs.Prelude.{◌≡◌, ℕ, suc, ℤ, List, true, ◌<◌, length, IfOk, IfErr, OnOk, OnErr, IfSome, IfNone, Some, Ok, [], option_map, option_copied, slice_get, map, string_bytes};
 ghost use Rattle.program_tree.specs.Plain.{Name};
+ghost use Rattle.program_tree.specs.View.{Lined};
 ghost use Rattle.meaning.specs.Tables.{place_of, columns_of, cell_of, has_row, limit_of};
 ghost use Rattle.input_tables.specs.Document.{reading, HasCause};
 ghost use Rattle.meaning.specs.Records.{Revised};
 ghost use Rattle.meaning.specs.Edits.{after_put, after_delete, in_range, table_of};
-ghost use Rattle.input_tables.specs.Edited.{beside, IsEditCause, edited, changed_at, row_into, row_out_of, names_of, columns_at, cell_at, has_at, limit_at, CellsFit};
+ghost use Rattle.input_tables.specs.Edited.{beside, IsEditCause, IsDeleteCause, edited, changed_at, row_into, row_out_of, names_of, columns_at, cell_at, has_at, limit_at, CellsFit};
 
 use crate::document::tables_in;
 use crate::refusal::{EditError, TablesError};
@@ -176,8 +177,8 @@ impl Tables {
         row: i64,
         values: &[i64],
     ) -> Result<(), EditError>
-        ensures put { OnOk result ((program : Revised) → after_put (beside program self.old) table.now row values.now ≡ Ok (beside program self.new)) }
-        ensures refused { IfErr result (λ error. (program : Revised) → IsEditCause (after_put (beside program self.old) table.now row values.now) error) }
+        ensures put { OnOk result ((program : Revised) (lines : List Lined) → after_put (beside program lines self.old) table.now row values.now ≡ Ok (beside program lines self.new)) }
+        ensures refused { IfErr result (λ error. (program : Revised) (lines : List Lined) → IsEditCause (after_put (beside program lines self.old) table.now row values.now) error) }
         ensures same { OnErr result (self.new ≡ self.old) }
     {
         match self.table_to_put(table, row, values.len()) {
@@ -190,10 +191,11 @@ impl Tables {
         }
     }
 
-    /// Takes a row out of a table. Refused by E4, E6, E7, E18, in this order; a refusal changes nothing. It takes no memory.
+    /// Takes a row out of a table. Refused by E4, E6, E7, E18, in this order; a refusal changes nothing. It takes no memory,
+    /// and is never refused for want of it.
     pub fn delete(&mut self, table: &str, row: i64) -> Result<(), EditError>
-        ensures deleted { OnOk result ((program : Revised) → after_delete (beside program self.old) table.now row ≡ Ok (beside program self.new)) }
-        ensures refused { IfErr result (λ error. (program : Revised) → IsEditCause (after_delete (beside program self.old) table.now row) error) }
+        ensures deleted { OnOk result ((program : Revised) (lines : List Lined) → after_delete (beside program lines self.old) table.now row ≡ Ok (beside program lines self.new)) }
+        ensures refused { IfErr result (λ error. (program : Revised) (lines : List Lined) → IsDeleteCause (after_delete (beside program lines self.old) table.now row) error) }
         ensures same { OnErr result (self.new ≡ self.old) }
     {
         match self.table_to_delete(table, row) {
@@ -211,9 +213,9 @@ impl Tables {
         ensures within { IfOk result (λ number. number < length self.now.tables) }
         ensures range { OnOk result (in_range row ≡ true) }
         ensures room { OnOk result (self.now.edits < 18446744073709551615) }
-        ensures allowed { OnOk result ((program : Revised) (vs : List ℤ) → length vs ≡ values
-            → after_put (beside program self.now) name.now row vs ≡ Ok (beside program (edited (row_into row vs) self.now name.now))) }
-        ensures refused { IfErr result (λ error. (program : Revised) (vs : List ℤ) → length vs ≡ values → IsEditCause (after_put (beside program self.now) name.now row vs) error) }
+        ensures allowed { OnOk result ((program : Revised) (lines : List Lined) (vs : List ℤ) → length vs ≡ values
+            → after_put (beside program lines self.now) name.now row vs ≡ Ok (beside program lines (edited (row_into row vs) self.now name.now))) }
+        ensures refused { IfErr result (λ error. (program : Revised) (lines : List Lined) (vs : List ℤ) → length vs ≡ values → IsEditCause (after_put (beside program lines self.now) name.now row vs) error) }
     {
         match self.find(name) {
             None => Err(EditError::UnknownTable),
@@ -237,8 +239,8 @@ impl Tables {
         ensures found { IfOk result (λ number. number ≡ place_of (names_of self.now.tables) name.now) }
         ensures within { IfOk result (λ number. number < length self.now.tables) }
         ensures room { OnOk result (self.now.edits < 18446744073709551615) }
-        ensures allowed { OnOk result ((program : Revised) → after_delete (beside program self.now) name.now row ≡ Ok (beside program (edited (row_out_of row) self.now name.now))) }
-        ensures refused { IfErr result (λ error. (program : Revised) → IsEditCause (after_delete (beside program self.now) name.now row) error) }
+        ensures allowed { OnOk result ((program : Revised) (lines : List Lined) → after_delete (beside program lines self.now) name.now row ≡ Ok (beside program lines (edited (row_out_of row) self.now name.now))) }
+        ensures refused { IfErr result (λ error. (program : Revised) (lines : List Lined) → IsDeleteCause (after_delete (beside program lines self.now) name.now row) error) }
     {
         match self.find(name) {
             None => Err(EditError::UnknownTable),

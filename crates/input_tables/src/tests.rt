@@ -80,6 +80,7 @@ fn no_tables(rt: HostRuntime) -> Result<(), Fail> {
     for text in ["", "\n", "# nothing\n# here", "  \n\n"] {
         let tables = Tables::from_toml(rt.alloc(), text)?;
         assert_eq!(rt; tables.table("sales"), None);
+        assert_eq!(rt; tables.count(), 0);
     }
     assert_eq!(rt; Tables::new(rt.alloc()).edit_number(), 0);
     Ok(())
@@ -307,10 +308,17 @@ fn edits_are_counted_to_their_end(rt: HostRuntime) -> Result<(), Fail> {
     let mut tables = Tables::from_toml(rt.alloc(), SALES)?.with_edits(u64::MAX - 1);
     tables.delete("sales", 3)?;
     assert_eq!(rt; tables.edit_number(), u64::MAX);
-    let put = tables.put(rt.alloc(), "sales", 1, &[1, 1]);
-    assert_eq!(rt; edit_answer(rt.alloc(), put)?.as_str(), "refused E18");
-    let deleted = tables.delete("sales", 1);
-    assert_eq!(rt; edit_answer(rt.alloc(), deleted)?.as_str(), "refused E18");
+    for (values, wanted) in [
+        ([1].as_slice(), "refused E5"),
+        ([1, 1].as_slice(), "refused E18"),
+    ] {
+        let put = tables.put(rt.alloc(), "sales", 1, values);
+        assert_eq!(rt; edit_answer(rt.alloc(), put)?.as_str(), wanted);
+    }
+    for (row, wanted) in [(3, "refused E7"), (1, "refused E18")] {
+        let deleted = tables.delete("sales", row);
+        assert_eq!(rt; edit_answer(rt.alloc(), deleted)?.as_str(), wanted);
+    }
     assert_eq!(rt; tables.cell(0, 1, 0), Some(2));
     Ok(())
 }

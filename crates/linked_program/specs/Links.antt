@@ -1,10 +1,12 @@
 -- Each number leads to what its name means.
-use Rattle.std.specs.Prelude.{◌≡◌, ℕ, List, Option, Some, None, slice_get, true}
+use Rattle.std.specs.Prelude.{◌≡◌, ℕ, Option, Some, None, slice_get, Contains}
 use Rattle.program_tree.specs.Plain.{Name, Red, Tree}
 use Rattle.meaning.specs.Statements.{reducers, procedure_of, numbered}
-use Rattle.linked_program.specs.TableNames.{Columned, table_of, has_name}
+use Rattle.meaning.specs.Tables.{Tables, columns_of, place_of}
+use Rattle.meaning.specs.Edits.{table_of}
+use Rattle.linked_program.specs.TableNames.{columned_of}
 use Rattle.linked_program.specs.Procedures.{procedures}
-use Rattle.linked_program.specs.Linked.{procedure_number, reducer_number, table_number, columns_in, column_number}
+use Rattle.linked_program.specs.Linked.{procedure_number, reducer_number, table_number, column_number}
 
 abbrev pub with_number : ℕ → Option Red → Option (ℕ × Red)
 with_number n None = None
@@ -18,9 +20,11 @@ ProcedureIs t f = slice_get (procedures t) (procedure_number (procedures t) f) �
 abbrev pub ReducerIs : Tree → Name → Type 0
 ReducerIs t r = with_number (reducer_number (reducers t) r) (slice_get (reducers t) (reducer_number (reducers t) r)) ≡ numbered 0 (reducers t) r
 
-abbrev pub TableIs : List Columned → Name → Type 0
-TableIs ts u = slice_get ts (table_number ts u) ≡ table_of ts u
+-- the number of a table's name is that of the table which the definitions find by it
+abbrev pub TableIs : Tables → Name → Type 0
+TableIs tables u = slice_get tables (table_number (columned_of tables) u) ≡ table_of tables u
 
--- the number of a column that there is is that of its name
-abbrev pub ColumnIs : List Columned → Name → Name → Type 0
-ColumnIs ts u c = has_name (columns_in (table_of ts u)) c ≡ true → slice_get (columns_in (table_of ts u)) (column_number ts u c) ≡ Some c
+-- the number of a column's name is the place at which the definitions read a row, and that of the name where there is such a column
+pub record ColumnIs (tables : Tables) (u c : Name) : Type 0 where
+  pub place : column_number (columned_of tables) u c ≡ place_of (columns_of tables u) c
+  pub name : Contains (columns_of tables u) c → slice_get (columns_of tables u) (column_number (columned_of tables) u c) ≡ Some c

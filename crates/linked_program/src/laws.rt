@@ -5,7 +5,7 @@ ghost use Rattle.linked_program.specs.Monoids.{is_monoid_table};
 ghost use Rattle.linked_program.specs.declared.violation.Violation.{Violation};
 ghost use Rattle.program_tree.specs.Plain.{Name, Tree};
 ghost use Rattle.linked_program.specs.First.{FirstIsLeast};
-ghost use Rattle.linked_program.specs.TableNames.{Columned};
+ghost use Rattle.meaning.specs.Tables.{Tables};
 ghost use Rattle.linked_program.specs.Links.{ProcedureIs, ReducerIs, TableIs, ColumnIs};
 
 use monoid_laws::Table;
@@ -24,6 +24,6 @@ pub fn table_rule_is_monoid(table: &Table)
 pub fn links_lead_there()
     ensures procedures { (t : Tree) (f : Name) → ProcedureIs t f }
     ensures reducers { (t : Tree) (r : Name) → ReducerIs t r }
-    ensures tables { (ts : List Columned) (u : Name) → TableIs ts u }
-    ensures columns { (ts : List Columned) (u c : Name) → ColumnIs ts u c }
+    ensures tables { (tables : Tables) (u : Name) → TableIs tables u }
+    ensures columns { (tables : Tables) (u c : Name) → ColumnIs tables u c }
 {}

@@ -1,5 +1,5 @@
 //! Makes the code of a program: each name becomes the number of what it means.
-ghost use Rattle.std.specs.Prelude.{◌≡◌, ℕ, map, string_bytes, IfOk};
+ghost use Rattle.std.specs.Prelude.{◌≡◌, ℕ, map, string_bytes, IfOk, Ok};
 ghost use Rattle.program_tree.specs.Plain.{Body};
 ghost use Rattle.program_tree.specs.View.{term, deed, statements as body_of, decl, proc};
 ghost use Rattle.meaning.specs.Statements.{reducers};
@@ -84,6 +84,14 @@ fn column_number(tables: &[TableNames], table: &str, column: &str) -> usize
     0
 }
 
+// An expression that was made, in a box.
+fn boxed(alloc: Global, made: Result<Expression, AllocError>) -> Result<Box<Expression>, AllocError>
+    ensures { IfOk result (λ place. made ≡ Ok place.value) }
+{
+    Ok(Box::new(alloc, made?)?)
+}
+
+// The code of an expression: variables stay slots, tables and columns become numbers.
 fn expression(alloc: Global, tables: &[TableNames], expr: &Expr) -> Result<Expression, AllocError>
     ensures { IfOk result (λ made. plain made ≡ linked_term (map columned tables.now) (term expr.now)) }
 {
@@ -91,22 +99,22 @@ fn expression(alloc: Global, tables: &[TableNames], expr: &Expr) -> Result<Expre
         Expr::Number(number) => Ok(Expression::Number(*number)),
         Expr::Name(name) => Ok(Expression::Slot(*name)),
         Expr::Cell(table, row, column) => {
-            let row = Box::new(alloc, expression(alloc, tables, row)?)?;
+            let row = boxed(alloc, expression(alloc, tables, row))?;
             let number = column_number(tables, table.as_str(), column.as_str());
             Ok(Expression::Cell(table_number(tables, table.as_str()), row, number))
         }
         Expr::Has(table, row) => {
-            let row = Box::new(alloc, expression(alloc, tables, row)?)?;
+            let row = boxed(alloc, expression(alloc, tables, row))?;
             Ok(Expression::Has(table_number(tables, table.as_str()), row))
         }
         Expr::Limit(table) => Ok(Expression::Limit(table_number(tables, table.as_str()))),
         Expr::Negate(inner) => {
-            let inner = expression(alloc, tables, inner)?;
-            Ok(Expression::Negate(Box::new(alloc, inner)?))
+            let inner = boxed(alloc, expression(alloc, tables, inner))?;
+            Ok(Expression::Negate(inner))
         }
         Expr::Binary(op, left, right) => {
-            let left = Box::new(alloc, expression(alloc, tables, left)?)?;
-            let right = Box::new(alloc, expression(alloc, tables, right)?)?;
+            let left = boxed(alloc, expression(alloc, tables, left))?;
+            let right = boxed(alloc, expression(alloc, tables, right))?;
             Ok(Expression::Binary(*op, left, right))
         }
     }
@@ -127,26 +135,26 @@ fn expressions(
     Ok(made)
 }
 
+// A loop that spawns the procedure of this number.
 fn repetition(
     alloc: Global,
-    declarations: &[Declaration],
     tables: &[TableNames],
     name: usize,
     low: &Expr,
     high: &Expr,
     grain: u32,
-    callee: &str,
+    procedure: usize,
     arguments: &[Expr],
 ) -> Result<Operation, AllocError>
-    ensures { IfOk result (λ made. (inner : ℕ → Acts) → act inner made ≡ loops name (linked_term (map columned tables.now) (term low.now)) (linked_term (map columned tables.now) (term high.now)) grain (number_of_procedure (procedures (map decl declarations.now)) callee.now) (map (linked_term (map columned tables.now)) (map term arguments.now))) }
+    ensures { IfOk result (λ made. (inner : ℕ → Acts) → act inner made ≡ loops name (linked_term (map columned tables.now) (term low.now)) (linked_term (map columned tables.now) (term high.now)) grain procedure (map (linked_term (map columned tables.now)) (map term arguments.now))) }
 {
     let low = expression(alloc, tables, low)?;
     let high = expression(alloc, tables, high)?;
     let arguments = expressions(alloc, tables, arguments)?;
-    let procedure = procedure_number(declarations, callee);
     Ok(Operation::Loop(name, low, high, grain, procedure, arguments))
 }
 
+// What a statement does, where its blocks keep their numbers.
 fn operation(
     alloc: Global,
     declarations: &[Declaration],
@@ -162,10 +170,10 @@ fn operation(
             let arguments = expressions(alloc, tables, arguments)?;
             Ok(Operation::Enter(*name, *way, procedure, arguments))
         }
-        Action::Read(name, reducer) => Ok(Operation::Read(
-            *name,
-            reducer_number(declarations, reducer.as_str()),
-        )),
+        Action::Read(name, reducer) => {
+            let number = reducer_number(declarations, reducer.as_str());
+            Ok(Operation::Read(*name, number))
+        }
         Action::Sync => Ok(Operation::Sync),
         Action::Update(reducer, values) => {
             let number = reducer_number(declarations, reducer.as_str());
@@ -175,17 +183,10 @@ fn operation(
             let condition = expression(alloc, tables, condition)?;
             Ok(Operation::If(condition, *first, *second))
         }
-        Action::Loop(name, low, high, grain, callee, arguments) => repetition(
-            alloc,
-            declarations,
-            tables,
-            *name,
-            low,
-            high,
-            *grain,
-            callee.as_str(),
-            arguments,
-        ),
+        Action::Loop(name, low, high, grain, callee, arguments) => {
+            let number = procedure_number(declarations, callee.as_str());
+            repetition(alloc, tables, *name, low, high, *grain, number, arguments)
+        }
         Action::Return(value) => Ok(Operation::Return(expression(alloc, tables, value)?)),
     }
 }
@@ -240,7 +241,7 @@ fn code(
     Ok(Code { slots, blocks })
 }
 
-/// The codes of a program's procedures, in their order, over tables of these names.
+/// The codes of a program's procedures, in their order, over tables of these names. Want of memory is the only error.
 pub fn codes(
     alloc: Global,
     declarations: &[Declaration],
@@ -257,7 +258,7 @@ pub fn codes(
     Ok(made)
 }
 
-/// The kinds of a program's reducers, in their order.
+/// The kinds of a program's reducers, in their order. Want of memory is the only error.
 pub fn kinds(alloc: Global, declarations: &[Declaration]) -> Result<Vec<Kind>, AllocError>
     ensures kinds { IfOk result (λ made. made.items ≡ kinds_of (map decl declarations.now)) }
 {

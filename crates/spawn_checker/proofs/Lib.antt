@@ -8,3 +8,4 @@ pub mod NewNumbers
 pub mod NewNames
 pub mod NewRevisions
 pub mod FilledLines
+pub mod NameForms

@@ -1,5 +1,5 @@
 -- Revision numbers of a program in the place of another.
-use Rattle.std.proofs.Common.{◌≡◌, ℕ, suc, ◌<◌, ◌≤◌, Bool, true, false, cond, List, [], ◌∷◌, Option, Some, None, map, All, refl, ap, sym, subst, ◌∙◌, arith, nat_lt, lt-ltb}
+use Rattle.std.proofs.Common.{◌≡◌, ℕ, suc, ◌<◌, ◌≤◌, Bool, true, false, cond, List, [], ◌∷◌, Option, Some, None, map, All, inl, inr, refl, ap, sym, subst, ◌∙◌, arith, nat_lt, lt-ltb}
 use Rattle.std.proofs.lemmas.List.Elements.{All-nil, All-cons, All-head, All-tail}
 use Rattle.std.specs.Str.{bytes_eq}
 use Rattle.program_tree.specs.Plain.{Name, Proc, reducer, procedure, Tree}
@@ -14,7 +14,7 @@ use Rattle.linked_program.proofs.Named.{bytes_turned, revision_found}
 use Rattle.spawn_checker.specs.declared.violation.CheckError.{CheckError}
 use Rattle.spawn_checker.specs.declared.violation.CheckError.TheVariants.{NoMemory, Check, Exhausted}
 use Rattle.spawn_checker.specs.Refused.{IsRefused}
-use Rattle.spawn_checker.specs.Renumbered.{IsRefusedAnew, kept, behind}
+use Rattle.spawn_checker.specs.Renumbered.{IsRefusedAnew, AreKeptOrNew, kept, behind}
 
 abbrev pub Numbered : Type 0
 Numbered = List (Name × ℕ) × ℕ
@@ -71,6 +71,16 @@ revised_names old (procedure p ∷ rest) next =
       | true ↦ ap (λ (xs : List Name). p.called ∷ xs) (revised_names old rest next)
       | false ↦ ap (λ (xs : List Name). p.called ∷ xs) (revised_names old rest (suc next))
     ]
+
+one_kept_or_new : (old : Revised) (p : Proc) (rest : Tree) (next : ℕ) → ((n : ℕ) → AreKeptOrNew old n (procedures rest) (revised old rest n).0) → (b : Bool) → is_same (procedure_of old.tree p.called) p ≡ b
+    → AreKeptOrNew old next (p ∷ procedures rest) (cond b (with_number p.called (revision_of old.revisions p.called) (revised old rest next)) (with_number p.called next (revised old rest (suc next)))).0
+one_kept_or_new old p rest next later true same = (refl, inl ((same, refl), later next))
+one_kept_or_new old p rest next later false same = (refl, inr ((same, omega arith), later (suc next)))
+
+pub kept_or_new : (old : Revised) (t : Tree) (next : ℕ) → AreKeptOrNew old next (procedures t) (revised old t next).0
+kept_or_new old [] next = tt
+kept_or_new old (reducer r ∷ rest) next = kept_or_new old rest next
+kept_or_new old (procedure p ∷ rest) next = one_kept_or_new old p rest next (kept_or_new old rest) (is_same (procedure_of old.tree p.called) p) refl
 
 -- ---- below the counter
 

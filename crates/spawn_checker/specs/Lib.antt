@@ -3,3 +3,4 @@ pub mod Own
 pub mod Refused
 pub mod Filled
 pub mod Renumbered
+pub mod Scanned

@@ -1,5 +1,5 @@
 -- The revision numbers of a program that takes the place of another.
-use Rattle.std.specs.Prelude.{◌≡◌, ℕ, nat_lt, true, false, cond, List, [], ◌∷◌, ◌++◌, Option, Some, None, string_bytes}
+use Rattle.std.specs.Prelude.{◌≡◌, ◌≤◌, ◌⊎◌, ℕ, suc, nat_lt, true, false, cond, List, [], ◌∷◌, ◌++◌, Option, Some, None, string_bytes}
 use Rattle.program_tree.specs.Plain.{Name, Proc, reducer, procedure, Tree}
 use Rattle.program_tree.specs.View.{Lined}
 use Rattle.meaning.specs.Records.{Revised}
@@ -14,6 +14,21 @@ use Rattle.spawn_checker.specs.declared.violation.CheckError.TheVariants.{NoMemo
 -- the revision number of a procedure that is as it was
 abbrev pub kept : Revised → Proc → Option ℕ
 kept old p = cond (is_same (procedure_of old.tree p.called) p) (Some (revision_of old.revisions p.called)) None
+
+-- the procedure is as it was, lines aside, and this is the number that it had
+abbrev pub KeepsNumber : Revised → Proc → ℕ → Type 0
+KeepsNumber old p n = (is_same (procedure_of old.tree p.called) p ≡ true) × (n ≡ revision_of old.revisions p.called)
+
+-- the procedure is new or changed, and this number was never used: no number from `next` on was
+abbrev pub HasNewNumber : Revised → ℕ → Proc → ℕ → Type 0
+HasNewNumber old next p n = (is_same (procedure_of old.tree p.called) p ≡ false) × (next ≤ n)
+
+-- the procedures' names in their order, each with the number that it keeps or with a new one, which lies below all later new ones
+abbrev pub AreKeptOrNew : Revised → ℕ → List Proc → List (Name × ℕ) → Type 0
+AreKeptOrNew old next [] [] = Unit {0}
+AreKeptOrNew old next (p ∷ ps) (e ∷ es) =
+    (e.0 ≡ p.called) × ((KeepsNumber old p e.1 × AreKeptOrNew old next ps es) ⊎ (HasNewNumber old next p e.1 × AreKeptOrNew old (suc e.1) ps es))
+AreKeptOrNew old next _ _ = ⊥
 
 -- these numbers before those
 abbrev pub behind : List (Name × ℕ) → List (Name × ℕ) × ℕ → List (Name × ℕ) × ℕ

@@ -3,6 +3,7 @@
 
 mod checking;
 mod declarations;
+pub mod laws;
 mod lines;
 mod linked;
 mod names;

@@ -1,6 +1,6 @@
 //! Declarations, tables and columns by their names.
 ghost use Rattle.std.specs.Prelude.{◌≡◌, map, option_map, option_copied, string_bytes};
-ghost use Rattle.program_tree.specs.View.{decl};
+ghost use Rattle.program_tree.specs.View.{decl, proc};
 ghost use Rattle.monoid_laws.specs.Kinds.{arity};
 ghost use Rattle.meaning.specs.Statements.{procedure_of};
 ghost use Rattle.linked_program.specs.Rules.{kind_of};
@@ -9,20 +9,30 @@ ghost use Rattle.linked_program.specs.TableNames.{columned, table_of, has_name};
 
 use linked_program::tables::TableNames;
 use monoid_laws::Kind;
-use program_tree::Declaration;
+use program_tree::{Declaration, Procedure};
+
+/// The procedure of that name.
+pub fn find_procedure<'a>(declarations: &'a [Declaration], name: &str) -> Option<&'a Procedure>
+    ensures found { option_map (λ p. proc p.now) result ≡ procedure_of (map decl declarations.now) name.now }
+{
+    for declaration in declarations {
+        if let Declaration::Procedure(procedure) = declaration {
+            if procedure.name.as_str() == name {
+                return Some(procedure);
+            }
+        }
+    }
+    None
+}
 
 /// How many parameters the procedure of that name has.
 pub fn parameters_of(declarations: &[Declaration], name: &str) -> Option<usize>
     ensures { result ≡ option_map (λ p. p.parameters) (procedure_of (map decl declarations.now) name.now) }
 {
-    for declaration in declarations {
-        if let Declaration::Procedure(procedure) = declaration {
-            if procedure.name.as_str() == name {
-                return Some(procedure.parameters);
-            }
-        }
+    match find_procedure(declarations, name) {
+        Some(procedure) => Some(procedure.parameters),
+        None => None,
     }
-    None
 }
 
 /// The kind of the reducer of that name.

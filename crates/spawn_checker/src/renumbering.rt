@@ -1,11 +1,11 @@
 //! The revision numbers of a program that takes the place of another.
-ghost use Rattle.std.specs.Prelude.{◌≡◌, ◌<◌, [], map, option_map, IfOk, IfSome, IfNone};
+ghost use Rattle.std.specs.Prelude.{◌≡◌, ◌<◌, [], map, IfOk, IfSome, IfNone};
 ghost use Rattle.program_tree.specs.View.{decl, proc};
-ghost use Rattle.meaning.specs.Statements.{procedure_of};
 ghost use Rattle.meaning.specs.Edits.{most, revised};
 ghost use Rattle.linked_program.specs.Checked.{revised_of, numbers_in};
 ghost use Rattle.spawn_checker.specs.Renumbered.{kept, AreNew};
 
+use crate::names::find_procedure;
 use crate::revisions::{Numbers, put_revision};
 use indexmap::IndexMap;
 use linked_program::checked::Checked;
@@ -13,26 +13,12 @@ use program_tree::{Declaration, Procedure};
 use std::alloc::{AllocError, Global};
 use tree_equality::same_procedure;
 
-// The procedure of a name.
-fn find<'a>(declarations: &'a [Declaration], name: &str) -> Option<&'a Procedure>
-    ensures found { option_map (λ p. proc p.now) result ≡ procedure_of (map decl declarations.now) name.now }
-{
-    for declaration in declarations {
-        if let Declaration::Procedure(procedure) = declaration {
-            if procedure.name.as_str() == name {
-                return Some(procedure);
-            }
-        }
-    }
-    None
-}
-
 // The revision number of a procedure that is as it was.
 fn kept_revision(old: &Checked, procedure: &Procedure) -> Option<u64>
     ensures { result ≡ kept (revised_of old.now) (proc procedure.now) }
 {
     old.revised();
-    match find(&old.program().declarations, procedure.name.as_str()) {
+    match find_procedure(&old.program().declarations, procedure.name.as_str()) {
         None => None,
         Some(before) => {
             if same_procedure(before, procedure) {

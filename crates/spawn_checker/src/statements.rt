@@ -246,14 +246,12 @@ pub fn note_own(
     match action {
         Action::Bind(name, value) => note_binding(setting, first, place, scope, now, *name, value),
         Action::Enter(name, way, callee, arguments) => {
-            let callee = callee.as_str();
             let first = note_entry(setting, first, place, scope, *name, callee, arguments);
             enter(scope, now, *name, *way);
             first
         }
         Action::Read(name, reducer) => {
-            let reducer = reducer.as_str();
-            note_reading(setting, first, place, scope, now, *name, reducer)
+            note_reading(setting, first, place, scope, now, *name, reducer.as_str())
         }
         Action::Sync => {
             scope.sync(now);
@@ -266,7 +264,6 @@ pub fn note_own(
         }
         Action::If(condition, _, _) => note_term(first, place, setting.tables, scope, condition),
         Action::Loop(name, low, high, _, callee, arguments) => {
-            let callee = callee.as_str();
             let first = note_range(setting, first, place, scope, *name, low, high);
             let first = note_arguments(first, place, setting.tables, scope, now, *name, arguments);
             note_enter(first, place, setting.declarations, callee, arguments.len())

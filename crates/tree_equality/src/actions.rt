@@ -128,13 +128,9 @@ fn same_action(
 {
     match left {
         Action::Bind(name, value) => is_bind(*name, value, right),
-        Action::Enter(name, way, callee, arguments) => is_enter(
-            *name,
-            *way,
-            callee.as_str(),
-            arguments,
-            right,
-        ),
+        Action::Enter(name, way, callee, arguments) => {
+            is_enter(*name, *way, callee.as_str(), arguments, right)
+        }
         Action::Read(name, reducer) => is_read(*name, reducer.as_str(), right),
         Action::Sync => is_sync(right),
         Action::Update(reducer, values) => is_update(reducer.as_str(), values, right),
@@ -151,15 +147,9 @@ fn same_action(
                 ),
             _ => false,
         },
-        Action::Loop(name, low, high, grain, callee, arguments) => is_loop(
-            *name,
-            low,
-            high,
-            *grain,
-            callee.as_str(),
-            arguments,
-            right,
-        ),
+        Action::Loop(name, low, high, grain, callee, arguments) => {
+            is_loop(*name, low, high, *grain, callee.as_str(), arguments, right)
+        }
         Action::Return(value) => is_return(value, right),
     }
 }

@@ -5,6 +5,8 @@ use crate::checking::{check, redefine};
 use crate::violation::CheckError;
 use input_tables::Tables;
 use linked_program::checked::Checked;
+use linked_program::code::{Code, Expression, Operation};
+use linked_program::linking::procedure_number;
 use program_tree::Program;
 use std::test::Fail;
 
@@ -119,12 +121,27 @@ fn procedures_get_their_first_revisions(rt: HostRuntime) -> Result<(), Fail> {
     Ok(())
 }
 
+// `return VALUE;` as the first statement of a procedure, at this line.
+fn give_first(line: u32, value: Expr) -> Statement {
+    Statement {
+        line,
+        number: 1,
+        action: Action::Return(value),
+    }
+}
+
 /// `total : add`, then `leaf`, `main` and `extra`, each at this line, which return their numbers.
 pub fn of_three(alloc: Global, line: u32, given: i64) -> Result<Program, AllocError> {
     let total = reducer(alloc, "total", line, Kind::Add)?;
-    let leaf = giving(alloc, "leaf", line, 1, give(line, Expr::Name(0)))?;
-    let main = giving(alloc, "main", line, 0, give(line, Expr::Number(given)))?;
-    let extra = giving(alloc, "extra", line, 0, give(line, Expr::Number(7)))?;
+    let leaf = giving(alloc, "leaf", line, 1, give_first(line, Expr::Name(0)))?;
+    let main = giving(
+        alloc,
+        "main",
+        line,
+        0,
+        give_first(line, Expr::Number(given)),
+    )?;
+    let extra = giving(alloc, "extra", line, 0, give_first(line, Expr::Number(7)))?;
     let declarations = vec![in alloc; total, leaf, main, extra]?;
     Ok(Program { declarations })
 }
@@ -139,16 +156,19 @@ pub fn of_three_are(checked: &Checked, leaf: u64, main: u64, extra: u64) -> bool
         && checked.revision("extra") == Some(extra)
 }
 
-// `leaf` and `extra` are as they were, `main` is changed: 2 is kept, 3 is new.
+// At other lines `leaf` and `extra` are as they were, `main` is changed and `more` is new: 0 and 2 are kept, 3 and 4 are new.
 #[test]
 fn an_unchanged_procedure_keeps_its_number(rt: HostRuntime) -> Result<(), Fail> {
     let tables = Tables::new(rt.alloc());
     let first = of_three(rt.alloc(), 4, 0)?;
-    let second = of_three(rt.alloc(), 4, 1)?;
+    let mut second = of_three(rt.alloc(), 9, 1)?;
+    let more = giving(rt.alloc(), "more", 9, 0, give_first(9, Expr::Number(7)))?;
+    second.declarations.push(more)?;
     if let Ok(before) = check(rt.alloc(), first, &tables) {
         if let Ok(after) = redefine(rt.alloc(), &before, second, &tables) {
             assert!(&rt; of_three_are(&after, 0, 3, 2));
-            assert_eq!(&rt; after.counter(), 4);
+            assert_eq!(&rt; after.revision("more"), Some(4));
+            assert_eq!(&rt; after.counter(), 5);
             return Ok(());
         }
     }
@@ -171,21 +191,50 @@ fn a_wrong_redefinition_is_refused(rt: HostRuntime) -> Result<(), Fail> {
     Ok(())
 }
 
-// The code, the kinds and the number of `main` that a checked program lends.
+// Whether a code is one block of one statement, the first, which returns this number.
+fn returns(code: &Code, wanted: i64) -> bool {
+    match code
+        .blocks
+        .first()
+        .and_then(|block| block.instructions.first())
+    {
+        Some(instruction) => match &instruction.operation {
+            Operation::Return(Expression::Number(given)) => instruction.number == 1
+                && *given == wanted,
+            _ => false,
+        },
+        None => false,
+    }
+}
+
+// Whether `main` is the second of three procedures, and its code and the third one's return this number and 7.
+fn is_linked(program: &Checked, given: i64) -> bool {
+    let codes = program.codes();
+    program.main() == 1
+        && codes.len() == 3
+        && codes.get(1).is_some_and(|code| returns(code, given))
+        && codes.get(2).is_some_and(|code| returns(code, 7))
+        && program.kinds() == [Kind::Add].as_slice()
+        && program.slots(1) == 3
+        && program.slots(3) == 0
+}
+
+// What a checked program lends: its tree, the names of its tables, its code.
 #[test]
 fn a_checked_program_has_its_code(rt: HostRuntime) -> Result<(), Fail> {
-    let tables = Tables::new(rt.alloc());
+    let text = "[sales]\ncolumns = [\"qty\", \"price\"]\nrows = []\n";
+    let tables = Tables::from_toml(rt.alloc(), text)?;
     if let Ok(program) = check(rt.alloc(), of_three(rt.alloc(), 4, 5)?, &tables) {
-        assert_eq!(&rt; program.main(), 1);
-        assert_eq!(&rt; program.codes().len(), 3);
-        assert_eq!(&rt; program.kinds().len(), 1);
-        assert_eq!(&rt; program.slots(1), 3);
-        assert_eq!(&rt; program.slots(3), 0);
+        assert!(&rt; is_linked(&program, 5));
+        let extra = procedure_number(&program.program().declarations, "extra");
+        assert_eq!(&rt; extra, 2);
         let number = program
             .instruction(1, 0, 0)
             .map(|instruction| instruction.number);
-        assert_eq!(&rt; number, Some(4));
+        assert_eq!(&rt; number, Some(1));
         assert!(&rt; program.instruction(1, 0, 1).is_none());
+        let columns = program.tables().first().map(|table| table.columns.len());
+        assert_eq!(&rt; columns, Some(2));
         return Ok(());
     }
     assert!(&rt; false);

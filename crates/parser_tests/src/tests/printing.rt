@@ -1,0 +1,117 @@
+//! Programs that are printed, and read again as the same.
+
+use printing_theory::{print, print_and_parse};
+use procedure_parser::{TextError, parse, parse_define};
+use program_tree::{Declaration, Program};
+use std::alloc::Global;
+use std::test::Fail;
+use tree_equality::same_procedure;
+
+fn same_declaration(left: &Declaration, right: &Declaration) -> bool {
+    match left {
+        Declaration::Reducer(one) => match right {
+            Declaration::Reducer(other) => {
+                one.name.as_str() == other.name.as_str() && one.kind == other.kind
+            }
+            Declaration::Procedure(_) => false,
+        },
+        Declaration::Procedure(one) => match right {
+            Declaration::Procedure(other) => {
+                one.name.as_str() == other.name.as_str() && same_procedure(one, other)
+            }
+            Declaration::Reducer(_) => false,
+        },
+    }
+}
+
+/// Whether two programs are the same, lines aside.
+fn same_program(left: &Program, right: &Program) -> bool {
+    if left.declarations.len() != right.declarations.len() {
+        return false;
+    }
+    for (one, other) in left.declarations.iter().zip(right.declarations.iter()) {
+        if !same_declaration(one, other) {
+            return false;
+        }
+    }
+    true
+}
+
+/// Whether a program is printed so, and read from that as the same program, which is printed so again.
+fn prints_as(alloc: Global, program: &Program, wanted: &str) -> Result<bool, TextError> {
+    let printed = print(alloc, program)?;
+    let again = print_and_parse(alloc, program)?;
+    let twice = print(alloc, &again)?;
+    let written = printed.as_slice() == wanted.as_bytes() && twice.as_slice() == wanted.as_bytes();
+    Ok(written && same_program(program, &again))
+}
+
+#[test]
+fn texts(rt: HostRuntime) -> Result<(), Fail> {
+    for (text, wanted) in [
+        (
+            "reducer total : add;\nproc leaf(v) { update total v; return v; }\nproc main() { x = spawn leaf(1); y = spawn leaf(2); update total 9; sync; return x + y; }\n",
+            "reducer total : add ;\nproc leaf ( v ) {\nupdate total v ;\nreturn v ;\n}\nproc main ( ) {\nx = spawn leaf ( 1 ) ;\ny = spawn leaf ( 2 ) ;\nupdate total 9 ;\nsync ;\nreturn ( x + y ) ;\n}\n",
+        ),
+        (
+            "reducer seen : list;\nproc leaf(v) { update seen v; return v; }\nproc main() { x = spawn leaf(1); y = spawn leaf(2); update seen 9; sync; return x + y; }\n",
+            "reducer seen : list ;\nproc leaf ( v ) {\nupdate seen v ;\nreturn v ;\n}\nproc main ( ) {\nx = spawn leaf ( 1 ) ;\ny = spawn leaf ( 2 ) ;\nupdate seen 9 ;\nsync ;\nreturn ( x + y ) ;\n}\n",
+        ),
+        (
+            "reducer total : add;\nreducer top : argmax;\nmemo proc line(r) { v = sales[r].qty * sales[r].price; update total v; update top v, r; return v; }\nproc main() { cilk_for r in 1 .. limit sales : line(r); t = read total; return t; }\n",
+            "reducer total : add ;\nreducer top : argmax ;\nmemo proc line ( r ) {\nv = ( sales [ r ] . qty * sales [ r ] . price ) ;\nupdate total v ;\nupdate top v , r ;\nreturn v ;\n}\nproc main ( ) {\ncilk_for r in 1 .. limit sales grain 1 : line ( r ) ;\nt = read total ;\nreturn t ;\n}\n",
+        ),
+        (
+            "reducer total : add;\nmemo proc line(r) { if has sales[r] { v = sales[r].qty * sales[r].price; update total v; } }\nmemo proc all() { cilk_for r in 1 .. limit sales : line(r); }\nproc main() { call all(); t = read total; return t; }\n",
+            "reducer total : add ;\nmemo proc line ( r ) {\nif has sales [ r ] {\nv = ( sales [ r ] . qty * sales [ r ] . price ) ;\nupdate total v ;\n}\n}\nmemo proc all ( ) {\ncilk_for r in 1 .. limit sales grain 1 : line ( r ) ;\n}\nproc main ( ) {\ncall all ( ) ;\nt = read total ;\nreturn t ;\n}\n",
+        ),
+        (
+            "reducer steps : add;\nmemo proc down(n) { update steps 1; if n > 0 { call down(n - 1); } return n; }\nproc main() { v = call down(60); return v; }\n",
+            "reducer steps : add ;\nmemo proc down ( n ) {\nupdate steps 1 ;\nif ( n > 0 ) {\ncall down ( ( n - 1 ) ) ;\n}\nreturn n ;\n}\nproc main ( ) {\nv = call down ( 60 ) ;\nreturn v ;\n}\n",
+        ),
+        (
+            "proc main() { if 1 { if 2 { sync; } else { x = 3; } } else { if 4 { y = 5; } } return 6; }",
+            "proc main ( ) {\nif 1 {\nif 2 {\nsync ;\n} else {\nx = 3 ;\n}\n} else {\nif 4 {\ny = 5 ;\n}\n}\nreturn 6 ;\n}\n",
+        ),
+        (
+            "reducer a : table 2 unit 1 [0, 1, 1, 0]; reducer b : first 3;\nproc main() { x = - 1; if has t[x] != 0 { } else { update b (x - 1) * 2 % 3; } cilk_for i in 0 .. limit t grain 2 : f(t[i].q); }",
+            "reducer a : table 2 unit 1 [ 0 , 1 , 1 , 0 ] ;\nreducer b : first 3 ;\nproc main ( ) {\nx = ( - 1 ) ;\nif ( has t [ x ] != 0 ) {\n} else {\nupdate b ( ( ( x - 1 ) * 2 ) % 3 ) ;\n}\ncilk_for i in 0 .. limit t grain 2 : f ( t [ i ] . q ) ;\n}\n",
+        ),
+    ] {
+        let program = parse(rt.alloc(), text.as_bytes())?;
+        assert!(rt; prints_as(rt.alloc(), &program, wanted)?);
+    }
+    Ok(())
+}
+
+/// One in its place, a new one last, and a second one behind the first.
+#[test]
+fn procedures_defined(rt: HostRuntime) -> Result<(), Fail> {
+    let old = b"proc a() { return 1; }\nreducer r : mul;\nproc main() { return 2; }\n";
+    let text =
+        b"proc c() { return 3; }\nmemo proc a() { return 4; }\nproc a() { return 5; }\nproc c() { return 6; }\n";
+    let wanted =
+        "memo proc a ( ) {\nreturn 4 ;\n}\nproc a ( ) {\nreturn 5 ;\n}\nreducer r : mul ;\nproc main ( ) {\nreturn 2 ;\n}\nproc c ( ) {\nreturn 3 ;\n}\nproc c ( ) {\nreturn 6 ;\n}\n";
+    let before = parse(rt.alloc(), old)?;
+    let program = parse_define(rt.alloc(), text, &before)?;
+    assert!(rt; prints_as(rt.alloc(), &program, wanted)?);
+    Ok(())
+}
+
+/// What two definitions, one after the other, make of the countdown.
+#[test]
+fn defined_twice(rt: HostRuntime) -> Result<(), Fail> {
+    let text =
+        b"reducer steps : add;\nmemo proc down(n) { update steps 1; if n > 0 { call down(n - 1); } return n; }\nproc main() { v = call down(60); return v; }\n";
+    let first =
+        b"proc b() { v = call down(60); return v; }\nproc a() { v = call b(); return v; }\nproc main() { v = call a(); return v; }\n";
+    let second =
+        b"proc c() { v = call down(60); return v; }\nproc b() { v = call c(); return v; }\n";
+    let wanted =
+        "reducer steps : add ;\nmemo proc down ( n ) {\nupdate steps 1 ;\nif ( n > 0 ) {\ncall down ( ( n - 1 ) ) ;\n}\nreturn n ;\n}\nproc main ( ) {\nv = call a ( ) ;\nreturn v ;\n}\nproc b ( ) {\nv = call c ( ) ;\nreturn v ;\n}\nproc a ( ) {\nv = call b ( ) ;\nreturn v ;\n}\nproc c ( ) {\nv = call down ( 60 ) ;\nreturn v ;\n}\n";
+    let before = parse(rt.alloc(), text)?;
+    let between = parse_define(rt.alloc(), first, &before)?;
+    let program = parse_define(rt.alloc(), second, &between)?;
+    assert!(rt; prints_as(rt.alloc(), &program, wanted)?);
+    Ok(())
+}
