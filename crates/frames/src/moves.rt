@@ -11,7 +11,7 @@ ghost use Rattle.positions.specs.Moves.{first_strand, stolen, stolen_with, inlin
 
 use crate::activation::Activation;
 use crate::layer::Layer;
-use crate::strand::Strand;
+use crate::strand::{DEEPEST, Strand};
 use crate::task::Task;
 use evaluation::slot::Slot;
 use linked_program::checked::Checked;
@@ -24,7 +24,7 @@ use std::mem;
 use view_pool::{Kit, View};
 
 /// How many levels there are below the instance of `main`.
-const LEVELS_BELOW_MAIN: u32 = 63;
+const LEVELS_BELOW_MAIN: u32 = DEEPEST - 1;
 
 /// So many slots without values.
 fn unset(alloc: Global, size: usize) -> Result<Vec<Slot>, AllocError>

@@ -163,7 +163,7 @@ impl<V: View> Hypermap<V> {
         Kit::reset(views)
     }
 
-    /// The value of one reducer.
+    /// The value of one reducer. Want of memory is the only error.
     pub fn value(&self, reducer: usize) -> Result<Val, AllocError>
         requires { reducer < length self.now.kinds }
         ensures { IfOk result (λ v. IsAt self.now.worths reducer (meaning v)) }
@@ -171,7 +171,7 @@ impl<V: View> Hypermap<V> {
         self.views[reducer].export()
     }
 
-    /// Combines the element that the numbers name on the right of the reducer's value.
+    /// Combines the element that the numbers name on the right of the reducer's value. An error is BadElement, where a table has no such element, or NoMemory; all values stay.
     pub fn update(&mut self, reducer: usize, numbers: &[i64]) -> Result<(), InjectError>
         requires reducer_is { reducer < length self.old.kinds }
         requires count { (c : Kind) → IsAt self.old.kinds reducer c → length numbers.now ≡ arity c }

@@ -47,7 +47,7 @@ pub trait View: Send + Drop {
         ensures left { worth_of self.new ≡ identity_of (kind_of self.old) }
         ensures same_kind { kind_of self.new ≡ kind_of self.old };
 
-    /// A copy of the value.
+    /// A copy of the value. Want of memory is the only error.
     fn export(&self) -> Result<Val, AllocError>
         ensures { IfOk result (λ v. meaning v ≡ worth_of self.now) };
 }

@@ -2,7 +2,7 @@
 
 use super::lists::{CountedList, Refuses, kits_of_lists};
 use super::playing::{Played, checked, kits, play_checked, sales, take_all};
-use super::programs::FIRST_LIST;
+use super::programs::{FIRST, FIRST_LIST};
 use frames::records::Records;
 use std::alloc::{AllocError, Global};
 use std::process::Abort;
@@ -19,14 +19,16 @@ const TO_THE_END: &str = "W0* P0 S10 W1* I1 W1* L1 W0* L0 F0@1 W0* L0";
 fn kit_used_again(rt: HostRuntime) {
     let alloc = rt.alloc();
     let tables = sales(&rt, alloc);
-    let program = checked(&rt, alloc, FIRST_LIST, &tables);
-    let pool = kits(&rt, alloc, program.kinds(), 1);
-    let (first, pool) = play_checked(&rt, alloc, &program, &tables, pool, 1, "W0* P0 W0*");
-    assert_eq!(rt; first.answer.as_str(), "unfinished");
-    assert_eq!(rt; pool.free(), 1);
-    let line = "W0* P0 W0* O0 W0* P0 W0* O0 W0* L0";
-    let (second, _pool) = play_checked(&rt, alloc, &program, &tables, pool, 1, line);
-    assert_eq!(rt; second.answer.as_str(), "result 3; 1 2 9");
+    for (text, answer) in [(FIRST_LIST, "result 3; 1 2 9"), (FIRST, "result 3; 12")] {
+        let program = checked(&rt, alloc, text, &tables);
+        let pool = kits(&rt, alloc, program.kinds(), 1);
+        let (first, pool) = play_checked(&rt, alloc, &program, &tables, pool, 1, "W0* P0 W0*");
+        assert_eq!(rt; first.answer.as_str(), "unfinished");
+        assert_eq!(rt; pool.free(), 1);
+        let line = "W0* P0 W0* O0 W0* P0 W0* O0 W0* L0";
+        let (second, _pool) = play_checked(&rt, alloc, &program, &tables, pool, 1, line);
+        assert_eq!(rt; second.answer.as_str(), answer);
+    }
 }
 
 fn list(

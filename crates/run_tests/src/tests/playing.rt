@@ -169,6 +169,7 @@ pub fn play_checked<V: View>(
         panic!(rt; "not started");
     };
     let refused = take_all(rt, alloc, &mut core, line);
+    core.kept();
     let (strands, history) = standing(alloc, &core).expect(rt, "memory");
     let is_over = core.is_over();
     let (answer, pool) = core.finish(alloc);

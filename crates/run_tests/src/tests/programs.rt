@@ -3,6 +3,11 @@
 pub const SALES: &str =
     "[sales]\ncolumns = [\"qty\", \"price\"]\nrows = [[1, 2, 5], [2, 3, 7], [3, 1, 100]]\n";
 
+pub const FIRST: &str = "reducer total : add;
+proc leaf(v) { update total v; return v; }
+proc main() { x = spawn leaf(1); y = spawn leaf(2); update total 9; sync; return x + y; }
+";
+
 pub const FIRST_LIST: &str = "reducer seen : list;
 proc leaf(v) { update seen v; return v; }
 proc main() { x = spawn leaf(1); y = spawn leaf(2); update seen 9; sync; return x + y; }

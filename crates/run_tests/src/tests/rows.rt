@@ -29,15 +29,9 @@ const FOLDED_ONCE: &str = "split root 1 by 1, stall 1, end root, fold root 1 by 
 #[test]
 fn one_worker_pops(rt: HostRuntime) {
     let line = "W0* P0 W0* O0 W0* P0 W0* O0 W0* L0";
-    is_played(
-        &rt,
-        rt.alloc(),
-        FIRST_LIST,
-        1,
-        line,
-        "result 3; 1 2 9",
-        "finish root",
-    );
+    for (text, answer) in [(FIRST_LIST, "result 3; 1 2 9"), (FIRST, "result 3; 12")] {
+        is_played(&rt, rt.alloc(), text, 1, line, answer, "finish root");
+    }
 }
 
 const TWO_STEALS: &str = "W0* P0 S10 W1* P1 S21 W2* L2 W1* L1 F2@2 W2* L2 W0* L0 F0@1 W0* L0";
@@ -105,15 +99,9 @@ fn one_kit(rt: HostRuntime) {
 #[test]
 fn inlined(rt: HostRuntime) {
     let line = "W0* I0 W0* I0 W0* L0";
-    is_played(
-        &rt,
-        rt.alloc(),
-        FIRST_LIST,
-        1,
-        line,
-        "result 3; 1 2 9",
-        "finish root",
-    );
+    for (text, answer) in [(FIRST_LIST, "result 3; 1 2 9"), (FIRST, "result 3; 12")] {
+        is_played(&rt, rt.alloc(), text, 1, line, answer, "finish root");
+    }
 }
 
 /// In time the missing row comes first.

@@ -3,6 +3,7 @@ ghost use Rattle.std.specs.Prelude.{◌≡◌, IfOk};
 
 use super::driving::{begin, checked, kit, parent, to_pause};
 use frames::answer::RunAnswer;
+use frames::records::Records;
 use frames::strand::Strand;
 use frames::task::Task;
 use input_tables::Tables;
@@ -10,7 +11,7 @@ use linked_program::checked::Checked;
 use positions::phase::Phase;
 use std::alloc::{AllocError, Global};
 use std::test::Fail;
-use view_pool::PlainView;
+use view_pool::{PlainView, Pool};
 
 const LEAVES: &str =
     "reducer total : add; proc leaf(v) { update total v; return v; } proc main() { x = spawn leaf(1); y = spawn leaf(2); update total 9; sync; return x + y; }";
@@ -80,6 +81,24 @@ fn the_first_strand(rt: HostRuntime) -> Result<(), Fail> {
     Ok(())
 }
 
+// Whether an entered leaf stands at its update, and no longer once that is done.
+fn passes_its_update(
+    alloc: Global,
+    program: &Checked,
+    strand: &mut Strand<PlainView>,
+) -> Result<bool, AllocError>
+    requires kinds { strand.old.layer.kinds ≡ program.now.kinds }
+    ensures kinds { strand.new.layer.kinds ≡ strand.old.layer.kinds }
+{
+    let tables = Tables::new(alloc);
+    let records = Records::new();
+    let mut pool = Pool::new(Vec::new(alloc));
+    let _ = strand.advance(alloc, program, &tables, &records, &mut pool)?;
+    let before = strand.at_update(program);
+    let _ = strand.advance(alloc, program, &tables, &records, &mut pool)?;
+    Ok(before && !strand.at_update(program))
+}
+
 // The names of the child and of what is taken out at the first spawn; and what the child is at, before and after it has run.
 fn child_alone(
     alloc: Global,
@@ -91,11 +110,12 @@ fn child_alone(
     let is_named = strand.name() == [1].as_slice();
     let parent = parent(alloc, strand)?;
     let is_alone = parent.place() == [1].as_slice() && strand.phase() == Phase::Entering;
+    let updates = passes_its_update(alloc, program, strand)?;
     let ends = paused(alloc, program, strand)? == Phase::Leaving(1);
     let gives = strand.returned() == Some(1);
     strand.resume(parent);
     let goes_on = strand.phase() == Phase::Running && strand.name().is_empty();
-    Ok(is_named && is_alone && ends && gives && goes_on)
+    Ok(is_named && is_alone && updates && ends && gives && goes_on)
 }
 
 #[test]
