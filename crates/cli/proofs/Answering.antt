@@ -1,5 +1,5 @@
 -- The answers to commands, one after another.
-use Rattle.std.proofs.Common.{◌≡◌, ℕ, ◌+◌, ◌<◌, List, [], ◌++◌, map, drop, length, get_or, refl, ap, subst, ◌∙◌, append_assoc, add-one, ◌≤◌, arith}
+use Rattle.std.proofs.Common.{◌≡◌, ℕ, suc, ◌+◌, ◌<◌, List, [], ◌++◌, map, drop, length, get_or, refl, ap, subst, ◌∙◌, append_assoc, add-one, ◌≤◌, arith}
 use Rattle.std.proofs.Math.Seq.{drop-cons}
 use Rattle.program_tree.specs.Plain.{Tree}
 use Rattle.program_tree.specs.View.{tree}
@@ -8,8 +8,12 @@ use Rattle.meaning.specs.Script as script
 use Rattle.meaning.specs.Statements.{reducers}
 use Rattle.meaning.specs.Tables.{Tables}
 use Rattle.meaning.specs.Elision.{from_scratch}
-use Rattle.meaning.specs.Text.{run_line, outcome_text, answer_text, runs_after, answers_from}
+use Rattle.meaning.specs.Edits.{Standing}
+use Rattle.meaning.specs.Text as text
+use Rattle.meaning.specs.Text.{run_line, outcome_text, runs_after}
 use Rattle.cli.specs.declared.script.Command.{Command}
+use Rattle.cli.specs.declared.script.Command.TheVariants as c
+use Rattle.cli.specs.Answers.{reads_nothing, checks_nothing, unedited, answer_text, answers_from}
 use Rattle.cli.specs.Commands.{said}
 
 -- the line of a run and then what it came to
@@ -18,11 +22,19 @@ pub answer_text-run : (program : Tree) (tables : Tables) (runs : ℕ) (old mid n
     → new ≡ old ++ answer_text program tables runs script.Run
 answer_text-run program tables runs old mid new first second = rw (second, first, append_assoc) refl
 
+-- no command of the code changes the standing
+same_standing : (s : Standing) (command : Command) → text.standing_after reads_nothing checks_nothing s (said command) ≡ s
+same_standing s c.Run = refl
+same_standing s (c.Unknown line) = refl
+
 -- the answers from a command on: its own first
 pub answers_from-drop : (program : Tree) (tables : Tables) (runs k : ℕ) (items : List Command) (d : Command) → k < length items
     → answers_from program tables runs (map said (drop k items))
     ≡ answer_text program tables runs (said (get_or items k d)) ++ answers_from program tables (runs_after runs (said (get_or items k d))) (map said (drop (k + 1) items))
-answers_from-drop program tables runs k items d h = rw (add-one k, drop-cons items k d h) refl
+answers_from-drop program tables runs k items d h =
+    let command = get_or items k d in
+    rw (add-one k, drop-cons items k d h) (ap (λ s. answer_text program tables runs (said command) ++ text.answers_from reads_nothing checks_nothing s (runs_after runs (said command)) (map said (drop (suc k) items)))
+    (same_standing (unedited program tables) command))
 
 -- one more answer, where `all` are those that are written and those that are left
 pub one_more_answer : (program program' : PlainChecked) (tables tables' : Tables) (runs runs' k : ℕ) (items : List Command) (d : Command)
@@ -40,4 +52,5 @@ one_more_answer program program' tables tables' runs runs' k items d done all cl
 -- a command is at most one more run
 pub runs_after-le : (runs k n : ℕ) (command : script.Command) → n ≡ runs_after runs command → runs ≤ k → n ≤ k + 1
 runs_after-le runs k n script.Run is few = rw is (omega arith)
+runs_after-le runs k n (script.Change edit) is few = rw is (omega arith)
 runs_after-le runs k n (script.Unknown line) is few = rw is (omega arith)

@@ -2,7 +2,8 @@
 use Rattle.std.proofs.Common.{◌≡◌, ℕ, ◌+◌, ◌<◌, List, [], ◌++◌, Option, drop, length, refl, append_assoc, add-one, get_or}
 use Rattle.std.proofs.Math.Seq.{drop-cons}
 use Rattle.std.specs.Option.{option_to_list}
-use Rattle.meaning.specs.Script.{Command, line_command, commands_from}
+use Rattle.meaning.specs.Script.{Command}
+use Rattle.cli.specs.Commands.{line_command, commands_from}
 
 -- the command of one more line, where `all` are the commands found and those of the lines that are left
 pub one_more : (n k : ℕ) (lines : List (List ℕ)) (found found' all : List Command) (c : Option Command) → k < length lines

@@ -2,6 +2,7 @@ pub mod Answering
 pub mod Commands
 pub mod Lines
 pub mod SameKind
+pub mod Searching
 pub mod Sums
 pub mod Totals
 pub mod Turns

@@ -1,13 +1,12 @@
 -- Kinds that compare as equal are equal.
-use Rattle.std.proofs.Common.{◌≡◌, ◌<◌, ◌≤◌, ◌*◌, ℕ, Bool, true, false, ◌&&◌, refl, ap, sym, slice_index}
-use Rattle.std.proofs.Props.{props}
+use Rattle.std.proofs.Common.{◌≡◌, Bool, true, false, ◌&&◌, refl, ap, sym}
 use Rattle.std.proofs.lemmas.Bool.{eqb-true}
 use Rattle.std.proofs.lemmas.Bool.Decides.{Decides-eqb}
 use Rattle.std.proofs.lemmas.Slice.Eq.{slice_eq-Decides}
-use mathlib.Core.HLevel.{is_prop→PathP}
 use Rattle.monoid_laws.specs.declared.Table.{Table}
 use Rattle.monoid_laws.specs.declared.Kind.{Kind}
 use Rattle.monoid_laws.specs.declared.Kind.TheVariants as k
+use Rattle.monoid_laws.proofs.SameTables.{same_parts}
 use Rattle.monoid_laws.specs.contracts.KindPartialEq.TheImpl as kinds
 use Rattle.monoid_laws.specs.contracts.TablePartialEq.TheImpl as tables
 
@@ -18,16 +17,6 @@ left_true false c e = e
 right_true : (b c : Bool) → (b && c) ≡ true → c ≡ true
 right_true true c e = e
 right_true false c e = absurd cc
-
-same_parts : (a b : Table) → a.size ≡ b.size → a.unit ≡ b.unit → a.cells ≡ b.cells → a ≡ b
-same_parts a b e f h = λ i. record {
-  size = e i;
-  unit = f i;
-  cells = h i;
-  unit_in = is_prop→PathP (λ j. f j < e j) (λ j. hlevel props) a.unit_in b.unit_in i;
-  few = is_prop→PathP (λ j. e j ≤ 16) (λ j. hlevel props) a.few b.few i;
-  cells_in = is_prop→PathP (λ j. (n : ℕ) → n < e j * e j → slice_index (h j) n < e j) (λ j. hlevel props) a.cells_in b.cells_in i;
-}
 
 same_table : (a b : Table) → (tables.ghosts).eq a b ≡ true → a ≡ b
 same_table a b h =

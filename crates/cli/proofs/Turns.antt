@@ -12,7 +12,7 @@ use Rattle.worker_core.specs.Keeps.{IsElision, AnswersElision}
 use Rattle.cli.specs.Runs.{IsSameRun}
 
 pub also : {c d e : PlainCore} → IsSameRun c d → IsSameRun d e → IsSameRun c e
-also p q = record { program = q.program ∙ p.program; tables = q.tables ∙ p.tables; kits = q.kits ∙ p.kits; total = q.total ∙ p.total }
+also p q = record { program = q.program ∙ p.program; tables = q.tables ∙ p.tables; workers = q.workers ∙ p.workers; kits = q.kits ∙ p.kits; total = q.total ∙ p.total }
 
 -- the answer of a run that began with a program and tables
 pub same_answer : (program : PlainChecked) (tables : Edited) (pool : Stock (List Kind)) (workers : ℕ) (c d : PlainCore) (given : RunAnswer)

@@ -1,4 +1,5 @@
 pub mod Amounts
+pub mod Answers
 pub mod Commands
 pub mod Failed
 pub mod Line

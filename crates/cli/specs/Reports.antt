@@ -3,33 +3,34 @@ use Rattle.std.specs.Prelude.{◌≡◌, ◌⊎◌, ℕ, List, Option, Some, Non
 use Rattle.std.specs.Io.KnownBytes.{Appends, Keeps}
 use Rattle.program_tree.specs.View.{tree}
 use Rattle.meaning.specs.Tables.{Tables}
-use Rattle.meaning.specs.Text.{answers_text}
 use Rattle.linked_program.specs.Checked.{PlainChecked}
 use Rattle.cli.specs.declared.streams.SessionError.TheVariants as s
 use Rattle.cli.specs.declared.program.ProgramError.{ProgramError}
 use Rattle.cli.specs.declared.program.ProgramError.TheVariants.{Line, File, Prepare, Session}
+use Rattle.cli.specs.Answers.{answers_text}
 use Rattle.cli.specs.Written.{HasBeginning}
 use Rattle.cli.specs.Preparing.{IsPrepared, IsRefused}
 
--- the program and the tables are those of the files at these paths
+-- the program and the tables are those of the files at these paths, and that of the tables is text
 abbrev pub IsOpened : (List ℕ → Option (List ℕ)) → List ℕ → List ℕ → PlainChecked → Tables → Type 0
 IsOpened held program_path tables_path checked tables =
     (program tables_text : List ℕ) → held program_path ≡ Some program → held tables_path ≡ Some tables_text
-    → IsPrepared program tables_text checked tables
+    → IsUtf8 tables_text × IsPrepared program tables_text checked tables
 
 -- the bytes that are known there are no text, or none are known
 abbrev pub IsNoText : Option (List ℕ) → Type 0
 IsNoText None = Unit {0}
 IsNoText (Some bytes) = IsUtf8 bytes → ⊥
 
--- why no session was begun; of a session that was, nothing is said
+-- why no session was begun: a file first, and a text only where the tables' file is text; of a session that was begun, nothing is said
 abbrev pub IsUnopened : (List ℕ → Option (List ℕ)) → List ℕ → List ℕ → ProgramError → Type 0
 IsUnopened held program_path tables_path (Line e) = ⊥
 IsUnopened held program_path tables_path (File path) =
     ((string_bytes path ≡ program_path) × (held program_path ≡ None))
     ⊎ ((string_bytes path ≡ tables_path) × IsNoText (held tables_path))
 IsUnopened held program_path tables_path (Prepare e) =
-    (program tables_text : List ℕ) → held program_path ≡ Some program → held tables_path ≡ Some tables_text → IsRefused program tables_text e
+    (program tables_text : List ℕ) → held program_path ≡ Some program → held tables_path ≡ Some tables_text
+    → IsUtf8 tables_text × IsRefused program tables_text e
 IsUnopened held program_path tables_path (Session e) = Unit {0}
 
 -- the error of a file that failed: its path, or want of memory
@@ -39,10 +40,10 @@ IsFailed path (File name) = string_bytes name ≡ path
 IsFailed path (Prepare e) = ⊥
 IsFailed path (Session e) = e ≡ s.NoMemory
 
--- the answers of some program that the texts give, and to this script, were written
+-- the tables' bytes are text, and the answers of some program that the texts give, and to this script, were written
 abbrev pub IsReported : List ℕ → List ℕ → List ℕ → Option (List ℕ) → Option (List ℕ) → Type 0
 IsReported program tables_text script old new =
-    (checked : PlainChecked) × (tables : Tables) × IsPrepared program tables_text checked tables
+    IsUtf8 tables_text × (checked : PlainChecked) × (tables : Tables) × IsPrepared program tables_text checked tables
     × Appends old new (answers_text (tree checked.program) tables script)
 
 -- nothing, or a beginning of such answers, was written

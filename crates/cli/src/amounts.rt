@@ -41,7 +41,7 @@ fn add_piece(sums: &mut BTreeMap<i64, i64>, piece: &[(i64, i64)]) -> Result<(), 
     Ok(())
 }
 
-/// The amounts of all pieces by rising keys, those of one key summed.
+/// The amounts of all pieces by rising keys, those of one key summed. Want of memory is the only error.
 pub fn merged(alloc: Global, pieces: &[Vec<(i64, i64)>]) -> Result<Vec<(i64, i64)>, AllocError>
     ensures { IfOk result (λ amounts. amounts.items ≡ merged (map (λ p. p.items) pieces.now)) }
 {

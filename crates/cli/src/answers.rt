@@ -21,21 +21,21 @@ use program_tree::{Declaration, Program, Reducer};
 use std::alloc::{AllocError, Global};
 use std::fmt::Write;
 
-/// Puts the answer to a line that is no command at the end of the text.
+/// Puts the answer to a line that is no command at the end of the text. Want of memory is the only error.
 pub fn push_unknown(text: &mut String, line: usize) -> Result<(), AllocError>
     ensures { OnOk result (string_bytes text.new ≡ string_bytes text.old ++ unknown_text line) }
 {
     writeln!(text, "refused E19 {line}")
 }
 
-/// Puts the line of a run's number at the end of the text.
+/// Puts the line of a run's number at the end of the text. Want of memory is the only error.
 pub fn push_run(text: &mut String, number: usize) -> Result<(), AllocError>
     ensures { OnOk result (string_bytes text.new ≡ string_bytes text.old ++ run_line number) }
 {
     writeln!(text, "run {number}")
 }
 
-/// Puts the line of a run's result at the end of the text.
+/// Puts the line of a run's result at the end of the text. Want of memory is the only error.
 pub fn push_result(text: &mut String, result_value: i64) -> Result<(), AllocError>
     ensures { OnOk result (string_bytes text.new ≡ string_bytes text.old ++ result_text result_value) }
 {
@@ -55,7 +55,7 @@ pub fn kind_name(kind: FaultKind) -> &'static str
     }
 }
 
-/// Puts the line of a fault at the end of the text.
+/// Puts the line of a fault at the end of the text. Want of memory is the only error.
 pub fn push_fault(
     text: &mut String,
     kind: FaultKind,
@@ -109,7 +109,7 @@ fn push_best(text: &mut String, best: Option<(i64, i64)>) -> Result<(), AllocErr
     }
 }
 
-/// Puts a reducer's value at the end of the text, a space before each of its parts.
+/// Puts a reducer's value at the end of the text, a space before each of its parts. Want of memory is the only error.
 pub fn push_value(alloc: Global, text: &mut String, value: &Val) -> Result<(), AllocError>
     ensures { OnOk result (string_bytes text.new ≡ string_bytes text.old ++ worth_text (meaning value.now)) }
 {
@@ -128,7 +128,7 @@ pub fn push_value(alloc: Global, text: &mut String, value: &Val) -> Result<(), A
     }
 }
 
-/// Puts the line of a reducer at the end of the text.
+/// Puts the line of a reducer at the end of the text. Want of memory is the only error.
 pub fn push_reducer(
     alloc: Global,
     text: &mut String,
@@ -166,7 +166,7 @@ fn push_declared(
     }
 }
 
-/// Puts the lines of a program's reducers at the end of the text.
+/// Puts the lines of a program's reducers at the end of the text. Want of memory is the only error.
 pub fn push_values(
     alloc: Global,
     text: &mut String,

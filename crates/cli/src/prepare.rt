@@ -1,5 +1,5 @@
 // What is done before a session: the program's text is read, then its tables, then it is checked.
-ghost use Rattle.std.specs.Prelude.{◌≡◌, ℕ, List, IfOk, IfErr};
+ghost use Rattle.std.specs.Prelude.{◌≡◌, ◌≢◌, ℕ, List, IfOk, IfErr};
 ghost use Rattle.program_tree.specs.Plain.{Tree};
 ghost use Rattle.program_tree.specs.View.{Lined};
 ghost use Rattle.source_tree.specs.Source.{Source};
@@ -81,11 +81,13 @@ fn tables_refusal(error: TablesError) -> PrepareError
 
 // The refusal of a check; a first check never wants for revision numbers.
 fn check_refusal(error: CheckError) -> PrepareError
-    ensures { (text tables_text : List ℕ) (tables : TableModel) (t : Tree) (l : List Lined)
+    requires numbers { error ≢ CheckError.Exhausted }
+    ensures refused { (text tables_text : List ℕ) (tables : TableModel) (t : Tree) (l : List Lined)
         → reading tables_text ≡ Ok tables → IsText text t l → IsRefusedBy (columned_of tables) t l error → IsRefused text tables_text result }
 {
     match error {
-        CheckError::NoMemory | CheckError::Exhausted => PrepareError::NoMemory,
+        CheckError::NoMemory => PrepareError::NoMemory,
         CheckError::Check { rule, name, line } => PrepareError::Check { rule, name, line },
+        CheckError::Exhausted => unreachable!(),
     }
 }

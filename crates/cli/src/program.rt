@@ -1,5 +1,5 @@
 // The program: its line, its files, its session on standard input and output.
-ghost use Rattle.std.specs.Prelude.{◌≡◌, ◌≢◌, ◌<◌, ◌⊎◌, ℕ, List, Some, Err, All, IfOk, IfErr, OnOk, OnErr, length, map, string_bytes};
+ghost use Rattle.std.specs.Prelude.{◌≡◌, ◌≢◌, ◌<◌, ◌⊎◌, ℕ, List, Some, Err, true, All, IfOk, IfErr, OnOk, OnErr, length, map, string_bytes};
 ghost use Rattle.std.specs.Io.KnownBytes.{Keeps, IsAtEnd};
 ghost use Rattle.std.specs.IoError.{error_kind};
 ghost use Rattle.linked_program.specs.TableNames.{columned_of};
@@ -11,8 +11,8 @@ use crate::files::{FileSource, SystemFiles};
 use crate::line::options;
 use crate::options::{Options, OptionsError};
 use crate::prepare::PrepareError;
-use crate::session::{Session, session_text};
-use crate::streams::SessionError;
+use crate::session::{Session, session_noting};
+use crate::streams::{Failures, SessionError};
 use monoid_laws::Kind;
 use std::alloc::{AllocError, Global};
 use std::io::{BufReader, BufWriter, ErrorKind, Read, Write};
@@ -50,13 +50,14 @@ pub fn status(error: &ProgramError) -> u8
 }
 
 /// Does the session that the program's line asks for, from standard input to standard output, with views that the caller
-/// makes. It has kits.
+/// makes; one of another kind counts as want of memory. Its errors are those of the line, of a file, of
+/// `prepare` and of the session, but for the want of a kit, since a line asks for one kit at least.
 pub fn report<V: View, M: Fn(Kind) -> Result<V, AllocError>, S: Runtime + AllocGlobal + Wait>(
     rt: &S,
     alloc: Global,
     make: &M,
 ) -> Result<(), ProgramError>
-    requires { M.IsAlwaysCallable make.now }
+    requires callable { M.IsAlwaysCallable make.now }
     ensures kits { result ≢ Err (ProgramError.Session SessionError.NoKit) }
 {
     let held = line_of(rt, alloc)?;
@@ -76,12 +77,13 @@ pub fn report<V: View, M: Fn(Kind) -> Result<V, AllocError>, S: Runtime + AllocG
         &SystemFiles { rt },
         &mut reader,
         &mut writer,
+        &mut Failures::none(),
     )
 }
 
 /// Does the session that the options ask for: its program and its tables are those of two files, its kits are of views
 /// that the caller makes, its script is all that the reader has, its answers go to the writer. Where a file fails or is
-/// refused nothing is written.
+/// refused nothing is written; which streams failed is noted.
 pub fn report_on<V: View, M: Fn(Kind) -> Result<V, AllocError>, F: FileSource, R: Read, W: Write>(
     rt: &impl Wait,
     alloc: Global,
@@ -90,8 +92,10 @@ pub fn report_on<V: View, M: Fn(Kind) -> Result<V, AllocError>, F: FileSource, R
     files: &F,
     reader: &mut R,
     writer: &mut W,
+    failures: &mut Failures,
 ) -> Result<(), ProgramError>
-    requires { M.IsAlwaysCallable make.now }
+    requires callable { M.IsAlwaysCallable make.now }
+    requires workers { 0 < options.workers }
     ensures answered { OnOk result ((program tables script : List ℕ) → F.held files.now options.entry.program.now ≡ Some program
         → F.held files.now options.entry.tables.now ≡ Some tables → R.remaining reader.old ≡ Some script
         → IsReported program tables script (W.contents writer.old) (W.contents writer.new)) }
@@ -102,9 +106,21 @@ pub fn report_on<V: View, M: Fn(Kind) -> Result<V, AllocError>, F: FileSource, R
         → IsBegun program tables script (W.contents writer.old) (W.contents writer.new) }
     ensures unwritten { IfErr result (λ e. WritesNothing e → Keeps (W.contents writer.old) (W.contents writer.new)) }
     ensures kits { 0 < options.entry.kits → result ≢ Err (ProgramError.Session SessionError.NoKit) }
+    ensures input { result ≡ Err (ProgramError.Session SessionError.Read) → failures.new.input ≡ true }
+    ensures output { result ≡ Err (ProgramError.Session SessionError.Write) → failures.new.output ≡ true }
+    ensures unmarked { OnOk result (failures.new ≡ failures.old) }
+    ensures input_stays { result ≢ Err (ProgramError.Session SessionError.Read) → failures.new.input ≡ failures.old.input }
 {
     let session = session_of(alloc, options, make, files)?;
-    match session_text(rt, alloc, session, options.workers, reader, writer) {
+    match session_noting(
+        rt,
+        alloc,
+        session,
+        options.workers,
+        reader,
+        writer,
+        failures,
+    ) {
         Ok(()) => Ok(()),
         Err(error) => Err(ProgramError::Session(error)),
     }
@@ -147,13 +163,15 @@ fn session_of<V: View, M: Fn(Kind) -> Result<V, AllocError>, F: FileSource>(
     make: &M,
     files: &F,
 ) -> Result<Session<V>, ProgramError>
-    requires { M.IsAlwaysCallable make.now }
+    requires callable { M.IsAlwaysCallable make.now }
     ensures opened { IfOk result (λ session. IsOpened (F.held files.now) options.entry.program.now options.entry.tables.now session.checked session.tables.tables) }
     ensures kinds { IfOk result (λ session. All (λ kit. kit ≡ session.checked.kinds) session.kits.kits) }
     ensures tables { IfOk result (λ session. session.checked.tables ≡ columned_of session.tables.tables) }
     ensures count { IfOk result (λ session. length session.kits.kits ≡ options.entry.kits) }
     ensures unopened { IfErr result (IsUnopened (F.held files.now) options.entry.program.now options.entry.tables.now) }
     ensures kits { result ≢ Err (ProgramError.Session SessionError.NoKit) }
+    ensures input { result ≢ Err (ProgramError.Session SessionError.Read) }
+    ensures output { result ≢ Err (ProgramError.Session SessionError.Write) }
 {
     let program = match files.read(alloc, options.program) {
         Ok(program) => program,

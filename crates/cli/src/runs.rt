@@ -1,10 +1,13 @@
 // A run by several workers in turn.
-ghost use Rattle.std.specs.Prelude.{◌≡◌, ◌⊎◌, All, Ok, Err, true, IfOk, IfErr, OnErr, [], length};
+ghost use Rattle.std.specs.Prelude.{◌≡◌, ◌⊎◌, ◌<◌, ℕ, All, Ok, Err, true, false, IfOk, IfErr, OnOk, OnErr, [], length};
 ghost use Rattle.program_tree.specs.View.{tree};
 ghost use Rattle.meaning.specs.Elision.{from_scratch};
+ghost use Rattle.meaning.specs.Schedules.{RunStep, fold};
 ghost use Rattle.linked_program.specs.TableNames.{columned_of};
-ghost use Rattle.worker_core.specs.Keeps.{IsElision};
-ghost use Rattle.cli.specs.Runs.{IsSameRun, HasEnded};
+ghost use Rattle.numbered_runs.specs.Named.{run_step};
+ghost use Rattle.worker_core.specs.Cores.{is_no_memory, is_over};
+ghost use Rattle.worker_core.specs.Keeps.{IsElision, IsGiven};
+ghost use Rattle.cli.specs.Runs.{IsSameRun, HasEnded, IsRefused, RefusesOwn, RefusesFolds, RefusesSteals, worker_of};
 
 use crate::streams::SessionError;
 use frames::answer::RunAnswer;
@@ -13,7 +16,7 @@ use input_tables::Tables;
 use linked_program::checked::Checked;
 use numbered_runs::refusal::{Refusal, StartError};
 use numbered_runs::step::{Step, StrandLine};
-use std::alloc::Global;
+use std::alloc::{AllocError, Global};
 use std::mem;
 use std::sync::Wait;
 use view_pool::{Kit, Pool, View};
@@ -22,8 +25,13 @@ use worker_core::run::Core;
 // So many small steps a worker does at most before the others have their turns.
 const SMALL_STEPS: usize = 256;
 
-/// A run of a checked program on tables, by so many workers; refused where no kit is free, or for want of memory. Without
-/// workers it counts as one without memory.
+/// What ends the search for a step: one was taken, or memory was refused for one.
+enum Found {
+    Taken,
+    NoMemory,
+}
+
+/// A run of a checked program on tables, by so many workers; refused where no kit is free, or for want of memory.
 pub fn run<V: View>(
     rt: &impl Wait,
     alloc: Global,
@@ -34,6 +42,7 @@ pub fn run<V: View>(
 ) -> Result<RunAnswer, SessionError>
     requires kits { All (λ k. k ≡ checked.now.kinds) kits.old.kits }
     requires tables { checked.now.tables ≡ columned_of tables.now.tables }
+    requires workers { 0 < workers }
     ensures answer { IfOk result (IsElision checked.now (from_scratch (tree checked.now.program) tables.now.tables)) }
     ensures ended { IfOk result HasEnded }
     ensures refused { IfErr result (λ e. (e ≡ SessionError.NoMemory) ⊎ (e ≡ SessionError.NoKit)) }
@@ -51,10 +60,10 @@ pub fn run<V: View>(
             return Err(refusal_of(error));
         }
     };
-    drive(rt, alloc, &mut core, workers);
+    let driven = drive(rt, alloc, &mut core, workers);
     let (answer, pool) = core.finish(alloc);
     *kits = pool;
-    ended(answer)
+    ended(driven, answer)
 }
 
 // The refusal of a run that was not begun.
@@ -68,31 +77,188 @@ fn refusal_of(error: StartError) -> SessionError
     }
 }
 
-// The answer of a run that came to its end. Where no step was left to take before that, memory was refused.
-fn ended(answer: RunAnswer) -> Result<RunAnswer, SessionError>
+// The answer of a run that was driven to its end.
+fn ended(driven: Result<(), AllocError>, answer: RunAnswer) -> Result<RunAnswer, SessionError>
+    requires given { OnOk driven (IsGiven answer) }
+    ensures same { IfOk result (λ a. a ≡ answer) }
+    ensures ended { IfOk result HasEnded }
+    ensures refused { IfErr result (λ e. e ≡ SessionError.NoMemory) }
+{
+    match driven {
+        Ok(()) => answered(answer),
+        Err(_) => Err(SessionError::NoMemory),
+    }
+}
+
+// The answer of a run that is over; one that has failed is one without memory.
+fn answered(answer: RunAnswer) -> Result<RunAnswer, SessionError>
+    requires given { IsGiven answer }
     ensures same { IfOk result (λ a. a ≡ answer) }
     ensures ended { IfOk result HasEnded }
     ensures refused { IfErr result (λ e. e ≡ SessionError.NoMemory) }
 {
     match answer {
-        RunAnswer::Unfinished | RunAnswer::NoMemory => Err(SessionError::NoMemory),
+        RunAnswer::Unfinished => unreachable!(),
+        RunAnswer::NoMemory => Err(SessionError::NoMemory),
         RunAnswer::Finished { result, values } => Ok(RunAnswer::Finished { result, values }),
         RunAnswer::Fault(fault) => Ok(RunAnswer::Fault(fault)),
     }
 }
 
-// Goes round the workers until the run is over, or none of them takes a step.
-fn drive<V: View>(rt: &impl Wait, alloc: Global, core: &mut Core<'_, V>, workers: usize)
+// Goes round the workers until the run is over. The only error is that memory was refused where no step was taken.
+fn drive<V: View>(
+    rt: &impl Wait,
+    alloc: Global,
+    core: &mut Core<'_, V>,
+    workers: usize,
+) -> Result<(), AllocError>
+    requires some { 0 < workers }
+    requires workers { core.old.workers ≡ workers }
     ensures same { IsSameRun core.old core.new }
+    ensures over { OnOk result (is_over core.new ≡ true) }
 {
     let mut laid = false;
     for _ in rt.forever() {
-        if core.is_over() {
-            return;
-        }
         if !round(alloc, core, workers, &mut laid) {
-            return;
+            if !go_on(alloc, core, workers)? {
+                return Ok(());
+            }
         }
+    }
+    unreachable!()
+}
+
+// Takes a step that any worker has; whether there was one, as there is until the run is over. Want of memory is the only
+// error.
+fn go_on<V: View>(alloc: Global, core: &mut Core<'_, V>, workers: usize) -> Result<bool, AllocError>
+    requires some { 0 < workers }
+    requires workers { core.old.workers ≡ workers }
+    ensures same { IsSameRun core.old core.new }
+    ensures over { IfOk result (λ taken. taken ≡ false → is_over core.new ≡ true) }
+{
+    if core.is_over() {
+        return Ok(false);
+    }
+    match search(alloc, core, workers) {
+        Ok(()) => unreachable!(),
+        Err(Found::Taken) => Ok(true),
+        Err(Found::NoMemory) => Err(AllocError),
+    }
+}
+
+// Tries each step of each worker until one is taken, or memory is refused for one.
+fn search<V: View>(alloc: Global, core: &mut Core<'_, V>, workers: usize) -> Result<(), Found>
+    requires workers { core.old.workers ≡ workers }
+    ensures same { IsSameRun core.old core.new }
+    ensures none { OnOk result ((step : RunStep) → IsRefused core.old step) }
+{
+    for worker in 0..workers {
+        search_worker(alloc, core, workers, worker)?;
+    }
+    Ok(())
+}
+
+// Tries each step of one worker.
+fn search_worker<V: View>(
+    alloc: Global,
+    core: &mut Core<'_, V>,
+    workers: usize,
+    worker: usize,
+) -> Result<(), Found>
+    requires workers { core.old.workers ≡ workers }
+    ensures same { IsSameRun core.old core.new }
+    ensures unchanged { OnOk result (core.new ≡ core.old) }
+    ensures none { OnOk result ((step : RunStep) → worker_of step ≡ worker → IsRefused core.old step) }
+{
+    search_own(alloc, core, worker)?;
+    search_folds(alloc, core, worker)?;
+    search_steals(alloc, core, workers, worker)
+}
+
+// Tries each step of a worker with the strand that it holds.
+fn search_own<V: View>(alloc: Global, core: &mut Core<'_, V>, worker: usize) -> Result<(), Found>
+    ensures same { IsSameRun core.old core.new }
+    ensures unchanged { OnOk result (core.new ≡ core.old) }
+    ensures none { OnOk result (RefusesOwn core.old worker) }
+{
+    attempt(alloc, core, Step::Work(worker))?;
+    attempt(alloc, core, Step::Push(worker))?;
+    attempt(alloc, core, Step::Inline(worker))?;
+    attempt(alloc, core, Step::Pop(worker))?;
+    attempt(alloc, core, Step::Stall(worker))
+}
+
+// Tries a fold at each place.
+fn search_folds<V: View>(alloc: Global, core: &mut Core<'_, V>, worker: usize) -> Result<(), Found>
+    ensures same { IsSameRun core.old core.new }
+    ensures unchanged { OnOk result (core.new ≡ core.old) }
+    ensures none { OnOk result (RefusesFolds core.old worker) }
+{
+    match core.strands(alloc) {
+        Ok(lines) => search_lines(alloc, core, worker, lines),
+        Err(_) => Err(Found::NoMemory),
+    }
+}
+
+// Tries a fold at the places of the lines.
+fn search_lines<V: View>(
+    alloc: Global,
+    core: &mut Core<'_, V>,
+    worker: usize,
+    lines: Vec<StrandLine>,
+) -> Result<(), Found>
+    ensures same { IsSameRun core.old core.new }
+    ensures unchanged { OnOk result (core.new ≡ core.old) }
+    ensures none { OnOk result (All (λ l. IsRefused core.old (fold worker l.place.items)) lines.items) }
+{
+    let mut lines = lines;
+    while let Some(line) = lines.pop() {
+        attempt(alloc, core, Step::Fold(worker, line.place))?;
+    }
+    Ok(())
+}
+
+// Tries a steal from each worker.
+fn search_steals<V: View>(
+    alloc: Global,
+    core: &mut Core<'_, V>,
+    workers: usize,
+    worker: usize,
+) -> Result<(), Found>
+    ensures same { IsSameRun core.old core.new }
+    ensures unchanged { OnOk result (core.new ≡ core.old) }
+    ensures none { OnOk result (RefusesSteals core.old worker workers) }
+{
+    for victim in 0..workers {
+        attempt(alloc, core, Step::Steal(worker, victim))?;
+    }
+    Ok(())
+}
+
+// Tries a step; where there is no such step nothing changes.
+fn attempt<V: View>(alloc: Global, core: &mut Core<'_, V>, step: Step) -> Result<(), Found>
+    ensures same { IsSameRun core.old core.new }
+    ensures unchanged { OnOk result (core.new ≡ core.old) }
+    ensures none { OnOk result (IsRefused core.old (run_step step)) }
+{
+    match core.step(alloc, step) {
+        Ok(()) => Err(Found::Taken),
+        Err(refusal) => {
+            if is_no_memory(refusal) {
+                return Err(Found::NoMemory);
+            }
+            Ok(())
+        }
+    }
+}
+
+// Whether memory was refused.
+fn is_no_memory(refusal: Refusal) -> bool
+    ensures memory { result ≡ is_no_memory refusal }
+{
+    match refusal {
+        Refusal::NoMemory => true,
+        _ => false,
     }
 }
 

@@ -2,8 +2,8 @@
 ghost use Rattle.std.specs.Prelude.{◌≡◌, ◌+◌, ◌==◌, ◌++◌, map, IfOk, OnOk, option_map};
 ghost use Rattle.std.specs.List.{slice_split};
 ghost use Rattle.std.specs.Option.{option_to_list};
-ghost use Rattle.meaning.specs.Script.{is_line_end, is_blank, lines, words as words_of, command_of, line_command as command_in, commands_from, commands as commands_of};
-ghost use Rattle.cli.specs.Commands.{said};
+ghost use Rattle.meaning.specs.Script.{is_line_end, is_blank, lines, words as words_of};
+ghost use Rattle.cli.specs.Commands.{said, command_of, line_command as command_in, commands_from, commands as commands_of};
 
 use std::alloc::{AllocError, Global};
 
@@ -14,7 +14,7 @@ pub enum Command {
     Unknown(usize),
 }
 
-/// The commands of a script, in order.
+/// The commands of a script, in order. Want of memory is the only error.
 pub fn commands(alloc: Global, script: &[u8]) -> Result<Vec<Command>, AllocError>
     ensures { IfOk result (λ found. map said found.items ≡ commands_of script.now) }
 {

@@ -1,13 +1,13 @@
 // Sessions: a checked program, its tables and its pool of kits, and the answers to a script.
-ghost use Rattle.std.specs.Prelude.{◌≡◌, ◌+◌, ◌<◌, ◌^◌, ◌++◌, ◌⊎◌, [], true, Err, All, length, map, vec_len, string_bytes, IfOk, IfErr, OnOk, OnErr, IfSome};
+ghost use Rattle.std.specs.Prelude.{◌≡◌, ◌≢◌, ◌+◌, ◌<◌, ◌^◌, ◌++◌, ◌⊎◌, [], true, Err, All, length, map, vec_len, string_bytes, IfOk, IfErr, OnOk, OnErr, IfSome};
 ghost use Rattle.std.specs.Io.KnownBytes.{Appends, Keeps, IsAtEnd};
 ghost use Rattle.program_tree.specs.View.{tree};
 ghost use Rattle.linked_program.specs.TableNames.{columned_of};
-ghost use Rattle.meaning.specs.Script.{commands as commands_of};
 ghost use Rattle.meaning.specs.Statements.{reducers};
 ghost use Rattle.meaning.specs.Elision.{from_scratch};
-ghost use Rattle.meaning.specs.Text.{outcome_text, answer_text, runs_after, answers_from, answers_text};
-ghost use Rattle.cli.specs.Commands.{said};
+ghost use Rattle.meaning.specs.Text.{outcome_text, runs_after};
+ghost use Rattle.cli.specs.Answers.{answer_text, answers_from, answers_text};
+ghost use Rattle.cli.specs.Commands.{said, commands as commands_of};
 ghost use Rattle.cli.specs.Written.{HasBeginning};
 
 use crate::answers::{push_outcome, push_run, push_unknown};
@@ -30,7 +30,7 @@ pub struct Session<V: View = Box<dyn View>> {
 }
 
 /// Answers the script that a reader has, all of it read before anything runs. It ends early where memory is refused,
-/// no kit is free, or a read or a write fails; a failed read leaves the writer as it was.
+/// no kit is free, or a read, a write or a flush fails; a failed read leaves the writer as it was.
 pub fn session_text<V: View, R: Read, W: Write>(
     rt: &impl Wait,
     alloc: Global,
@@ -41,6 +41,7 @@ pub fn session_text<V: View, R: Read, W: Write>(
 ) -> Result<(), SessionError>
     requires kits { All (λ k. k ≡ session.checked.kinds) session.kits.kits }
     requires tables { session.checked.tables ≡ columned_of session.tables.tables }
+    requires workers { 0 < workers }
     ensures answered { OnOk result (IfSome (R.remaining reader.old) (λ script.
         Appends (W.contents writer.old) (W.contents writer.new) (answers_text (tree session.checked.program) session.tables.tables script))) }
     ensures over { OnOk result (IsAtEnd (R.remaining reader.new)) }
@@ -53,8 +54,9 @@ pub fn session_text<V: View, R: Read, W: Write>(
     session_noting(rt, alloc, session, workers, reader, writer, &mut failures)
 }
 
-/// The same, where it is noted which streams failed: a failed read is answered only of a reader that is noted, a failed
-/// write only of a writer that is.
+/// The same, where it is noted which streams failed: a failed read is answered where the reader is noted, and nowhere
+/// else is the reader noted; a failed write is answered where the writer is noted. The writer is noted besides where its
+/// flush fails after another error has ended the session, and that error is answered.
 pub fn session_noting<V: View, R: Read, W: Write>(
     rt: &impl Wait,
     alloc: Global,
@@ -66,6 +68,7 @@ pub fn session_noting<V: View, R: Read, W: Write>(
 ) -> Result<(), SessionError>
     requires kits { All (λ k. k ≡ session.checked.kinds) session.kits.kits }
     requires tables { session.checked.tables ≡ columned_of session.tables.tables }
+    requires workers { 0 < workers }
     ensures answered { OnOk result (IfSome (R.remaining reader.old) (λ script.
         Appends (W.contents writer.old) (W.contents writer.new) (answers_text (tree session.checked.program) session.tables.tables script))) }
     ensures over { OnOk result (IsAtEnd (R.remaining reader.new)) }
@@ -75,6 +78,10 @@ pub fn session_noting<V: View, R: Read, W: Write>(
     ensures no_kit { result ≡ Err SessionError.NoKit → session.kits.kits ≡ [] }
     ensures input { result ≡ Err SessionError.Read → failures.new.input ≡ true }
     ensures output { result ≡ Err SessionError.Write → failures.new.output ≡ true }
+    ensures unmarked { OnOk result (failures.new ≡ failures.old) }
+    ensures input_stays { result ≢ Err SessionError.Read → failures.new.input ≡ failures.old.input }
+    ensures output_unread { result ≡ Err SessionError.Read → failures.new.output ≡ failures.old.output }
+    ensures output_stays { failures.old.output ≡ true → failures.new.output ≡ true }
 {
     let script = read_all(alloc, reader, failures)?;
     let mut session = session;
@@ -97,11 +104,14 @@ fn answer_script<V: View, W: Write>(
 ) -> Result<(), SessionError>
     requires kits { All (λ k. k ≡ session.old.checked.kinds) session.old.kits.kits }
     requires tables { session.old.checked.tables ≡ columned_of session.old.tables.tables }
+    requires workers { 0 < workers }
     ensures written { OnOk result (Appends (W.contents writer.old) (W.contents writer.new) (answers_text (tree session.old.checked.program) session.old.tables.tables script.now)) }
     ensures beginning { HasBeginning (W.contents writer.old) (W.contents writer.new) (answers_text (tree session.old.checked.program) session.old.tables.tables script.now) }
     ensures read { OnErr result (¬ (result ≡ Err SessionError.Read)) }
     ensures no_kit { result ≡ Err SessionError.NoKit → session.old.kits.kits ≡ [] }
     ensures output { result ≡ Err SessionError.Write → failures.new.output ≡ true }
+    ensures unmarked { result ≢ Err SessionError.Write → failures.new ≡ failures.old }
+    ensures input { failures.new.input ≡ failures.old.input }
 {
     let commands = match commands(alloc, script) {
         Ok(commands) => commands,
@@ -130,6 +140,7 @@ fn answer<V: View>(
     requires few { runs + 1 < 2 ^ 64 }
     requires kits { All (λ k. k ≡ session.old.checked.kinds) session.old.kits.kits }
     requires tables { session.old.checked.tables ≡ columned_of session.old.tables.tables }
+    requires workers { 0 < workers }
     ensures answered { OnOk result (string_bytes text.new ≡ string_bytes text.old
         ++ answer_text (tree session.old.checked.program) session.old.tables.tables runs (said command)) }
     ensures runs { IfOk result (λ n. n ≡ runs_after runs (said command)) }

@@ -1,10 +1,12 @@
 // Reading a stream to its end, and writing to one.
-ghost use Rattle.std.specs.Prelude.{◌≡◌, ◌⊎◌, ◌<◌, ◌≤◌, Err, false, true, length, take, IfOk, IfErr, OnOk, OnErr, IfSome, IfNone};
+ghost use Rattle.std.specs.Prelude.{◌≡◌, ◌≢◌, ◌⊎◌, ◌<◌, ◌≤◌, Err, false, true, length, take, IfOk, IfErr, OnOk, OnErr, IfSome, IfNone};
 ghost use Rattle.std.specs.Io.KnownBytes.{Appends, Keeps, Consumes, IsAtEnd};
+ghost use Rattle.std.specs.IoError.{error_kind};
 ghost use Rattle.cli.specs.declared.streams.SessionError.TheVariants.{NoMemory};
 ghost use Rattle.cli.specs.Written.{HasBeginning};
 
 use std::alloc::{AllocError, Global};
+use std::io;
 use std::io::{ErrorKind, Read, Write};
 use std::marker::Model;
 use thiserror::Error;
@@ -31,8 +33,8 @@ impl From<AllocError> for SessionError {
 }
 
 /// Which streams failed: the reader, where a read of it answered an error or no end came of 2^64 - 1 reads; the writer,
-/// where a write or a flush answered an error, a write took nothing, or 2^64 - 1 writes were not enough. An interrupted
-/// call is made again and is no failure; want of memory is none either. Nothing else sets these marks.
+/// where a write or a flush answered an error, a write took nothing, or 2^64 - 1 writes or flushes were not enough. An
+/// interrupted call is made again and is no failure; want of memory is none either. Nothing else sets these marks.
 #[derive(Drop)]
 pub struct Failures {
     input: bool,
@@ -98,6 +100,7 @@ impl Failures {
         ensures interrupted { IfOk result (λ read. IfNone read (Keeps (R.remaining reader.old) (R.remaining reader.new))) }
         ensures refused { IfErr result (λ e. (e ≡ SessionError.NoMemory) ⊎ (e ≡ SessionError.Read)) }
         ensures noted { result ≡ Err SessionError.Read → self.new.input ≡ true }
+        ensures unmarked { result ≢ Err SessionError.Read → self.new ≡ self.old }
         ensures others { self.new.output ≡ self.old.output }
     {
         match reader.read(buffer) {
@@ -113,16 +116,47 @@ impl Failures {
         ensures bound { IfOk result (λ n. n ≤ length bytes.now) }
         ensures written { IfOk result (λ n. Appends (W.contents writer.old) (W.contents writer.new) (take n bytes.now)) }
         ensures kept { OnErr result (Keeps (W.contents writer.old) (W.contents writer.new)) }
-        ensures refused { IfErr result (λ e. e ≡ SessionError.Write) }
-        ensures noted { OnErr result (self.new.output ≡ true) }
+        ensures refused { IfErr result (λ e. (e ≡ SessionError.NoMemory) ⊎ (e ≡ SessionError.Write)) }
+        ensures noted { result ≡ Err SessionError.Write → self.new.output ≡ true }
+        ensures unmarked { result ≢ Err SessionError.Write → self.new ≡ self.old }
         ensures others { self.new.input ≡ self.old.input }
     {
         match writer.write(bytes) {
             Ok(0) => Err(self.of_output()),
             Ok(count) => Ok(count),
             Err(error) if error.kind() == ErrorKind::Interrupted => Ok(0),
-            Err(_) => Err(self.of_output()),
+            Err(error) => Err(self.of_writer(&error)),
         }
+    }
+
+    // One flush: whether it was done; not where it was interrupted.
+    fn flush<W: Write>(&mut self, writer: &mut W) -> Result<bool, SessionError>
+        ensures kept { Keeps (W.contents writer.old) (W.contents writer.new) }
+        ensures refused { IfErr result (λ e. (e ≡ SessionError.NoMemory) ⊎ (e ≡ SessionError.Write)) }
+        ensures noted { result ≡ Err SessionError.Write → self.new.output ≡ true }
+        ensures unmarked { result ≢ Err SessionError.Write → self.new ≡ self.old }
+        ensures others { self.new.input ≡ self.old.input }
+    {
+        match writer.flush() {
+            Ok(()) => Ok(true),
+            Err(error) if error.kind() == ErrorKind::Interrupted => Ok(false),
+            Err(error) => Err(self.of_writer(&error)),
+        }
+    }
+
+    // What that error of the writer ends a session by: a failure, which is noted, or want of memory.
+    fn of_writer(&mut self, error: &io::Error) -> SessionError
+        ensures memory { error_kind error.now ≡ ErrorKind.OutOfMemory → result ≡ SessionError.NoMemory }
+        ensures failed { error_kind error.now ≢ ErrorKind.OutOfMemory → result ≡ SessionError.Write }
+        ensures error { (result ≡ SessionError.NoMemory) ⊎ (result ≡ SessionError.Write) }
+        ensures noted { result ≡ SessionError.Write → self.new.output ≡ true }
+        ensures unmarked { result ≢ SessionError.Write → self.new ≡ self.old }
+        ensures others { self.new.input ≡ self.old.input }
+    {
+        if error.kind() == ErrorKind::OutOfMemory {
+            return SessionError::NoMemory;
+        }
+        self.of_output()
     }
 }
 
@@ -137,6 +171,7 @@ pub fn read_all<R: Read>(
     ensures over { OnOk result (IsAtEnd (R.remaining reader.new)) }
     ensures refused { IfErr result (λ e. (e ≡ SessionError.NoMemory) ⊎ (e ≡ SessionError.Read)) }
     ensures noted { result ≡ Err SessionError.Read → failures.new.input ≡ true }
+    ensures unmarked { result ≢ Err SessionError.Read → failures.new ≡ failures.old }
     ensures others { failures.new.output ≡ failures.old.output }
 {
     let mut script = Vec::new(alloc);
@@ -151,7 +186,8 @@ pub fn read_all<R: Read>(
     Err(failures.of_input())
 }
 
-/// Writes the bytes; where a write fails, which is noted, a beginning of them is written.
+/// Writes the bytes; refused where a write fails, which is noted, or memory is wanted, and then a beginning of them is
+/// written.
 pub fn write_whole<W: Write>(
     writer: &mut W,
     bytes: &[u8],
@@ -159,8 +195,9 @@ pub fn write_whole<W: Write>(
 ) -> Result<(), SessionError>
     ensures written { OnOk result (Appends (W.contents writer.old) (W.contents writer.new) bytes.now) }
     ensures beginning { HasBeginning (W.contents writer.old) (W.contents writer.new) bytes.now }
-    ensures refused { IfErr result (λ e. e ≡ SessionError.Write) }
-    ensures noted { OnErr result (failures.new.output ≡ true) }
+    ensures refused { IfErr result (λ e. (e ≡ SessionError.NoMemory) ⊎ (e ≡ SessionError.Write)) }
+    ensures noted { result ≡ Err SessionError.Write → failures.new.output ≡ true }
+    ensures unmarked { result ≢ Err SessionError.Write → failures.new ≡ failures.old }
     ensures others { failures.new.input ≡ failures.old.input }
 {
     let mut at = 0;
@@ -173,16 +210,19 @@ pub fn write_whole<W: Write>(
     Err(failures.of_output())
 }
 
-/// Flushes a writer; where that fails it is noted.
+/// Flushes a writer; refused where a flush fails, which is noted, or memory is wanted.
 pub fn flush<W: Write>(writer: &mut W, failures: &mut Failures) -> Result<(), SessionError>
     ensures kept { Keeps (W.contents writer.old) (W.contents writer.new) }
-    ensures refused { IfErr result (λ e. e ≡ SessionError.Write) }
-    ensures noted { OnErr result (failures.new.output ≡ true) }
+    ensures refused { IfErr result (λ e. (e ≡ SessionError.NoMemory) ⊎ (e ≡ SessionError.Write)) }
+    ensures noted { result ≡ Err SessionError.Write → failures.new.output ≡ true }
+    ensures unmarked { result ≢ Err SessionError.Write → failures.new ≡ failures.old }
     ensures stays { failures.old.output ≡ true → failures.new.output ≡ true }
     ensures others { failures.new.input ≡ failures.old.input }
 {
-    match writer.flush() {
-        Ok(()) => Ok(()),
-        Err(_) => Err(failures.of_output()),
+    for _ in 0..u64::MAX {
+        if failures.flush(writer)? {
+            return Ok(());
+        }
     }
+    Err(failures.of_output())
 }

@@ -4,6 +4,7 @@ use cli::line::options;
 use cli::options::{Options, OptionsError};
 use cli::prepare::{PrepareError, prepare};
 use cli::program::{report_on, status};
+use cli::streams::Failures;
 use monoid_laws::Kind;
 use std::alloc::{AllocError, Global};
 use std::io;
@@ -76,6 +77,7 @@ fn is_written(rt: &(impl Abort + Wait), alloc: Global, text: &[u8], answers: &[u
         &Program { text },
         &mut reader,
         &mut page,
+        &mut Failures::none(),
     );
     let written = &page.bytes[..page.len.min(64)];
     match ended {

@@ -4,7 +4,7 @@ use cli::line::options;
 use cli::options::OptionsError;
 use cli::prepare::PrepareError;
 use cli::program::{ProgramError, report_on, status};
-use cli::streams::SessionError;
+use cli::streams::{Failures, SessionError};
 use monoid_laws::Kind;
 use std::alloc::{AllocError, Global};
 use std::io;
@@ -92,7 +92,17 @@ fn ran(
     let files = Two { program, tables };
     let mut reader = b"run\n".as_slice();
     let mut written = Vec::new(alloc);
-    match report_on(rt, alloc, options, &make, &files, &mut reader, &mut written) {
+    let ended = report_on(
+        rt,
+        alloc,
+        options,
+        &make,
+        &files,
+        &mut reader,
+        &mut written,
+        &mut Failures::none(),
+    );
+    match ended {
         Ok(()) => (written, String::new(alloc), 0),
         Err(error) => {
             let said = error.to_string(alloc).expect(rt, "memory");
@@ -149,6 +159,7 @@ fn sixteen_workers_and_one_kit(rt: HostRuntime) {
             &files,
             &mut reader,
             &mut written,
+            &mut Failures::none(),
         )
         .expect(&rt, "a report");
         assert_eq!(&rt; written.as_slice(), wanted.as_bytes());
@@ -233,5 +244,9 @@ fn files_of_the_system(rt: HostRuntime) {
     let files = SystemFiles { rt: &rt };
     let empty = files.read(rt.alloc(), "/dev/null").expect(&rt, "a file");
     assert_eq!(&rt; empty.len(), 0);
+    let kernel = files
+        .read(rt.alloc(), "/proc/sys/kernel/ostype")
+        .expect(&rt, "a file");
+    assert_eq!(&rt; kernel.as_slice(), b"Linux\n".as_slice());
     assert!(&rt; files.read(rt.alloc(), "no such folder/p").is_err());
 }

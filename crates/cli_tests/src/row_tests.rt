@@ -1,4 +1,6 @@
 // Programs run by several workers, and what is written for them.
+ghost use Rattle.std.specs.Prelude.{◌<◌};
+
 use cli::beginning::begin;
 use cli::session::session_text;
 use monoid_laws::Kind;
@@ -69,7 +71,8 @@ fn answered<V: View, M: Fn(Kind) -> Result<V, AllocError>>(
     kits: usize,
     make: &M,
 ) -> Vec<u8>
-    requires { M.IsAlwaysCallable make.now }
+    requires callable { M.IsAlwaysCallable make.now }
+    requires workers { 0 < workers }
 {
     let session = begin(alloc, program.as_bytes(), SALES, kits, make).expect(rt, "a session");
     let mut reader = b"run\n".as_slice();
@@ -85,7 +88,9 @@ fn is_answered(
     workers: usize,
     kits: usize,
     answer: &str,
-) {
+)
+    requires workers { 0 < workers }
+{
     let make = |kind: Kind| -> Result<PlainView, AllocError> { Ok(PlainView::new(alloc, kind)) };
     let written = answered(rt, alloc, program, workers, kits, &make);
     assert_eq!(rt; written.as_slice(), answer.as_bytes());

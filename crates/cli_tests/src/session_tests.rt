@@ -1,5 +1,5 @@
 // Programs, scripts and lines, with what is written for them.
-ghost use Rattle.std.specs.Prelude.{◌≡◌, All};
+ghost use Rattle.std.specs.Prelude.{◌≡◌, ◌<◌, All};
 ghost use Rattle.linked_program.specs.TableNames.{columned_of};
 
 use cli::beginning::begin;
@@ -19,6 +19,11 @@ use view_pool::PlainView;
 const FIRST: &str = "reducer total : add;
 proc leaf(v) { update total v; return v; }
 proc main() { x = spawn leaf(1); y = spawn leaf(2); update total 9; sync; return x + y; }
+";
+
+const SALES: &str = "[sales]
+columns = [\"qty\", \"price\"]
+rows = [[1, 2, 5]]
 ";
 
 // A writer that takes so many bytes and then fails.
@@ -69,7 +74,9 @@ fn answers(
     program: &str,
     script: &str,
     workers: usize,
-) -> Vec<u8> {
+) -> Vec<u8>
+    requires workers { 0 < workers }
+{
     let session = session(rt, alloc, program, 64);
     let mut reader = script.as_bytes();
     let mut written = Vec::new(alloc);
@@ -77,8 +84,8 @@ fn answers(
     written
 }
 
-fn refusal(alloc: Global, program: &str, tables: &str) -> Option<String> {
-    match prepare(alloc, program.as_bytes(), tables) {
+fn refusal(alloc: Global, program: &[u8], tables: &str) -> Option<String> {
+    match prepare(alloc, program, tables) {
         Ok(_) => None,
         Err(error) => error.to_string(alloc).ok(),
     }
@@ -86,7 +93,7 @@ fn refusal(alloc: Global, program: &str, tables: &str) -> Option<String> {
 
 #[test]
 fn first_run(rt: HostRuntime) {
-    for workers in [1, 2, 16] {
+    for workers in 1..4 {
         let written = answers(&rt, rt.alloc(), FIRST, "run\n", workers);
         assert_eq!(&rt;
             written.as_slice(),
@@ -126,8 +133,115 @@ fn refusals(rt: HostRuntime) {
         ("", "[sales]\n", "refused E3 sales"),
         ("proc", "[sales", "refused E8 1"),
     ] {
-        let text = refusal(rt.alloc(), program, tables).expect(&rt, "refused");
+        let text = refusal(rt.alloc(), program.as_bytes(), tables).expect(&rt, "refused");
         assert_eq!(&rt; text.as_str(), wanted);
+    }
+}
+
+// What is said of that much of the first program's text, without its last brace.
+fn said_of_beginning(length: usize) -> &'static str {
+    if [0, 20, 21, 63, 64].contains(&length) {
+        return "refused E9 C7 main 0";
+    }
+    if length < 21 {
+        return "refused E8 1";
+    }
+    if length < 64 {
+        return "refused E8 2";
+    }
+    "refused E8 3"
+}
+
+#[test]
+fn beginnings_of_a_program(rt: HostRuntime) {
+    let program = FIRST.as_bytes();
+    for length in 0..program.len().saturating_sub(1) {
+        let text = refusal(rt.alloc(), &program[..length], "").expect(&rt, "refused");
+        assert_eq!(&rt; text.as_str(), said_of_beginning(length));
+    }
+}
+
+// A program with a reducer of this kind, whose `main` does this from the fourth line on.
+fn program_of(alloc: Global, kind: &str, body: &str) -> Result<String, AllocError> {
+    let mut text = String::from_str(alloc, "reducer r : ")?;
+    text.push_str(kind)?;
+    text.push_str(";\nproc one(v) { return v; }\nproc main() {\n")?;
+    text.push_str(body)?;
+    text.push_str("return 0;\n}\n")?;
+    Ok(text)
+}
+
+#[test]
+fn programs_that_break_a_rule(rt: HostRuntime) {
+    for (kind, body, rule) in [
+        ("add", "x = 1;\ncilk_for i in 0 .. i : one(i);\n", "C1"),
+        ("add", "x = 1;\nx = call one(1);\n", "C2"),
+        ("add", "x = 1;\nx = spawn one(1);\n", "C2"),
+        ("add", "x = 1;\nx = read r;\n", "C2"),
+        ("add", "i = 1;\ncilk_for i in 0 .. 2 : one(i);\n", "C2"),
+        ("add", "cilk_for i in 0 .. 2 : one(i);\ni = 1;\n", "C2"),
+        (
+            "add",
+            "cilk_for i in 0 .. 2 : one(i);\ncilk_for i in 0 .. 2 : one(i);\n",
+            "C2",
+        ),
+        ("add", "x = spawn one(1);\ncall one(x);\nsync;\n", "C3"),
+        ("add", "x = spawn one(1);\nupdate r x;\nsync;\n", "C3"),
+        ("add", "x = spawn one(1);\nif x { }\nsync;\n", "C3"),
+        (
+            "add",
+            "x = spawn one(1);\ncilk_for i in 0 .. x : one(i);\nsync;\n",
+            "C3",
+        ),
+        ("add", "x = spawn one(1);\ny = sales[x].qty;\nsync;\n", "C3"),
+        ("add", "x = 1;\ncall one(x, x);\n", "C4"),
+        ("add", "x = 1;\nspawn one(x, x);\n", "C4"),
+        ("add", "x = 1;\ncilk_for i in 0 .. 2 : one(i, x);\n", "C4"),
+        ("add", "x = read r;\nspawn one(x);\n", "C5"),
+        ("add", "x = read r;\nsync;\n", "C5"),
+        ("add", "x = read r;\nupdate r x;\n", "C5"),
+        ("add", "x = read r;\ncilk_for i in 0 .. x : one(i);\n", "C5"),
+        ("first 2", "x = 1;\ny = read r;\n", "C5"),
+        ("last 2", "x = 1;\ny = read r;\n", "C5"),
+        ("argmax", "x = 1;\ny = read r;\n", "C5"),
+        ("affine", "x = 1;\ny = read r;\n", "C5"),
+        ("hist", "x = 1;\ny = read r;\n", "C5"),
+        ("list", "x = 1;\ny = read r;\n", "C5"),
+        ("argmax", "x = 1;\nupdate r x;\n", "C6"),
+        ("affine", "x = 1;\nupdate r x;\n", "C6"),
+        ("hist", "x = 1;\nupdate r x;\n", "C6"),
+    ] {
+        let text = program_of(rt.alloc(), kind, body).expect(&rt, "memory");
+        let said = refusal(rt.alloc(), text.as_bytes(), SALES).expect(&rt, "refused");
+        let wanted = format!(in rt.alloc(); "refused E9 {rule} main 5").expect(&rt, "memory");
+        assert_eq!(&rt; said.as_str(), wanted.as_str(), "{body}");
+    }
+}
+
+#[test]
+fn programs_that_break_none(rt: HostRuntime) {
+    for (kind, body) in [
+        (
+            "add",
+            "x = spawn one(1);\ny = spawn one(2);\nsync;\nz = x + y;\n",
+        ),
+        ("add", "x = read r;\ny = read r;\n"),
+        ("mul", "x = read r;\n"),
+        ("min", "x = read r;\n"),
+        ("max", "x = read r;\n"),
+        ("and", "x = read r;\n"),
+        ("or", "x = read r;\n"),
+        ("xor", "x = read r;\n"),
+        ("table 2 unit 0 [0, 1, 1, 0]", "x = read r;\n"),
+        ("argmax", "update r 1, 2;\n"),
+        ("affine", "update r 1, 2;\n"),
+        ("hist", "update r 1, 2;\n"),
+    ] {
+        let text = program_of(rt.alloc(), kind, body).expect(&rt, "memory");
+        assert!(&rt;
+            prepare(rt.alloc(), text.as_bytes(), SALES).is_ok(),
+            "{kind} {body}"
+        );
     }
 }
 

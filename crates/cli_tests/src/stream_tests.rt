@@ -37,11 +37,12 @@ impl Read for Halting {
     }
 }
 
-// A writer that takes one byte a call, with an error of this kind before the first; its flush fails where told to.
+// A writer that takes so many bytes a call, with an error of its kind before the first and before the first flush.
 #[derive(Drop)]
 struct Slow {
     error: Option<ErrorKind>,
-    flushes: bool,
+    flush_error: Option<ErrorKind>,
+    most: usize,
     taken: Vec<u8>,
 }
 
@@ -50,23 +51,24 @@ impl Write for Slow {
         if let Some(error) = self.error.take() {
             return Err(io::Error::from(error));
         }
-        let count = buf.len().min(1);
+        let count = buf.len().min(self.most);
         self.taken.extend_from_slice(&buf[..count])?;
         Ok(count)
     }
 
     fn flush(&mut self) -> io::Result<()> {
-        if self.flushes {
-            return Ok(());
+        match self.flush_error.take() {
+            Some(error) => Err(io::Error::from(error)),
+            None => Ok(()),
         }
-        Err(io::Error::from(ErrorKind::BrokenPipe))
     }
 }
 
-fn slow_writer(alloc: Global, error: Option<ErrorKind>, flushes: bool) -> Slow {
+fn slow_writer(alloc: Global, error: Option<ErrorKind>, flush_error: Option<ErrorKind>) -> Slow {
     Slow {
         error,
-        flushes,
+        flush_error,
+        most: 1,
         taken: Vec::new(alloc),
     }
 }
@@ -113,7 +115,7 @@ fn interrupted_reads_are_done_again(rt: HostRuntime) {
 fn a_read_fails_in_mid_stream(rt: HostRuntime) {
     for at in 0..5 {
         let mut reader = halting_reader(ErrorKind::ConnectionReset, at, 1);
-        let mut writer = slow_writer(rt.alloc(), None, true);
+        let mut writer = slow_writer(rt.alloc(), None, None);
         let mut failures = Failures::none();
         let ended = noting(&rt, rt.alloc(), &mut reader, &mut writer, &mut failures);
         assert!(&rt; matches!(&ended, Err(SessionError::Read)));
@@ -133,7 +135,7 @@ fn a_reader_without_memory(rt: HostRuntime) {
 
 #[test]
 fn interrupted_writes_are_done_again(rt: HostRuntime) {
-    let mut writer = slow_writer(rt.alloc(), Some(ErrorKind::Interrupted), true);
+    let mut writer = slow_writer(rt.alloc(), Some(ErrorKind::Interrupted), None);
     let mut failures = Failures::none();
     write_whole(&mut writer, b"ok\n", &mut failures).expect(&rt, "written");
     assert_eq!(&rt; writer.taken.as_slice(), b"ok\n".as_slice());
@@ -141,12 +143,49 @@ fn interrupted_writes_are_done_again(rt: HostRuntime) {
 }
 
 #[test]
-fn a_failed_flush_is_a_failed_write(rt: HostRuntime) {
-    let mut writer = slow_writer(rt.alloc(), None, false);
-    let mut reader = b"run\n".as_slice();
+fn a_writer_that_takes_nothing(rt: HostRuntime) {
+    let mut writer = slow_writer(rt.alloc(), None, None);
+    writer.most = 0;
     let mut failures = Failures::none();
-    let ended = noting(&rt, rt.alloc(), &mut reader, &mut writer, &mut failures);
-    assert!(&rt; matches!(&ended, Err(SessionError::Write)));
-    assert_eq!(&rt; writer.taken.as_slice(), b"run 1\nresult 4\n".as_slice());
+    let written = write_whole(&mut writer, b"ok\n", &mut failures);
+    assert!(&rt; matches!(&written, Err(SessionError::Write)));
+    assert_eq!(&rt; writer.taken.len(), 0);
     assert_eq!(&rt; failures.noted(), (false, true));
+}
+
+fn ending(ended: &Result<(), SessionError>) -> &'static str {
+    match ended {
+        Ok(()) => "done",
+        Err(SessionError::NoMemory) => "no memory",
+        Err(SessionError::NoKit) => "no kit",
+        Err(SessionError::Read) => "failed input",
+        Err(SessionError::Write) => "failed output",
+    }
+}
+
+const ANSWERS: &[u8] = b"run 1\nresult 4\n";
+
+// By the errors of the first write and the first flush.
+#[test]
+fn endings_by_the_writer(rt: HostRuntime) {
+    let none: Option<ErrorKind> = None;
+    let interrupted = Some(ErrorKind::Interrupted);
+    let broken = Some(ErrorKind::BrokenPipe);
+    let full = Some(ErrorKind::OutOfMemory);
+    for (error, flush_error, wanted, taken, marks) in [
+        (none, none, "done", ANSWERS, (false, false)),
+        (interrupted, interrupted, "done", ANSWERS, (false, false)),
+        (none, broken, "failed output", ANSWERS, (false, true)),
+        (none, full, "no memory", ANSWERS, (false, false)),
+        (full, none, "no memory", b"".as_slice(), (false, false)),
+        (full, broken, "no memory", b"".as_slice(), (false, true)),
+    ] {
+        let mut writer = slow_writer(rt.alloc(), error, flush_error);
+        let mut reader = b"run\n".as_slice();
+        let mut failures = Failures::none();
+        let ended = noting(&rt, rt.alloc(), &mut reader, &mut writer, &mut failures);
+        assert_eq!(&rt; ending(&ended), wanted);
+        assert_eq!(&rt; writer.taken.as_slice(), taken);
+        assert_eq!(&rt; failures.noted(), marks);
+    }
 }

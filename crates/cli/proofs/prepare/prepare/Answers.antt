@@ -11,5 +11,5 @@ returns-in-Err-from_toml-clause-refused c =
 
 pub returns-in-Err-check-clause-refused : goal.returns-in-Err-check-clause-refused
 returns-in-Err-check-clause-refused c =
-    c.check_refusal.ensures c.args.program.now c.args.tables.now c.in-Ok-from_toml.tables.tables (tree c.in-Ok.tree) (lines c.in-Ok.tree)
+    c.check_refusal.ensures.refused c.args.program.now c.args.tables.now c.in-Ok-from_toml.tables.tables (tree c.in-Ok.tree) (lines c.in-Ok.tree)
     c.in-Ok-from_toml.ensures.read c.in-Ok.ensures.found c.in-Err-check.ensures.refused

@@ -1,7 +1,7 @@
 use Rattle.std.proofs.Common.{◌≡◌, ℕ, List, Option, Some, IfSome, subst, inr}
 use Rattle.std.specs.Io.KnownBytes.{Appends}
 use Rattle.program_tree.specs.View.{tree}
-use Rattle.meaning.specs.Text.{answers_text}
+use Rattle.cli.specs.Answers.{answers_text}
 use Rattle.cli.specs.Written.{HasBeginning}
 use Rattle.cli.proofs.program.report_on.Goals as goal
 
@@ -10,11 +10,13 @@ of_some P o x e h = subst (λ o. IfSome o P) e h
 
 pub returns-in-Ok-clause-answered : goal.returns-in-Ok-clause-answered
 returns-in-Ok-clause-answered g c program tables script p t s =
-    let session = c.in_ok-session.session in (
+    let session = c.in_ok-session.session in
+    let opened = c.in_ok-session.ensures.opened program tables p t in (
+      opened.0,
       session.checked,
       session.tables.tables,
-      c.in_ok-session.ensures.opened program tables p t,
-      of_some (λ script. Appends (g.W.Write.contents c.args.writer.now) (g.W.Write.contents c.session_text.new.writer)
+      opened.1,
+      of_some (λ script. Appends (g.W.Write.contents c.args.writer.now) (g.W.Write.contents c.session_noting.new.writer)
           (answers_text (tree session.checked.program) session.tables.tables script)) (g.R.Read.remaining c.args.reader.now) script s c.in-Ok.ensures.answered,
     )
 
@@ -24,8 +26,8 @@ returns-in-Ok-clause-beginning g c program tables script p t s =
     inr (
       session.checked,
       session.tables.tables,
-      c.in_ok-session.ensures.opened program tables p t,
-      of_some (λ script. HasBeginning (g.W.Write.contents c.args.writer.now) (g.W.Write.contents c.session_text.new.writer)
+      (c.in_ok-session.ensures.opened program tables p t).1,
+      of_some (λ script. HasBeginning (g.W.Write.contents c.args.writer.now) (g.W.Write.contents c.session_noting.new.writer)
           (answers_text (tree session.checked.program) session.tables.tables script)) (g.R.Read.remaining c.args.reader.now) script s c.in-Ok.ensures.beginning,
     )
 
@@ -35,7 +37,7 @@ returns-in-Err-clause-beginning g c program tables script p t s =
     inr (
       session.checked,
       session.tables.tables,
-      c.in_ok-session.ensures.opened program tables p t,
-      of_some (λ script. HasBeginning (g.W.Write.contents c.args.writer.now) (g.W.Write.contents c.session_text.new.writer)
+      (c.in_ok-session.ensures.opened program tables p t).1,
+      of_some (λ script. HasBeginning (g.W.Write.contents c.args.writer.now) (g.W.Write.contents c.session_noting.new.writer)
           (answers_text (tree session.checked.program) session.tables.tables script)) (g.R.Read.remaining c.args.reader.now) script s c.in-Err.ensures.beginning,
     )

@@ -1,7 +1,7 @@
 use Rattle.std.proofs.Common.{◌+◌, ◌∙◌, map, [], ap, sym}
 use Rattle.std.proofs.lemmas.List.{get_or-map}
 use Rattle.std.proofs.lemmas.List.{length-map}
-use Rattle.meaning.specs.Script.{line_command}
+use Rattle.cli.specs.Commands.{line_command}
 use Rattle.cli.proofs.Commands.{one_more}
 use Rattle.cli.proofs.script.commands.Goals as goal
 

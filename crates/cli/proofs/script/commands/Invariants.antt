@@ -1,6 +1,5 @@
 use Rattle.std.proofs.Common.{◌≡◌, ◌+◌, map, drop, ◌++◌}
-use Rattle.meaning.specs.Script.{commands_from}
-use Rattle.cli.specs.Commands.{said}
+use Rattle.cli.specs.Commands.{said, commands_from}
 use Rattle.cli.proofs.script.commands.Given as goal
 
 -- the commands found so far, and then those of the lines that are left

@@ -1,6 +1,6 @@
 use Rattle.std.proofs.Common.{◌≡◌, ◌∙◌, ap, map, subst, append_assoc, All}
 use Rattle.program_tree.specs.View.{tree}
-use Rattle.meaning.specs.Text.{answers_from}
+use Rattle.cli.specs.Answers.{answers_from}
 use Rattle.cli.specs.Commands.{said}
 use Rattle.cli.specs.Written.{HasBeginning}
 use Rattle.cli.proofs.Answering.{one_more_answer, runs_after-le}
@@ -32,6 +32,7 @@ loop-command-preserved g c =
       free = c.in_ok-runs.ensures.free ∙ c.loop-command.invariant.free;
       kinds = subst (λ p. All (λ k. k ≡ p.kinds) c.answer.new.session.kits.kits) c.loop-command.invariant.same_program c.in_ok-runs.ensures.kinds;
       few = runs_after-le _ _ _ _ c.in_ok-runs.ensures.runs c.loop-command.invariant.few;
+      unmarked = c.in_ok-write_whole.ensures.unmarked (λ e. cc) ∙ c.loop-command.invariant.unmarked;
       written = (_, Appends-more _ _ _ w.0 _ w.1 c.in_ok-write_whole.ensures.written, rw append_assoc next);
     }
 

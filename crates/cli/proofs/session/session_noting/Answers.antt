@@ -1,5 +1,5 @@
 use Rattle.program_tree.specs.View.{tree}
-use Rattle.meaning.specs.Text.{answers_text}
+use Rattle.cli.specs.Answers.{answers_text}
 use Rattle.cli.proofs.Written.{nothing_written}
 use Rattle.cli.proofs.session.session_noting.Goals as goal
 
