@@ -1,7 +1,7 @@
 #!/usr/bin/env bash
-# Times reading, put, delete and limit of tables of 1e3, 1e5 and 1e6 rows: the program of this folder, as LLVM builds it,
+# Times reading, and toml's share in it, put, delete and limit of tables of 1e3, 1e5 and 1e6 rows: the program of this folder, as LLVM builds it,
 # in a copy of the crates that it stands on. The copy is thrown away.
 set -eu
 source "$(dirname "$0")/../in_a_copy.sh"
-in_a_copy tables 'input_tables' 'monoid_laws program_tree meaning input_tables'
+in_a_copy tables 'input_tables toml' 'monoid_laws program_tree meaning input_tables'
 "${RT:-rt}" run
