@@ -3,7 +3,7 @@ ghost use Rattle.std.specs.Prelude.{◌≡◌, ℤ, List, [], OnOk, IfOk, map, o
 ghost use Rattle.monoid_laws.specs.Kinds.{add_at, merge, merged, IsRising};
 ghost use Rattle.cli.specs.Amounts.{summed};
 
-use monoid_laws::sum_of;
+use reducer_values::sum_of;
 use std::alloc::{AllocError, Global};
 use std::collections::BTreeMap;
 

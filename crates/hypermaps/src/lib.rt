@@ -11,7 +11,8 @@ ghost use Rattle.monoid_laws.specs.declared.InjectError.TheVariants.{NoMemory};
 ghost use Rattle.hypermaps.specs.Layer.{Layer, IsLayer, IsAt, operate_first};
 
 use indexmap::IndexSet;
-use monoid_laws::{InjectError, Val, copy_of};
+use monoid_laws::{InjectError, Val};
+use reducer_values::copy_of;
 use std::alloc::{AllocError, Global};
 use std::marker::Model;
 use std::mem;

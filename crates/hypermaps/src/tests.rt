@@ -4,7 +4,8 @@ ghost use Rattle.monoid_laws.specs.declared.Kind.TheVariants.{List as ListKind};
 
 use crate::Hypermap;
 use crate::stubborn::Stubborn;
-use monoid_laws::{Kind, Val, inject};
+use monoid_laws::{Kind, Val};
+use reducer_values::inject;
 use std::alloc::{AllocError, Global};
 use std::sync::Arc;
 use std::sync::atomic::{AtomicUsize, Ordering};

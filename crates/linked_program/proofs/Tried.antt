@@ -2,8 +2,8 @@
 use Rattle.std.proofs.Common.{◌≡◌, ℕ, zero, suc, ◌<◌, Bool, true, false, ◌==◌, ◌&&◌, refl, sym, rules, arith}
 use Rattle.std.proofs.lemmas.Bool.{eqb-true, eqb-false, false_from_ne_true}
 use Rattle.monoid_laws.specs.declared.Table.{Table}
-use Rattle.monoid_laws.specs.declared.table_check.TableAnswer.{TableAnswer}
-use Rattle.monoid_laws.specs.declared.table_check.TableAnswer.TheVariants.{Monoid, NotIdentity, NotAssociative}
+use Rattle.monoid_laws.specs.declared.TableAnswer.{TableAnswer}
+use Rattle.monoid_laws.specs.declared.TableAnswer.TheVariants.{Monoid, NotIdentity, NotAssociative}
 use Rattle.monoid_laws.specs.Kinds.{table_at, IsMonoidTable}
 use Rattle.monoid_laws.specs.Tables.{KeepsUnit, Holds, IsAnswer}
 use Rattle.linked_program.specs.Monoids.{all_below, keeps_unit, agrees, says_monoid, is_monoid_table}

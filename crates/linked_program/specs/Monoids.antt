@@ -3,8 +3,8 @@ use Rattle.std.specs.Prelude.{ℕ, zero, suc, Bool, true, false, ◌==◌, ◌&&
 use Rattle.monoid_laws.specs.declared.Kind.{Kind}
 use Rattle.monoid_laws.specs.declared.Kind.TheVariants as k
 use Rattle.monoid_laws.specs.declared.Table.{Table}
-use Rattle.monoid_laws.specs.declared.table_check.TableAnswer.{TableAnswer}
-use Rattle.monoid_laws.specs.declared.table_check.TableAnswer.TheVariants.{Monoid, NotIdentity, NotAssociative}
+use Rattle.monoid_laws.specs.declared.TableAnswer.{TableAnswer}
+use Rattle.monoid_laws.specs.declared.TableAnswer.TheVariants.{Monoid, NotIdentity, NotAssociative}
 use Rattle.monoid_laws.specs.Kinds.{table_at}
 
 -- the test holds of each number below n

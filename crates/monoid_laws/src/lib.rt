@@ -3,28 +3,12 @@
 
 ghost use Rattle.std.specs.Prelude.{◌≡◌, ℕ, ◌≤◌, ◌<◌, ◌-◌, ◌*◌, drop, replicate, slice_index};
 
-mod adding;
-mod combining;
-mod copying;
-mod elements;
-mod fixed;
-mod joining;
 mod kind_laws;
-mod table_check;
-mod table_rows;
 #[cfg(test)]
 mod tests;
-mod updating;
 
-pub use combining::{combine, identity};
-pub use copying::copy_of;
-pub use elements::inject;
-pub use fixed::sum_of;
 pub use kind_laws::laws_of;
-pub use table_check::{TableAnswer, check_table};
-pub use table_rows::table_of;
 use thiserror::Error;
-pub use updating::add_element;
 
 /// An operation on the numbers below `size`, row by row: `a op b` stands at `a * size + b`. Cells behind the last row are 0.
 #[derive(Clone, Copy, Debug, PartialEq, Eq)]
@@ -79,4 +63,12 @@ pub enum InjectError {
     /// A table has no element of this number.
     #[error("bad element")]
     BadElement,
+}
+
+/// What a look at a table finds: its operation is a monoid, or the first failure of a law.
+#[derive(Clone, Copy, Debug, PartialEq, Eq)]
+pub enum TableAnswer {
+    Monoid,
+    NotIdentity(u8),
+    NotAssociative(u8, u8, u8),
 }

@@ -8,7 +8,8 @@ ghost use Rattle.procedure_parser.specs.Reading.{Gives, with_front, comma_number
 
 use crate::fault::ParseError;
 use crate::front::{front_name, mark, rest_of, starts_name, within, word};
-use monoid_laws::{Kind, table_of};
+use monoid_laws::Kind;
+use reducer_values::table_of;
 use std::alloc::Global;
 use token_scanner::{Mark, Placed};
 

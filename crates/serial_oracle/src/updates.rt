@@ -13,7 +13,8 @@ use crate::scope::Scope;
 use crate::stops::Trouble;
 use crate::{expressions, names};
 use meaning::FaultKind;
-use monoid_laws::{Kind, Val, combine, copy_of, identity, inject, laws_of};
+use monoid_laws::{Kind, Val, laws_of};
+use reducer_values::{combine, copy_of, identity, inject};
 use program_tree::{Declaration, Expr, Program};
 use std::alloc::{AllocError, Global};
 

@@ -14,7 +14,8 @@ use crate::violation::{Place, note_if};
 use crate::walk::note_block;
 use linked_program::tables::TableNames;
 use linked_program::violation::{Rule, Violation};
-use monoid_laws::{Kind, TableAnswer, check_table};
+use monoid_laws::{Kind, TableAnswer};
+use reducer_values::check_table;
 use program_tree::{Declaration, Procedure, Reducer};
 use std::alloc::{AllocError, Global};
 

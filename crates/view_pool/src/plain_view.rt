@@ -3,7 +3,8 @@ ghost use Rattle.std.specs.Prelude.{◌≡◌};
 ghost use Rattle.monoid_laws.specs.Kinds.{identity_of};
 
 use crate::View;
-use monoid_laws::{InjectError, Kind, Val, add_element, combine, copy_of, identity};
+use monoid_laws::{InjectError, Kind, Val};
+use reducer_values::{add_element, combine, copy_of, identity};
 use std::alloc::{AllocError, Global};
 use std::marker::Model;
 use std::mem;

@@ -1,7 +1,8 @@
 //! The trees of programs.
 
 use super::answers::{FIRST, line_and_number, procedure, statement};
-use monoid_laws::{Kind, table_of};
+use monoid_laws::Kind;
+use reducer_values::table_of;
 use procedure_parser::parse;
 use program_tree::{Action, Declaration, Procedure};
 use std::test::Fail;

@@ -4,7 +4,8 @@ ghost use Rattle.monoid_laws.specs.Worth.{items};
 ghost use Rattle.monoid_laws.specs.Kinds.{meaning, IsWorth};
 ghost use Rattle.monoid_laws.specs.declared.Kind.TheVariants.{List as ListKind};
 
-use monoid_laws::{InjectError, Kind, Val, add_element, combine, copy_of, identity};
+use monoid_laws::{InjectError, Kind, Val};
+use reducer_values::{add_element, combine, copy_of, identity};
 use std::alloc::{AllocError, Global};
 use std::marker::Model;
 use std::mem;

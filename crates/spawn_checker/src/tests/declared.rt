@@ -1,7 +1,7 @@
 //! Declarations: names declared twice, `main`, tables of reducers.
 
 use super::*;
-use monoid_laws::table_of;
+use reducer_values::table_of;
 use std::test::Fail;
 
 // The first violation of these declarations, over no tables.

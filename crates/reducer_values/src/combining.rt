@@ -1,0 +1,99 @@
+//! The identity of each kind, and two values of a kind combined.
+ghost use Rattle.std.specs.Prelude.{◌≡◌, OnOk, OnErr, IfErr, IsOk, IsTrue, ◌↔◌, All, [], true, false};
+ghost use Rattle.monoid_laws.specs.Kinds.{operate, identity_of, meaning, IsWorth};
+ghost use Rattle.reducer_values.specs.Forms.{is_fixed, IsBlank};
+
+use crate::adding::combine_amounts;
+use crate::fixed::{combine_fixed, is_fixed};
+use crate::joining::{combine_kept, combine_lists};
+use crate::{Kind, Val};
+use std::alloc::Global;
+
+/// The value that changes nothing. It takes no memory.
+pub fn identity(alloc: Global, kind: Kind) -> Val
+    ensures { meaning result ≡ identity_of kind }
+{
+    match kind {
+        Kind::Add => Val::Int(0),
+        Kind::Mul => Val::Int(1),
+        Kind::Min => Val::Int(i64::MAX),
+        Kind::Max => Val::Int(i64::MIN),
+        Kind::And => Val::Int(-1),
+        Kind::Or => Val::Int(0),
+        Kind::Xor => Val::Int(0),
+        Kind::List => Val::List(Vec::new(alloc)),
+        Kind::First(_) => Val::List(Vec::new(alloc)),
+        Kind::Last(_) => Val::List(Vec::new(alloc)),
+        Kind::Argmax => Val::Arg(None),
+        Kind::Affine => Val::Pair(1, 0),
+        Kind::Hist => Val::Hist(Vec::new(alloc)),
+        Kind::Table(table) => Val::Elem(table.unit),
+    }
+}
+
+/// Whether every piece is empty.
+fn all_empty<T: Drop>(pieces: &[Vec<T>]) -> bool
+    ensures { IsTrue result ↔ All (λ p. p.items ≡ []) pieces.now }
+{
+    for piece in pieces {
+        if !piece.is_empty() {
+            return false;
+        }
+    }
+    true
+}
+
+/// Whether a value is a list or amounts, and holds nothing.
+fn is_blank(value: &Val) -> bool
+    ensures { IsTrue result ↔ IsBlank (meaning value.now) }
+{
+    match value {
+        Val::List(list) => list.is_empty(),
+        Val::Pieces(pieces) => all_empty(pieces),
+        Val::Hist(amounts) => amounts.is_empty(),
+        Val::HistPieces(pieces) => all_empty(pieces),
+        _ => false,
+    }
+}
+
+/// Combines two values of a kind that takes memory.
+fn combine_growing(alloc: Global, kind: Kind, left: &mut Val, right: Val) -> Result<(), Val>
+    requires growing { is_fixed kind ≡ false }
+    requires left_value { IsWorth kind (meaning left.old) }
+    requires right_value { IsWorth kind (meaning right) }
+    ensures combined { OnOk result (meaning left.new ≡ operate kind (meaning left.old) (meaning right)) }
+    ensures refused { OnErr result (meaning left.new ≡ meaning left.old) }
+    ensures handed_back { IfErr result (λ v. v ≡ right) }
+{
+    match kind {
+        Kind::List => combine_lists(left, right),
+        Kind::Hist => combine_amounts(alloc, left, right),
+        _ => combine_kept(alloc, kind, left, right),
+    }
+}
+
+/// Makes `left` the two combined, left then right; where memory is refused, hands `right` back.
+pub fn combine(alloc: Global, kind: Kind, left: &mut Val, right: Val) -> Result<(), Val>
+    requires left_value { IsWorth kind (meaning left.old) }
+    requires right_value { IsWorth kind (meaning right) }
+    ensures combined { OnOk result (meaning left.new ≡ operate kind (meaning left.old) (meaning right)) }
+    ensures refused { OnErr result (meaning left.new ≡ meaning left.old) }
+    ensures handed_back { IfErr result (λ v. v ≡ right) }
+    ensures fixed { is_fixed kind ≡ true → IsOk result }
+    ensures room { meaning left.old ≡ identity_of kind → IsOk result }
+{
+    if is_fixed(kind) {
+        *left = combine_fixed(&kind, left, &right);
+        return Ok(());
+    }
+    match combine_growing(alloc, kind, left, right) {
+        Ok(()) => Ok(()),
+        Err(right) => {
+            if is_blank(left) {
+                *left = right;
+                return Ok(());
+            }
+            Err(right)
+        }
+    }
+}

@@ -1,0 +1,146 @@
+//! Values that take no memory: numbers, pairs and elements of tables.
+ghost use Rattle.std.specs.Prelude.{◌≡◌, ℕ, ◌<◌, ◌+ℤ◌, ◌*ℤ◌, true};
+ghost use Rattle.monoid_laws.specs.Worth.{Worth, number, the_number, the_best, the_factor, the_term, the_element};
+ghost use Rattle.monoid_laws.specs.Kinds.{wrap, operate, meaning, better, IsWorth, IsNumberKind};
+ghost use Rattle.reducer_values.specs.Forms.{is_fixed};
+ghost use Rattle.monoid_laws.specs.declared.Kind.TheVariants as kinds;
+
+use crate::table_check::entry;
+use crate::{Kind, Val};
+
+/// The sum, wrapped to 64 bits.
+pub fn sum_of(a: i64, b: i64) -> i64
+    ensures { result ≡ wrap (a +ℤ b) }
+{
+    a.wrapping_add(b)
+}
+
+/// The product, wrapped to 64 bits.
+pub(crate) fn product_of(a: i64, b: i64) -> i64
+    ensures { result ≡ wrap (a *ℤ b) }
+{
+    a.wrapping_mul(b)
+}
+
+/// Whether the values of a kind take no memory.
+pub(crate) fn is_fixed(kind: Kind) -> bool
+    ensures { result ≡ is_fixed kind }
+{
+    match kind {
+        Kind::List => false,
+        Kind::First(_) => false,
+        Kind::Last(_) => false,
+        Kind::Hist => false,
+        _ => true,
+    }
+}
+
+/// The number, or 0 at a value of another form.
+pub(crate) fn number_of(value: &Val) -> i64
+    ensures { result ≡ the_number (meaning value.now) }
+{
+    match value {
+        Val::Int(number) => *number,
+        _ => 0,
+    }
+}
+
+/// The best pair, or none at a value of another form.
+fn best_of(value: &Val) -> Option<(i64, i64)>
+    ensures { result ≡ the_best (meaning value.now) }
+{
+    match value {
+        Val::Arg(best) => *best,
+        _ => None,
+    }
+}
+
+/// The factor, or 0 at a value of another form.
+fn factor_of(value: &Val) -> i64
+    ensures { result ≡ the_factor (meaning value.now) }
+{
+    match value {
+        Val::Pair(factor, _) => *factor,
+        _ => 0,
+    }
+}
+
+/// The term, or 0 at a value of another form.
+fn term_of(value: &Val) -> i64
+    ensures { result ≡ the_term (meaning value.now) }
+{
+    match value {
+        Val::Pair(_, term) => *term,
+        _ => 0,
+    }
+}
+
+/// The element, or 0 at a value of another form.
+fn element_in(value: &Val) -> u8
+    ensures { result ≡ the_element (meaning value.now) }
+{
+    match value {
+        Val::Elem(element) => *element,
+        _ => 0,
+    }
+}
+
+/// The pair with the greater first number, the left one on ties.
+fn better(left: Option<(i64, i64)>, right: Option<(i64, i64)>) -> Option<(i64, i64)>
+    ensures { result ≡ better left right }
+{
+    match (left, right) {
+        (None, _) => right,
+        (Some(_), None) => left,
+        (Some(held), Some(more)) => {
+            if held.0 < more.0 {
+                Some(more)
+            } else {
+                Some(held)
+            }
+        }
+    }
+}
+
+/// Combines two numbers by a kind of numbers.
+pub(crate) fn combine_numbers(kind: &Kind, left: i64, right: i64) -> i64
+    ensures { (x y : Worth) → left ≡ the_number x → right ≡ the_number y → IsNumberKind kind.now → operate kind.now x y ≡ number result }
+{
+    match kind {
+        Kind::Add => sum_of(left, right),
+        Kind::Mul => product_of(left, right),
+        Kind::Min => left.min(right),
+        Kind::Max => left.max(right),
+        Kind::And => left & right,
+        Kind::Or => left | right,
+        Kind::Xor => left ^ right,
+        _ => left,
+    }
+}
+
+/// The second map after the first.
+fn combine_lines(left: &Val, right: &Val) -> Val
+    ensures { meaning result ≡ operate kinds.Affine (meaning left.now) (meaning right.now) }
+{
+    let factor = factor_of(right);
+    let moved = product_of(factor, term_of(left));
+    Val::Pair(
+        product_of(factor_of(left), factor),
+        sum_of(moved, term_of(right)),
+    )
+}
+
+/// Combines two values of a kind that takes no memory.
+pub(crate) fn combine_fixed(kind: &Kind, left: &Val, right: &Val) -> Val
+    requires fixed { is_fixed kind.now ≡ true }
+    requires left_value { IsWorth kind.now (meaning left.now) }
+    requires right_value { IsWorth kind.now (meaning right.now) }
+    ensures { meaning result ≡ operate kind.now (meaning left.now) (meaning right.now) }
+{
+    match kind {
+        Kind::Argmax => Val::Arg(better(best_of(left), best_of(right))),
+        Kind::Affine => combine_lines(left, right),
+        Kind::Table(table) => Val::Elem(entry(table, element_in(left), element_in(right))),
+        _ => Val::Int(combine_numbers(kind, number_of(left), number_of(right))),
+    }
+}

@@ -1,0 +1,165 @@
+//! Updates in place: a number behind a list, an amount at a key.
+ghost use Rattle.std.specs.Prelude.{◌≡◌, ℕ, ◌≤◌, OnOk, OnErr, IfErr, IsOk, ◌++◌, ◌∷◌, [], take, length, true};
+ghost use Rattle.monoid_laws.specs.Worth.{items, amounts, the_amounts};
+ghost use Rattle.monoid_laws.specs.Kinds.{last_of, merge, meaning, operate, element_of, arity, names_element, refusal, IsWorth, IsAmounts, IsNumberKind};
+ghost use Rattle.reducer_values.specs.Forms.{kept, is_fixed, IsListKind};
+
+use crate::adding::add_amount;
+use crate::elements::{one_amount, one_number};
+use crate::fixed::{combine_fixed, combine_numbers, number_of};
+use crate::{InjectError, Kind, Val, combine, inject};
+use std::alloc::{AllocError, Global};
+
+/// Puts a number behind the first `n` of a list, where there is room for it.
+fn push_first(list: &mut Vec<i64>, n: usize, number: i64) -> Result<(), AllocError>
+    requires { length list.old.items ≤ n }
+    ensures pushed { OnOk result (list.new.items ≡ take n (list.old.items ++ take n (number ∷ []))) }
+    ensures refused { OnErr result (list.new.items ≡ list.old.items) }
+{
+    if list.len() == n {
+        return Ok(());
+    }
+    match list.push(number) {
+        Ok(()) => Ok(()),
+        Err(_) => Err(AllocError),
+    }
+}
+
+/// Puts a number behind the last `n` of a list; a full list loses its oldest number.
+fn push_last(list: &mut Vec<i64>, n: usize, number: i64) -> Result<(), AllocError>
+    requires { length list.old.items ≤ n }
+    ensures pushed { OnOk result (list.new.items ≡ last_of n (list.old.items ++ last_of n (number ∷ []))) }
+    ensures refused { OnErr result (list.new.items ≡ list.old.items) }
+{
+    if n == 0 {
+        return Ok(());
+    }
+    if list.len() == n {
+        list.remove(0);
+        list.push_reserved(number);
+        return Ok(());
+    }
+    match list.push(number) {
+        Ok(()) => Ok(()),
+        Err(_) => Err(AllocError),
+    }
+}
+
+/// Puts a number behind a list and keeps what the kind keeps.
+fn push_kept(kind: &Kind, list: &mut Vec<i64>, number: i64) -> Result<(), AllocError>
+    requires { IsWorth kind.now (items list.old.items) }
+    ensures pushed { OnOk result (list.new.items ≡ kept kind.now (list.old.items ++ kept kind.now (number ∷ []))) }
+    ensures refused { OnErr result (list.new.items ≡ list.old.items) }
+{
+    match kind {
+        Kind::First(n) => push_first(list, *n as usize, number),
+        Kind::Last(n) => push_last(list, *n as usize, number),
+        _ => match list.push(number) {
+            Ok(()) => Ok(()),
+            Err(_) => Err(AllocError),
+        },
+    }
+}
+
+/// Puts a number behind a value that is a list; a whole one takes it in place.
+fn add_number(alloc: Global, kind: &Kind, value: &mut Val, number: i64) -> Result<(), AllocError>
+    requires listed { IsListKind kind.now }
+    requires of_kind { IsWorth kind.now (meaning value.old) }
+    ensures added { OnOk result (meaning value.new ≡ operate kind.now (meaning value.old) (element_of kind.now (number ∷ []))) }
+    ensures refused { OnErr result (meaning value.new ≡ meaning value.old) }
+{
+    match value {
+        Val::List(list) => push_kept(kind, list, number),
+        other => {
+            let element = one_number(alloc, *kind, number)?;
+            match combine(alloc, *kind, other, element) {
+                Ok(()) => Ok(()),
+                Err(_) => Err(AllocError),
+            }
+        }
+    }
+}
+
+/// Adds an amount at a key to a value that is amounts; a whole one takes it in place.
+fn add_at_key(alloc: Global, value: &mut Val, key: i64, amount: i64) -> Result<(), AllocError>
+    requires { IsAmounts (meaning value.old) }
+    ensures added { OnOk result (meaning value.new ≡ amounts (merge (the_amounts (meaning value.old)) ((key, amount) ∷ []))) }
+    ensures refused { OnErr result (meaning value.new ≡ meaning value.old) }
+{
+    match value {
+        Val::Hist(held) => add_amount(held, key, amount),
+        other => {
+            let element = one_amount(alloc, key, amount)?;
+            match combine(alloc, Kind::Hist, other, element) {
+                Ok(()) => Ok(()),
+                Err(_) => Err(AllocError),
+            }
+        }
+    }
+}
+
+/// Combines a number on the right of a value of a kind of numbers.
+fn add_to_number(kind: &Kind, value: &mut Val, number: i64)
+    requires { IsNumberKind kind.now }
+    ensures { meaning value.new ≡ operate kind.now (meaning value.old) (element_of kind.now (number ∷ [])) }
+{
+    match value {
+        Val::Int(held) => *held = combine_numbers(kind, *held, number),
+        other => *other = Val::Int(combine_numbers(kind, number_of(other), number)),
+    }
+}
+
+/// Combines an element that takes no memory on the right of a value.
+fn add_fixed(
+    alloc: Global,
+    kind: &Kind,
+    value: &mut Val,
+    numbers: &[i64],
+) -> Result<(), InjectError>
+    requires fixed { is_fixed kind.now ≡ true }
+    requires count { length numbers.now ≡ arity kind.now }
+    requires of_kind { IsWorth kind.now (meaning value.old) }
+    ensures combined { OnOk result (meaning value.new ≡ operate kind.now (meaning value.old) (element_of kind.now numbers.now)) }
+    ensures element { OnOk result (IsWorth kind.now (element_of kind.now numbers.now)) }
+    ensures named { OnOk result (names_element kind.now numbers.now ≡ true) }
+    ensures refused { OnErr result (meaning value.new ≡ meaning value.old) }
+    ensures cause { IfErr result (λ e. e ≡ refusal kind.now numbers.now) }
+    ensures succeeds { names_element kind.now numbers.now ≡ true → IsOk result }
+{
+    let element = inject(alloc, *kind, numbers)?;
+    *value = combine_fixed(kind, value, &element);
+    Ok(())
+}
+
+/// Combines the element that the numbers name on the right of a value. An error is BadElement, where a table has no such element, or NoMemory; the value is then worth the same as before.
+pub fn add_element(
+    alloc: Global,
+    kind: &Kind,
+    value: &mut Val,
+    numbers: &[i64],
+) -> Result<(), InjectError>
+    requires count { length numbers.now ≡ arity kind.now }
+    requires of_kind { IsWorth kind.now (meaning value.old) }
+    ensures combined { OnOk result (meaning value.new ≡ operate kind.now (meaning value.old) (element_of kind.now numbers.now)) }
+    ensures element { OnOk result (IsWorth kind.now (element_of kind.now numbers.now)) }
+    ensures named { OnOk result (names_element kind.now numbers.now ≡ true) }
+    ensures refused { OnErr result (meaning value.new ≡ meaning value.old) }
+    ensures cause { IfErr result (λ e. e ≡ refusal kind.now numbers.now) }
+    ensures fixed { is_fixed kind.now ≡ true → names_element kind.now numbers.now ≡ true → IsOk result }
+{
+    let added = match kind {
+        Kind::List | Kind::First(_) | Kind::Last(_) => add_number(alloc, kind, value, numbers[0]),
+        Kind::Hist => add_at_key(alloc, value, numbers[0], numbers[1]),
+        Kind::Argmax | Kind::Affine | Kind::Table(_) => return add_fixed(
+            alloc, kind, value, numbers,
+        ),
+        _ => {
+            add_to_number(kind, value, numbers[0]);
+            return Ok(());
+        }
+    };
+    match added {
+        Ok(()) => Ok(()),
+        Err(_) => Err(InjectError::NoMemory),
+    }
+}

@@ -1,0 +1,31 @@
+#!/usr/bin/env bash
+# Runs cilkreport with the words given, compiled with run-time checks, and proves nothing. It takes about a minute each time.
+set -u
+top=$(cd "$(dirname "$(readlink -f "$0")")/.." && pwd)
+echo "quick: built with run-time checks, and nothing is proved" >&2
+words=()
+copies=()
+number=0
+# The program runs in a new folder, into which each file that a word names is copied.
+for word in "$@"; do
+  if [ -f "$word" ]; then
+    case $word in
+      /* | ../* | */../* | program* | std*)
+        number=$((number + 1))
+        name="file$number/$(basename "$word")"
+        ;;
+      *) name=$word ;;
+    esac
+    copies+=(--data "$name=$(readlink -f "$word")")
+    word=$name
+  fi
+  words+=("$word")
+done
+cd "$top/crates/cilkreport" || exit 70
+said=$(mktemp)
+trap 'rm -f "$said"' EXIT
+rt try "${copies[@]}" -- "${words[@]}" 2>"$said"
+status=$?
+# What `rt try` itself says ends in this word.
+grep -v ' proved=no$' "$said" >&2
+exit "$status"
