@@ -27,5 +27,5 @@ trap 'rm -f "$said"' EXIT
 rt try "${copies[@]}" -- "${words[@]}" 2>"$said"
 status=$?
 # What `rt try` itself says ends in this word.
-grep -v ' proved=no$' "$said" >&2
+grep -Ev '^(checked|races|steps|interpreted): | proved=no$' "$said" >&2
 exit "$status"
