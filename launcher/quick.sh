@@ -26,6 +26,6 @@ said=$(mktemp)
 trap 'rm -f "$said"' EXIT
 rt try "${copies[@]}" -- "${words[@]}" 2>"$said"
 status=$?
-# What `rt try` itself says ends in this word.
+# Without what `rt try` says of its own.
 grep -Ev '^(checked|races|steps|interpreted): | proved=no$' "$said" >&2
 exit "$status"
