@@ -12,8 +12,6 @@ mod joining;
 mod kind_laws;
 mod table_check;
 mod table_rows;
-#[cfg(test)]
-mod tests;
 mod updating;
 
 pub use combining::{combine, identity};

@@ -1,12 +1,15 @@
 //! Procedures that are defined in programs.
 
-use super::answers::{Answer, FIRST, line_and_number, outcome_of, procedure, wrapped};
+use super::answers::{Answer, FIRST, outcome_of, wrapped};
+use super::facts::Declared::{Procedure, Reducer};
+use super::facts::{Fact, are_declared, hold};
 use procedure_parser::{parse, parse_define};
+use program_edits::with_procedures;
 use program_tree::Program;
 use std::alloc::Global;
 use std::test::Fail;
 
-/// Whether a text is refused at this line where it is to define procedures of the first program.
+/// Whether a text is refused at this line where it is to define procedures of a program.
 fn refused_at(alloc: Global, program: &Program, text: &[u8], line: u32) -> bool {
     outcome_of(&parse_define(alloc, text, program)) == Answer::Fault(line)
 }
@@ -14,10 +17,14 @@ fn refused_at(alloc: Global, program: &Program, text: &[u8], line: u32) -> bool 
 #[test]
 fn no_procedures(rt: HostRuntime) -> Result<(), Fail> {
     let program = parse(rt.alloc(), FIRST.as_bytes())?;
-    assert!(rt; refused_at(rt.alloc(), &program, b"# nothing\n", 2));
-    assert!(rt; refused_at(rt.alloc(), &program, b"\nreducer r : add;", 2));
-    assert!(rt; refused_at(rt.alloc(), &program, b"proc a() { }\nreducer r : add;", 2));
-    assert!(rt; refused_at(rt.alloc(), &program, b"memo proc", 1));
+    for (text, line) in [
+        ("# nothing\n", 2),
+        ("\nreducer r : add;", 2),
+        ("proc a() { }\nreducer r : add;", 2),
+        ("memo proc", 1),
+    ] {
+        assert!(rt; refused_at(rt.alloc(), &program, text.as_bytes(), line));
+    }
     Ok(())
 }
 
@@ -26,18 +33,47 @@ fn replaced(rt: HostRuntime) -> Result<(), Fail> {
     let program = parse(rt.alloc(), FIRST.as_bytes())?;
     let text = b"\n\nproc new() { }\nmemo proc leaf(v, w) {\nreturn w; }";
     let after = parse_define(rt.alloc(), text, &program)?;
-    assert_eq!(rt; after.declarations.len(), 4);
-    let leaf = procedure(&after, 1).expect(&rt, "a procedure");
-    assert!(rt; leaf.memo);
-    assert_eq!(rt; leaf.line, 4);
-    assert_eq!(rt; leaf.parameters, 2);
-    assert_eq!(rt; line_and_number(leaf, 0, 0), (5, 1));
-    let main = procedure(&after, 2).expect(&rt, "a procedure");
-    assert_eq!(rt; main.line, 3);
-    assert_eq!(rt; line_and_number(main, 0, 4), (3, 5));
-    let new = procedure(&after, 3).expect(&rt, "a procedure");
-    assert_eq!(rt; new.name.as_str(), "new");
+    let wanted = [
+        Reducer("total", 1),
+        Procedure("leaf", 4),
+        Procedure("main", 3),
+        Procedure("new", 3),
+    ];
+    let leaf = [Fact::Memo(true), Fact::Parameters(2), Fact::At(0, 0, 5, 1)];
+    assert!(rt; are_declared(&after, &wanted));
+    assert!(rt; hold(&after, 1, &leaf) && hold(&after, 2, &[Fact::At(0, 4, 3, 5)]));
     Ok(())
+}
+
+/// One in the place of the one of its name, a second one behind it, and a new name last; or nothing at all.
+#[test]
+fn put_in(rt: HostRuntime) -> Result<(), Fail> {
+    let before = parse(rt.alloc(), b"proc a() { }\nreducer r : add;\nproc b() { }")?;
+    let text = b"\n\n\n\n\nmemo proc c() { }\nmemo proc a() { }\nmemo proc a() { }";
+    let after = parse_define(rt.alloc(), text, &before)?;
+    let wanted = [
+        Procedure("a", 7),
+        Procedure("a", 8),
+        Reducer("r", 2),
+        Procedure("b", 3),
+        Procedure("c", 6),
+    ];
+    assert!(rt; are_declared(&after, &wanted));
+    assert!(rt; are_memo(&after, &[true, true, false, false, true]));
+    let same = with_procedures(rt.alloc(), &before, &Vec::new(rt.alloc()))?;
+    let old = [Procedure("a", 1), Reducer("r", 2), Procedure("b", 3)];
+    assert!(rt; are_declared(&same, &old) && are_declared(&before, &old));
+    Ok(())
+}
+
+/// Whether those of the declarations that are procedures with a memo mark are these.
+fn are_memo(program: &Program, wanted: &[bool]) -> bool {
+    for place in 0..wanted.len() {
+        if hold(program, place, &[Fact::Memo(true)]) != wanted[place] {
+            return false;
+        }
+    }
+    true
 }
 
 /// A text that is one byte too long has line 0, one that just fits and defines nothing that of its end.
@@ -56,34 +92,28 @@ fn lengths(rt: HostRuntime) -> Result<(), Fail> {
 fn room_for_one(rt: HostRuntime) -> Result<(), Fail> {
     let text = wrapped(rt.alloc(), "proc q() { }", "proc p() { }", "", "", "", 254)?;
     let program = parse(rt.alloc(), &text)?;
-    let fits = parse_define(rt.alloc(), b"proc new() { } proc q() { }", &program);
-    assert_eq!(rt; outcome_of(&fits), Answer::Read(256));
-    assert!(rt; refused_at(rt.alloc(), &program, b"proc new() { }\nproc\nold() { }", 3));
-    assert!(rt;
-        refused_at(
-            rt.alloc(),
-            &program,
-            b"proc q() { }\nproc q() { }\nproc\nq() { }",
-            4
-        )
-    );
+    for (text, wanted) in [
+        ("proc new() { } proc q() { }", Answer::Read(256)),
+        ("proc new() { }\nproc\nold() { }", Answer::Fault(3)),
+        (
+            "proc q() { }\nproc q() { }\nproc\nq() { }",
+            Answer::Fault(4),
+        ),
+    ] {
+        let after = parse_define(rt.alloc(), text.as_bytes(), &program);
+        assert_eq!(rt; outcome_of(&after), wanted);
+    }
     Ok(())
 }
 
-/// How many parameters each of the first three declarations has, as a procedure.
-fn parameters_in_front(program: &Program) -> [usize; 3] {
-    [
-        parameters(program, 0),
-        parameters(program, 1),
-        parameters(program, 2),
-    ]
-}
-
-fn parameters(program: &Program, place: usize) -> usize {
-    match procedure(program, place) {
-        Some(procedure) => procedure.parameters as usize,
-        None => 0,
+/// Whether the first three declarations are procedures of so many parameters.
+fn begins_with(program: &Program, parameters: &[usize; 3]) -> bool {
+    for place in 0..3 {
+        if !hold(program, place, &[Fact::Parameters(parameters[place])]) {
+            return false;
+        }
     }
+    true
 }
 
 /// A program of two procedures f and so many others, each of a name of its own.
@@ -100,11 +130,13 @@ fn with_two(alloc: Global, others: usize) -> Result<Program, Fail> {
 #[test]
 fn two_of_one_name(rt: HostRuntime) -> Result<(), Fail> {
     let full = with_two(rt.alloc(), 254)?;
-    assert_eq!(rt; full.declarations.len(), 256);
     assert!(rt; refused_at(rt.alloc(), &full, b"proc f() { }\nproc f() { }", 2));
     let after = parse_define(rt.alloc(), b"proc f(v) { return v; }", &full)?;
-    assert_eq!(rt; parameters_in_front(&after), [0, 1, 0]);
-    assert_eq!(rt; after.declarations.len(), 256);
+    assert!(rt; begins_with(&after, &[0, 1, 0]));
+    assert_eq!(rt;
+        (full.declarations.len(), after.declarations.len()),
+        (256, 256)
+    );
     Ok(())
 }
 
@@ -114,8 +146,7 @@ fn one_more_of_a_name(rt: HostRuntime) -> Result<(), Fail> {
     let program = with_two(rt.alloc(), 253)?;
     let text = b"proc f(v) { }\nproc f(v, w) { }";
     let after = parse_define(rt.alloc(), text, &program)?;
-    assert_eq!(rt; parameters_in_front(&after), [0, 1, 2]);
-    assert_eq!(rt; after.declarations.len(), 256);
+    assert!(rt; begins_with(&after, &[0, 1, 2]) && after.declarations.len() == 256);
     assert!(rt; refused_at(rt.alloc(), &after, b"proc f() { }\nproc\nf() { }", 3));
     Ok(())
 }

@@ -2,8 +2,9 @@
 
 use printing_theory::{print, print_and_parse};
 use procedure_parser::{TextError, parse, parse_define};
-use program_tree::{Declaration, Program};
+use program_tree::{Action, Declaration, Program};
 use std::alloc::Global;
+use std::mem;
 use std::test::Fail;
 use tree_equality::same_procedure;
 
@@ -77,6 +78,14 @@ fn texts(rt: HostRuntime) -> Result<(), Fail> {
             "reducer a : table 2 unit 1 [0, 1, 1, 0]; reducer b : first 3;\nproc main() { x = - 1; if has t[x] != 0 { } else { update b (x - 1) * 2 % 3; } cilk_for i in 0 .. limit t grain 2 : f(t[i].q); }",
             "reducer a : table 2 unit 1 [ 0 , 1 , 1 , 0 ] ;\nreducer b : first 3 ;\nproc main ( ) {\nx = ( - 1 ) ;\nif ( has t [ x ] != 0 ) {\n} else {\nupdate b ( ( ( x - 1 ) * 2 ) % 3 ) ;\n}\ncilk_for i in 0 .. limit t grain 2 : f ( t [ i ] . q ) ;\n}\n",
         ),
+        (
+            "proc p(a, b) { if -a { sync; } else { return b; } }\nreducer r : last 4096;",
+            "proc p ( a , b ) {\nif ( - a ) {\nsync ;\n} else {\nreturn b ;\n}\n}\nreducer r : last 4096 ;\n",
+        ),
+        (
+            "reducer m : table 3 unit 0 [0, 1, 2, 1, 2, 1, 2, 2, 2];",
+            "reducer m : table 3 unit 0 [ 0 , 1 , 2 , 1 , 2 , 1 , 2 , 2 , 2 ] ;\n",
+        ),
     ] {
         let program = parse(rt.alloc(), text.as_bytes())?;
         assert!(rt; prints_as(rt.alloc(), &program, wanted)?);
@@ -113,5 +122,56 @@ fn defined_twice(rt: HostRuntime) -> Result<(), Fail> {
     let between = parse_define(rt.alloc(), first, &before)?;
     let program = parse_define(rt.alloc(), second, &between)?;
     assert!(rt; prints_as(rt.alloc(), &program, wanted)?);
+    Ok(())
+}
+
+/// The first statement of a program, where it is an `if`, with its two blocks exchanged.
+fn exchanged(program: &mut Program) {
+    if let Some(Declaration::Procedure(procedure)) = program.declarations.first_mut() {
+        if let Some(block) = procedure.blocks.first_mut() {
+            if let Some(statement) = block.statements.first_mut() {
+                match &mut statement.action {
+                    Action::If(_, first, second) => mem::swap(first, second),
+                    _ => {}
+                }
+            }
+        }
+    }
+}
+
+/// Blocks are found by their numbers, in whatever order they stand.
+#[test]
+fn blocks_in_another_order(rt: HostRuntime) -> Result<(), Fail> {
+    let text = b"proc p(a) { if a { return 1; } else { sync; } }";
+    let mut program = parse(rt.alloc(), text)?;
+    exchanged(&mut program);
+    let wanted = b"proc p ( a ) {\nif a {\nsync ;\n} else {\nreturn 1 ;\n}\n}\n";
+    assert!(rt; print(rt.alloc(), &program)?.as_slice() == wanted.as_slice());
+    Ok(())
+}
+
+/// Whether two texts of one procedure each have the same tree of it, lines aside.
+fn are_same(alloc: Global, left: &str, right: &str) -> Result<bool, TextError> {
+    let left = parse(alloc, left.as_bytes())?;
+    let right = parse(alloc, right.as_bytes())?;
+    Ok(same_program(&left, &right))
+}
+
+#[test]
+fn trees_without_lines(rt: HostRuntime) -> Result<(), Fail> {
+    for (left, right, wanted) in [
+        (
+            "proc leaf() { return 3; }",
+            "\n\n\n\n\n\n\nproc leaf() { return 3; }",
+            true,
+        ),
+        (
+            "proc leaf() { return 3; }",
+            "proc leaf() { return 4; }",
+            false,
+        ),
+    ] {
+        assert_eq!(rt; are_same(rt.alloc(), left, right)?, wanted);
+    }
     Ok(())
 }
