@@ -78,7 +78,14 @@ fn over_boxes(rt: &impl Abort, alloc: Global, refuses: Refuses, line: &str) -> (
 
 /// Lines over lists that refuse so: what is refused, the strands, whether the run is over, and the answer.
 const ROWS: [(Refuses, &str, &str, &str, bool, &str); 7] = [
-    (Refuses::Nothing, "", "", "root held by 0", false, "unfinished"),
+    (
+        Refuses::Nothing,
+        "",
+        "",
+        "root held by 0",
+        false,
+        "unfinished",
+    ),
     (
         Refuses::Nothing,
         "W0* P0 S10",

@@ -29,7 +29,13 @@ const ROWS: [(&str, usize, &str, &str, &str); 13] = [
     (FIRST_TWO, 3, TWO_STEALS, "result 3; 1 2", TWO_FOLDS),
     (LAST_TWO, 3, TWO_STEALS, "result 3; 2 9", TWO_FOLDS),
     (AFFINE, 2, STOLEN_ONCE, "result 0; 6 7", FOLDED_ONCE),
-    (WRAPPING, 2, STOLEN_ONCE, "result 0; -9223372036854775808", FOLDED_ONCE),
+    (
+        WRAPPING,
+        2,
+        STOLEN_ONCE,
+        "result 0; -9223372036854775808",
+        FOLDED_ONCE,
+    ),
     (TABLE, 2, STOLEN_ONCE, "result 0; 2", FOLDED_ONCE),
     (
         LOOP,
