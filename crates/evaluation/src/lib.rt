@@ -8,6 +8,4 @@ mod operators;
 pub mod ranges;
 pub mod slot;
 pub mod stop;
-#[cfg(test)]
-mod tests;
 pub mod values;

@@ -18,11 +18,6 @@ use std::marker::Model;
 use std::mem;
 use view_pool::{Kit, View};
 
-#[cfg(test)]
-mod stubborn;
-#[cfg(test)]
-mod tests;
-
 /// The views of a kit, and the reducers that were used, in the order of their first use.
 #[derive(Drop)]
 pub struct Hypermap<V: View = Box<dyn View>> {

@@ -11,6 +11,3 @@ mod tables;
 
 pub use refusal::{EditError, TablesError};
 pub use tables::Tables;
-
-#[cfg(test)]
-mod tests;

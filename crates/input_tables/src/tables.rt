@@ -304,14 +304,3 @@ fn unedited(listed: Vec<Table>) -> Tables
 {
     Tables { listed, edits: 0 }
 }
-
-#[cfg(test)]
-impl Tables {
-    /// The tables, with so many edits counted.
-    pub fn with_edits(self, edits: u64) -> Tables {
-        Tables {
-            listed: self.listed,
-            edits,
-        }
-    }
-}

@@ -4,8 +4,6 @@
 ghost use Rattle.std.specs.Prelude.{◌≡◌, ℕ, ◌≤◌, ◌<◌, ◌-◌, ◌*◌, drop, replicate, slice_index};
 
 mod kind_laws;
-#[cfg(test)]
-mod tests;
 
 pub use kind_laws::laws_of;
 use thiserror::Error;

@@ -2,7 +2,9 @@
 
 mod answers;
 mod definitions;
+mod facts;
 mod limits;
 mod printing;
 mod programs;
 mod refusals;
+mod tokens;

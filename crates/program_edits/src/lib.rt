@@ -5,6 +5,3 @@ mod copies;
 mod putting;
 
 pub use putting::with_procedures;
-
-#[cfg(test)]
-mod tests;

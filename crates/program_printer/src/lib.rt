@@ -10,6 +10,3 @@ mod statement;
 
 pub use laws::laws_of_printing;
 pub use program::print;
-
-#[cfg(test)]
-mod tests;

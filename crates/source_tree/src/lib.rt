@@ -11,6 +11,3 @@ mod terms;
 pub use laws::laws_of_settled_trees;
 pub use lowering::{lower, lower_procedure};
 pub use source::{Declaration, Expr, Measured, Procedure, Reducer, Statement};
-
-#[cfg(test)]
-mod tests;

@@ -6,6 +6,3 @@ mod token;
 
 pub use scanning::{line_ends, tokens};
 pub use token::{Mark, Placed, Token, same};
-
-#[cfg(test)]
-mod tests;

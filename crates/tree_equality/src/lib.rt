@@ -7,6 +7,3 @@ mod expressions;
 mod procedures;
 
 pub use procedures::same_procedure;
-
-#[cfg(test)]
-mod tests;

@@ -4,8 +4,6 @@
 mod kit;
 mod plain_view;
 mod pool;
-#[cfg(test)]
-mod tests;
 mod view;
 
 pub use kit::Kit;

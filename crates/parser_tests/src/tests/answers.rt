@@ -1,7 +1,7 @@
 //! What texts are read as, and the texts that are built.
 
 use procedure_parser::{TextError, parse};
-use program_tree::{Declaration, Procedure, Program, Statement};
+use program_tree::Program;
 use std::alloc::{AllocError, Global};
 
 /// The first program: 20 bytes of a reducer, then two procedures, each on a line of its own.
@@ -54,28 +54,4 @@ pub fn wrapped(
     fill(&mut text, closing, times)?;
     fill(&mut text, end, 1)?;
     Ok(text)
-}
-
-/// The procedure at a place among the declarations.
-pub fn procedure(program: &Program, place: usize) -> Option<&Procedure> {
-    match program.declarations.get(place) {
-        Some(Declaration::Procedure(procedure)) => Some(procedure),
-        _ => None,
-    }
-}
-
-/// The statement at a place of a block.
-pub fn statement(procedure: &Procedure, block: usize, place: usize) -> Option<&Statement> {
-    match procedure.blocks.get(block) {
-        Some(block) => block.statements.get(place),
-        None => None,
-    }
-}
-
-/// The line and the number of a statement; zeros where there is none.
-pub fn line_and_number(procedure: &Procedure, block: usize, place: usize) -> (u32, u32) {
-    match statement(procedure, block, place) {
-        Some(statement) => (statement.line, statement.number),
-        None => (0, 0),
-    }
 }

@@ -2,7 +2,6 @@
 
 use super::answers::Answer::{Fault, Read};
 use super::answers::{FIRST, read_as, wrapped};
-use std::test::Fail;
 
 const RETURN: &str = "proc main() { return ";
 
@@ -12,7 +11,7 @@ const TABLE: &str = "reducer t : table 16 unit 15 [0";
 
 /// The token with which a limit is passed stands on a line of its own.
 #[test]
-fn nesting(rt: HostRuntime) -> Result<(), Fail> {
+fn nesting(rt: HostRuntime) {
     for (front, opening, inside, closing, end, times, wanted) in [
         ("proc main() {", " if 1\n{", "", "}", "}", 31, Read(1)),
         ("proc main() {", " if 1\n{", "", "}", "}", 32, Fault(33)),
@@ -34,14 +33,13 @@ fn nesting(rt: HostRuntime) -> Result<(), Fail> {
         (RETURN, "a\n+\n", "a", "", "; }", 63, Read(1)),
         (RETURN, "a\n+\n", "a", "", "; }", 64, Fault(128)),
     ] {
-        let text = wrapped(rt.alloc(), front, opening, inside, closing, end, times)?;
-        assert_eq!(rt; read_as(rt.alloc(), &text), wanted);
+        let text = wrapped(rt.alloc(), front, opening, inside, closing, end, times);
+        assert_eq!(rt; read_as(rt.alloc(), &text.expect(&rt, "memory")), wanted);
     }
-    Ok(())
 }
 
 #[test]
-fn counts(rt: HostRuntime) -> Result<(), Fail> {
+fn counts(rt: HostRuntime) {
     let left = 1_048_576usize.saturating_sub(FIRST.len());
     for (front, piece, end, times, wanted) in [
         ("proc main(a", ",\na", ") { }", 7, Read(1)),
@@ -60,10 +58,9 @@ fn counts(rt: HostRuntime) -> Result<(), Fail> {
         ("", " ", "", 1_048_577, Fault(0)),
         (FIRST, " ", "", left, Read(3)),
     ] {
-        let text = wrapped(rt.alloc(), front, piece, end, "", "", times)?;
-        assert_eq!(rt; read_as(rt.alloc(), &text), wanted);
+        let text = wrapped(rt.alloc(), front, piece, end, "", "", times);
+        assert_eq!(rt; read_as(rt.alloc(), &text.expect(&rt, "memory")), wanted);
     }
-    Ok(())
 }
 
 #[test]

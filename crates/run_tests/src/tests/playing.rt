@@ -32,6 +32,13 @@ pub struct Played {
     pub answer: String,
 }
 
+impl Played {
+    /// Whether these steps were refused, and this is the answer.
+    pub fn leads_to(&self, refused: &str, answer: &str) -> bool {
+        self.refused.as_str() == refused && self.answer.as_str() == answer
+    }
+}
+
 /// The program that a text is.
 pub fn checked(rt: &impl Abort, alloc: Global, text: &str, tables: &Tables) -> Checked
     ensures tables { result.tables ≡ columned_of tables.now.tables }

@@ -299,110 +299,101 @@ fn faults_with(
     Ok(right && kits == KITS && is_slow_answer(alloc, &program, &answer)?)
 }
 
+/// Programs with the result and the reducers' values that each ends with, however often its continuations are stolen.
+const ENDING: [(&str, i64, &[Wanted]); 4] = [
+    (
+        "reducer seen : list; proc leaf(v) { update seen v; update seen v + 1; return v * v; } proc main() { update seen 7; x = spawn leaf(2); y = spawn leaf(5); update seen 9; sync; update seen 8; return 100 * x + y; }",
+        425,
+        &[Wanted::List(&[7, 2, 3, 5, 6, 9, 8])],
+    ),
+    // Called procedures that spawn.
+    (
+        "reducer seen : list; proc f(v) { update seen v; if v < 2 { return v; } x = spawn f(v - 1); y = call f(v - 2); sync; update seen 10 * v; return x + y; } proc main() { x = call f(4); update seen 7; return 10 * x; }",
+        30,
+        &[Wanted::List(&[4, 3, 2, 1, 0, 20, 1, 30, 2, 1, 0, 20, 40, 7])],
+    ),
+    (
+        "reducer seen : list; proc one(i) { update seen i; } proc main() { cilk_for i in 0 .. 4 : one(i); return 0; }",
+        0,
+        &[Wanted::List(&[0, 1, 2, 3])],
+    ),
+    (
+        "reducer early : first 2; reducer late : last 2; reducer seen : list; proc leaf(v) { update early v; update late v; update seen v; return v; } proc main() { x = spawn leaf(1); y = spawn leaf(2); z = spawn leaf(3); update seen 9; sync; return 100 * x + 10 * y + z; }",
+        123,
+        &[
+            Wanted::List(&[1, 2]),
+            Wanted::List(&[2, 3]),
+            Wanted::List(&[1, 2, 3, 9]),
+        ],
+    ),
+];
+
 #[test]
 fn values_in_the_order_of_the_text(rt: HostRuntime) -> Result<(), Fail> {
-    let text =
-        "reducer seen : list; proc leaf(v) { update seen v; update seen v + 1; return v * v; } proc main() { update seen 7; x = spawn leaf(2); y = spawn leaf(5); update seen 9; sync; update seen 8; return 100 * x + y; }";
-    let reducers = [Wanted::List(&[7, 2, 3, 5, 6, 9, 8])];
-    for thefts in 0..3 {
-        assert!(rt; ends_with(rt.alloc(), text, thefts, 425, &reducers)?);
+    for (text, wanted, reducers) in ENDING {
+        for thefts in 0..3 {
+            assert!(rt;
+                ends_with(rt.alloc(), text, thefts, wanted, reducers)?,
+                "{text}"
+            );
+        }
     }
     Ok(())
 }
 
-#[test]
-fn values_of_called_procedures_that_spawn(rt: HostRuntime) -> Result<(), Fail> {
-    let text =
-        "reducer seen : list; proc f(v) { update seen v; if v < 2 { return v; } x = spawn f(v - 1); y = call f(v - 2); sync; update seen 10 * v; return x + y; } proc main() { x = call f(4); update seen 7; return 10 * x; }";
-    let reducers = [Wanted::List(&[4, 3, 2, 1, 0, 20, 1, 30, 2, 1, 0, 20, 40, 7])];
-    for thefts in 0..3 {
-        assert!(rt; ends_with(rt.alloc(), text, thefts, 30, &reducers)?);
-    }
-    Ok(())
-}
-
-#[test]
-fn values_of_a_loop(rt: HostRuntime) -> Result<(), Fail> {
-    let text =
-        "reducer seen : list; proc one(i) { update seen i; } proc main() { cilk_for i in 0 .. 4 : one(i); return 0; }";
-    let reducers = [Wanted::List(&[0, 1, 2, 3])];
-    for thefts in 0..3 {
-        assert!(rt; ends_with(rt.alloc(), text, thefts, 0, &reducers)?);
-    }
-    Ok(())
-}
-
-#[test]
-fn first_and_last_values_of_three_strands(rt: HostRuntime) -> Result<(), Fail> {
-    let text =
-        "reducer early : first 2; reducer late : last 2; reducer seen : list; proc leaf(v) { update early v; update late v; update seen v; return v; } proc main() { x = spawn leaf(1); y = spawn leaf(2); z = spawn leaf(3); update seen 9; sync; return 100 * x + 10 * y + z; }";
-    let reducers = [
-        Wanted::List(&[1, 2]),
-        Wanted::List(&[2, 3]),
-        Wanted::List(&[1, 2, 3, 9]),
-    ];
-    assert!(rt; ends_with(rt.alloc(), text, 2, 123, &reducers)?);
-    Ok(())
-}
+/// Programs with so many thefts, and the fault that each ends with: its kind, its procedure and its statement.
+const FAULTY: [(&str, usize, FaultKind, &str, u32); 6] = [
+    (
+        "proc bad(n) { return 1 / n; } proc main() { spawn bad(0); x = sales[9].qty; sync; return x; }",
+        1,
+        FaultKind::DivideByZero,
+        "bad",
+        1,
+    ),
+    (
+        "proc bad(n) { return 1 / n; } proc main() { spawn bad(1); x = sales[9].qty; sync; return x; }",
+        1,
+        FaultKind::MissingRow,
+        "main",
+        2,
+    ),
+    (
+        "proc bad(n) { m = n + n; return 1 / m; } proc main() { spawn bad(0); x = sales[3].qty; sync; return x; }",
+        1,
+        FaultKind::DivideByZero,
+        "bad",
+        2,
+    ),
+    // Of three strands.
+    (
+        "proc bad(n) { return 1 / n; } proc worse(n) { m = n; return 6 % m; } proc main() { spawn bad(0); spawn worse(0); x = sales[9].qty; sync; return x; }",
+        2,
+        FaultKind::DivideByZero,
+        "bad",
+        1,
+    ),
+    (
+        "proc bad(n) { return 1 / n; } proc worse(n) { m = n; return 6 % m; } proc main() { spawn bad(1); spawn worse(0); x = sales[9].qty; sync; return x; }",
+        2,
+        FaultKind::DivideByZero,
+        "worse",
+        2,
+    ),
+    (
+        "proc bad(n) { return 1 / n; } proc worse(n) { m = n; return 6 % m; } proc main() { spawn bad(1); spawn worse(1); x = sales[9].qty; sync; return x; }",
+        2,
+        FaultKind::MissingRow,
+        "main",
+        3,
+    ),
+];
 
 #[test]
 fn the_first_fault_of_the_text(rt: HostRuntime) -> Result<(), Fail> {
     let alloc = rt.alloc();
-    let programs = [
-        (
-            "proc bad(n) { return 1 / n; } proc main() { spawn bad(0); x = sales[9].qty; sync; return x; }",
-            FaultKind::DivideByZero,
-            "bad",
-            1,
-        ),
-        (
-            "proc bad(n) { return 1 / n; } proc main() { spawn bad(1); x = sales[9].qty; sync; return x; }",
-            FaultKind::MissingRow,
-            "main",
-            2,
-        ),
-        (
-            "proc bad(n) { m = n + n; return 1 / m; } proc main() { spawn bad(0); x = sales[3].qty; sync; return x; }",
-            FaultKind::DivideByZero,
-            "bad",
-            2,
-        ),
-    ];
-    for (text, kind, procedure, statement) in programs {
+    for (text, thefts, kind, procedure, statement) in FAULTY {
         assert!(rt;
-            faults_with(alloc, text, 1, kind, procedure, statement)?,
-            "{text}"
-        );
-    }
-    Ok(())
-}
-
-#[test]
-fn the_first_fault_of_three_strands(rt: HostRuntime) -> Result<(), Fail> {
-    let alloc = rt.alloc();
-    let programs = [
-        (
-            "proc bad(n) { return 1 / n; } proc worse(n) { m = n; return 6 % m; } proc main() { spawn bad(0); spawn worse(0); x = sales[9].qty; sync; return x; }",
-            FaultKind::DivideByZero,
-            "bad",
-            1,
-        ),
-        (
-            "proc bad(n) { return 1 / n; } proc worse(n) { m = n; return 6 % m; } proc main() { spawn bad(1); spawn worse(0); x = sales[9].qty; sync; return x; }",
-            FaultKind::DivideByZero,
-            "worse",
-            2,
-        ),
-        (
-            "proc bad(n) { return 1 / n; } proc worse(n) { m = n; return 6 % m; } proc main() { spawn bad(1); spawn worse(1); x = sales[9].qty; sync; return x; }",
-            FaultKind::MissingRow,
-            "main",
-            3,
-        ),
-    ];
-    for (text, kind, procedure, statement) in programs {
-        assert!(rt;
-            faults_with(alloc, text, 2, kind, procedure, statement)?,
+            faults_with(alloc, text, thefts, kind, procedure, statement)?,
             "{text}"
         );
     }

@@ -3,7 +3,7 @@ use Rattle.monoid_laws.specs.declared.Kind.{Kind}
 use Rattle.monoid_laws.specs.Kinds.{identity_of, meaning, IsWorth}
 use Rattle.monoid_laws.proofs.Laws.{identity_right}
 use Rattle.view_pool.proofs.Kept.{IsWorth-combined}
-use Rattle.view_pool.proofs.tests.used.Goals as goal
+use Rattle.reducer_tests.proofs.tests.views.keeps_its_worth.Goals as goal
 
 pub absorb-requires : goal.absorb-requires
 absorb-requires g c =
