@@ -11,7 +11,8 @@ use Rattle.source_tree.specs.Lowering.{Lowered, lowered_decl, lower_decl, lowere
 use Rattle.program_edits.specs.Putting.{is_in, last_place, spot_of, put_at, put_all}
 use Rattle.procedure_parser.specs.Grammar.{ReducerForm, reduces, ProcedureForm, defines, Declarations, no_declaration, a_reducer, a_procedure, reducer_over, procedure_over}
 use Rattle.procedure_parser.specs.Defining.{Room, room_of, turns_of, Procedures, no_procedure, one_procedure, no_room, behind_name}
-use Rattle.procedure_parser.specs.Correct.{IsSource, IsDefinition, IsDefined}
+use Rattle.procedure_parser.specs.Correct.{IsSource, IsDefinition}
+use Rattle.define_parser.specs.Defined.{IsDefined}
 use Rattle.procedure_parser.proofs.DefiningLaw.{less_room}
 use Rattle.program_printer.specs.Printing.{printed}
 use Rattle.printing_theory.specs.Again.{IsOfText, IsIn, IsOfSome, AllOfSome, IsOfTexts, PrintsAgain, reducer_count, procedure_count}

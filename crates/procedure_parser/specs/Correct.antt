@@ -12,7 +12,6 @@ use Rattle.source_tree.specs.Source.{Source, source}
 use Rattle.procedure_parser.specs.Grammar.{Declarations}
 use Rattle.token_scanner.specs.Scanning.{tokens_of, line_ends}
 use Rattle.source_tree.specs.Lowering.{settled, lowered, lines_of}
-use Rattle.program_edits.specs.Putting.{put_all}
 use Rattle.procedure_parser.specs.Defining.{Room, room_of, Defining}
 
 -- the tokens are the source tree's, within the limits: 16 reducers and 256 procedures
@@ -83,16 +82,6 @@ InDefinition room s ts = Defining room s ts []
 -- the source tree of a text within the limit, for a program with this tree
 abbrev pub IsDefinition : Tree → Source → List ℕ → Type 0
 IsDefinition t s text = (length text ≤ 1048576) × InDefinition (room_of t) s (tokens_of text)
-
--- the program, with its lines, is the one before with a text's procedures put in
-abbrev pub IsDefined : Tree × List Lined → List ℕ → Tree × List Lined → Type 0
-IsDefined before text after = (s : Source) × IsDefinition before.0 s text × (after ≡ put_all [] s before)
-
--- the answer to a text with such a source tree, unless memory runs out
-abbrev pub AnswersDefinition : Tree × List Lined → Result Program TextError → Source → Type 0
-AnswersDefinition before (Ok p) s = (tree p, lines p) ≡ put_all [] s before
-AnswersDefinition before (Err NoMemory) s = Unit {0}
-AnswersDefinition before (Err (Text l)) s = ⊥
 
 abbrev pub IsDefinitionFault : Tree → List ℕ → TextError → Type 0
 IsDefinitionFault t = IsFaultIn (InDefinition (room_of t))

@@ -4,12 +4,11 @@ ghost use Rattle.std.specs.Prelude.{◌≡◌, ℕ, List};
 ghost use Rattle.program_tree.specs.Plain.{Tree};
 ghost use Rattle.program_tree.specs.View.{Lined};
 ghost use Rattle.source_tree.specs.Source.{Source};
-ghost use Rattle.procedure_parser.specs.Correct.{IsSource, IsText, IsDefined};
+ghost use Rattle.procedure_parser.specs.Correct.{IsSource, IsText};
 
-/// A text has at most one source tree, and so one tree of a program, with one list of lines; and it defines at most one program from another.
+/// A text has at most one source tree, and so one tree of a program, with one list of lines.
 pub fn laws_of_texts()
     ensures source { (text : List ℕ) (s r : Source) → IsSource s text → IsSource r text → s ≡ r }
     ensures tree { (text : List ℕ) (t u : Tree) (l m : List Lined) → IsText text t l → IsText text u m → t ≡ u }
     ensures lines { (text : List ℕ) (t u : Tree) (l m : List Lined) → IsText text t l → IsText text u m → l ≡ m }
-    ensures defined { (text : List ℕ) (before after other : Tree × List Lined) → IsDefined before text after → IsDefined before text other → after ≡ other }
 {}

@@ -15,7 +15,7 @@ mod room;
 mod statement;
 mod text;
 
-pub use defined::parse_define;
+pub use defined::define_source;
 pub use fault::TextError;
 pub use laws::laws_of_texts;
 pub use text::parse;

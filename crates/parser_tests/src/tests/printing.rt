@@ -1,7 +1,8 @@
 //! Programs that are printed, and read again as the same.
 
+use define_parser::parse_define;
 use printing_theory::{print, print_and_parse};
-use procedure_parser::{TextError, parse, parse_define};
+use procedure_parser::{TextError, parse};
 use program_tree::{Action, Declaration, Program};
 use std::alloc::Global;
 use std::mem;

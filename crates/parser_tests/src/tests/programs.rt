@@ -4,9 +4,9 @@ use super::answers::FIRST;
 use super::facts::Declared::{Procedure, Reducer};
 use super::facts::{Declared, Fact, are_declared, hold};
 use monoid_laws::Kind;
-use reducer_values::table_of;
 use procedure_parser::parse;
 use program_tree::Declaration;
+use reducer_values::table_of;
 use std::alloc::Global;
 
 const WHOLE: &str =

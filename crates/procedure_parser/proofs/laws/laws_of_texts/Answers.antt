@@ -1,4 +1,4 @@
-use Rattle.procedure_parser.proofs.OneMeaning.{one_source, one_tree, one_list, one_defined}
+use Rattle.procedure_parser.proofs.OneMeaning.{one_source, one_tree, one_list}
 use Rattle.procedure_parser.proofs.laws.laws_of_texts.Goals as goal
 
 pub returns-clause-source : goal.returns-clause-source
@@ -9,6 +9,3 @@ returns-clause-tree c = one_tree
 
 pub returns-clause-lines : goal.returns-clause-lines
 returns-clause-lines c = one_list
-
-pub returns-clause-defined : goal.returns-clause-defined
-returns-clause-defined c = one_defined

@@ -2,7 +2,7 @@ use Rattle.program_tree.specs.View.{tree}
 use Rattle.source_tree.specs.Source.{source}
 use Rattle.procedure_parser.specs.Defining.{room_of}
 use Rattle.procedure_parser.proofs.Counts.{definition_bodies}
-use Rattle.procedure_parser.proofs.defined.parse_define.Goals as goal
+use Rattle.define_parser.proofs.defined.parse_define.Goals as goal
 
 pub with_procedures-requires : goal.with_procedures-requires
 with_procedures-requires c =
