@@ -7,6 +7,4 @@ pub mod knowledge;
 pub mod laws;
 pub mod linking;
 pub mod tables;
-#[cfg(test)]
-mod tests;
 pub mod violation;

@@ -1,15 +1,25 @@
 -- What each statement does, once its parts are known.
-use Rattle.std.specs.Prelude.{ℕ, ℤ, pos, List, Option, Some, None, Result, Ok, cond}
+use Rattle.std.specs.Prelude.{ℕ, ℤ, pos, map, List, Option, Some, None, Result, Ok, cond}
 use Rattle.std.specs.Ordering.{int_eq}
 use Rattle.program_tree.specs.Plain.{Name, Term, Body, Proc, Tree}
+use Rattle.program_tree.specs.View.{term}
 use Rattle.meaning.specs.Tables.{Tables}
 use Rattle.meaning.specs.Outcome.{Site, Fault}
 use Rattle.meaning.specs.Run.{Run, ◌>>=◌, pure, standing, at}
 use Rattle.meaning.specs.Values.{Env, put, value, values}
 use Rattle.meaning.specs.Statements.{reducers, numbered, reading, put_into, fresh, update_of, bounds, Job, job_of, turn_values}
 use Rattle.meaning.specs.Records.{Key, Kept, with_kinds}
+use Rattle.serial_oracle.specs.declared.scope.Entry.{Entry}
 use Rattle.serial_oracle.specs.Results.{Standing, with_executed, with_reused, results}
 use Rattle.meaning.specs.Elision.{Enter, Next, On, Back, back_or_zero, body, all_turns}
+
+-- where a statement that enters a procedure stands
+abbrev pub site_of : Entry → Site
+site_of e = record { procedure = e.here.now; statement = e.number }
+
+-- the iterations from a low one on
+abbrev pub job_in : Entry → Env → ℕ → ℕ → ℤ → Job
+job_in e env x grain low = job_of (site_of e) env x e.callee.now (map term e.arguments.now) grain low
 
 abbrev pub bound : Tables → Site → Env → ℕ → Term → Run Next
 bound tables site env x e = at site (value tables env e) >>= (λ v. pure (On (put env x v)))

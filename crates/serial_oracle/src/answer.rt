@@ -35,16 +35,11 @@ pub struct Rerun<'p> {
 }
 
 /// The answer of a run that gave a value after these changes.
-fn finished<'p>(
-    alloc: Global,
-    scope: &Scope,
-    value: i64,
-    changes: &[Change],
-) -> Result<Answer<'p>, NoMemory>
+fn finished<'p>(scope: &Scope, value: i64, changes: &[Change]) -> Result<Answer<'p>, NoMemory>
     requires fit { AreFit (tree_in scope.now) (records_in scope.now) }
     ensures { IfOk result (λ a. answer_plain a ≡ finish value (worths (tree_in scope.now) (records_in scope.now) changes.now)) }
 {
-    match values_after(alloc, scope, changes) {
+    match values_after(scope, changes) {
         Ok(values) => Ok(Answer::Finished(value, values)),
         Err(_) => Err(NoMemory),
     }
@@ -62,7 +57,6 @@ fn halted(stop: Stop<'_>) -> Result<Answer<'_>, NoMemory>
 
 /// Runs main, and gives its answer.
 fn run_main<'p, 's>(
-    alloc: Global,
     scope: &Scope<'p, 's>,
     journal: &mut Journal<'p>,
 ) -> Result<Answer<'p>, NoMemory>
@@ -74,8 +68,8 @@ fn run_main<'p, 's>(
     ensures executed { IfOk result (λ a. map key_plain journal.new.executed.items ≡ executed (tree_in scope.now) (needed (revised_in scope.now) (tables_in scope.now) (records_in scope.now))) }
     ensures reused { IfOk result (λ a. map key_plain journal.new.reused.items ≡ reused (needed (revised_in scope.now) (tables_in scope.now) (records_in scope.now))) }
 {
-    match enter(alloc, scope, 64, "main", 0, "main", &[], journal) {
-        Ok(value) => finished(alloc, scope, value, &journal.changes),
+    match enter(scope, 64, "main", 0, "main", &[], journal) {
+        Ok(value) => finished(scope, value, &journal.changes),
         Err(stop) => halted(stop),
     }
 }
@@ -94,13 +88,14 @@ pub fn needed_instances<'p>(
     ensures reused { IfOk result (λ r. map key_plain r.reused.items ≡ reused (needed (revised (tree program.now) revisions.now) (tables_plain tables.now) (map kept records.now))) }
 {
     let scope = Scope {
+        alloc,
         program,
         revisions,
         tables,
         records,
     };
     let mut journal = begun(alloc);
-    match run_main(alloc, &scope, &mut journal) {
+    match run_main(&scope, &mut journal) {
         Err(stop) => Err(stop),
         Ok(answer) => Ok(Rerun {
             answer,
@@ -123,11 +118,12 @@ pub fn from_scratch<'p>(
         counter: 0,
     };
     let scope = Scope {
+        alloc,
         program,
         revisions: &revisions,
         tables,
         records: &[],
     };
     let mut journal = begun(alloc);
-    run_main(alloc, &scope, &mut journal)
+    run_main(&scope, &mut journal)
 }

@@ -21,6 +21,3 @@ pub use journal::Key;
 pub use records::{Reading, Record, Revision, Revisions};
 pub use stops::{Fault, NoMemory};
 pub use tables::{Row, TableRows};
-
-#[cfg(test)]
-mod tests;

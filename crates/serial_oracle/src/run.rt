@@ -1,6 +1,5 @@
 //! A run of a program, statement by statement, in the order of a run on one worker.
 ghost use Rattle.std.specs.Prelude.{◌≡◌, ℕ, ◌<◌, ◌-◌, map, slice_get, string_bytes, Some};
-ghost use Rattle.program_tree.specs.Plain.{Name};
 ghost use Rattle.program_tree.specs.View.{term, proc};
 ghost use Rattle.program_tree.specs.View.{deed as deed_plain, statements as statements_plain, block as block_plain};
 ghost use Rattle.meaning.specs.Outcome.{Site};
@@ -13,21 +12,20 @@ ghost use Rattle.serial_oracle.specs.Listing.{tables_plain};
 ghost use Rattle.serial_oracle.specs.Results.{Gives, Does, GivesNext, EvaluatesAll, Standing, results, site_at, with_executed, with_reused};
 ghost use Rattle.serial_oracle.specs.Keeping.{kept, tree_in, tables_in, records_in, revised_in, enters_in};
 ghost use Rattle.serial_oracle.specs.Worths.{AreFit, standing};
-ghost use Rattle.serial_oracle.specs.Pieces.{bound, back, told, updates_here, entered, chosen, looped, inside, turn, memoised, by_record};
+ghost use Rattle.serial_oracle.specs.Pieces.{site_of, job_in, bound, back, told, updates_here, entered, chosen, looped, inside, turn, memoised, by_record};
 
 use crate::expressions::{all_values, evaluate};
 use crate::journal::{Journal, note_executed, note_reused};
 use crate::names::{find_procedure, fresh, put, put_into, with_name};
 use crate::range::Range;
 use crate::ranges::range_of;
-use crate::scope::Scope;
+use crate::scope::{Choice, Entry, Scope};
 use crate::stops::{Stop, Trouble, stopped};
 use crate::tables::TableRows;
 use crate::updates;
 use crate::validity::{Found, valid_record};
 use meaning::FaultKind;
 use program_tree::{Action, Expr, Procedure, Statement};
-use std::alloc::Global;
 
 /// Binds a name to the value of an expression.
 fn run_bind<'p>(
@@ -67,7 +65,6 @@ fn run_return<'p>(
 
 /// Binds a name to the number of a reducer.
 fn run_read<'p, 's>(
-    alloc: Global,
     scope: &Scope<'p, 's>,
     x: usize,
     r: &str,
@@ -77,7 +74,7 @@ fn run_read<'p, 's>(
     requires fit { AreFit (tree_in scope.now) (records_in scope.now) }
     ensures { GivesNext result env.new.items (standing scope.now journal.now) (results (tree_in scope.now) (told (tree_in scope.now) env.old.items x r.now) (standing scope.now journal.now)) }
 {
-    match updates::read(alloc, scope, r, &journal.changes) {
+    match updates::read(scope, r, &journal.changes) {
         Err(_) => Err(Stop::NoMemory),
         Ok(v) => {
             put(env, x, v);
@@ -88,7 +85,6 @@ fn run_read<'p, 's>(
 
 /// Updates a reducer.
 fn run_update<'p, 's>(
-    alloc: Global,
     scope: &Scope<'p, 's>,
     here: &'p str,
     number: u32,
@@ -99,7 +95,7 @@ fn run_update<'p, 's>(
 ) -> Result<Option<i64>, Stop<'p>>
     ensures { GivesNext result env.now (standing scope.now journal.new) (results (tree_in scope.now) (updates_here (tree_in scope.now) (tables_in scope.now) (site_at here.now number) env.now r.now (map term es.now)) (standing scope.now journal.old)) }
 {
-    match updates::update_reducer(alloc, scope, env, r, es, &mut journal.changes) {
+    match updates::update_reducer(scope, env, r, es, &mut journal.changes) {
         Err(trouble) => Err(trouble.at(here, number)),
         Ok(()) => Ok(None),
     }
@@ -107,26 +103,24 @@ fn run_update<'p, 's>(
 
 /// The arguments of the i-th iteration of a loop.
 fn turn_values(
-    alloc: Global,
-    tables: &[TableRows],
-    env: &[Option<i64>],
+    scope: &Scope,
+    entry: &Entry,
     x: usize,
     range: Range,
     i: u64,
-    es: &[Expr],
+    env: &[Option<i64>],
 ) -> Result<Vec<i64>, Trouble>
     requires { i < range.count }
-    ensures { (site : Site) (f : Name) (grain : ℕ) → EvaluatesAll result (turn_values_of (tables_plain tables.now) (job_of site env.now x f (map term es.now) grain range.low) i).answer }
+    ensures { (site : Site) (grain : ℕ) → EvaluatesAll result (turn_values_of (tables_in scope.now) (job_of site env.now x entry.now.callee.now (map term entry.now.arguments.now) grain range.low) i).answer }
 {
-    match with_name(alloc, env, x, range.at(i)) {
+    match with_name(scope.alloc, env, x, range.at(i)) {
         Err(_) => Err(Trouble::NoMemory),
-        Ok(inner) => all_values(alloc, tables, &inner, es),
+        Ok(inner) => all_values(scope.alloc, scope.tables, &inner, entry.arguments),
     }
 }
 
 /// Answers a memo instance by a record.
 fn answer_by<'p, 's>(
-    alloc: Global,
     scope: &Scope<'p, 's>,
     found: Found<'s>,
     name: &'p str,
@@ -136,7 +130,7 @@ fn answer_by<'p, 's>(
     requires place { slice_get (records_in scope.now) found.place ≡ Some (kept found.known.now) }
     ensures { Gives result (standing scope.now journal.new) (by_record (tree_in scope.now) (kept found.entry.known.now) (name.now, args.now) (standing scope.now journal.old)) }
 {
-    match note_reused(alloc, journal, found.place, name, args) {
+    match note_reused(scope.alloc, journal, found.place, name, args) {
         Err(_) => Err(Stop::NoMemory),
         Ok(()) => Ok(found.known.value),
     }
@@ -145,7 +139,6 @@ fn answer_by<'p, 's>(
 /// Enters an instance at a statement, where so many levels are left.
 #[cycle(run)]
 pub fn enter<'p, 's>(
-    alloc: Global,
     scope: &Scope<'p, 's>,
     left: u32,
     here: &'p str,
@@ -164,9 +157,9 @@ pub fn enter<'p, 's>(
         None => Ok(0),
         Some(p) => {
             if p.memo {
-                run_memo(alloc, scope, left - 1, p, name, args, journal)
+                run_memo(scope, left - 1, p, name, args, journal)
             } else {
-                run_instance(alloc, scope, left - 1, p, args, journal)
+                run_instance(scope, left - 1, p, args, journal)
             }
         }
     }
@@ -175,7 +168,6 @@ pub fn enter<'p, 's>(
 /// Answers a memo instance by its valid record, or runs it.
 #[cycle(run)]
 fn run_memo<'p, 's>(
-    alloc: Global,
     scope: &Scope<'p, 's>,
     left: u32,
     p: &'p Procedure,
@@ -187,15 +179,14 @@ fn run_memo<'p, 's>(
     ensures { Gives result (standing scope.now journal.new) (memoised (tree_in scope.now) (if_valid (revised_in scope.now) (tables_in scope.now) (depth_limit - left) (record_of (records_in scope.now) name.now args.now)) (name.now, args.now) (inside (tree_in scope.now) (tables_in scope.now) (enters_in scope.now left) (proc p.now) args.now) (standing scope.now journal.old)) }
 {
     match valid_record(scope, 64u32.saturating_sub(left), name, args) {
-        Some(found) => answer_by(alloc, scope, found, name, args, journal),
-        None => run_new(alloc, scope, left, p, name, args, journal),
+        Some(found) => answer_by(scope, found, name, args, journal),
+        None => run_new(scope, left, p, name, args, journal),
     }
 }
 
 /// Runs a memo instance that no record answers.
 #[cycle(run)]
 fn run_new<'p, 's>(
-    alloc: Global,
     scope: &Scope<'p, 's>,
     left: u32,
     p: &'p Procedure,
@@ -206,16 +197,15 @@ fn run_new<'p, 's>(
     requires fit { AreFit (tree_in scope.now) (records_in scope.now) }
     ensures { Gives result (standing scope.now journal.new) (results (tree_in scope.now) (inside (tree_in scope.now) (tables_in scope.now) (enters_in scope.now left) (proc p.now) args.now) (with_executed (standing scope.now journal.old) (name.now, args.now))) }
 {
-    match note_executed(alloc, journal, name, args) {
+    match note_executed(scope.alloc, journal, name, args) {
         Err(_) => Err(Stop::NoMemory),
-        Ok(()) => run_instance(alloc, scope, left, p, args, journal),
+        Ok(()) => run_instance(scope, left, p, args, journal),
     }
 }
 
 /// Runs an instance of a procedure.
 #[cycle(run)]
 fn run_instance<'p, 's>(
-    alloc: Global,
     scope: &Scope<'p, 's>,
     left: u32,
     p: &'p Procedure,
@@ -225,18 +215,9 @@ fn run_instance<'p, 's>(
     requires fit { AreFit (tree_in scope.now) (records_in scope.now) }
     ensures { Gives result (standing scope.now journal.new) (results (tree_in scope.now) (inside (tree_in scope.now) (tables_in scope.now) (enters_in scope.now left) (proc p.now) args.now) (standing scope.now journal.old)) }
 {
-    match fresh(alloc, &p.names, args) {
+    match fresh(scope.alloc, &p.names, args) {
         Err(_) => Err(Stop::NoMemory),
-        Ok(mut env) => match run_block(
-            alloc,
-            scope,
-            left,
-            p,
-            p.blocks.len(),
-            0,
-            &mut env,
-            journal,
-        ) {
+        Ok(mut env) => match run_block(scope, left, p, p.blocks.len(), 0, &mut env, journal) {
             Err(stop) => Err(stop),
             Ok(None) => Ok(0),
             Ok(Some(v)) => Ok(v),
@@ -247,7 +228,6 @@ fn run_instance<'p, 's>(
 /// Runs a block, where blocks nest so many levels below it.
 #[cycle(run)]
 fn run_block<'p, 's>(
-    alloc: Global,
     scope: &Scope<'p, 's>,
     left: u32,
     p: &'p Procedure,
@@ -264,23 +244,13 @@ fn run_block<'p, 's>(
     }
     match p.blocks.get(n) {
         None => Ok(None),
-        Some(b) => run_statements(
-            alloc,
-            scope,
-            left,
-            p,
-            levels - 1,
-            &b.statements,
-            env,
-            journal,
-        ),
+        Some(b) => run_statements(scope, left, p, levels - 1, &b.statements, env, journal),
     }
 }
 
 /// Runs statements.
 #[cycle(run)]
 fn run_statements<'p, 's>(
-    alloc: Global,
     scope: &Scope<'p, 's>,
     left: u32,
     p: &'p Procedure,
@@ -293,7 +263,7 @@ fn run_statements<'p, 's>(
     ensures { GivesNext result env.new.items (standing scope.now journal.new) (results (tree_in scope.now) (body (tree_in scope.now) (tables_in scope.now) (enters_in scope.now left) (string_bytes p.now.name) env.old.items (statements_plain (block_plain p.now.blocks.items levels) statements.now)) (standing scope.now journal.old)) }
 {
     for s in statements {
-        match run_statement(alloc, scope, left, p, levels, s, env, journal) {
+        match run_statement(scope, left, p, levels, s, env, journal) {
             Err(stop) => return Err(stop),
             Ok(Some(v)) => return Ok(Some(v)),
             Ok(None) => {}
@@ -305,7 +275,6 @@ fn run_statements<'p, 's>(
 /// Runs one statement.
 #[cycle(run)]
 fn run_statement<'p, 's>(
-    alloc: Global,
     scope: &Scope<'p, 's>,
     left: u32,
     p: &'p Procedure,
@@ -320,18 +289,36 @@ fn run_statement<'p, 's>(
     let here = &p.name;
     match &s.action {
         Action::Bind(x, e) => run_bind(scope.tables, here, s.number, *x, e, env),
-        Action::Enter(x, _, f, es) => run_entry(
-            alloc, scope, left, here, s.number, *x, f, es, env, journal,
-        ),
-        Action::Read(x, r) => run_read(alloc, scope, *x, r, env, journal),
+        Action::Enter(x, _, callee, arguments) => {
+            let entry = Entry {
+                here,
+                number: s.number,
+                callee,
+                arguments,
+            };
+            run_entry(scope, left, &entry, *x, env, journal)
+        }
+        Action::Read(x, r) => run_read(scope, *x, r, env, journal),
         Action::Sync => Ok(None),
-        Action::Update(r, es) => run_update(alloc, scope, here, s.number, r, es, env, journal),
-        Action::If(e, a, b) => run_if(
-            alloc, scope, left, p, levels, s.number, e, *a, *b, env, journal,
-        ),
-        Action::Loop(x, e, f, _, g, es) => run_loop(
-            alloc, scope, left, here, s.number, *x, e, f, g, es, env, journal,
-        ),
+        Action::Update(r, es) => run_update(scope, here, s.number, r, es, env, journal),
+        Action::If(condition, first, second) => {
+            let choice = Choice {
+                number: s.number,
+                condition,
+                first: *first,
+                second: *second,
+            };
+            run_if(scope, left, p, levels, &choice, env, journal)
+        }
+        Action::Loop(x, low, high, _, callee, arguments) => {
+            let entry = Entry {
+                here,
+                number: s.number,
+                callee,
+                arguments,
+            };
+            run_loop(scope, left, &entry, *x, low, high, env, journal)
+        }
         Action::Return(e) => run_return(scope.tables, here, s.number, e, env),
     }
 }
@@ -339,23 +326,25 @@ fn run_statement<'p, 's>(
 /// Enters a procedure with the values of the arguments.
 #[cycle(run)]
 fn run_entry<'p, 's>(
-    alloc: Global,
     scope: &Scope<'p, 's>,
     left: u32,
-    here: &'p str,
-    number: u32,
+    entry: &Entry<'p>,
     x: Option<usize>,
-    f: &'p str,
-    es: &[Expr],
     env: &mut Vec<Option<i64>>,
     journal: &mut Journal<'p>,
 ) -> Result<Option<i64>, Stop<'p>>
     requires fit { AreFit (tree_in scope.now) (records_in scope.now) }
-    ensures { GivesNext result env.new.items (standing scope.now journal.new) (results (tree_in scope.now) (entered (tables_in scope.now) (enters_in scope.now left) (site_at here.now number) env.old.items x f.now (map term es.now)) (standing scope.now journal.old)) }
+    ensures { GivesNext result env.new.items (standing scope.now journal.new) (results (tree_in scope.now) (entered (tables_in scope.now) (enters_in scope.now left) (site_of entry.now) env.old.items x entry.now.callee.now (map term entry.now.arguments.now)) (standing scope.now journal.old)) }
 {
-    match all_values(alloc, scope.tables, env, es) {
+    let Entry {
+        here,
+        number,
+        callee,
+        arguments,
+    } = *entry;
+    match all_values(scope.alloc, scope.tables, env, arguments) {
         Err(trouble) => Err(trouble.at(here, number)),
-        Ok(vs) => match enter(alloc, scope, left, here, number, f, &vs, journal) {
+        Ok(vs) => match enter(scope, left, here, number, callee, &vs, journal) {
             Err(stop) => Err(stop),
             Ok(v) => {
                 put_into(env, x, v);
@@ -368,26 +357,22 @@ fn run_entry<'p, 's>(
 /// Runs one of two blocks.
 #[cycle(run)]
 fn run_if<'p, 's>(
-    alloc: Global,
     scope: &Scope<'p, 's>,
     left: u32,
     p: &'p Procedure,
     levels: usize,
-    number: u32,
-    e: &Expr,
-    a: usize,
-    b: usize,
+    choice: &Choice,
     env: &mut Vec<Option<i64>>,
     journal: &mut Journal<'p>,
 ) -> Result<Option<i64>, Stop<'p>>
     requires fit { AreFit (tree_in scope.now) (records_in scope.now) }
-    ensures { GivesNext result env.new.items (standing scope.now journal.new) (results (tree_in scope.now) (chosen (tree_in scope.now) (tables_in scope.now) (enters_in scope.now left) (site_at (string_bytes p.now.name) number) env.old.items (term e.now) (block_plain p.now.blocks.items levels a) (block_plain p.now.blocks.items levels b)) (standing scope.now journal.old)) }
+    ensures { GivesNext result env.new.items (standing scope.now journal.new) (results (tree_in scope.now) (chosen (tree_in scope.now) (tables_in scope.now) (enters_in scope.now left) (site_at (string_bytes p.now.name) choice.now.number) env.old.items (term choice.now.condition.now) (block_plain p.now.blocks.items levels choice.now.first) (block_plain p.now.blocks.items levels choice.now.second)) (standing scope.now journal.old)) }
 {
-    match evaluate(scope.tables, env, e) {
-        Err(kind) => Err(stopped(kind, &p.name, number)),
+    match evaluate(scope.tables, env, choice.condition) {
+        Err(kind) => Err(stopped(kind, &p.name, choice.number)),
         Ok(v) => {
-            let n = if v == 0 { b } else { a };
-            run_block(alloc, scope, left, p, levels, n, env, journal)
+            let n = if v == 0 { choice.second } else { choice.first };
+            run_block(scope, left, p, levels, n, env, journal)
         }
     }
 }
@@ -395,27 +380,21 @@ fn run_if<'p, 's>(
 /// Runs a loop.
 #[cycle(run)]
 fn run_loop<'p, 's>(
-    alloc: Global,
     scope: &Scope<'p, 's>,
     left: u32,
-    here: &'p str,
-    number: u32,
+    entry: &Entry<'p>,
     x: usize,
-    e: &Expr,
-    f: &Expr,
-    g: &'p str,
-    es: &[Expr],
+    low: &Expr,
+    high: &Expr,
     env: &[Option<i64>],
     journal: &mut Journal<'p>,
 ) -> Result<Option<i64>, Stop<'p>>
     requires fit { AreFit (tree_in scope.now) (records_in scope.now) }
-    ensures { (grain : ℕ) → GivesNext result env.now (standing scope.now journal.new) (results (tree_in scope.now) (looped (tree_in scope.now) (tables_in scope.now) (enters_in scope.now left) (site_at here.now number) env.now x (term e.now) (term f.now) grain g.now (map term es.now)) (standing scope.now journal.old)) }
+    ensures { (grain : ℕ) → GivesNext result env.now (standing scope.now journal.new) (results (tree_in scope.now) (looped (tree_in scope.now) (tables_in scope.now) (enters_in scope.now left) (site_of entry.now) env.now x (term low.now) (term high.now) grain entry.now.callee.now (map term entry.now.arguments.now)) (standing scope.now journal.old)) }
 {
-    match range_of(scope.tables, env, e, f) {
-        Err(kind) => Err(stopped(kind, here, number)),
-        Ok(range) => match run_turns(
-            alloc, scope, left, here, number, x, range, g, es, env, journal,
-        ) {
+    match range_of(scope.tables, env, low, high) {
+        Err(kind) => Err(stopped(kind, entry.here, entry.number)),
+        Ok(range) => match run_turns(scope, left, entry, x, range, env, journal) {
             Err(stop) => Err(stop),
             Ok(()) => Ok(None),
         },
@@ -425,26 +404,20 @@ fn run_loop<'p, 's>(
 /// Runs the iterations of a loop.
 #[cycle(run)]
 fn run_turns<'p, 's>(
-    alloc: Global,
     scope: &Scope<'p, 's>,
     left: u32,
-    here: &'p str,
-    number: u32,
+    entry: &Entry<'p>,
     x: usize,
     range: Range,
-    g: &'p str,
-    es: &[Expr],
     env: &[Option<i64>],
     journal: &mut Journal<'p>,
 ) -> Result<(), Stop<'p>>
     requires fit { AreFit (tree_in scope.now) (records_in scope.now) }
-    ensures { (grain : ℕ) → Does result (standing scope.now journal.new) (results (tree_in scope.now) (all_turns (tree_in scope.now) (tables_in scope.now) (enters_in scope.now left) (job_of (site_at here.now number) env.now x g.now (map term es.now) grain range.low) range.count) (standing scope.now journal.old)) }
+    ensures { (grain : ℕ) → Does result (standing scope.now journal.new) (results (tree_in scope.now) (all_turns (tree_in scope.now) (tables_in scope.now) (enters_in scope.now left) (job_in entry.now env.now x grain range.low) range.count) (standing scope.now journal.old)) }
 {
     let mut i = 0;
     while i < range.count {
-        match run_turn(
-            alloc, scope, left, here, number, x, range, i, g, es, env, journal,
-        ) {
+        match run_turn(scope, left, entry, x, range, i, env, journal) {
             Err(stop) => return Err(stop),
             Ok(()) => i += 1,
         }
@@ -455,26 +428,28 @@ fn run_turns<'p, 's>(
 /// Runs the i-th iteration of a loop.
 #[cycle(run)]
 fn run_turn<'p, 's>(
-    alloc: Global,
     scope: &Scope<'p, 's>,
     left: u32,
-    here: &'p str,
-    number: u32,
+    entry: &Entry<'p>,
     x: usize,
     range: Range,
     i: u64,
-    g: &'p str,
-    es: &[Expr],
     env: &[Option<i64>],
     journal: &mut Journal<'p>,
 ) -> Result<(), Stop<'p>>
     requires within { i < range.count }
     requires fit { AreFit (tree_in scope.now) (records_in scope.now) }
-    ensures { (grain : ℕ) → Does result (standing scope.now journal.new) (results (tree_in scope.now) (turn (tables_in scope.now) (enters_in scope.now left) (job_of (site_at here.now number) env.now x g.now (map term es.now) grain range.low) i) (standing scope.now journal.old)) }
+    ensures { (grain : ℕ) → Does result (standing scope.now journal.new) (results (tree_in scope.now) (turn (tables_in scope.now) (enters_in scope.now left) (job_in entry.now env.now x grain range.low) i) (standing scope.now journal.old)) }
 {
-    match turn_values(alloc, scope.tables, env, x, range, i, es) {
+    let Entry {
+        here,
+        number,
+        callee,
+        ..
+    } = *entry;
+    match turn_values(scope, entry, x, range, i, env) {
         Err(trouble) => Err(trouble.at(here, number)),
-        Ok(vs) => match enter(alloc, scope, left, here, number, g, &vs, journal) {
+        Ok(vs) => match enter(scope, left, here, number, callee, &vs, journal) {
             Err(stop) => Err(stop),
             Ok(_) => Ok(()),
         },

@@ -2,13 +2,33 @@
 
 use crate::records::{Record, Revisions};
 use crate::tables::TableRows;
-use program_tree::Program;
+use program_tree::{Expr, Program};
+use std::alloc::Global;
 
-/// A program with its revision numbers, tables, and the records that may answer memo instances.
+/// Memory, a program with its revision numbers, tables, and the records that may answer memo instances.
 #[derive(Clone, Copy)]
 pub struct Scope<'p, 's> {
+    pub alloc: Global,
     pub program: &'p Program,
     pub revisions: &'s Revisions,
     pub tables: &'s [TableRows],
     pub records: &'s [Record],
+}
+
+/// A statement that enters a procedure: where it stands, and what it enters with which arguments.
+#[derive(Clone, Copy)]
+pub struct Entry<'p> {
+    pub here: &'p str,
+    pub number: u32,
+    pub callee: &'p str,
+    pub arguments: &'p [Expr],
+}
+
+/// An `if`: its number, its condition and its two blocks.
+#[derive(Clone, Copy)]
+pub struct Choice<'p> {
+    pub number: u32,
+    pub condition: &'p Expr,
+    pub first: usize,
+    pub second: usize,
 }

@@ -19,7 +19,7 @@ use program_tree::{Declaration, Expr, Program};
 use std::alloc::{AllocError, Global};
 
 /// The kinds of a program's reducers, in their order.
-pub(crate) fn kinds_of(alloc: Global, program: &Program) -> Result<Vec<Kind>, AllocError>
+fn kinds_of(alloc: Global, program: &Program) -> Result<Vec<Kind>, AllocError>
     ensures { IfOk result (λ v. v.items ≡ kinds (tree program.now)) }
 {
     let mut found = Vec::new(alloc);
@@ -244,7 +244,6 @@ fn combine_all(
 
 /// Adds the contribution of the record at a place to the values.
 fn apply_record(
-    alloc: Global,
     kinds: &[Kind],
     values: &mut Vec<Val>,
     scope: &Scope,
@@ -258,13 +257,12 @@ fn apply_record(
 {
     match scope.records.get(place) {
         None => Ok(()),
-        Some(known) => combine_all(alloc, kinds, values, &known.contribution),
+        Some(known) => combine_all(scope.alloc, kinds, values, &known.contribution),
     }
 }
 
 /// Adds a change to the values.
 fn apply(
-    alloc: Global,
     kinds: &[Kind],
     values: &mut Vec<Val>,
     scope: &Scope,
@@ -277,24 +275,20 @@ fn apply(
     ensures kept { OnOk result (AreWorths kinds.now (map meaning values.new.items)) }
 {
     match change {
-        Change::Update(n, numbers) => apply_update(alloc, kinds, values, *n, numbers),
-        Change::Reused(place) => apply_record(alloc, kinds, values, scope, *place),
+        Change::Update(n, numbers) => apply_update(scope.alloc, kinds, values, *n, numbers),
+        Change::Reused(place) => apply_record(kinds, values, scope, *place),
     }
 }
 
 /// What the reducers are worth after the changes.
-pub fn values_after(
-    alloc: Global,
-    scope: &Scope,
-    changes: &[Change],
-) -> Result<Vec<Val>, AllocError>
+pub fn values_after(scope: &Scope, changes: &[Change]) -> Result<Vec<Val>, AllocError>
     requires fit { AreFit (tree_in scope.now) (records_in scope.now) }
     ensures { IfOk result (λ v. map meaning v.items ≡ worths (tree_in scope.now) (records_in scope.now) changes.now) }
 {
-    let kinds = kinds_of(alloc, scope.program)?;
-    let mut values = identities_of(alloc, &kinds)?;
+    let kinds = kinds_of(scope.alloc, scope.program)?;
+    let mut values = identities_of(scope.alloc, &kinds)?;
     for change in changes {
-        apply(alloc, &kinds, &mut values, scope, change)?;
+        apply(&kinds, &mut values, scope, change)?;
     }
     Ok(values)
 }
@@ -311,14 +305,14 @@ fn number_of_value(value: &Val) -> i64
 }
 
 /// The number that a reducer gives after the changes.
-pub fn read(alloc: Global, scope: &Scope, name: &str, changes: &[Change]) -> Result<i64, AllocError>
+pub fn read(scope: &Scope, name: &str, changes: &[Change]) -> Result<i64, AllocError>
     requires fit { AreFit (tree_in scope.now) (records_in scope.now) }
     ensures { IfOk result (λ v. v ≡ reading (worths (tree_in scope.now) (records_in scope.now) changes.now) (numbered 0 (reducers (tree_in scope.now)) name.now)) }
 {
     match names::find_reducer(scope.program, name) {
         None => Ok(0),
         Some((n, _)) => {
-            let values = values_after(alloc, scope, changes)?;
+            let values = values_after(scope, changes)?;
             match values.get(n) {
                 None => Ok(0),
                 Some(value) => Ok(number_of_value(value)),
@@ -352,7 +346,6 @@ fn note(
 
 /// Evaluates the numbers of an update, and notes it.
 pub fn update_reducer(
-    alloc: Global,
     scope: &Scope,
     env: &[Option<i64>],
     name: &str,
@@ -361,7 +354,7 @@ pub fn update_reducer(
 ) -> Result<(), Trouble>
     ensures { Notes result (worths (tree_in scope.now) (records_in scope.now) changes.new.items) (outcome_of (update_of (tables_in scope.now) (reducers (tree_in scope.now)) env.now name.now (map term numbers.now)) (worths (tree_in scope.now) (records_in scope.now) changes.old.items)) }
 {
-    match expressions::all_values(alloc, scope.tables, env, numbers) {
+    match expressions::all_values(scope.alloc, scope.tables, env, numbers) {
         Err(trouble) => Err(trouble),
         Ok(numbers) => note(changes, scope, name, numbers),
     }

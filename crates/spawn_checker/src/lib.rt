@@ -21,6 +21,3 @@ mod walk;
 
 pub use checking::{check, redefine};
 pub use violation::CheckError;
-
-#[cfg(test)]
-mod tests;

@@ -1,11 +1,10 @@
-use Rattle.std.proofs.Common.{◌≡◌, ℕ, ◌+◌, ◌-◌, ◌*◌, ◌^◌, ◌≤◌, map, drop}
+use Rattle.std.proofs.Common.{◌≡◌, ℕ, ◌+◌, ◌-◌, ◌*◌, ◌^◌, ◌≤◌, drop}
 use Rattle.std.specs.Prelude.{string_bytes}
-use Rattle.program_tree.specs.View.{term}
 use Rattle.program_tree.specs.View.{block as block_plain, statements as statements_plain}
-use Rattle.meaning.specs.Statements.{job_of}
 use Rattle.meaning.specs.Elision.{body, turns, all_turns}
 use Rattle.serial_oracle.specs.Keeping.{tree_in, tables_in, enters_in}
-use Rattle.serial_oracle.specs.Results.{results, site_at}
+use Rattle.serial_oracle.specs.Pieces.{job_in}
+use Rattle.serial_oracle.specs.Results.{results}
 use Rattle.serial_oracle.specs.Worths.{standing}
 use Rattle.serial_oracle.proofs.run.+run.Given as goal
 
@@ -56,8 +55,8 @@ abbrev pub invariant-run_turns-loop-i : goal.invariant-run_turns-loop-i
 invariant-run_turns-loop-i l =
     (l.i ≤ l.range.count)
     × ((grain : ℕ)
-    → results (tree_in l.scope) (all_turns (tree_in l.scope) (tables_in l.scope) (enters_in l.scope l.left) (job_of (site_at l.here l.number) l.env l.x l.g (map term l.es) grain l.range.low) l.range.count) (standing l.scope l.initial.journal)
-    ≡ results (tree_in l.scope) (turns (tree_in l.scope) (tables_in l.scope) (enters_in l.scope l.left) (job_of (site_at l.here l.number) l.env l.x l.g (map term l.es) grain l.range.low) (l.range.count - l.i) l.i) (standing l.scope l.journal))
+    → results (tree_in l.scope) (all_turns (tree_in l.scope) (tables_in l.scope) (enters_in l.scope l.left) (job_in l.entry l.env l.x grain l.range.low) l.range.count) (standing l.scope l.initial.journal)
+    ≡ results (tree_in l.scope) (turns (tree_in l.scope) (tables_in l.scope) (enters_in l.scope l.left) (job_in l.entry l.env l.x grain l.range.low) (l.range.count - l.i) l.i) (standing l.scope l.journal))
 
 abbrev pub decreases-run_turns-loop-i : goal.decreases-run_turns-loop-i
 decreases-run_turns-loop-i l = l.range.count - l.i

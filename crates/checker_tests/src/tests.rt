@@ -1,0 +1,10 @@
+//! Programs that break one rule each, and programs that break none.
+
+mod answers;
+mod code;
+mod declared;
+mod exhausted;
+mod names;
+mod reads;
+mod revisions;
+mod syncs;

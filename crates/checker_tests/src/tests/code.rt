@@ -1,0 +1,81 @@
+//! What a checked program lends: its tree, the names of its tables, its code with numbers for names.
+
+use super::answers::checked;
+use linked_program::checked::Checked;
+use linked_program::code::{Expression, Operation};
+use linked_program::linking::procedure_number;
+use monoid_laws::Kind;
+use program_tree::Way;
+
+const TEXT: &str = "reducer best : max;
+proc leaf(v) { return v; }
+proc main() { call leaf(sales[3].price); x = 1; y = 2; z = 3; return 5; }
+proc extra() { return 7; }";
+
+fn is_number(expression: &Expression, wanted: i64) -> bool {
+    match expression {
+        Expression::Number(number) => *number == wanted,
+        _ => false,
+    }
+}
+
+/// Whether an expression is the cell of the second table, row 3, second column.
+fn is_price(expression: &Expression) -> bool {
+    match expression {
+        Expression::Cell(table, row, column) => *table == 1 && is_number(row, 3) && *column == 1,
+        _ => false,
+    }
+}
+
+/// Whether an operation is the call of the first procedure with that cell alone.
+fn calls_with_price(operation: &Operation) -> bool {
+    match operation {
+        Operation::Enter(name, way, procedure, arguments) => name.is_none()
+            && *way == Way::Call
+            && *procedure == 0
+            && arguments.len() == 1
+            && arguments.first().is_some_and(|argument| is_price(argument)),
+        _ => false,
+    }
+}
+
+fn returns(operation: &Operation, wanted: i64) -> bool {
+    match operation {
+        Operation::Return(value) => is_number(value, wanted),
+        _ => false,
+    }
+}
+
+/// Whether the procedure of that number returns this, in the statement of that number of its body.
+fn returns_at(program: &Checked, procedure: usize, number: u32, wanted: i64) -> bool {
+    let index = (number as usize).saturating_sub(1);
+    match program.instruction(procedure, 0, index) {
+        Some(instruction) => {
+            instruction.number == number && returns(&instruction.operation, wanted)
+        }
+        None => false,
+    }
+}
+
+#[test]
+fn a_checked_program_has_its_code(rt: HostRuntime) {
+    let program = checked(&rt, rt.alloc(), TEXT);
+    assert_eq!(rt; (program.main(), program.codes().len()), (1, 3));
+    assert_eq!(rt; (program.slots(1), program.slots(3)), (3, 0));
+    assert_eq!(rt; program.kinds(), [Kind::Max].as_slice());
+    assert!(rt; returns_at(&program, 1, 5, 5) && returns_at(&program, 2, 1, 7));
+    assert!(rt; program.instruction(1, 0, 5).is_none());
+    let first = program.instruction(1, 0, 0).expect(&rt, "a statement");
+    assert!(rt; first.number == 1 && calls_with_price(&first.operation));
+    let columns = program.tables().get(1).map(|table| table.columns.len());
+    assert_eq!(rt; columns, Some(2));
+}
+
+#[test]
+fn procedures_go_by_number(rt: HostRuntime) {
+    let program = checked(&rt, rt.alloc(), TEXT);
+    for (name, number) in [("leaf", 0), ("main", 1), ("extra", 2), ("other", 3)] {
+        let found = procedure_number(&program.program().declarations, name);
+        assert_eq!(rt; found, number, "of {name}");
+    }
+}
