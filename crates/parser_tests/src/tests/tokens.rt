@@ -26,6 +26,9 @@ fn is_token(found: &Placed, wanted: Wanted) -> bool {
 
 /// Whether a text is cut into these tokens.
 fn is_cut(alloc: Global, text: &[u8], wanted: &[Wanted]) -> bool {
+    if text.len() > 1_048_576 {
+        return false;
+    }
     let Ok(found) = tokens(alloc, text) else {
         return false;
     };
