@@ -1,5 +1,7 @@
 -- The answers to commands, one after another.
 use Rattle.std.proofs.Common.{◌≡◌, ℕ, suc, ◌+◌, ◌<◌, List, [], ◌++◌, map, drop, length, get_or, refl, ap, subst, ◌∙◌, append_assoc, add-one, ◌≤◌, arith}
+use Rattle.std.specs.Prelude.{String}
+use Rattle.std.specs.declared.alloc.Global.{Global}
 use Rattle.std.proofs.Math.Seq.{drop-cons}
 use Rattle.program_tree.specs.Plain.{Tree}
 use Rattle.program_tree.specs.View.{tree}
@@ -7,14 +9,31 @@ use Rattle.linked_program.specs.Checked.{PlainChecked}
 use Rattle.meaning.specs.Script as script
 use Rattle.meaning.specs.Statements.{reducers}
 use Rattle.meaning.specs.Tables.{Tables}
-use Rattle.meaning.specs.Elision.{from_scratch}
+use Rattle.meaning.specs.Elision.{Answer, Finished, Faulted, from_scratch}
 use Rattle.meaning.specs.Edits.{Standing}
 use Rattle.meaning.specs.Text as text
-use Rattle.meaning.specs.Text.{run_line, outcome_text, runs_after}
+use Rattle.meaning.specs.Text.{run_line, result_text, worths_text, fault_text, outcome_text, runs_after}
+use Rattle.frames.specs.declared.answer.RunAnswer.{RunAnswer}
+use Rattle.frames.specs.declared.answer.RunAnswer.TheVariants as given
+use Rattle.worker_core.specs.Keeps.{IsElision}
+use Rattle.trace_report.specs.Outcomes.{Extends, Shows}
 use Rattle.cli.specs.declared.script.Command.{Command}
 use Rattle.cli.specs.declared.script.Command.TheVariants as c
 use Rattle.cli.specs.Answers.{reads_nothing, checks_nothing, unedited, answer_text, answers_from}
 use Rattle.cli.specs.Commands.{said}
+
+-- what a run came to is shown as the elision's answer
+pub shown_elision : (program : PlainChecked) (a : Answer) (came : RunAnswer) (old new : String Global) → IsElision program a came
+    → Shows program came old new → Extends old new (outcome_text (reducers (tree program.program)) a)
+shown_elision program (Finished v worths) (given.Finished w got) old new is shows =
+    let reds = reducers (tree program.program) in
+    subst (λ x. Extends old new (result_text x ++ worths_text reds worths)) is.0
+    (subst (λ ws. Extends old new (result_text w ++ worths_text reds ws)) is.1 shows)
+shown_elision program (Finished v worths) (given.Fault f) old new is shows = absurd is
+shown_elision program (Faulted k) (given.Finished w got) old new is shows = absurd is
+shown_elision program (Faulted k) (given.Fault f) old new is shows = subst (λ x. Extends old new (fault_text x)) is shows
+shown_elision program a given.Unfinished old new is shows = absurd shows
+shown_elision program a given.NoMemory old new is shows = absurd shows
 
 -- the line of a run and then what it came to
 pub answer_text-run : (program : Tree) (tables : Tables) (runs : ℕ) (old mid new : List ℕ)

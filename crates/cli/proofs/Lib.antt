@@ -1,9 +1,4 @@
 pub mod Answering
 pub mod Commands
-pub mod Lines
 pub mod SameKind
-pub mod Searching
-pub mod Sums
-pub mod Totals
-pub mod Turns
 pub mod Written

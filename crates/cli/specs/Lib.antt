@@ -1,10 +1,8 @@
-pub mod Amounts
 pub mod Answers
 pub mod Commands
+pub mod Endings
 pub mod Failed
-pub mod Line
 pub mod Preparing
 pub mod Reports
-pub mod Runs
 pub mod Statuses
 pub mod Written

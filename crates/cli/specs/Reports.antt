@@ -4,6 +4,7 @@ use Rattle.std.specs.Io.KnownBytes.{Appends, Keeps}
 use Rattle.program_tree.specs.View.{tree}
 use Rattle.meaning.specs.Tables.{Tables}
 use Rattle.linked_program.specs.Checked.{PlainChecked}
+use Rattle.command_line.specs.declared.options.Options.{Options}
 use Rattle.cli.specs.declared.streams.SessionError.TheVariants as s
 use Rattle.cli.specs.declared.program.ProgramError.{ProgramError}
 use Rattle.cli.specs.declared.program.ProgramError.TheVariants.{Line, File, Prepare, Session}
@@ -11,10 +12,10 @@ use Rattle.cli.specs.Answers.{answers_text}
 use Rattle.cli.specs.Written.{HasBeginning}
 use Rattle.cli.specs.Preparing.{IsPrepared, IsRefused}
 
--- the program and the tables are those of the files at these paths, and that of the tables is text
-abbrev pub IsOpened : (List ℕ → Option (List ℕ)) → List ℕ → List ℕ → PlainChecked → Tables → Type 0
-IsOpened held program_path tables_path checked tables =
-    (program tables_text : List ℕ) → held program_path ≡ Some program → held tables_path ≡ Some tables_text
+-- the program and the tables are those of the files that the options name, and that of the tables is text
+abbrev pub IsOpened : (List ℕ → Option (List ℕ)) → Options → PlainChecked → Tables → Type 0
+IsOpened held options checked tables =
+    (program tables_text : List ℕ) → held options.program.now ≡ Some program → held options.tables.now ≡ Some tables_text
     → IsUtf8 tables_text × IsPrepared program tables_text checked tables
 
 -- the bytes that are known there are no text, or none are known
@@ -23,15 +24,15 @@ IsNoText None = Unit {0}
 IsNoText (Some bytes) = IsUtf8 bytes → ⊥
 
 -- why no session was begun: a file first, and a text only where the tables' file is text; of a session that was begun, nothing is said
-abbrev pub IsUnopened : (List ℕ → Option (List ℕ)) → List ℕ → List ℕ → ProgramError → Type 0
-IsUnopened held program_path tables_path (Line e) = ⊥
-IsUnopened held program_path tables_path (File path) =
-    ((string_bytes path ≡ program_path) × (held program_path ≡ None))
-    ⊎ ((string_bytes path ≡ tables_path) × IsNoText (held tables_path))
-IsUnopened held program_path tables_path (Prepare e) =
-    (program tables_text : List ℕ) → held program_path ≡ Some program → held tables_path ≡ Some tables_text
+abbrev pub IsUnopened : (List ℕ → Option (List ℕ)) → Options → ProgramError → Type 0
+IsUnopened held options (Line e) = ⊥
+IsUnopened held options (File path) =
+    ((string_bytes path ≡ options.program.now) × (held options.program.now ≡ None))
+    ⊎ ((string_bytes path ≡ options.tables.now) × IsNoText (held options.tables.now))
+IsUnopened held options (Prepare e) =
+    (program tables_text : List ℕ) → held options.program.now ≡ Some program → held options.tables.now ≡ Some tables_text
     → IsUtf8 tables_text × IsRefused program tables_text e
-IsUnopened held program_path tables_path (Session e) = Unit {0}
+IsUnopened held options (Session e) = Unit {0}
 
 -- the error of a file that failed: its path, or want of memory
 abbrev pub IsFailed : List ℕ → ProgramError → Type 0
@@ -52,6 +53,18 @@ IsBegun program tables_text script old new =
     Keeps old new
     ⊎ ((checked : PlainChecked) × (tables : Tables) × IsPrepared program tables_text checked tables
     × HasBeginning old new (answers_text (tree checked.program) tables script))
+
+-- as much was written over the files that the options name, where their bytes and the script are known
+
+abbrev pub IsReportedOver : (List ℕ → Option (List ℕ)) → Options → Option (List ℕ) → Option (List ℕ) → Option (List ℕ) → Type 0
+IsReportedOver held options known old new =
+    (program tables script : List ℕ) → held options.program.now ≡ Some program → held options.tables.now ≡ Some tables
+    → known ≡ Some script → IsReported program tables script old new
+
+abbrev pub IsBegunOver : (List ℕ → Option (List ℕ)) → Options → Option (List ℕ) → Option (List ℕ) → Option (List ℕ) → Type 0
+IsBegunOver held options known old new =
+    (program tables script : List ℕ) → held options.program.now ≡ Some program → held options.tables.now ≡ Some tables
+    → known ≡ Some script → IsBegun program tables script old new
 
 -- the errors after which nothing was written
 abbrev pub WritesNothing : ProgramError → Type 0

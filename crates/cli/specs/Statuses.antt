@@ -1,6 +1,6 @@
 -- The program's exit status.
 use Rattle.std.specs.Prelude.{ℕ}
-use Rattle.cli.specs.declared.options.OptionsError.TheVariants as o
+use Rattle.command_line.specs.declared.options.OptionsError.TheVariants as o
 use Rattle.cli.specs.declared.prepare.PrepareError.TheVariants as p
 use Rattle.cli.specs.declared.streams.SessionError.TheVariants as s
 use Rattle.cli.specs.declared.program.ProgramError.{ProgramError}

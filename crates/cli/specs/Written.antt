@@ -1,7 +1,15 @@
 -- What a writer has got of some bytes.
-use Rattle.std.specs.Prelude.{ℕ, List, Option, take}
+use Rattle.std.specs.Prelude.{ℕ, List, Option, IfSome, take}
 use Rattle.std.specs.Io.KnownBytes.{Appends}
 
 -- known bytes grew by a beginning of these
 abbrev pub HasBeginning : Option (List ℕ) → Option (List ℕ) → List ℕ → Type 0
 HasBeginning old new bytes = (n : ℕ) × Appends old new (take n bytes)
+
+-- known bytes grew by all answers to a known script
+abbrev pub WritesAll : (List ℕ → List ℕ) → Option (List ℕ) → Option (List ℕ) → Option (List ℕ) → Type 0
+WritesAll answers script old new = IfSome script (λ known. Appends old new (answers known))
+
+-- known bytes grew by a beginning of the answers to a known script
+abbrev pub WritesBeginning : (List ℕ → List ℕ) → Option (List ℕ) → Option (List ℕ) → Option (List ℕ) → Type 0
+WritesBeginning answers script old new = IfSome script (λ known. HasBeginning old new (answers known))

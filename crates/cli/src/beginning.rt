@@ -20,9 +20,12 @@ pub fn begin<V: View, M: Fn(Kind) -> Result<V, AllocError>>(
     make: &M,
 ) -> Result<Session<V>, PrepareError>
     requires callable { M.IsAlwaysCallable make.now }
-    ensures prepared { IfOk result (λ session. IsPrepared program.now tables.now session.checked session.tables.tables) }
-    ensures kinds { IfOk result (λ session. All (λ kit. kit ≡ session.checked.kinds) session.kits.kits) }
-    ensures tables { IfOk result (λ session. session.checked.tables ≡ columned_of session.tables.tables) }
+    ensures prepared { IfOk result (λ session.
+        IsPrepared program.now tables.now session.checked session.tables.tables) }
+    ensures kinds { IfOk result (λ session.
+        All (λ kit. kit ≡ session.checked.kinds) session.kits.kits) }
+    ensures tables { IfOk result (λ session.
+        session.checked.tables ≡ columned_of session.tables.tables) }
     ensures count { IfOk result (λ session. length session.kits.kits ≡ kits) }
     ensures refused { IfErr result (IsRefused program.now tables.now) }
 {

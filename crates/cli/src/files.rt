@@ -14,8 +14,10 @@ pub trait FileSource {
 
     /// All bytes of the file at that path; a file whose bytes are known fails for want of memory alone.
     fn read(&self, alloc: Global, path: &str) -> io::Result<Vec<u8>>
-        ensures bytes { IfOk result (λ bytes. IfSome (held self.now path.now) (λ known. bytes.items ≡ known)) }
-        ensures fails { IsSome (held self.now path.now) → IfErr result (λ e. error_kind e ≡ ErrorKind.OutOfMemory) };
+        ensures bytes { IfOk result (λ bytes.
+            IfSome (held self.now path.now) (λ known. bytes.items ≡ known)) }
+        ensures fails { IsSome (held self.now path.now)
+            → IfErr result (λ e. error_kind e ≡ ErrorKind.OutOfMemory) };
 }
 
 /// The files of the system, whose bytes no contract knows.

@@ -1,16 +1,11 @@
 //! The program's parts: what it is given, what it reads and what it writes.
 #![tactic(auto)]
 
-pub mod amounts;
-pub mod answers;
 pub mod beginning;
 pub mod files;
 pub mod kits;
-pub mod line;
-pub mod options;
 pub mod prepare;
 pub mod program;
-pub mod runs;
 pub mod script;
 pub mod session;
 pub mod streams;

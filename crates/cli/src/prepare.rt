@@ -40,7 +40,8 @@ pub fn prepare(
     program: &[u8],
     tables: &str,
 ) -> Result<(Checked, Tables), PrepareError>
-    ensures prepared { IfOk result (λ pair. IsPrepared program.now tables.now pair.0 pair.1.tables) }
+    ensures prepared { IfOk result (λ pair.
+        IsPrepared program.now tables.now pair.0 pair.1.tables) }
     ensures unedited { IfOk result (λ pair. pair.1.edits ≡ 0) }
     ensures refused { IfErr result (IsRefused program.now tables.now) }
 {

@@ -1,18 +1,18 @@
 // The program: its line, its files, its session on standard input and output.
-ghost use Rattle.std.specs.Prelude.{◌≡◌, ◌≢◌, ◌<◌, ◌⊎◌, ℕ, List, Some, Err, true, All, IfOk, IfErr, OnOk, OnErr, length, map, string_bytes};
+ghost use Rattle.std.specs.Prelude.{◌≡◌, ◌≢◌, ◌<◌, ◌⊎◌, Err, true, All, IfOk, IfErr, OnOk, OnErr, length, map, string_bytes};
 ghost use Rattle.std.specs.Io.KnownBytes.{Keeps, IsAtEnd};
 ghost use Rattle.std.specs.IoError.{error_kind};
 ghost use Rattle.linked_program.specs.TableNames.{columned_of};
 ghost use Rattle.cli.specs.Statuses.{status_of};
-ghost use Rattle.cli.specs.Reports.{IsOpened, IsUnopened, IsFailed, IsReported, IsBegun, WritesNothing};
+ghost use Rattle.cli.specs.Reports.{IsOpened, IsUnopened, IsFailed, IsReportedOver, IsBegunOver, WritesNothing};
 
 use crate::beginning::begin;
 use crate::files::{FileSource, SystemFiles};
-use crate::line::options;
-use crate::options::{Options, OptionsError};
 use crate::prepare::PrepareError;
-use crate::session::{Session, session_noting};
+use crate::session::{Session, session_text};
 use crate::streams::{Failures, SessionError};
+use command_line::line::options;
+use command_line::options::{Options, OptionsError};
 use monoid_laws::Kind;
 use std::alloc::{AllocError, Global};
 use std::io::{BufReader, BufWriter, ErrorKind, Read, Write};
@@ -96,31 +96,27 @@ pub fn report_on<V: View, M: Fn(Kind) -> Result<V, AllocError>, F: FileSource, R
 ) -> Result<(), ProgramError>
     requires callable { M.IsAlwaysCallable make.now }
     requires workers { 0 < options.workers }
-    ensures answered { OnOk result ((program tables script : List ℕ) → F.held files.now options.entry.program.now ≡ Some program
-        → F.held files.now options.entry.tables.now ≡ Some tables → R.remaining reader.old ≡ Some script
-        → IsReported program tables script (W.contents writer.old) (W.contents writer.new)) }
+    ensures answered { OnOk result (IsReportedOver (F.held files.now) options.entry
+        (R.remaining reader.old) (W.contents writer.old) (W.contents writer.new)) }
     ensures over { OnOk result (IsAtEnd (R.remaining reader.new)) }
-    ensures unopened { IfErr result (IsUnopened (F.held files.now) options.entry.program.now options.entry.tables.now) }
-    ensures beginning { (program tables script : List ℕ) → F.held files.now options.entry.program.now ≡ Some program
-        → F.held files.now options.entry.tables.now ≡ Some tables → R.remaining reader.old ≡ Some script
-        → IsBegun program tables script (W.contents writer.old) (W.contents writer.new) }
-    ensures unwritten { IfErr result (λ e. WritesNothing e → Keeps (W.contents writer.old) (W.contents writer.new)) }
-    ensures kits { 0 < options.entry.kits → result ≢ Err (ProgramError.Session SessionError.NoKit) }
-    ensures input { result ≡ Err (ProgramError.Session SessionError.Read) → failures.new.input ≡ true }
-    ensures output { result ≡ Err (ProgramError.Session SessionError.Write) → failures.new.output ≡ true }
+    ensures unopened { IfErr result (IsUnopened (F.held files.now) options.entry) }
+    ensures beginning { IsBegunOver (F.held files.now) options.entry
+        (R.remaining reader.old) (W.contents writer.old) (W.contents writer.new) }
+    ensures unwritten { IfErr result (λ e. WritesNothing e
+        → Keeps (W.contents writer.old) (W.contents writer.new)) }
+    ensures kits { 0 < options.entry.kits
+        → result ≢ Err (ProgramError.Session SessionError.NoKit) }
+    ensures input { result ≡ Err (ProgramError.Session SessionError.Read)
+        → failures.new.input ≡ true }
+    ensures output { result ≡ Err (ProgramError.Session SessionError.Write)
+        → failures.new.output ≡ true }
     ensures unmarked { OnOk result (failures.new ≡ failures.old) }
-    ensures input_stays { result ≢ Err (ProgramError.Session SessionError.Read) → failures.new.input ≡ failures.old.input }
+    ensures input_stays { result ≢ Err (ProgramError.Session SessionError.Read)
+        → failures.new.input ≡ failures.old.input }
 {
     let session = session_of(alloc, options, make, files)?;
-    match session_noting(
-        rt,
-        alloc,
-        session,
-        options.workers,
-        reader,
-        writer,
-        failures,
-    ) {
+    let workers = options.workers;
+    match session_text(rt, alloc, session, workers, reader, writer, failures) {
         Ok(()) => Ok(()),
         Err(error) => Err(ProgramError::Session(error)),
     }
@@ -128,7 +124,8 @@ pub fn report_on<V: View, M: Fn(Kind) -> Result<V, AllocError>, F: FileSource, R
 
 // The words of the program's line.
 fn line_of<S: Runtime + AllocGlobal>(rt: &S, alloc: Global) -> Result<Vec<String>, ProgramError>
-    ensures refused { IfErr result (λ e. (e ≡ ProgramError.Session SessionError.NoMemory) ⊎ (e ≡ ProgramError.Line OptionsError.Usage)) }
+    ensures refused { IfErr result (λ e.
+        (e ≡ ProgramError.Session SessionError.NoMemory) ⊎ (e ≡ ProgramError.Line OptionsError.Usage)) }
     ensures kits { result ≢ Err (ProgramError.Session SessionError.NoKit) }
 {
     let mut words = Vec::new(alloc);
@@ -145,7 +142,8 @@ fn line_of<S: Runtime + AllocGlobal>(rt: &S, alloc: Global) -> Result<Vec<String
 
 // The words, lent.
 fn lent(alloc: Global, held: &[String]) -> Result<Vec<&str>, ProgramError>
-    ensures words { IfOk result (λ words. map (λ word. word.now) words.items ≡ map string_bytes held.now) }
+    ensures words { IfOk result (λ words.
+        map (λ word. word.now) words.items ≡ map string_bytes held.now) }
     ensures refused { IfErr result (λ e. e ≡ ProgramError.Session SessionError.NoMemory) }
     ensures kits { result ≢ Err (ProgramError.Session SessionError.NoKit) }
 {
@@ -164,11 +162,14 @@ fn session_of<V: View, M: Fn(Kind) -> Result<V, AllocError>, F: FileSource>(
     files: &F,
 ) -> Result<Session<V>, ProgramError>
     requires callable { M.IsAlwaysCallable make.now }
-    ensures opened { IfOk result (λ session. IsOpened (F.held files.now) options.entry.program.now options.entry.tables.now session.checked session.tables.tables) }
-    ensures kinds { IfOk result (λ session. All (λ kit. kit ≡ session.checked.kinds) session.kits.kits) }
-    ensures tables { IfOk result (λ session. session.checked.tables ≡ columned_of session.tables.tables) }
+    ensures opened { IfOk result (λ session.
+        IsOpened (F.held files.now) options.entry session.checked session.tables.tables) }
+    ensures kinds { IfOk result (λ session.
+        All (λ kit. kit ≡ session.checked.kinds) session.kits.kits) }
+    ensures tables { IfOk result (λ session.
+        session.checked.tables ≡ columned_of session.tables.tables) }
     ensures count { IfOk result (λ session. length session.kits.kits ≡ options.entry.kits) }
-    ensures unopened { IfErr result (IsUnopened (F.held files.now) options.entry.program.now options.entry.tables.now) }
+    ensures unopened { IfErr result (IsUnopened (F.held files.now) options.entry) }
     ensures kits { result ≢ Err (ProgramError.Session SessionError.NoKit) }
     ensures input { result ≢ Err (ProgramError.Session SessionError.Read) }
     ensures output { result ≢ Err (ProgramError.Session SessionError.Write) }
@@ -193,7 +194,8 @@ fn session_of<V: View, M: Fn(Kind) -> Result<V, AllocError>, F: FileSource>(
 // A file that failed with that error: its path, or want of memory.
 fn failed(alloc: Global, path: &str, error: &io::Error) -> ProgramError
     ensures failed { IsFailed path.now result }
-    ensures memory { error_kind error.now ≡ ErrorKind.OutOfMemory → result ≡ ProgramError.Session SessionError.NoMemory }
+    ensures memory { error_kind error.now ≡ ErrorKind.OutOfMemory
+        → result ≡ ProgramError.Session SessionError.NoMemory }
 {
     if error.kind() == ErrorKind::OutOfMemory {
         return no_memory();

@@ -1,8 +1,9 @@
 // Reading a stream to its end, and writing to one.
-ghost use Rattle.std.specs.Prelude.{◌≡◌, ◌≢◌, ◌⊎◌, ◌<◌, ◌≤◌, Err, false, true, length, take, IfOk, IfErr, OnOk, OnErr, IfSome, IfNone};
+ghost use Rattle.std.specs.Prelude.{◌≡◌, ◌≢◌, ◌<◌, ◌≤◌, Err, false, true, length, take, IfOk, IfErr, OnOk, OnErr, IfSome, IfNone};
 ghost use Rattle.std.specs.Io.KnownBytes.{Appends, Keeps, Consumes, IsAtEnd};
 ghost use Rattle.std.specs.IoError.{error_kind};
 ghost use Rattle.cli.specs.declared.streams.SessionError.TheVariants.{NoMemory};
+ghost use Rattle.cli.specs.Endings.{IsReaderError, IsWriterError};
 ghost use Rattle.cli.specs.Written.{HasBeginning};
 
 use std::alloc::{AllocError, Global};
@@ -95,10 +96,13 @@ impl Failures {
         buffer: &mut [u8],
     ) -> Result<Option<usize>, SessionError>
         ensures bound { IfOk result (λ read. IfSome read (λ n. n ≤ length buffer.new)) }
-        ensures taken { IfOk result (λ read. IfSome read (λ n. Consumes (R.remaining reader.old) (R.remaining reader.new) (take n buffer.new))) }
-        ensures over { IfOk result (λ read. IfSome read (λ n. n ≡ 0 → 0 < length buffer.new → IsAtEnd (R.remaining reader.new))) }
-        ensures interrupted { IfOk result (λ read. IfNone read (Keeps (R.remaining reader.old) (R.remaining reader.new))) }
-        ensures refused { IfErr result (λ e. (e ≡ SessionError.NoMemory) ⊎ (e ≡ SessionError.Read)) }
+        ensures taken { IfOk result (λ read. IfSome read (λ n.
+            Consumes (R.remaining reader.old) (R.remaining reader.new) (take n buffer.new))) }
+        ensures over { IfOk result (λ read. IfSome read (λ n.
+            n ≡ 0 → 0 < length buffer.new → IsAtEnd (R.remaining reader.new))) }
+        ensures interrupted { IfOk result (λ read.
+            IfNone read (Keeps (R.remaining reader.old) (R.remaining reader.new))) }
+        ensures refused { IfErr result IsReaderError }
         ensures noted { result ≡ Err SessionError.Read → self.new.input ≡ true }
         ensures unmarked { result ≢ Err SessionError.Read → self.new ≡ self.old }
         ensures others { self.new.output ≡ self.old.output }
@@ -114,9 +118,10 @@ impl Failures {
     // One write: how many of the bytes were taken; 0 where it was interrupted.
     fn write<W: Write>(&mut self, writer: &mut W, bytes: &[u8]) -> Result<usize, SessionError>
         ensures bound { IfOk result (λ n. n ≤ length bytes.now) }
-        ensures written { IfOk result (λ n. Appends (W.contents writer.old) (W.contents writer.new) (take n bytes.now)) }
+        ensures written { IfOk result (λ n.
+            Appends (W.contents writer.old) (W.contents writer.new) (take n bytes.now)) }
         ensures kept { OnErr result (Keeps (W.contents writer.old) (W.contents writer.new)) }
-        ensures refused { IfErr result (λ e. (e ≡ SessionError.NoMemory) ⊎ (e ≡ SessionError.Write)) }
+        ensures refused { IfErr result IsWriterError }
         ensures noted { result ≡ Err SessionError.Write → self.new.output ≡ true }
         ensures unmarked { result ≢ Err SessionError.Write → self.new ≡ self.old }
         ensures others { self.new.input ≡ self.old.input }
@@ -132,7 +137,7 @@ impl Failures {
     // One flush: whether it was done; not where it was interrupted.
     fn flush<W: Write>(&mut self, writer: &mut W) -> Result<bool, SessionError>
         ensures kept { Keeps (W.contents writer.old) (W.contents writer.new) }
-        ensures refused { IfErr result (λ e. (e ≡ SessionError.NoMemory) ⊎ (e ≡ SessionError.Write)) }
+        ensures refused { IfErr result IsWriterError }
         ensures noted { result ≡ Err SessionError.Write → self.new.output ≡ true }
         ensures unmarked { result ≢ Err SessionError.Write → self.new ≡ self.old }
         ensures others { self.new.input ≡ self.old.input }
@@ -146,9 +151,11 @@ impl Failures {
 
     // What that error of the writer ends a session by: a failure, which is noted, or want of memory.
     fn of_writer(&mut self, error: &io::Error) -> SessionError
-        ensures memory { error_kind error.now ≡ ErrorKind.OutOfMemory → result ≡ SessionError.NoMemory }
-        ensures failed { error_kind error.now ≢ ErrorKind.OutOfMemory → result ≡ SessionError.Write }
-        ensures error { (result ≡ SessionError.NoMemory) ⊎ (result ≡ SessionError.Write) }
+        ensures memory { error_kind error.now ≡ ErrorKind.OutOfMemory
+            → result ≡ SessionError.NoMemory }
+        ensures failed { error_kind error.now ≢ ErrorKind.OutOfMemory
+            → result ≡ SessionError.Write }
+        ensures error { IsWriterError result }
         ensures noted { result ≡ SessionError.Write → self.new.output ≡ true }
         ensures unmarked { result ≢ SessionError.Write → self.new ≡ self.old }
         ensures others { self.new.input ≡ self.old.input }
@@ -166,10 +173,12 @@ pub fn read_all<R: Read>(
     reader: &mut R,
     failures: &mut Failures,
 ) -> Result<Vec<u8>, SessionError>
-    ensures known { IfOk result (λ script. IfSome (R.remaining reader.old) (λ bytes. script.items ≡ bytes)) }
-    ensures taken { IfOk result (λ script. Consumes (R.remaining reader.old) (R.remaining reader.new) script.items) }
+    ensures known { IfOk result (λ script.
+        IfSome (R.remaining reader.old) (λ bytes. script.items ≡ bytes)) }
+    ensures taken { IfOk result (λ script.
+        Consumes (R.remaining reader.old) (R.remaining reader.new) script.items) }
     ensures over { OnOk result (IsAtEnd (R.remaining reader.new)) }
-    ensures refused { IfErr result (λ e. (e ≡ SessionError.NoMemory) ⊎ (e ≡ SessionError.Read)) }
+    ensures refused { IfErr result IsReaderError }
     ensures noted { result ≡ Err SessionError.Read → failures.new.input ≡ true }
     ensures unmarked { result ≢ Err SessionError.Read → failures.new ≡ failures.old }
     ensures others { failures.new.output ≡ failures.old.output }
@@ -193,9 +202,10 @@ pub fn write_whole<W: Write>(
     bytes: &[u8],
     failures: &mut Failures,
 ) -> Result<(), SessionError>
-    ensures written { OnOk result (Appends (W.contents writer.old) (W.contents writer.new) bytes.now) }
+    ensures written { OnOk result
+        (Appends (W.contents writer.old) (W.contents writer.new) bytes.now) }
     ensures beginning { HasBeginning (W.contents writer.old) (W.contents writer.new) bytes.now }
-    ensures refused { IfErr result (λ e. (e ≡ SessionError.NoMemory) ⊎ (e ≡ SessionError.Write)) }
+    ensures refused { IfErr result IsWriterError }
     ensures noted { result ≡ Err SessionError.Write → failures.new.output ≡ true }
     ensures unmarked { result ≢ Err SessionError.Write → failures.new ≡ failures.old }
     ensures others { failures.new.input ≡ failures.old.input }
@@ -213,7 +223,7 @@ pub fn write_whole<W: Write>(
 /// Flushes a writer; refused where a flush fails, which is noted, or memory is wanted.
 pub fn flush<W: Write>(writer: &mut W, failures: &mut Failures) -> Result<(), SessionError>
     ensures kept { Keeps (W.contents writer.old) (W.contents writer.new) }
-    ensures refused { IfErr result (λ e. (e ≡ SessionError.NoMemory) ⊎ (e ≡ SessionError.Write)) }
+    ensures refused { IfErr result IsWriterError }
     ensures noted { result ≡ Err SessionError.Write → failures.new.output ≡ true }
     ensures unmarked { result ≢ Err SessionError.Write → failures.new ≡ failures.old }
     ensures stays { failures.old.output ≡ true → failures.new.output ≡ true }

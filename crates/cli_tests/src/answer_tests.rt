@@ -2,26 +2,25 @@
 ghost use Rattle.std.specs.Prelude.{◌≡◌, All};
 ghost use Rattle.linked_program.specs.TableNames.{columned_of};
 
-use cli::amounts::merged;
-use cli::answers::{
-    kind_name, push_fault, push_outcome, push_reducer, push_result, push_run, push_unknown,
-    push_value, push_values,
-};
 use cli::beginning::begin;
 use cli::kits::pool;
 use cli::prepare::prepare;
-use cli::runs::run;
 use cli::script::{Command, commands};
 use cli::session::Session;
 use cli::streams::{Failures, flush, read_all, write_whole};
-use frames::answer::RunAnswer;
 use meaning::FaultKind;
 use monoid_laws::{Kind, Val};
-use positions::phase::Fault;
 use program_tree::Reducer;
+use round_driver::runs::run;
 use std::alloc::{AllocError, Global};
 use std::process::Abort;
+use trace_report::amounts::merged;
+use trace_report::answers::{
+    kind_name, push_fault, push_outcome, push_reducer, push_result, push_run, push_unknown,
+    push_value, push_values,
+};
 use view_pool::PlainView;
+use worker_core::{Fault, RunAnswer};
 
 const TWO_REDUCERS: &str =
     "reducer a : add; proc main() { update b 5; update a 7; return 0 - 3; } reducer b : list;";

@@ -1,10 +1,10 @@
 // Where memory is refused, a report ends by want of memory after a beginning of its answers, or is as it should be.
 use cli::files::FileSource;
-use cli::line::options;
-use cli::options::{Options, OptionsError};
 use cli::prepare::{PrepareError, prepare};
 use cli::program::{report_on, status};
 use cli::streams::Failures;
+use command_line::line::options;
+use command_line::options::{Options, OptionsError};
 use monoid_laws::Kind;
 use std::alloc::{AllocError, Global};
 use std::io;

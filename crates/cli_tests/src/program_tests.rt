@@ -1,10 +1,10 @@
 // The program over two files in memory: what is written, what is said of an error, and the status.
 use cli::files::{FileSource, SystemFiles};
-use cli::line::options;
-use cli::options::OptionsError;
 use cli::prepare::PrepareError;
 use cli::program::{ProgramError, report_on, status};
 use cli::streams::{Failures, SessionError};
+use command_line::line::options;
+use command_line::options::OptionsError;
 use monoid_laws::Kind;
 use std::alloc::{AllocError, Global};
 use std::io;

@@ -3,6 +3,7 @@ ghost use Rattle.std.specs.Prelude.{◌<◌};
 
 use cli::beginning::begin;
 use cli::session::session_text;
+use cli::streams::Failures;
 use monoid_laws::Kind;
 use std::alloc::{AllocError, Global};
 use std::process::Abort;
@@ -77,7 +78,17 @@ fn answered<V: View, M: Fn(Kind) -> Result<V, AllocError>>(
     let session = begin(alloc, program.as_bytes(), SALES, kits, make).expect(rt, "a session");
     let mut reader = b"run\n".as_slice();
     let mut written = Vec::new(alloc);
-    session_text(rt, alloc, session, workers, &mut reader, &mut written).expect(rt, "answers");
+    let mut failures = Failures::none();
+    session_text(
+        rt,
+        alloc,
+        session,
+        workers,
+        &mut reader,
+        &mut written,
+        &mut failures,
+    )
+    .expect(rt, "answers");
     written
 }
 

@@ -3,11 +3,11 @@ ghost use Rattle.std.specs.Prelude.{◌≡◌, ◌<◌, All};
 ghost use Rattle.linked_program.specs.TableNames.{columned_of};
 
 use cli::beginning::begin;
-use cli::line::options;
-use cli::options::OptionsError;
 use cli::prepare::{PrepareError, prepare};
 use cli::session::{Session, session_text};
-use cli::streams::SessionError;
+use cli::streams::{Failures, SessionError};
+use command_line::line::options;
+use command_line::options::OptionsError;
 use monoid_laws::Kind;
 use std::alloc::{AllocError, Global};
 use std::io;
@@ -80,8 +80,31 @@ fn answers(
     let session = session(rt, alloc, program, 64);
     let mut reader = script.as_bytes();
     let mut written = Vec::new(alloc);
-    session_text(rt, alloc, session, workers, &mut reader, &mut written).expect(rt, "answers");
+    let mut failures = Failures::none();
+    session_text(
+        rt,
+        alloc,
+        session,
+        workers,
+        &mut reader,
+        &mut written,
+        &mut failures,
+    )
+    .expect(rt, "answers");
     written
+}
+
+// What a session of FIRST by one worker ends by.
+fn ended<R: Read, W: Write>(
+    rt: &(impl Abort + Wait),
+    alloc: Global,
+    kits: usize,
+    reader: &mut R,
+    writer: &mut W,
+) -> Result<(), SessionError> {
+    let session = session(rt, alloc, FIRST, kits);
+    let mut failures = Failures::none();
+    session_text(rt, alloc, session, 1, reader, writer, &mut failures)
 }
 
 fn refusal(alloc: Global, program: &[u8], tables: &str) -> Option<String> {
@@ -301,13 +324,12 @@ fn views_of_another_kind(rt: HostRuntime) {
 #[test]
 fn a_failed_write(rt: HostRuntime) {
     let alloc = rt.alloc();
-    let session = session(&rt, alloc, FIRST, 64);
     let mut reader = b"run\n".as_slice();
     let mut writer = Narrow {
         room: 7,
         taken: Vec::new(alloc),
     };
-    let ended = session_text(&rt, alloc, session, 1, &mut reader, &mut writer);
+    let ended = ended(&rt, alloc, 64, &mut reader, &mut writer);
     assert!(&rt; matches!(&ended, Err(SessionError::Write)));
     assert_eq!(&rt; writer.taken.as_slice(), b"run 1\nr".as_slice());
 }
@@ -315,9 +337,8 @@ fn a_failed_write(rt: HostRuntime) {
 #[test]
 fn a_failed_read(rt: HostRuntime) {
     let alloc = rt.alloc();
-    let session = session(&rt, alloc, FIRST, 64);
     let mut written = Vec::new(alloc);
-    let ended = session_text(&rt, alloc, session, 1, &mut Broken, &mut written);
+    let ended = ended(&rt, alloc, 64, &mut Broken, &mut written);
     assert!(&rt; matches!(&ended, Err(SessionError::Read)));
     assert_eq!(&rt; written.len(), 0);
 }
@@ -325,10 +346,9 @@ fn a_failed_read(rt: HostRuntime) {
 #[test]
 fn no_kit(rt: HostRuntime) {
     let alloc = rt.alloc();
-    let session = session(&rt, alloc, FIRST, 0);
     let mut reader = b"here\nrun\n".as_slice();
     let mut written = Vec::new(alloc);
-    let ended = session_text(&rt, alloc, session, 1, &mut reader, &mut written);
+    let ended = ended(&rt, alloc, 0, &mut reader, &mut written);
     assert!(&rt; matches!(&ended, Err(SessionError::NoKit)));
     assert_eq!(&rt; written.as_slice(), b"refused E19 1\n".as_slice());
 }

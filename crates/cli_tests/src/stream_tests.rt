@@ -3,7 +3,7 @@ ghost use Rattle.std.specs.Prelude.{◌≡◌, All};
 ghost use Rattle.linked_program.specs.TableNames.{columned_of};
 
 use cli::beginning::begin;
-use cli::session::{Session, session_noting};
+use cli::session::{Session, session_text};
 use cli::streams::{Failures, SessionError, read_all, write_whole};
 use monoid_laws::Kind;
 use std::alloc::{AllocError, Global};
@@ -99,7 +99,7 @@ fn noting<R: Read, W: Write>(
     failures: &mut Failures,
 ) -> Result<(), SessionError> {
     let session = session(rt, alloc);
-    session_noting(rt, alloc, session, 1, reader, writer, failures)
+    session_text(rt, alloc, session, 1, reader, writer, failures)
 }
 
 #[test]

@@ -9,3 +9,10 @@ pub mod run;
 mod stealing;
 mod stepping;
 mod strands;
+
+// What callers of a run name.
+pub use frames::answer::RunAnswer;
+pub use frames::records::Records;
+pub use numbered_runs::refusal::{Refusal, StartError};
+pub use numbered_runs::step::{BookStep, Place, State, Step, StrandLine};
+pub use positions::phase::Fault;

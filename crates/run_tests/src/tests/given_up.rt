@@ -3,13 +3,13 @@
 use super::lists::{CountedList, Refuses, kits_of_lists};
 use super::playing::{Played, checked, kits, play_checked, sales, take_all};
 use super::programs::{FIRST, FIRST_LIST};
-use frames::records::Records;
 use std::alloc::{AllocError, Global};
 use std::process::Abort;
 use std::sync::Arc;
 use std::sync::atomic::{AtomicUsize, Ordering};
 use std::test::Fail;
 use view_pool::View;
+use worker_core::Records;
 use worker_core::run::Core;
 
 const TO_THE_END: &str = "W0* P0 S10 W1* I1 W1* L1 W0* L0 F0@1 W0* L0";

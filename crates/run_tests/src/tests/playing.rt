@@ -8,11 +8,9 @@ ghost use Rattle.linked_program.specs.TableNames.{columned_of};
 
 use super::printing::{answer_text, history_text, strands_text};
 use super::programs::SALES;
-use frames::records::Records;
 use input_tables::Tables;
 use linked_program::checked::Checked;
 use monoid_laws::Kind;
-use numbered_runs::step::{Place, Step};
 use procedure_parser::parse;
 use spawn_checker::check;
 use std::alloc::{AllocError, Global};
@@ -20,6 +18,7 @@ use std::fmt::Write;
 use std::process::Abort;
 use view_pool::{Kit, PlainView, Pool, View};
 use worker_core::run::Core;
+use worker_core::{Place, Records, Step};
 
 /// What a line of steps led to.
 #[derive(Drop)]

@@ -1,13 +1,12 @@
 //! Answers, strands and histories as text.
 
-use frames::answer::RunAnswer;
 use linked_program::checked::Checked;
 use meaning::FaultKind;
 use monoid_laws::Val;
-use numbered_runs::step::{BookStep, State, StrandLine};
 use program_tree::Declaration;
 use std::alloc::{AllocError, Global};
 use std::fmt::Write;
+use worker_core::{BookStep, RunAnswer, State, StrandLine};
 
 /// A place: its numbers with points between them, or `root`.
 fn push_place(text: &mut String, place: &[usize]) -> Result<(), AllocError> {

@@ -5,16 +5,15 @@ ghost use Rattle.linked_program.specs.TableNames.{columned_of};
 use super::playing::{checked, kits, sales, work};
 use super::printing::{answer_text, fault_text, finished_text};
 use super::programs::ALL;
-use frames::records::Records;
 use input_tables::Tables;
 use linked_program::checked::Checked;
-use numbered_runs::step::{BookStep, Place, Step, StrandLine};
 use program_tree::Program;
 use serial_oracle::{Answer, Row, TableRows, from_scratch};
 use std::alloc::{AllocError, Global};
 use std::process::Abort;
 use view_pool::{Kit, Pool, View};
 use worker_core::run::Core;
+use worker_core::{BookStep, Place, Records, Step, StrandLine};
 
 fn row(alloc: Global, number: i64, qty: i64, price: i64) -> Result<Row, AllocError> {
     let values = vec![in alloc; qty, price]?;

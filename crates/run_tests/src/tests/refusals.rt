@@ -2,9 +2,8 @@
 
 use super::playing::{checked, kits, play, sales};
 use super::programs::FIRST_LIST;
-use frames::records::Records;
-use numbered_runs::refusal::StartError;
 use worker_core::run::Core;
+use worker_core::{Records, StartError};
 
 /// Workers, kits, a line, and what of it is refused.
 const ROWS: [(usize, usize, &str, &str); 8] = [

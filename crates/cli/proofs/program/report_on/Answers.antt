@@ -16,7 +16,7 @@ returns-in-Ok-clause-answered g c program tables script p t s =
       session.checked,
       session.tables.tables,
       opened.1,
-      of_some (λ script. Appends (g.W.Write.contents c.args.writer.now) (g.W.Write.contents c.session_noting.new.writer)
+      of_some (λ script. Appends (g.W.Write.contents c.args.writer.now) (g.W.Write.contents c.session_text.new.writer)
           (answers_text (tree session.checked.program) session.tables.tables script)) (g.R.Read.remaining c.args.reader.now) script s c.in-Ok.ensures.answered,
     )
 
@@ -27,7 +27,7 @@ returns-in-Ok-clause-beginning g c program tables script p t s =
       session.checked,
       session.tables.tables,
       (c.in_ok-session.ensures.opened program tables p t).1,
-      of_some (λ script. HasBeginning (g.W.Write.contents c.args.writer.now) (g.W.Write.contents c.session_noting.new.writer)
+      of_some (λ script. HasBeginning (g.W.Write.contents c.args.writer.now) (g.W.Write.contents c.session_text.new.writer)
           (answers_text (tree session.checked.program) session.tables.tables script)) (g.R.Read.remaining c.args.reader.now) script s c.in-Ok.ensures.beginning,
     )
 
@@ -38,6 +38,6 @@ returns-in-Err-clause-beginning g c program tables script p t s =
       session.checked,
       session.tables.tables,
       (c.in_ok-session.ensures.opened program tables p t).1,
-      of_some (λ script. HasBeginning (g.W.Write.contents c.args.writer.now) (g.W.Write.contents c.session_noting.new.writer)
+      of_some (λ script. HasBeginning (g.W.Write.contents c.args.writer.now) (g.W.Write.contents c.session_text.new.writer)
           (answers_text (tree session.checked.program) session.tables.tables script)) (g.R.Read.remaining c.args.reader.now) script s c.in-Err.ensures.beginning,
     )

@@ -1,0 +1,23 @@
+-- Steps one after another keep a run the same one, and its answer is that of its program and tables.
+use Rattle.std.proofs.Common.{ℕ, List, subst, ◌∙◌}
+use Rattle.program_tree.specs.View.{tree}
+use Rattle.monoid_laws.specs.declared.Kind.{Kind}
+use Rattle.meaning.specs.Elision.{from_scratch}
+use Rattle.view_pool.specs.Stock.{Stock}
+use Rattle.input_tables.specs.Edited.{Edited}
+use Rattle.linked_program.specs.Checked.{PlainChecked}
+use Rattle.frames.specs.declared.answer.RunAnswer.{RunAnswer}
+use Rattle.worker_core.specs.Cores.{PlainCore, IsFirstCore}
+use Rattle.worker_core.specs.Keeps.{IsElision, AnswersElision}
+use Rattle.round_driver.specs.Runs.{IsSameRun}
+
+pub also : {c d e : PlainCore} → IsSameRun c d → IsSameRun d e → IsSameRun c e
+also p q = record { program = q.program ∙ p.program; tables = q.tables ∙ p.tables; workers = q.workers ∙ p.workers; kits = q.kits ∙ p.kits; total = q.total ∙ p.total }
+
+-- the answer of a run that began with a program and tables
+pub same_answer : (program : PlainChecked) (tables : Edited) (pool : Stock (List Kind)) (workers : ℕ) (c d : PlainCore) (given : RunAnswer)
+    → IsFirstCore program tables pool workers c → IsSameRun c d → AnswersElision d given
+    → IsElision program (from_scratch (tree program.program) tables.tables) given
+same_answer program tables pool workers c d given first same answered =
+    subst (λ p. IsElision p (from_scratch (tree p.program) tables.tables) given) (same.program ∙ first.program_is)
+    (subst (λ t. IsElision d.program (from_scratch (tree d.program.program) t.tables) given) (same.tables ∙ first.tables_are) answered)

@@ -1,0 +1,35 @@
+-- The text of what a run came to.
+use Rattle.std.specs.Prelude.{◌≡◌, List, ◌++◌, map, ℕ, String, string_bytes}
+use Rattle.std.specs.declared.alloc.Global.{Global}
+use Rattle.monoid_laws.specs.Kinds.{meaning}
+use Rattle.program_tree.specs.View.{tree}
+use Rattle.meaning.specs.declared.FaultKind.{FaultKind}
+use Rattle.meaning.specs.Statements.{reducers}
+use Rattle.meaning.specs.Text.{result_text, worths_text, fault_text}
+use Rattle.linked_program.specs.Checked.{PlainChecked}
+use Rattle.positions.specs.Stands.{named_fault}
+use Rattle.positions.specs.declared.phase.Fault.{Fault}
+use Rattle.frames.specs.declared.answer.RunAnswer.{RunAnswer}
+use Rattle.frames.specs.declared.answer.RunAnswer.TheVariants as answer
+
+-- the new text is the old one, and more behind it
+abbrev pub Extends : String Global → String Global → List ℕ → Type 0
+Extends old new more = string_bytes new ≡ string_bytes old ++ more
+
+-- the line of a fault of that kind, at that statement of the procedure of that name
+abbrev pub fault_line : FaultKind → List ℕ → ℕ → List ℕ
+fault_line kind procedure statement =
+    fault_text (record { kind = kind; site = record { procedure = procedure; statement = statement } })
+
+-- the line of a fault by numbers
+abbrev pub named_fault_text : PlainChecked → Fault → List ℕ
+named_fault_text program fault = fault_text (named_fault program.tables (tree program.program) program.codes fault)
+
+-- what a run came to was put behind the old text: its result and the reducers' values, or its fault; a run that came to no
+-- end has no text
+abbrev pub Shows : PlainChecked → RunAnswer → String Global → String Global → Type 0
+Shows program (answer.Finished v values) old new =
+    Extends old new (result_text v ++ worths_text (reducers (tree program.program)) (map meaning values.items))
+Shows program (answer.Fault fault) old new = Extends old new (named_fault_text program fault)
+Shows program answer.Unfinished old new = ⊥
+Shows program answer.NoMemory old new = ⊥

@@ -1,0 +1,5 @@
+//! The text of answers, byte by byte.
+#![tactic(auto)]
+
+pub mod amounts;
+pub mod answers;
