@@ -14,8 +14,8 @@ use crate::stops::Trouble;
 use crate::{expressions, names};
 use meaning::FaultKind;
 use monoid_laws::{Kind, Val, laws_of};
-use reducer_values::{combine, copy_of, identity, inject};
 use program_tree::{Declaration, Expr, Program};
+use reducer_values::{combine, copy_of, identity, inject};
 use std::alloc::{AllocError, Global};
 
 /// The kinds of a program's reducers, in their order.

@@ -15,8 +15,8 @@ use crate::walk::note_block;
 use linked_program::tables::TableNames;
 use linked_program::violation::{Rule, Violation};
 use monoid_laws::{Kind, TableAnswer};
-use reducer_values::check_table;
 use program_tree::{Declaration, Procedure, Reducer};
+use reducer_values::check_table;
 use std::alloc::{AllocError, Global};
 
 // Whether a name is there twice.
