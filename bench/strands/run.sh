@@ -3,8 +3,7 @@
 # it stands on, and the same interpreter written in Rust. The copy is thrown away.
 set -eu
 source "$(dirname "$0")/../in_a_copy.sh"
-in_a_copy strands 'frames procedure_parser spawn_checker positions view_pool linked_program input_tables monoid_laws' \
-    'monoid_laws program_tree meaning linked_program input_tables token_scanner source_tree program_edits procedure_parser tree_equality spawn_checker evaluation positions view_pool hypermaps frames'
+in_a_copy strands 'frames procedure_parser spawn_checker positions view_pool linked_program input_tables monoid_laws'
 rustc -O --edition 2024 -o "$copy/strands" "$top/bench/strands/strands.rs"
 "${RT:-rt}" run # builds and proves it
 for _ in 1 2 3; do

@@ -3,5 +3,5 @@
 # in a copy of the crates that it stands on. The copy is thrown away.
 set -eu
 source "$(dirname "$0")/../in_a_copy.sh"
-in_a_copy tables 'input_tables toml' 'monoid_laws program_tree meaning input_tables'
+in_a_copy tables 'input_tables toml'
 "${RT:-rt}" run
