@@ -8,7 +8,7 @@ use Rattle.token_scanner.specs.declared.token.Mark.TheVariants as mark
 use Rattle.token_scanner.specs.declared.scanning.Class.TheVariants as class
 use Rattle.token_scanner.specs.Words.{Word, Name, Number, Sign, Bad, for_some, the_name}
 use Rattle.token_scanner.specs.Scanning.{is_letter, is_digit, belongs, front_len, keyword_of, name_of, decimal, number_of, followed, longer, single_of, mark_of, word_at}
-use Rattle.input_tables.specs.Names.{is_name, begins_name, is_name_byte, are_name_bytes, is_among, is_keyword}
+use Rattle.input_tables.specs.Names.{is_name, is_name_byte, are_name_bytes, is_among, is_keyword}
 use Rattle.spawn_checker.specs.Scanned.{scanned}
 
 -- ---- keywords

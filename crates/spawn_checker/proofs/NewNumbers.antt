@@ -135,13 +135,6 @@ module _ (old : Revised) (each : names_in old.revisions ≡ map (λ p. p.called)
   pub revised_below : (t : Tree) (ns : List (Name × ℕ)) (counter : ℕ) → (ns, counter) ≡ revised old t old.counter → All (λ (e : Name × ℕ). e.1 < counter) ns
   revised_below t ns counter e = subst AreBelow (sym e) (numbers_below t old.counter (omega arith))
 
--- numbers below one are below a greater one
-pub below_greater : (ns : List (Name × ℕ)) (m n : ℕ) → m ≤ n → All (λ (e : Name × ℕ). e.1 < m) ns → All (λ (e : Name × ℕ). e.1 < n) ns
-below_greater [] m n le h = All-nil (λ (e : Name × ℕ). e.1 < n)
-below_greater (x ∷ ns) m n le h =
-    let here = All-head (λ (e : Name × ℕ). e.1 < m) x ns h in
-    All-cons (λ (e : Name × ℕ). e.1 < n) x ns (omega (arith, le, here)) (below_greater ns m n le (All-tail (λ (e : Name × ℕ). e.1 < m) x ns h))
-
 -- a new procedure where the counter stands at its greatest number
 pub exhausted_at : (old : Revised) (p : Proc) (rest : Tree) (first : List (Name × ℕ)) (n all : ℕ) → all ≡ (behind first (revised old (procedure p ∷ rest) n)).1 → kept old p ≡ None → n ≡ most → most < all
 exhausted_at old p rest first n all is new full =
