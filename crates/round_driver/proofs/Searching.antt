@@ -1,5 +1,5 @@
 -- A search for a step that takes none: what a worker was refused.
-use Rattle.std.proofs.Common.{◌≡◌, ℕ, ◌<◌, nat_eq, ltb-true, Bool, true, false, cond, List, [], ◌∷◌, ◌++◌, length, Result, Ok, Err, All, map, refl, sym, ap₂, subst}
+use Rattle.std.proofs.Common.{◌≡◌, ℕ, ◌<◌, nat_eq, ltb-true, Bool, true, false, cond, List, [], ◌∷◌, ◌++◌, length, Result, Ok, All, map, refl, sym, ap₂, subst}
 use Rattle.std.proofs.lemmas.Bool.{and_parts, eqb-true}
 use Rattle.std.proofs.lemmas.List.Elements.{All-head, All-tail, All-map}
 use Rattle.meaning.specs.Outcome.{Place}
