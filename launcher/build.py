@@ -120,6 +120,9 @@ def prove(room, count):
 
 def main():
     signal.signal(signal.SIGTERM, lambda *_: sys.exit(143))
+    if not shutil.which("rt"):
+        print(f"{PROGRAM} is built by the Rattle kit, and its command rt is not on the path", file=sys.stderr)
+        return 69
     crates = crates_below(PROGRAM)
     out = f"{TOP}/crates/{PROGRAM}/out"
     os.makedirs(os.path.dirname(LOG), exist_ok=True)

@@ -2,6 +2,10 @@
 # Runs cilkreport with the words given, compiled with run-time checks, and proves nothing. It takes about a minute each time.
 set -u
 top=$(cd "$(dirname "$(readlink -f "$0")")/.." && pwd)
+if ! command -v rt >/dev/null; then
+  echo "cilkreport is built by the Rattle kit, and its command rt is not on the path" >&2
+  exit 69
+fi
 echo "quick: built with run-time checks, and nothing is proved" >&2
 words=()
 copies=()
