@@ -1,7 +1,7 @@
 //! Declarations: names declared twice, `main`, tables of reducers; and which of two violations is reported.
 
 use super::answers::{answer, answer_in_main, answer_text, program, tables};
-use procedure_parser::parse_define;
+use define_parser::parse_define;
 use spawn_checker::check;
 
 #[test]
