@@ -1,5 +1,5 @@
 #!/usr/bin/env bash
-# Runs cilkreport with the words given, compiled with run-time checks, and proves nothing. It takes about a minute each time.
+# Runs cilkreport with the words given, compiled with run-time checks, and proves nothing. It takes one to two minutes each time.
 set -u
 top=$(cd "$(dirname "$(readlink -f "$0")")/.." && pwd)
 if ! command -v rt >/dev/null; then
