@@ -1,5 +1,5 @@
 -- The plain form of code, and that it is the linked form of a program.
-use Rattle.std.specs.Prelude.{◌≡◌, ℕ, zero, suc, List, [], ◌∷◌, Option, Some, None, map, slice_get, length}
+use Rattle.std.specs.Prelude.{◌≡◌, ℕ, zero, suc, Bool, false, List, [], ◌∷◌, Option, Some, None, map, slice_get, length}
 use Rattle.program_tree.specs.Plain.{Body, Proc, Tree}
 use Rattle.program_tree.specs.declared.Block.{Block}
 use Rattle.program_tree.specs.View.{statements}
@@ -55,6 +55,8 @@ AreBlocksOf _ _ _ _ = ⊥
 
 -- the code is that of the procedure: each number is that of the name
 pub record IsCodeOf (ts : List Columned) (t : Tree) (c : Code) (p : Proc) : Type 0 where
+  pub memo : c.memo ≡ p.memo
+  pub parameters : c.parameters ≡ p.parameters
   pub slots : c.slots ≡ length p.names
   pub body : code_block c.blocks.items (length c.blocks.items) 0 ≡ linked_body ts t p.body
 
@@ -73,6 +75,22 @@ slots_in (Some c) = c.slots
 -- how many slots the procedure of a number has; none where there is no such procedure
 abbrev pub slots_of : List Code → ℕ → ℕ
 slots_of codes p = slots_in (slice_get codes p)
+
+abbrev pub parameters_in : Option Code → ℕ
+parameters_in None = 0
+parameters_in (Some c) = c.parameters
+
+-- how many parameters the procedure of a number has; none where there is no such procedure
+abbrev pub parameters_of : List Code → ℕ → ℕ
+parameters_of codes p = parameters_in (slice_get codes p)
+
+abbrev pub memo_in : Option Code → Bool
+memo_in None = false
+memo_in (Some c) = c.memo
+
+-- whether the instances of the procedure of a number are recorded
+abbrev pub memo_of : List Code → ℕ → Bool
+memo_of codes p = memo_in (slice_get codes p)
 
 abbrev pub blocks_in : Option Code → List CodeBlock
 blocks_in None = []

@@ -8,8 +8,8 @@ ghost use Rattle.linked_program.specs.TableNames.{columned};
 ghost use Rattle.linked_program.specs.Declarations.{violations};
 ghost use Rattle.linked_program.specs.Procedures.{procedures};
 ghost use Rattle.linked_program.specs.Linked.{kinds_of, main_number, procedure_number};
-ghost use Rattle.linked_program.specs.CodeView.{AreCodesOf, slots_of, instruction_at};
-ghost use Rattle.linked_program.specs.Checked.{IsChecked, numbers_in, names_in, number_in};
+ghost use Rattle.linked_program.specs.CodeView.{AreCodesOf, memo_of, parameters_of, slots_of, instruction_at};
+ghost use Rattle.linked_program.specs.Checked.{IsChecked, numbers_in, names_in, number_in, revision_at};
 
 use crate::code::{Code, Instruction};
 use crate::tables::TableNames;
@@ -106,6 +106,26 @@ impl Checked {
         }
     }
 
+    /// How many parameters the procedure of that number has; 0 where there is no such procedure.
+    pub fn parameters(&self, procedure: usize) -> usize
+        ensures parameters { result ≡ parameters_of self.now.codes procedure }
+    {
+        match self.codes.get(procedure) {
+            None => 0,
+            Some(code) => code.parameters,
+        }
+    }
+
+    /// Whether the procedure of that number is marked `memo`; none is where there is no such procedure.
+    pub fn is_memo(&self, procedure: usize) -> bool
+        ensures memo { result ≡ memo_of self.now.codes procedure }
+    {
+        match self.codes.get(procedure) {
+            None => false,
+            Some(code) => code.memo,
+        }
+    }
+
     /// The statement at that place of a block of a procedure, each counted from 0; none where there is no such place.
     pub fn instruction(&self, procedure: usize, block: usize, index: usize) -> Option<&Instruction>
         ensures found { option_copied result ≡ instruction_at self.now.codes procedure block index }
@@ -148,6 +168,16 @@ impl Checked {
         ensures revision { IfSome result (λ n. n ≡ revision_of self.now.revisions name.now) }
     {
         self.revisions.get(name).copied()
+    }
+
+    /// The revision number of the procedure of a number; 0 where there is no such procedure.
+    pub fn revision_at(&self, procedure: usize) -> u64
+        ensures revision { result ≡ revision_at self.now.revisions procedure }
+    {
+        match self.revisions.get_index(procedure) {
+            None => 0,
+            Some((_, revision)) => *revision,
+        }
     }
 
     /// The least revision number that was never used.

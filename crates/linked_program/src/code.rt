@@ -40,9 +40,12 @@ pub struct CodeBlock {
     pub instructions: Vec<Instruction>,
 }
 
-/// A procedure's code: how many slots an instance has, its parameters first, and its blocks, of which the first is its body.
+/// A procedure's code: whether its instances are recorded, how many slots an instance has, its parameters first, and its blocks,
+/// of which the first is its body.
 #[derive(Drop)]
 pub struct Code {
+    pub memo: bool,
+    pub parameters: usize,
     pub slots: usize,
     pub blocks: Vec<CodeBlock>,
 }

@@ -238,7 +238,12 @@ fn code(
 {
     let slots = procedure.names.len();
     let blocks = code_blocks(alloc, declarations, tables, &procedure.blocks)?;
-    Ok(Code { slots, blocks })
+    Ok(Code {
+        memo: procedure.memo,
+        parameters: procedure.parameters,
+        slots,
+        blocks,
+    })
 }
 
 /// The codes of a program's procedures, in their order, over tables of these names. Want of memory is the only error.

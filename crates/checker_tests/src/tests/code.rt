@@ -79,3 +79,15 @@ fn procedures_go_by_number(rt: HostRuntime) {
         assert_eq!(rt; found, number, "of {name}");
     }
 }
+
+#[test]
+fn entering_a_procedure_goes_by_its_number(rt: HostRuntime) {
+    let text = "memo proc leaf(v, w) { return v; }
+proc main() { return 5; }";
+    let program = checked(&rt, rt.alloc(), text);
+    assert_eq!(rt; (program.is_memo(0), program.is_memo(1), program.is_memo(2)), (true, false, false));
+    let parameters = (program.parameters(0), program.parameters(1), program.parameters(2));
+    assert_eq!(rt; parameters, (2, 0, 0));
+    let revisions = (program.revision_at(0), program.revision_at(1), program.revision_at(2));
+    assert_eq!(rt; revisions, (0, 1, 0));
+}
