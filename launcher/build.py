@@ -2,8 +2,9 @@
 """Proves and builds cilkreport, and says on standard error how far it is.
 
 Only the crates that the program stands on are proved, without their must-fail edits, in a copy of the repository, by
-`rt ci`: it works on as many crates side by side as there are processors, the longest chain of crates first, and gives
-the processors that no other crate waits for to the proofs that run. What it printed is kept in out/build.log.
+`rt ci` as launcher/prove.py runs it: it works on as many crates side by side as there are processors, the longest chain
+of crates first, and gives the processors that no other crate waits for to the proofs that begin. What it printed is kept
+in out/build.log.
 """
 import os
 import re
@@ -101,7 +102,7 @@ def prove(room, count):
     """Runs the gate in the copy, and returns whether everything was proved and the program ran."""
     # A group of its own, so that nothing goes on where this is interrupted.
     words = {"stdin": subprocess.DEVNULL, "stdout": subprocess.PIPE, "stderr": subprocess.STDOUT}
-    gate = subprocess.Popen(["rt", "ci"], cwd=room, text=True, errors="replace", start_new_session=True, **words)
+    gate = subprocess.Popen([sys.executable, f"{TOP}/launcher/prove.py"], cwd=room, text=True, errors="replace", start_new_session=True, **words)
     progress = Progress(room, count)
     try:
         with open(LOG, "w", encoding="utf-8") as log:

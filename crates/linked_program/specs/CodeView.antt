@@ -56,7 +56,6 @@ AreBlocksOf _ _ _ _ = ⊥
 -- the code is that of the procedure: each number is that of the name
 pub record IsCodeOf (ts : List Columned) (t : Tree) (c : Code) (p : Proc) : Type 0 where
   pub memo : c.memo ≡ p.memo
-  pub parameters : c.parameters ≡ p.parameters
   pub slots : c.slots ≡ length p.names
   pub body : code_block c.blocks.items (length c.blocks.items) 0 ≡ linked_body ts t p.body
 
@@ -75,14 +74,6 @@ slots_in (Some c) = c.slots
 -- how many slots the procedure of a number has; none where there is no such procedure
 abbrev pub slots_of : List Code → ℕ → ℕ
 slots_of codes p = slots_in (slice_get codes p)
-
-abbrev pub parameters_in : Option Code → ℕ
-parameters_in None = 0
-parameters_in (Some c) = c.parameters
-
--- how many parameters the procedure of a number has; none where there is no such procedure
-abbrev pub parameters_of : List Code → ℕ → ℕ
-parameters_of codes p = parameters_in (slice_get codes p)
 
 abbrev pub memo_in : Option Code → Bool
 memo_in None = false

@@ -8,7 +8,7 @@ ghost use Rattle.linked_program.specs.TableNames.{columned};
 ghost use Rattle.linked_program.specs.Declarations.{violations};
 ghost use Rattle.linked_program.specs.Procedures.{procedures};
 ghost use Rattle.linked_program.specs.Linked.{kinds_of, main_number, procedure_number};
-ghost use Rattle.linked_program.specs.CodeView.{AreCodesOf, memo_of, parameters_of, slots_of, instruction_at};
+ghost use Rattle.linked_program.specs.CodeView.{AreCodesOf, memo_of, slots_of, instruction_at};
 ghost use Rattle.linked_program.specs.Checked.{IsChecked, numbers_in, names_in, number_in, revision_at};
 
 use crate::code::{Code, Instruction};
@@ -103,16 +103,6 @@ impl Checked {
         match self.codes.get(procedure) {
             None => 0,
             Some(code) => code.slots,
-        }
-    }
-
-    /// How many parameters the procedure of that number has; 0 where there is no such procedure.
-    pub fn parameters(&self, procedure: usize) -> usize
-        ensures parameters { result ≡ parameters_of self.now.codes procedure }
-    {
-        match self.codes.get(procedure) {
-            None => 0,
-            Some(code) => code.parameters,
         }
     }
 

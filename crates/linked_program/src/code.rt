@@ -45,7 +45,6 @@ pub struct CodeBlock {
 #[derive(Drop)]
 pub struct Code {
     pub memo: bool,
-    pub parameters: usize,
     pub slots: usize,
     pub blocks: Vec<CodeBlock>,
 }

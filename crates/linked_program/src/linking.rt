@@ -240,7 +240,6 @@ fn code(
     let blocks = code_blocks(alloc, declarations, tables, &procedure.blocks)?;
     Ok(Code {
         memo: procedure.memo,
-        parameters: procedure.parameters,
         slots,
         blocks,
     })

@@ -10,7 +10,7 @@ use Rattle.linked_program.specs.declared.code.Code.{Code}
 use Rattle.linked_program.specs.TableNames.{Columned}
 use Rattle.linked_program.specs.Procedures.{procedures}
 use Rattle.linked_program.specs.Linked.{Acts, ends, steps, procedure_number, linked_deed, linked_body}
-use Rattle.linked_program.specs.CodeView.{act, acts, acts_of, code_block, AreCodesOf, instructions_in, blocks_in, memo_in, memo_of, parameters_in, parameters_of, slots_in, slots_of}
+use Rattle.linked_program.specs.CodeView.{act, acts, acts_of, code_block, AreCodesOf, instructions_in, blocks_in, memo_in, memo_of, slots_in, slots_of}
 use Rattle.linked_program.proofs.Numbers.{procedure_is}
 use Rattle.positions.specs.declared.work.Position.{Position}
 use Rattle.positions.specs.Activations.{next_of, first_of}
@@ -83,24 +83,20 @@ module _ (ts : List Columned) (t : Tree) where
   -- the code of the procedure of a number
   pub record IsCoded (c : Option Code) (p : Option Proc) : Type 0 where
     pub memo : memo_in c ≡ (found p).memo
-    pub parameters : parameters_in c ≡ (found p).parameters
     pub slots : slots_in c ≡ length (found p).names
     pub body : linked_body ts t (found p).body ≡ code_block (blocks_in c) (length (blocks_in c)) 0
 
   coded : (cs : List Code) (ps : List Proc) (q : ℕ) → AreCodesOf ts t cs ps → IsCoded (slice_get cs q) (slice_get ps q)
-  coded [] [] zero h = record { memo = refl; parameters = refl; slots = refl; body = refl }
-  coded [] [] (suc q) h = record { memo = refl; parameters = refl; slots = refl; body = refl }
+  coded [] [] zero h = record { memo = refl; slots = refl; body = refl }
+  coded [] [] (suc q) h = record { memo = refl; slots = refl; body = refl }
   coded [] (p ∷ ps) q h = absurd h
   coded (c ∷ cs) [] q h = absurd h
-  coded (c ∷ cs) (p ∷ ps) zero h = record { memo = h.0.memo; parameters = h.0.parameters; slots = h.0.slots; body = sym h.0.body }
+  coded (c ∷ cs) (p ∷ ps) zero h = record { memo = h.0.memo; slots = h.0.slots; body = sym h.0.body }
   coded (c ∷ cs) (p ∷ ps) (suc q) h = coded cs ps q h.1
 
   module _ (codes : List Code) (linked : AreCodesOf ts t codes (procedures t)) where
     pub memo_at : (q : ℕ) → memo_of codes q ≡ (procedure_at ts t codes q).memo
     memo_at q = (coded codes (procedures t) q linked).memo
-
-    pub parameters_at : (q : ℕ) → parameters_of codes q ≡ (procedure_at ts t codes q).parameters
-    parameters_at q = (coded codes (procedures t) q linked).parameters
 
     pub slots_at : (q : ℕ) → slots_of codes q ≡ length (procedure_at ts t codes q).names
     slots_at q = (coded codes (procedures t) q linked).slots

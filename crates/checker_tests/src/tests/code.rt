@@ -86,8 +86,6 @@ fn entering_a_procedure_goes_by_its_number(rt: HostRuntime) {
 proc main() { return 5; }";
     let program = checked(&rt, rt.alloc(), text);
     assert_eq!(rt; (program.is_memo(0), program.is_memo(1), program.is_memo(2)), (true, false, false));
-    let parameters = (program.parameters(0), program.parameters(1), program.parameters(2));
-    assert_eq!(rt; parameters, (2, 0, 0));
     let revisions = (program.revision_at(0), program.revision_at(1), program.revision_at(2));
     assert_eq!(rt; revisions, (0, 1, 0));
 }

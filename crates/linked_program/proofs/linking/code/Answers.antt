@@ -15,7 +15,6 @@ returns c =
     let slots : c.len-slots.result ≡ length (map string_bytes p.names.items) = cc in
     record {
       memo = refl;
-      parameters = refl;
       slots = slots;
       body = rw (as_many ts t cs p.blocks.items made) (blocks_linked ts t cs p.blocks.items made (length p.blocks.items) 0);
     }
