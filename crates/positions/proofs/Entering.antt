@@ -16,8 +16,6 @@ use Rattle.meaning.specs.SmallStep.{slot, Slot as NamedSlot, Start as NamedStart
 use Rattle.meaning.specs.Layers as definitions
 use Rattle.meaning.specs.Layers.{Notes, noted_one, noted_top}
 use Rattle.meaning.specs.LayeredStrand.{advanced}
-use Rattle.linked_program.specs.declared.code.Code.{Code}
-use Rattle.linked_program.specs.TableNames.{Columned}
 use Rattle.linked_program.specs.Procedures.{procedures}
 use Rattle.linked_program.specs.Linked.{procedure_number, linked_body}
 use Rattle.linked_program.specs.CodeView.{AreCodesOf}
@@ -31,6 +29,7 @@ use Rattle.positions.specs.declared.phase.Phase.{Phase}
 use Rattle.positions.specs.declared.phase.Phase.TheVariants.{Running, AtSpawn}
 use Rattle.positions.specs.declared.start.Start.{Start}
 use Rattle.positions.specs.Activations.{PlainActivation, waiting, made, first_of}
+use Rattle.positions.specs.Setting.{Setting}
 use Rattle.positions.specs.Layers.{PlainLayer, entering}
 use Rattle.positions.specs.Strands.{PlainStrand, shorter}
 use Rattle.positions.specs.Advance.{faulted, pushed, entered, nested}
@@ -76,53 +75,53 @@ module _ (t : Tree) (tables : Tables) (acc : Accumulators) where
 
 -- ---- the one that waits under a child
 
-module _ (ts : List Columned) (t : Tree) (codes : List Code) where
+module _ (setting : Setting) where
   -- the instance of that name whose names have those slots, and whose next child is the one behind those that it has entered
   abbrev pub frame_with : Place → PlainActivation → List NamedSlot → Frame
   frame_with path a env = record {
     left = a.left;
     instance = path;
     next = suc a.children;
-    here = (procedure_at ts t codes a.procedure).called;
+    here = (procedure_at setting a.procedure).called;
     env = env;
     recorded = false;
   }
 
   module _ (path : Place) (a : PlainActivation) (env : List NamedSlot) (into : Option ℕ) (w : Work) (todo : Todo)
-      (same : env ≡ slots_by ts t codes w a.slots) (unbound : IsUnbound ts t codes w into) (below : List PlainActivation) (under : List Parent) (hu : AreParents ts t codes path below under) where
+      (same : env ≡ slots_by setting w a.slots) (unbound : IsUnbound setting w into) (below : List PlainActivation) (under : List Parent) (hu : AreParents setting path below under) where
     pub name_is : path ++ (a.children + 1) ∷ [] ≡ child_of (shorter (path ++ (a.children + 1) ∷ [])) (a.children + 1)
     name_is = ap (λ n. n ++ (a.children + 1) ∷ []) (sym (shorter_child path (a.children + 1)))
 
-    waits_over : (spawned : Bool) → IsTodo ts t codes (waiting spawned into w a) todo → IsParent ts t codes (path ++ (a.children + 1) ∷ []) (waiting spawned into w a) (awaiting (frame_with path a env) spawned into todo)
+    waits_over : (spawned : Bool) → IsTodo setting (waiting spawned into w a) todo → IsParent setting (path ++ (a.children + 1) ∷ []) (waiting spawned into w a) (awaiting (frame_with path a env) spawned into todo)
     waits_over spawned left = record {
       named = name_is;
       frame =
           ap (λ e. stepped_past (frame_with path a e)) same
-          ∙ ap (λ n. frame_at ts t codes path n (waiting spawned into w a)) (let e : suc (suc a.children) ≡ suc (a.children + 1) = omega arith in e)
-          ∙ ap (λ n. frame_at ts t codes n (suc (a.children + 1)) (waiting spawned into w a)) (sym (shorter_child path (a.children + 1)));
+          ∙ ap (λ n. frame_at setting path n (waiting spawned into w a)) (let e : suc (suc a.children) ≡ suc (a.children + 1) = omega arith in e)
+          ∙ ap (λ n. frame_at setting n (suc (a.children + 1)) (waiting spawned into w a)) (sym (shorter_child path (a.children + 1)));
       spawned = refl;
       into = refl;
       unbound = unbound;
       todo = left;
     }
 
-    waiting_under : (spawned : Bool) → IsTodo ts t codes (waiting spawned into w a) todo
-        → AreParents ts t codes (path ++ (a.children + 1) ∷ []) (waiting spawned into w a ∷ below) (awaiting (frame_with path a env) spawned into todo ∷ under)
-    waiting_under spawned left = (waits_over spawned left, subst (λ n. AreParents ts t codes n below under) (sym (shorter_child path (a.children + 1))) hu)
+    waiting_under : (spawned : Bool) → IsTodo setting (waiting spawned into w a) todo
+        → AreParents setting (path ++ (a.children + 1) ∷ []) (waiting spawned into w a ∷ below) (awaiting (frame_with path a env) spawned into todo ∷ under)
+    waiting_under spawned left = (waits_over spawned left, subst (λ n. AreParents setting n below under) (sym (shorter_child path (a.children + 1))) hu)
 
     -- the name of the child
     child_is : child_name (frame_with path a env) ≡ path ++ (a.children + 1) ∷ []
     child_is = ap (λ k. path ++ k ∷ []) (let e : suc a.children ≡ a.children + 1 = omega arith in e)
 
-    module _ (st : Start) (m : NamedStart) (begins : IsStart st Running path m) (l : PlainLayer) (lower : List PlainLayer) (ls : List Notes) (hl : AreNotes ts t codes (l ∷ lower) ls) (from : Phase) (ph : NamedPhase) where
+    module _ (st : Start) (m : NamedStart) (begins : IsStart st Running path m) (l : PlainLayer) (lower : List PlainLayer) (ls : List Notes) (hl : AreNotes setting (l ∷ lower) ls) (from : Phase) (ph : NamedPhase) where
       abbrev here : PlainStrand
       here = record { start = st; layer = l; lower = lower; path = path; top = a; below = below; phase = from }
 
       -- the child of a spawn
-      pub spawned_is : (c : PlainActivation) (d : ℕ) (child : Child) → c.left ≡ d → IsNew ts t codes c child → IsTodo ts t codes (waiting true into w a) todo
-          → StandsFor ts t codes (pushed c true into w AtSpawn here) (advanced t (strand_at m ls (frame_with path a env) ph under) (moved noting [] (frame_with path a env) (spawning d into child todo) under))
+      pub spawned_is : (c : PlainActivation) (d : ℕ) (child : Child) → c.left ≡ d → IsNew setting c child → IsTodo setting (waiting true into w a) todo
+          → StandsFor setting (pushed c true into w AtSpawn here) (advanced setting.program.tree (strand_at m ls (frame_with path a env) ph under) (moved noting [] (frame_with path a env) (spawning d into child todo) under))
       spawned_is c d child e new left =
-          subst (λ ks. StandsFor ts t codes (pushed c true into w AtSpawn here) (strand_at m ks (frame_with path a env) (spawning d into child todo) under)) (sym (top_none ls))
+          subst (λ ks. StandsFor setting (pushed c true into w AtSpawn here) (strand_at m ks (frame_with path a env) (spawning d into child todo) under)) (sym (top_none ls))
           (record {
             start = start_in_child st Running AtSpawn path (a.children + 1) m (λ k h. (h, omega arith)) begins;
             layers = hl;
@@ -137,21 +136,21 @@ module _ (ts : List Columned) (t : Tree) (codes : List Code) where
               phase = ap (λ k. spawning k into child todo) (sym e);
               frame =
                   ap (λ e. frame_with path a e) same
-                  ∙ ap (λ n. frame_at ts t codes path n (waiting true into w a)) (let e : suc a.children ≡ a.children + 1 = omega arith in e)
-                  ∙ ap (λ n. frame_at ts t codes n (a.children + 1) (waiting true into w a)) (sym (shorter_child path (a.children + 1)));
-              under = subst (λ n. AreParents ts t codes n below under) (sym (shorter_child path (a.children + 1))) hu;
+                  ∙ ap (λ n. frame_at setting path n (waiting true into w a)) (let e : suc a.children ≡ a.children + 1 = omega arith in e)
+                  ∙ ap (λ n. frame_at setting n (a.children + 1) (waiting true into w a)) (sym (shorter_child path (a.children + 1)));
+              under = subst (λ n. AreParents setting n below under) (sym (shorter_child path (a.children + 1))) hu;
             };
           })
 
       -- a loop's instance, or a half's
       pub half_is : (p : ℕ) (slots : List Slot) (loop : Loop) (k : ℕ) (h : Share) (n : ℕ) (job : Job) (count i : ℕ)
-          → job.site.procedure ≡ (procedure_at ts t codes p).called → IsTodo ts t codes (made p slots (Halves loop k h) a.left) (halves n job count i) → IsTodo ts t codes (waiting false into w a) todo
-          → (acc : Accumulators) (tables : Tables)
-          → StandsFor ts t codes (pushed (made p slots (Halves loop k h) a.left) false into w Running here)
-          (advanced t (strand_at m ls (frame_with path a env) ph under) (enter_child t tables nothing_kept false acc (frame_with path a env) a.left false into (half n job count i) todo under))
-      half_is p slots loop k h n job count i named job_is left acc tables =
-          subst (λ ks. StandsFor ts t codes (pushed (made p slots (Halves loop k h) a.left) false into w Running here)
-          (strand_at m ks (opened t a.left (half n job count i) (child_name (frame_with path a env))) (running (halves n job count i)) (awaiting (frame_with path a env) false into todo ∷ under)))
+          → job.site.procedure ≡ (procedure_at setting p).called → IsTodo setting (made p slots (Halves loop k h) a.left) (halves n job count i) → IsTodo setting (waiting false into w a) todo
+          → (acc : Accumulators)
+          → StandsFor setting (pushed (made p slots (Halves loop k h) a.left) false into w Running here)
+          (advanced setting.program.tree (strand_at m ls (frame_with path a env) ph under) (enter_child setting.program.tree setting.tables nothing_kept false acc (frame_with path a env) a.left false into (half n job count i) todo under))
+      half_is p slots loop k h n job count i named job_is left acc =
+          subst (λ ks. StandsFor setting (pushed (made p slots (Halves loop k h) a.left) false into w Running here)
+          (strand_at m ks (opened setting.program.tree a.left (half n job count i) (child_name (frame_with path a env))) (running (halves n job count i)) (awaiting (frame_with path a env) false into todo ∷ under)))
           (sym (top_begins ls (child_name (frame_with path a env)) (depth_limit - a.left)))
           (record {
             start = start_in_child st Running Running path (a.children + 1) m (λ k h. (h, omega arith)) begins;
@@ -162,48 +161,48 @@ module _ (ts : List Columned) (t : Tree) (codes : List Code) where
               phase = refl;
               frame =
                   ap (λ f. record { left = a.left; instance = child_name (frame_with path a env); next = 1; here = f; env = []; recorded = false }) named
-                  ∙ ap (λ q. record { left = a.left; instance = q; next = 1; here = (procedure_at ts t codes p).called; env = []; recorded = false }) child_is;
+                  ∙ ap (λ q. record { left = a.left; instance = q; next = 1; here = (procedure_at setting p).called; env = []; recorded = false }) child_is;
               under = waiting_under false left;
             };
           })
 
       -- an instance of a procedure that is called
-      module _ (tables : Tables) (linked : AreCodesOf ts t codes (procedures t)) (acc : Accumulators) (f' : Name) (f : ℕ) (vs : List ℤ) (slots : List Slot)
-          (number : procedure_number (procedures t) f' ≡ f) (values : map meant slots ≡ map slot (fresh (proc_of t f').names vs)) where
-        pub new_is : (d : ℕ) → IsNewInstance ts t codes (made f slots (Block (first_of 0)) d) f' vs
+      module _ (linked : AreCodesOf setting.names setting.program.tree setting.codes (procedures setting.program.tree)) (acc : Accumulators) (f' : Name) (f : ℕ) (vs : List ℤ) (slots : List Slot)
+          (number : procedure_number (procedures setting.program.tree) f' ≡ f) (values : map meant slots ≡ map slot (fresh (proc_of setting.program.tree f').names vs)) where
+        pub new_is : (d : ℕ) → IsNewInstance setting (made f slots (Block (first_of 0)) d) f' vs
         new_is d = record { procedure = number; children = refl; work = refl; outer = refl; slots = values }
 
         abbrev child_frame : ℕ → Place → Name → List NamedSlot → Frame
         child_frame left name called slots' = record { left = left; instance = name; next = 1; here = called; env = slots'; recorded = false }
 
         child_frame_is : (d : ℕ) → a.left ≡ suc d
-            → with_layer false (opened t d (instance f' vs) (child_name (frame_with path a env))) ≡ frame_of ts t codes (path ++ (a.children + 1) ∷ []) (made f slots (Block (first_of 0)) (a.left - 1))
+            → with_layer false (opened setting.program.tree d (instance f' vs) (child_name (frame_with path a env))) ≡ frame_of setting (path ++ (a.children + 1) ∷ []) (made f slots (Block (first_of 0)) (a.left - 1))
         child_frame_is d e =
-            ap (λ k. child_frame k (child_name (frame_with path a env)) (proc_of t f').called (map slot (fresh (proc_of t f').names vs))) (let e' : d ≡ a.left - 1 = omega arith in e')
-            ∙ ap (λ n. child_frame (a.left - 1) n (proc_of t f').called (map slot (fresh (proc_of t f').names vs))) child_is
-            ∙ ap (λ p. child_frame (a.left - 1) (path ++ (a.children + 1) ∷ []) p.called (map slot (fresh (proc_of t f').names vs))) (sym (found_at ts t codes f' f number))
-            ∙ ap (λ ss. child_frame (a.left - 1) (path ++ (a.children + 1) ∷ []) (procedure_at ts t codes f).called ss) (sym values)
+            ap (λ k. child_frame k (child_name (frame_with path a env)) (proc_of setting.program.tree f').called (map slot (fresh (proc_of setting.program.tree f').names vs))) (let e' : d ≡ a.left - 1 = omega arith in e')
+            ∙ ap (λ n. child_frame (a.left - 1) n (proc_of setting.program.tree f').called (map slot (fresh (proc_of setting.program.tree f').names vs))) child_is
+            ∙ ap (λ p. child_frame (a.left - 1) (path ++ (a.children + 1) ∷ []) p.called (map slot (fresh (proc_of setting.program.tree f').names vs))) (sym (found_at setting f' f number))
+            ∙ ap (λ ss. child_frame (a.left - 1) (path ++ (a.children + 1) ∷ []) (procedure_at setting f).called ss) (sym values)
 
-        body_is : linked_body ts t (proc_of t f').body ≡ acts_at ts t codes f 0 (first_of 0)
-        body_is = ap (λ p. linked_body ts t p.body) (sym (found_at ts t codes f' f number)) ∙ body_at ts t codes linked f
+        body_is : linked_body setting.names setting.program.tree (proc_of setting.program.tree f').body ≡ acts_at setting f 0 (first_of 0)
+        body_is = ap (λ p. linked_body setting.names setting.program.tree p.body) (sym (found_at setting f' f number)) ∙ body_at setting linked f
 
-        entered_layers : (d : ℕ) (n : Place) → a.left ≡ suc d → AreNotes ts t codes (entering f (64 - (a.left - 1)) l ∷ lower) (noted_top ls (opening t (look_of nothing_kept) d f' vs n))
+        entered_layers : (d : ℕ) (n : Place) → a.left ≡ suc d → AreNotes setting (entering f (64 - (a.left - 1)) l ∷ lower) (noted_top ls (opening setting.program.tree (look_of nothing_kept) d f' vs n))
         entered_layers d n e =
-            subst (λ k. AreNotes ts t codes (entering f k l ∷ lower) (noted_top ls (opening t (look_of nothing_kept) d f' vs n))) (let e' : 64 - d ≡ 64 - (a.left - 1) = omega arith in e')
-            (top_noted ts t codes l (entering f (64 - d) l) lower ls (opening t (look_of nothing_kept) d f' vs n)
-            (λ k i. subst (IsNotes ts t codes (entering f (64 - d) l)) (sym (opening_by k d f' vs n (proc_of t f').memo)) (notes_entered ts t codes l k f' vs f (64 - d) number i)) hl)
+            subst (λ k. AreNotes setting (entering f k l ∷ lower) (noted_top ls (opening setting.program.tree (look_of nothing_kept) d f' vs n))) (let e' : 64 - d ≡ 64 - (a.left - 1) = omega arith in e')
+            (top_noted setting l (entering f (64 - d) l) lower ls (opening setting.program.tree (look_of nothing_kept) d f' vs n)
+            (λ k i. subst (IsNotes setting (entering f (64 - d) l)) (sym (opening_by k d f' vs n (proc_of setting.program.tree f').memo)) (notes_entered setting l k f' vs f (64 - d) number i)) hl)
 
-        pub called_is : (d : ℕ) → a.left ≡ suc d → IsTodo ts t codes (waiting false into w a) todo
-            → StandsFor ts t codes (entered Call into w f slots here)
-            (advanced t (strand_at m ls (frame_with path a env) ph under) (enter_child t tables nothing_kept false acc (frame_with path a env) d false into (instance f' vs) todo under))
+        pub called_is : (d : ℕ) → a.left ≡ suc d → IsTodo setting (waiting false into w a) todo
+            → StandsFor setting (entered Call into w f slots here)
+            (advanced setting.program.tree (strand_at m ls (frame_with path a env) ph under) (enter_child setting.program.tree setting.tables nothing_kept false acc (frame_with path a env) d false into (instance f' vs) todo under))
         called_is d e left =
-            subst (λ st. StandsFor ts t codes (entered Call into w f slots here) (advanced t (strand_at m ls (frame_with path a env) ph under) st))
-            (sym (enter_is t tables acc (opened t d (instance f' vs) (child_name (frame_with path a env))) f' vs (awaiting (frame_with path a env) false into todo ∷ under)))
+            subst (λ st. StandsFor setting (entered Call into w f slots here) (advanced setting.program.tree (strand_at m ls (frame_with path a env) ph under) st))
+            (sym (enter_is setting.program.tree setting.tables acc (opened setting.program.tree d (instance f' vs) (child_name (frame_with path a env))) f' vs (awaiting (frame_with path a env) false into todo ∷ under)))
             (record {
               start = start_in_child st Running Running path (a.children + 1) m (λ k h. (h, omega arith)) begins;
               layers = entered_layers d (child_name (frame_with path a env)) e;
               now = record {
-                todo = blocks ((proc_of t f').body ∷ []);
+                todo = blocks ((proc_of setting.program.tree f').body ∷ []);
                 left = (body_is, tt);
                 phase = refl;
                 frame = child_frame_is d e;
@@ -213,32 +212,32 @@ module _ (ts : List Columned) (t : Tree) (codes : List Code) where
 
         -- a child that is called or spawned
         abbrev pub enters : Way → ℕ → Step
-        enters Call d = enter_child t tables nothing_kept false acc (frame_with path a env) d false into (instance f' vs) todo under
+        enters Call d = enter_child setting.program.tree setting.tables nothing_kept false acc (frame_with path a env) d false into (instance f' vs) todo under
         enters Spawn d = moved noting [] (frame_with path a env) (spawning d into (instance f' vs) todo) under
 
         abbrev pub is_spawn : Way → Bool
         is_spawn Call = false
         is_spawn Spawn = true
 
-        entered_is : (way : Way) (d : ℕ) → a.left ≡ suc d → IsTodo ts t codes (waiting (is_spawn way) into w a) todo
-            → StandsFor ts t codes (entered way into w f slots here) (advanced t (strand_at m ls (frame_with path a env) ph under) (enters way d))
+        entered_is : (way : Way) (d : ℕ) → a.left ≡ suc d → IsTodo setting (waiting (is_spawn way) into w a) todo
+            → StandsFor setting (entered way into w f slots here) (advanced setting.program.tree (strand_at m ls (frame_with path a env) ph under) (enters way d))
         entered_is Call d e left = called_is d e left
         entered_is Spawn d e left = spawned_is (made f slots (Block (first_of 0)) (a.left - 1)) d (instance f' vs) (let e' : a.left - 1 ≡ d = omega arith in e') (new_is (a.left - 1)) left
 
-        module _ (n : ℕ) (site : Site) (at_site : site ≡ record { procedure = (procedure_at ts t codes a.procedure).called; statement = n }) (way : Way) (left : IsTodo ts t codes (waiting (is_spawn way) into w a) todo) where
+        module _ (n : ℕ) (site : Site) (at_site : site ≡ record { procedure = (procedure_at setting a.procedure).called; statement = n }) (way : Way) (left : IsTodo setting (waiting (is_spawn way) into w a) todo) where
           at_depth : (k : ℕ) → a.left ≡ k
-              → StandsFor ts t codes (if k == 0 then faulted n TooDeep here else entered way into w f slots here)
-              (advanced t (strand_at m ls (frame_with path a env) ph under) (on_depth (frame_with path a env) under site k (enters way)))
+              → StandsFor setting (if k == 0 then faulted n TooDeep here else entered way into w f slots here)
+              (advanced setting.program.tree (strand_at m ls (frame_with path a env) ph under) (on_depth (frame_with path a env) under site k (enters way)))
           at_depth zero e =
-              subst (λ ks. StandsFor ts t codes (faulted n TooDeep here) (strand_at m ks (frame_with path a env) (broken (fault_at site TooDeep)) under)) (sym (top_none ls))
-              (faulted_is ts t codes m (frame_with path a env) ph under here n site at_site begins TooDeep l ls hl)
+              subst (λ ks. StandsFor setting (faulted n TooDeep here) (strand_at m ks (frame_with path a env) (broken (fault_at site TooDeep)) under)) (sym (top_none ls))
+              (faulted_is setting m (frame_with path a env) ph under here n site at_site begins TooDeep l ls hl)
           at_depth (suc d) e =
-              subst (λ b. StandsFor ts t codes (if b then faulted n TooDeep here else entered way into w f slots here) (advanced t (strand_at m ls (frame_with path a env) ph under) (enters way d)))
+              subst (λ b. StandsFor setting (if b then faulted n TooDeep here else entered way into w f slots here) (advanced setting.program.tree (strand_at m ls (frame_with path a env) ph under) (enters way d)))
               (sym (eqb-suc-zero d)) (entered_is way d e left)
 
           -- where the depth allows it
-          pub nested_is : StandsFor ts t codes (nested n way into w f slots here)
-              (advanced t (strand_at m ls (frame_with path a env) ph under) (on_depth (frame_with path a env) under site a.left (enters way)))
+          pub nested_is : StandsFor setting (nested n way into w f slots here)
+              (advanced setting.program.tree (strand_at m ls (frame_with path a env) ph under) (on_depth (frame_with path a env) under site a.left (enters way)))
           nested_is = at_depth a.left refl
 
 -- no layer is opened or closed

@@ -7,11 +7,10 @@ use Rattle.meaning.specs.Trail.{fault_at}
 use Rattle.meaning.specs.SmallStep.{Start as NamedStart, Frame, Phase as NamedPhase, broken, Parent, noting, opening_one, closing_one, Step, moved, taken, paused, led_step, settling, on_value}
 use Rattle.meaning.specs.Layers.{Notes, noted_top}
 use Rattle.meaning.specs.LayeredStrand.{LayeredStrand, advanced}
-use Rattle.linked_program.specs.declared.code.Code.{Code}
-use Rattle.linked_program.specs.TableNames.{Columned}
 use Rattle.evaluation.specs.Values.{NumberedOut, mapped, changed}
 use Rattle.evaluation.specs.Numbers.{numbered, readings, by_number, OnlyReads}
 use Rattle.positions.specs.declared.phase.Phase.TheVariants.{Running, Broken}
+use Rattle.positions.specs.Setting.{Setting}
 use Rattle.positions.specs.Layers as plain
 use Rattle.positions.specs.Layers.{PlainLayer}
 use Rattle.positions.specs.Strands.{PlainStrand}
@@ -76,11 +75,11 @@ pub mapped_is : {A B : Type 0} (n : ℕ) (f : A → B) (o : NumberedOut A) (next
     → evaluated n (mapped f o) next s ≡ evaluated n o (λ a. next (f a)) s
 mapped_is n f o next s = changed_is n f o.answer next (noted o.notes s)
 
-module _ (ts : List Columned) (t : Tree) (codes : List Code) (m : NamedStart) (fr : Frame) (ph : NamedPhase) (under : List Parent) (s : PlainStrand) (n : ℕ) (site : Site)
-    (at_site : site ≡ record { procedure = (procedure_at ts t codes s.top.procedure).called; statement = n }) (begins : IsStart s.start Running s.path m) where
+module _ (setting : Setting) (m : NamedStart) (fr : Frame) (ph : NamedPhase) (under : List Parent) (s : PlainStrand) (n : ℕ) (site : Site)
+    (at_site : site ≡ record { procedure = (procedure_at setting s.top.procedure).called; statement = n }) (begins : IsStart s.start Running s.path m) where
   -- a fault at the statement
-  pub faulted_is : (k : FaultKind) (l : PlainLayer) (ls : List Notes) → AreNotes ts t codes (l ∷ s.lower) ls
-      → StandsFor ts t codes (faulted n k (layered l s)) (strand_at m ls fr (broken (fault_at site k)) under)
+  pub faulted_is : (k : FaultKind) (l : PlainLayer) (ls : List Notes) → AreNotes setting (l ∷ s.lower) ls
+      → StandsFor setting (faulted n k (layered l s)) (strand_at m ls fr (broken (fault_at site k)) under)
   faulted_is k l ls h = record {
     start = start_moved s.start Running (Broken (record { kind = k; procedure = s.top.procedure; statement = n })) s.path s.path m (λ d w. (refl, w)) begins;
     layers = h;
@@ -88,19 +87,19 @@ module _ (ts : List Columned) (t : Tree) (codes : List Code) (m : NamedStart) (f
   }
 
   stops_or_goes : {A : Type 0} (log : Log) (r : Result A FaultKind) (next : A → PlainStrand → PlainStrand) (step : A → Step) (ls : List Notes)
-      → OnlyReads log → AreNotes ts t codes (s.layer ∷ s.lower) ls → ((v : A) → IsNoting (step v))
-      → ((v : A) (l : PlainLayer) (ks : List Notes) → AreNotes ts t codes (l ∷ s.lower) ks → StandsFor ts t codes (next v (layered l s)) (advanced t (strand_at m ks fr ph under) (step v)))
-      → StandsFor ts t codes (answered n r next (noted (map (numbered ts) (readings log)) s)) (advanced t (strand_at m ls fr ph under) (led_step log (settling fr under site r step)))
+      → OnlyReads log → AreNotes setting (s.layer ∷ s.lower) ls → ((v : A) → IsNoting (step v))
+      → ((v : A) (l : PlainLayer) (ks : List Notes) → AreNotes setting (l ∷ s.lower) ks → StandsFor setting (next v (layered l s)) (advanced setting.program.tree (strand_at m ks fr ph under) (step v)))
+      → StandsFor setting (answered n r next (noted (map (numbered setting.names) (readings log)) s)) (advanced setting.program.tree (strand_at m ls fr ph under) (led_step log (settling fr under site r step)))
   stops_or_goes log (Ok v) next step ls only h quiet goes =
-      subst (StandsFor ts t codes (next v (noted (map (numbered ts) (readings log)) s))) (sym (led_is t m ls fr ph under log (step v) (quiet v)))
-      (goes v (plain.noting (map (numbered ts) (readings log)) s.layer) (noted_top ls log) (top_read ts t codes s.layer s.lower ls log only h))
+      subst (StandsFor setting (next v (noted (map (numbered setting.names) (readings log)) s))) (sym (led_is setting.program.tree m ls fr ph under log (step v) (quiet v)))
+      (goes v (plain.noting (map (numbered setting.names) (readings log)) s.layer) (noted_top ls log) (top_read setting s.layer s.lower ls log only h))
   stops_or_goes log (Err k) next step ls only h quiet goes =
-      subst (λ es. StandsFor ts t codes (faulted n k (noted (map (numbered ts) (readings log)) s)) (strand_at m (noted_top ls es) fr (broken (fault_at site k)) under)) (sym (append-nil log))
-      (faulted_is k (plain.noting (map (numbered ts) (readings log)) s.layer) (noted_top ls log) (top_read ts t codes s.layer s.lower ls log only h))
+      subst (λ es. StandsFor setting (faulted n k (noted (map (numbered setting.names) (readings log)) s)) (strand_at m (noted_top ls es) fr (broken (fault_at site k)) under)) (sym (append-nil log))
+      (faulted_is k (plain.noting (map (numbered setting.names) (readings log)) s.layer) (noted_top ls log) (top_read setting s.layer s.lower ls log only h))
 
   -- an evaluation, and then the rest
   pub evaluated_is : {A : Type 0} (o : Out FaultKind A) (next : A → PlainStrand → PlainStrand) (step : A → Step) (ls : List Notes)
-      → OnlyReads o.log → AreNotes ts t codes (s.layer ∷ s.lower) ls → ((v : A) → IsNoting (step v))
-      → ((v : A) (l : PlainLayer) (ks : List Notes) → AreNotes ts t codes (l ∷ s.lower) ks → StandsFor ts t codes (next v (layered l s)) (advanced t (strand_at m ks fr ph under) (step v)))
-      → StandsFor ts t codes (evaluated n (by_number ts o) next s) (advanced t (strand_at m ls fr ph under) (on_value fr under site o step))
+      → OnlyReads o.log → AreNotes setting (s.layer ∷ s.lower) ls → ((v : A) → IsNoting (step v))
+      → ((v : A) (l : PlainLayer) (ks : List Notes) → AreNotes setting (l ∷ s.lower) ks → StandsFor setting (next v (layered l s)) (advanced setting.program.tree (strand_at m ks fr ph under) (step v)))
+      → StandsFor setting (evaluated n (by_number setting.names o) next s) (advanced setting.program.tree (strand_at m ls fr ph under) (on_value fr under site o step))
   evaluated_is o next step ls only h quiet goes = stops_or_goes o.log o.answer next step ls only h quiet goes

@@ -7,9 +7,8 @@ use Rattle.std.proofs.Math.Dec.{eqb-suc-zero}
 use Rattle.monoid_laws.specs.declared.Kind.{Kind}
 use Rattle.monoid_laws.specs.Worth.{Worth}
 use Rattle.monoid_laws.specs.Kinds.{operate, operate_all}
-use Rattle.program_tree.specs.Plain.{Red, Tree}
-use Rattle.meaning.specs.Tables.{Tables}
-use Rattle.meaning.specs.Records.{Revised, with_kinds}
+use Rattle.program_tree.specs.Plain.{Red}
+use Rattle.meaning.specs.Records.{with_kinds}
 use Rattle.meaning.specs.Outcome.{Place, combined}
 use Rattle.meaning.specs.Statements.{reducers}
 use Rattle.meaning.specs.Trail.{child_of}
@@ -18,9 +17,7 @@ use Rattle.meaning.specs.Layers as definitions
 use Rattle.meaning.specs.Layers.{Notes, take_top}
 use Rattle.meaning.specs.LayeredStrand as strands
 use Rattle.meaning.specs.LayeredStrand.{LayeredStrand, settle_slot, settled_frame, settled_under, joined_layers}
-use Rattle.meaning.specs.Schedules.{Memory, place_of_start, broken_pair, joined_pair}
-use Rattle.linked_program.specs.declared.code.Code.{Code}
-use Rattle.linked_program.specs.TableNames.{Columned}
+use Rattle.meaning.specs.Schedules.{place_of_start, broken_pair, joined_pair}
 use Rattle.linked_program.specs.Procedures.{procedures}
 use Rattle.linked_program.specs.Linked.{procedure_number}
 use Rattle.evaluation.specs.declared.slot.Slot.{Slot}
@@ -34,6 +31,7 @@ use Rattle.positions.specs.declared.phase.Phase.{Phase}
 use Rattle.positions.specs.declared.phase.Phase.TheVariants as phase
 use Rattle.positions.specs.declared.start.Start.{Start}
 use Rattle.positions.specs.declared.start.Start.TheVariants.{Root, Behind}
+use Rattle.positions.specs.Setting.{Setting}
 use Rattle.positions.specs.Activations.{PlainActivation}
 use Rattle.positions.specs.Layers.{PlainLayer, either, multiplied}
 use Rattle.positions.specs.Strands.{PlainStrand, shorter}
@@ -94,25 +92,25 @@ length_operated (c ∷ cs) [] ys e f = absurd (omega arith)
 length_operated (c ∷ cs) (x ∷ xs) [] e f = absurd (omega arith)
 length_operated (c ∷ cs) (x ∷ xs) (y ∷ ys) e f = ap suc (length_operated cs xs ys (omega arith) (omega arith))
 
-module _ (ts : List Columned) (t : Tree) (codes : List Code) where
-  pub notes_multiplied : (l r : PlainLayer) (a b : Notes) → IsNotes ts t codes l a → IsNotes ts t codes r b → IsNotes ts t codes (multiplied l r) (definitions.multiplied t a b)
+module _ (setting : Setting) where
+  pub notes_multiplied : (l r : PlainLayer) (a b : Notes) → IsNotes setting l a → IsNotes setting r b → IsNotes setting (multiplied l r) (definitions.multiplied setting.program.tree a b)
   notes_multiplied l r a b h i =
-      let first : length l.worths ≡ length (reducers t) = h.each ∙ ap length h.kinds ∙ length-map (reducers t) (λ x. x.kind) in
-      let second : length r.worths ≡ length (reducers t) = i.each ∙ ap length i.kinds ∙ length-map (reducers t) (λ x. x.kind) in
+      let first : length l.worths ≡ length (reducers setting.program.tree) = h.each ∙ ap length h.kinds ∙ length-map (reducers setting.program.tree) (λ x. x.kind) in
+      let second : length r.worths ≡ length (reducers setting.program.tree) = i.each ∙ ap length i.kinds ∙ length-map (reducers setting.program.tree) (λ x. x.kind) in
       record {
         kinds = h.kinds;
         worths =
-            ap (λ ws. combined ws (with_kinds (reducers t) b.worth)) h.worths
-            ∙ ap (λ ws. combined l.worths (with_kinds (reducers t) ws)) i.worths
-            ∙ combined_both (reducers t) l.worths r.worths first second
+            ap (λ ws. combined ws (with_kinds (reducers setting.program.tree) b.worth)) h.worths
+            ∙ ap (λ ws. combined l.worths (with_kinds (reducers setting.program.tree) ws)) i.worths
+            ∙ combined_both (reducers setting.program.tree) l.worths r.worths first second
             ∙ ap (λ ks. operate_all ks l.worths r.worths) (sym h.kinds);
         each = length_operated l.kinds l.worths r.worths h.each (i.each ∙ ap length (i.kinds ∙ sym h.kinds));
-        notes = ap (λ ns. ns ++ r.notes) h.notes ∙ ap (λ ns. map (numbered ts) a.read ++ ns) i.notes ∙ sym (map-append (numbered ts) a.read b.read);
+        notes = ap (λ ns. ns ++ r.notes) h.notes ∙ ap (λ ns. map (numbered setting.names) a.read ++ ns) i.notes ∙ sym (map-append (numbered setting.names) a.read b.read);
         entered =
             ap (λ fs. either fs r.entered) h.entered
-            ∙ ap (either (flagged (replicate (length (procedures t)) false) (map (procedure_number (procedures t)) a.entered))) i.entered
-            ∙ entered_both (length (procedures t)) (map (procedure_number (procedures t)) a.entered) (map (procedure_number (procedures t)) b.entered)
-            ∙ ap (flagged (replicate (length (procedures t)) false)) (sym (map-append (procedure_number (procedures t)) a.entered b.entered));
+            ∙ ap (either (flagged (replicate (length (procedures setting.program.tree)) false) (map (procedure_number (procedures setting.program.tree)) a.entered))) i.entered
+            ∙ entered_both (length (procedures setting.program.tree)) (map (procedure_number (procedures setting.program.tree)) a.entered) (map (procedure_number (procedures setting.program.tree)) b.entered)
+            ∙ ap (flagged (replicate (length (procedures setting.program.tree)) false)) (sym (map-append (procedure_number (procedures setting.program.tree)) a.entered b.entered));
         deepest = ap (λ d. max d b.deepest) h.deepest ∙ ap (max l.deepest) i.deepest;
       }
 
@@ -183,8 +181,8 @@ module _ (n : Place) (k : ℕ) (v : ℤ) where
       ∙ ap (λ l. meant (settled_slot k v (Waits j)) ∷ l) (here_slots slots)
   here_slots (Has w ∷ slots) = ap (λ l. has w ∷ l) (here_slots slots)
 
-module _ (ts : List Columned) (t : Tree) (codes : List Code) where
-  here_by : (n : Place) (k : ℕ) (v : ℤ) (w : Work) (slots : List Slot) → map (settle_slot (n ++ k ∷ []) v n) (slots_by ts t codes w slots) ≡ slots_by ts t codes w (settled_slots w k v slots)
+module _ (setting : Setting) where
+  here_by : (n : Place) (k : ℕ) (v : ℤ) (w : Work) (slots : List Slot) → map (settle_slot (n ++ k ∷ []) v n) (slots_by setting w slots) ≡ slots_by setting w (settled_slots w k v slots)
   here_by n k v (Block q) slots = here_slots n k v slots
   here_by n k v Over slots = here_slots n k v slots
   here_by n k v (Halves lp i h) slots = refl
@@ -192,10 +190,10 @@ module _ (ts : List Columned) (t : Tree) (codes : List Code) where
   here_by n k v (Turns lp h) slots = refl
 
   -- the child's parent
-  here_frame : (n : Place) (k : ℕ) (v : ℤ) (a : PlainActivation) → settled_frame (n ++ k ∷ []) v (frame_of ts t codes n a) ≡ frame_of ts t codes n (settled k v a)
-  here_frame n k v a = ap (with_env (frame_of ts t codes n a)) (here_by n k v a.work a.slots)
+  here_frame : (n : Place) (k : ℕ) (v : ℤ) (a : PlainActivation) → settled_frame (n ++ k ∷ []) v (frame_of setting n a) ≡ frame_of setting n (settled k v a)
+  here_frame n k v a = ap (with_env (frame_of setting n a)) (here_by n k v a.work a.slots)
 
-  todo_by : (k : ℕ) (v : ℤ) (a : PlainActivation) (w : Work) (todo : Todo) → IsTodoAt ts t codes a w todo → IsTodoAt ts t codes (record a { slots = settled_slots w k v a.slots }) w todo
+  todo_by : (k : ℕ) (v : ℤ) (a : PlainActivation) (w : Work) (todo : Todo) → IsTodoAt setting a w todo → IsTodoAt setting (record a { slots = settled_slots w k v a.slots }) w todo
   todo_by k v a (Block q) (blocks bs) h = h
   todo_by k v a Over (blocks []) h = tt
   todo_by k v a (Halves lp i p) (halves n job count j) h = h
@@ -203,7 +201,7 @@ module _ (ts : List Columned) (t : Tree) (codes : List Code) where
   todo_by k v a (Turns lp p) (turns job count j) h = h
   todo_by k v a w todo h = absurd h
 
-  todo_settled : (k : ℕ) (v : ℤ) (a : PlainActivation) (todo : Todo) → IsTodo ts t codes a todo → IsTodo ts t codes (settled k v a) todo
+  todo_settled : (k : ℕ) (v : ℤ) (a : PlainActivation) (todo : Todo) → IsTodo setting a todo → IsTodo setting (settled k v a) todo
   todo_settled k v a todo h = todo_by k v a a.work todo h
 
   no_waits : (k : ℕ) (v : ℤ) (slots : List Slot) (env : List (Option ℤ)) → map meant slots ≡ map slot env → map (settled_slot k v) slots ≡ slots
@@ -214,7 +212,7 @@ module _ (ts : List Columned) (t : Tree) (codes : List Code) where
   no_waits k v (Waits j ∷ slots) (Some w ∷ env) h = absurd cc
   no_waits k v (Has w ∷ slots) (o ∷ env) h = ap (λ l. Has w ∷ l) (no_waits k v slots env cc)
 
-  new_settled : (k : ℕ) (v : ℤ) (a : PlainActivation) (child : Child) → IsNew ts t codes a child → IsNew ts t codes (settled k v a) child
+  new_settled : (k : ℕ) (v : ℤ) (a : PlainActivation) (child : Child) → IsNew setting a child → IsNew setting (settled k v a) child
   new_settled k v a (instance f vs) h = record {
     procedure = h.procedure;
     children = h.children;
@@ -232,19 +230,19 @@ module _ (ts : List Columned) (t : Tree) (codes : List Code) where
   shortened : (over : Place) (k : ℕ) → over ≡ child_of (shorter over) k → length over ≡ suc (length (shorter over))
   shortened over k h = ap length h ∙ length-append (shorter over) (k ∷ []) ∙ (let e : length (shorter over) + 1 ≡ suc (length (shorter over)) = omega arith in e)
 
-  apart_parent : (e : Place) (v : ℤ) (over : Place) (a : PlainActivation) (p : Parent) → (length over ≡ length e → ⊥) → IsParent ts t codes over a p
-      → IsParent ts t codes over a (record { frame = settled_frame e v p.frame; spawned = p.spawned; into = p.into; todo = p.todo })
+  apart_parent : (e : Place) (v : ℤ) (over : Place) (a : PlainActivation) (p : Parent) → (length over ≡ length e → ⊥) → IsParent setting over a p
+      → IsParent setting over a (record { frame = settled_frame e v p.frame; spawned = p.spawned; into = p.into; todo = p.todo })
   apart_parent e v over a p h i = record {
     named = i.named;
-    frame = ap (settled_frame e v) i.frame ∙ apart_frame e v (frame_of ts t codes (shorter over) a) (λ same. h (shortened over a.children i.named ∙ same));
+    frame = ap (settled_frame e v) i.frame ∙ apart_frame e v (frame_of setting (shorter over) a) (λ same. h (shortened over a.children i.named ∙ same));
     spawned = i.spawned;
     into = i.into;
     unbound = i.unbound;
     todo = i.todo;
   }
 
-  apart_parents : (e : Place) (v : ℤ) (over : Place) (below : List PlainActivation) (under : List Parent) → ((n : ℕ) → suc n ≤ length over → suc n ≡ length e → ⊥) → AreParents ts t codes over below under
-      → AreParents ts t codes over below (settled_under e v under)
+  apart_parents : (e : Place) (v : ℤ) (over : Place) (below : List PlainActivation) (under : List Parent) → ((n : ℕ) → suc n ≤ length over → suc n ≡ length e → ⊥) → AreParents setting over below under
+      → AreParents setting over below (settled_under e v under)
   apart_parents e v over [] [] far h = tt
   apart_parents e v over [] (p ∷ under) far h = absurd h
   apart_parents e v over (a ∷ below) [] far h = absurd h
@@ -252,8 +250,8 @@ module _ (ts : List Columned) (t : Tree) (codes : List Code) where
       let long : length over ≡ suc (length (shorter over)) = shortened over a.children h.0.named in
       (apart_parent e v over a p (λ same. far (length (shorter over)) (omega arith) (sym long ∙ same)) h.0, apart_parents e v (shorter over) below under (λ n le. far n (omega arith)) h.1)
 
-  here_parent : (k : ℕ) (v : ℤ) (over : Place) (a : PlainActivation) (p : Parent) → IsParent ts t codes over a p
-      → IsParent ts t codes over (settled k v a) (record { frame = settled_frame (shorter over ++ k ∷ []) v p.frame; spawned = p.spawned; into = p.into; todo = p.todo })
+  here_parent : (k : ℕ) (v : ℤ) (over : Place) (a : PlainActivation) (p : Parent) → IsParent setting over a p
+      → IsParent setting over (settled k v a) (record { frame = settled_frame (shorter over ++ k ∷ []) v p.frame; spawned = p.spawned; into = p.into; todo = p.todo })
   here_parent k v over a p i = record {
     named = i.named;
     frame = ap (settled_frame (shorter over ++ k ∷ []) v) i.frame ∙ here_frame (shorter over) k v a;
@@ -265,37 +263,37 @@ module _ (ts : List Columned) (t : Tree) (codes : List Code) where
 
   -- the instance so many places below: its name is the first d numbers
   settled_in : (d k : ℕ) (v : ℤ) (m : Place) (i : ℕ) (over : Place) (below : List PlainActivation) (under : List Parent) → length m ≡ d → length over ≡ suc (d + i) → take d over ≡ m
-      → AreParents ts t codes over below under → AreParents ts t codes over (settled_below i k v below) (settled_under (m ++ k ∷ []) v under)
+      → AreParents setting over below under → AreParents setting over (settled_below i k v below) (settled_under (m ++ k ∷ []) v under)
   settled_in d k v m i over [] [] lm lo front h = tt
   settled_in d k v m i over [] (p ∷ under) lm lo front h = absurd h
   settled_in d k v m i over (a ∷ below) [] lm lo front h = absurd h
   settled_in d k v m zero over (a ∷ below) (p ∷ under) lm lo front h =
       let here : shorter over ≡ m = ap (λ n. take n over) (let e : length over - 1 ≡ d = omega arith in e) ∙ front in (
-        subst (λ n. IsParent ts t codes over (settled k v a) (record { frame = settled_frame (n ++ k ∷ []) v p.frame; spawned = p.spawned; into = p.into; todo = p.todo })) here (here_parent k v over a p h.0),
+        subst (λ n. IsParent setting over (settled k v a) (record { frame = settled_frame (n ++ k ∷ []) v p.frame; spawned = p.spawned; into = p.into; todo = p.todo })) here (here_parent k v over a p h.0),
         apart_parents (m ++ k ∷ []) v (shorter over) below under (λ n le same. let long : length (m ++ k ∷ []) ≡ length m + 1 = length-append m (k ∷ []) in let short : length (shorter over) ≡ length m = ap length here in omega arith) h.1,
       )
   settled_in d k v m (suc i) over (a ∷ below) (p ∷ under) lm lo front h =
       let long : length over ≡ suc (length (shorter over)) = shortened over a.children h.0.named in
       let less : d ≤ length over - 1 = omega arith in
-      subst (λ b. AreParents ts t codes over (if b then settled k v a ∷ below else a ∷ settled_below (suc i - 1) k v below) (settled_under (m ++ k ∷ []) v (p ∷ under))) (sym (eqb-suc-zero i)) (
+      subst (λ b. AreParents setting over (if b then settled k v a ∷ below else a ∷ settled_below (suc i - 1) k v below) (settled_under (m ++ k ∷ []) v (p ∷ under))) (sym (eqb-suc-zero i)) (
         apart_parent (m ++ k ∷ []) v over a p (λ same. let other : length (m ++ k ∷ []) ≡ length m + 1 = length-append m (k ∷ []) in omega arith) h.0,
-        subst (λ j. AreParents ts t codes (shorter over) (settled_below j k v below) (settled_under (m ++ k ∷ []) v under)) (let e : i ≡ suc i - 1 = omega arith in e)
+        subst (λ j. AreParents setting (shorter over) (settled_below j k v below) (settled_under (m ++ k ∷ []) v under)) (let e : i ≡ suc i - 1 = omega arith in e)
             (settled_in d k v m i (shorter over) below under lm (omega arith) (take-take d (length over - 1) over less ∙ front) h.1),
       )
 
   -- what a settled strand's instances are
   record Settles (path : Place) (top : PlainActivation) (below : List PlainActivation) (e : Place) (v : ℤ) (s : PlainStrand) : Type 0 where
-    pub frame : settled_frame e v (frame_of ts t codes path top) ≡ frame_of ts t codes path s.top
-    pub under : (us : List Parent) → AreParents ts t codes path below us → AreParents ts t codes path s.below (settled_under e v us)
-    pub todo : (todo : Todo) → IsTodo ts t codes top todo → IsTodo ts t codes s.top todo
-    pub new : (child : Child) → IsNew ts t codes top child → IsNew ts t codes s.top child
+    pub frame : settled_frame e v (frame_of setting path top) ≡ frame_of setting path s.top
+    pub under : (us : List Parent) → AreParents setting path below us → AreParents setting path s.below (settled_under e v us)
+    pub todo : (todo : Todo) → IsTodo setting top todo → IsTodo setting s.top todo
+    pub new : (child : Child) → IsNew setting top child → IsNew setting s.top child
 
   -- no instance is the child's parent
   settles_none : (r : PlainStrand) (e : Place) (v : ℤ) → e ≡ [] → Settles r.path r.top r.below e v r
   settles_none r e v none =
       let empty : length e ≡ 0 = ap length none in
       record {
-        frame = apart_frame e v (frame_of ts t codes r.path r.top) (λ same. (omega arith));
+        frame = apart_frame e v (frame_of setting r.path r.top) (λ same. (omega arith));
         under = λ us. apart_parents e v r.path r.below us (λ n le same. (omega arith));
         todo = λ todo h. h;
         new = λ child h. h;
@@ -305,7 +303,7 @@ module _ (ts : List Columned) (t : Tree) (codes : List Code) where
   settles_at d k v m r zero lm lp front =
       let here : r.path ≡ m = sym (take_all d r.path (omega arith)) ∙ front in
       record {
-        frame = subst (λ n. settled_frame (n ++ k ∷ []) v (frame_of ts t codes r.path r.top) ≡ frame_of ts t codes r.path (settled k v r.top)) here (here_frame r.path k v r.top);
+        frame = subst (λ n. settled_frame (n ++ k ∷ []) v (frame_of setting r.path r.top) ≡ frame_of setting r.path (settled k v r.top)) here (here_frame r.path k v r.top);
         under = λ us. apart_parents (m ++ k ∷ []) v r.path r.below us (λ n le same. let long : length (m ++ k ∷ []) ≡ length m + 1 = length-append m (k ∷ []) in omega arith);
         todo = todo_settled k v r.top;
         new = new_settled k v r.top;
@@ -313,8 +311,8 @@ module _ (ts : List Columned) (t : Tree) (codes : List Code) where
   settles_at d k v m r (suc i) lm lp front =
       subst (λ b. Settles r.path r.top r.below (m ++ k ∷ []) v (if b then record r { top = settled k v r.top } else record r { below = settled_below (suc i - 1) k v r.below })) (sym (eqb-suc-zero i))
       (record {
-        frame = apart_frame (m ++ k ∷ []) v (frame_of ts t codes r.path r.top) (λ same. let long : length (m ++ k ∷ []) ≡ length m + 1 = length-append m (k ∷ []) in omega arith);
-        under = λ us h. subst (λ j. AreParents ts t codes r.path (settled_below j k v r.below) (settled_under (m ++ k ∷ []) v us)) (let e : i ≡ suc i - 1 = omega arith in e)
+        frame = apart_frame (m ++ k ∷ []) v (frame_of setting r.path r.top) (λ same. let long : length (m ++ k ∷ []) ≡ length m + 1 = length-append m (k ∷ []) in omega arith);
+        under = λ us h. subst (λ j. AreParents setting r.path (settled_below j k v r.below) (settled_under (m ++ k ∷ []) v us)) (let e : i ≡ suc i - 1 = omega arith in e)
             (settled_in d k v m i r.path r.below us lm (omega arith) front h);
         todo = λ todo h. h;
         new = λ child h. h;
@@ -364,13 +362,13 @@ module _ (ts : List Columned) (t : Tree) (codes : List Code) where
   from_cond true a z e = (refl, cc)
   from_cond false a z e = absurd cc
 
-  top_multiplied : (l r : PlainLayer) (lower below : List PlainLayer) (ls ns : List Notes) → below ≡ [] → AreNotes ts t codes (l ∷ lower) ls → AreNotes ts t codes (r ∷ below) ns
-      → AreNotes ts t codes (multiplied l r ∷ lower) (joined_layers t ls ns)
+  top_multiplied : (l r : PlainLayer) (lower below : List PlainLayer) (ls ns : List Notes) → below ≡ [] → AreNotes setting (l ∷ lower) ls → AreNotes setting (r ∷ below) ns
+      → AreNotes setting (multiplied l r ∷ lower) (joined_layers setting.program.tree ls ns)
   top_multiplied l r lower below [] ns e h i = absurd h
   top_multiplied l r lower below (a ∷ ls) [] e h i = absurd i
-  top_multiplied l r lower below (a ∷ ls) (b ∷ ns) e h i = (notes_multiplied ts t codes l r a b h.0 i.0, h.1)
+  top_multiplied l r lower below (a ∷ ls) (b ∷ ns) e h i = (notes_multiplied setting l r a b h.0 i.0, h.1)
 
-  module _ (l r : PlainStrand) (x y : LayeredStrand) (v : ℤ) (lower : r.lower ≡ []) (begins : IsStart l.start (phase.Leaving v) l.path x.start) (hl : AreNotes ts t codes (l.layer ∷ l.lower) x.layers) (hr : AreNotes ts t codes (r.layer ∷ r.lower) y.layers)
+  module _ (l r : PlainStrand) (x y : LayeredStrand) (v : ℤ) (lower : r.lower ≡ []) (begins : IsStart l.start (phase.Leaving v) l.path x.start) (hl : AreNotes setting (l.layer ∷ l.lower) x.layers) (hr : AreNotes setting (r.layer ∷ r.lower) y.layers)
       (named : x.frame.instance ≡ l.path) where
     abbrev right : Phase → PlainStrand
     right ph = record r { phase = ph }
@@ -380,10 +378,10 @@ module _ (ts : List Columned) (t : Tree) (codes : List Code) where
     after ph = record r { start = l.start; layer = multiplied l.layer r.layer; lower = l.lower; top = (settled_by r.start v (right ph)).top; below = (settled_by r.start v (right ph)).below; phase = ph }
 
     abbrev pair : LayeredStrand
-    pair = strands.joined t x v y
+    pair = strands.joined setting.program.tree x v y
 
-    goes_on : (ph : Phase) → IsNotAtSpawn ph → ((f : Fault) → ph ≡ phase.Broken f → ⊥) → Settles r.path r.top r.below x.frame.instance v (settled_by r.start v (right ph)) → StandsAt ts t codes ph r.below (right ph) y
-        → StandsAt ts t codes ph (after ph).below (after ph) pair
+    goes_on : (ph : Phase) → IsNotAtSpawn ph → ((f : Fault) → ph ≡ phase.Broken f → ⊥) → Settles r.path r.top r.below x.frame.instance v (settled_by r.start v (right ph)) → StandsAt setting ph r.below (right ph) y
+        → StandsAt setting ph (after ph).below (after ph) pair
     goes_on phase.Entering n b s h = record { child = h.child; new = s.new h.child h.new; phase = h.phase; frame = ap (settled_frame x.frame.instance v) h.frame ∙ s.frame; under = s.under y.under h.under }
     goes_on phase.Running n b s h = record { todo = h.todo; left = s.todo h.todo h.left; phase = h.phase; frame = ap (settled_frame x.frame.instance v) h.frame ∙ s.frame; under = s.under y.under h.under }
     goes_on phase.AtSpawn n b s h = absurd n
@@ -392,30 +390,30 @@ module _ (ts : List Columned) (t : Tree) (codes : List Code) where
     goes_on (phase.Broken f) n b s h = absurd (b f refl)
 
     ended_pair : (ph : Phase) → ((d c n : ℕ) → c ≤ d → IsWithin ph d n → IsWithin ph c n) → ((d n : ℕ) → IsWithin ph d n → d ≤ n) → IsNotAtSpawn ph → ((f : Fault) → ph ≡ phase.Broken f → ⊥)
-        → IsStart r.start ph r.path y.start → StandsAt ts t codes ph r.below (right ph) y → same_name x.frame.instance (place_of_start y.start) ≡ true
-        → StandsFor ts t codes (joined_ended l v (right ph)) pair
+        → IsStart r.start ph r.path y.start → StandsAt setting ph r.below (right ph) y → same_name x.frame.instance (place_of_start y.start) ≡ true
+        → StandsFor setting (joined_ended l v (right ph)) pair
     ended_pair ph closed within n b i h same =
         let there : x.frame.instance ≡ place_of_start y.start = same_is x.frame.instance (place_of_start y.start) same in
-        subst (λ s. StandsFor ts t codes (record s { start = l.start; layer = multiplied l.layer r.layer; lower = l.lower }) pair) (sym (shape_is r.start v (right ph)))
+        subst (λ s. StandsFor setting (record s { start = l.start; layer = multiplied l.layer r.layer; lower = l.lower }) pair) (sym (shape_is r.start v (right ph)))
         (record {
           start = start_joined l.start r.start v ph r.path l.path x.start y.start closed within (sym named ∙ there) begins i;
           layers = top_multiplied l.layer r.layer l.lower r.lower x.layers y.layers lower hl hr;
           now = goes_on ph n b (subst (λ e. Settles r.path r.top r.below e v (settled_by r.start v (right ph))) (sym there) (settles_by r.start ph (right ph) y.start v within i)) h;
         })
 
-    module _ (program : Revised) (tables : Tables) (memory : Memory) (z : LayeredStrand) (tree_is : program.tree ≡ t) where
+    module _ (z : LayeredStrand) where
       abbrev pair_by : NamedPhase → Option LayeredStrand
-      pair_by q = joined_pair program tables memory x (leaving v) y q
+      pair_by q = joined_pair setting.program setting.tables setting.memory x (leaving v) y q
 
       ended_by : (ph : Phase) (q : NamedPhase) (c : Bool) → ((d c n : ℕ) → c ≤ d → IsWithin ph d n → IsWithin ph c n) → ((d n : ℕ) → IsWithin ph d n → d ≤ n) → IsNotAtSpawn ph → ((f : Fault) → ph ≡ phase.Broken f → ⊥)
-          → IsStart r.start ph r.path y.start → StandsAt ts t codes ph r.below (right ph) y → cond (same_name x.frame.instance (place_of_start y.start) && c) (Some (strands.joined program.tree x v y)) None ≡ Some z
-          → StandsFor ts t codes (joined_ended l v (right ph)) z
+          → IsStart r.start ph r.path y.start → StandsAt setting ph r.below (right ph) y → cond (same_name x.frame.instance (place_of_start y.start) && c) (Some (strands.joined setting.program.tree x v y)) None ≡ Some z
+          → StandsFor setting (joined_ended l v (right ph)) z
       ended_by ph q c closed within n b i h e =
-          let both = from_cond (same_name x.frame.instance (place_of_start y.start) && c) (strands.joined program.tree x v y) z e in
-          subst (StandsFor ts t codes (joined_ended l v (right ph))) (ap (λ tree. strands.joined tree x v y) (sym tree_is) ∙ both.1)
+          let both = from_cond (same_name x.frame.instance (place_of_start y.start) && c) (strands.joined setting.program.tree x v y) z e in
+          subst (StandsFor setting (joined_ended l v (right ph))) both.1
           (ended_pair ph closed within n b i h (left_true (same_name x.frame.instance (place_of_start y.start)) c both.0))
 
-      by_right : (ph : Phase) → IsNotAtSpawn ph → IsStart r.start ph r.path y.start → StandsAt ts t codes ph r.below (right ph) y → pair_by y.phase ≡ Some z → StandsFor ts t codes (joined_after ph l v (right ph)) z
+      by_right : (ph : Phase) → IsNotAtSpawn ph → IsStart r.start ph r.path y.start → StandsAt setting ph r.below (right ph) y → pair_by y.phase ≡ Some z → StandsFor setting (joined_after ph l v (right ph)) z
       by_right phase.Entering n i h e =
           ended_by phase.Entering (entering h.child) _ (λ d c n le w. omega arith) (λ d n w. w) n (λ f c. cc) i h (sym (ap pair_by h.phase) ∙ e)
       by_right phase.Running n i h e =
@@ -426,23 +424,23 @@ module _ (ts : List Columned) (t : Tree) (codes : List Code) where
       by_right (phase.Leaving w) n i h e =
           ended_by (phase.Leaving w) (leaving w) _ (λ d c n le w. omega arith) (λ d n w. omega arith) n (λ f c. cc) i h (sym (ap pair_by h.phase) ∙ e)
       by_right (phase.Broken f) n i h e =
-          let both = from_cond (same_name x.frame.instance (place_of_start y.start)) (broken_pair program tables memory x y (named_fault ts t codes f)) z (sym (ap pair_by h) ∙ e) in
-          subst (StandsFor ts t codes (joined_broken l f)) both.1
+          let both = from_cond (same_name x.frame.instance (place_of_start y.start)) (broken_pair setting.program setting.tables setting.memory x y (named_fault setting f)) z (sym (ap pair_by h) ∙ e) in
+          subst (StandsFor setting (joined_broken l f)) both.1
           (record { start = start_moved l.start (phase.Leaving v) (phase.Broken f) l.path l.path x.start (λ d w. (refl, (omega arith))) begins; layers = hl; now = refl })
 
-  module _ (l r : PlainStrand) (x y z : LayeredStrand) (program : Revised) (tables : Tables) (memory : Memory) (tree_is : program.tree ≡ t) (n : IsNotAtSpawn r.phase) (lower : r.lower ≡ [])
-      (hl : StandsFor ts t codes l x) (hr : StandsFor ts t codes r y) where
-    by_left : (ph : Phase) (below : List PlainActivation) → IsStart l.start ph l.path x.start → StandsAt ts t codes ph below l x → joined_pair program tables memory x x.phase y y.phase ≡ Some z → StandsFor ts t codes (joined_at ph l r) z
+  module _ (l r : PlainStrand) (x y z : LayeredStrand) (n : IsNotAtSpawn r.phase) (lower : r.lower ≡ [])
+      (hl : StandsFor setting l x) (hr : StandsFor setting r y) where
+    by_left : (ph : Phase) (below : List PlainActivation) → IsStart l.start ph l.path x.start → StandsAt setting ph below l x → joined_pair setting.program setting.tables setting.memory x x.phase y y.phase ≡ Some z → StandsFor setting (joined_at ph l r) z
     by_left (phase.Broken f) below i h e =
-        let same : Some (broken_pair program tables memory x y (named_fault ts t codes f)) ≡ Some z = sym (ap (λ p. joined_pair program tables memory x p y y.phase) h) ∙ e in
-        subst (StandsFor ts t codes (joined_broken l f)) (let q : broken_pair program tables memory x y (named_fault ts t codes f) ≡ z = cc in q) (record { start = i; layers = hl.layers; now = refl })
+        let same : Some (broken_pair setting.program setting.tables setting.memory x y (named_fault setting f)) ≡ Some z = sym (ap (λ p. joined_pair setting.program setting.tables setting.memory x p y y.phase) h) ∙ e in
+        subst (StandsFor setting (joined_broken l f)) (let q : broken_pair setting.program setting.tables setting.memory x y (named_fault setting f) ≡ z = cc in q) (record { start = i; layers = hl.layers; now = refl })
     by_left (phase.Leaving v) below i h e =
-        by_right l r x y v lower i hl.layers hr.layers (ap (λ fr. fr.instance) h.frame) program tables memory z tree_is r.phase n hr.start hr.now (sym (ap (λ p. joined_pair program tables memory x p y y.phase) h.phase) ∙ e)
-    by_left phase.Entering below i h e = let none : None ≡ Some z = sym (ap (λ p. joined_pair program tables memory x p y y.phase) h.phase) ∙ e in absurd cc
-    by_left phase.Running below i h e = let none : None ≡ Some z = sym (ap (λ p. joined_pair program tables memory x p y y.phase) h.phase) ∙ e in absurd cc
+        by_right l r x y v lower i hl.layers hr.layers (ap (λ fr. fr.instance) h.frame) z r.phase n hr.start hr.now (sym (ap (λ p. joined_pair setting.program setting.tables setting.memory x p y y.phase) h.phase) ∙ e)
+    by_left phase.Entering below i h e = let none : None ≡ Some z = sym (ap (λ p. joined_pair setting.program setting.tables setting.memory x p y y.phase) h.phase) ∙ e in absurd cc
+    by_left phase.Running below i h e = let none : None ≡ Some z = sym (ap (λ p. joined_pair setting.program setting.tables setting.memory x p y y.phase) h.phase) ∙ e in absurd cc
     by_left phase.AtSpawn [] i h e = absurd h
-    by_left phase.AtSpawn (p ∷ below) i h e = let none : None ≡ Some z = sym (ap (λ p. joined_pair program tables memory x p y y.phase) h.phase) ∙ e in absurd cc
-    by_left (phase.Returning w) below i h e = let none : None ≡ Some z = sym (ap (λ p. joined_pair program tables memory x p y y.phase) h.phase) ∙ e in absurd cc
+    by_left phase.AtSpawn (p ∷ below) i h e = let none : None ≡ Some z = sym (ap (λ p. joined_pair setting.program setting.tables setting.memory x p y y.phase) h.phase) ∙ e in absurd cc
+    by_left (phase.Returning w) below i h e = let none : None ≡ Some z = sym (ap (λ p. joined_pair setting.program setting.tables setting.memory x p y y.phase) h.phase) ∙ e in absurd cc
 
-  pub joined_is : (l r : PlainStrand) → IsJoined ts t codes l r (joined l r)
-  joined_is l r program tables memory x y z tree_is n lower hl hr e = by_left l r x y z program tables memory tree_is n lower hl hr l.phase l.below hl.start hl.now e
+  pub joined_is : (l r : PlainStrand) → IsJoined setting l r (joined l r)
+  joined_is l r x y z n lower hl hr e = by_left l r x y z n lower hl hr l.phase l.below hl.start hl.now e

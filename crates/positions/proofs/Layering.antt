@@ -5,16 +5,15 @@ use Rattle.std.proofs.lemmas.List.{map-append, length-set}
 use Rattle.monoid_laws.specs.declared.Kind.{Kind}
 use Rattle.monoid_laws.specs.Worth.{Worth}
 use Rattle.monoid_laws.specs.Kinds.{operate, element_of}
-use Rattle.program_tree.specs.Plain.{Name, Tree}
+use Rattle.program_tree.specs.Plain.{Name}
 use Rattle.meaning.specs.Outcome.{Log, Reads, Enters, Updates, Reading, Accumulators, updated}
 use Rattle.meaning.specs.Statements.{reducers}
 use Rattle.meaning.specs.Layers as definitions
 use Rattle.meaning.specs.Layers.{Notes, noted_one, noted_top, bottom, take_top}
-use Rattle.linked_program.specs.declared.code.Code.{Code}
-use Rattle.linked_program.specs.TableNames.{Columned}
 use Rattle.linked_program.specs.Procedures.{procedures}
 use Rattle.linked_program.specs.Linked.{procedure_number}
 use Rattle.evaluation.specs.Numbers.{numbered, readings, OnlyReads}
+use Rattle.positions.specs.Setting.{Setting}
 use Rattle.positions.specs.Layers.{PlainLayer, noting, entering, updated_by, updating, lowest}
 use Rattle.positions.specs.Stands.{flagged, IsNotes, AreNotes}
 
@@ -45,22 +44,22 @@ flagged_append flags (q ∷ ps) p = flagged_append (slice_set flags q true) ps p
 
 -- ---- a layer by numbers
 
-module _ (ts : List Columned) (t : Tree) (codes : List Code) where
-  pub notes_read : (l : PlainLayer) (n : Notes) (log : Log) → OnlyReads log → IsNotes ts t codes l n
-      → IsNotes ts t codes (noting (map (numbered ts) (readings log)) l) (definitions.noted n log)
+module _ (setting : Setting) where
+  pub notes_read : (l : PlainLayer) (n : Notes) (log : Log) → OnlyReads log → IsNotes setting l n
+      → IsNotes setting (noting (map (numbered setting.names) (readings log)) l) (definitions.noted n log)
   notes_read l n log h i =
-      subst (IsNotes ts t codes (noting (map (numbered ts) (readings log)) l)) (sym (noted_reads n log h))
+      subst (IsNotes setting (noting (map (numbered setting.names) (readings log)) l)) (sym (noted_reads n log h))
       (record {
         kinds = i.kinds;
         worths = i.worths;
         each = i.each;
-        notes = ap (λ ns. ns ++ map (numbered ts) (readings log)) i.notes ∙ sym (map-append (numbered ts) n.read (readings log));
+        notes = ap (λ ns. ns ++ map (numbered setting.names) (readings log)) i.notes ∙ sym (map-append (numbered setting.names) n.read (readings log));
         entered = i.entered;
         deepest = i.deepest;
       })
 
-  pub notes_entered : (l : PlainLayer) (n : Notes) (f : Name) (args : List ℤ) (p depth : ℕ) → procedure_number (procedures t) f ≡ p → IsNotes ts t codes l n
-      → IsNotes ts t codes (entering p depth l) (noted_one n (Enters f args depth))
+  pub notes_entered : (l : PlainLayer) (n : Notes) (f : Name) (args : List ℤ) (p depth : ℕ) → procedure_number (procedures setting.program.tree) f ≡ p → IsNotes setting l n
+      → IsNotes setting (entering p depth l) (noted_one n (Enters f args depth))
   notes_entered l n f args p depth e i = record {
     kinds = i.kinds;
     worths = i.worths;
@@ -68,9 +67,9 @@ module _ (ts : List Columned) (t : Tree) (codes : List Code) where
     notes = i.notes;
     entered =
         ap (λ flags. slice_set flags p true) i.entered
-        ∙ ap (λ q. slice_set (flagged (replicate (length (procedures t)) false) (map (procedure_number (procedures t)) n.entered)) q true) (sym e)
-        ∙ sym (flagged_append (replicate (length (procedures t)) false) (map (procedure_number (procedures t)) n.entered) (procedure_number (procedures t) f))
-        ∙ ap (flagged (replicate (length (procedures t)) false)) (sym (map-append (procedure_number (procedures t)) n.entered (f ∷ [])));
+        ∙ ap (λ q. slice_set (flagged (replicate (length (procedures setting.program.tree)) false) (map (procedure_number (procedures setting.program.tree)) n.entered)) q true) (sym e)
+        ∙ sym (flagged_append (replicate (length (procedures setting.program.tree)) false) (map (procedure_number (procedures setting.program.tree)) n.entered) (procedure_number (procedures setting.program.tree) f))
+        ∙ ap (flagged (replicate (length (procedures setting.program.tree)) false)) (sym (map-append (procedure_number (procedures setting.program.tree)) n.entered (f ∷ [])));
     deepest = ap (λ d. max d depth) i.deepest;
   }
 
@@ -82,8 +81,8 @@ module _ (ts : List Columned) (t : Tree) (codes : List Code) where
   updated_each r kind vs worths None = refl
   updated_each r kind vs worths (Some w) = length-set worths r (operate kind w (element_of kind vs))
 
-  pub notes_updated : (l : PlainLayer) (n : Notes) (r : ℕ) (kind : Kind) (vs : List ℤ) → IsNotes ts t codes l n
-      → IsNotes ts t codes (updating r kind vs l) (noted_one n (Updates r kind (element_of kind vs)))
+  pub notes_updated : (l : PlainLayer) (n : Notes) (r : ℕ) (kind : Kind) (vs : List ℤ) → IsNotes setting l n
+      → IsNotes setting (updating r kind vs l) (noted_one n (Updates r kind (element_of kind vs)))
   notes_updated l n r kind vs i = record {
     kinds = i.kinds;
     worths = ap (λ ws. updated ws r kind (element_of kind vs) (slice_get ws r)) i.worths ∙ updated_is r kind vs l.worths (slice_get l.worths r);
@@ -96,21 +95,21 @@ module _ (ts : List Columned) (t : Tree) (codes : List Code) where
   -- ---- the layers of a strand
 
   pub top_noted : (l k : PlainLayer) (lower : List PlainLayer) (ls : List Notes) (es : Log)
-      → ((n : Notes) → IsNotes ts t codes l n → IsNotes ts t codes k (definitions.noted n es)) → AreNotes ts t codes (l ∷ lower) ls → AreNotes ts t codes (k ∷ lower) (noted_top ls es)
+      → ((n : Notes) → IsNotes setting l n → IsNotes setting k (definitions.noted n es)) → AreNotes setting (l ∷ lower) ls → AreNotes setting (k ∷ lower) (noted_top ls es)
   top_noted l k lower [] es f h = absurd h
   top_noted l k lower (n ∷ ns) es f h = (f n h.0, h.1)
 
-  pub top_read : (l : PlainLayer) (lower : List PlainLayer) (ls : List Notes) (log : Log) → OnlyReads log → AreNotes ts t codes (l ∷ lower) ls
-      → AreNotes ts t codes (noting (map (numbered ts) (readings log)) l ∷ lower) (noted_top ls log)
-  top_read l lower ls log h = top_noted l (noting (map (numbered ts) (readings log)) l) lower ls log (λ n. notes_read l n log h)
+  pub top_read : (l : PlainLayer) (lower : List PlainLayer) (ls : List Notes) (log : Log) → OnlyReads log → AreNotes setting (l ∷ lower) ls
+      → AreNotes setting (noting (map (numbered setting.names) (readings log)) l ∷ lower) (noted_top ls log)
+  top_read l lower ls log h = top_noted l (noting (map (numbered setting.names) (readings log)) l) lower ls log (λ n. notes_read l n log h)
 
   -- the reducers' values of the lowest layer
   pub record IsLowest (l : PlainLayer) (worth : Accumulators) : Type 0 where
-    pub kinds : l.kinds ≡ map (λ r. r.kind) (reducers t)
+    pub kinds : l.kinds ≡ map (λ r. r.kind) (reducers setting.program.tree)
     pub worths : worth ≡ l.worths
     pub each : length l.worths ≡ length l.kinds
 
-  pub bottom_is : (l : PlainLayer) (lower : List PlainLayer) (ls : List Notes) → AreNotes ts t codes (l ∷ lower) ls → IsLowest (lowest l lower) (bottom ls)
+  pub bottom_is : (l : PlainLayer) (lower : List PlainLayer) (ls : List Notes) → AreNotes setting (l ∷ lower) ls → IsLowest (lowest l lower) (bottom ls)
   bottom_is l [] [] h = absurd h
   bottom_is l [] (n ∷ []) h = record { kinds = h.0.kinds; worths = h.0.worths; each = h.0.each }
   bottom_is l [] (n ∷ m ∷ ns) h = absurd h.1

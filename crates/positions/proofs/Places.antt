@@ -2,18 +2,18 @@
 use Rattle.std.proofs.Common.{◌≡◌, ℕ, zero, suc, ◌+◌, ◌-◌, ◌<◌, ◌≤◌, Bool, true, false, if◌then◌else◌, List, [], ◌∷◌, length, Option, Some, None, refl, sym, ◌∙◌, ap, subst, arith}
 use Rattle.std.specs.Prelude.{nat_lt, slice_get}
 use Rattle.std.proofs.lemmas.Bool.Decides.{nat_tests}
-use Rattle.program_tree.specs.Plain.{Deed, Body, end, step, Proc, Tree}
+use Rattle.program_tree.specs.Plain.{Deed, Body, end, step, Proc}
 use Rattle.meaning.specs.Statements.{found, proc_of}
 use Rattle.linked_program.specs.declared.code.Instruction.{Instruction}
 use Rattle.linked_program.specs.declared.code.CodeBlock.{CodeBlock}
 use Rattle.linked_program.specs.declared.code.Code.{Code}
-use Rattle.linked_program.specs.TableNames.{Columned}
 use Rattle.linked_program.specs.Procedures.{procedures}
 use Rattle.linked_program.specs.Linked.{Acts, ends, steps, procedure_number, linked_deed, linked_body}
 use Rattle.linked_program.specs.CodeView.{act, acts, acts_of, code_block, AreCodesOf, instructions_in, blocks_in, memo_in, memo_of, slots_in, slots_of}
 use Rattle.linked_program.proofs.Numbers.{procedure_is}
 use Rattle.positions.specs.declared.work.Position.{Position}
 use Rattle.positions.specs.Activations.{next_of, first_of}
+use Rattle.positions.specs.Setting.{Setting}
 use Rattle.positions.specs.Code.{blocks_at, instruction_inside}
 use Rattle.positions.specs.Stands.{acts_from, acts_at, procedure_at}
 
@@ -49,20 +49,20 @@ at_level blocks depth b k false e =
     let none : length blocks - depth ≡ 0 = omega arith in
     subst (λ n. acts_from k (code_block blocks n b) ≡ ends) (sym none) (nothing_from k)
 
-module _ (ts : List Columned) (t : Tree) where
+module _ (setting : Setting) where
   -- a statement and what follows it
   pub record Next (inner : ℕ → Acts) (i : Instruction) (here : Body) (later : Acts) : Type 0 where
     pub deed : Deed
     pub rest : Body
     pub is_step : here ≡ step i.number deed rest
-    pub does : linked_deed ts t deed ≡ act inner i.operation
-    pub follows : linked_body ts t rest ≡ later
+    pub does : linked_deed setting.names setting.program.tree deed ≡ act inner i.operation
+    pub follows : linked_body setting.names setting.program.tree rest ≡ later
 
   abbrev pub AtPlace : (ℕ → Acts) → Option Instruction → Body → Acts → Type 0
   AtPlace inner None here later = here ≡ end
   AtPlace inner (Some i) here later = Next inner i here later
 
-  linked_before : (inner : ℕ → Acts) (i : Option Instruction) (here : Body) (later : Acts) → linked_body ts t here ≡ before inner i later → AtPlace inner i here later
+  linked_before : (inner : ℕ → Acts) (i : Option Instruction) (here : Body) (later : Acts) → linked_body setting.names setting.program.tree here ≡ before inner i later → AtPlace inner i here later
   linked_before inner None end later e = refl
   linked_before inner None (step n d b) later e = absurd cc
   linked_before inner (Some i) end later e = absurd cc
@@ -71,12 +71,12 @@ module _ (ts : List Columned) (t : Tree) where
       record { deed = d; rest = b; is_step = ap (λ m. step m d b) number; does = cc; follows = cc }
 
   -- the statement at a place with so many blocks around it; an `if` leads to the beginning of a block one deeper
-  pub at_place : (codes : List Code) (p depth : ℕ) (q : Position) (here : Body) → linked_body ts t here ≡ acts_at ts t codes p depth q
-      → AtPlace (λ n. acts_at ts t codes p (suc depth) (first_of n)) (instruction_inside codes p depth q) here (acts_at ts t codes p depth (next_of q))
-  at_place codes p depth q here e =
-      linked_before (λ n. acts_at ts t codes p (suc depth) (first_of n)) (instruction_inside codes p depth q) here (acts_at ts t codes p depth (next_of q))
-      (e ∙ at_level (blocks_at codes p) depth q.block q.index (nat_lt depth (length (blocks_at codes p))) refl
-      ∙ ap (λ k. before (code_block (blocks_at codes p) (length (blocks_at codes p) - suc depth)) (instruction_inside codes p depth q) (acts_from k (code_block (blocks_at codes p) (length (blocks_at codes p) - depth) q.block))) (let e : suc q.index ≡ q.index + 1 = omega arith in e))
+  pub at_place : (p depth : ℕ) (q : Position) (here : Body) → linked_body setting.names setting.program.tree here ≡ acts_at setting p depth q
+      → AtPlace (λ n. acts_at setting p (suc depth) (first_of n)) (instruction_inside setting.codes p depth q) here (acts_at setting p depth (next_of q))
+  at_place p depth q here e =
+      linked_before (λ n. acts_at setting p (suc depth) (first_of n)) (instruction_inside setting.codes p depth q) here (acts_at setting p depth (next_of q))
+      (e ∙ at_level (blocks_at setting.codes p) depth q.block q.index (nat_lt depth (length (blocks_at setting.codes p))) refl
+      ∙ ap (λ k. before (code_block (blocks_at setting.codes p) (length (blocks_at setting.codes p) - suc depth)) (instruction_inside setting.codes p depth q) (acts_from k (code_block (blocks_at setting.codes p) (length (blocks_at setting.codes p) - depth) q.block))) (let e : suc q.index ≡ q.index + 1 = omega arith in e))
 
   -- ---- procedures
 
@@ -84,9 +84,9 @@ module _ (ts : List Columned) (t : Tree) where
   pub record IsCoded (c : Option Code) (p : Option Proc) : Type 0 where
     pub memo : memo_in c ≡ (found p).memo
     pub slots : slots_in c ≡ length (found p).names
-    pub body : linked_body ts t (found p).body ≡ code_block (blocks_in c) (length (blocks_in c)) 0
+    pub body : linked_body setting.names setting.program.tree (found p).body ≡ code_block (blocks_in c) (length (blocks_in c)) 0
 
-  coded : (cs : List Code) (ps : List Proc) (q : ℕ) → AreCodesOf ts t cs ps → IsCoded (slice_get cs q) (slice_get ps q)
+  coded : (cs : List Code) (ps : List Proc) (q : ℕ) → AreCodesOf setting.names setting.program.tree cs ps → IsCoded (slice_get cs q) (slice_get ps q)
   coded [] [] zero h = record { memo = refl; slots = refl; body = refl }
   coded [] [] (suc q) h = record { memo = refl; slots = refl; body = refl }
   coded [] (p ∷ ps) q h = absurd h
@@ -94,18 +94,18 @@ module _ (ts : List Columned) (t : Tree) where
   coded (c ∷ cs) (p ∷ ps) zero h = record { memo = h.0.memo; slots = h.0.slots; body = sym h.0.body }
   coded (c ∷ cs) (p ∷ ps) (suc q) h = coded cs ps q h.1
 
-  module _ (codes : List Code) (linked : AreCodesOf ts t codes (procedures t)) where
-    pub memo_at : (q : ℕ) → memo_of codes q ≡ (procedure_at ts t codes q).memo
-    memo_at q = (coded codes (procedures t) q linked).memo
+  module _ (linked : AreCodesOf setting.names setting.program.tree setting.codes (procedures setting.program.tree)) where
+    pub memo_at : (q : ℕ) → memo_of setting.codes q ≡ (procedure_at setting q).memo
+    memo_at q = (coded setting.codes (procedures setting.program.tree) q linked).memo
 
-    pub slots_at : (q : ℕ) → slots_of codes q ≡ length (procedure_at ts t codes q).names
-    slots_at q = (coded codes (procedures t) q linked).slots
+    pub slots_at : (q : ℕ) → slots_of setting.codes q ≡ length (procedure_at setting q).names
+    slots_at q = (coded setting.codes (procedures setting.program.tree) q linked).slots
 
-    pub body_at : (q : ℕ) → linked_body ts t (procedure_at ts t codes q).body ≡ acts_at ts t codes q 0 (first_of 0)
+    pub body_at : (q : ℕ) → linked_body setting.names setting.program.tree (procedure_at setting q).body ≡ acts_at setting q 0 (first_of 0)
     body_at q =
-        (coded codes (procedures t) q linked).body
-        ∙ ap (λ n. code_block (blocks_at codes q) n 0) (let e : length (blocks_at codes q) ≡ length (blocks_at codes q) - 0 = omega arith in e)
+        (coded setting.codes (procedures setting.program.tree) q linked).body
+        ∙ ap (λ n. code_block (blocks_at setting.codes q) n 0) (let e : length (blocks_at setting.codes q) ≡ length (blocks_at setting.codes q) - 0 = omega arith in e)
 
 -- the number of a name leads to the procedure of that name
-pub found_at : (ts : List Columned) (t : Tree) (codes : List Code) (f : List ℕ) (q : ℕ) → procedure_number (procedures t) f ≡ q → procedure_at ts t codes q ≡ proc_of t f
-found_at ts t codes f q e = ap (procedure_at ts t codes) (sym e) ∙ ap found (procedure_is t f)
+pub found_at : (setting : Setting) (f : List ℕ) (q : ℕ) → procedure_number (procedures setting.program.tree) f ≡ q → procedure_at setting q ≡ proc_of setting.program.tree f
+found_at setting f q e = ap (procedure_at setting) (sym e) ∙ ap found (procedure_is setting.program.tree f)

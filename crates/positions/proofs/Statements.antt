@@ -4,14 +4,13 @@ use Rattle.std.specs.Prelude.{Vec, ℤ, pos, slice_get, slice_set}
 use Rattle.std.specs.Ordering.{int_eq}
 use Rattle.std.specs.declared.alloc.Global.{Global}
 use Rattle.std.proofs.lemmas.List.{length-map}
-use Rattle.program_tree.specs.Plain.{Name, Term, Deed, bind, enter, read, sync, update, choose, loop, give, Body, step, Red, Tree}
+use Rattle.program_tree.specs.Plain.{Name, Term, Deed, bind, enter, read, sync, update, choose, loop, give, Body, step, Red}
 use Rattle.program_tree.specs.declared.Way.{Way}
 use Rattle.program_tree.specs.declared.Way.TheVariants.{Call, Spawn}
 use Rattle.monoid_laws.specs.declared.Kind.{Kind}
 use Rattle.monoid_laws.specs.Worth.{Worth}
 use Rattle.monoid_laws.specs.Kinds.{names_element, element_of}
 use Rattle.meaning.specs.declared.FaultKind.TheVariants.{BadElement}
-use Rattle.meaning.specs.Tables.{Tables}
 use Rattle.meaning.specs.OneStrand.{nothing_kept}
 use Rattle.meaning.specs.Outcome.{Site, Place, Accumulators, Updates, Syncs}
 use Rattle.meaning.specs.Values.{value, values}
@@ -20,7 +19,6 @@ use Rattle.meaning.specs.Trail.{halvings, fault_at}
 use Rattle.meaning.specs.SmallStep.{slot, seen, has, Start as NamedStart, Frame, blocks, instance, half, Phase as NamedPhase, running, spawning, returning, broken, Parent, noting, Step, moved, with_env, on_value, on_depth, enter_child, deed_step, is_entry, unless, todo_step, sync_step}
 use Rattle.meaning.specs.Layers.{Notes, noted_top, bottom}
 use Rattle.meaning.specs.LayeredStrand.{LayeredStrand, advanced}
-use Rattle.linked_program.specs.declared.code.Code.{Code}
 use Rattle.linked_program.specs.declared.code.Expression.{Expression}
 use Rattle.linked_program.specs.declared.code.Operation.{Operation}
 use Rattle.linked_program.specs.declared.code.Operation.TheVariants as o
@@ -40,6 +38,7 @@ use Rattle.positions.specs.declared.work.Position.{Position}
 use Rattle.positions.specs.declared.work.Work.TheVariants.{Block}
 use Rattle.positions.specs.declared.phase.Phase.TheVariants.{Running, Returning}
 use Rattle.positions.specs.declared.start.Start.{Start}
+use Rattle.positions.specs.Setting.{Setting, by_own_names}
 use Rattle.positions.specs.Activations.{PlainActivation, at, next_of, first_of, inside}
 use Rattle.positions.specs.Code.{loop_in, loop_as}
 use Rattle.positions.specs.Layers as layers
@@ -58,7 +57,7 @@ forty_two : halvings ≡ 42
 unfolding halvings
 forty_two = refl
 
-module _ (tables : Tables) (t : Tree) (codes : List Code) (linked : AreCodesOf (columned_of tables) t codes (procedures t)) (kinds : List Kind) (kinds_are : kinds ≡ kinds_of t)
+module _ (setting : Setting) (linked : AreCodesOf (columned_of setting.tables) setting.program.tree setting.codes (procedures setting.program.tree)) (kinds_are : setting.kinds ≡ kinds_of setting.program.tree)
     (m : NamedStart) (under : List Parent) (st : Start) (lower : List PlainLayer) (path : Place) (a : PlainActivation) (q : Position) (below : List PlainActivation) where
   abbrev top : PlainActivation
   top = at (Block q) a
@@ -67,41 +66,41 @@ module _ (tables : Tables) (t : Tree) (codes : List Code) (linked : AreCodesOf (
   plain_at l = record { start = st; layer = l; lower = lower; path = path; top = top; below = below; phase = Running }
 
   abbrev fr : Frame
-  fr = frame_with (columned_of tables) t codes path top (map meant a.slots)
+  fr = frame_with (by_own_names setting) path top (map meant a.slots)
 
-  module _ (rest : Body) (bs : List Body) (begins : IsStart st Running path m) (hu : AreParents (columned_of tables) t codes path below under)
-      (follows : linked_body (columned_of tables) t rest ≡ acts_at (columned_of tables) t codes a.procedure (length a.outer) (next_of q)) (hb : AreBodies (columned_of tables) t codes a.procedure a.outer bs)
-      (ph : NamedPhase) (n : ℕ) (l : PlainLayer) (ls : List Notes) (hl : AreNotes (columned_of tables) t codes (l ∷ lower) ls) where
+  module _ (rest : Body) (bs : List Body) (begins : IsStart st Running path m) (hu : AreParents (by_own_names setting) path below under)
+      (follows : linked_body (columned_of setting.tables) setting.program.tree rest ≡ acts_at (by_own_names setting) a.procedure (length a.outer) (next_of q)) (hb : AreBodies (by_own_names setting) a.procedure a.outer bs)
+      (ph : NamedPhase) (n : ℕ) (l : PlainLayer) (ls : List Notes) (hl : AreNotes (by_own_names setting) (l ∷ lower) ls) where
     abbrev site : Site
-    site = record { procedure = (procedure_at (columned_of tables) t codes a.procedure).called; statement = n }
+    site = record { procedure = (procedure_at (by_own_names setting) a.procedure).called; statement = n }
 
     -- the strand of the definitions, where that is its next step
     abbrev by_step : List Notes → Step → LayeredStrand
-    by_step ks s = advanced t (strand_at m ks fr ph under) s
+    by_step ks s = advanced setting.program.tree (strand_at m ks fr ph under) s
 
-    goes_on : (k : PlainLayer) (ks : List Notes) → AreNotes (columned_of tables) t codes (k ∷ lower) ks
-        → StandsFor (columned_of tables) t codes (moved_on q (plain_at k)) (strand_at m ks fr (running (blocks (rest ∷ bs))) under)
+    goes_on : (k : PlainLayer) (ks : List Notes) → AreNotes (by_own_names setting) (k ∷ lower) ks
+        → StandsFor (by_own_names setting) (moved_on q (plain_at k)) (strand_at m ks fr (running (blocks (rest ∷ bs))) under)
     goes_on k ks h = record { start = begins; layers = h; now = record { todo = blocks (rest ∷ bs); left = (follows, hb); phase = refl; frame = refl; under = hu } }
 
-    moves_on : (k : PlainLayer) (ks : List Notes) → AreNotes (columned_of tables) t codes (k ∷ lower) ks
-        → StandsFor (columned_of tables) t codes (moved_on q (plain_at k)) (by_step ks (moved noting [] fr (running (blocks (rest ∷ bs))) under))
+    moves_on : (k : PlainLayer) (ks : List Notes) → AreNotes (by_own_names setting) (k ∷ lower) ks
+        → StandsFor (by_own_names setting) (moved_on q (plain_at k)) (by_step ks (moved noting [] fr (running (blocks (rest ∷ bs))) under))
     moves_on k ks h =
-        subst (λ x. StandsFor (columned_of tables) t codes (moved_on q (plain_at k)) (strand_at m x fr (running (blocks (rest ∷ bs))) under)) (sym (top_none ks)) (goes_on k ks h)
+        subst (λ x. StandsFor (by_own_names setting) (moved_on q (plain_at k)) (strand_at m x fr (running (blocks (rest ∷ bs))) under)) (sym (top_none ks)) (goes_on k ks h)
 
-    binds : (x : ℕ) (v : ℤ) (k : PlainLayer) (ks : List Notes) → AreNotes (columned_of tables) t codes (k ∷ lower) ks
-        → StandsFor (columned_of tables) t codes (binding q x v (plain_at k)) (by_step ks (moved noting [] (with_env fr (slice_set fr.env x (has v))) (running (blocks (rest ∷ bs))) under))
+    binds : (x : ℕ) (v : ℤ) (k : PlainLayer) (ks : List Notes) → AreNotes (by_own_names setting) (k ∷ lower) ks
+        → StandsFor (by_own_names setting) (binding q x v (plain_at k)) (by_step ks (moved noting [] (with_env fr (slice_set fr.env x (has v))) (running (blocks (rest ∷ bs))) under))
     binds x v k ks h =
-        subst (λ y. StandsFor (columned_of tables) t codes (binding q x v (plain_at k)) (strand_at m y (with_env fr (slice_set fr.env x (has v))) (running (blocks (rest ∷ bs))) under)) (sym (top_none ks))
+        subst (λ y. StandsFor (by_own_names setting) (binding q x v (plain_at k)) (strand_at m y (with_env fr (slice_set fr.env x (has v))) (running (blocks (rest ∷ bs))) under)) (sym (top_none ks))
         (record {
           start = begins;
           layers = h;
           now = record { todo = blocks (rest ∷ bs); left = (follows, hb); phase = refl; frame = ap (with_env fr) (sym (set_meant a.slots x (Has v))); under = hu };
         })
 
-    gives : (v : ℤ) (k : PlainLayer) (ks : List Notes) → AreNotes (columned_of tables) t codes (k ∷ lower) ks
-        → StandsFor (columned_of tables) t codes (giving v (plain_at k)) (by_step ks (moved noting [] fr (returning v) under))
+    gives : (v : ℤ) (k : PlainLayer) (ks : List Notes) → AreNotes (by_own_names setting) (k ∷ lower) ks
+        → StandsFor (by_own_names setting) (giving v (plain_at k)) (by_step ks (moved noting [] fr (returning v) under))
     gives v k ks h =
-        subst (λ y. StandsFor (columned_of tables) t codes (giving v (plain_at k)) (strand_at m y fr (returning v) under)) (sym (top_none ks))
+        subst (λ y. StandsFor (by_own_names setting) (giving v (plain_at k)) (strand_at m y fr (returning v) under)) (sym (top_none ks))
         (record {
           start = start_moved st Running (Returning v) path path m (λ d w. (refl, w)) begins;
           layers = h;
@@ -109,61 +108,61 @@ module _ (tables : Tables) (t : Tree) (codes : List Code) (linked : AreCodesOf (
         })
 
     -- an expression, and then the rest
-    valued : (e : Expression) (e' : Term) → linked_term (columned_of tables) e' ≡ expression e → (next : ℤ → PlainStrand → PlainStrand) (s : ℤ → Step) → ((v : ℤ) → IsNoting (s v))
-        → ((v : ℤ) (k : PlainLayer) (ks : List Notes) → AreNotes (columned_of tables) t codes (k ∷ lower) ks → StandsFor (columned_of tables) t codes (next v (plain_at k)) (by_step ks (s v)))
-        → StandsFor (columned_of tables) t codes (evaluated n (value_at tables a.slots (expression e)) next (plain_at l)) (by_step ls (on_value fr under site (value tables (env_of a.slots) e') s))
+    valued : (e : Expression) (e' : Term) → linked_term (columned_of setting.tables) e' ≡ expression e → (next : ℤ → PlainStrand → PlainStrand) (s : ℤ → Step) → ((v : ℤ) → IsNoting (s v))
+        → ((v : ℤ) (k : PlainLayer) (ks : List Notes) → AreNotes (by_own_names setting) (k ∷ lower) ks → StandsFor (by_own_names setting) (next v (plain_at k)) (by_step ks (s v)))
+        → StandsFor (by_own_names setting) (evaluated n (value_at setting.tables a.slots (expression e)) next (plain_at l)) (by_step ls (on_value fr under site (value setting.tables (env_of a.slots) e') s))
     valued e e' h next s quiet goes =
-        subst (λ out. StandsFor (columned_of tables) t codes (evaluated n out next (plain_at l)) (by_step ls (on_value fr under site (value tables (env_of a.slots) e') s)))
-        (sym (value_is tables a.slots e') ∙ ap (value_at tables a.slots) h)
-        (evaluated_is (columned_of tables) t codes m fr ph under (plain_at l) n site refl begins (value tables (env_of a.slots) e') next s ls (value_reads tables (env_of a.slots) e') hl quiet goes)
+        subst (λ out. StandsFor (by_own_names setting) (evaluated n out next (plain_at l)) (by_step ls (on_value fr under site (value setting.tables (env_of a.slots) e') s)))
+        (sym (value_is setting.tables a.slots e') ∙ ap (value_at setting.tables a.slots) h)
+        (evaluated_is (by_own_names setting) m fr ph under (plain_at l) n site refl begins (value setting.tables (env_of a.slots) e') next s ls (value_reads setting.tables (env_of a.slots) e') hl quiet goes)
 
-    all_valued : (es : List Expression) (es' : List Term) → map (linked_term (columned_of tables)) es' ≡ map expression es → (next : List ℤ → PlainStrand → PlainStrand) (s : List ℤ → Step) → ((vs : List ℤ) → IsNoting (s vs))
-        → ((vs : List ℤ) (k : PlainLayer) (ks : List Notes) → AreNotes (columned_of tables) t codes (k ∷ lower) ks → StandsFor (columned_of tables) t codes (next vs (plain_at k)) (by_step ks (s vs)))
-        → StandsFor (columned_of tables) t codes (evaluated n (values_at tables a.slots (map expression es)) next (plain_at l)) (by_step ls (on_value fr under site (values tables (env_of a.slots) es') s))
+    all_valued : (es : List Expression) (es' : List Term) → map (linked_term (columned_of setting.tables)) es' ≡ map expression es → (next : List ℤ → PlainStrand → PlainStrand) (s : List ℤ → Step) → ((vs : List ℤ) → IsNoting (s vs))
+        → ((vs : List ℤ) (k : PlainLayer) (ks : List Notes) → AreNotes (by_own_names setting) (k ∷ lower) ks → StandsFor (by_own_names setting) (next vs (plain_at k)) (by_step ks (s vs)))
+        → StandsFor (by_own_names setting) (evaluated n (values_at setting.tables a.slots (map expression es)) next (plain_at l)) (by_step ls (on_value fr under site (values setting.tables (env_of a.slots) es') s))
     all_valued es es' h next s quiet goes =
-        subst (λ out. StandsFor (columned_of tables) t codes (evaluated n out next (plain_at l)) (by_step ls (on_value fr under site (values tables (env_of a.slots) es') s)))
-        (sym (values_are tables a.slots es') ∙ ap (values_at tables a.slots) h)
-        (evaluated_is (columned_of tables) t codes m fr ph under (plain_at l) n site refl begins (values tables (env_of a.slots) es') next s ls (values_read tables (env_of a.slots) es') hl quiet goes)
+        subst (λ out. StandsFor (by_own_names setting) (evaluated n out next (plain_at l)) (by_step ls (on_value fr under site (values setting.tables (env_of a.slots) es') s)))
+        (sym (values_are setting.tables a.slots es') ∙ ap (values_at setting.tables a.slots) h)
+        (evaluated_is (by_own_names setting) m fr ph under (plain_at l) n site refl begins (values setting.tables (env_of a.slots) es') next s ls (values_read setting.tables (env_of a.slots) es') hl quiet goes)
 
-    bind_is : (x : ℕ) (e : Expression) (e' : Term) → linked_term (columned_of tables) e' ≡ expression e → (acc : Accumulators)
-        → StandsFor (columned_of tables) t codes (performed codes kinds tables q n (o.Bind x e) (plain_at l)) (by_step ls (deed_step t tables nothing_kept false acc fr site (bind x e') (rest ∷ bs) under))
+    bind_is : (x : ℕ) (e : Expression) (e' : Term) → linked_term (columned_of setting.tables) e' ≡ expression e → (acc : Accumulators)
+        → StandsFor (by_own_names setting) (performed (by_own_names setting) q n (o.Bind x e) (plain_at l)) (by_step ls (deed_step setting.program.tree setting.tables nothing_kept false acc fr site (bind x e') (rest ∷ bs) under))
     bind_is x e e' h acc = valued e e' h (binding q x) (λ v. moved noting [] (with_env fr (slice_set fr.env x (has v))) (running (blocks (rest ∷ bs))) under) (λ v. tt) (binds x)
 
-    give_is : (e : Expression) (e' : Term) → linked_term (columned_of tables) e' ≡ expression e → (acc : Accumulators)
-        → StandsFor (columned_of tables) t codes (performed codes kinds tables q n (o.Return e) (plain_at l)) (by_step ls (deed_step t tables nothing_kept false acc fr site (give e') (rest ∷ bs) under))
+    give_is : (e : Expression) (e' : Term) → linked_term (columned_of setting.tables) e' ≡ expression e → (acc : Accumulators)
+        → StandsFor (by_own_names setting) (performed (by_own_names setting) q n (o.Return e) (plain_at l)) (by_step ls (deed_step setting.program.tree setting.tables nothing_kept false acc fr site (give e') (rest ∷ bs) under))
     give_is e e' h acc = valued e e' h giving (λ v. moved noting [] fr (returning v) under) (λ v. tt) gives
 
     -- ---- entering
 
-    entry_slots : (f : ℕ) (f' : Name) (vs : List ℤ) → procedure_number (procedures t) f' ≡ f → map meant (slots_for (slots_of codes f) vs) ≡ map slot (fresh (proc_of t f').names vs)
+    entry_slots : (f : ℕ) (f' : Name) (vs : List ℤ) → procedure_number (procedures setting.program.tree) f' ≡ f → map meant (slots_for (slots_of setting.codes f) vs) ≡ map slot (fresh (proc_of setting.program.tree f').names vs)
     entry_slots f f' vs number =
-        ap (λ n. map meant (slots_for n vs)) (slots_at (columned_of tables) t codes linked f)
-        ∙ fresh_is (procedure_at (columned_of tables) t codes f).names vs
-        ∙ ap (λ p. map slot (fresh p.names vs)) (found_at (columned_of tables) t codes f' f number)
+        ap (λ n. map meant (slots_for n vs)) (slots_at (by_own_names setting) linked f)
+        ∙ fresh_is (procedure_at (by_own_names setting) f).names vs
+        ∙ ap (λ p. map slot (fresh p.names vs)) (found_at (by_own_names setting) f' f number)
 
     abbrev in_step : Way → Option ℕ → Name → Accumulators → List ℤ → Step
-    in_step Call x f' acc vs = on_depth fr under site fr.left (λ d. enter_child t tables nothing_kept false acc fr d false x (instance f' vs) (blocks (rest ∷ bs)) under)
+    in_step Call x f' acc vs = on_depth fr under site fr.left (λ d. enter_child setting.program.tree setting.tables nothing_kept false acc fr d false x (instance f' vs) (blocks (rest ∷ bs)) under)
     in_step Spawn x f' acc vs = on_depth fr under site fr.left (λ d. moved noting [] fr (spawning d x (instance f' vs) (blocks (rest ∷ bs))) under)
 
     in_quiet : (way : Way) (x : Option ℕ) (f' : Name) (acc : Accumulators) (vs : List ℤ) → IsNoting (in_step way x f' acc vs)
-    in_quiet Call x f' acc vs = deep_call_quiet t tables acc fr under site x f' vs (blocks (rest ∷ bs)) fr.left
-    in_quiet Spawn x f' acc vs = deep_spawn_quiet t tables acc fr under site x f' vs (blocks (rest ∷ bs)) fr.left
+    in_quiet Call x f' acc vs = deep_call_quiet setting.program.tree setting.tables acc fr under site x f' vs (blocks (rest ∷ bs)) fr.left
+    in_quiet Spawn x f' acc vs = deep_spawn_quiet setting.program.tree setting.tables acc fr under site x f' vs (blocks (rest ∷ bs)) fr.left
 
-    in_stands : (way : Way) (x : Option ℕ) (f : ℕ) (f' : Name) (acc : Accumulators) → procedure_number (procedures t) f' ≡ f → (vs : List ℤ) (k : PlainLayer) (ks : List Notes) → AreNotes (columned_of tables) t codes (k ∷ lower) ks
-        → StandsFor (columned_of tables) t codes (nested n way x (Block (next_of q)) f (slots_for (slots_of codes f) vs) (plain_at k)) (by_step ks (in_step way x f' acc vs))
+    in_stands : (way : Way) (x : Option ℕ) (f : ℕ) (f' : Name) (acc : Accumulators) → procedure_number (procedures setting.program.tree) f' ≡ f → (vs : List ℤ) (k : PlainLayer) (ks : List Notes) → AreNotes (by_own_names setting) (k ∷ lower) ks
+        → StandsFor (by_own_names setting) (nested n way x (Block (next_of q)) f (slots_for (slots_of setting.codes f) vs) (plain_at k)) (by_step ks (in_step way x f' acc vs))
     in_stands Call x f f' acc number vs k ks h =
-        nested_is (columned_of tables) t codes path top (map meant a.slots) x (Block (next_of q)) (blocks (rest ∷ bs)) refl tt below under hu st m begins k lower ks h Running ph tables linked acc f' f vs
-        (slots_for (slots_of codes f) vs) number (entry_slots f f' vs number) n site refl Call (follows, hb)
+        nested_is (by_own_names setting) path top (map meant a.slots) x (Block (next_of q)) (blocks (rest ∷ bs)) refl tt below under hu st m begins k lower ks h Running ph linked acc f' f vs
+        (slots_for (slots_of setting.codes f) vs) number (entry_slots f f' vs number) n site refl Call (follows, hb)
     in_stands Spawn x f f' acc number vs k ks h =
-        nested_is (columned_of tables) t codes path top (map meant a.slots) x (Block (next_of q)) (blocks (rest ∷ bs)) refl tt below under hu st m begins k lower ks h Running ph tables linked acc f' f vs
-        (slots_for (slots_of codes f) vs) number (entry_slots f f' vs number) n site refl Spawn (follows, hb)
+        nested_is (by_own_names setting) path top (map meant a.slots) x (Block (next_of q)) (blocks (rest ∷ bs)) refl tt below under hu st m begins k lower ks h Running ph linked acc f' f vs
+        (slots_for (slots_of setting.codes f) vs) number (entry_slots f f' vs number) n site refl Spawn (follows, hb)
 
-    enters_by : (way : Way) (x : Option ℕ) (f : ℕ) (f' : Name) (es : List Expression) (es' : List Term) (acc : Accumulators) → procedure_number (procedures t) f' ≡ f → map (linked_term (columned_of tables)) es' ≡ map expression es
-        → StandsFor (columned_of tables) t codes (evaluated n (entry_at tables a.slots (slots_of codes f) (map expression es)) (nested n way x (Block (next_of q)) f) (plain_at l)) (by_step ls (on_value fr under site (values tables (env_of a.slots) es') (in_step way x f' acc)))
+    enters_by : (way : Way) (x : Option ℕ) (f : ℕ) (f' : Name) (es : List Expression) (es' : List Term) (acc : Accumulators) → procedure_number (procedures setting.program.tree) f' ≡ f → map (linked_term (columned_of setting.tables)) es' ≡ map expression es
+        → StandsFor (by_own_names setting) (evaluated n (entry_at setting.tables a.slots (slots_of setting.codes f) (map expression es)) (nested n way x (Block (next_of q)) f) (plain_at l)) (by_step ls (on_value fr under site (values setting.tables (env_of a.slots) es') (in_step way x f' acc)))
     enters_by way x f f' es es' acc number h =
-        subst (λ s. StandsFor (columned_of tables) t codes s (by_step ls (on_value fr under site (values tables (env_of a.slots) es') (in_step way x f' acc))))
-        (sym (mapped_is n (slots_for (slots_of codes f)) (values_at tables a.slots (map expression es)) (nested n way x (Block (next_of q)) f) (plain_at l)))
-        (all_valued es es' h (λ vs. nested n way x (Block (next_of q)) f (slots_for (slots_of codes f) vs)) (in_step way x f' acc) (in_quiet way x f' acc) (in_stands way x f f' acc number))
+        subst (λ s. StandsFor (by_own_names setting) s (by_step ls (on_value fr under site (values setting.tables (env_of a.slots) es') (in_step way x f' acc))))
+        (sym (mapped_is n (slots_for (slots_of setting.codes f)) (values_at setting.tables a.slots (map expression es)) (nested n way x (Block (next_of q)) f) (plain_at l)))
+        (all_valued es es' h (λ vs. nested n way x (Block (next_of q)) f (slots_for (slots_of setting.codes f) vs)) (in_step way x f' acc) (in_quiet way x f' acc) (in_stands way x f f' acc number))
 
     -- ---- reducers
 
@@ -175,21 +174,21 @@ module _ (tables : Tables) (t : Tree) (codes : List Code) (linked : AreCodesOf (
     both_none (x ∷ xs) (y ∷ ys) zero e h = absurd cc
     both_none (x ∷ xs) (y ∷ ys) (suc r) e h = both_none xs ys r (omega arith) h
 
-    reading_by : (acc : Accumulators) (worths : List Worth) (r : ℕ) (red : Option Red) → acc ≡ worths → length worths ≡ length (reducers t) → slice_get (reducers t) r ≡ red
+    reading_by : (acc : Accumulators) (worths : List Worth) (r : ℕ) (red : Option Red) → acc ≡ worths → length worths ≡ length (reducers setting.program.tree) → slice_get (reducers setting.program.tree) r ≡ red
         → reading acc (with_number r red) ≡ number_of (slice_get worths r)
-    reading_by acc worths r None e each h = ap number_of (sym (both_none (reducers t) worths r each h))
+    reading_by acc worths r None e each h = ap number_of (sym (both_none (reducers setting.program.tree) worths r each h))
     reading_by acc worths r (Some red) e each h = ap (λ ws. number_of (slice_get ws r)) e
 
-    found_reducer : (r : ℕ) (r' : Name) → reducer_number (reducers t) r' ≡ r → reducer_of 0 (reducers t) r' ≡ with_number r (slice_get (reducers t) r)
-    found_reducer r r' e = sym (reducer_is t r') ∙ ap (λ k. with_number k (slice_get (reducers t) k)) e
+    found_reducer : (r : ℕ) (r' : Name) → reducer_number (reducers setting.program.tree) r' ≡ r → reducer_of 0 (reducers setting.program.tree) r' ≡ with_number r (slice_get (reducers setting.program.tree) r)
+    found_reducer r r' e = sym (reducer_is setting.program.tree r') ∙ ap (λ k. with_number k (slice_get (reducers setting.program.tree) k)) e
 
-    read_is : (x r : ℕ) (r' : Name) → reducer_number (reducers t) r' ≡ r
-        → StandsFor (columned_of tables) t codes (performed codes kinds tables q n (o.Read x r) (plain_at l)) (by_step ls (deed_step t tables nothing_kept false (bottom ls) fr site (read x r') (rest ∷ bs) under))
+    read_is : (x r : ℕ) (r' : Name) → reducer_number (reducers setting.program.tree) r' ≡ r
+        → StandsFor (by_own_names setting) (performed (by_own_names setting) q n (o.Read x r) (plain_at l)) (by_step ls (deed_step setting.program.tree setting.tables nothing_kept false (bottom ls) fr site (read x r') (rest ∷ bs) under))
     read_is x r r' e =
-        let low = bottom_is (columned_of tables) t codes l lower ls hl in
-        let each : length (lowest l lower).worths ≡ length (reducers t) = low.each ∙ ap length low.kinds ∙ length-map (reducers t) (λ r. r.kind) in
-        subst (λ v. StandsFor (columned_of tables) t codes (performed codes kinds tables q n (o.Read x r) (plain_at l)) (by_step ls (moved noting [] (with_env fr (slice_set fr.env x (has v))) (running (blocks (rest ∷ bs))) under)))
-        (sym (ap (reading (bottom ls)) (found_reducer r r' e) ∙ reading_by (bottom ls) (lowest l lower).worths r (slice_get (reducers t) r) low.worths each refl))
+        let low = bottom_is (by_own_names setting) l lower ls hl in
+        let each : length (lowest l lower).worths ≡ length (reducers setting.program.tree) = low.each ∙ ap length low.kinds ∙ length-map (reducers setting.program.tree) (λ r. r.kind) in
+        subst (λ v. StandsFor (by_own_names setting) (performed (by_own_names setting) q n (o.Read x r) (plain_at l)) (by_step ls (moved noting [] (with_env fr (slice_set fr.env x (has v))) (running (blocks (rest ∷ bs))) under)))
+        (sym (ap (reading (bottom ls)) (found_reducer r r' e) ∙ reading_by (bottom ls) (lowest l lower).worths r (slice_get (reducers setting.program.tree) r) low.worths each refl))
         (binds x (plain.reading r (plain_at l)) l ls hl)
 
     abbrev kind_in : Option Red → Option Kind
@@ -205,17 +204,17 @@ module _ (tables : Tables) (t : Tree) (codes : List Code) (linked : AreCodesOf (
     abbrev after_update : Unit {0} → Step
     after_update u = moved noting [] fr (running (blocks (rest ∷ bs))) under
 
-    named_is : (r : ℕ) (kind : Kind) (vs : List ℤ) (b : Bool) (k : PlainLayer) (ks : List Notes) → AreNotes (columned_of tables) t codes (k ∷ lower) ks
-        → StandsFor (columned_of tables) t codes (if_named b n q r kind vs (plain_at k)) (by_step ks (on_value fr under site (naming r kind vs b) after_update))
+    named_is : (r : ℕ) (kind : Kind) (vs : List ℤ) (b : Bool) (k : PlainLayer) (ks : List Notes) → AreNotes (by_own_names setting) (k ∷ lower) ks
+        → StandsFor (by_own_names setting) (if_named b n q r kind vs (plain_at k)) (by_step ks (on_value fr under site (naming r kind vs b) after_update))
     named_is r kind vs false k ks h =
-        subst (λ y. StandsFor (columned_of tables) t codes (plain.faulted n BadElement (plain_at k)) (strand_at m y fr (broken (fault_at site BadElement)) under)) (sym (top_none ks))
-        (faulted_is (columned_of tables) t codes m fr ph under (plain_at k) n site refl begins BadElement k ks h)
+        subst (λ y. StandsFor (by_own_names setting) (plain.faulted n BadElement (plain_at k)) (strand_at m y fr (broken (fault_at site BadElement)) under)) (sym (top_none ks))
+        (faulted_is (by_own_names setting) m fr ph under (plain_at k) n site refl begins BadElement k ks h)
     named_is r kind vs true k ks h =
         goes_on (layers.updating r kind vs k) (noted_top ks (Updates r kind (element_of kind vs) ∷ []))
-        (top_noted (columned_of tables) t codes k (layers.updating r kind vs k) lower ks (Updates r kind (element_of kind vs) ∷ []) (λ i. notes_updated (columned_of tables) t codes k i r kind vs) h)
+        (top_noted (by_own_names setting) k (layers.updating r kind vs k) lower ks (Updates r kind (element_of kind vs) ∷ []) (λ i. notes_updated (by_own_names setting) k i r kind vs) h)
 
-    combined_is : (r : ℕ) (red : Option Red) (vs : List ℤ) (k : PlainLayer) (ks : List Notes) → AreNotes (columned_of tables) t codes (k ∷ lower) ks
-        → StandsFor (columned_of tables) t codes (combining (kind_in red) n q r vs (plain_at k)) (by_step ks (on_value fr under site (updating (with_number r red) vs) after_update))
+    combined_is : (r : ℕ) (red : Option Red) (vs : List ℤ) (k : PlainLayer) (ks : List Notes) → AreNotes (by_own_names setting) (k ∷ lower) ks
+        → StandsFor (by_own_names setting) (combining (kind_in red) n q r vs (plain_at k)) (by_step ks (on_value fr under site (updating (with_number r red) vs) after_update))
     combined_is r None vs k ks h = moves_on k ks h
     combined_is r (Some red) vs k ks h = named_is r red.kind vs (names_element red.kind vs) k ks h
 
@@ -227,56 +226,56 @@ module _ (tables : Tables) (t : Tree) (codes : List Code) (linked : AreCodesOf (
     update_quiet None vs = tt
     update_quiet (Some (r, red)) vs = named_quiet r red.kind vs (names_element red.kind vs)
 
-    update_is : (r : ℕ) (r' : Name) (es : List Expression) (es' : List Term) (acc : Accumulators) → reducer_number (reducers t) r' ≡ r → map (linked_term (columned_of tables)) es' ≡ map expression es
-        → StandsFor (columned_of tables) t codes (evaluated n (values_at tables a.slots (map expression es)) (combining (slice_get kinds r) n q r) (plain_at l)) (by_step ls (deed_step t tables nothing_kept false acc fr site (update r' es') (rest ∷ bs) under))
+    update_is : (r : ℕ) (r' : Name) (es : List Expression) (es' : List Term) (acc : Accumulators) → reducer_number (reducers setting.program.tree) r' ≡ r → map (linked_term (columned_of setting.tables)) es' ≡ map expression es
+        → StandsFor (by_own_names setting) (evaluated n (values_at setting.tables a.slots (map expression es)) (combining (slice_get setting.kinds r) n q r) (plain_at l)) (by_step ls (deed_step setting.program.tree setting.tables nothing_kept false acc fr site (update r' es') (rest ∷ bs) under))
     update_is r r' es es' acc e h =
-        let kind : slice_get kinds r ≡ kind_in (slice_get (reducers t) r) = ap (λ ks. slice_get ks r) kinds_are ∙ kinds_get (reducers t) r in
-        subst (λ s. StandsFor (columned_of tables) t codes (evaluated n (values_at tables a.slots (map expression es)) (combining (slice_get kinds r) n q r) (plain_at l)) (by_step ls s))
-        (sym (two_parts fr under site (updating (reducer_of 0 (reducers t) r')) after_update (values tables (env_of a.slots) es')))
-        (all_valued es es' h (combining (slice_get kinds r) n q r) (λ vs. on_value fr under site (updating (reducer_of 0 (reducers t) r') vs) after_update) (update_quiet (reducer_of 0 (reducers t) r'))
-        (λ vs k ks i. subst (λ c. StandsFor (columned_of tables) t codes (combining c n q r vs (plain_at k)) (by_step ks (on_value fr under site (updating (reducer_of 0 (reducers t) r') vs) after_update))) (sym kind)
-        (subst (λ x. StandsFor (columned_of tables) t codes (combining (kind_in (slice_get (reducers t) r)) n q r vs (plain_at k)) (by_step ks (on_value fr under site (updating x vs) after_update))) (sym (found_reducer r r' e))
-        (combined_is r (slice_get (reducers t) r) vs k ks i))))
+        let kind : slice_get setting.kinds r ≡ kind_in (slice_get (reducers setting.program.tree) r) = ap (λ ks. slice_get ks r) kinds_are ∙ kinds_get (reducers setting.program.tree) r in
+        subst (λ s. StandsFor (by_own_names setting) (evaluated n (values_at setting.tables a.slots (map expression es)) (combining (slice_get setting.kinds r) n q r) (plain_at l)) (by_step ls s))
+        (sym (two_parts fr under site (updating (reducer_of 0 (reducers setting.program.tree) r')) after_update (values setting.tables (env_of a.slots) es')))
+        (all_valued es es' h (combining (slice_get setting.kinds r) n q r) (λ vs. on_value fr under site (updating (reducer_of 0 (reducers setting.program.tree) r') vs) after_update) (update_quiet (reducer_of 0 (reducers setting.program.tree) r'))
+        (λ vs k ks i. subst (λ c. StandsFor (by_own_names setting) (combining c n q r vs (plain_at k)) (by_step ks (on_value fr under site (updating (reducer_of 0 (reducers setting.program.tree) r') vs) after_update))) (sym kind)
+        (subst (λ x. StandsFor (by_own_names setting) (combining (kind_in (slice_get (reducers setting.program.tree) r)) n q r vs (plain_at k)) (by_step ks (on_value fr under site (updating x vs) after_update))) (sym (found_reducer r r' e))
+        (combined_is r (slice_get (reducers setting.program.tree) r) vs k ks i))))
 
     -- ---- blocks and loops
 
-    chosen : (b c : ℕ) (x y : Body) (h : linked_body (columned_of tables) t x ≡ acts_at (columned_of tables) t codes a.procedure (suc (length a.outer)) (first_of b)) (i : linked_body (columned_of tables) t y ≡ acts_at (columned_of tables) t codes a.procedure (suc (length a.outer)) (first_of c)) (z : Bool)
-        (k : PlainLayer) (ks : List Notes) → AreNotes (columned_of tables) t codes (k ∷ lower) ks
-        → StandsFor (columned_of tables) t codes (plain.with_top (inside (if z then c else b) q top) (plain_at k)) (by_step ks (moved noting [] fr (running (blocks (cond z y x ∷ (rest ∷ bs)))) under))
+    chosen : (b c : ℕ) (x y : Body) (h : linked_body (columned_of setting.tables) setting.program.tree x ≡ acts_at (by_own_names setting) a.procedure (suc (length a.outer)) (first_of b)) (i : linked_body (columned_of setting.tables) setting.program.tree y ≡ acts_at (by_own_names setting) a.procedure (suc (length a.outer)) (first_of c)) (z : Bool)
+        (k : PlainLayer) (ks : List Notes) → AreNotes (by_own_names setting) (k ∷ lower) ks
+        → StandsFor (by_own_names setting) (plain.with_top (inside (if z then c else b) q top) (plain_at k)) (by_step ks (moved noting [] fr (running (blocks (cond z y x ∷ (rest ∷ bs)))) under))
     chosen b c x y h i true k ks j =
-        subst (λ w. StandsFor (columned_of tables) t codes (plain.with_top (inside c q top) (plain_at k)) (strand_at m w fr (running (blocks (y ∷ (rest ∷ bs)))) under)) (sym (top_none ks))
+        subst (λ w. StandsFor (by_own_names setting) (plain.with_top (inside c q top) (plain_at k)) (strand_at m w fr (running (blocks (y ∷ (rest ∷ bs)))) under)) (sym (top_none ks))
         (record { start = begins; layers = j; now = record { todo = blocks (y ∷ (rest ∷ bs)); left = (i, (follows, hb)); phase = refl; frame = refl; under = hu } })
     chosen b c x y h i false k ks j =
-        subst (λ w. StandsFor (columned_of tables) t codes (plain.with_top (inside b q top) (plain_at k)) (strand_at m w fr (running (blocks (x ∷ (rest ∷ bs)))) under)) (sym (top_none ks))
+        subst (λ w. StandsFor (by_own_names setting) (plain.with_top (inside b q top) (plain_at k)) (strand_at m w fr (running (blocks (x ∷ (rest ∷ bs)))) under)) (sym (top_none ks))
         (record { start = begins; layers = j; now = record { todo = blocks (x ∷ (rest ∷ bs)); left = (h, (follows, hb)); phase = refl; frame = refl; under = hu } })
 
-    choose_is : (e : Expression) (e' : Term) (b c : ℕ) (x y : Body) (acc : Accumulators) → linked_term (columned_of tables) e' ≡ expression e
-        → linked_body (columned_of tables) t x ≡ acts_at (columned_of tables) t codes a.procedure (suc (length a.outer)) (first_of b)
-        → linked_body (columned_of tables) t y ≡ acts_at (columned_of tables) t codes a.procedure (suc (length a.outer)) (first_of c)
-        → StandsFor (columned_of tables) t codes (performed codes kinds tables q n (o.If e b c) (plain_at l)) (by_step ls (deed_step t tables nothing_kept false acc fr site (choose e' x y) (rest ∷ bs) under))
+    choose_is : (e : Expression) (e' : Term) (b c : ℕ) (x y : Body) (acc : Accumulators) → linked_term (columned_of setting.tables) e' ≡ expression e
+        → linked_body (columned_of setting.tables) setting.program.tree x ≡ acts_at (by_own_names setting) a.procedure (suc (length a.outer)) (first_of b)
+        → linked_body (columned_of setting.tables) setting.program.tree y ≡ acts_at (by_own_names setting) a.procedure (suc (length a.outer)) (first_of c)
+        → StandsFor (by_own_names setting) (performed (by_own_names setting) q n (o.If e b c) (plain_at l)) (by_step ls (deed_step setting.program.tree setting.tables nothing_kept false acc fr site (choose e' x y) (rest ∷ bs) under))
     choose_is e e' b c x y acc h hx hy =
         valued e e' h (choosing q b c) (λ v. moved noting [] fr (running (blocks (cond (int_eq v (pos 0)) y x ∷ (rest ∷ bs)))) under) (λ v. tt) (λ v. chosen b c x y hx hy (int_eq v (pos 0)))
 
-    bounded : (e f : Expression) (e' f' : Term) → linked_term (columned_of tables) e' ≡ expression e → linked_term (columned_of tables) f' ≡ expression f → (next : ℤ × ℕ → PlainStrand → PlainStrand) (s : ℤ × ℕ → Step) → ((v : ℤ × ℕ) → IsNoting (s v))
-        → ((v : ℤ × ℕ) (k : PlainLayer) (ks : List Notes) → AreNotes (columned_of tables) t codes (k ∷ lower) ks → StandsFor (columned_of tables) t codes (next v (plain_at k)) (by_step ks (s v)))
-        → StandsFor (columned_of tables) t codes (evaluated n (bounds_at tables a.slots (expression e) (expression f)) next (plain_at l)) (by_step ls (on_value fr under site (bounds tables (env_of a.slots) e' f') s))
+    bounded : (e f : Expression) (e' f' : Term) → linked_term (columned_of setting.tables) e' ≡ expression e → linked_term (columned_of setting.tables) f' ≡ expression f → (next : ℤ × ℕ → PlainStrand → PlainStrand) (s : ℤ × ℕ → Step) → ((v : ℤ × ℕ) → IsNoting (s v))
+        → ((v : ℤ × ℕ) (k : PlainLayer) (ks : List Notes) → AreNotes (by_own_names setting) (k ∷ lower) ks → StandsFor (by_own_names setting) (next v (plain_at k)) (by_step ks (s v)))
+        → StandsFor (by_own_names setting) (evaluated n (bounds_at setting.tables a.slots (expression e) (expression f)) next (plain_at l)) (by_step ls (on_value fr under site (bounds setting.tables (env_of a.slots) e' f') s))
     bounded e f e' f' h i next s quiet goes =
-        subst (λ out. StandsFor (columned_of tables) t codes (evaluated n out next (plain_at l)) (by_step ls (on_value fr under site (bounds tables (env_of a.slots) e' f') s)))
-        (sym (bounds_are tables a.slots e' f') ∙ ap (λ z. bounds_at tables a.slots z (linked_term (columned_of tables) f')) h ∙ ap (bounds_at tables a.slots (expression e)) i)
-        (evaluated_is (columned_of tables) t codes m fr ph under (plain_at l) n site refl begins (bounds tables (env_of a.slots) e' f') next s ls (bounds_read tables (env_of a.slots) e' f') hl quiet goes)
+        subst (λ out. StandsFor (by_own_names setting) (evaluated n out next (plain_at l)) (by_step ls (on_value fr under site (bounds setting.tables (env_of a.slots) e' f') s)))
+        (sym (bounds_are setting.tables a.slots e' f') ∙ ap (λ z. bounds_at setting.tables a.slots z (linked_term (columned_of setting.tables) f')) h ∙ ap (bounds_at setting.tables a.slots (expression e)) i)
+        (evaluated_is (by_own_names setting) m fr ph under (plain_at l) n site refl begins (bounds setting.tables (env_of a.slots) e' f') next s ls (bounds_read setting.tables (env_of a.slots) e' f') hl quiet goes)
 
     loop_is : (x grain f : ℕ) (low high : Expression) (low' high' : Term) (es : Vec Expression Global) (es' : List Term) (f' : Name) (acc : Accumulators)
-        → loop_in (instruction_at codes a.procedure q.block q.index) ≡ loop_as n (o.Loop x low high grain f es)
-        → linked_term (columned_of tables) low' ≡ expression low → linked_term (columned_of tables) high' ≡ expression high → map (linked_term (columned_of tables)) es' ≡ map expression es.items → procedure_number (procedures t) f' ≡ f
-        → StandsFor (columned_of tables) t codes (performed codes kinds tables q n (o.Loop x low high grain f es) (plain_at l)) (by_step ls (deed_step t tables nothing_kept false acc fr site (loop x low' high' grain f' es') (rest ∷ bs) under))
+        → loop_in (instruction_at setting.codes a.procedure q.block q.index) ≡ loop_as n (o.Loop x low high grain f es)
+        → linked_term (columned_of setting.tables) low' ≡ expression low → linked_term (columned_of setting.tables) high' ≡ expression high → map (linked_term (columned_of setting.tables)) es' ≡ map expression es.items → procedure_number (procedures setting.program.tree) f' ≡ f
+        → StandsFor (by_own_names setting) (performed (by_own_names setting) q n (o.Loop x low high grain f es) (plain_at l)) (by_step ls (deed_step setting.program.tree setting.tables nothing_kept false acc fr site (loop x low' high' grain f' es') (rest ∷ bs) under))
     loop_is x grain f low high low' high' es es' f' acc found h i j number =
         bounded low high low' high' h i (looping q)
-        (λ range. enter_child t tables nothing_kept false acc fr fr.left false None (half halvings (job_of site (map seen fr.env) x f' es' grain range.0) range.1 0) (blocks (rest ∷ bs)) under) (λ range. tt)
-        (λ range k ks hk. half_is (columned_of tables) t codes path top (map meant a.slots) None (Block (next_of q)) (blocks (rest ∷ bs)) refl tt below under hu st m begins k lower ks hk Running ph
+        (λ range. enter_child setting.program.tree setting.tables nothing_kept false acc fr fr.left false None (half halvings (job_of site (map seen fr.env) x f' es' grain range.0) range.1 0) (blocks (rest ∷ bs)) under) (λ range. tt)
+        (λ range k ks hk. half_is (by_own_names setting) path top (map meant a.slots) None (Block (next_of q)) (blocks (rest ∷ bs)) refl tt below under hu st m begins k lower ks hk Running ph
         a.procedure a.slots (record { block = q.block; index = q.index; low = range.0 }) 42 (record { first = 0; count = range.1 }) halvings (job_of site (map seen fr.env) x f' es' grain range.0) range.1 0
         refl (
           record {
-            site = ap (λ w. record { procedure = (procedure_at (columned_of tables) t codes a.procedure).called; statement = w.number }) (sym found);
+            site = ap (λ w. record { procedure = (procedure_at (by_own_names setting) a.procedure).called; statement = w.number }) (sym found);
             env = refl;
             variable = ap (λ w. w.variable) (sym found);
             callee = number ∙ ap (λ w. w.callee) (sym found);
@@ -288,7 +287,7 @@ module _ (tables : Tables) (t : Tree) (codes : List Code) (linked : AreCodesOf (
           refl,
           refl,
         )
-        (follows, hb) acc tables)
+        (follows, hb) acc)
 
     -- ---- a statement at its place
 
@@ -296,41 +295,41 @@ module _ (tables : Tables) (t : Tree) (codes : List Code) (linked : AreCodesOf (
     top_syncs [] = refl
     top_syncs (i ∷ ks) = refl
 
-    sync_by : (b : Bool) → StandsFor (columned_of tables) t codes (plain_at l) (strand_at m ls fr ph under)
-        → StandsFor (columned_of tables) t codes (if b then plain_at l else moved_on q (plain_at l)) (by_step ls (unless b (moved noting (Syncs path ∷ []) fr (running (blocks (rest ∷ bs))) under)))
+    sync_by : (b : Bool) → StandsFor (by_own_names setting) (plain_at l) (strand_at m ls fr ph under)
+        → StandsFor (by_own_names setting) (if b then plain_at l else moved_on q (plain_at l)) (by_step ls (unless b (moved noting (Syncs path ∷ []) fr (running (blocks (rest ∷ bs))) under)))
     sync_by true h = h
     sync_by false h =
-        subst (λ ks. StandsFor (columned_of tables) t codes (moved_on q (plain_at l)) (strand_at m ks fr (running (blocks (rest ∷ bs))) under)) (sym (top_syncs ls)) (goes_on l ls hl)
+        subst (λ ks. StandsFor (by_own_names setting) (moved_on q (plain_at l)) (strand_at m ks fr (running (blocks (rest ∷ bs))) under)) (sym (top_syncs ls)) (goes_on l ls hl)
 
-    sync_is : StandsFor (columned_of tables) t codes (plain_at l) (strand_at m ls fr ph under)
-        → StandsFor (columned_of tables) t codes (performed codes kinds tables q n o.Sync (plain_at l)) (by_step ls (sync_step t tables nothing_kept false (bottom ls) m fr (blocks (rest ∷ bs)) under))
+    sync_is : StandsFor (by_own_names setting) (plain_at l) (strand_at m ls fr ph under)
+        → StandsFor (by_own_names setting) (performed (by_own_names setting) q n o.Sync (plain_at l)) (by_step ls (sync_step setting.program.tree setting.tables nothing_kept false (bottom ls) m fr (blocks (rest ∷ bs)) under))
     sync_is h =
-        subst (λ b. StandsFor (columned_of tables) t codes (if b then plain_at l else moved_on q (plain_at l)) (by_step ls (unless (is_entry m path) (moved noting (Syncs path ∷ []) fr (running (blocks (rest ∷ bs))) under))))
+        subst (λ b. StandsFor (by_own_names setting) (if b then plain_at l else moved_on q (plain_at l)) (by_step ls (unless (is_entry m path) (moved noting (Syncs path ∷ []) fr (running (blocks (rest ∷ bs))) under))))
         (entry_is st path m begins) (sync_by (is_entry m path) h)
 
     -- a block of a number, one deeper
     abbrev inner : ℕ → Acts
-    inner k = acts_at (columned_of tables) t codes a.procedure (suc (length a.outer)) (first_of k)
+    inner k = acts_at (by_own_names setting) a.procedure (suc (length a.outer)) (first_of k)
 
     abbrev by_body : Deed → LayeredStrand
-    by_body d = by_step ls (todo_step t tables nothing_kept false (bottom ls) m fr (blocks (step n d rest ∷ bs)) under)
+    by_body d = by_step ls (todo_step setting.program.tree setting.tables nothing_kept false (bottom ls) m fr (blocks (step n d rest ∷ bs)) under)
 
-    pub performed_is : (op : Operation) (d : Deed) → linked_deed (columned_of tables) t d ≡ act inner op
-        → loop_in (instruction_at codes a.procedure q.block q.index) ≡ loop_as n op
-        → StandsFor (columned_of tables) t codes (plain_at l) (strand_at m ls fr ph under)
-        → StandsFor (columned_of tables) t codes (performed codes kinds tables q n op (plain_at l)) (by_body d)
-    performed_is (o.Bind x e) (bind y e') h f here = let same : y ≡ x = cc in subst (λ z. StandsFor (columned_of tables) t codes (performed codes kinds tables q n (o.Bind x e) (plain_at l)) (by_body (bind z e'))) (sym same) (bind_is x e e' (cc) (bottom ls))
-    performed_is (o.Enter x Call f es) (enter y Call f' es') h fd here = let same : y ≡ x = cc in subst (λ z. StandsFor (columned_of tables) t codes (performed codes kinds tables q n (o.Enter x Call f es) (plain_at l)) (by_body (enter z Call f' es'))) (sym same) (enters_by Call x f f' es.items es' (bottom ls) (cc) (cc))
-    performed_is (o.Enter x Spawn f es) (enter y Spawn f' es') h fd here = let same : y ≡ x = cc in subst (λ z. StandsFor (columned_of tables) t codes (performed codes kinds tables q n (o.Enter x Spawn f es) (plain_at l)) (by_body (enter z Spawn f' es'))) (sym same) (enters_by Spawn x f f' es.items es' (bottom ls) (cc) (cc))
-    performed_is (o.Read x r) (read y r') h f here = let same : y ≡ x = cc in subst (λ z. StandsFor (columned_of tables) t codes (performed codes kinds tables q n (o.Read x r) (plain_at l)) (by_body (read z r'))) (sym same) (read_is x r r' (cc))
+    pub performed_is : (op : Operation) (d : Deed) → linked_deed (columned_of setting.tables) setting.program.tree d ≡ act inner op
+        → loop_in (instruction_at setting.codes a.procedure q.block q.index) ≡ loop_as n op
+        → StandsFor (by_own_names setting) (plain_at l) (strand_at m ls fr ph under)
+        → StandsFor (by_own_names setting) (performed (by_own_names setting) q n op (plain_at l)) (by_body d)
+    performed_is (o.Bind x e) (bind y e') h f here = let same : y ≡ x = cc in subst (λ z. StandsFor (by_own_names setting) (performed (by_own_names setting) q n (o.Bind x e) (plain_at l)) (by_body (bind z e'))) (sym same) (bind_is x e e' (cc) (bottom ls))
+    performed_is (o.Enter x Call f es) (enter y Call f' es') h fd here = let same : y ≡ x = cc in subst (λ z. StandsFor (by_own_names setting) (performed (by_own_names setting) q n (o.Enter x Call f es) (plain_at l)) (by_body (enter z Call f' es'))) (sym same) (enters_by Call x f f' es.items es' (bottom ls) (cc) (cc))
+    performed_is (o.Enter x Spawn f es) (enter y Spawn f' es') h fd here = let same : y ≡ x = cc in subst (λ z. StandsFor (by_own_names setting) (performed (by_own_names setting) q n (o.Enter x Spawn f es) (plain_at l)) (by_body (enter z Spawn f' es'))) (sym same) (enters_by Spawn x f f' es.items es' (bottom ls) (cc) (cc))
+    performed_is (o.Read x r) (read y r') h f here = let same : y ≡ x = cc in subst (λ z. StandsFor (by_own_names setting) (performed (by_own_names setting) q n (o.Read x r) (plain_at l)) (by_body (read z r'))) (sym same) (read_is x r r' (cc))
     performed_is o.Sync sync h f here = sync_is here
     performed_is (o.Update r es) (update r' es') h f here = update_is r r' es.items es' (bottom ls) (cc) (cc)
     performed_is (o.If e b c) (choose e' x y) h f here = choose_is e e' b c x y (bottom ls) (cc) (cc) (cc)
     performed_is (o.Loop x low high grain f es) (loop y low' high' grain' f' es') h fd here =
         let same : y ≡ x = cc in
         let grained : grain' ≡ grain = cc in
-        subst (λ z. StandsFor (columned_of tables) t codes (performed codes kinds tables q n (o.Loop x low high grain f es) (plain_at l)) (by_body (loop z low' high' grain' f' es'))) (sym same)
-        (subst (λ z. StandsFor (columned_of tables) t codes (performed codes kinds tables q n (o.Loop x low high grain f es) (plain_at l)) (by_body (loop x low' high' z f' es'))) (sym grained)
+        subst (λ z. StandsFor (by_own_names setting) (performed (by_own_names setting) q n (o.Loop x low high grain f es) (plain_at l)) (by_body (loop z low' high' grain' f' es'))) (sym same)
+        (subst (λ z. StandsFor (by_own_names setting) (performed (by_own_names setting) q n (o.Loop x low high grain f es) (plain_at l)) (by_body (loop x low' high' z f' es'))) (sym grained)
         (loop_is x grain f low high low' high' es es' f' (bottom ls) fd (cc) (cc) (cc) (cc)))
     performed_is (o.Return e) (give e') h f here = give_is e e' (cc) (bottom ls)
     performed_is op d h f here = absurd cc

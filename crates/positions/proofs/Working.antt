@@ -14,11 +14,9 @@ use Rattle.meaning.specs.Statements.{job_of, reducers, update_of, bounds, turn_v
 use Rattle.meaning.specs.SmallStep.{seen, has, with_env, on_depth, enter_child, leaving_layer, with_layer, Start as NamedStart, Frame, Todo, blocks, halves, second, turns, Child, instance, half, Phase as NamedPhase, running, spawning, returning, leaving, Parent, Step, moved, taken, paused as paused_step, noting, opening_one, closing_one, unless, is_entry, led_step, settling, on_value, todo_step, enter_step, micro}
 use Rattle.meaning.specs.Layers.{bottom}
 use Rattle.meaning.specs.LayeredStrand.{LayeredStrand}
-use Rattle.linked_program.specs.declared.code.Code.{Code}
 use Rattle.linked_program.specs.declared.code.Instruction.{Instruction}
 use Rattle.linked_program.specs.declared.code.Operation.{Operation}
 use Rattle.linked_program.specs.declared.code.Operation.TheVariants as o
-use Rattle.linked_program.specs.TableNames.{Columned}
 use Rattle.linked_program.specs.Linked.{Acts, syncs, linked_deed}
 use Rattle.linked_program.specs.CodeView.{act}
 use Rattle.positions.specs.declared.work.Position.{Position}
@@ -27,6 +25,7 @@ use Rattle.positions.specs.declared.work.Work.TheVariants.{Block}
 use Rattle.positions.specs.declared.phase.Phase.{Phase}
 use Rattle.positions.specs.declared.phase.Phase.TheVariants as phase
 use Rattle.positions.specs.declared.phase.Paused.TheVariants as paused
+use Rattle.positions.specs.Setting.{Setting}
 use Rattle.positions.specs.Activations.{PlainActivation, next_of, first_of}
 use Rattle.positions.specs.Code.{instruction_inside}
 use Rattle.positions.specs.Strands.{PlainStrand, entry_by}
@@ -97,23 +96,23 @@ module _ (t : Tree) (tables : Tables) (acc : Accumulators) (m : NamedStart) (fr 
   entering_taken (instance f vs) = subst IsTaken (sym (enter_is t tables acc fr f vs under)) tt
   entering_taken (half k job count i) = tt
 
-module _ (ts : List Columned) (t : Tree) (codes : List Code) where
+module _ (setting : Setting) where
   op_of_sync : (inner : ℕ → Acts) (op : Operation) → syncs ≡ act inner op → is_sync_as op ≡ true
   op_of_sync inner o.Sync e = refl
   op_of_sync inner op e = absurd cc
 
   sync_place : (a : PlainActivation) (q : Position) (n : ℕ) (rest : Body) (i : Option Instruction)
-      → AtPlace ts t (λ n. acts_at ts t codes a.procedure (suc (length a.outer)) (first_of n)) i (step n sync rest) (acts_at ts t codes a.procedure (length a.outer) (next_of q)) → is_sync i ≡ true
+      → AtPlace setting (λ n. acts_at setting a.procedure (suc (length a.outer)) (first_of n)) i (step n sync rest) (acts_at setting a.procedure (length a.outer) (next_of q)) → is_sync i ≡ true
   sync_place a q n rest None next = absurd cc
   sync_place a q n rest (Some i) next =
       let same : step n sync rest ≡ step i.number next.deed next.rest = next.is_step in
       let deed : sync ≡ next.deed = cc in
-      op_of_sync (λ n. acts_at ts t codes a.procedure (suc (length a.outer)) (first_of n)) i.operation (ap (linked_deed ts t) deed ∙ next.does)
+      op_of_sync (λ n. acts_at setting a.procedure (suc (length a.outer)) (first_of n)) i.operation (ap (linked_deed setting.names setting.program.tree) deed ∙ next.does)
 
   -- a sync of the tree is one of the code
-  sync_back : (a : PlainActivation) (w : Work) (n : ℕ) (rest : Body) (bs : List Body) → IsTodoAt ts t codes a w (blocks (step n sync rest ∷ bs)) → is_sync (statement_by codes w a) ≡ true
+  sync_back : (a : PlainActivation) (w : Work) (n : ℕ) (rest : Body) (bs : List Body) → IsTodoAt setting a w (blocks (step n sync rest ∷ bs)) → is_sync (statement_by setting.codes w a) ≡ true
   sync_back a (Block q) n rest bs h =
-      sync_place a q n rest (instruction_inside codes a.procedure (length a.outer) q) (at_place ts t codes a.procedure (length a.outer) q (step n sync rest) h.0)
+      sync_place a q n rest (instruction_inside setting.codes a.procedure (length a.outer) q) (at_place setting a.procedure (length a.outer) q (step n sync rest) h.0)
   sync_back a w n rest bs h = absurd h
 
   first_false : (b c : Bool) → sync_pause (b && c) ≡ paused.Working → c ≡ true → b ≡ false
@@ -129,31 +128,31 @@ module _ (ts : List Columned) (t : Tree) (codes : List Code) where
   at_bottom [] e = cc
   at_bottom (k ∷ n) e = cc
 
-  module _ (tables : Tables) (s : PlainStrand) (x : LayeredStrand) where
+  module _ (s : PlainStrand) (x : LayeredStrand) where
     abbrev Steps : NamedPhase → Frame → List Parent → Type 0
-    Steps ph fr under = IsTaken (micro t tables nothing_kept false (bottom x.layers) x.start fr ph under)
+    Steps ph fr under = IsTaken (micro setting.program.tree setting.tables nothing_kept false (bottom x.layers) x.start fr ph under)
 
     -- an instance that has no layer closes none
-    closes_none : (v : ℤ) (b : Bool) → b ≡ false → IsTaken (moved (leaving_layer t tables nothing_kept false (bottom x.layers) b) (Syncs x.frame.instance ∷ []) (with_layer false x.frame) (leaving v) x.under)
+    closes_none : (v : ℤ) (b : Bool) → b ≡ false → IsTaken (moved (leaving_layer setting.program.tree setting.tables nothing_kept false (bottom x.layers) b) (Syncs x.frame.instance ∷ []) (with_layer false x.frame) (leaving v) x.under)
     closes_none v true e = absurd cc
     closes_none v false e = tt
 
-    parents_there : (path : List ℕ) (v : ℤ) (a : PlainActivation) (below : List PlainActivation) (under : List Parent) → AreParents ts t codes path (a ∷ below) under → Steps (leaving v) x.frame under
+    parents_there : (path : List ℕ) (v : ℤ) (a : PlainActivation) (below : List PlainActivation) (under : List Parent) → AreParents setting path (a ∷ below) under → Steps (leaving v) x.frame under
     parents_there path v a below [] h = absurd h
     parents_there path v a below (p ∷ under) h = tt
 
-    taken_at : (ph : Phase) (below : List PlainActivation) → IsStart s.start ph s.path x.start → StandsAt ts t codes ph below s x → pause_at codes ph (record s { below = below }) ≡ paused.Working → Steps x.phase x.frame x.under
-    taken_at phase.Entering below begins h e = subst (λ ph. Steps ph x.frame x.under) (sym h.phase) (entering_taken t tables (bottom x.layers) x.start x.frame x.under h.child)
+    taken_at : (ph : Phase) (below : List PlainActivation) → IsStart s.start ph s.path x.start → StandsAt setting ph below s x → pause_at setting.codes ph (record s { below = below }) ≡ paused.Working → Steps x.phase x.frame x.under
+    taken_at phase.Entering below begins h e = subst (λ ph. Steps ph x.frame x.under) (sym h.phase) (entering_taken setting.program.tree setting.tables (bottom x.layers) x.start x.frame x.under h.child)
     taken_at phase.Running below begins h e =
         subst (λ ph. Steps ph x.frame x.under) (sym h.phase)
-        (todo_taken t tables (bottom x.layers) x.start x.frame x.under h.todo (λ n rest bs is.
+        (todo_taken setting.program.tree setting.tables (bottom x.layers) x.start x.frame x.under h.todo (λ n rest bs is.
         ap (λ fr. is_entry x.start fr.instance) h.frame
         ∙ entry_is s.start s.path x.start begins
-        ∙ first_false (entry_by s.start s.path) (is_sync (next_statement codes s)) e (sync_back s.top s.top.work n rest bs (subst (IsTodoAt ts t codes s.top s.top.work) is h.left))))
+        ∙ first_false (entry_by s.start s.path) (is_sync (next_statement setting.codes s)) e (sync_back s.top s.top.work n rest bs (subst (IsTodoAt setting s.top s.top.work) is h.left))))
     taken_at phase.AtSpawn below begins h e = absurd cc
     taken_at (phase.Returning v) below begins h e =
         subst (λ ph. Steps ph x.frame x.under) (sym h.phase)
-        (passed_taken (is_entry x.start x.frame.instance) (moved (leaving_layer t tables nothing_kept false (bottom x.layers) x.frame.recorded) (Syncs x.frame.instance ∷ []) (with_layer false x.frame) (leaving v) x.under) (ap (λ fr. is_entry x.start fr.instance) h.frame
+        (passed_taken (is_entry x.start x.frame.instance) (moved (leaving_layer setting.program.tree setting.tables nothing_kept false (bottom x.layers) x.frame.recorded) (Syncs x.frame.instance ∷ []) (with_layer false x.frame) (leaving v) x.under) (ap (λ fr. is_entry x.start fr.instance) h.frame
         ∙ entry_is s.start s.path x.start (start_moved s.start (phase.Returning v) phase.Running s.path s.path x.start (λ d w. (refl, w)) begins)
         ∙ only_false (entry_by s.start s.path) e)
         (closes_none v x.frame.recorded (ap (λ fr. fr.recorded) h.frame)))
@@ -162,5 +161,5 @@ module _ (ts : List Columned) (t : Tree) (codes : List Code) where
     taken_at (phase.Broken f) below begins h e = absurd cc
 
   -- where the strand is said to go on there is a small step
-  pub working_is : (tables : Tables) (s : PlainStrand) → pause_of codes s ≡ paused.Working → IsStepTaken ts t codes tables s
-  working_is tables s e x h = taken_at tables s x s.phase s.below h.start h.now e
+  pub working_is : (s : PlainStrand) → pause_of setting.codes s ≡ paused.Working → IsStepTaken setting s
+  working_is s e x h = taken_at s x s.phase s.below h.start h.now e

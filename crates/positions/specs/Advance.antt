@@ -7,7 +7,6 @@ use Rattle.monoid_laws.specs.declared.Kind.{Kind}
 use Rattle.monoid_laws.specs.Kinds.{names_element}
 use Rattle.meaning.specs.declared.FaultKind.{FaultKind}
 use Rattle.meaning.specs.declared.FaultKind.TheVariants.{TooDeep, BadElement}
-use Rattle.meaning.specs.Tables.{Tables}
 use Rattle.meaning.specs.Statements.{number_of}
 use Rattle.meaning.specs.Elision.{depth_limit}
 use Rattle.linked_program.specs.declared.code.Operation.{Operation}
@@ -28,6 +27,7 @@ use Rattle.positions.specs.declared.phase.Phase.{Phase}
 use Rattle.positions.specs.declared.phase.Phase.TheVariants.{Entering, Running, AtSpawn, Returning, Leaving, Broken}
 use Rattle.positions.specs.declared.phase.Paused.{Paused}
 use Rattle.positions.specs.declared.phase.Paused.TheVariants as paused
+use Rattle.positions.specs.Setting.{Setting}
 use Rattle.positions.specs.Activations.{PlainActivation, bound, at, next_of, waiting, made, first_of, inside, outside}
 use Rattle.positions.specs.Code.{instruction_inside, PlainLoop, loop_at}
 use Rattle.positions.specs.Layers.{noting, entering, updating, lowest}
@@ -147,13 +147,13 @@ halved codes l k h s = (if k == 0 || nat_le h.count (loop_at codes s.top.procedu
 abbrev pub turn_slots : PlainLoop → Loop → Share → PlainStrand → List Slot
 turn_slots j l h s = slice_set s.top.slots j.variable (Has (l.low +ℤ pos h.first))
 
-abbrev pub turn_by : List Code → Tables → PlainLoop → Loop → Share → PlainStrand → PlainStrand
-turn_by codes tables j l h s =
-    evaluated j.number (entry_at tables (turn_slots j l h s) (slots_of codes j.callee) (map expression j.arguments)) (nested j.number Call None (Turns l (rest_of h)) j.callee) s
+abbrev pub turn_by : Setting → PlainLoop → Loop → Share → PlainStrand → PlainStrand
+turn_by setting j l h s =
+    evaluated j.number (entry_at setting.tables (turn_slots j l h s) (slots_of setting.codes j.callee) (map expression j.arguments)) (nested j.number Call None (Turns l (rest_of h)) j.callee) s
 
 -- the next iteration, or the end
-abbrev pub turned : List Code → Tables → Loop → Share → PlainStrand → PlainStrand
-turned codes tables l h s = (if h.count == 0 then giving (pos 0) s else turn_by codes tables (loop_at codes s.top.procedure l) l h s)
+abbrev pub turned : Setting → Loop → Share → PlainStrand → PlainStrand
+turned setting l h s = (if h.count == 0 then giving (pos 0) s else turn_by setting (loop_at setting.codes s.top.procedure l) l h s)
 
 -- ---- the ends of instances
 
@@ -176,16 +176,16 @@ next_statement codes s = statement_by codes s.top.work s.top
 
 -- ---- the step
 
-module _ (codes : List Code) (kinds : List Kind) (tables : Tables) where
+module _ (setting : Setting) where
   abbrev pub performed : Position → ℕ → Operation → PlainStrand → PlainStrand
-  performed p n (o.Bind x e) s = evaluated n (value_at tables s.top.slots (expression e)) (binding p x) s
-  performed p n (o.Enter x way f es) s = evaluated n (entry_at tables s.top.slots (slots_of codes f) (map expression es.items)) (nested n way x (Block (next_of p)) f) s
+  performed p n (o.Bind x e) s = evaluated n (value_at setting.tables s.top.slots (expression e)) (binding p x) s
+  performed p n (o.Enter x way f es) s = evaluated n (entry_at setting.tables s.top.slots (slots_of setting.codes f) (map expression es.items)) (nested n way x (Block (next_of p)) f) s
   performed p n (o.Read x r) s = binding p x (reading r s) s
   performed p n o.Sync s = (if is_entry s then s else moved_on p s)
-  performed p n (o.Update r es) s = evaluated n (values_at tables s.top.slots (map expression es.items)) (combining (slice_get kinds r) n p r) s
-  performed p n (o.If e a b) s = evaluated n (value_at tables s.top.slots (expression e)) (choosing p a b) s
-  performed p n (o.Loop x low high grain f es) s = evaluated n (bounds_at tables s.top.slots (expression low) (expression high)) (looping p) s
-  performed p n (o.Return e) s = evaluated n (value_at tables s.top.slots (expression e)) giving s
+  performed p n (o.Update r es) s = evaluated n (values_at setting.tables s.top.slots (map expression es.items)) (combining (slice_get setting.kinds r) n p r) s
+  performed p n (o.If e a b) s = evaluated n (value_at setting.tables s.top.slots (expression e)) (choosing p a b) s
+  performed p n (o.Loop x low high grain f es) s = evaluated n (bounds_at setting.tables s.top.slots (expression low) (expression high)) (looping p) s
+  performed p n (o.Return e) s = evaluated n (value_at setting.tables s.top.slots (expression e)) giving s
 
   -- the statement at that place, or the block's end
   abbrev pub gone_by : Position → Option Instruction → PlainStrand → PlainStrand
@@ -193,14 +193,14 @@ module _ (codes : List Code) (kinds : List Kind) (tables : Tables) where
   gone_by p (Some i) s = performed p i.number i.operation s
 
   abbrev pub gone : Position → PlainStrand → PlainStrand
-  gone p s = gone_by p (instruction_inside codes s.top.procedure (length s.top.outer) p) s
+  gone p s = gone_by p (instruction_inside setting.codes s.top.procedure (length s.top.outer) p) s
 
   abbrev pub worked : Work → PlainStrand → PlainStrand
   worked (Block p) s = gone p s
   worked Over s = giving (pos 0) s
-  worked (Halves l k h) s = halved codes l k h s
+  worked (Halves l k h) s = halved setting.codes l k h s
   worked (Second l k h) s = second_half l k h s
-  worked (Turns l h) s = turned codes tables l h s
+  worked (Turns l h) s = turned setting l h s
 
   abbrev pub advanced_at : Phase → PlainStrand → PlainStrand
   advanced_at Entering s = started s

@@ -1,5 +1,6 @@
 pub mod Activations
 pub mod Code
+pub mod Setting
 pub mod Layers
 pub mod Strands
 pub mod Advance

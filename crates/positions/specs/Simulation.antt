@@ -1,22 +1,19 @@
 -- What the steps on strands of numbers are for the strands of the definitions that they stand for.
 use Rattle.std.specs.Prelude.{◌≡◌, ℕ, ℤ, Bool, true, false, List, [], ◌∷◌, Option, Some, None, take}
-use Rattle.program_tree.specs.Plain.{Body, update, step, Tree}
-use Rattle.meaning.specs.Tables.{Tables}
-use Rattle.meaning.specs.Records.{Revised}
+use Rattle.program_tree.specs.Plain.{Body, update, step}
 use Rattle.meaning.specs.Trail.{child_of}
 use Rattle.meaning.specs.SmallStep.{Child, Todo, blocks, Phase as NamedPhase, running, spawning, leaving, Pause, at_spawn, at_sync, returned, faulted, noting, opening_one, closing_one, Step, moved, taken, paused as paused_step, micro, Continuation}
 use Rattle.meaning.specs.Layers.{bottom}
 use Rattle.meaning.specs.LayeredStrand.{LayeredStrand, advance, first_layered, inlined, detached, continuation, resumed, stolen}
 use Rattle.meaning.specs.OneStrand.{nothing_kept}
-use Rattle.meaning.specs.Schedules.{Memory, bottom_alone, joined_pair}
-use Rattle.linked_program.specs.declared.code.Code.{Code}
-use Rattle.linked_program.specs.TableNames.{Columned}
+use Rattle.meaning.specs.Schedules.{bottom_alone, joined_pair}
 use Rattle.positions.specs.declared.phase.Phase.{Phase}
 use Rattle.positions.specs.declared.phase.Phase.TheVariants.{AtSpawn}
 use Rattle.positions.specs.declared.phase.Paused.{Paused}
 use Rattle.positions.specs.declared.phase.Paused.TheVariants as paused
 use Rattle.positions.specs.declared.start.Start.{Start}
 use Rattle.positions.specs.declared.start.Start.TheVariants.{Root, Behind}
+use Rattle.positions.specs.Setting.{Setting}
 use Rattle.positions.specs.Strands.{PlainStrand, PlainTask}
 use Rattle.positions.specs.Stands.{StandsFor, StandsForTask}
 
@@ -56,66 +53,66 @@ IsTaken (moved closing_one es fr ph t) = ⊥
 IsTaken (taken es k fr ph t) = ⊥
 IsTaken (paused_step p) = ⊥
 
-module _ (ts : List Columned) (t : Tree) (codes : List Code) where
+module _ (setting : Setting) where
   -- what the second stands for is the small step of what the first stands for
-  abbrev pub IsSmallStep : Tables → PlainStrand → PlainStrand → Type 0
-  IsSmallStep tables s s' = (x : LayeredStrand) → StandsFor ts t codes s x → StandsFor ts t codes s' (advance t tables nothing_kept false x)
+  abbrev pub IsSmallStep : PlainStrand → PlainStrand → Type 0
+  IsSmallStep s s' = (x : LayeredStrand) → StandsFor setting s x → StandsFor setting s' (advance setting.program.tree setting.tables nothing_kept false x)
 
-  abbrev pub IsPauseBy : Option Pause → Tables → LayeredStrand → Type 0
-  IsPauseBy None tables x = Unit {0}
-  IsPauseBy (Some p) tables x = micro t tables nothing_kept false (bottom x.layers) x.start x.frame x.phase x.under ≡ paused_step p
+  abbrev pub IsPauseBy : Option Pause → LayeredStrand → Type 0
+  IsPauseBy None x = Unit {0}
+  IsPauseBy (Some p) x = micro setting.program.tree setting.tables nothing_kept false (bottom x.layers) x.start x.frame x.phase x.under ≡ paused_step p
 
   -- what the strand stands for has no small step at that point
-  abbrev pub IsPause : Tables → Paused → PlainStrand → Type 0
-  IsPause tables p s = (x : LayeredStrand) → StandsFor ts t codes s x → IsPauseBy (named_pause p) tables x
+  abbrev pub IsPause : Paused → PlainStrand → Type 0
+  IsPause p s = (x : LayeredStrand) → StandsFor setting s x → IsPauseBy (named_pause p) x
 
   -- what the strand stands for has a small step
-  abbrev pub IsStepTaken : Tables → PlainStrand → Type 0
-  IsStepTaken tables s = (x : LayeredStrand) → StandsFor ts t codes s x → IsTaken (micro t tables nothing_kept false (bottom x.layers) x.start x.frame x.phase x.under)
+  abbrev pub IsStepTaken : PlainStrand → Type 0
+  IsStepTaken s = (x : LayeredStrand) → StandsFor setting s x → IsTaken (micro setting.program.tree setting.tables nothing_kept false (bottom x.layers) x.start x.frame x.phase x.under)
 
   -- the strand of a run's beginning
   abbrev pub IsFirst : PlainStrand → Type 0
-  IsFirst s = StandsFor ts t codes s (first_layered t)
+  IsFirst s = StandsFor setting s (first_layered setting.program.tree)
 
   -- at a spawn: the child as a call
   abbrev pub IsInlined : PlainStrand → PlainStrand → Type 0
   IsInlined s s' =
-      (x : LayeredStrand) (d : ℕ) (into : Option ℕ) (child : Child) (todo : Todo) → StandsFor ts t codes s x → x.phase ≡ spawning d into child todo → StandsFor ts t codes s' (inlined t x d into child todo)
+      (x : LayeredStrand) (d : ℕ) (into : Option ℕ) (child : Child) (todo : Todo) → StandsFor setting s x → x.phase ≡ spawning d into child todo → StandsFor setting s' (inlined setting.program.tree x d into child todo)
 
   -- at a spawn: the child alone, and the continuation
   abbrev pub IsDetached : PlainStrand → PlainStrand → PlainTask → Type 0
   IsDetached s s' task =
-      (x : LayeredStrand) (d : ℕ) (into : Option ℕ) (child : Child) (todo : Todo) → StandsFor ts t codes s x → x.phase ≡ spawning d into child todo
-      → StandsFor ts t codes s' (detached t x d child) × StandsForTask ts t codes task (continuation x into todo)
+      (x : LayeredStrand) (d : ℕ) (into : Option ℕ) (child : Child) (todo : Todo) → StandsFor setting s x → x.phase ≡ spawning d into child todo
+      → StandsFor setting s' (detached setting.program.tree x d child) × StandsForTask setting task (continuation x into todo)
 
   -- the child alone and the continuation put together again: the child as a call
   abbrev pub IsAttached : PlainTask → PlainStrand → PlainStrand → Type 0
   IsAttached task s s' =
-      (x : LayeredStrand) (d : ℕ) (into : Option ℕ) (child : Child) (todo : Todo) → s.path ≡ task.place → StandsFor ts t codes s (detached t x d child) → StandsForTask ts t codes task (continuation x into todo)
-      → StandsFor ts t codes s' (inlined t x d into child todo)
+      (x : LayeredStrand) (d : ℕ) (into : Option ℕ) (child : Child) (todo : Todo) → s.path ≡ task.place → StandsFor setting s (detached setting.program.tree x d child) → StandsForTask setting task (continuation x into todo)
+      → StandsFor setting s' (inlined setting.program.tree x d into child todo)
 
   -- on with the continuation of a child that has returned
   abbrev pub IsResumed : PlainTask → PlainStrand → PlainStrand → Type 0
   IsResumed task s s' =
-      (x : LayeredStrand) (k : Continuation) (v : ℤ) → s.path ≡ task.place → StandsFor ts t codes s x → StandsForTask ts t codes task k → x.phase ≡ leaving v → x.under ≡ []
-      → StandsFor ts t codes s' (resumed t x k v)
+      (x : LayeredStrand) (k : Continuation) (v : ℤ) → s.path ≡ task.place → StandsFor setting s x → StandsForTask setting task k → x.phase ≡ leaving v → x.under ≡ []
+      → StandsFor setting s' (resumed setting.program.tree x k v)
 
   -- the strand of a stolen continuation
   abbrev pub IsStolen : PlainTask → PlainStrand → Type 0
-  IsStolen task s' = (k : Continuation) → StandsForTask ts t codes task k → StandsFor ts t codes s' (stolen t k)
+  IsStolen task s' = (k : Continuation) → StandsForTask setting task k → StandsFor setting s' (stolen setting.program.tree k)
 
   -- two neighbours as one strand, where they may be folded
   abbrev pub IsJoined : PlainStrand → PlainStrand → PlainStrand → Type 0
   IsJoined l r s' =
-      (program : Revised) (tables : Tables) (memory : Memory) (x y z : LayeredStrand) → program.tree ≡ t → IsNotAtSpawn r.phase → r.lower ≡ []
-      → StandsFor ts t codes l x → StandsFor ts t codes r y → joined_pair program tables memory x x.phase y y.phase ≡ Some z → StandsFor ts t codes s' z
+      (x y z : LayeredStrand) → IsNotAtSpawn r.phase → r.lower ≡ []
+      → StandsFor setting l x → StandsFor setting r y → joined_pair setting.program setting.tables setting.memory x x.phase y y.phase ≡ Some z → StandsFor setting s' z
 
   -- the strand with its lowest layer alone
   abbrev pub IsAlone : PlainStrand → PlainStrand → Type 0
   IsAlone s s' =
-      (program : Revised) (tables : Tables) (memory : Memory) (x : LayeredStrand) → StandsFor ts t codes s x
-      → StandsFor ts t codes s' (record x { layers = bottom_alone program tables memory x.layers })
+      (x : LayeredStrand) → StandsFor setting s x
+      → StandsFor setting s' (record x { layers = bottom_alone setting.program setting.tables setting.memory x.layers })
 
   -- whether the next small step is that of an update
   abbrev pub IsUpdateNext : PlainStrand → Bool → Type 0
-  IsUpdateNext s b = (x : LayeredStrand) → StandsFor ts t codes s x → b ≡ updates x.phase
+  IsUpdateNext s b = (x : LayeredStrand) → StandsFor setting s x → b ≡ updates x.phase

@@ -1,14 +1,12 @@
 -- What a strand of numbers stands for: a strand of the definitions, whose instances and procedures go by name.
 use Rattle.std.specs.Prelude.{◌≡◌, ℕ, zero, suc, ◌-◌, ◌<◌, ◌≤◌, ℤ, Bool, true, false, List, [], ◌∷◌, map, length, replicate, take, Option, None, slice_get, slice_set}
-use Rattle.program_tree.specs.Plain.{Body, Proc, Tree}
+use Rattle.program_tree.specs.Plain.{Body, Proc}
 use Rattle.meaning.specs.Outcome.{Place, Fault as NamedFault}
 use Rattle.meaning.specs.Trail.{child_of}
 use Rattle.meaning.specs.Statements.{reducers, found, proc_of, fresh, Job}
 use Rattle.meaning.specs.SmallStep.{slot, root, behind, Start as NamedStart, Frame, Todo, blocks, halves, second, turns, Child, instance, half, Phase as NamedPhase, entering, running, spawning, returning, leaving, broken, Parent, Continuation, Slot as NamedSlot}
 use Rattle.meaning.specs.Layers.{Notes}
 use Rattle.meaning.specs.LayeredStrand.{LayeredStrand}
-use Rattle.linked_program.specs.declared.code.Code.{Code}
-use Rattle.linked_program.specs.TableNames.{Columned}
 use Rattle.linked_program.specs.Procedures.{procedures}
 use Rattle.linked_program.specs.Linked.{Acts, ends, steps, procedure_number, linked_term, linked_body}
 use Rattle.linked_program.specs.CodeView.{expression, code_block}
@@ -24,6 +22,7 @@ use Rattle.positions.specs.declared.phase.Phase.{Phase}
 use Rattle.positions.specs.declared.phase.Phase.TheVariants.{Entering, Running, AtSpawn, Returning, Leaving, Broken}
 use Rattle.positions.specs.declared.start.Start.{Start}
 use Rattle.positions.specs.declared.start.Start.TheVariants.{Root, Behind}
+use Rattle.positions.specs.Setting.{Setting}
 use Rattle.positions.specs.Activations.{PlainActivation, first_of}
 use Rattle.positions.specs.Code.{blocks_at, loop_at}
 use Rattle.positions.specs.Layers.{PlainLayer}
@@ -51,10 +50,10 @@ IsStart Root ph path (behind m j) = ⊥
 IsStart (Behind depth child) ph path root = ⊥
 IsStart (Behind depth child) ph path (behind m j) = (m ≡ take depth path) × (j ≡ child) × IsWithin ph depth (length path)
 
-module _ (ts : List Columned) (t : Tree) (codes : List Code) where
+module _ (setting : Setting) where
   -- the procedure of a number
   abbrev pub procedure_at : ℕ → Proc
-  procedure_at p = found (slice_get (procedures t) p)
+  procedure_at p = found (slice_get (procedures setting.program.tree) p)
 
   abbrev pub named_fault : Fault → NamedFault
   named_fault f = record { kind = f.kind; site = record { procedure = (procedure_at f.procedure).called; statement = f.statement } }
@@ -63,11 +62,11 @@ module _ (ts : List Columned) (t : Tree) (codes : List Code) where
 
   -- a layer has noted as much, by numbers
   pub record IsNotes (l : PlainLayer) (n : Notes) : Type 0 where
-    pub kinds : l.kinds ≡ map (λ r. r.kind) (reducers t)
+    pub kinds : l.kinds ≡ map (λ r. r.kind) (reducers setting.program.tree)
     pub worths : n.worth ≡ l.worths
     pub each : length l.worths ≡ length l.kinds
-    pub notes : l.notes ≡ map (numbered ts) n.read
-    pub entered : l.entered ≡ flagged (replicate (length (procedures t)) false) (map (procedure_number (procedures t)) n.entered)
+    pub notes : l.notes ≡ map (numbered setting.names) n.read
+    pub entered : l.entered ≡ flagged (replicate (length (procedures setting.program.tree)) false) (map (procedure_number (procedures setting.program.tree)) n.entered)
     pub deepest : n.deepest ≡ l.deepest
 
   abbrev pub AreNotes : List PlainLayer → List Notes → Type 0
@@ -79,22 +78,22 @@ module _ (ts : List Columned) (t : Tree) (codes : List Code) where
 
   -- the rest of a block at a place that has so many blocks around it
   abbrev pub acts_at : ℕ → ℕ → Position → Acts
-  acts_at p depth q = acts_from q.index (code_block (blocks_at codes p) (length (blocks_at codes p) - depth) q.block)
+  acts_at p depth q = acts_from q.index (code_block (blocks_at setting.codes p) (length (blocks_at setting.codes p) - depth) q.block)
 
   -- at each place, innermost first, stands the code of that rest of a block
   abbrev pub AreBodies : ℕ → List Position → List Body → Type 0
   AreBodies p [] [] = Unit {0}
-  AreBodies p (q ∷ qs) (b ∷ bs) = (linked_body ts t b ≡ acts_at p (length qs) q) × AreBodies p qs bs
+  AreBodies p (q ∷ qs) (b ∷ bs) = (linked_body setting.names setting.program.tree b ≡ acts_at p (length qs) q) × AreBodies p qs bs
   AreBodies p _ _ = ⊥
 
   -- a loop of a procedure, with those slots
   pub record IsJob (p : ℕ) (slots : List Slot) (l : Loop) (job : Job) : Type 0 where
-    pub site : job.site ≡ record { procedure = (procedure_at p).called; statement = (loop_at codes p l).number }
+    pub site : job.site ≡ record { procedure = (procedure_at p).called; statement = (loop_at setting.codes p l).number }
     pub env : job.env ≡ env_of slots
-    pub variable : job.variable ≡ (loop_at codes p l).variable
-    pub callee : procedure_number (procedures t) job.callee ≡ (loop_at codes p l).callee
-    pub args : map (linked_term ts) job.args ≡ map expression (loop_at codes p l).arguments
-    pub grain : job.grain ≡ (loop_at codes p l).grain
+    pub variable : job.variable ≡ (loop_at setting.codes p l).variable
+    pub callee : procedure_number (procedures setting.program.tree) job.callee ≡ (loop_at setting.codes p l).callee
+    pub args : map (linked_term setting.names) job.args ≡ map expression (loop_at setting.codes p l).arguments
+    pub grain : job.grain ≡ (loop_at setting.codes p l).grain
     pub low : job.low ≡ l.low
 
   abbrev pub IsTodoAt : PlainActivation → Work → Todo → Type 0
@@ -154,11 +153,11 @@ module _ (ts : List Columned) (t : Tree) (codes : List Code) where
 
   -- an instance of a procedure before its first statement
   pub record IsNewInstance (a : PlainActivation) (f : List ℕ) (vs : List ℤ) : Type 0 where
-    pub procedure : procedure_number (procedures t) f ≡ a.procedure
+    pub procedure : procedure_number (procedures setting.program.tree) f ≡ a.procedure
     pub children : a.children ≡ 0
     pub work : a.work ≡ Block (first_of 0)
     pub outer : a.outer ≡ []
-    pub slots : map meant a.slots ≡ map slot (fresh (proc_of t f).names vs)
+    pub slots : map meant a.slots ≡ map slot (fresh (proc_of setting.program.tree f).names vs)
 
   -- an instance is that of the child that is to be entered
   abbrev pub IsNew : PlainActivation → Child → Type 0
