@@ -4,10 +4,9 @@ use Rattle.program_tree.specs.Plain.{Body, update, step, Tree}
 use Rattle.meaning.specs.Tables.{Tables}
 use Rattle.meaning.specs.Records.{Revised}
 use Rattle.meaning.specs.Trail.{child_of}
-use Rattle.meaning.specs.SmallStep.{Child, Todo, blocks, Phase as NamedPhase, running, spawning, leaving, Pause, at_spawn, at_sync, returned, faulted, noting, opening_one, closing_one, Step, moved, taken, paused as paused_step, micro, Continuation}
+use Rattle.meaning.specs.SmallStep.{Child, Todo, blocks, Phase as NamedPhase, running, spawning, leaving, Pause, at_spawn, at_sync, returned, faulted, noting, opening_one, closing_one, Step, moved, taken, paused as paused_step, micro, Continuation, nothing_kept}
 use Rattle.meaning.specs.Layers.{bottom}
 use Rattle.meaning.specs.LayeredStrand.{LayeredStrand, advance, first_layered, inlined, detached, continuation, resumed, stolen}
-use Rattle.meaning.specs.OneStrand.{nothing_kept}
 use Rattle.meaning.specs.Schedules.{Memory, bottom_alone, joined_pair}
 use Rattle.linked_program.specs.declared.code.Code.{Code}
 use Rattle.linked_program.specs.TableNames.{Columned}

@@ -20,6 +20,7 @@ pub mod Awaited
 pub mod Waits
 pub mod WaitsOn
 pub mod Neighbours
+pub mod Courses
 pub mod Rests
 pub mod Serial
 pub mod Overs
