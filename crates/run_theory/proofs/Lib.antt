@@ -35,4 +35,7 @@ pub mod EndCounts
 pub mod LaidDown
 pub mod Holders
 pub mod Progress
+pub mod UnflaggedSteps
+pub mod UnflaggedRuns
+pub mod FlagsTold
 mod Samples
