@@ -1,5 +1,5 @@
 pub mod Samples
-pub mod Paths
+pub mod Edits
 pub mod Runs
 pub mod Reruns
 pub mod Recordings

@@ -10,7 +10,6 @@ pub mod Strands
 pub mod Trail
 pub mod SmallStep
 pub mod Rest
-pub mod OneStrand
 pub mod Layers
 pub mod LayeredStrand
 pub mod Tallies

@@ -1,4 +1,4 @@
--- What is left to do of a strand and of the continuations behind it, done serially.
+-- What is left to do of an instance, of those that wait below it, and of the continuations behind it, done serially.
 use Rattle.std.specs.Prelude.{ℕ, ℤ, pos, List, [], ◌∷◌, ◌++◌, map, Result, Ok, Err}
 use Rattle.program_tree.specs.Plain.{Name, Body, Tree}
 use Rattle.meaning.specs.Tables.{Tables}
@@ -8,7 +8,7 @@ use Rattle.meaning.specs.Values.{Env}
 use Rattle.meaning.specs.Statements.{proc_of, put_into, fresh, Job}
 use Rattle.meaning.specs.Elision.{Next, On, Back, body, elide, Answer, Finished, Faulted}
 use Rattle.meaning.specs.Elision as elision
-use Rattle.meaning.specs.SmallStep.{Slot, seen, Frame, Todo, blocks, halves, second, turns, Child, instance, half, Phase, entering, running, spawning, returning, leaving, broken, Parent, Strand, Continuation}
+use Rattle.meaning.specs.SmallStep.{Slot, seen, Frame, Todo, blocks, halves, second, turns, Child, instance, half, Phase, entering, running, spawning, returning, leaving, broken, Parent, Continuation}
 
 -- what a piece of a run comes to, and the reducers' values then
 abbrev pub Course : Type 0 → Type 0
@@ -84,7 +84,3 @@ module _ (program : Tree) (tables : Tables) where
   abbrev pub parents_of : List Continuation → List Parent
   parents_of [] = []
   parents_of (k ∷ ks) = k.parent ∷ (k.under ++ parents_of ks)
-
-  -- what is left to do of a strand and its deque's continuations, the newest first
-  unfoldable pub rest : Strand → List Continuation → Answer
-  rest s ks = answered (then_on (phase_left s.frame s.phase s.worth) (parents_left (s.under ++ parents_of ks)))

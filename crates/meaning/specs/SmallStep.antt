@@ -134,6 +134,10 @@ on_depth fr t site (suc d) next = next d
 abbrev pub Lookup : Type 0
 Lookup = Name → List ℤ → ℕ → Option Kept
 
+-- no record answers
+abbrev pub nothing_kept : Lookup
+nothing_kept f vs depth = None
+
 abbrev pub look_of : Lookup → Look
 look_of lookup = Some (λ f vs depth. is_there (lookup f vs depth))
 
@@ -228,14 +232,6 @@ module _ (program : Tree) (tables : Tables) where
     micro m fr (leaving v) [] = paused returned
     micro m fr (leaving v) (p ∷ t) = moved noting (Leaves fr.instance (Ok v) ∷ []) (with_value p v) (running p.todo) t
     micro m fr (broken k) t = paused faulted
-
--- a strand none of whose instances is recorded: where it begins, the reducers' values of its one layer, its topmost instance and what waits below
-pub record Strand : Type 0 where
-  pub start : Start
-  pub worth : Accumulators
-  pub frame : Frame
-  pub phase : Phase
-  pub under : List Parent
 
 -- what a push takes out: where the strand began, the child's number, the instance at the spawn and what waits below it
 pub record Continuation : Type 0 where

@@ -5,8 +5,7 @@ use Rattle.program_tree.specs.Plain.{Tree}
 use Rattle.meaning.specs.Tables.{Tables}
 use Rattle.meaning.specs.Outcome.{Place, Fault}
 use Rattle.meaning.specs.Records.{Revised}
-use Rattle.meaning.specs.OneStrand.{nothing_kept}
-use Rattle.meaning.specs.SmallStep.{Phase as NamedPhase, entering, running, spawning, returning, leaving, broken, Parent, noting, opening_one, closing_one, Step, moved, taken, paused as paused_step, micro, Continuation}
+use Rattle.meaning.specs.SmallStep.{Phase as NamedPhase, entering, running, spawning, returning, leaving, broken, Parent, noting, opening_one, closing_one, Step, moved, taken, paused as paused_step, micro, Continuation, nothing_kept}
 use Rattle.meaning.specs.Layers.{bottom}
 use Rattle.meaning.specs.Strands.{State, Ended, Stalled, BookStep}
 use Rattle.meaning.specs.Strands as strands

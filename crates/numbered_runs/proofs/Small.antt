@@ -7,8 +7,7 @@ use Rattle.meaning.specs.Tables.{Tables}
 use Rattle.meaning.specs.Outcome.{Log}
 use Rattle.meaning.specs.Records.{Revised}
 use Rattle.meaning.specs.Tallies.{valid_record}
-use Rattle.meaning.specs.OneStrand.{nothing_kept}
-use Rattle.meaning.specs.SmallStep.{Phase as NamedPhase, spawning, Pause, noting, opening_one, closing_one, Step, moved, taken, paused as paused_step, micro}
+use Rattle.meaning.specs.SmallStep.{Phase as NamedPhase, spawning, Pause, noting, opening_one, closing_one, Step, moved, taken, paused as paused_step, micro, nothing_kept}
 use Rattle.meaning.specs.Layers.{Notes, noted_top, total, bottom}
 use Rattle.meaning.specs.LayeredStrand.{LayeredStrand, advanced}
 use Rattle.meaning.specs.Schedules.{Piece, without_memo, step_of}

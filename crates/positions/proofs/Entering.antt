@@ -8,11 +8,10 @@ use Rattle.program_tree.specs.declared.Way.TheVariants.{Call, Spawn}
 use Rattle.meaning.specs.declared.FaultKind.TheVariants.{TooDeep}
 use Rattle.meaning.specs.Tables.{Tables}
 use Rattle.meaning.specs.Elision.{depth_limit}
-use Rattle.meaning.specs.OneStrand.{nothing_kept}
 use Rattle.meaning.specs.Outcome.{Log, Site, Place, Accumulators, Enters, Begins}
 use Rattle.meaning.specs.Statements.{proc_of, fresh, Job}
 use Rattle.meaning.specs.Trail.{child_of, fault_at, opening, mark}
-use Rattle.meaning.specs.SmallStep.{slot, Slot as NamedSlot, Start as NamedStart, Frame, Todo, blocks, halves, Child, instance, half, Phase as NamedPhase, running, spawning, broken, Parent, noting, Step, moved, memo_answer, look_of, layer_of, with_layer, opened, awaiting, child_name, stepped_past, enter_by, enter_step, enter_child, on_depth}
+use Rattle.meaning.specs.SmallStep.{slot, Slot as NamedSlot, Start as NamedStart, Frame, Todo, blocks, halves, Child, instance, half, Phase as NamedPhase, running, spawning, broken, Parent, noting, Step, moved, memo_answer, look_of, layer_of, with_layer, opened, awaiting, child_name, stepped_past, enter_by, enter_step, enter_child, on_depth, nothing_kept}
 use Rattle.meaning.specs.Layers as definitions
 use Rattle.meaning.specs.Layers.{Notes, noted_one, noted_top}
 use Rattle.meaning.specs.LayeredStrand.{advanced}

@@ -3,11 +3,10 @@ use Rattle.std.proofs.Common.{◌≡◌, ℕ, zero, suc, ◌+◌, ◌-◌, ◌/�
 use Rattle.std.specs.Prelude.{ℤ, pos, ◌+ℤ◌, slice_set, nat_le}
 use Rattle.std.proofs.Math.Dec.{eqb-suc-zero}
 use Rattle.program_tree.specs.declared.Way.TheVariants.{Call}
-use Rattle.meaning.specs.OneStrand.{nothing_kept}
 use Rattle.meaning.specs.Outcome.{Place}
 use Rattle.meaning.specs.Values.{put, values}
 use Rattle.meaning.specs.Statements.{fresh, proc_of, Job, turn_values}
-use Rattle.meaning.specs.SmallStep.{slot, Start as NamedStart, Frame, blocks, halves, second, turns, instance, half, Phase as NamedPhase, running, spawning, returning, Parent, noting, Step, moved, on_depth, enter_child, todo_step}
+use Rattle.meaning.specs.SmallStep.{slot, Start as NamedStart, Frame, blocks, halves, second, turns, instance, half, Phase as NamedPhase, running, spawning, returning, Parent, noting, Step, moved, on_depth, enter_child, todo_step, nothing_kept}
 use Rattle.meaning.specs.Layers.{Notes, bottom}
 use Rattle.meaning.specs.LayeredStrand.{LayeredStrand, advanced}
 use Rattle.linked_program.specs.TableNames.{columned_of}

@@ -2,9 +2,8 @@
 use Rattle.std.proofs.Common.{◌≡◌, ℕ, suc, Bool, true, false, ◌&&◌, List, [], ◌∷◌, length, Option, Some, None, refl, sym, ◌∙◌, ap}
 use Rattle.std.specs.Prelude.{ℤ}
 use Rattle.program_tree.specs.Plain.{Deed, bind, enter, read, sync, update, choose, loop, give, Body, step}
-use Rattle.meaning.specs.OneStrand.{nothing_kept}
 use Rattle.meaning.specs.Outcome.{Place}
-use Rattle.meaning.specs.SmallStep.{Todo, blocks, halves, second, turns, running, returning, leaving, Parent, Step, paused as paused_step, at_sync, returned, unless, is_entry, micro, todo_step}
+use Rattle.meaning.specs.SmallStep.{Todo, blocks, halves, second, turns, running, returning, leaving, Parent, Step, paused as paused_step, at_sync, returned, unless, is_entry, micro, todo_step, nothing_kept}
 use Rattle.meaning.specs.Layers.{bottom}
 use Rattle.meaning.specs.LayeredStrand.{LayeredStrand}
 use Rattle.linked_program.specs.declared.code.Instruction.{Instruction}

@@ -11,12 +11,11 @@ use Rattle.monoid_laws.specs.declared.Kind.{Kind}
 use Rattle.monoid_laws.specs.Worth.{Worth}
 use Rattle.monoid_laws.specs.Kinds.{names_element, element_of}
 use Rattle.meaning.specs.declared.FaultKind.TheVariants.{BadElement}
-use Rattle.meaning.specs.OneStrand.{nothing_kept}
 use Rattle.meaning.specs.Outcome.{Site, Place, Accumulators, Updates, Syncs}
 use Rattle.meaning.specs.Values.{value, values}
 use Rattle.meaning.specs.Statements.{reducers, numbered as reducer_of, number_of, reading, proc_of, fresh, job_of, bounds, naming, updating}
 use Rattle.meaning.specs.Trail.{halvings, fault_at}
-use Rattle.meaning.specs.SmallStep.{slot, seen, has, Start as NamedStart, Frame, blocks, instance, half, Phase as NamedPhase, running, spawning, returning, broken, Parent, noting, Step, moved, with_env, on_value, on_depth, enter_child, deed_step, is_entry, unless, todo_step, sync_step}
+use Rattle.meaning.specs.SmallStep.{slot, seen, has, Start as NamedStart, Frame, blocks, instance, half, Phase as NamedPhase, running, spawning, returning, broken, Parent, noting, Step, moved, with_env, on_value, on_depth, enter_child, deed_step, is_entry, unless, todo_step, sync_step, nothing_kept}
 use Rattle.meaning.specs.Layers.{Notes, noted_top, bottom}
 use Rattle.meaning.specs.LayeredStrand.{LayeredStrand, advanced}
 use Rattle.linked_program.specs.declared.code.Expression.{Expression}

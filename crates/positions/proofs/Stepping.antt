@@ -5,12 +5,11 @@ use Rattle.std.proofs.lemmas.List.{take-take, length-take-le}
 use Rattle.std.proofs.lemmas.Bool.{eqb-false}
 use Rattle.program_tree.specs.Plain.{Name, Body, step}
 use Rattle.meaning.specs.Elision.{depth_limit}
-use Rattle.meaning.specs.OneStrand.{nothing_kept}
 use Rattle.meaning.specs.Outcome.{Place, Syncs, Leaves}
 use Rattle.std.specs.Prelude.{Ok}
 use Rattle.meaning.specs.Statements.{proc_of, Job}
 use Rattle.meaning.specs.Trail.{opening}
-use Rattle.meaning.specs.SmallStep.{has, set_into, root, behind, Start as NamedStart, Frame, Todo, blocks, halves, second, turns, Child, instance, half, Phase as NamedPhase, entering, running, returning, leaving, Parent, noting, moved, unless, look_of, with_env, with_value, micro}
+use Rattle.meaning.specs.SmallStep.{has, set_into, root, behind, Start as NamedStart, Frame, Todo, blocks, halves, second, turns, Child, instance, half, Phase as NamedPhase, entering, running, returning, leaving, Parent, noting, moved, unless, look_of, with_env, with_value, micro, nothing_kept}
 use Rattle.meaning.specs.Layers.{Notes, noted_top, bottom}
 use Rattle.meaning.specs.LayeredStrand.{LayeredStrand, advanced, advance}
 use Rattle.linked_program.specs.declared.code.Instruction.{Instruction}

@@ -6,12 +6,11 @@ use Rattle.program_tree.specs.Plain.{bind, enter, read, sync, update, choose, lo
 use Rattle.program_tree.specs.declared.Way.TheVariants.{Call, Spawn}
 use Rattle.meaning.specs.declared.FaultKind.{FaultKind}
 use Rattle.meaning.specs.Tables.{Tables}
-use Rattle.meaning.specs.OneStrand.{nothing_kept}
 use Rattle.meaning.specs.Outcome.{Out, Log, Site, Accumulators, Syncs}
 use Rattle.meaning.specs.Values.{value, values}
 use Rattle.meaning.specs.Trail.{halvings}
 use Rattle.meaning.specs.Statements.{job_of, reducers, update_of, bounds, turn_values}
-use Rattle.meaning.specs.SmallStep.{seen, has, with_env, on_depth, enter_child, leaving_layer, with_layer, Start as NamedStart, Frame, Todo, blocks, halves, second, turns, Child, instance, half, Phase as NamedPhase, running, spawning, returning, leaving, Parent, Step, moved, taken, paused as paused_step, noting, opening_one, closing_one, unless, is_entry, led_step, settling, on_value, todo_step, enter_step, micro}
+use Rattle.meaning.specs.SmallStep.{seen, has, with_env, on_depth, enter_child, leaving_layer, with_layer, Start as NamedStart, Frame, Todo, blocks, halves, second, turns, Child, instance, half, Phase as NamedPhase, running, spawning, returning, leaving, Parent, Step, moved, taken, paused as paused_step, noting, opening_one, closing_one, unless, is_entry, led_step, settling, on_value, todo_step, enter_step, micro, nothing_kept}
 use Rattle.meaning.specs.Layers.{bottom}
 use Rattle.meaning.specs.LayeredStrand.{LayeredStrand}
 use Rattle.linked_program.specs.declared.code.Instruction.{Instruction}

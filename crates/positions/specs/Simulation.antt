@@ -2,10 +2,9 @@
 use Rattle.std.specs.Prelude.{◌≡◌, ℕ, ℤ, Bool, true, false, List, [], ◌∷◌, Option, Some, None, take}
 use Rattle.program_tree.specs.Plain.{Body, update, step}
 use Rattle.meaning.specs.Trail.{child_of}
-use Rattle.meaning.specs.SmallStep.{Child, Todo, blocks, Phase as NamedPhase, running, spawning, leaving, Pause, at_spawn, at_sync, returned, faulted, noting, opening_one, closing_one, Step, moved, taken, paused as paused_step, micro, Continuation}
+use Rattle.meaning.specs.SmallStep.{Child, Todo, blocks, Phase as NamedPhase, running, spawning, leaving, Pause, at_spawn, at_sync, returned, faulted, noting, opening_one, closing_one, Step, moved, taken, paused as paused_step, micro, Continuation, nothing_kept}
 use Rattle.meaning.specs.Layers.{bottom}
 use Rattle.meaning.specs.LayeredStrand.{LayeredStrand, advance, first_layered, inlined, detached, continuation, resumed, stolen}
-use Rattle.meaning.specs.OneStrand.{nothing_kept}
 use Rattle.meaning.specs.Schedules.{bottom_alone, joined_pair}
 use Rattle.positions.specs.declared.phase.Phase.{Phase}
 use Rattle.positions.specs.declared.phase.Phase.TheVariants.{AtSpawn}

@@ -20,6 +20,7 @@ pub mod Awaited
 pub mod Waits
 pub mod WaitsOn
 pub mod Neighbours
+pub mod Courses
 pub mod Rests
 pub mod Serial
 pub mod Overs
@@ -34,4 +35,7 @@ pub mod EndCounts
 pub mod LaidDown
 pub mod Holders
 pub mod Progress
+pub mod UnflaggedSteps
+pub mod UnflaggedRuns
+pub mod FlagsTold
 mod Samples

@@ -113,7 +113,7 @@ module _ (program : Revised) (tables : Tables) (memory : Memory) where
   over_right [] right n later e f h = subst (Every (IsOver n)) (sym h) tt
   over_right (q ∷ ps) right n later e f h = over_start q.strand.start n right f.1.begins e h.1.owes.precede
 
-  whole_of : (first : Bool) (found later : List Bool) (p : Piece) (e : Place) → FitPiece program tables memory first p found later e → ((k : Fault) → p.strand.phase ≡ broken k → ⊥) → Whole program tables memory p found later e
+  pub whole_of : (first : Bool) (found later : List Bool) (p : Piece) (e : Place) → FitPiece program tables memory first p found later e → ((k : Fault) → p.strand.phase ≡ broken k → ⊥) → Whole program tables memory p found later e
   whole_of first found later p e i good = elim i.fits [ inr c ↦ absurd (good c.fault c.phase) | inl w ↦ w ]
 
   module _ (stays : TalliedStays program tables (L program tables memory)) (owed : LayersStayOwed program tables (L program tables memory)) where

@@ -1,14 +1,15 @@
 -- What is left to do of a run before its first step, and at its end.
-use Rattle.std.proofs.Common.{Bool, true, ◌-◌, ℕ, List, [], ◌∷◌, ◌++◌, ℤ, Ok, Err, ◌≡◌, inl, inr, refl, sym, ap, ◌∙◌, subst}
+use Rattle.std.proofs.Common.{Bool, true, ◌-◌, ℕ, suc, List, [], ◌∷◌, ◌++◌, ℤ, Result, Ok, Err, ◌≡◌, inl, inr, refl, sym, ap, ◌∙◌, subst}
+use Rattle.program_tree.specs.Plain.{Tree}
 use Rattle.meaning.specs.Tables.{Tables}
-use Rattle.meaning.specs.Outcome.{Log, Accumulators, Fault, combined}
-use Rattle.meaning.specs.Statements.{reducers, identities}
-use Rattle.meaning.specs.Elision.{Answer, Finished, Faulted, main, depth_limit}
+use Rattle.meaning.specs.Outcome.{Log, Accumulators, Fault, Place, after, combined}
+use Rattle.meaning.specs.Statements.{proc_of, fresh, reducers, identities}
+use Rattle.meaning.specs.Elision.{Answer, Finished, Faulted, answer_of, elide, from_scratch, main, start, depth_limit}
 use Rattle.meaning.specs.Records.{Revised, with_kinds}
 use Rattle.meaning.specs.Trail.{trail_at}
-use Rattle.meaning.specs.SmallStep.{Start, instance, Frame, Phase, entering, running, spawning, returning, leaving, broken, Parent, look_of, opened, Continuation}
+use Rattle.meaning.specs.SmallStep.{Start, Child, instance, half, Frame, Phase, entering, running, spawning, returning, leaving, broken, Parent, look_of, opened, Continuation}
 use Rattle.meaning.specs.Layers.{Notes, notes}
-use Rattle.meaning.specs.Rest.{Course, then_on, phase_left, parents_left, answered, rest}
+use Rattle.meaning.specs.Rest.{Course, then_on, blocks_left, child_left, entering_left, phase_left, parents_left, answered}
 use Rattle.meaning.specs.RestOfRun.{with_hand_under, below, times_layers, rest_of_run}
 use Rattle.meaning.specs.Strands.{State, Held, Ended, Stalled, BookStep}
 use Rattle.meaning.specs.Strands as strands
@@ -16,15 +17,36 @@ use Rattle.meaning.specs.Tallies.{Tally}
 use Rattle.meaning.specs.Schedules.{Memory, Piece, RunState, answer_by, answer_of_pieces, end_of}
 use Rattle.trail_theory.specs.Right.{stretch, RightAt}
 use Rattle.trail_theory.proofs.Joins.{one_layer}
-use Rattle.theory.proofs.Steps.{steps_keep}
 use Rattle.run_theory.specs.Theorems.{IsReady, IsRightNow, RestBegins, RestEnds}
 use Rattle.run_theory.proofs.Pieces.{ForSome, some_is}
+use Rattle.run_theory.proofs.Courses.{then_pure, instance_left, seen_slot}
 use Rattle.run_theory.proofs.Steps.{piece_of, S, L, FitPiece, FitAll}
 use Rattle.run_theory.proofs.Paths.{law}
 
-then_pure : (c : Course ℤ) → then_on c (λ w acc. (Ok w, acc)) ≡ c
-then_pure (Ok v, acc) = refl
-then_pure (Err k, acc) = refl
+module _ (program : Tree) (tables : Tables) where
+  -- a child that is opened has its names' first values
+  opened_left : (d : ℕ) (child : Child) (n : Place) (acc : Accumulators) → entering_left program tables (opened program d child n) child acc ≡ child_left program tables d child acc
+  opened_left d (instance f vs) n acc =
+      ap (λ env. blocks_left program tables d (proc_of program f).called ((proc_of program f).body ∷ []) env acc) (seen_slot (fresh (proc_of program f).names vs))
+  opened_left d (half k job count i) n acc = refl
+
+  answer_of_course : (r : Result ℤ Fault) (log : Log) (acc : Accumulators) → answered program tables (r, after log acc) ≡ answer_of acc (record { log = log; answer = r })
+  answer_of_course (Ok v) log acc = refl
+  answer_of_course (Err k) log acc = refl
+
+  whole_left : (left : ℕ) (acc : Accumulators) → answered program tables (child_left program tables left (instance main []) acc) ≡ answer_of acc (elide program tables (suc left) start main [] acc)
+  unfolding elide
+  whole_left left acc =
+      let o = elide program tables (suc left) start main [] acc in
+      ap (answered program tables) (sym (instance_left program tables left main [] (depth_limit - left) (proc_of program main) acc)) ∙ answer_of_course o.answer o.log acc
+
+  -- main is left to do, from the identities on
+  main_left : answered program tables (then_on (phase_left program tables (opened program (depth_limit - 1) (instance main []) []) (entering (instance main [])) (identities program)) (parents_left program tables [])) ≡ from_scratch program tables
+  unfolding from_scratch
+  main_left =
+      ap (answered program tables) (then_pure (phase_left program tables (opened program (depth_limit - 1) (instance main []) []) (entering (instance main [])) (identities program))
+      ∙ opened_left (depth_limit - 1) (instance main []) [] (identities program))
+      ∙ whole_left 63 (identities program)
 
 module _ (program : Revised) (tables : Tables) (memory : Memory) (ready : IsReady program tables memory) where
   -- the identities, and then a stretch of the trail
@@ -32,12 +54,12 @@ module _ (program : Revised) (tables : Tables) (memory : Memory) (ready : IsRead
   unit_of a b e = ap (λ n. n.worth) (law program tables memory ready [] [] a b e)
 
   pub begins : RestBegins program tables memory
-  unfolding rest_of_run rest
+  unfolding rest_of_run
   begins kits =
       let F = λ (acc : Accumulators). then_on (phase_left program.tree tables (opened program.tree (depth_limit - 1) (instance main []) []) (entering (instance main [])) acc) (parents_left program.tree tables []) in
       ap (answered program.tree tables) (then_pure (F (times_layers program.tree tables (identities program.tree) (notes program.tree [] ∷ []))))
       ∙ ap (λ acc. answered program.tree tables (F acc)) (unit_of [] (trail_at program.tree tables (S program tables memory) (look_of (L program tables memory))) refl)
-      ∙ (steps_keep program.tree tables).begins
+      ∙ main_left program.tree tables
 
   -- one layer, behind the identities
   unit_layer : (m : Start) (l : Notes) (fr : Frame) (v : ℤ) (t : List Parent) → RightAt program.tree tables (S program tables memory) (L program tables memory) m (l ∷ []) fr (leaving v) t → combined (identities program.tree) (with_kinds (reducers program.tree) l.worth) ≡ l.worth

@@ -24,7 +24,7 @@ use Rattle.trail_theory.proofs.FirstFaults.{quiet_first, first_kept}
 use Rattle.trail_theory.proofs.Elides.{forgotten_append, after_append, Anything, anything, finish, body_fits, elide_fits, plain, plain_of, plain_bind, turns_fit, loop_fit, half_fits, call_fits, forgotten_opening, quiet_opening, Elides}
 use Rattle.trail_theory.proofs.MainElides.{others_quiet}
 use Rattle.run_theory.specs.OverRuns.{IsQuietPhase, AreQuietParents}
-use Rattle.theory.proofs.Courses.{then_same, then_assoc, bind_course, seen_slot}
+use Rattle.run_theory.proofs.Courses.{then_pure, then_same, then_assoc, bind_course, seen_slot}
 
 -- ---- slots for which nothing waits
 
@@ -66,10 +66,6 @@ Came c acc es out = Went c acc es out ⊎ Fell c es
 pub came : (o : Out Fault ℤ) (acc : Accumulators) (es : Log) (out : Outcome) → Fits o es out → Came (o.answer, after o.log acc) acc es out
 came o acc es (Ok v) h = inl (record { value = v; outcome = refl; course = ap (λ x. (x.answer, after x.log acc)) h.0; quiet = h.1 })
 came o acc es (Err k) h = inr (record { fault = k; course = h.0; first = h.1.1 })
-
-pub then_pure : (c : Course ℤ) → then_on c (λ w acc. (Ok w, acc)) ≡ c
-then_pure (Ok v, acc) = refl
-then_pure (Err k, acc) = refl
 
 pub then_fell : (c : Course ℤ) (f : ℤ → Accumulators → Course ℤ) (k : Fault) → c.0 ≡ Err k → (then_on c f).0 ≡ Err k
 then_fell (Ok v, acc) f k e = absurd cc

@@ -7,6 +7,8 @@ ghost use Rattle.meaning.specs.Tables.{Tables};
 ghost use Rattle.run_theory.specs.Theorems.{IsReady, StepsStayRight, PathsAreRight, RightRunsAnswer, PathsAnswer, StepsKeepKits, PathsKeepKits, EndsFreeKits, PathsKeepHistory, NeighboursFold, PathsMakeNews, PathsCountNeeded, PathsLeaveNothing, RestBegins, PathsKeepRest, RestEnds, OverRunsAnswer, FrontRunsAnswer};
 ghost use Rattle.trail_theory.specs.OpenLayers.{IsNumbered};
 ghost use Rattle.run_theory.specs.Progress.{HoldersGoOn, LaidRunsGoOn, SomeStepIsThere};
+ghost use Rattle.run_theory.specs.UnflaggedRuns.{FlagsAreTold, RunsBy};
+ghost use Rattle.trail_theory.specs.OwnLayers.{is_top, is_top_by_length};
 
 /// Each step of a run on several workers keeps it right.
 pub fn steps_stay_right()
@@ -106,4 +108,15 @@ pub fn laid_runs_go_on()
 /// No run gets stuck: after any steps it has come to its end, or a worker that holds a strand goes on with it, or one that holds nothing folds, whichever that is.
 pub fn some_step_is_there()
     ensures there { (program : Revised) (tables : Tables) (memory : Memory) → IsReady program tables memory → SomeStepIsThere program tables memory }
+{}
+
+/// After any steps, an instance that returns, and is not at its strand's entry, has the flag that says whether the top layer has its name.
+pub fn flags_are_told()
+    ensures told { (program : Revised) (tables : Tables) (memory : Memory) → IsReady program tables memory → IsNumbered program → FlagsAreTold program tables memory }
+{}
+
+/// A run whose instances carry no flag, and whose layers close where the top one has the name of the instance that returns, or a name as long, takes the same steps and comes to the same states, flags aside, and to the same end.
+pub fn runs_need_no_flags()
+    ensures by_name { (program : Revised) (tables : Tables) (memory : Memory) → IsReady program tables memory → IsNumbered program → RunsBy program tables memory is_top }
+    ensures by_length { (program : Revised) (tables : Tables) (memory : Memory) → IsReady program tables memory → IsNumbered program → RunsBy program tables memory is_top_by_length }
 {}

@@ -53,3 +53,7 @@ pub mod Remade
 pub mod TwoLooks
 pub mod NothingNeeded
 pub mod AddingUp
+pub mod OwnLayers
+pub mod OwnMoves
+pub mod OwnTheorems
+pub mod Unflagged

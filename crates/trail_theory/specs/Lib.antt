@@ -18,3 +18,5 @@ pub mod Defines
 pub mod OpenLayers
 pub mod OwedLayers
 pub mod TalliedTheorems
+pub mod OwnLayers
+pub mod Unflagged

@@ -16,12 +16,14 @@ ghost use Rattle.trail_theory.specs.KeptRecords.{ActsByContribution, CommitsStay
 ghost use Rattle.trail_theory.specs.MadeRecords.{AnswersBySound, IsLater, IsMade, RecordedBySound};
 ghost use Rattle.trail_theory.specs.OpenLayers.{IsNumbered};
 ghost use Rattle.trail_theory.specs.Order.{Every, LeavesInOrder};
+ghost use Rattle.trail_theory.specs.OwnLayers.{LayersStayOwn, OpenHasNotLeft, OwnClosesItsOwn, OwnEntryHasOneLayer, OwnMainHasOneLayer, OwnReadHasOneLayer, OwnFolds, OwnLayersCount, FlagsAreNames};
 ghost use Rattle.trail_theory.specs.ReadsAtEnd.{KeepsRules, MainIsAlone, ReadsAtMainsEnd};
 ghost use Rattle.trail_theory.specs.Ready.{StepsReady};
 ghost use Rattle.trail_theory.specs.Right.{LookupIsSound, RecordedAreSound, StretchesMultiply};
 ghost use Rattle.trail_theory.specs.TalliedTheorems.{ClosesItsOwn, EndCountsNeeded, EndLeavesNone, EntryHasOneLayer, LayersStayOwed, NoneAfterEach, ReadHasOneLayer, RerunExecutesNone, TalliedStays};
 ghost use Rattle.trail_theory.specs.Theorems.{ElisionIsTrail, OthersAreTrail, MainIsTrail, RecordsAreSound, RecordedRecordsAreSound, FirstIsRight, AdvanceStaysRight, AdvanceReadingStaysRight, AdvanceByProductStaysRight, ReadsStandAtRoot, ReadsSeeTheEnd, InlineStaysRight, DetachStaysRight, ContinuationIsRight, StolenIsRight, PopStaysRight, JoinStaysRight, EndsWithElision, FaultsWithElision};
 ghost use Rattle.trail_theory.specs.Typed.{HasMonoids, IsTyped, ProgramFits, SightFits, TablesFit, kinds_of};
+ghost use Rattle.trail_theory.specs.Unflagged.{FlagsAreNoMatter, UnflaggedStaysOwn};
 ghost use Rattle.trail_theory.specs.Waiting.{IsChecked, HasNoReads};
 
 /// On the trail each instance is left before those whose names come later: children before their parent, earlier children before later ones.
@@ -217,6 +219,61 @@ pub fn entry_has_one_layer()
 /// Where main alone reads reducers, at its end, a strand that stands at a read, with nothing behind it and no layer owed, has one layer.
 pub fn read_has_one_layer()
     ensures one { (program : Revised) (tables : Tables) (lookup : Lookup) → ReadsAtMainsEnd program.tree → ReadHasOneLayer program tables lookup }
+{}
+
+/// Each move of a strand leaves it the owner of its open layers: they are those of instances on the way to its topmost one, each inside the next. Nothing is asked of other strands, nor of the flags of continuations.
+pub fn layers_stay_own()
+    ensures own { (program : Revised) (tables : Tables) (lookup : Lookup) → StretchesMultiply program.tree tables (sight_of program.tree tables) lookup → KeepsRules program.tree → IsNumbered program → RecordedAreSound program.tree tables (sight_of program.tree tables) lookup → LayersStayOwn program tables lookup }
+{}
+
+/// So no instance with an open layer has left in the strand's stretch.
+pub fn open_layers_have_not_left()
+    ensures still { (program : Revised) (tables : Tables) (lookup : Lookup) → OpenHasNotLeft program tables lookup }
+{}
+
+/// The layer that an instance closes by its name is its own, and an instance that has one closes it.
+pub fn owners_close_their_own()
+    ensures own { (program : Revised) (tables : Tables) (lookup : Lookup) → OwnClosesItsOwn program tables lookup }
+{}
+
+/// A strand that stands at its entry has one layer.
+pub fn own_entry_has_one_layer()
+    ensures one { (program : Revised) (tables : Tables) (lookup : Lookup) → OwnEntryHasOneLayer program tables lookup }
+{}
+
+/// A strand whose topmost instance is main has one layer.
+pub fn own_main_has_one_layer()
+    ensures one { (program : Revised) (tables : Tables) (lookup : Lookup) → OwnMainHasOneLayer program tables lookup }
+{}
+
+/// Where main alone reads reducers, at its end, a strand that stands at a read has one layer.
+pub fn own_read_has_one_layer()
+    ensures one { (program : Revised) (tables : Tables) (lookup : Lookup) → ReadsAtMainsEnd program.tree → OwnReadHasOneLayer program tables lookup }
+{}
+
+/// A fold of a strand that is over with one that stands at its entry leaves the owner of its open layers.
+pub fn folds_stay_own()
+    ensures own { (program : Revised) (tables : Tables) (lookup : Lookup) → StretchesMultiply program.tree tables (sight_of program.tree tables) lookup → KeepsRules program.tree → IsNumbered program → RecordedAreSound program.tree tables (sight_of program.tree tables) lookup → OwnFolds program tables lookup }
+{}
+
+/// A strand has one layer more than open ones.
+pub fn own_layers_count()
+    ensures count { (program : Revised) (tables : Tables) (lookup : Lookup) → OwnLayersCount program tables lookup }
+{}
+
+/// Where strands owe each other their layers, an instance's flag says whether the top layer has its name.
+pub fn flags_are_names()
+    ensures names { (program : Revised) (tables : Tables) (lookup : Lookup) → FlagsAreNames program tables lookup }
+{}
+
+/// Strands and continuations are as right without their instances' flags, and a move of one without flags is the move without flags.
+pub fn flags_are_no_matter()
+    ensures matter { (program : Revised) (tables : Tables) (lookup : Lookup) → FlagsAreNoMatter program tables lookup }
+{}
+
+/// A small step by names, of strands whose instances have no flags, leaves the owner of its open layers.
+pub fn unflagged_steps_stay_own()
+    ensures own { (program : Revised) (tables : Tables) (lookup : Lookup) → StretchesMultiply program.tree tables (sight_of program.tree tables) lookup → KeepsRules program.tree → IsNumbered program → RecordedAreSound program.tree tables (sight_of program.tree tables) lookup → UnflaggedStaysOwn program tables lookup }
 {}
 
 /// Sound records stay sound as new ones are put in.

@@ -1,0 +1,355 @@
+-- The steps of a run without flags are those of the run with flags, where each flag that is asked for is the one that the test gives.
+use Rattle.std.proofs.Common.{◌&&◌, ◌+◌, ◌-◌, zero, ℕ, suc, ℤ, List, [], ◌∷◌, ◌++◌, append_assoc, length, map, Option, Some, None, ◌≡◌, refl, sym, ap, ap₂, ◌∙◌, subst, true, false, Bool, cond, not, nat_lt}
+use Rattle.program_tree.specs.Plain.{Tree}
+use Rattle.meaning.specs.Every.{every}
+use Rattle.meaning.specs.Tables.{Tables}
+use Rattle.meaning.specs.Outcome.{Fault, Place}
+use Rattle.meaning.specs.Records.{Revised}
+use Rattle.meaning.specs.SmallStep.{Start, same_name, is_entry, Frame, Phase, entering, running, spawning, returning, leaving, broken, Parent, with_layer, at_spawn, at_sync, returned, faulted, Step, moved, taken, paused, Continuation}
+use Rattle.meaning.specs.Layers.{total}
+use Rattle.meaning.specs.LayeredStrand.{LayeredStrand, advanced, joined}
+use Rattle.meaning.specs.Strands.{State, BookStep, Fold}
+use Rattle.meaning.specs.Strands as strands
+use Rattle.meaning.specs.Tallies.{Tally, Opened, tallied, tallies_joined}
+use Rattle.meaning.specs.Schedules.{Memory, Piece, RunState, RunStep, Change, work, push, inline, pop, stall, steal, fold, first_state, place_of, place_of_start, line_of, is_held_by, is_idle, among, changed, kits_after, step_of, worked_by, worked, pushed_at, pushed, inlined_at, inlined_of, popped_at, popped, robbed_of, stolen_from, left_by, stalled_by, stalled_at, stalled, none_waits, none_waits_under, may_join, joined_pair, folded_by, folded, folded_among, folded_at, if_idle, after_step, or_same, path, answer_of_pieces, end_of}
+use Rattle.trail_theory.specs.Order.{Every}
+use Rattle.trail_theory.specs.OwnLayers.{TopTest, frame_by}
+use Rattle.trail_theory.specs.Unflagged.{unflagged_parent, unflagged_under, unflagged, unflagged_continuation}
+use Rattle.trail_theory.proofs.Unflagged.{no_matter}
+use Rattle.run_theory.specs.UnflaggedRuns.{unflagged_piece, unflagged_run, unflagged_after, flagged_piece, flagged_run, step_by, path_by, StepsBy, PathsBy, EndsBy, RunsBy}
+use Rattle.run_theory.proofs.Steps.{L}
+use Rattle.run_theory.proofs.UnflaggedSteps.{unflagged_step, unflagged_twice, micro_alike, tallied_alike}
+
+map_append : {A B : Type 0} (f : A → B) (a b : List A) → map f (a ++ b) ≡ map f a ++ map f b
+map_append f [] b = refl
+map_append f (x ∷ a) b = ap (λ l. f x ∷ l) (map_append f a b)
+
+-- ---- flags that are forgotten twice
+
+-- a piece whose flags were forgotten, with those that the test gives
+abbrev reflagged : TopTest → Piece → Piece
+reflagged test p = flagged_piece test (unflagged_piece p)
+
+frame_again : (test : TopTest) (ph : Phase) (os : List Opened) (fr : Frame) → with_layer false (frame_by test ph os (with_layer false fr)) ≡ with_layer false fr
+frame_again test (entering child) os fr = refl
+frame_again test (running todo) os fr = refl
+frame_again test (spawning d x child todo) os fr = refl
+frame_again test (returning v) os fr = refl
+frame_again test (leaving v) os fr = refl
+frame_again test (broken k) os fr = refl
+
+deque_again : (ks : List Continuation) → map unflagged_continuation (map unflagged_continuation ks) ≡ map unflagged_continuation ks
+deque_again [] = refl
+deque_again (k ∷ ks) = λ i. record { since = k.since; child = k.child; parent = unflagged_parent k.parent; under = unflagged_twice k.under i } ∷ deque_again ks i
+
+again : (test : TopTest) (p : Piece) → unflagged_piece (reflagged test p) ≡ unflagged_piece p
+again test p = λ i. record {
+  strand = record { start = p.strand.start; layers = p.strand.layers; frame = frame_again test p.strand.phase p.tally.opened p.strand.frame i; phase = p.strand.phase; under = unflagged_twice p.strand.under i };
+  deque = deque_again p.deque i;
+  state = p.state;
+  tally = p.tally;
+}
+
+all_again : (test : TopTest) (ps : List Piece) → map unflagged_piece (map (reflagged test) ps) ≡ map unflagged_piece ps
+all_again test [] = refl
+all_again test (p ∷ ps) = ap₂ ◌∷◌ (again test p) (all_again test ps)
+
+both_maps : (test : TopTest) (ps : List Piece) → map (flagged_piece test) (map unflagged_piece ps) ≡ map (reflagged test) ps
+both_maps test [] = refl
+both_maps test (p ∷ ps) = ap (λ l. reflagged test p ∷ l) (both_maps test ps)
+
+-- ---- changes
+
+abbrev unflagged_change : Option Change → Option Change
+unflagged_change None = None
+unflagged_change (Some c) = Some (record { pieces = map unflagged_piece c.pieces; kits = c.kits; noted = c.noted })
+
+-- the flag of an instance that returns off the entry is the one that the test gives
+abbrev pub IsTold : TopTest → Piece → Type 0
+IsTold test p = is_entry p.strand.start p.strand.frame.instance ≡ false → frame_by test p.strand.phase p.tally.opened p.strand.frame ≡ p.strand.frame
+
+unflagged_among : (before later : List Piece) (history : List BookStep) (o : Option Change) → unflagged_after (among before later history o) ≡ among (map unflagged_piece before) (map unflagged_piece later) history (unflagged_change o)
+unflagged_among before later history None = refl
+unflagged_among before later history (Some c) =
+    ap (λ ps. Some (record { pieces = ps; kits = c.kits; history = history ++ c.noted }))
+    (map_append unflagged_piece before (c.pieces ++ later) ∙ ap (λ ps. map unflagged_piece before ++ ps) (map_append unflagged_piece c.pieces later))
+
+cond_after : (b : Bool) (x' y' x y : Option RunState) → unflagged_after x' ≡ unflagged_after x → unflagged_after y' ≡ unflagged_after y → unflagged_after (cond b x' y') ≡ unflagged_after (cond b x y)
+cond_after true x' y' x y h k = h
+cond_after false x' y' x y h k = k
+
+changed_alike : (test : TopTest) (w : ℕ) (change : Piece → Option Change) (before' before ps : List Piece) (history : List BookStep) → map unflagged_piece before' ≡ map unflagged_piece before
+    → Every (λ p. unflagged_change (change (reflagged test p)) ≡ unflagged_change (change p)) ps
+    → unflagged_after (changed w change before' (map (reflagged test) ps) history) ≡ unflagged_after (changed w change before ps history)
+changed_alike test w change before' before [] history e h = refl
+changed_alike test w change before' before (p ∷ ps) history e h =
+    let front : map unflagged_piece (before' ++ reflagged test p ∷ []) ≡ map unflagged_piece (before ++ p ∷ []) =
+        map_append unflagged_piece before' (reflagged test p ∷ []) ∙ ap₂ (λ a b. a ++ b ∷ []) e (again test p) ∙ sym (map_append unflagged_piece before (p ∷ [])) in
+    cond_after (is_held_by w p) (among before' (map (reflagged test) ps) history (change (reflagged test p))) (changed w change (before' ++ reflagged test p ∷ []) (map (reflagged test) ps) history) (among before ps history (change p)) (changed w change (before ++ p ∷ []) ps history)
+    (unflagged_among before' (map (reflagged test) ps) history (change (reflagged test p))
+    ∙ ap₂ (λ a b. among a b history (unflagged_change (change (reflagged test p)))) e (all_again test ps)
+    ∙ ap (among (map unflagged_piece before) (map unflagged_piece ps) history) h.0
+    ∙ sym (unflagged_among before ps history (change p)))
+    (changed_alike test w change (before' ++ reflagged test p ∷ []) (before ++ p ∷ []) ps history front h.1)
+
+module _ (program : Revised) (tables : Tables) (memory : Memory) where
+  -- ---- work and stall
+
+  unflagged_worked : (kits : ℕ) (p : Piece) (st : Step) → unflagged_change (worked_by program tables memory kits p st) ≡ worked_by program tables memory kits (unflagged_piece p) (unflagged_step st)
+  unflagged_worked kits p (moved l evs fr ph t) =
+      let st = moved l evs fr ph t in
+      ap (λ y. Some (record { pieces = record { strand = unflagged (advanced program.tree p.strand st); deque = map unflagged_continuation p.deque; state = p.state; tally = y } ∷ []; kits = kits_after l kits; noted = [] }))
+      (sym (tallied_alike program p.strand.layers st p.tally))
+  unflagged_worked kits p (taken evs k fr ph t) = refl
+  unflagged_worked kits p (paused e) = refl
+
+  unflagged_stalled : (kits : ℕ) (p : Piece) (st : Step) → unflagged_change (stalled_by program tables memory kits p st) ≡ stalled_by program tables memory kits (unflagged_piece p) (unflagged_step st)
+  unflagged_stalled kits p (moved l evs fr ph t) = refl
+  unflagged_stalled kits p (taken evs k fr ph t) = refl
+  unflagged_stalled kits p (paused at_sync) = refl
+  unflagged_stalled kits p (paused at_spawn) = refl
+  unflagged_stalled kits p (paused returned) = refl
+  unflagged_stalled kits p (paused faulted) = refl
+
+  module _ (test : TopTest) (kits : ℕ) (p : Piece) where
+    -- a change that has no use for flags
+    quiet_alike : (change : Piece → Option Change) → ((q : Piece) → unflagged_change (change q) ≡ change (unflagged_piece q)) → unflagged_change (change (reflagged test p)) ≡ unflagged_change (change p)
+    quiet_alike change h = h (reflagged test p) ∙ ap change (again test p) ∙ sym (h p)
+
+    abbrev one_step : Piece → Step
+    one_step q = step_of program tables memory kits q.strand
+
+    step_alike : IsTold test p → unflagged_step (one_step (reflagged test p)) ≡ unflagged_step (one_step p)
+    step_alike told =
+        let s = p.strand in
+        micro_alike program.tree tables (L program tables memory) (memory.recording && nat_lt 0 kits) (total program.tree s.layers).worth test p.tally.opened s.start s.frame s.phase s.under told
+
+    by_step_alike : (by : Piece → Step → Option Change) → ((q : Piece) (st : Step) → unflagged_change (by q st) ≡ by (unflagged_piece q) (unflagged_step st)) → IsTold test p
+        → unflagged_change (by (reflagged test p) (one_step (reflagged test p))) ≡ unflagged_change (by p (one_step p))
+    by_step_alike by h told = h (reflagged test p) (one_step (reflagged test p)) ∙ ap₂ by (again test p) (step_alike told) ∙ sym (h p (one_step p))
+
+    works_alike : IsTold test p → unflagged_change (worked program tables memory kits (reflagged test p)) ≡ unflagged_change (worked program tables memory kits p)
+    works_alike told = by_step_alike (worked_by program tables memory kits) (unflagged_worked kits) told
+
+    left_quiet : (n : Place) (q : Piece) → unflagged_change (left_by program tables memory kits q n) ≡ left_by program tables memory kits (unflagged_piece q) n
+    left_quiet [] q = refl
+    left_quiet (k ∷ n) q = refl
+
+    stalls_at : IsTold test p → (ph : Phase) (t : List Parent) (ks : List Continuation) → unflagged_change (stalled_at program tables memory kits (reflagged test p) ph (unflagged_under t) (map unflagged_continuation ks)) ≡ unflagged_change (stalled_at program tables memory kits p ph t ks)
+    stalls_at told (broken k) t ks = quiet_alike (λ q. stalled_at program tables memory kits q (broken k) [] []) (λ q. refl)
+    stalls_at told (leaving v) [] [] = quiet_alike (λ q. left_by program tables memory kits q q.strand.frame.instance) (λ q. left_quiet q.strand.frame.instance q)
+    stalls_at told (leaving v) [] (k ∷ ks) = refl
+    stalls_at told (leaving v) (r ∷ t) [] = by_step_alike (stalled_by program tables memory kits) (unflagged_stalled kits) told
+    stalls_at told (leaving v) (r ∷ t) (k ∷ ks) = refl
+    stalls_at told (entering child) t [] = by_step_alike (stalled_by program tables memory kits) (unflagged_stalled kits) told
+    stalls_at told (entering child) t (k ∷ ks) = refl
+    stalls_at told (running todo) t [] = by_step_alike (stalled_by program tables memory kits) (unflagged_stalled kits) told
+    stalls_at told (running todo) t (k ∷ ks) = refl
+    stalls_at told (spawning d x child todo) t [] = by_step_alike (stalled_by program tables memory kits) (unflagged_stalled kits) told
+    stalls_at told (spawning d x child todo) t (k ∷ ks) = refl
+    stalls_at told (returning v) t [] = by_step_alike (stalled_by program tables memory kits) (unflagged_stalled kits) told
+    stalls_at told (returning v) t (k ∷ ks) = refl
+
+  -- ---- push, inline, pop, steal
+
+  pushes_quiet : (kits : ℕ) (q : Piece) (ph : Phase) → unflagged_change (pushed_at program tables memory kits q ph) ≡ pushed_at program tables memory kits (unflagged_piece q) ph
+  pushes_quiet kits q (spawning d x child todo) = refl
+  pushes_quiet kits q (entering child) = refl
+  pushes_quiet kits q (running todo) = refl
+  pushes_quiet kits q (returning v) = refl
+  pushes_quiet kits q (leaving v) = refl
+  pushes_quiet kits q (broken k) = refl
+
+  inlines_quiet : (kits : ℕ) (q : Piece) (ph : Phase) → unflagged_change (inlined_at program tables memory kits q ph) ≡ inlined_at program tables memory kits (unflagged_piece q) ph
+  inlines_quiet kits q (spawning d x child todo) = refl
+  inlines_quiet kits q (entering child) = refl
+  inlines_quiet kits q (running todo) = refl
+  inlines_quiet kits q (returning v) = refl
+  inlines_quiet kits q (leaving v) = refl
+  inlines_quiet kits q (broken k) = refl
+
+  pops_quiet : (kits : ℕ) (q : Piece) (ph : Phase) (t : List Parent) (ks : List Continuation) → unflagged_change (popped_at program tables memory kits q ph t ks) ≡ popped_at program tables memory kits (unflagged_piece q) ph (unflagged_under t) (map unflagged_continuation ks)
+  pops_quiet kits q (leaving v) [] (k ∷ ks) = refl
+  pops_quiet kits q (leaving v) [] [] = refl
+  pops_quiet kits q (leaving v) (r ∷ t) ks = refl
+  pops_quiet kits q (entering child) t ks = refl
+  pops_quiet kits q (running todo) t ks = refl
+  pops_quiet kits q (spawning d x child todo) t ks = refl
+  pops_quiet kits q (returning v) t ks = refl
+  pops_quiet kits q (broken k) t ks = refl
+
+  robs_quiet : (thief kits : ℕ) (q : Piece) (younger older : List Continuation) → unflagged_change (robbed_of program tables memory thief kits q younger older) ≡ robbed_of program tables memory thief kits (unflagged_piece q) (map unflagged_continuation younger) (map unflagged_continuation older)
+  robs_quiet thief kits q younger [] = refl
+  robs_quiet thief kits q younger (k ∷ []) = refl
+  robs_quiet thief kits q younger (k ∷ j ∷ ks) =
+      robs_quiet thief kits q (younger ++ k ∷ []) (j ∷ ks)
+      ∙ ap (λ l. robbed_of program tables memory thief kits (unflagged_piece q) l (map unflagged_continuation (j ∷ ks))) (map_append unflagged_continuation younger (k ∷ []))
+
+  steals_quiet : (thief kits : ℕ) (q : Piece) → unflagged_change (stolen_from program tables memory thief kits q) ≡ stolen_from program tables memory thief kits (unflagged_piece q)
+  steals_quiet thief zero q = refl
+  steals_quiet thief (suc kits) q = robs_quiet thief kits q [] q.deque
+
+  -- ---- fold
+
+  abbrev unflagged_strand : Option LayeredStrand → Option LayeredStrand
+  unflagged_strand None = None
+  unflagged_strand (Some s) = Some (unflagged s)
+
+  abbrev unflagged_one : Option Piece → Option Piece
+  unflagged_one None = None
+  unflagged_one (Some p) = Some (unflagged_piece p)
+
+  none_waits_same : (m : Start) (t : List Parent) → none_waits_under program tables memory m (unflagged_under t) ≡ none_waits_under program tables memory m t
+  none_waits_same m [] = refl
+  none_waits_same m (p ∷ t) = ap (λ b. none_waits program tables memory m p.frame && b) (none_waits_same m t)
+
+  strand_if : (b : Bool) (s : LayeredStrand) → unflagged_strand (cond b (Some s) None) ≡ cond b (Some (unflagged s)) None
+  strand_if true s = refl
+  strand_if false s = refl
+
+  joins_quiet : (l r : LayeredStrand) (v : ℤ)
+      → unflagged_strand (cond (same_name l.frame.instance (place_of_start r.start) && may_join program tables memory l (joined program.tree l v r)) (Some (joined program.tree l v r)) None)
+      ≡ cond (same_name l.frame.instance (place_of_start r.start) && may_join program tables memory (unflagged l) (joined program.tree (unflagged l) v (unflagged r))) (Some (joined program.tree (unflagged l) v (unflagged r))) None
+  joins_quiet l r v =
+      let named = same_name l.frame.instance (place_of_start r.start) in
+      let both = (no_matter program tables (L program tables memory)).joins l r v in
+      let may : may_join program tables memory l (joined program.tree l v r) ≡ may_join program tables memory l (unflagged (joined program.tree l v r)) =
+          ap (λ b. none_waits program tables memory l.start (joined program.tree l v r).frame && b) (sym (none_waits_same l.start (joined program.tree l v r).under)) in
+      strand_if (named && may_join program tables memory l (joined program.tree l v r)) (joined program.tree l v r)
+      ∙ ap (λ b. cond (named && b) (Some (unflagged (joined program.tree l v r))) None) may
+      ∙ ap (λ s. cond (named && may_join program tables memory l s) (Some s) None) both
+
+  pair_quiet : (l r : LayeredStrand) (ph q : Phase) → unflagged_strand (joined_pair program tables memory l ph r q) ≡ joined_pair program tables memory (unflagged l) ph (unflagged r) q
+  pair_quiet l r (broken k) q = refl
+  pair_quiet l r (leaving v) (broken k) = strand_if (same_name l.frame.instance (place_of_start r.start)) _
+  pair_quiet l r (leaving v) (entering child) = joins_quiet l r v
+  pair_quiet l r (leaving v) (running todo) = joins_quiet l r v
+  pair_quiet l r (leaving v) (spawning d x child todo) = joins_quiet l r v
+  pair_quiet l r (leaving v) (returning w) = joins_quiet l r v
+  pair_quiet l r (leaving v) (leaving w) = joins_quiet l r v
+  pair_quiet l r (entering child) q = refl
+  pair_quiet l r (running todo) q = refl
+  pair_quiet l r (spawning d x child todo) q = refl
+  pair_quiet l r (returning w) q = refl
+
+  folded_quiet : (w : ℕ) (l r : Piece) → unflagged_one (folded program tables memory w l r) ≡ folded program tables memory w (unflagged_piece l) (unflagged_piece r)
+  folded_quiet w l r = if_quiet (strands.done l.state && strands.waits r.state) (joined_pair program tables memory l.strand l.strand.phase r.strand r.strand.phase) ∙ ap (λ o. cond (strands.done l.state && strands.waits r.state) (folded_by program tables memory w (unflagged_piece l) (unflagged_piece r) o) None) (pair_quiet l.strand r.strand l.strand.phase r.strand.phase)
+    where
+      by_quiet : (o : Option LayeredStrand) → unflagged_one (folded_by program tables memory w l r o) ≡ folded_by program tables memory w (unflagged_piece l) (unflagged_piece r) (unflagged_strand o)
+      by_quiet None = refl
+      by_quiet (Some s) = refl
+
+      if_quiet : (b : Bool) (o : Option LayeredStrand) → unflagged_one (cond b (folded_by program tables memory w l r o) None) ≡ cond b (folded_by program tables memory w (unflagged_piece l) (unflagged_piece r) (unflagged_strand o)) None
+      if_quiet true o = by_quiet o
+      if_quiet false o = refl
+
+  among_quiet : (w kits : ℕ) (before ps : List Piece) (history : List BookStep) (st : BookStep) (o : Option Piece)
+      → unflagged_after (folded_among program tables memory w kits before ps history st o) ≡ folded_among program tables memory w kits (map unflagged_piece before) (map unflagged_piece ps) history st (unflagged_one o)
+  among_quiet w kits before ps history st None = refl
+  among_quiet w kits before ps history st (Some p) = ap (λ l. Some (record { pieces = l; kits = kits + 1; history = history ++ st ∷ [] })) (map_append unflagged_piece before (p ∷ ps))
+
+  cond_quiet : (b : Bool) (x y x' y' : Option RunState) → unflagged_after x ≡ x' → unflagged_after y ≡ y' → unflagged_after (cond b x y) ≡ cond b x' y'
+  cond_quiet true x y x' y' h k = h
+  cond_quiet false x y x' y' h k = k
+
+  folds_quiet : (w : ℕ) (q : Place) (kits : ℕ) (before ps : List Piece) (history : List BookStep)
+      → unflagged_after (folded_at program tables memory w q kits before ps history) ≡ folded_at program tables memory w q kits (map unflagged_piece before) (map unflagged_piece ps) history
+  folds_quiet w q kits before [] history = refl
+  folds_quiet w q kits before (l ∷ []) history = refl
+  folds_quiet w q kits before (l ∷ r ∷ ps) history =
+      let st = Fold (place_of l) (place_of r) w in
+      cond_quiet (same_name (place_of r) q) (folded_among program tables memory w kits before ps history st (folded program tables memory w l r)) (folded_at program tables memory w q kits (before ++ l ∷ []) (r ∷ ps) history) _ _
+      (among_quiet w kits before ps history st (folded program tables memory w l r)
+      ∙ ap (folded_among program tables memory w kits (map unflagged_piece before) (map unflagged_piece ps) history st) (folded_quiet w l r))
+      (folds_quiet w q kits (before ++ l ∷ []) (r ∷ ps) history
+      ∙ ap (λ b. folded_at program tables memory w q kits b (map unflagged_piece (r ∷ ps)) history) (map_append unflagged_piece before (l ∷ [])))
+
+  -- ---- a step of a run
+
+  lines_alike : (test : TopTest) (ps : List Piece) → map line_of (map (reflagged test) ps) ≡ map line_of ps
+  lines_alike test [] = refl
+  lines_alike test (p ∷ ps) = ap (λ l. line_of p ∷ l) (lines_alike test ps)
+
+  idle_alike : (b' b : Bool) (o' o : Option RunState) → b' ≡ b → unflagged_after o' ≡ unflagged_after o → unflagged_after (if_idle program tables memory b' o') ≡ unflagged_after (if_idle program tables memory b o)
+  idle_alike true true o' o e h = h
+  idle_alike false false o' o e h = refl
+  idle_alike true false o' o e h = absurd cc
+  idle_alike false true o' o e h = absurd cc
+
+  all_of : (P Q : Piece → Type 0) → ((p : Piece) → P p → Q p) → (ps : List Piece) → Every P ps → Every Q ps
+  all_of P Q k [] h = tt
+  all_of P Q k (p ∷ ps) h = (k p h.0, all_of P Q k ps h.1)
+
+  any_of : (Q : Piece → Type 0) → ((p : Piece) → Q p) → (ps : List Piece) → Every Q ps
+  any_of Q k [] = tt
+  any_of Q k (p ∷ ps) = (k p, any_of Q k ps)
+
+  module _ (test : TopTest) where
+    abbrev Same : (Piece → Option Change) → Piece → Type 0
+    Same change p = unflagged_change (change (reflagged test p)) ≡ unflagged_change (change p)
+
+    abbrev again_state : RunState → RunState
+    again_state s = record { pieces = map (reflagged test) s.pieces; kits = s.kits; history = s.history }
+
+    quiet_step : (w : ℕ) (change : Piece → Option Change) → ((q : Piece) → unflagged_change (change q) ≡ change (unflagged_piece q)) → (s : RunState) → unflagged_after (changed w change [] (map (reflagged test) s.pieces) s.history) ≡ unflagged_after (changed w change [] s.pieces s.history)
+    quiet_step w change h s = changed_alike test w change [] [] s.pieces s.history refl (any_of (Same change) (λ p. quiet_alike test s.kits p change h) s.pieces)
+
+    after_alike : (s : RunState) (e : RunStep) → Every (IsTold test) s.pieces → unflagged_after (after_step program tables memory (again_state s) e) ≡ unflagged_after (after_step program tables memory s e)
+    after_alike s (work w) h = changed_alike test w (worked program tables memory s.kits) [] [] s.pieces s.history refl (all_of (IsTold test) (Same (worked program tables memory s.kits)) (works_alike test s.kits) s.pieces h)
+    after_alike s (push w) h = quiet_step w (pushed program tables memory s.kits) (λ q. pushes_quiet s.kits q q.strand.phase) s
+    after_alike s (inline w) h = quiet_step w (inlined_of program tables memory s.kits) (λ q. inlines_quiet s.kits q q.strand.phase) s
+    after_alike s (pop w) h = quiet_step w (popped program tables memory s.kits) (λ q. pops_quiet s.kits q q.strand.phase q.strand.under q.deque) s
+    after_alike s (stall w) h =
+        changed_alike test w (stalled program tables memory s.kits) [] [] s.pieces s.history refl (all_of (IsTold test) (Same (stalled program tables memory s.kits)) (λ p told. stalls_at test s.kits p told p.strand.phase p.strand.under p.deque) s.pieces h)
+    after_alike s (steal y v) h =
+        idle_alike (is_idle y (map (reflagged test) s.pieces)) (is_idle y s.pieces) _ _ (ap (λ l. strands.is_free l y) (lines_alike test s.pieces)) (quiet_step v (stolen_from program tables memory y s.kits) (steals_quiet y s.kits) s)
+    after_alike s (fold w q) h =
+        idle_alike (is_idle w (map (reflagged test) s.pieces)) (is_idle w s.pieces) _ _ (ap (λ l. strands.is_free l w) (lines_alike test s.pieces))
+        (folds_quiet w q s.kits [] (map (reflagged test) s.pieces) s.history
+        ∙ ap (λ ps. folded_at program tables memory w q s.kits [] ps s.history) (all_again test s.pieces)
+        ∙ sym (folds_quiet w q s.kits [] s.pieces s.history))
+
+    pub step_same : (s : RunState) (e : RunStep) → Every (IsTold test) s.pieces → step_by program tables memory test (unflagged_run s) e ≡ unflagged_after (after_step program tables memory s e)
+    step_same s e h =
+        ap (λ ps. unflagged_after (after_step program tables memory (record { pieces = ps; kits = s.kits; history = s.history }) e)) (both_maps test s.pieces)
+        ∙ after_alike s e h
+
+    -- ---- whole runs
+
+    or_same_quiet : (s : RunState) (o : Option RunState) → or_same program tables memory (unflagged_run s) (unflagged_after o) ≡ unflagged_run (or_same program tables memory s o)
+    or_same_quiet s None = refl
+    or_same_quiet s (Some t) = refl
+
+    path_append : (s : RunState) (a b : List RunStep) → path program tables memory s (a ++ b) ≡ path program tables memory (path program tables memory s a) b
+    path_append s [] b = refl
+    path_append s (e ∷ a) b = path_append (or_same program tables memory s (after_step program tables memory s e)) a b
+
+    module _ (kits : ℕ) (told : (es : List RunStep) → Every (IsTold test) (path program tables memory (first_state program.tree kits) es).pieces) where
+      abbrev reached : List RunStep → RunState
+      reached es = path program tables memory (first_state program.tree kits) es
+
+      path_from : (es : List RunStep) (s : RunState) (done : List RunStep) → s ≡ reached done → path_by program tables memory test (unflagged_run s) es ≡ unflagged_run (path program tables memory s es)
+      path_from [] s done q = refl
+      path_from (e ∷ es) s done q =
+          let o = after_step program tables memory s e in
+          let t = or_same program tables memory s o in
+          let next : t ≡ reached (done ++ e ∷ []) = ap (λ x. or_same program tables memory x (after_step program tables memory x e)) q ∙ sym (path_append (first_state program.tree kits) done (e ∷ [])) in
+          let here : Every (IsTold test) s.pieces = subst (λ x. Every (IsTold test) x.pieces) (sym q) (told done) in
+          let one : or_same program tables memory (unflagged_run s) (step_by program tables memory test (unflagged_run s) e) ≡ unflagged_run t = ap (or_same program tables memory (unflagged_run s)) (step_same s e here) ∙ or_same_quiet s o in
+          ap (λ x. path_by program tables memory test x es) one ∙ path_from es t (done ++ e ∷ []) next
+
+      path_same : (es : List RunStep) → path_by program tables memory test (first_state program.tree kits) es ≡ unflagged_run (reached es)
+      path_same es = path_from es (first_state program.tree kits) [] refl
+
+    same_answer : (ps : List Piece) → answer_of_pieces (map unflagged_piece ps) ≡ answer_of_pieces ps
+    same_answer [] = refl
+    same_answer (p ∷ []) = refl
+    same_answer (p ∷ q ∷ ps) = refl
+
+    pub runs_by : ((kits : ℕ) (es : List RunStep) → Every (IsTold test) (path program tables memory (first_state program.tree kits) es).pieces) → RunsBy program tables memory test
+    runs_by told =
+        record {
+          steps = λ kits es e. step_same (path program tables memory (first_state program.tree kits) es) e (told kits es);
+          paths = λ kits es. path_same kits (told kits) es;
+          ends = λ kits es. ap end_of (path_same kits (told kits) es) ∙ same_answer (path program tables memory (first_state program.tree kits) es).pieces;
+        }

@@ -1,3 +1,0 @@
-pub mod Courses
-pub mod Advances
-pub mod Steps
