@@ -1,5 +1,5 @@
 //! The type of a checked program.
-ghost use Rattle.std.specs.Prelude.{◌≡◌, ◌+◌, ◌<◌, ◌^◌, [], map, All, option_copied, is_some, IfSome, OnSome};
+ghost use Rattle.std.specs.Prelude.{◌≡◌, ◌+◌, ◌<◌, ◌^◌, [], map, All, option_copied, option_map, slice_get, is_some, IfSome, OnSome};
 ghost use Rattle.meaning.specs.Edits.{revision_of};
 ghost use Rattle.meaning.specs.Statements.{procedure_of};
 ghost use Rattle.meaning.specs.Tables.{is_there};
@@ -148,6 +148,16 @@ impl Checked {
         ensures revision { IfSome result (λ n. n ≡ revision_of self.now.revisions name.now) }
     {
         self.revisions.get(name).copied()
+    }
+
+    /// The revision number of the procedure of a number; none where there is no such procedure.
+    pub fn revision_at(&self, procedure: usize) -> Option<u64>
+        ensures revision { result ≡ option_map (λ e. e.1) (slice_get self.now.revisions procedure) }
+    {
+        match self.revisions.get_index(procedure) {
+            Some((_, revision)) => Some(*revision),
+            None => None,
+        }
     }
 
     /// The least revision number that was never used.
