@@ -1,5 +1,5 @@
 -- A checked program as a plain value.
-use Rattle.std.specs.Prelude.{◌≡◌, ℕ, ◌<◌, cond, List, [], ◌∷◌, Option, Some, None, map, All, slice_get, string_bytes}
+use Rattle.std.specs.Prelude.{◌≡◌, ℕ, ◌<◌, cond, List, [], ◌∷◌, Option, Some, None, map, All, string_bytes}
 use Rattle.std.specs.Global.{Global}
 use Rattle.std.specs.Str.{bytes_eq}
 use Rattle.std.specs.declared.string.String.{String}
@@ -43,14 +43,6 @@ names_in numbers = map (λ e. e.0) numbers
 abbrev pub number_in : List (Name × ℕ) → Name → Option ℕ
 number_in [] f = None
 number_in (e ∷ rest) f = cond (bytes_eq f e.0) (Some e.1) (number_in rest f)
-
-abbrev pub revision_in : Option (Name × ℕ) → ℕ
-revision_in None = 0
-revision_in (Some e) = e.1
-
--- the revision number of the procedure of a number; 0 where there is no such procedure
-abbrev pub revision_at : List (Name × ℕ) → ℕ → ℕ
-revision_at revisions p = revision_in (slice_get revisions p)
 
 -- ---- checked programs
 

@@ -1,5 +1,5 @@
 //! The type of a checked program.
-ghost use Rattle.std.specs.Prelude.{◌≡◌, ◌+◌, ◌<◌, ◌^◌, [], map, All, option_copied, is_some, IfSome, OnSome};
+ghost use Rattle.std.specs.Prelude.{◌≡◌, ◌+◌, ◌<◌, ◌^◌, [], map, All, option_copied, option_map, slice_get, is_some, IfSome, OnSome};
 ghost use Rattle.meaning.specs.Edits.{revision_of};
 ghost use Rattle.meaning.specs.Statements.{procedure_of};
 ghost use Rattle.meaning.specs.Tables.{is_there};
@@ -9,7 +9,7 @@ ghost use Rattle.linked_program.specs.Declarations.{violations};
 ghost use Rattle.linked_program.specs.Procedures.{procedures};
 ghost use Rattle.linked_program.specs.Linked.{kinds_of, main_number, procedure_number};
 ghost use Rattle.linked_program.specs.CodeView.{AreCodesOf, memo_of, slots_of, instruction_at};
-ghost use Rattle.linked_program.specs.Checked.{IsChecked, numbers_in, names_in, number_in, revision_at};
+ghost use Rattle.linked_program.specs.Checked.{IsChecked, numbers_in, names_in, number_in};
 
 use crate::code::{Code, Instruction};
 use crate::tables::TableNames;
@@ -160,13 +160,13 @@ impl Checked {
         self.revisions.get(name).copied()
     }
 
-    /// The revision number of the procedure of a number; 0 where there is no such procedure.
-    pub fn revision_at(&self, procedure: usize) -> u64
-        ensures revision { result ≡ revision_at self.now.revisions procedure }
+    /// The revision number of the procedure of a number; none where there is no such procedure.
+    pub fn revision_at(&self, procedure: usize) -> Option<u64>
+        ensures revision { result ≡ option_map (λ e. e.1) (slice_get self.now.revisions procedure) }
     {
         match self.revisions.get_index(procedure) {
-            None => 0,
-            Some((_, revision)) => *revision,
+            Some((_, revision)) => Some(*revision),
+            None => None,
         }
     }
 

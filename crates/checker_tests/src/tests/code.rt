@@ -87,5 +87,5 @@ proc main() { return 5; }";
     let program = checked(&rt, rt.alloc(), text);
     assert_eq!(rt; (program.is_memo(0), program.is_memo(1), program.is_memo(2)), (true, false, false));
     let revisions = (program.revision_at(0), program.revision_at(1), program.revision_at(2));
-    assert_eq!(rt; revisions, (0, 1, 0));
+    assert_eq!(rt; revisions, (Some(0), Some(1), None));
 }

@@ -1,0 +1,4 @@
+pub mod Record
+pub mod Validity
+pub mod Commits
+pub mod Named

@@ -1,0 +1,31 @@
+-- Records as plain values: everything in them goes by number.
+use Rattle.std.specs.Prelude.{ℕ, nat_eq, ℤ, Bool, ◌&&◌, List}
+use Rattle.std.specs.Cmp.Lexicographic.{pointwise}
+use Rattle.std.specs.Ordering.{int_eq}
+use Rattle.monoid_laws.specs.Worth.{Worth}
+use Rattle.monoid_laws.specs.declared.Val.{Val}
+use Rattle.monoid_laws.specs.Kinds.{meaning}
+use Rattle.evaluation.specs.declared.note.Note.{Note}
+
+-- of a memo instance that is over: its procedure and arguments, its value, what it made of each reducer that it touched, what it read,
+-- the procedures entered with their revision numbers, and how many instances were nested in it at most, itself counted
+pub record PlainRecord : Type 0 where
+  pub procedure : ℕ
+  pub arguments : List ℤ
+  pub value : ℤ
+  pub contribution : List (ℕ × Worth)
+  pub reads : List Note
+  pub entered : List (ℕ × ℕ)
+  pub height : ℕ
+
+-- a reducer's number and its value
+abbrev pub touched : ℕ × Val → ℕ × Worth
+touched e = (e.0, meaning e.1)
+
+-- the record is that of a procedure and arguments
+abbrev pub is_of : ℕ → List ℤ → PlainRecord → Bool
+is_of procedure arguments r = nat_eq procedure r.procedure && pointwise int_eq arguments r.arguments
+
+-- two records are of one procedure with the same arguments
+abbrev pub same_instance : PlainRecord → PlainRecord → Bool
+same_instance r s = is_of r.procedure r.arguments s

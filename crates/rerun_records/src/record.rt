@@ -1,0 +1,204 @@
+//! The record of a memo instance that is over.
+ghost use Rattle.std.specs.Prelude.{◌≡◌, ◌+◌, suc, map, nat_eq, nat_le, ◌++◌};
+ghost use Rattle.std.specs.Cmp.Lexicographic.{pointwise};
+ghost use Rattle.std.specs.Cmp.Rules.{comparing, hashing};
+ghost use Rattle.std.specs.Hash as fed;
+ghost use Rattle.std.specs.Ordering.{on, eq_of_both, int_eq};
+ghost use Rattle.std.proofs.Common.{rules};
+ghost use Rattle.meaning.specs.Elision.{depth_limit};
+ghost use Rattle.meaning.specs.Every.{every};
+ghost use Rattle.rerun_records.specs.Record.{touched, same_instance};
+ghost use Rattle.rerun_records.specs.Validity.{note_agrees, has_revision, record_holds, record_valid};
+
+use evaluation::note::Note;
+use input_tables::Tables;
+use linked_program::checked::Checked;
+use monoid_laws::Val;
+use std::hash::{Hash, Hasher};
+use std::marker::Model;
+
+/// How many instances may be nested, as the language has it.
+const DEPTH_LIMIT: u64 = 64;
+
+/// What a memo instance came to, and what that rests on. Records are equal where they are of one procedure with the same
+/// arguments, whatever else they hold.
+#[derive(Drop)]
+pub struct Record {
+    procedure: usize,
+    arguments: Vec<i64>,
+    value: i64,
+    contribution: Vec<(usize, Val)>,
+    reads: Vec<Note>,
+    entered: Vec<(usize, u64)>,
+    height: u32,
+}
+
+impl Model for Record {
+    ghost use Rattle.std.specs.Prelude.{map};
+    ghost use Rattle.rerun_records.specs.Record.{PlainRecord, touched};
+
+    ghost Value = { PlainRecord };
+
+    ghost view = { λ r. record { procedure = r.procedure; arguments = r.arguments.items; value = r.value; contribution = map touched r.contribution.items; reads = r.reads.items; entered = r.entered.items; height = r.height } };
+}
+
+impl Record {
+    /// The record of an instance of that procedure with these arguments: its value, the value that it gave to each reducer that it
+    /// touched, each reading once, each procedure entered once with its revision number, and how many instances were nested in
+    /// it at most, itself counted. Reducers and procedures go by their numbers.
+    pub fn new(
+        procedure: usize,
+        arguments: Vec<i64>,
+        value: i64,
+        contribution: Vec<(usize, Val)>,
+        reads: Vec<Note>,
+        entered: Vec<(usize, u64)>,
+        height: u32,
+    ) -> Record
+        ensures made { result ≡ record { procedure = procedure; arguments = arguments.items; value = value; contribution = map touched contribution.items; reads = reads.items; entered = entered.items; height = height } }
+    {
+        Record {
+            procedure,
+            arguments,
+            value,
+            contribution,
+            reads,
+            entered,
+            height,
+        }
+    }
+
+    /// The number of the procedure.
+    pub fn procedure(&self) -> usize
+        ensures procedure { result ≡ self.now.procedure }
+    {
+        self.procedure
+    }
+
+    /// Lends the arguments.
+    pub fn arguments(&self) -> &[i64]
+        ensures arguments { result.now ≡ self.now.arguments }
+    {
+        &self.arguments
+    }
+
+    /// The instance's value.
+    pub fn value(&self) -> i64
+        ensures value { result ≡ self.now.value }
+    {
+        self.value
+    }
+
+    /// Lends the values that the instance gave to the reducers that it touched, each with the reducer's number.
+    pub fn contribution(&self) -> &[(usize, Val)]
+        ensures contribution { map touched result.now ≡ self.now.contribution }
+    {
+        &self.contribution
+    }
+
+    /// Lends what was read, with what it held.
+    pub fn reads(&self) -> &[Note]
+        ensures reads { result.now ≡ self.now.reads }
+    {
+        &self.reads
+    }
+
+    /// Lends the numbers of the procedures entered, each with its revision number.
+    pub fn entered(&self) -> &[(usize, u64)]
+        ensures entered { result.now ≡ self.now.entered }
+    {
+        &self.entered
+    }
+
+    /// How many instances were nested at most, this one counted.
+    pub fn height(&self) -> u32
+        ensures height { result ≡ self.now.height }
+    {
+        self.height
+    }
+
+    /// Whether the tables hold what was read, and the procedures entered are as they were.
+    pub fn holds_now(&self, tables: &Tables, program: &Checked) -> bool
+        ensures holds { result ≡ record_holds program.now.revisions tables.now.tables self.now }
+    {
+        reads_agree(&self.reads, tables) && are_current(&self.entered, program)
+    }
+
+    /// Whether the record holds now, and an instance at that depth with as many nested in it stays within the limit.
+    pub fn is_valid(&self, depth: u32, tables: &Tables, program: &Checked) -> bool
+        ensures valid { result ≡ record_valid program.now.revisions tables.now.tables depth self.now }
+    {
+        self.holds_now(tables, program) && fits(depth, self.height)
+    }
+}
+
+// Whether so many nested instances from that depth on stay within the limit.
+fn fits(depth: u32, height: u32) -> bool
+    ensures fits { result ≡ nat_le (depth + height) (suc depth_limit) }
+{
+    u64::from(depth) + u64::from(height) <= DEPTH_LIMIT + 1
+}
+
+// Whether the tables hold what was read.
+fn reads_agree(reads: &[Note], tables: &Tables) -> bool
+    ensures agree { result ≡ every (note_agrees tables.now.tables) reads.now }
+{
+    for note in reads {
+        if !agrees(note, tables) {
+            return false;
+        }
+    }
+    true
+}
+
+fn agrees(note: &Note, tables: &Tables) -> bool
+    ensures agrees { result ≡ note_agrees tables.now.tables note.now }
+{
+    match note {
+        Note::Cell {
+            table,
+            row,
+            column,
+            value,
+        } => tables.cell(*table, *row, *column) == Some(*value),
+        Note::Has { table, row, found } => tables.has(*table, *row) == *found,
+        Note::Limit { table, value } => tables.limit(*table) == *value,
+    }
+}
+
+// Whether these procedures have these revision numbers.
+fn are_current(entered: &[(usize, u64)], program: &Checked) -> bool
+    ensures current { result ≡ every (has_revision program.now.revisions) entered.now }
+{
+    for (procedure, revision) in entered {
+        if program.revision_at(*procedure) != Some(*revision) {
+            return false;
+        }
+    }
+    true
+}
+
+impl PartialEq for Record {
+    ghost eq = { eq_of_both (on (λ r. r.procedure) nat_eq) (on (λ r. r.arguments) (pointwise int_eq)) };
+
+    ghost laws = { Prim.search (comparing, rules) };
+
+    fn eq(&self, other: &Record) -> bool {
+        self.procedure == other.procedure && self.arguments == other.arguments
+    }
+}
+
+impl Eq for Record {
+    ghost laws = { Prim.search (comparing, rules) };
+}
+
+impl Hash for Record {
+    ghost hash_input = { λ r. fed.usize r.procedure ++ fed.slice fed.i64 r.arguments };
+
+    ghost respects_eq = { Prim.search (hashing, rules) };
+
+    fn hash<H: Hasher>(&self, state: &mut H) {
+        state.write_usize(self.procedure);
+        self.arguments.hash(state);
+    }
+}
