@@ -1,4 +1,4 @@
-use Rattle.std.proofs.Common.{◌≡◌, map, length, string_bytes}
+use Rattle.std.proofs.Common.{◌≡◌, map, length, string_bytes, refl}
 use Rattle.program_tree.specs.View.{decl}
 use Rattle.linked_program.specs.TableNames.{columned}
 use Rattle.linked_program.proofs.Pushes.{as_many, blocks_linked, length_of_map}
