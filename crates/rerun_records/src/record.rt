@@ -170,12 +170,21 @@ fn agrees(note: &Note, tables: &Tables) -> bool
 fn are_current(entered: &[(usize, u64)], program: &Checked) -> bool
     ensures current { result ≡ every (has_revision program.now.revisions) entered.now }
 {
-    for (procedure, revision) in entered {
-        if program.revision_at(*procedure) != Some(*revision) {
+    for entry in entered {
+        if !is_current(entry.0, entry.1, program) {
             return false;
         }
     }
     true
+}
+
+fn is_current(procedure: usize, revision: u64, program: &Checked) -> bool
+    ensures current { result ≡ has_revision program.now.revisions (procedure, revision) }
+{
+    match program.revision_at(procedure) {
+        Some(now) => now == revision,
+        None => false,
+    }
 }
 
 impl PartialEq for Record {

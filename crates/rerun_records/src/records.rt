@@ -151,7 +151,9 @@ impl Records {
 // Puts records in, for which there is room.
 fn put_all(by_instance: &mut IndexSet<Record>, records: Vec<Record>)
     requires room { length records.items ≤ spare by_instance.old }
+    requires single { AreSingle by_instance.old.keys }
     ensures put { by_instance.new.keys ≡ put_records by_instance.old.keys records.items }
+    ensures single { AreSingle by_instance.new.keys }
 {
     for record in records {
         let _ = by_instance.replace(record).unwrap();

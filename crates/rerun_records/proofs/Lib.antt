@@ -1,0 +1,4 @@
+pub mod Puts
+pub mod Members
+pub mod Numbers
+pub mod Lookups

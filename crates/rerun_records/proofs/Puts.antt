@@ -1,0 +1,36 @@
+-- A record that takes the place of another in a set.
+use Rattle.std.proofs.Common.{◌≡◌, true≢false, ℕ, suc, ◌+◌, ◌≤◌, ◌<◌, Bool, true, false, cond, ◌||◌, List, [], ◌∷◌, ◌++◌, length, if◌then◌else◌, refl, sym, ap, ◌∙◌, arith}
+use Rattle.std.specs.Prelude.{Result, Ok, Err, IsOk, OnOk}
+use Rattle.std.specs.List.{list_any}
+use Rattle.indexmap.specs.IndexSet.{replace_key, swap_key}
+use Rattle.rerun_records.specs.Record.{PlainRecord, same_instance}
+use Rattle.rerun_records.specs.Commits.{put_record, put_records}
+
+behind_both : {A : Type 0} (b : Bool) (x : A) (xs ys : List A) → (if b then x ∷ xs else x ∷ ys) ≡ x ∷ (if b then xs else ys)
+behind_both true x xs ys = refl
+behind_both false x xs ys = refl
+
+pub replaced_is_put : (rs : List PlainRecord) (r : PlainRecord) → replace_key same_instance rs r ≡ put_record rs r
+replaced_is_put [] r = refl
+replaced_is_put (s ∷ ss) r =
+    elim (same_instance r s) as (λ b. (if b || list_any (same_instance r) ss then cond b (r ∷ ss) (s ∷ swap_key (same_instance r) ss r) else s ∷ (ss ++ r ∷ [])) ≡ cond b (r ∷ ss) (s ∷ put_record ss r)) [
+      | true ↦ refl
+      | false ↦ behind_both (list_any (same_instance r) ss) s (swap_key (same_instance r) ss r) (ss ++ r ∷ []) ∙ ap (λ xs. s ∷ xs) (replaced_is_put ss r)
+    ]
+
+-- what holds of an answer without an error
+pub where_ok : {A E P : Type 0} (answer : Result A E) → IsOk answer → OnOk answer P → P
+where_ok (Ok a) i h = h
+where_ok (Err e) i h = absurd (true≢false (sym i))
+
+-- one more record was put in
+pub still_put : (before now rest all whole : List PlainRecord) (r : PlainRecord)
+    → put_records before all ≡ whole → all ≡ r ∷ rest → now ≡ replace_key same_instance before r → put_records now rest ≡ whole
+still_put before now rest all whole r e s n =
+    ap (λ rs. put_records rs rest) (n ∙ replaced_is_put before r) ∙ ap (put_records before) (sym s) ∙ e
+
+pub room_before : (rest all : List PlainRecord) (r : PlainRecord) (spare : ℕ) → length all ≤ spare → all ≡ r ∷ rest → 0 < spare
+room_before rest all r spare l s = let e : length all ≡ suc (length rest) = ap length s in omega (arith, l, e)
+
+pub room_after : (rest all : List PlainRecord) (r : PlainRecord) (spare less : ℕ) → length all ≤ spare → all ≡ r ∷ rest → spare ≤ less + 1 → length rest ≤ less
+room_after rest all r spare less l s m = let e : length all ≡ suc (length rest) = ap length s in omega (arith, l, e, m)
