@@ -1,18 +1,17 @@
 -- After any steps, what an instance's flag says is what the top layer's name says.
-use Rattle.std.proofs.Common.{◌++◌, ℕ, List, [], ◌∷◌, append_assoc, ◌≡◌, inl, inr, refl, sym, ap, ◌∙◌, subst, true, false, Bool}
+use Rattle.std.proofs.Common.{◌++◌, ℕ, List, [], ◌∷◌, ◌≡◌, inl, inr, refl, sym, ap, ◌∙◌, subst, true, false, Bool}
 use Rattle.meaning.specs.Tables.{Tables}
 use Rattle.meaning.specs.Outcome.{Fault, Place}
 use Rattle.meaning.specs.Records.{Revised}
 use Rattle.meaning.specs.Trail.{child_of}
-use Rattle.meaning.specs.SmallStep.{Start, root, behind, is_entry, Frame, Phase, entering, running, spawning, returning, leaving, broken, Parent, Continuation, place_of_continuation}
+use Rattle.meaning.specs.SmallStep.{Start, root, behind, is_entry, Frame, broken, Parent, Continuation}
 use Rattle.meaning.specs.RestOfRun.{lowest}
-use Rattle.meaning.specs.Tallies.{Opened}
 use Rattle.meaning.specs.Schedules.{Memory, Piece, RunStep, place_of_start, first_state, path}
 use Rattle.trail_theory.specs.Order.{Every}
 use Rattle.trail_theory.specs.TaskFits.{Stacked}
 use Rattle.trail_theory.specs.OpenLayers.{recorded_by, recorded_under, IsNumbered}
 use Rattle.trail_theory.specs.OwedLayers.{parents_behind, IsOver, Precede}
-use Rattle.trail_theory.specs.OwnLayers.{TopTest, is_top, is_top_by_length, IsAround, strand_by, by_name}
+use Rattle.trail_theory.specs.OwnLayers.{TopTest, is_top, is_top_by_length, IsAround, strand_by}
 use Rattle.trail_theory.proofs.OwnLayers.{around_over, around_parent, around_through}
 use Rattle.trail_theory.proofs.OwnTheorems.{flags_names}
 use Rattle.run_theory.specs.RightRuns.{front, Begins, Links}

@@ -39,3 +39,4 @@ pub mod UnflaggedSteps
 pub mod UnflaggedRuns
 pub mod FlagsTold
 mod Samples
+mod UnflaggedSamples
