@@ -1,74 +1,24 @@
 -- After any steps, what an instance's flag says is what the top layer's name says.
-use Rattle.std.proofs.Common.{◌++◌, ℕ, List, [], ◌∷◌, append_assoc, ◌≡◌, inl, inr, refl, sym, ap, ◌∙◌, subst, true, false, Bool}
+use Rattle.std.proofs.Common.{ℕ, List, [], ◌∷◌, ◌≡◌, inl, inr, refl, sym, ap, ◌∙◌, subst, true, false, Bool}
 use Rattle.meaning.specs.Tables.{Tables}
 use Rattle.meaning.specs.Outcome.{Fault, Place}
 use Rattle.meaning.specs.Records.{Revised}
-use Rattle.meaning.specs.Trail.{child_of}
-use Rattle.meaning.specs.SmallStep.{Start, root, behind, is_entry, Frame, Phase, entering, running, spawning, returning, leaving, broken, Parent, Continuation, place_of_continuation}
-use Rattle.meaning.specs.RestOfRun.{lowest}
-use Rattle.meaning.specs.Tallies.{Opened}
-use Rattle.meaning.specs.Schedules.{Memory, Piece, RunStep, place_of_start, first_state, path}
+use Rattle.meaning.specs.SmallStep.{is_entry, broken}
+use Rattle.meaning.specs.Schedules.{Memory, Piece, RunStep, first_state, path}
 use Rattle.trail_theory.specs.Order.{Every}
-use Rattle.trail_theory.specs.TaskFits.{Stacked}
-use Rattle.trail_theory.specs.OpenLayers.{recorded_by, recorded_under, IsNumbered}
-use Rattle.trail_theory.specs.OwedLayers.{parents_behind, IsOver, Precede}
-use Rattle.trail_theory.specs.OwnLayers.{TopTest, is_top, is_top_by_length, IsAround, strand_by, by_name}
-use Rattle.trail_theory.proofs.OwnLayers.{around_over, around_parent, around_through}
+use Rattle.trail_theory.specs.OpenLayers.{IsNumbered}
+use Rattle.trail_theory.specs.OwnLayers.{TopTest, is_top, is_top_by_length, strand_by}
 use Rattle.trail_theory.proofs.OwnTheorems.{flags_names}
-use Rattle.run_theory.specs.RightRuns.{front, Begins, Links}
+use Rattle.run_theory.specs.RightRuns.{front}
 use Rattle.run_theory.specs.Theorems.{IsReady}
 use Rattle.run_theory.specs.UnflaggedRuns.{IsToldByName, FlagsAreTold, RunsBy}
 use Rattle.run_theory.proofs.Telling.{broken_or}
-use Rattle.run_theory.proofs.Steps.{L, FitPiece, FitAll, Pushed}
+use Rattle.run_theory.proofs.Steps.{L, FitPiece, FitAll}
 use Rattle.run_theory.proofs.Paths.{paths_right}
-use Rattle.run_theory.proofs.News.{PieceTallied, TallyFit, now_of, whole_of, paths_tallied}
+use Rattle.run_theory.proofs.News.{PieceTallied, TallyFit, now_of, around_of, paths_tallied}
 use Rattle.run_theory.proofs.UnflaggedRuns.{IsTold, runs_by}
 
--- ---- instances around the topmost one
-
-all_further : (n q : Place) (names : List Place) → IsAround n q → Every (IsAround q) names → Every (IsAround n) names
-all_further n q [] h k = tt
-all_further n q (o ∷ names) h k = (around_through n q o h (around_over q o k.0), all_further n q names h k.1)
-
-with_flag : (n q : Place) (b : Bool) (names right : List Place) → IsAround n q → Every (IsAround n) (names ++ right) → Every (IsAround n) (recorded_by b q names ++ right)
-with_flag n q true names right h k = (h, k)
-with_flag n q false names right h k = k
-
--- those that wait below it on the stack, and what is behind them
-stack_around : (fr : Frame) (t later : List Parent) (right : List Place) → Stacked fr.instance t → Every (IsAround (lowest fr t)) (recorded_under later ++ right) → Every (IsAround fr.instance) (recorded_under (t ++ later) ++ right)
-stack_around fr [] later right st h = h
-stack_around fr (p ∷ t) later right st h =
-    let q = p.frame.instance in
-    let near = around_parent fr.instance q st.0.number st.0.is in
-    with_flag fr.instance q p.frame.recorded (recorded_under (t ++ later)) right near (all_further fr.instance q (recorded_under (t ++ later) ++ right) near (stack_around p.frame t later right st.1 h))
-
--- those of the deque, and what is owed to the right
-deque_around : (n e : Place) (ks : List Continuation) (right : List Place) → Links n ks e → Every (λ k. Stacked k.parent.frame.instance k.under) ks → Every (IsAround e) right → Every (IsAround n) (recorded_under (parents_behind ks) ++ right)
-deque_around n e [] right l st h = subst (λ m. Every (IsAround m) right) (sym l) h
-deque_around n e (k ∷ ks) right l st h =
-    let fr = k.parent.frame in
-    let near = around_parent n fr.instance k.child l.0 in
-    let later = parents_behind ks in
-    with_flag n fr.instance fr.recorded (recorded_under (k.under ++ later)) right near
-    (all_further n fr.instance (recorded_under (k.under ++ later) ++ right) near (stack_around fr k.under later right st.0 (deque_around (lowest fr k.under) e ks right l.1 st.1 h)))
-
-child_around : (m : Place) (k : ℕ) (names : List Place) → Every (IsOver m) names → Every (IsAround (child_of m k)) names
-child_around m k [] h = tt
-child_around m k (o ∷ names) h = (around_through (child_of m k) m o (around_parent (child_of m k) m k refl) h.0, child_around m k names h.1)
-
-start_around : (m : Start) (names : List Place) → Begins false m → Precede m names → Every (IsAround (place_of_start m)) names
-start_around root names b h = absurd b
-start_around (behind m k) names b h = child_around m k names h
-
 module _ (program : Revised) (tables : Tables) (memory : Memory) where
-  owed_around : (ps : List Piece) (right : List Place) (later : List Bool) → FitAll program tables memory false ps later → TallyFit program tables memory right ps → Every (IsAround (front ps)) right
-  owed_around [] right later f h = subst (Every (IsAround [])) (sym h) tt
-  owed_around (q ∷ ps) right later f h = start_around q.strand.start right f.1.begins h.1.owes.precede
-
-  pushed_stacked : (m : Start) (ks : List Continuation) → Pushed program tables memory m ks → Every (λ k. Stacked k.parent.frame.instance k.under) ks
-  pushed_stacked m [] h = tt
-  pushed_stacked m (k ∷ ks) h = (h.0.1.stacked, pushed_stacked m ks h.1)
-
   -- ---- one piece
 
   -- by its name, and by the length of its name
@@ -88,10 +38,8 @@ module _ (program : Revised) (tables : Tables) (memory : Memory) where
         | inr good ↦
             let s = p.strand in
             let names = flags_names program tables (L program tables memory) in
-            let w = whole_of program tables memory first found later p (front ps) i good in
             let t = now_of program tables memory left right p good h in
-            let behind_it = deque_around (lowest s.frame s.under) (front ps) p.deque right w.links (pushed_stacked s.start p.deque i.deque) (owed_around ps right later f g) in
-            let around = stack_around s.frame s.under (parents_behind p.deque) right w.right.task.stacked behind_it in
+            let around = around_of program tables memory first found later right p ps i f g good in
             let named : IsToldByName p = λ e. names.same s p.tally t e (names.knows s p.deque p.tally left right h.owes around) in
             record { named = named; long = λ e. names.lengths s p.deque p.tally left right h.owes around ∙ named e }
       ]

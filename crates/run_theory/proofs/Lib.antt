@@ -30,6 +30,7 @@ pub mod Blame
 pub mod MainLeft
 pub mod Anchored
 pub mod Remains
+pub mod Around
 pub mod News
 pub mod EndCounts
 pub mod LaidDown
@@ -39,3 +40,4 @@ pub mod UnflaggedSteps
 pub mod UnflaggedRuns
 pub mod FlagsTold
 mod Samples
+mod UnflaggedSamples

@@ -14,16 +14,21 @@ use Rattle.meaning.specs.Tallies.{Tally, tallied}
 use Rattle.meaning.specs.Schedules.{Memory, Piece, RunState, RunStep, Change, work, push, inline, pop, stall, steal, fold, first_state, place_of, place_of_start, is_held_by, is_idle, among, changed, step_of, worked_by, worked, pushed_at, pushed, inlined_at, inlined_of, popped_at, popped, robbed_of, stolen_from, left_by, stalled_by, stalled_at, stalled, may_join, broken_pair, joined_pair, folded_by, folded, folded_among, folded_at, after_step, or_same, path}
 use Rattle.trail_theory.specs.Order.{Every}
 use Rattle.trail_theory.specs.Right.{IsOneLayer}
-use Rattle.trail_theory.specs.OpenLayers.{IsShallowContinuation, IsNewRecord, IsNumbered}
-use Rattle.trail_theory.specs.OwedLayers.{recorded_of, Unbroken, IsOver, Precede, OwesLayers}
+use Rattle.trail_theory.specs.TaskFits.{Stacked}
+use Rattle.trail_theory.specs.OpenLayers.{recorded_under, IsShallowContinuation, IsNewRecord, IsNumbered}
+use Rattle.trail_theory.specs.OwedLayers.{parents_behind, recorded_of, Unbroken, IsOver, Precede, OwesLayers}
 use Rattle.trail_theory.specs.TalliedTheorems.{IsTalliedNow, TalliedStays, LayersStayOwed}
 use Rattle.trail_theory.proofs.Places.{every_append}
 use Rattle.trail_theory.specs.AddingUp.{AddsUp}
 use Rattle.trail_theory.proofs.AddingUp.{add_up}
-use Rattle.trail_theory.proofs.TalliedTheorems.{tallied_stay, layers_stay, closes_own_layer, entry_has_one}
+use Rattle.trail_theory.specs.OwnLayers.{IsAround, OwnsNow, LayersStayOwn}
+use Rattle.trail_theory.proofs.TalliedTheorems.{tallied_stay, layers_stay, entry_has_one}
+use Rattle.trail_theory.proofs.OwedLayers.{any_unbroken}
+use Rattle.trail_theory.proofs.OwnTheorems.{stay_own, flags_names}
 use Rattle.run_theory.specs.RightRuns.{front, Begins, Links}
-use Rattle.run_theory.specs.Theorems.{IsReady, IsRightNow, PathsMakeNews}
+use Rattle.run_theory.specs.Theorems.{IsReady, IsRightNow, PathsMakeNews, PathsOwnLayers}
 use Rattle.run_theory.proofs.Names.{both_are, same_name_true}
+use Rattle.run_theory.proofs.Around.{stack_around, deque_around, start_around}
 use Rattle.run_theory.proofs.Pieces.{ForSome, either}
 use Rattle.run_theory.proofs.Ascending.{Gone}
 use Rattle.run_theory.proofs.Telling.{broken_or}
@@ -66,12 +71,15 @@ module _ (program : Revised) (tables : Tables) (memory : Memory) where
   abbrev Now : LayeredStrand → Tally → Type 0
   Now = IsTalliedNow program tables (L program tables memory)
 
+  abbrev Own : LayeredStrand → Tally → Type 0
+  Own = OwnsNow program tables (L program tables memory)
+
   -- with the layers of `left` owed by the pieces to the left, it leaves those of `right` owed to the pieces to the right
   pub record PieceTallied (left right : List Place) (p : Piece) : Type 0 where
     pub owes : OwesLayers p.strand p.deque p.tally left right
     pub news : Every (IsNewRecord program tables) p.tally.made
     pub shallow : Every IsShallowContinuation p.deque
-    pub tallied : Gone p ⊎ Now p.strand p.tally
+    pub owns : Gone p ⊎ Own p.strand p.tally
     pub adds : Gone p ⊎ AddsUp p.tally
 
   abbrev pub TallyFit : List Place → List Piece → Type 0
@@ -103,8 +111,11 @@ module _ (program : Revised) (tables : Tables) (memory : Memory) where
       (λ e. let i = inner program tables memory before (p ∷ ps) b found r in among_fit before p ps history (change p) (k i.0 i.1.0 i.1.1.0 p ps i.1.1.1 i.1.1.2) h)
       (changed_fit w change k (before ++ p ∷ []) ps history b found (subst (λ u. FitAll program tables memory b u found) shift r) (subst (λ u. TallyFit [] u) shift h))
 
+  own_of : (left right : List Place) (p : Piece) → ((k : Fault) → p.strand.phase ≡ broken k → ⊥) → PieceTallied left right p → Own p.strand p.tally
+  own_of left right p good h = elim h.owns [ inl g ↦ absurd (good g.1.0 g.1.1) | inr t ↦ t ]
+
   pub now_of : (left right : List Place) (p : Piece) → ((k : Fault) → p.strand.phase ≡ broken k → ⊥) → PieceTallied left right p → Now p.strand p.tally
-  now_of left right p good h = elim h.tallied [ inl g ↦ absurd (good g.1.0 g.1.1) | inr t ↦ t ]
+  now_of left right p good h = (own_of left right p good h).tallied
 
   pub adds_of : (left right : List Place) (p : Piece) → ((k : Fault) → p.strand.phase ≡ broken k → ⊥) → PieceTallied left right p → AddsUp p.tally
   adds_of left right p good h = elim h.adds [ inl g ↦ absurd (good g.1.0 g.1.1) | inr a ↦ a ]
@@ -116,42 +127,58 @@ module _ (program : Revised) (tables : Tables) (memory : Memory) where
   pub whole_of : (first : Bool) (found later : List Bool) (p : Piece) (e : Place) → FitPiece program tables memory first p found later e → ((k : Fault) → p.strand.phase ≡ broken k → ⊥) → Whole program tables memory p found later e
   whole_of first found later p e i good = elim i.fits [ inr c ↦ absurd (good c.fault c.phase) | inl w ↦ w ]
 
-  module _ (stays : TalliedStays program tables (L program tables memory)) (owed : LayersStayOwed program tables (L program tables memory)) where
+  owed_around : (ps : List Piece) (right : List Place) (later : List Bool) → FitAll program tables memory false ps later → TallyFit right ps → Every (IsAround (front ps)) right
+  owed_around [] right later f h = subst (Every (IsAround [])) (sym h) tt
+  owed_around (q ∷ ps) right later f h = start_around q.strand.start right f.1.begins h.1.owes.precede
+
+  pushed_stacked : (m : Start) (ks : List Continuation) → Pushed program tables memory m ks → Every (λ k. Stacked k.parent.frame.instance k.under) ks
+  pushed_stacked m [] h = tt
+  pushed_stacked m (k ∷ ks) h = (h.0.1.stacked, pushed_stacked m ks h.1)
+
+  pub around_of : (first : Bool) (found later : List Bool) (right : List Place) (p : Piece) (ps : List Piece) → FitPiece program tables memory first p found later (front ps) → FitAll program tables memory false ps later → TallyFit right ps → ((k : Fault) → p.strand.phase ≡ broken k → ⊥)
+      → Every (IsAround p.strand.frame.instance) (recorded_under (p.strand.under ++ parents_behind p.deque) ++ right)
+  around_of first found later right p ps i f g good =
+      let s = p.strand in
+      let w = whole_of first found later p (front ps) i good in
+      stack_around s.frame s.under (parents_behind p.deque) right w.right.task.stacked
+      (deque_around (lowest s.frame s.under) (front ps) p.deque right w.links (pushed_stacked s.start p.deque i.deque) (owed_around ps right later f g))
+
+  module _ (stays : TalliedStays program tables (L program tables memory)) (owed : LayersStayOwed program tables (L program tables memory)) (own : LayersStayOwn program tables (L program tables memory)) where
     -- ---- work, push, inline, pop
 
     abbrev Worked : Piece → Step → Piece
     Worked p st = record { strand = advanced program.tree p.strand st; deque = p.deque; state = p.state; tally = tallied program p.strand.layers st p.tally }
 
-    work_by : (kits : ℕ) (p : Piece) (ps : List Piece) (st : Step) → ((left right : List Place) → PieceTallied left right p → PieceTallied left right (Worked p st)) → ForSome (Keeps ps p) (worked_by program tables memory kits p st)
-    work_by kits p ps (moved l evs fr ph t) k = λ left h. (h.0, k left h.0 h.1, h.2)
-    work_by kits p ps (taken evs x fr ph t) k = λ left h. (h.0, k left h.0 h.1, h.2)
+    work_by : (kits : ℕ) (p : Piece) (ps : List Piece) (st : Step) → ((left right : List Place) → PieceTallied left right p → TallyFit right ps → PieceTallied left right (Worked p st)) → ForSome (Keeps ps p) (worked_by program tables memory kits p st)
+    work_by kits p ps (moved l evs fr ph t) k = λ left h. (h.0, k left h.0 h.1 h.2, h.2)
+    work_by kits p ps (taken evs x fr ph t) k = λ left h. (h.0, k left h.0 h.1 h.2, h.2)
     work_by kits p ps (paused e) k = tt
 
-    work_one : (kits : ℕ) (p : Piece) (left right : List Place) → ((k : Fault) → p.strand.phase ≡ broken k → ⊥) → PieceTallied left right p → PieceTallied left right (Worked p (step_of program tables memory kits p.strand))
-    work_one kits p left right good h =
+    work_one : (kits : ℕ) (p : Piece) (left right : List Place) → ((k : Fault) → p.strand.phase ≡ broken k → ⊥) → Every (IsAround p.strand.frame.instance) (recorded_under (p.strand.under ++ parents_behind p.deque) ++ right) → PieceTallied left right p → PieceTallied left right (Worked p (step_of program tables memory kits p.strand))
+    work_one kits p left right good around h =
         let kit = memory.recording && nat_lt 0 kits in
-        let t = now_of left right p good h in
-        let top = closes_own_layer program tables (L program tables memory) p.strand p.deque p.tally left right h.owes in
-        let more = stays.advances kit p.strand p.tally t top in
-        record { owes = owed.advances kit p.strand p.deque p.tally left right t h.owes; news = more.made; shallow = h.shallow; tallied = inr more; adds = inr ((add_up program).advances p.strand.layers (step_of program tables memory kits p.strand) p.tally (adds_of left right p good h)) }
+        let t = own_of left right p good h in
+        let top = (flags_names program tables (L program tables memory)).knows p.strand p.deque p.tally left right h.owes around in
+        let more = own.advances_by_flag kit p.strand p.tally t top in
+        record { owes = owed.advances kit p.strand p.deque p.tally left right t.tallied h.owes; news = more.tallied.made; shallow = h.shallow; owns = inr more; adds = inr ((add_up program).advances p.strand.layers (step_of program tables memory kits p.strand) p.tally (adds_of left right p good h)) }
 
     works : (kits : ℕ) → KeepsAll (worked program tables memory kits)
     works kits first found later p ps i rest =
         elim (broken_or p.strand.phase) [
           | inl k ↦ worked_broken program tables memory kits (Keeps ps p) p k.0 k.1
-          | inr good ↦ work_by kits p ps (step_of program tables memory kits p.strand) (λ left right h. work_one kits p left right good h)
+          | inr good ↦ work_by kits p ps (step_of program tables memory kits p.strand) (λ left right h g. work_one kits p left right good (around_of first found later right p ps i rest g good) h)
         ]
 
     pushes : (kits : ℕ) (p : Piece) (ps : List Piece) (ph : Phase) → p.strand.phase ≡ ph → ForSome (Keeps ps p) (pushed_at program tables memory kits p ph)
     pushes kits p ps (spawning d x child todo) e = λ left h.
         let good : (k : Fault) → p.strand.phase ≡ broken k → ⊥ = λ k z. (let c : spawning d x child todo ≡ broken k = sym e ∙ z in cc) in
-        let t = now_of left h.0 p good h.1 in (
+        let t = own_of left h.0 p good h.1 in (
           h.0,
           record {
             owes = owed.pushes p.strand p.deque p.tally left h.0 d x child todo e h.1.owes;
             news = h.1.news;
-            shallow = ((stays.continues p.strand p.tally d x child todo e t).1, h.1.shallow);
-            tallied = inr (stays.detaches p.strand p.tally d x child todo e t);
+            shallow = ((stays.continues p.strand p.tally d x child todo e t.tallied).1, h.1.shallow);
+            owns = inr (own.detaches p.strand p.tally d x child todo e t);
             adds = inr (adds_of left h.0 p good h.1);
           },
           h.2,
@@ -165,13 +192,13 @@ module _ (program : Revised) (tables : Tables) (memory : Memory) where
     inlines : (kits : ℕ) (p : Piece) (ps : List Piece) (ph : Phase) → p.strand.phase ≡ ph → ForSome (Keeps ps p) (inlined_at program tables memory kits p ph)
     inlines kits p ps (spawning d x child todo) e = λ left h.
         let good : (k : Fault) → p.strand.phase ≡ broken k → ⊥ = λ k z. (let c : spawning d x child todo ≡ broken k = sym e ∙ z in cc) in
-        let t = now_of left h.0 p good h.1 in (
+        let t = own_of left h.0 p good h.1 in (
           h.0,
           record {
             owes = owed.inlines p.strand p.deque p.tally left h.0 d x child todo e h.1.owes;
             news = h.1.news;
             shallow = h.1.shallow;
-            tallied = inr (stays.inlines p.strand p.tally d x child todo e t);
+            owns = inr (own.inlines p.strand p.tally d x child todo e t);
             adds = inr (adds_of left h.0 p good h.1);
           },
           h.2,
@@ -185,7 +212,7 @@ module _ (program : Revised) (tables : Tables) (memory : Memory) where
     pops : (kits : ℕ) (first : Bool) (found later : List Bool) (p : Piece) (ps : List Piece) → FitPiece program tables memory first p found later (front ps) → (ph : Phase) (t : List Parent) (ks : List Continuation) → p.strand.phase ≡ ph → p.strand.under ≡ t → p.deque ≡ ks → ForSome (Keeps ps p) (popped_at program tables memory kits p ph t ks)
     pops kits first found later p ps i (leaving v) [] (k ∷ ks) a b c = λ left h.
         let good : (f : Fault) → p.strand.phase ≡ broken f → ⊥ = λ f z. (let y : leaving v ≡ broken f = sym a ∙ z in cc) in
-        let t = now_of left h.0 p good h.1 in
+        let t = own_of left h.0 p good h.1 in
         let w = whole_of first found later p (front ps) i good in
         let link : Links (lowest p.strand.frame p.strand.under) (k ∷ ks) (front ps) = subst (λ ds. Links (lowest p.strand.frame p.strand.under) ds (front ps)) c w.links in
         let at_place : p.strand.frame.instance ≡ place_of_continuation k = subst (λ u. lowest p.strand.frame u ≡ place_of_continuation k) b link.0 in
@@ -196,7 +223,7 @@ module _ (program : Revised) (tables : Tables) (memory : Memory) where
             owes = owed.pops p.strand k ks p.tally left h.0 v a b (subst (λ ds. OwesLayers p.strand ds p.tally left h.0) c h.1.owes);
             news = h.1.news;
             shallow = low.1;
-            tallied = inr (stays.pops p.strand p.tally k v a b (sym back.0.0) at_place t (back.0.1, low.0));
+            owns = inr (own.pops p.strand p.tally k v a b (sym back.0.0) at_place t (back.0.1, low.0));
             adds = inr (adds_of left h.0 p good h.1);
           },
           h.2,
@@ -225,11 +252,11 @@ module _ (program : Revised) (tables : Tables) (memory : Memory) where
         let low = every_split IsShallowContinuation younger k (subst (Every IsShallowContinuation) q h.1.shallow) in
         let over = over_right ps h.0 (lowest k.parent.frame k.under) later (links_of first found later p (front ps) younger k i q) rest h.2 in
         let both = owed.steals p.strand younger k p.tally left h.0 cont.stacked over (subst (λ ds. OwesLayers p.strand ds p.tally left h.0) q h.1.owes) in
-        let t : Now p.strand p.tally = elim h.1.tallied [ inl g ↦ absurd (none_last younger k (sym q ∙ g.0)) | inr t ↦ t ] in
+        let t : Own p.strand p.tally = elim h.1.owns [ inl g ↦ absurd (none_last younger k (sym q ∙ g.0)) | inr t ↦ t ] in
         let a : AddsUp p.tally = elim h.1.adds [ inl g ↦ absurd (none_last younger k (sym q ∙ g.0)) | inr a ↦ a ] in (
           recorded_of (stolen program.tree k) [] ++ h.0,
-          record { owes = both.0; news = h.1.news; shallow = low.0; tallied = inr t; adds = inr a },
-          (h.0, record { owes = both.1; news = tt; shallow = tt; tallied = inr (stays.steals k (cont, low.1)); adds = inr refl }, h.2),
+          record { owes = both.0; news = h.1.news; shallow = low.0; owns = inr t; adds = inr a },
+          (h.0, record { owes = both.1; news = tt; shallow = tt; owns = inr (own.steals k (cont, low.1)); adds = inr refl }, h.2),
         )
     robs thief kits first found later p ps i rest younger (k ∷ j ∷ ks) q = robs thief kits first found later p ps i rest (younger ++ k ∷ []) (j ∷ ks) (q ∙ sym (append_assoc younger (k ∷ []) (j ∷ ks)))
 
@@ -245,7 +272,7 @@ module _ (program : Revised) (tables : Tables) (memory : Memory) where
           owes = subst (λ ds. OwesLayers p.strand ds p.tally left right) e h.owes;
           news = h.news;
           shallow = tt;
-          tallied = elim h.tallied [ inl g ↦ inl (refl, g.1) | inr t ↦ inr t ];
+          owns = elim h.owns [ inl g ↦ inl (refl, g.1) | inr t ↦ inr t ];
           adds = elim h.adds [ inl g ↦ inl (refl, g.1) | inr a ↦ inr a ];
         }
 
@@ -262,7 +289,7 @@ module _ (program : Revised) (tables : Tables) (memory : Memory) where
     syncs kits p ps (taken evs k fr ph t) e = tt
 
     stalls : (kits : ℕ) (p : Piece) (ps : List Piece) (ph : Phase) (t : List Parent) (ks : List Continuation) → p.deque ≡ ks → ForSome (Keeps ps p) (stalled_at program tables memory kits p ph t ks)
-    stalls kits p ps (broken k) t ks e = λ left h. (h.0, record { owes = record { balance = tt; precede = h.1.owes.precede }; news = h.1.news; shallow = tt; tallied = inl (refl, (k, refl)); adds = inl (refl, (k, refl)) }, h.2)
+    stalls kits p ps (broken k) t ks e = λ left h. (h.0, record { owes = record { balance = tt; precede = h.1.owes.precede }; news = h.1.news; shallow = tt; owns = inl (refl, (k, refl)); adds = inl (refl, (k, refl)) }, h.2)
     stalls kits p ps (leaving v) [] [] e = leaves kits p ps p.strand.frame.instance e
     stalls kits p ps (leaving v) [] (k ∷ ks) e = tt
     stalls kits p ps (leaving v) (r ∷ t) [] e = syncs kits p ps (step_of program tables memory kits p.strand) e
@@ -288,7 +315,7 @@ module _ (program : Revised) (tables : Tables) (memory : Memory) where
         owes = record { balance = tt; precede = h.1.owes.precede };
         news = every_append (IsNewRecord program tables) l.tally.made r.tally.made h.1.news h.2.1.news;
         shallow = tt;
-        tallied = inl (refl, (k, refl));
+        owns = inl (refl, (k, refl));
         adds = inl (refl, (k, refl));
       },
       h.2.2,
@@ -327,21 +354,21 @@ module _ (program : Revised) (tables : Tables) (memory : Memory) where
         let b = behind_of r.strand.start m.right_fits.begins in
         let one = one_alone r.strand.layers s.one_layer in
         let good : (f : Fault) → l.strand.phase ≡ broken f → ⊥ = λ f z. (let y : leaving v ≡ broken f = sym m.phase ∙ z in cc) in
-        let tl = now_of left h.0 l good h.1 in
-        let tr = now_of h.0 h.2.0 r m.good h.2.1 in
+        let tl = own_of left h.0 l good h.1 in
+        let tr = own_of h.0 h.2.0 r m.good h.2.1 in
         let ol = subst (λ ds. OwesLayers l.strand ds l.tally left h.0) over.1 h.1.owes in
         let ow = subst (λ ds. OwesLayers r.strand ds r.tally h.0 h.2.0) s.deque h.2.1.owes in
         let right_whole = whole_of false m.mid m.later r (front ps) m.right_fits m.good in
         let low : lowest r.strand.frame r.strand.under ≡ front ps = subst (λ ds. Links (lowest r.strand.frame r.strand.under) ds (front ps)) s.deque right_whole.links in
         let above = over_right ps h.2.0 (lowest r.strand.frame r.strand.under) m.later low m.rest h.2.2 in
-        let none = unbroken_of r.strand.phase ((r.tally.opened ≡ []) × IsOneLayer r.strand.layers) m.good (entry_has_one program tables (L program tables memory) r.strand r.tally h.0 h.2.0 s.entry above tr ow) in
-        let t = stays.joins l.strand r.strand l.tally r.tally v b.0 b.1.0 one.0 m.phase over.0 b.1.1 (named ∙ ap place_of_start b.1.1) one.1 (may_join_true program tables memory l.strand (joined program.tree l.strand v r.strand) x.1) tl tr in (
+        let none = unbroken_of r.strand.phase ((r.tally.opened ≡ []) × IsOneLayer r.strand.layers) m.good (entry_has_one program tables (L program tables memory) r.strand r.tally h.0 h.2.0 s.entry above tr.tallied ow) in
+        let t = own.joins l.strand r.strand l.tally r.tally v b.0 b.1.0 one.0 m.phase over.0 b.1.1 (named ∙ ap place_of_start b.1.1) one.1 (may_join_true program tables memory l.strand (joined program.tree l.strand v r.strand) x.1) tl tr in (
           h.2.0,
           record {
             owes = owed.joins l.strand r.strand l.tally r.tally v left h.0 h.2.0 m.phase over.0 none.0 ol ow;
             news = every_append (IsNewRecord program tables) l.tally.made r.tally.made h.1.news h.2.1.news;
             shallow = tt;
-            tallied = inr t;
+            owns = inr t;
             adds = inr ((add_up program).joins l.tally r.tally none.0 (adds_of left h.0 l good h.1) (adds_of h.0 h.2.0 r m.good h.2.1));
           },
           h.2.2,
@@ -416,8 +443,21 @@ module _ (program : Revised) (tables : Tables) (memory : Memory) where
   paths_tallied ready numbers kits es =
       let stays = tallied_stay program tables (L program tables memory) (law program tables memory ready) ready.rules numbers (sound program tables memory ready) in
       let owed = layers_stay program tables (L program tables memory) ready.rules.reads in
-      let begun : TallyOf (first_state program.tree kits) = ([], record { owes = owed.begins; news = tt; shallow = tt; tallied = inr stays.begins; adds = inr refl }, refl) in
-      path_tallied stays owed ready es (first_state program.tree kits) (begins_right program tables memory ready kits) begun
+      let own = stay_own program tables (L program tables memory) (law program tables memory ready) ready.rules numbers (sound program tables memory ready) in
+      let begun : TallyOf (first_state program.tree kits) = ([], record { owes = owed.begins; news = tt; shallow = tt; owns = inr own.begins; adds = inr refl }, refl) in
+      path_tallied stays owed own ready es (first_state program.tree kits) (begins_right program tables memory ready kits) begun
 
   pub paths_news : IsReady program tables memory → IsNumbered program → PathsMakeNews program tables memory
   paths_news ready numbers kits es = news_of (path program tables memory (first_state program.tree kits) es).pieces [] (paths_tallied ready numbers kits es)
+
+  owners_of : (ps : List Piece) (left : List Place) → TallyFit left ps → Every (λ p. Unbroken p.strand.phase (Own p.strand p.tally)) ps
+  owners_of [] left h = tt
+  owners_of (p ∷ ps) left h =
+      let one : Unbroken p.strand.phase (Own p.strand p.tally) = elim h.1.owns [
+        | inl g ↦ subst (λ ph. Unbroken ph (Own p.strand p.tally)) (sym g.1.1) tt
+        | inr t ↦ any_unbroken p.strand.phase (Own p.strand p.tally) t
+      ] in
+      (one, owners_of ps h.0 h.2)
+
+  pub paths_own : IsReady program tables memory → IsNumbered program → PathsOwnLayers program tables memory
+  paths_own ready numbers kits es = owners_of (path program tables memory (first_state program.tree kits) es).pieces [] (paths_tallied ready numbers kits es)

@@ -9,7 +9,7 @@ use Rattle.meaning.specs.Records.{Revised, with_kinds}
 use Rattle.meaning.specs.Trail.{trail_at}
 use Rattle.meaning.specs.SmallStep.{Start, Child, instance, half, Frame, Phase, entering, running, spawning, returning, leaving, broken, Parent, look_of, opened, Continuation}
 use Rattle.meaning.specs.Layers.{Notes, notes}
-use Rattle.meaning.specs.Rest.{Course, then_on, blocks_left, child_left, entering_left, phase_left, parents_left, answered}
+use Rattle.meaning.specs.Rest.{then_on, blocks_left, child_left, entering_left, phase_left, parents_left, answered}
 use Rattle.meaning.specs.RestOfRun.{with_hand_under, below, times_layers, rest_of_run}
 use Rattle.meaning.specs.Strands.{State, Held, Ended, Stalled, BookStep}
 use Rattle.meaning.specs.Strands as strands

@@ -1,62 +1,25 @@
 -- The steps of a run without flags are those of the run with flags, where each flag that is asked for is the one that the test gives.
-use Rattle.std.proofs.Common.{◌&&◌, ◌+◌, ◌-◌, zero, ℕ, suc, ℤ, List, [], ◌∷◌, ◌++◌, append_assoc, length, map, Option, Some, None, ◌≡◌, refl, sym, ap, ap₂, ◌∙◌, subst, true, false, Bool, cond, not, nat_lt}
-use Rattle.program_tree.specs.Plain.{Tree}
-use Rattle.meaning.specs.Every.{every}
+use Rattle.std.proofs.Common.{◌&&◌, ◌+◌, zero, ℕ, suc, ℤ, List, [], ◌∷◌, ◌++◌, map, Option, Some, None, ◌≡◌, refl, sym, ap, ◌∙◌, subst, true, false, Bool, cond, nat_lt}
 use Rattle.meaning.specs.Tables.{Tables}
-use Rattle.meaning.specs.Outcome.{Fault, Place}
+use Rattle.meaning.specs.Outcome.{Log, Place}
 use Rattle.meaning.specs.Records.{Revised}
-use Rattle.meaning.specs.SmallStep.{Start, same_name, is_entry, Frame, Phase, entering, running, spawning, returning, leaving, broken, Parent, with_layer, at_spawn, at_sync, returned, faulted, Step, moved, taken, paused, Continuation}
+use Rattle.meaning.specs.SmallStep.{Start, same_name, is_entry, Frame, Phase, entering, running, spawning, returning, leaving, broken, Parent, with_layer, Layers, at_spawn, at_sync, returned, faulted, Step, moved, taken, paused, unless, micro, Continuation}
 use Rattle.meaning.specs.Layers.{total}
 use Rattle.meaning.specs.LayeredStrand.{LayeredStrand, advanced, joined}
 use Rattle.meaning.specs.Strands.{State, BookStep, Fold}
 use Rattle.meaning.specs.Strands as strands
-use Rattle.meaning.specs.Tallies.{Tally, Opened, tallied, tallies_joined}
 use Rattle.meaning.specs.Schedules.{Memory, Piece, RunState, RunStep, Change, work, push, inline, pop, stall, steal, fold, first_state, place_of, place_of_start, line_of, is_held_by, is_idle, among, changed, kits_after, step_of, worked_by, worked, pushed_at, pushed, inlined_at, inlined_of, popped_at, popped, robbed_of, stolen_from, left_by, stalled_by, stalled_at, stalled, none_waits, none_waits_under, may_join, joined_pair, folded_by, folded, folded_among, folded_at, if_idle, after_step, or_same, path, answer_of_pieces, end_of}
 use Rattle.trail_theory.specs.Order.{Every}
-use Rattle.trail_theory.specs.OwnLayers.{TopTest, frame_by}
-use Rattle.trail_theory.specs.Unflagged.{unflagged_parent, unflagged_under, unflagged, unflagged_continuation}
+use Rattle.trail_theory.specs.OwnLayers.{TopTest, is_top, frame_by}
+use Rattle.trail_theory.specs.Unflagged.{unflagged_under, unflagged, unflagged_continuation}
 use Rattle.trail_theory.proofs.Unflagged.{no_matter}
-use Rattle.run_theory.specs.UnflaggedRuns.{unflagged_piece, unflagged_run, unflagged_after, flagged_piece, flagged_run, step_by, path_by, StepsBy, PathsBy, EndsBy, RunsBy}
+use Rattle.run_theory.specs.UnflaggedRuns.{unflagged_step, unflagged_piece, unflagged_run, unflagged_after, worked_with, step_by, path_by, RunsBy}
 use Rattle.run_theory.proofs.Steps.{L}
-use Rattle.run_theory.proofs.UnflaggedSteps.{unflagged_step, unflagged_twice, micro_alike, tallied_alike}
+use Rattle.run_theory.proofs.UnflaggedSteps.{micro_alike, tallied_alike}
 
 map_append : {A B : Type 0} (f : A → B) (a b : List A) → map f (a ++ b) ≡ map f a ++ map f b
 map_append f [] b = refl
 map_append f (x ∷ a) b = ap (λ l. f x ∷ l) (map_append f a b)
-
--- ---- flags that are forgotten twice
-
--- a piece whose flags were forgotten, with those that the test gives
-abbrev reflagged : TopTest → Piece → Piece
-reflagged test p = flagged_piece test (unflagged_piece p)
-
-frame_again : (test : TopTest) (ph : Phase) (os : List Opened) (fr : Frame) → with_layer false (frame_by test ph os (with_layer false fr)) ≡ with_layer false fr
-frame_again test (entering child) os fr = refl
-frame_again test (running todo) os fr = refl
-frame_again test (spawning d x child todo) os fr = refl
-frame_again test (returning v) os fr = refl
-frame_again test (leaving v) os fr = refl
-frame_again test (broken k) os fr = refl
-
-deque_again : (ks : List Continuation) → map unflagged_continuation (map unflagged_continuation ks) ≡ map unflagged_continuation ks
-deque_again [] = refl
-deque_again (k ∷ ks) = λ i. record { since = k.since; child = k.child; parent = unflagged_parent k.parent; under = unflagged_twice k.under i } ∷ deque_again ks i
-
-again : (test : TopTest) (p : Piece) → unflagged_piece (reflagged test p) ≡ unflagged_piece p
-again test p = λ i. record {
-  strand = record { start = p.strand.start; layers = p.strand.layers; frame = frame_again test p.strand.phase p.tally.opened p.strand.frame i; phase = p.strand.phase; under = unflagged_twice p.strand.under i };
-  deque = deque_again p.deque i;
-  state = p.state;
-  tally = p.tally;
-}
-
-all_again : (test : TopTest) (ps : List Piece) → map unflagged_piece (map (reflagged test) ps) ≡ map unflagged_piece ps
-all_again test [] = refl
-all_again test (p ∷ ps) = ap₂ ◌∷◌ (again test p) (all_again test ps)
-
-both_maps : (test : TopTest) (ps : List Piece) → map (flagged_piece test) (map unflagged_piece ps) ≡ map (reflagged test) ps
-both_maps test [] = refl
-both_maps test (p ∷ ps) = ap (λ l. reflagged test p ∷ l) (both_maps test ps)
 
 -- ---- changes
 
@@ -74,23 +37,19 @@ unflagged_among before later history (Some c) =
     ap (λ ps. Some (record { pieces = ps; kits = c.kits; history = history ++ c.noted }))
     (map_append unflagged_piece before (c.pieces ++ later) ∙ ap (λ ps. map unflagged_piece before ++ ps) (map_append unflagged_piece c.pieces later))
 
-cond_after : (b : Bool) (x' y' x y : Option RunState) → unflagged_after x' ≡ unflagged_after x → unflagged_after y' ≡ unflagged_after y → unflagged_after (cond b x' y') ≡ unflagged_after (cond b x y)
-cond_after true x' y' x y h k = h
-cond_after false x' y' x y h k = k
+cond_quiet : (b : Bool) (x y x' y' : Option RunState) → unflagged_after x ≡ x' → unflagged_after y ≡ y' → unflagged_after (cond b x y) ≡ cond b x' y'
+cond_quiet true x y x' y' h k = h
+cond_quiet false x y x' y' h k = k
 
-changed_alike : (test : TopTest) (w : ℕ) (change : Piece → Option Change) (before' before ps : List Piece) (history : List BookStep) → map unflagged_piece before' ≡ map unflagged_piece before
-    → Every (λ p. unflagged_change (change (reflagged test p)) ≡ unflagged_change (change p)) ps
-    → unflagged_after (changed w change before' (map (reflagged test) ps) history) ≡ unflagged_after (changed w change before ps history)
-changed_alike test w change before' before [] history e h = refl
-changed_alike test w change before' before (p ∷ ps) history e h =
-    let front : map unflagged_piece (before' ++ reflagged test p ∷ []) ≡ map unflagged_piece (before ++ p ∷ []) =
-        map_append unflagged_piece before' (reflagged test p ∷ []) ∙ ap₂ (λ a b. a ++ b ∷ []) e (again test p) ∙ sym (map_append unflagged_piece before (p ∷ [])) in
-    cond_after (is_held_by w p) (among before' (map (reflagged test) ps) history (change (reflagged test p))) (changed w change (before' ++ reflagged test p ∷ []) (map (reflagged test) ps) history) (among before ps history (change p)) (changed w change (before ++ p ∷ []) ps history)
-    (unflagged_among before' (map (reflagged test) ps) history (change (reflagged test p))
-    ∙ ap₂ (λ a b. among a b history (unflagged_change (change (reflagged test p)))) e (all_again test ps)
-    ∙ ap (among (map unflagged_piece before) (map unflagged_piece ps) history) h.0
-    ∙ sym (unflagged_among before ps history (change p)))
-    (changed_alike test w change (before' ++ reflagged test p ∷ []) (before ++ p ∷ []) ps history front h.1)
+-- a change of one piece, and what it is without flags
+unflagged_changed : (w : ℕ) (change change' : Piece → Option Change) (before ps : List Piece) (history : List BookStep) → Every (λ p. unflagged_change (change p) ≡ change' (unflagged_piece p)) ps
+    → unflagged_after (changed w change before ps history) ≡ changed w change' (map unflagged_piece before) (map unflagged_piece ps) history
+unflagged_changed w change change' before [] history h = refl
+unflagged_changed w change change' before (p ∷ ps) history h =
+    cond_quiet (is_held_by w p) (among before ps history (change p)) (changed w change (before ++ p ∷ []) ps history) _ _
+    (unflagged_among before ps history (change p) ∙ ap (among (map unflagged_piece before) (map unflagged_piece ps) history) h.0)
+    (unflagged_changed w change change' (before ++ p ∷ []) ps history h.1
+    ∙ ap (λ b. changed w change' b (map unflagged_piece ps) history) (map_append unflagged_piece before (p ∷ [])))
 
 module _ (program : Revised) (tables : Tables) (memory : Memory) where
   -- ---- work and stall
@@ -111,44 +70,76 @@ module _ (program : Revised) (tables : Tables) (memory : Memory) where
   unflagged_stalled kits p (paused returned) = refl
   unflagged_stalled kits p (paused faulted) = refl
 
-  module _ (test : TopTest) (kits : ℕ) (p : Piece) where
-    -- a change that has no use for flags
-    quiet_alike : (change : Piece → Option Change) → ((q : Piece) → unflagged_change (change q) ≡ change (unflagged_piece q)) → unflagged_change (change (reflagged test p)) ≡ unflagged_change (change p)
-    quiet_alike change h = h (reflagged test p) ∙ ap change (again test p) ∙ sym (h p)
+  works_quiet : (test : TopTest) (kits : ℕ) (p : Piece) → IsTold test p → unflagged_change (worked program tables memory kits p) ≡ worked_with program tables memory test kits (unflagged_piece p)
+  works_quiet test kits p told =
+      let s = p.strand in
+      unflagged_worked kits p (step_of program tables memory kits s)
+      ∙ ap (worked_by program tables memory kits (unflagged_piece p)) (sym (micro_alike program.tree tables (L program tables memory) (memory.recording && nat_lt 0 kits) (total program.tree s.layers).worth test p.tally.opened s.start s.frame s.phase s.under told))
 
-    abbrev one_step : Piece → Step
-    one_step q = step_of program tables memory kits q.strand
+  pauses_quiet : (kits : ℕ) (q : Piece) (st : Step) → stalled_by program tables memory kits q (unflagged_step st) ≡ stalled_by program tables memory kits q st
+  pauses_quiet kits q (moved l evs fr ph t) = refl
+  pauses_quiet kits q (taken evs k fr ph t) = refl
+  pauses_quiet kits q (paused at_sync) = refl
+  pauses_quiet kits q (paused at_spawn) = refl
+  pauses_quiet kits q (paused returned) = refl
+  pauses_quiet kits q (paused faulted) = refl
 
-    step_alike : IsTold test p → unflagged_step (one_step (reflagged test p)) ≡ unflagged_step (one_step p)
-    step_alike told =
+  returns_quiet : (kits : ℕ) (q : Piece) (b : Bool) (l l' : Layers) (evs : Log) (fr : Frame) (ph : Phase) (t t' : List Parent)
+      → stalled_by program tables memory kits q (unless b (moved l evs fr ph t)) ≡ stalled_by program tables memory kits q (unless b (moved l' evs fr ph t'))
+  returns_quiet kits q true l l' evs fr ph t t' = refl
+  returns_quiet kits q false l l' evs fr ph t t' = refl
+
+  module _ (kits : ℕ) (p : Piece) where
+    abbrev at_phase : Frame → Phase → List Parent → Step
+    at_phase fr ph t = micro program.tree tables (L program tables memory) (memory.recording && nat_lt 0 kits) (total program.tree p.strand.layers).worth p.strand.start fr ph t
+
+    -- a phase in which no flag is asked for
+    alike : (ph : Phase) → frame_by is_top ph [] (with_layer false p.strand.frame) ≡ with_layer false p.strand.frame → frame_by is_top ph [] p.strand.frame ≡ p.strand.frame
+        → unflagged_step (at_phase (with_layer false p.strand.frame) ph (unflagged_under p.strand.under)) ≡ unflagged_step (at_phase p.strand.frame ph p.strand.under)
+    alike ph e k =
         let s = p.strand in
-        micro_alike program.tree tables (L program tables memory) (memory.recording && nat_lt 0 kits) (total program.tree s.layers).worth test p.tally.opened s.start s.frame s.phase s.under told
+        ap (λ fr. unflagged_step (at_phase fr ph (unflagged_under s.under))) (sym e)
+        ∙ micro_alike program.tree tables (L program tables memory) (memory.recording && nat_lt 0 kits) (total program.tree s.layers).worth is_top [] s.start s.frame ph s.under (λ z. k)
 
-    by_step_alike : (by : Piece → Step → Option Change) → ((q : Piece) (st : Step) → unflagged_change (by q st) ≡ by (unflagged_piece q) (unflagged_step st)) → IsTold test p
-        → unflagged_change (by (reflagged test p) (one_step (reflagged test p))) ≡ unflagged_change (by p (one_step p))
-    by_step_alike by h told = h (reflagged test p) (one_step (reflagged test p)) ∙ ap₂ by (again test p) (step_alike told) ∙ sym (h p (one_step p))
+    by_alike : (ph : Phase) → unflagged_step (at_phase (with_layer false p.strand.frame) ph (unflagged_under p.strand.under)) ≡ unflagged_step (at_phase p.strand.frame ph p.strand.under)
+        → stalled_by program tables memory kits (unflagged_piece p) (at_phase p.strand.frame ph p.strand.under) ≡ stalled_by program tables memory kits (unflagged_piece p) (at_phase (with_layer false p.strand.frame) ph (unflagged_under p.strand.under))
+    by_alike ph e =
+        sym (pauses_quiet kits (unflagged_piece p) (at_phase p.strand.frame ph p.strand.under))
+        ∙ ap (stalled_by program tables memory kits (unflagged_piece p)) (sym e)
+        ∙ pauses_quiet kits (unflagged_piece p) (at_phase (with_layer false p.strand.frame) ph (unflagged_under p.strand.under))
 
-    works_alike : IsTold test p → unflagged_change (worked program tables memory kits (reflagged test p)) ≡ unflagged_change (worked program tables memory kits p)
-    works_alike told = by_step_alike (worked_by program tables memory kits) (unflagged_worked kits) told
+    -- whether a strand is paused at a sync
+    pauses_alike : (ph : Phase) → stalled_by program tables memory kits (unflagged_piece p) (at_phase p.strand.frame ph p.strand.under) ≡ stalled_by program tables memory kits (unflagged_piece p) (at_phase (with_layer false p.strand.frame) ph (unflagged_under p.strand.under))
+    pauses_alike (returning v) = returns_quiet kits (unflagged_piece p) (is_entry p.strand.start p.strand.frame.instance) _ _ _ _ _ p.strand.under (unflagged_under p.strand.under)
+    pauses_alike (entering child) = by_alike (entering child) (alike (entering child) refl refl)
+    pauses_alike (running todo) = by_alike (running todo) (alike (running todo) refl refl)
+    pauses_alike (spawning d x child todo) = refl
+    pauses_alike (leaving v) = by_alike (leaving v) (alike (leaving v) refl refl)
+    pauses_alike (broken k) = refl
 
-    left_quiet : (n : Place) (q : Piece) → unflagged_change (left_by program tables memory kits q n) ≡ left_by program tables memory kits (unflagged_piece q) n
-    left_quiet [] q = refl
-    left_quiet (k ∷ n) q = refl
+    syncs_quiet : unflagged_change (stalled_by program tables memory kits p (step_of program tables memory kits p.strand)) ≡ stalled_by program tables memory kits (unflagged_piece p) (step_of program tables memory kits (unflagged p.strand))
+    syncs_quiet =
+        let st = step_of program tables memory kits p.strand in
+        unflagged_stalled kits p st ∙ pauses_quiet kits (unflagged_piece p) st ∙ pauses_alike p.strand.phase
 
-    stalls_at : IsTold test p → (ph : Phase) (t : List Parent) (ks : List Continuation) → unflagged_change (stalled_at program tables memory kits (reflagged test p) ph (unflagged_under t) (map unflagged_continuation ks)) ≡ unflagged_change (stalled_at program tables memory kits p ph t ks)
-    stalls_at told (broken k) t ks = quiet_alike (λ q. stalled_at program tables memory kits q (broken k) [] []) (λ q. refl)
-    stalls_at told (leaving v) [] [] = quiet_alike (λ q. left_by program tables memory kits q q.strand.frame.instance) (λ q. left_quiet q.strand.frame.instance q)
-    stalls_at told (leaving v) [] (k ∷ ks) = refl
-    stalls_at told (leaving v) (r ∷ t) [] = by_step_alike (stalled_by program tables memory kits) (unflagged_stalled kits) told
-    stalls_at told (leaving v) (r ∷ t) (k ∷ ks) = refl
-    stalls_at told (entering child) t [] = by_step_alike (stalled_by program tables memory kits) (unflagged_stalled kits) told
-    stalls_at told (entering child) t (k ∷ ks) = refl
-    stalls_at told (running todo) t [] = by_step_alike (stalled_by program tables memory kits) (unflagged_stalled kits) told
-    stalls_at told (running todo) t (k ∷ ks) = refl
-    stalls_at told (spawning d x child todo) t [] = by_step_alike (stalled_by program tables memory kits) (unflagged_stalled kits) told
-    stalls_at told (spawning d x child todo) t (k ∷ ks) = refl
-    stalls_at told (returning v) t [] = by_step_alike (stalled_by program tables memory kits) (unflagged_stalled kits) told
-    stalls_at told (returning v) t (k ∷ ks) = refl
+    left_quiet : (n : Place) → unflagged_change (left_by program tables memory kits p n) ≡ left_by program tables memory kits (unflagged_piece p) n
+    left_quiet [] = refl
+    left_quiet (k ∷ n) = refl
+
+    stalls_at : (ph : Phase) (t : List Parent) (ks : List Continuation) → unflagged_change (stalled_at program tables memory kits p ph t ks) ≡ stalled_at program tables memory kits (unflagged_piece p) ph (unflagged_under t) (map unflagged_continuation ks)
+    stalls_at (broken k) t ks = refl
+    stalls_at (leaving v) [] [] = left_quiet p.strand.frame.instance
+    stalls_at (leaving v) [] (k ∷ ks) = refl
+    stalls_at (leaving v) (r ∷ t) [] = syncs_quiet
+    stalls_at (leaving v) (r ∷ t) (k ∷ ks) = refl
+    stalls_at (entering child) t [] = syncs_quiet
+    stalls_at (entering child) t (k ∷ ks) = refl
+    stalls_at (running todo) t [] = syncs_quiet
+    stalls_at (running todo) t (k ∷ ks) = refl
+    stalls_at (spawning d x child todo) t [] = syncs_quiet
+    stalls_at (spawning d x child todo) t (k ∷ ks) = refl
+    stalls_at (returning v) t [] = syncs_quiet
+    stalls_at (returning v) t (k ∷ ks) = refl
 
   -- ---- push, inline, pop, steal
 
@@ -214,7 +205,7 @@ module _ (program : Revised) (tables : Tables) (memory : Memory) where
       let named = same_name l.frame.instance (place_of_start r.start) in
       let both = (no_matter program tables (L program tables memory)).joins l r v in
       let may : may_join program tables memory l (joined program.tree l v r) ≡ may_join program tables memory l (unflagged (joined program.tree l v r)) =
-          ap (λ b. none_waits program tables memory l.start (joined program.tree l v r).frame && b) (sym (none_waits_same l.start (joined program.tree l v r).under)) in
+      ap (λ b. none_waits program tables memory l.start (joined program.tree l v r).frame && b) (sym (none_waits_same l.start (joined program.tree l v r).under)) in
       strand_if (named && may_join program tables memory l (joined program.tree l v r)) (joined program.tree l v r)
       ∙ ap (λ b. cond (named && b) (Some (unflagged (joined program.tree l v r))) None) may
       ∙ ap (λ s. cond (named && may_join program tables memory l s) (Some s) None) both
@@ -248,10 +239,6 @@ module _ (program : Revised) (tables : Tables) (memory : Memory) where
   among_quiet w kits before ps history st None = refl
   among_quiet w kits before ps history st (Some p) = ap (λ l. Some (record { pieces = l; kits = kits + 1; history = history ++ st ∷ [] })) (map_append unflagged_piece before (p ∷ ps))
 
-  cond_quiet : (b : Bool) (x y x' y' : Option RunState) → unflagged_after x ≡ x' → unflagged_after y ≡ y' → unflagged_after (cond b x y) ≡ cond b x' y'
-  cond_quiet true x y x' y' h k = h
-  cond_quiet false x y x' y' h k = k
-
   folds_quiet : (w : ℕ) (q : Place) (kits : ℕ) (before ps : List Piece) (history : List BookStep)
       → unflagged_after (folded_at program tables memory w q kits before ps history) ≡ folded_at program tables memory w q kits (map unflagged_piece before) (map unflagged_piece ps) history
   folds_quiet w q kits before [] history = refl
@@ -266,53 +253,47 @@ module _ (program : Revised) (tables : Tables) (memory : Memory) where
 
   -- ---- a step of a run
 
-  lines_alike : (test : TopTest) (ps : List Piece) → map line_of (map (reflagged test) ps) ≡ map line_of ps
-  lines_alike test [] = refl
-  lines_alike test (p ∷ ps) = ap (λ l. line_of p ∷ l) (lines_alike test ps)
+  idle_quiet : (b' b : Bool) (o : Option RunState) (o' : Option RunState) → b' ≡ b → unflagged_after o ≡ o' → unflagged_after (if_idle program tables memory b o) ≡ if_idle program tables memory b' o'
+  idle_quiet true true o o' e h = h
+  idle_quiet false false o o' e h = refl
+  idle_quiet true false o o' e h = absurd cc
+  idle_quiet false true o o' e h = absurd cc
 
-  idle_alike : (b' b : Bool) (o' o : Option RunState) → b' ≡ b → unflagged_after o' ≡ unflagged_after o → unflagged_after (if_idle program tables memory b' o') ≡ unflagged_after (if_idle program tables memory b o)
-  idle_alike true true o' o e h = h
-  idle_alike false false o' o e h = refl
-  idle_alike true false o' o e h = absurd cc
-  idle_alike false true o' o e h = absurd cc
+  lines_same : (ps : List Piece) → map line_of (map unflagged_piece ps) ≡ map line_of ps
+  lines_same [] = refl
+  lines_same (p ∷ ps) = ap (λ l. line_of p ∷ l) (lines_same ps)
 
-  all_of : (P Q : Piece → Type 0) → ((p : Piece) → P p → Q p) → (ps : List Piece) → Every P ps → Every Q ps
-  all_of P Q k [] h = tt
-  all_of P Q k (p ∷ ps) h = (k p h.0, all_of P Q k ps h.1)
+  idle_same : (w : ℕ) (ps : List Piece) → is_idle w (map unflagged_piece ps) ≡ is_idle w ps
+  idle_same w ps = ap (λ l. strands.is_free l w) (lines_same ps)
 
   any_of : (Q : Piece → Type 0) → ((p : Piece) → Q p) → (ps : List Piece) → Every Q ps
   any_of Q k [] = tt
   any_of Q k (p ∷ ps) = (k p, any_of Q k ps)
 
+  every_of : (P Q : Piece → Type 0) → ((p : Piece) → P p → Q p) → (ps : List Piece) → Every P ps → Every Q ps
+  every_of P Q k [] h = tt
+  every_of P Q k (p ∷ ps) h = (k p h.0, every_of P Q k ps h.1)
+
   module _ (test : TopTest) where
-    abbrev Same : (Piece → Option Change) → Piece → Type 0
-    Same change p = unflagged_change (change (reflagged test p)) ≡ unflagged_change (change p)
+    -- a change that has no use for flags
+    changes_quiet : (w : ℕ) (change : Piece → Option Change) → ((p : Piece) → unflagged_change (change p) ≡ change (unflagged_piece p)) → (s : RunState) → unflagged_after (changed w change [] s.pieces s.history) ≡ changed w change [] (map unflagged_piece s.pieces) s.history
+    changes_quiet w change h s = unflagged_changed w change change [] s.pieces s.history (any_of (λ p. unflagged_change (change p) ≡ change (unflagged_piece p)) h s.pieces)
 
-    abbrev again_state : RunState → RunState
-    again_state s = record { pieces = map (reflagged test) s.pieces; kits = s.kits; history = s.history }
-
-    quiet_step : (w : ℕ) (change : Piece → Option Change) → ((q : Piece) → unflagged_change (change q) ≡ change (unflagged_piece q)) → (s : RunState) → unflagged_after (changed w change [] (map (reflagged test) s.pieces) s.history) ≡ unflagged_after (changed w change [] s.pieces s.history)
-    quiet_step w change h s = changed_alike test w change [] [] s.pieces s.history refl (any_of (Same change) (λ p. quiet_alike test s.kits p change h) s.pieces)
-
-    after_alike : (s : RunState) (e : RunStep) → Every (IsTold test) s.pieces → unflagged_after (after_step program tables memory (again_state s) e) ≡ unflagged_after (after_step program tables memory s e)
-    after_alike s (work w) h = changed_alike test w (worked program tables memory s.kits) [] [] s.pieces s.history refl (all_of (IsTold test) (Same (worked program tables memory s.kits)) (works_alike test s.kits) s.pieces h)
-    after_alike s (push w) h = quiet_step w (pushed program tables memory s.kits) (λ q. pushes_quiet s.kits q q.strand.phase) s
-    after_alike s (inline w) h = quiet_step w (inlined_of program tables memory s.kits) (λ q. inlines_quiet s.kits q q.strand.phase) s
-    after_alike s (pop w) h = quiet_step w (popped program tables memory s.kits) (λ q. pops_quiet s.kits q q.strand.phase q.strand.under q.deque) s
-    after_alike s (stall w) h =
-        changed_alike test w (stalled program tables memory s.kits) [] [] s.pieces s.history refl (all_of (IsTold test) (Same (stalled program tables memory s.kits)) (λ p told. stalls_at test s.kits p told p.strand.phase p.strand.under p.deque) s.pieces h)
-    after_alike s (steal y v) h =
-        idle_alike (is_idle y (map (reflagged test) s.pieces)) (is_idle y s.pieces) _ _ (ap (λ l. strands.is_free l y) (lines_alike test s.pieces)) (quiet_step v (stolen_from program tables memory y s.kits) (steals_quiet y s.kits) s)
-    after_alike s (fold w q) h =
-        idle_alike (is_idle w (map (reflagged test) s.pieces)) (is_idle w s.pieces) _ _ (ap (λ l. strands.is_free l w) (lines_alike test s.pieces))
-        (folds_quiet w q s.kits [] (map (reflagged test) s.pieces) s.history
-        ∙ ap (λ ps. folded_at program tables memory w q s.kits [] ps s.history) (all_again test s.pieces)
-        ∙ sym (folds_quiet w q s.kits [] s.pieces s.history))
-
-    pub step_same : (s : RunState) (e : RunStep) → Every (IsTold test) s.pieces → step_by program tables memory test (unflagged_run s) e ≡ unflagged_after (after_step program tables memory s e)
-    step_same s e h =
-        ap (λ ps. unflagged_after (after_step program tables memory (record { pieces = ps; kits = s.kits; history = s.history }) e)) (both_maps test s.pieces)
-        ∙ after_alike s e h
+    step_quiet : (s : RunState) (e : RunStep) → Every (IsTold test) s.pieces → unflagged_after (after_step program tables memory s e) ≡ step_by program tables memory test (unflagged_run s) e
+    step_quiet s (work w) h =
+        let works = worked program tables memory s.kits in
+        let works' = worked_with program tables memory test s.kits in
+        unflagged_changed w works works' [] s.pieces s.history (every_of (IsTold test) (λ p. unflagged_change (works p) ≡ works' (unflagged_piece p)) (works_quiet test s.kits) s.pieces h)
+    step_quiet s (push w) h = changes_quiet w (pushed program tables memory s.kits) (λ p. pushes_quiet s.kits p p.strand.phase) s
+    step_quiet s (inline w) h = changes_quiet w (inlined_of program tables memory s.kits) (λ p. inlines_quiet s.kits p p.strand.phase) s
+    step_quiet s (pop w) h = changes_quiet w (popped program tables memory s.kits) (λ p. pops_quiet s.kits p p.strand.phase p.strand.under p.deque) s
+    step_quiet s (stall w) h = changes_quiet w (stalled program tables memory s.kits) (λ p. stalls_at s.kits p p.strand.phase p.strand.under p.deque) s
+    step_quiet s (steal t v) h =
+        idle_quiet (is_idle t (map unflagged_piece s.pieces)) (is_idle t s.pieces) (changed v (stolen_from program tables memory t s.kits) [] s.pieces s.history) _ (idle_same t s.pieces)
+        (changes_quiet v (stolen_from program tables memory t s.kits) (steals_quiet t s.kits) s)
+    step_quiet s (fold w q) h =
+        idle_quiet (is_idle w (map unflagged_piece s.pieces)) (is_idle w s.pieces) (folded_at program tables memory w q s.kits [] s.pieces s.history) _ (idle_same w s.pieces)
+        (folds_quiet w q s.kits [] s.pieces s.history)
 
     -- ---- whole runs
 
@@ -335,7 +316,7 @@ module _ (program : Revised) (tables : Tables) (memory : Memory) where
           let t = or_same program tables memory s o in
           let next : t ≡ reached (done ++ e ∷ []) = ap (λ x. or_same program tables memory x (after_step program tables memory x e)) q ∙ sym (path_append (first_state program.tree kits) done (e ∷ [])) in
           let here : Every (IsTold test) s.pieces = subst (λ x. Every (IsTold test) x.pieces) (sym q) (told done) in
-          let one : or_same program tables memory (unflagged_run s) (step_by program tables memory test (unflagged_run s) e) ≡ unflagged_run t = ap (or_same program tables memory (unflagged_run s)) (step_same s e here) ∙ or_same_quiet s o in
+          let one : or_same program tables memory (unflagged_run s) (step_by program tables memory test (unflagged_run s) e) ≡ unflagged_run t = ap (or_same program tables memory (unflagged_run s)) (sym (step_quiet s e here)) ∙ or_same_quiet s o in
           ap (λ x. path_by program tables memory test x es) one ∙ path_from es t (done ++ e ∷ []) next
 
       path_same : (es : List RunStep) → path_by program tables memory test (first_state program.tree kits) es ≡ unflagged_run (reached es)
@@ -349,7 +330,7 @@ module _ (program : Revised) (tables : Tables) (memory : Memory) where
     pub runs_by : ((kits : ℕ) (es : List RunStep) → Every (IsTold test) (path program tables memory (first_state program.tree kits) es).pieces) → RunsBy program tables memory test
     runs_by told =
         record {
-          steps = λ kits es e. step_same (path program tables memory (first_state program.tree kits) es) e (told kits es);
+          steps = λ kits es e. sym (step_quiet (path program tables memory (first_state program.tree kits) es) e (told kits es));
           paths = λ kits es. path_same kits (told kits) es;
           ends = λ kits es. ap end_of (path_same kits (told kits) es) ∙ same_answer (path program tables memory (first_state program.tree kits) es).pieces;
         }

@@ -1,5 +1,5 @@
 -- A small step needs no flag but that of an instance that returns above the strand's entry.
-use Rattle.std.proofs.Common.{◌-◌, ◌&&◌, ℕ, zero, suc, List, [], ◌∷◌, map, Option, Some, None, Result, Ok, Err, ℤ, ◌≡◌, refl, sym, ap, ◌∙◌, true, false, Bool, cond}
+use Rattle.std.proofs.Common.{◌-◌, ℕ, zero, suc, List, [], ◌∷◌, map, Option, Some, None, Result, Ok, Err, ℤ, ◌≡◌, refl, sym, ap, ◌∙◌, true, false, Bool, cond}
 use Rattle.std.specs.Prelude.{nat_le}
 use Rattle.program_tree.specs.Plain.{Name, bind, enter, read, sync, update, choose, loop, give, end, step, Tree}
 use Rattle.program_tree.specs.declared.Way.TheVariants.{Call, Spawn}
@@ -12,17 +12,13 @@ use Rattle.meaning.specs.Elision.{depth_limit}
 use Rattle.meaning.specs.Records.{Revised, Kept}
 use Rattle.meaning.specs.Trail.{halvings, fault_at}
 use Rattle.meaning.specs.SmallStep.{seen, Start, is_entry, Frame, Todo, blocks, halves, second, turns, Child, instance, half, Phase, entering, running, spawning, returning, leaving, broken, Parent, Layers, noting, opening_one, closing_one, Step, moved, taken, paused, led_step, unless, settling, on_value, on_depth, Lookup, memo_answer, opened, child_name, awaiting, with_layer, enter_by, leaving_layer, enter_step, enter_child, todo_step, micro}
-use Rattle.meaning.specs.Layers.{Notes, noted_top}
+use Rattle.meaning.specs.Layers.{Notes}
 use Rattle.meaning.specs.Tallies.{Opened, Tally, executions, opened_all, tallied}
 use Rattle.trail_theory.specs.OwnLayers.{TopTest, frame_by}
 use Rattle.trail_theory.specs.Unflagged.{unflagged_parent, unflagged_under}
+use Rattle.run_theory.specs.UnflaggedRuns.{unflagged_step}
 
-abbrev pub unflagged_step : Step → Step
-unflagged_step (moved l evs fr ph t) = moved l evs (with_layer false fr) ph (unflagged_under t)
-unflagged_step (taken evs k fr ph t) = taken evs k (with_layer false fr) ph (unflagged_under t)
-unflagged_step (paused p) = paused p
-
-pub unflagged_twice : (t : List Parent) → unflagged_under (unflagged_under t) ≡ unflagged_under t
+unflagged_twice : (t : List Parent) → unflagged_under (unflagged_under t) ≡ unflagged_under t
 unflagged_twice [] = refl
 unflagged_twice (p ∷ t) = ap (λ u. unflagged_parent p ∷ u) (unflagged_twice t)
 

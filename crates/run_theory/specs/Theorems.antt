@@ -14,6 +14,8 @@ use Rattle.trail_theory.specs.Order.{Every}
 use Rattle.trail_theory.specs.ReadsAtEnd.{KeepsRules}
 use Rattle.trail_theory.specs.Counts.{CountsNeeded}
 use Rattle.trail_theory.specs.OpenLayers.{IsNewRecord}
+use Rattle.trail_theory.specs.OwedLayers.{Unbroken}
+use Rattle.trail_theory.specs.OwnLayers.{OwnsNow}
 use Rattle.trail_theory.specs.Typed.{HasMonoids, ProgramFits, TablesFit}
 use Rattle.run_theory.specs.RightRuns.{IsRightRun}
 use Rattle.run_theory.specs.OverRuns.{ReadsNoMore, AreOver}
@@ -86,6 +88,10 @@ module _ (program : Revised) (tables : Tables) (memory : Memory) where
   -- each record that the strands have made is sound, holds now, and fits at the least depth
   abbrev pub PathsMakeNews : Type 0
   PathsMakeNews = (kits : ℕ) (es : List RunStep) → Every (λ p. Every (IsNewRecord program tables) p.tally.made) (path program tables memory (first_state program.tree kits) es).pieces
+
+  -- each strand without a fault owns its open layers: they are those of instances on the way to its topmost one
+  abbrev pub PathsOwnLayers : Type 0
+  PathsOwnLayers = (kits : ℕ) (es : List RunStep) → Every (λ p. Unbroken p.strand.phase (OwnsNow program tables (valid_record program tables memory.records) p.strand p.tally)) (path program tables memory (first_state program.tree kits) es).pieces
 
   -- where a run has come to its end without a fault, its tally has counted the needed instances
   abbrev pub PathsCountNeeded : Type 0

@@ -2,13 +2,18 @@
 use Rattle.std.specs.Prelude.{◌≡◌, ℕ, false, List, [], ◌∷◌, map, Option, Some, None}
 use Rattle.meaning.specs.Tables.{Tables}
 use Rattle.meaning.specs.Records.{Revised}
-use Rattle.meaning.specs.SmallStep.{is_entry}
-use Rattle.meaning.specs.Schedules.{Memory, Piece, RunState, RunStep, first_state, after_step, or_same, path, end_of}
+use Rattle.meaning.specs.SmallStep.{is_entry, with_layer, Step, moved, taken, paused}
+use Rattle.meaning.specs.Schedules.{Memory, Piece, RunState, RunStep, Change, work, push, inline, pop, stall, steal, fold, first_state, changed, step_of, worked_by, after_step, or_same, path, end_of}
 use Rattle.trail_theory.specs.Order.{Every}
 use Rattle.trail_theory.specs.OwnLayers.{TopTest, strand_by, by_name}
-use Rattle.trail_theory.specs.Unflagged.{unflagged, unflagged_continuation}
+use Rattle.trail_theory.specs.Unflagged.{unflagged_under, unflagged, unflagged_continuation}
 
--- ---- a run without flags
+-- ---- without flags
+
+abbrev pub unflagged_step : Step → Step
+unflagged_step (moved l evs fr ph t) = moved l evs (with_layer false fr) ph (unflagged_under t)
+unflagged_step (taken evs k fr ph t) = taken evs k (with_layer false fr) ph (unflagged_under t)
+unflagged_step (paused p) = paused p
 
 abbrev pub unflagged_piece : Piece → Piece
 unflagged_piece p = record { strand = unflagged p.strand; deque = map unflagged_continuation p.deque; state = p.state; tally = p.tally }
@@ -21,25 +26,31 @@ abbrev pub unflagged_after : Option RunState → Option RunState
 unflagged_after None = None
 unflagged_after (Some s) = Some (unflagged_run s)
 
--- each instance that returns has the flag that the test gives it
-abbrev pub flagged_piece : TopTest → Piece → Piece
-flagged_piece test p = record { strand = strand_by test p.strand p.tally; deque = p.deque; state = p.state; tally = p.tally }
-
-abbrev pub flagged_run : TopTest → RunState → RunState
-flagged_run test s = record { pieces = map (flagged_piece test) s.pieces; kits = s.kits; history = s.history }
-
 -- off a strand's entry, the flag of an instance that returns is the one that its name gives it
 abbrev pub IsToldByName : Piece → Type 0
 IsToldByName p = is_entry p.strand.start p.strand.frame.instance ≡ false → by_name p.strand p.tally ≡ p.strand
 
 module _ (program : Revised) (tables : Tables) (memory : Memory) where
+  -- so it is after any steps
   abbrev pub FlagsAreTold : Type 0
   FlagsAreTold = (kits : ℕ) (es : List RunStep) → Every IsToldByName (path program tables memory (first_state program.tree kits) es).pieces
 
+  -- ---- steps of a run without flags
+
   module _ (test : TopTest) where
-    -- a step of a run without flags: an instance that returns has the flag that the test gives it, and none afterwards
+    -- a small step, in which an instance that returns has the flag that the test gives it
+    abbrev pub worked_with : ℕ → Piece → Option Change
+    worked_with kits p = worked_by program tables memory kits p (unflagged_step (step_of program tables memory kits (strand_by test p.strand p.tally)))
+
+    -- no other step asks for a flag
     abbrev pub step_by : RunState → RunStep → Option RunState
-    step_by s e = unflagged_after (after_step program tables memory (flagged_run test s) e)
+    step_by s (work w) = changed w (worked_with s.kits) [] s.pieces s.history
+    step_by s (push w) = after_step program tables memory s (push w)
+    step_by s (inline w) = after_step program tables memory s (inline w)
+    step_by s (pop w) = after_step program tables memory s (pop w)
+    step_by s (stall w) = after_step program tables memory s (stall w)
+    step_by s (steal t v) = after_step program tables memory s (steal t v)
+    step_by s (fold w q) = after_step program tables memory s (fold w q)
 
     abbrev pub path_by : RunState → List RunStep → RunState
     path_by s [] = s

@@ -4,7 +4,7 @@
 ghost use Rattle.meaning.specs.Records.{Revised};
 ghost use Rattle.meaning.specs.Schedules.{Memory};
 ghost use Rattle.meaning.specs.Tables.{Tables};
-ghost use Rattle.run_theory.specs.Theorems.{IsReady, StepsStayRight, PathsAreRight, RightRunsAnswer, PathsAnswer, StepsKeepKits, PathsKeepKits, EndsFreeKits, PathsKeepHistory, NeighboursFold, PathsMakeNews, PathsCountNeeded, PathsLeaveNothing, RestBegins, PathsKeepRest, RestEnds, OverRunsAnswer, FrontRunsAnswer};
+ghost use Rattle.run_theory.specs.Theorems.{IsReady, StepsStayRight, PathsAreRight, RightRunsAnswer, PathsAnswer, StepsKeepKits, PathsKeepKits, EndsFreeKits, PathsKeepHistory, NeighboursFold, PathsMakeNews, PathsOwnLayers, PathsCountNeeded, PathsLeaveNothing, RestBegins, PathsKeepRest, RestEnds, OverRunsAnswer, FrontRunsAnswer};
 ghost use Rattle.trail_theory.specs.OpenLayers.{IsNumbered};
 ghost use Rattle.run_theory.specs.Progress.{HoldersGoOn, LaidRunsGoOn, SomeStepIsThere};
 ghost use Rattle.run_theory.specs.UnflaggedRuns.{FlagsAreTold, RunsBy};
@@ -58,6 +58,11 @@ pub fn neighbours_fold()
 /// After any steps each record that a strand has made is sound, holds now, and fits at the least depth.
 pub fn paths_make_news()
     ensures news { (program : Revised) (tables : Tables) (memory : Memory) → IsReady program tables memory → IsNumbered program → PathsMakeNews program tables memory }
+{}
+
+/// After any steps the open layers of each strand without a fault are those of instances on the way to its topmost one, each inside the next.
+pub fn paths_own_layers()
+    ensures own { (program : Revised) (tables : Tables) (memory : Memory) → IsReady program tables memory → IsNumbered program → PathsOwnLayers program tables memory }
 {}
 
 /// Where a run has come to its end without a fault, its tally has counted the needed instances: as executed those that no valid record answers, as reused the others.
