@@ -1,7 +1,6 @@
 -- Steps of runs of numbers and of the definitions that agree: both are taken, and what comes of the one stands for what comes of the other, or both are refused.
 use Rattle.std.proofs.Common.{◌≡◌, inl, inr, ℕ, Bool, true, false, cond, List, [], ◌∷◌, ◌++◌, append_assoc, Option, Some, None, Result, Ok, Err, refl, sym, ◌∙◌, ap, subst}
 use Rattle.std.specs.Prelude.{take}
-use Rattle.program_tree.specs.Plain.{Tree}
 use Rattle.meaning.specs.Outcome.{Place}
 use Rattle.meaning.specs.Trail.{child_of}
 use Rattle.meaning.specs.SmallStep.{root, behind, Start as NamedStart}
@@ -9,8 +8,7 @@ use Rattle.meaning.specs.Strands.{State, Held, Ended, Stalled, BookStep, holds_b
 use Rattle.meaning.specs.Strands as strands
 use Rattle.meaning.specs.Schedules.{Piece, RunState}
 use Rattle.meaning.specs.Schedules as schedules
-use Rattle.linked_program.specs.declared.code.Code.{Code}
-use Rattle.linked_program.specs.TableNames.{Columned}
+use Rattle.positions.specs.Setting.{Setting}
 use Rattle.positions.specs.declared.phase.Phase.{Phase}
 use Rattle.positions.specs.declared.start.Start.{Start}
 use Rattle.positions.specs.declared.start.Start.TheVariants.{Root, Behind}
@@ -40,12 +38,12 @@ held_any w Stalled ph e = absurd cc
 held_any w strands.Faulted ph e = absurd cc
 held_any w strands.Finished ph e = absurd cc
 
-module _ (ts : List Columned) (t : Tree) (codes : List Code) where
-  pub piece_place : (p : PlainPiece) (x : Piece) → StandsForPiece ts t codes p x → schedules.place_of x ≡ place_of p
+module _ (setting : Setting) where
+  pub piece_place : (p : PlainPiece) (x : Piece) → StandsForPiece setting p x → schedules.place_of x ≡ place_of p
   piece_place p x h = place_at p.strand.start p.strand.phase p.strand.path x.strand.start h.strand.start
 
   pub record StandsForChange (c : Change) (d : schedules.Change) : Type 0 where
-    pub pieces : StandForPieces ts t codes c.pieces d.pieces
+    pub pieces : StandForPieces setting c.pieces d.pieces
     pub kits : d.kits ≡ c.kits
     pub noted : d.noted ≡ c.noted
 
@@ -55,31 +53,31 @@ module _ (ts : List Columned) (t : Tree) (codes : List Code) where
   Agrees _ _ = ⊥
 
   abbrev pub RunAgrees : Result PlainRun Refusal → Option RunState → Type 0
-  RunAgrees (Ok s) (Some y) = StandsForRun ts t codes s y
+  RunAgrees (Ok s) (Some y) = StandsForRun setting s y
   RunAgrees (Err e) None = Unit {0}
   RunAgrees _ _ = ⊥
 
   -- ---- lists of pieces
 
-  pub none_there : (q : PlainPiece) (ps : List PlainPiece) → StandForPieces ts t codes (q ∷ ps) [] → ⊥
+  pub none_there : (q : PlainPiece) (ps : List PlainPiece) → StandForPieces setting (q ∷ ps) [] → ⊥
   none_there q [] h = h
   none_there q (r ∷ ps) h = h
 
   -- a strand that waits is no left one of two between which a fold was refused
-  pub waiting_first : (r : PlainPiece) (ps : List PlainPiece) (y : Piece) (xs : List Piece) → waits r.state ≡ true → StandForPieces ts t codes (r ∷ ps) (y ∷ xs) → StandsForPiece ts t codes r y × StandForPieces ts t codes ps xs
+  pub waiting_first : (r : PlainPiece) (ps : List PlainPiece) (y : Piece) (xs : List Piece) → waits r.state ≡ true → StandForPieces setting (r ∷ ps) (y ∷ xs) → StandsForPiece setting r y × StandForPieces setting ps xs
   waiting_first r [] y [] e h = (h, tt)
   waiting_first r [] y (z ∷ xs) e h = absurd h
   waiting_first r (q ∷ ps) y [] e h = absurd h
   waiting_first r (q ∷ ps) y (z ∷ xs) e (inl h) = h
   waiting_first r (q ∷ ps) y (z ∷ xs) e (inr h) = let f : waits r.state ≡ false = ap waits h.0.ended in absurd cc
 
-  pub with_first : (p : PlainPiece) (ps : List PlainPiece) (x : Piece) (xs : List Piece) → StandsForPiece ts t codes p x → StandForPieces ts t codes ps xs → StandForPieces ts t codes (p ∷ ps) (x ∷ xs)
+  pub with_first : (p : PlainPiece) (ps : List PlainPiece) (x : Piece) (xs : List Piece) → StandsForPiece setting p x → StandForPieces setting ps xs → StandForPieces setting (p ∷ ps) (x ∷ xs)
   with_first p [] x [] h r = h
   with_first p [] x (y ∷ xs) h r = absurd r
   with_first p (q ∷ ps) x [] h r = absurd (none_there q ps r)
   with_first p (q ∷ ps) x (y ∷ xs) h r = inl (h, r)
 
-  pub in_front : (bs ps : List PlainPiece) (us xs : List Piece) → StandForPieces ts t codes bs us → StandForPieces ts t codes ps xs → StandForPieces ts t codes (bs ++ ps) (us ++ xs)
+  pub in_front : (bs ps : List PlainPiece) (us xs : List Piece) → StandForPieces setting bs us → StandForPieces setting ps xs → StandForPieces setting (bs ++ ps) (us ++ xs)
   in_front [] ps [] xs h r = r
   in_front [] ps (a ∷ us) xs h r = absurd h
   in_front (b ∷ bs) ps [] xs h r = absurd (none_there b bs h)
@@ -103,7 +101,7 @@ module _ (ts : List Columned) (t : Tree) (codes : List Code) where
   skip_agrees false true r r' o o' e f h = absurd cc
 
   among_agrees : (before later : List PlainPiece) (us xs : List Piece) (history history' : List BookStep) (r : Result Change Refusal) (o : Option schedules.Change)
-      → StandForPieces ts t codes before us → StandForPieces ts t codes later xs → history' ≡ history → Agrees r o → RunAgrees (among before later history r) (schedules.among us xs history' o)
+      → StandForPieces setting before us → StandForPieces setting later xs → history' ≡ history → Agrees r o → RunAgrees (among before later history r) (schedules.among us xs history' o)
   among_agrees before later us xs history history' (Ok c) (Some d) hb hl e h = record {
     pieces = in_front before (c.pieces ++ later) us (d.pieces ++ xs) hb (in_front c.pieces later d.pieces xs h.pieces hl);
     kits = h.kits;
@@ -114,8 +112,8 @@ module _ (ts : List Columned) (t : Tree) (codes : List Code) where
   among_agrees before later us xs history history' (Err e) (Some d) hb hl e' h = absurd h
 
   module _ (Q : Piece → Type 0) (e : Refusal) (w : ℕ) (f : PlainPiece → Result Change Refusal) (g : Piece → Option schedules.Change) (history history' : List BookStep) (same : history' ≡ history)
-      (agree : (p : PlainPiece) (x : Piece) → Q x → is_held_by w p ≡ true → StandsForPiece ts t codes p x → Agrees (f p) (g x)) where
-    pub changed_agrees : (before ps : List PlainPiece) (us xs : List Piece) → StandForPieces ts t codes before us → StandForPieces ts t codes ps xs → Each Q xs
+      (agree : (p : PlainPiece) (x : Piece) → Q x → is_held_by w p ≡ true → StandsForPiece setting p x → Agrees (f p) (g x)) where
+    pub changed_agrees : (before ps : List PlainPiece) (us xs : List Piece) → StandForPieces setting before us → StandForPieces setting ps xs → Each Q xs
         → RunAgrees (changed e w f before ps history) (schedules.changed w g us xs history')
     changed_agrees before [] us [] hb h q = tt
     changed_agrees before [] us (x ∷ xs) hb h q = absurd h
@@ -136,6 +134,6 @@ module _ (ts : List Columned) (t : Tree) (codes : List Code) where
         (skip_agrees (is_held_by w r) (schedules.is_held_by w y) _ (changed e w f ((before ++ p ∷ []) ++ r ∷ []) ps history) _ (schedules.changed w g ((us ++ x ∷ []) ++ y ∷ []) xs history')
         (ap (holds_by w) h.0.stalled) (ap (holds_by w) (h.0.right.state ∙ h.0.stalled))
         (changed_agrees ((before ++ p ∷ []) ++ r ∷ []) ps ((us ++ x ∷ []) ++ y ∷ []) xs
-        (subst (λ bs. StandForPieces ts t codes bs ((us ++ x ∷ []) ++ y ∷ [])) (sym (append_assoc before (p ∷ []) (r ∷ [])))
-        (subst (λ zs. StandForPieces ts t codes (before ++ p ∷ r ∷ []) zs) (sym (append_assoc us (x ∷ []) (y ∷ [])))
+        (subst (λ bs. StandForPieces setting bs ((us ++ x ∷ []) ++ y ∷ [])) (sym (append_assoc before (p ∷ []) (r ∷ [])))
+        (subst (λ zs. StandForPieces setting (before ++ p ∷ r ∷ []) zs) (sym (append_assoc us (x ∷ []) (y ∷ [])))
         (in_front before (p ∷ r ∷ []) us (x ∷ y ∷ []) hb (inr (h.0, tt))))) h.1 q.1.1))

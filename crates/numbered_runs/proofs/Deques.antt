@@ -2,12 +2,9 @@
 use Rattle.std.proofs.Common.{◌≡◌, inl, inr, ℕ, zero, suc, ◌+◌, Bool, true, false, List, [], ◌∷◌, ◌++◌, length, Option, Some, None, refl, sym, ◌∙◌, ap, subst, arith}
 use Rattle.std.specs.Prelude.{ℤ}
 use Rattle.std.proofs.lemmas.List.{length-append}
-use Rattle.monoid_laws.specs.declared.Kind.{Kind}
 use Rattle.program_tree.specs.Plain.{Tree}
-use Rattle.meaning.specs.Tables.{Tables}
 use Rattle.meaning.specs.Outcome.{Place, Fault}
 use Rattle.meaning.specs.Trail.{child_of, sight_of}
-use Rattle.meaning.specs.Records.{Revised}
 use Rattle.meaning.specs.Tallies.{valid_record}
 use Rattle.meaning.specs.SmallStep.{Phase as NamedPhase, leaving, broken, Parent, Continuation, place_of_continuation}
 use Rattle.meaning.specs.Strands as strands
@@ -15,11 +12,7 @@ use Rattle.meaning.specs.RestOfRun.{lowest}
 use Rattle.meaning.specs.Schedules.{Piece, without_memo}
 use Rattle.meaning.specs.Schedules as schedules
 use Rattle.run_theory.specs.RightRuns.{front, Links, PiecesFit}
-use Rattle.linked_program.specs.declared.code.Code.{Code}
-use Rattle.linked_program.specs.TableNames.{Columned}
-use Rattle.linked_program.specs.Procedures.{procedures}
-use Rattle.linked_program.specs.Linked.{kinds_of}
-use Rattle.linked_program.specs.CodeView.{AreCodesOf}
+use Rattle.positions.specs.Setting.{Setting, IsLinked}
 use Rattle.positions.specs.declared.phase.Phase.{Phase}
 use Rattle.positions.specs.declared.phase.Phase.TheVariants as phase
 use Rattle.positions.specs.Activations.{PlainActivation}
@@ -35,10 +28,10 @@ use Rattle.numbered_runs.proofs.Agreeing.{Each, held_any, piece_place, Agrees}
 abbrev pub Linked : Piece → Type 0
 Linked x = (e : Place) × (((k : Fault) → x.strand.phase ≡ broken k → ⊥) → Links (lowest x.strand.frame x.strand.under) x.deque e)
 
-pub each_linked : (program : Revised) (tables : Tables) (first : Bool) (xs : List Piece) (found : List Bool) → PiecesFit program.tree tables (sight_of program.tree tables) (valid_record program tables []) first xs found → Each Linked xs
-each_linked program tables first [] found h = tt
-each_linked program tables first (x ∷ xs) found h =
-    ((front xs, λ s. elim h.1.fits [ inl w ↦ w.links | inr c ↦ absurd (s c.fault c.phase) ]), each_linked program tables false xs h.0 h.2)
+pub each_linked : (setting : Setting) (first : Bool) (xs : List Piece) (found : List Bool) → PiecesFit setting.program.tree setting.tables (sight_of setting.program.tree setting.tables) (valid_record setting.program setting.tables setting.memory.records) first xs found → Each Linked xs
+each_linked setting first [] found h = tt
+each_linked setting first (x ∷ xs) found h =
+    ((front xs, λ s. elim h.1.fits [ inl w ↦ w.links | inr c ↦ absurd (s c.fault c.phase) ]), each_linked setting false xs h.0 h.2)
 
 resumed_lower : (o : Option ℤ) (task : PlainTask) (s : PlainStrand) → (resumed_by o task s).lower ≡ s.lower
 resumed_lower None task s = refl
@@ -47,50 +40,50 @@ resumed_lower (Some v) task s = refl
 no_child : (m : Place) (k : ℕ) → [] ≡ m ++ k ∷ [] → ⊥
 no_child m k e = let c : 0 ≡ length m + 1 = ap length e ∙ length-append m (k ∷ []) in omega arith
 
-module _ (ts : List Columned) (program : Revised) (codes : List Code) (tables : Tables) where
+module _ (setting : Setting) where
   abbrev t : Tree
-  t = program.tree
+  t = setting.program.tree
 
-  no_parents : (path : Place) (under : List Parent) → AreParents ts t codes path [] under → under ≡ []
+  no_parents : (path : Place) (under : List Parent) → AreParents setting path [] under → under ≡ []
   no_parents path [] h = refl
   no_parents path (p ∷ under) h = absurd h
 
   -- the place behind which a continuation goes on
-  pub task_place : (task : PlainTask) (k : Continuation) → StandsForTask ts t codes task k → place_of_continuation k ≡ task.place
+  pub task_place : (task : PlainTask) (k : Continuation) → StandsForTask setting task k → place_of_continuation k ≡ task.place
   task_place task k h =
       ap (λ fr. child_of fr.instance k.child) h.parent.frame ∙ ap (child_of (shorter task.place)) h.child ∙ sym h.parent.named
 
-  module _ (kits kits' : ℕ) (same : kits' ≡ kits) (p : PlainPiece) (x : Piece) (w : ℕ) (held : is_held_by w p ≡ true) (h : StandsForPiece ts t codes p x) where
-    resumes : (v : ℤ) (task : PlainTask) (tasks : List PlainTask) (k : Continuation) (ks : List Continuation) → p.strand.path ≡ task.place → StandsForTask ts t codes task k → StandForTasks ts t codes tasks ks → x.strand.phase ≡ leaving v → x.strand.under ≡ []
-        → Agrees ts t codes (popped_of (task ∷ tasks) kits p) (schedules.popped_at program tables without_memo kits' x (leaving v) [] (k ∷ ks))
+  module _ (kits kits' : ℕ) (same : kits' ≡ kits) (p : PlainPiece) (x : Piece) (w : ℕ) (held : is_held_by w p ≡ true) (h : StandsForPiece setting p x) where
+    resumes : (v : ℤ) (task : PlainTask) (tasks : List PlainTask) (k : Continuation) (ks : List Continuation) → p.strand.path ≡ task.place → StandsForTask setting task k → StandForTasks setting tasks ks → x.strand.phase ≡ leaving v → x.strand.under ≡ []
+        → Agrees setting (popped_of (task ∷ tasks) kits p) (schedules.popped_at setting.program setting.tables setting.memory kits' x (leaving v) [] (k ∷ ks))
     resumes v task tasks k ks at task_is tasks_are ph under = record {
-      pieces = record { strand = resumed_is ts t codes task p.strand x.strand k v at h.strand task_is ph under; one_layer = resumed_lower (returned_of p.strand) task p.strand ∙ h.one_layer; tasks = tasks_are; state = h.state; laid = held_any w p.state _ held };
+      pieces = record { strand = resumed_is setting task p.strand x.strand k v at h.strand task_is ph under; one_layer = resumed_lower (returned_of p.strand) task p.strand ∙ h.one_layer; tasks = tasks_are; state = h.state; laid = held_any w p.state _ held };
       kits = same;
       noted = refl;
     }
 
-    popped_leaving : (v : ℤ) (path : Place) (tasks : List PlainTask) (ks : List Continuation) → p.strand.path ≡ path → p.deque ≡ tasks → x.deque ≡ ks → StandForTasks ts t codes tasks ks → x.strand.phase ≡ leaving v → x.strand.under ≡ [] → x.strand.frame.instance ≡ p.strand.path → Linked x
-        → Agrees ts t codes (popped_by (returned_at (phase.Leaving v) [] path) kits p) (schedules.popped_at program tables without_memo kits' x (leaving v) [] ks)
+    popped_leaving : (v : ℤ) (path : Place) (tasks : List PlainTask) (ks : List Continuation) → p.strand.path ≡ path → p.deque ≡ tasks → x.deque ≡ ks → StandForTasks setting tasks ks → x.strand.phase ≡ leaving v → x.strand.under ≡ [] → x.strand.frame.instance ≡ p.strand.path → Linked x
+        → Agrees setting (popped_by (returned_at (phase.Leaving v) [] path) kits p) (schedules.popped_at setting.program setting.tables setting.memory kits' x (leaving v) [] ks)
     popped_leaving v [] [] [] a b c r ph u n l = tt
-    popped_leaving v (i ∷ path) [] [] a b c r ph u n l = subst (λ ds. Agrees ts t codes (popped_of ds kits p) (schedules.popped_at program tables without_memo kits' x (leaving v) [] [])) (sym b) tt
+    popped_leaving v (i ∷ path) [] [] a b c r ph u n l = subst (λ ds. Agrees setting (popped_of ds kits p) (schedules.popped_at setting.program setting.tables setting.memory kits' x (leaving v) [] [])) (sym b) tt
     popped_leaving v path [] (k ∷ ks) a b c r ph u n l = absurd r
     popped_leaving v path (task ∷ tasks) [] a b c r ph u n l = absurd r
     popped_leaving v [] (task ∷ tasks) (k ∷ ks) a b c r ph u n l = absurd (no_child (shorter task.place) task.top.children (sym a ∙ at ∙ r.0.parent.named)) where
       at : p.strand.path ≡ task.place
       at = sym n ∙ (subst (λ ds. Links x.strand.frame.instance ds l.0) c (subst (λ us. Links (lowest x.strand.frame us) x.deque l.0) u (l.1 (λ f e. let z : leaving v ≡ broken f = sym ph ∙ e in absurd cc)))).0 ∙ task_place task k r.0
     popped_leaving v (i ∷ path) (task ∷ tasks) (k ∷ ks) a b c r ph u n l =
-        subst (λ ds. Agrees ts t codes (popped_of ds kits p) (schedules.popped_at program tables without_memo kits' x (leaving v) [] (k ∷ ks))) (sym b) (resumes v task tasks k ks at r.0 r.1 ph u) where
+        subst (λ ds. Agrees setting (popped_of ds kits p) (schedules.popped_at setting.program setting.tables setting.memory kits' x (leaving v) [] (k ∷ ks))) (sym b) (resumes v task tasks k ks at r.0 r.1 ph u) where
           at : p.strand.path ≡ task.place
           at = sym n ∙ (subst (λ ds. Links x.strand.frame.instance ds l.0) c (subst (λ us. Links (lowest x.strand.frame us) x.deque l.0) u (l.1 (λ f e. let z : leaving v ≡ broken f = sym ph ∙ e in absurd cc)))).0 ∙ task_place task k r.0
 
     abbrev Pops : NamedPhase → List Parent → Phase → List PlainActivation → Type 0
-    Pops nph under ph below = Agrees ts t codes (popped_by (returned_at ph below p.strand.path) kits p) (schedules.popped_at program tables without_memo kits' x nph under x.deque)
+    Pops nph under ph below = Agrees setting (popped_by (returned_at ph below p.strand.path) kits p) (schedules.popped_at setting.program setting.tables setting.memory kits' x nph under x.deque)
 
-    parents_stay : (v : ℤ) (a : PlainActivation) (below : List PlainActivation) (under : List Parent) → AreParents ts t codes p.strand.path (a ∷ below) under → Pops (leaving v) under (phase.Leaving v) (a ∷ below)
+    parents_stay : (v : ℤ) (a : PlainActivation) (below : List PlainActivation) (under : List Parent) → AreParents setting p.strand.path (a ∷ below) under → Pops (leaving v) under (phase.Leaving v) (a ∷ below)
     parents_stay v a below [] i = absurd i
     parents_stay v a below (q ∷ under) i = tt
 
-    popped_where : (ph : Phase) (below : List PlainActivation) → StandsAt ts t codes ph below p.strand x.strand → Linked x → Pops x.strand.phase x.strand.under ph below
+    popped_where : (ph : Phase) (below : List PlainActivation) → StandsAt setting ph below p.strand x.strand → Linked x → Pops x.strand.phase x.strand.under ph below
     popped_where (phase.Leaving v) [] i l =
         let u = no_parents p.strand.path x.strand.under i.under in
         subst (λ nph. Pops nph x.strand.under (phase.Leaving v) []) (sym i.phase)
@@ -104,45 +97,45 @@ module _ (ts : List Columned) (program : Revised) (codes : List Code) (tables : 
     popped_where (phase.Returning v) below i l = subst (λ nph. Pops nph x.strand.under (phase.Returning v) below) (sym i.phase) tt
     popped_where (phase.Broken f) below i l = subst (λ nph. Pops nph x.strand.under (phase.Broken f) below) (sym i) tt
 
-    pub popped_agrees : Linked x → Agrees ts t codes (popped kits p) (schedules.popped program tables without_memo kits' x)
+    pub popped_agrees : Linked x → Agrees setting (popped kits p) (schedules.popped setting.program setting.tables setting.memory kits' x)
     popped_agrees l = popped_where p.strand.phase p.strand.below h.strand.now l
 
   -- ---- steal
 
-  tasks_append : (us : List PlainTask) (ks : List Continuation) (a : PlainTask) (k : Continuation) → StandForTasks ts t codes us ks → StandsForTask ts t codes a k → StandForTasks ts t codes (us ++ a ∷ []) (ks ++ k ∷ [])
+  tasks_append : (us : List PlainTask) (ks : List Continuation) (a : PlainTask) (k : Continuation) → StandForTasks setting us ks → StandsForTask setting a k → StandForTasks setting (us ++ a ∷ []) (ks ++ k ∷ [])
   tasks_append [] [] a k h i = (i, tt)
   tasks_append [] (c ∷ ks) a k h i = absurd h
   tasks_append (u ∷ us) [] a k h i = absurd h
   tasks_append (u ∷ us) (c ∷ ks) a k h i = (h.0, tasks_append us ks a k h.1 i)
 
-  module _ (kinds : List Kind) (linked : AreCodesOf ts t codes (procedures t)) (kinds_are : kinds ≡ kinds_of t) (thief : ℕ) (p : PlainPiece) (x : Piece) (w : ℕ) (held : is_held_by w p ≡ true) (h : StandsForPiece ts t codes p x) where
-    robs : (kits : ℕ) (us : List PlainTask) (cs : List Continuation) (k : PlainTask) (c : Continuation) (ks : List PlainTask) (ds : List Continuation) → StandForTasks ts t codes us cs → StandsForTask ts t codes k c → StandForTasks ts t codes ks ds
-        → Agrees ts t codes (robbed codes kinds tables thief kits p (oldest us k ks)) (schedules.robbed_of program tables without_memo thief kits x cs (c ∷ ds))
+  module _ (linked : IsLinked setting) (thief : ℕ) (p : PlainPiece) (x : Piece) (w : ℕ) (held : is_held_by w p ≡ true) (h : StandsForPiece setting p x) where
+    robs : (kits : ℕ) (us : List PlainTask) (cs : List Continuation) (k : PlainTask) (c : Continuation) (ks : List PlainTask) (ds : List Continuation) → StandForTasks setting us cs → StandsForTask setting k c → StandForTasks setting ks ds
+        → Agrees setting (robbed setting thief kits p (oldest us k ks)) (schedules.robbed_of setting.program setting.tables setting.memory thief kits x cs (c ∷ ds))
     robs kits us cs k c [] [] a b r = record {
       pieces = inl (
         record { strand = h.strand; one_layer = h.one_layer; tasks = a; state = h.state; laid = h.laid },
-        record { strand = stolen_is ts t codes kinds linked kinds_are k c b; one_layer = refl; tasks = tt; state = refl; laid = tt },
+        record { strand = stolen_is setting linked k c b; one_layer = refl; tasks = tt; state = refl; laid = tt },
       );
       kits = refl;
-      noted = ap (λ v. strands.Split v (place_of_continuation c) thief ∷ []) (piece_place ts t codes p x h) ∙ ap (λ n. strands.Split (place_of p) n thief ∷ []) (task_place k c b);
+      noted = ap (λ v. strands.Split v (place_of_continuation c) thief ∷ []) (piece_place setting p x h) ∙ ap (λ n. strands.Split (place_of p) n thief ∷ []) (task_place k c b);
     }
     robs kits us cs k c [] (d ∷ ds) a b r = absurd r
     robs kits us cs k c (j ∷ ks) [] a b r = absurd r
     robs kits us cs k c (j ∷ ks) (d ∷ ds) a b r = robs kits (us ++ k ∷ []) (cs ++ c ∷ []) j d ks ds (tasks_append us cs k c a b) r.0 r.1
 
-    steals : (kits : ℕ) (ks : List PlainTask) (ds : List Continuation) → StandForTasks ts t codes ks ds → Agrees ts t codes (stolen_of codes kinds tables thief (suc kits) p ks) (schedules.robbed_of program tables without_memo thief kits x [] ds)
+    steals : (kits : ℕ) (ks : List PlainTask) (ds : List Continuation) → StandForTasks setting ks ds → Agrees setting (stolen_of setting thief (suc kits) p ks) (schedules.robbed_of setting.program setting.tables setting.memory thief kits x [] ds)
     steals kits [] [] r = tt
     steals kits [] (d ∷ ds) r = absurd r
     steals kits (k ∷ ks) [] r = absurd r
     steals kits (k ∷ ks) (d ∷ ds) r = robs kits [] [] k d ks ds tt r.0 r.1
 
-    no_kit : (ks : List PlainTask) → Agrees ts t codes (stolen_of codes kinds tables thief zero p ks) None
+    no_kit : (ks : List PlainTask) → Agrees setting (stolen_of setting thief zero p ks) None
     no_kit [] = tt
     no_kit (k ∷ ks) = tt
 
-    steals_from : (kits : ℕ) → Agrees ts t codes (stolen_from codes kinds tables thief kits p) (schedules.stolen_from program tables without_memo thief kits x)
+    steals_from : (kits : ℕ) → Agrees setting (stolen_from setting thief kits p) (schedules.stolen_from setting.program setting.tables setting.memory thief kits x)
     steals_from zero = no_kit p.deque
     steals_from (suc kits) = steals kits p.deque x.deque h.tasks
 
-    pub stolen_agrees : (kits kits' : ℕ) → kits' ≡ kits → Agrees ts t codes (stolen_from codes kinds tables thief kits p) (schedules.stolen_from program tables without_memo thief kits' x)
-    stolen_agrees kits kits' same = subst (λ n. Agrees ts t codes (stolen_from codes kinds tables thief kits p) (schedules.stolen_from program tables without_memo thief n x)) (sym same) (steals_from kits)
+    pub stolen_agrees : (kits kits' : ℕ) → kits' ≡ kits → Agrees setting (stolen_from setting thief kits p) (schedules.stolen_from setting.program setting.tables setting.memory thief kits' x)
+    stolen_agrees kits kits' same = subst (λ n. Agrees setting (stolen_from setting thief kits p) (schedules.stolen_from setting.program setting.tables setting.memory thief n x)) (sym same) (steals_from kits)

@@ -1,8 +1,5 @@
 -- The end and the history of a run of numbers are those of the definitions' run that it stands for.
 use Rattle.std.proofs.Common.{◌≡◌, inl, inr, List, [], ◌∷◌, map, Some, refl, sym, ◌∙◌, ap, subst}
-use Rattle.program_tree.specs.Plain.{Tree}
-use Rattle.meaning.specs.Tables.{Tables}
-use Rattle.meaning.specs.Records.{Revised}
 use Rattle.meaning.specs.Elision as elision
 use Rattle.meaning.specs.Elision.{Answer, from_scratch}
 use Rattle.meaning.specs.SmallStep.{leaving}
@@ -15,8 +12,7 @@ use Rattle.run_theory.specs.Theorems.{IsReady}
 use Rattle.run_theory.specs.Theorems as theorems
 use Rattle.run_theory.proofs.Paths.{paths_answer}
 use Rattle.run_theory.proofs.Legal.{paths_history}
-use Rattle.linked_program.specs.declared.code.Code.{Code}
-use Rattle.linked_program.specs.TableNames.{Columned}
+use Rattle.positions.specs.Setting.{Setting}
 use Rattle.positions.specs.declared.phase.Phase.{Phase}
 use Rattle.positions.specs.declared.phase.Phase.TheVariants as phase
 use Rattle.positions.specs.Activations.{PlainActivation}
@@ -29,18 +25,18 @@ use Rattle.numbered_runs.specs.Ends.{answer_at, answer_in, HistoryGives}
 use Rattle.numbered_runs.specs.Simulation.{IsReached}
 use Rattle.numbered_runs.proofs.Agreeing.{piece_place, none_there}
 
-module _ (ts : List Columned) (t : Tree) (codes : List Code) where
+module _ (setting : Setting) where
   -- ---- the answer
 
-  one_note : (l : PlainLayer) (ls : List PlainLayer) (ns : List Notes) → ls ≡ [] → AreNotes ts t codes (l ∷ ls) ns → (n : Notes) × (ns ≡ n ∷ []) × (n.worth ≡ l.worths)
+  one_note : (l : PlainLayer) (ls : List PlainLayer) (ns : List Notes) → ls ≡ [] → AreNotes setting (l ∷ ls) ns → (n : Notes) × (ns ≡ n ∷ []) × (n.worth ≡ l.worths)
   one_note l [] [] e h = absurd h
   one_note l [] (n ∷ []) e h = (n, refl, h.0.worths)
   one_note l [] (n ∷ k ∷ ns) e h = absurd h.1
   one_note l (m ∷ ls) ns e h = absurd cc
 
   module _ (p : PlainPiece) (x : Piece) (n : Notes) (one : x.strand.layers ≡ n ∷ []) (worth : n.worth ≡ p.strand.layer.worths) where
-    answer_there : (st : State) (ph : Phase) (below : List PlainActivation) → IsLaidAs st ph → StandsAt ts t codes ph below p.strand x.strand
-        → answer_by st x.strand.phase x.strand.layers ≡ answer_at ts t codes st ph p.strand.layer.worths
+    answer_there : (st : State) (ph : Phase) (below : List PlainActivation) → IsLaidAs st ph → StandsAt setting ph below p.strand x.strand
+        → answer_by st x.strand.phase x.strand.layers ≡ answer_at setting st ph p.strand.layer.worths
     answer_there strands.Finished (phase.Leaving v) below l i =
         ap (λ q. answer_by strands.Finished q x.strand.layers) i.phase ∙ ap (answer_by strands.Finished (leaving v)) one ∙ ap (λ ws. Some (elision.Finished v ws)) worth
     answer_there strands.Faulted (phase.Broken f) below l i = ap (λ q. answer_by strands.Faulted q x.strand.layers) i
@@ -58,32 +54,32 @@ module _ (ts : List Columned) (t : Tree) (codes : List Code) where
     answer_there strands.Faulted (phase.Returning v) below l i = absurd l
     answer_there strands.Faulted (phase.Leaving v) below l i = absurd l
 
-  one_answer : (p : PlainPiece) (x : Piece) → StandsForPiece ts t codes p x → answer_by x.state x.strand.phase x.strand.layers ≡ answer_at ts t codes p.state p.strand.phase p.strand.layer.worths
+  one_answer : (p : PlainPiece) (x : Piece) → StandsForPiece setting p x → answer_by x.state x.strand.phase x.strand.layers ≡ answer_at setting p.state p.strand.phase p.strand.layer.worths
   one_answer p x h =
       let n = one_note p.strand.layer p.strand.lower x.strand.layers h.one_layer h.strand.layers in
       ap (λ st. answer_by st x.strand.phase x.strand.layers) h.state ∙ answer_there p x n.0 n.1 n.2 p.state p.strand.phase p.strand.below h.laid h.strand.now
 
-  answers : (ps : List PlainPiece) (xs : List Piece) → StandForPieces ts t codes ps xs → answer_of_pieces xs ≡ answer_in ts t codes ps
+  answers : (ps : List PlainPiece) (xs : List Piece) → StandForPieces setting ps xs → answer_of_pieces xs ≡ answer_in setting ps
   answers [] [] h = refl
   answers [] (x ∷ xs) h = absurd h
-  answers (p ∷ ps) [] h = absurd (none_there ts t codes p ps h)
+  answers (p ∷ ps) [] h = absurd (none_there setting p ps h)
   answers (p ∷ []) (x ∷ []) h = one_answer p x h
   answers (p ∷ []) (x ∷ y ∷ xs) h = absurd h
   answers (p ∷ q ∷ ps) (x ∷ []) h = absurd h
   answers (p ∷ q ∷ ps) (x ∷ y ∷ xs) h = refl
 
-  pub same_answer : (s : PlainRun) (x : RunState) → StandsForRun ts t codes s x → end_of x ≡ answer_in ts t codes s.pieces
+  pub same_answer : (s : PlainRun) (x : RunState) → StandsForRun setting s x → end_of x ≡ answer_in setting s.pieces
   same_answer s x h = answers s.pieces x.pieces h.pieces
 
   -- ---- the list of strands
 
-  same_line : (p : PlainPiece) (x : Piece) → StandsForPiece ts t codes p x → schedules.line_of x ≡ line_of p
-  same_line p x h = ap (λ n. (n, x.state)) (piece_place ts t codes p x h) ∙ ap (λ st. (place_of p, st)) h.state
+  same_line : (p : PlainPiece) (x : Piece) → StandsForPiece setting p x → schedules.line_of x ≡ line_of p
+  same_line p x h = ap (λ n. (n, x.state)) (piece_place setting p x h) ∙ ap (λ st. (place_of p, st)) h.state
 
-  same_lines : (ps : List PlainPiece) (xs : List Piece) → StandForPieces ts t codes ps xs → map schedules.line_of xs ≡ map line_of ps
+  same_lines : (ps : List PlainPiece) (xs : List Piece) → StandForPieces setting ps xs → map schedules.line_of xs ≡ map line_of ps
   same_lines [] [] h = refl
   same_lines [] (x ∷ xs) h = absurd h
-  same_lines (p ∷ ps) [] h = absurd (none_there ts t codes p ps h)
+  same_lines (p ∷ ps) [] h = absurd (none_there setting p ps h)
   same_lines (p ∷ []) (x ∷ []) h = ap (λ l. l ∷ []) (same_line p x h)
   same_lines (p ∷ []) (x ∷ y ∷ xs) h = absurd h
   same_lines (p ∷ q ∷ ps) (x ∷ []) h = absurd h
@@ -95,11 +91,11 @@ module _ (ts : List Columned) (t : Tree) (codes : List Code) where
 
 -- ---- of runs that the steps lead to
 
-module _ (ts : List Columned) (program : Revised) (codes : List Code) (tables : Tables) (ready : IsReady program tables without_memo) where
-  pub answers_elision : (s : PlainRun) (x : RunState) (a : Answer) → IsReached program tables x → StandsForRun ts program.tree codes s x → answer_in ts program.tree codes s.pieces ≡ Some a → a ≡ from_scratch program.tree tables
-  answers_elision s x a r h e = paths_answer program tables without_memo ready r.kits r.steps a (ap end_of r.is ∙ same_answer ts program.tree codes s x h ∙ e)
+module _ (setting : Setting) (ready : IsReady setting.program setting.tables setting.memory) where
+  pub answers_elision : (s : PlainRun) (x : RunState) (a : Answer) → IsReached setting x → StandsForRun setting s x → answer_in setting s.pieces ≡ Some a → a ≡ from_scratch setting.program.tree setting.tables
+  answers_elision s x a r h e = paths_answer setting.program setting.tables setting.memory ready r.kits r.steps a (ap end_of r.is ∙ same_answer setting s x h ∙ e)
 
-  pub keeps_history : (s : PlainRun) (x : RunState) → IsReached program tables x → StandsForRun ts program.tree codes s x → HistoryGives s
+  pub keeps_history : (s : PlainRun) (x : RunState) → IsReached setting x → StandsForRun setting s x → HistoryGives s
   keeps_history s x r h =
-      let k = subst theorems.HistoryGives r.is (paths_history program tables without_memo ready r.kits r.steps) in
-      (k.0, ap replayed (sym h.history) ∙ k.1, k.2 ∙ same_lines ts program.tree codes s.pieces x.pieces h.pieces)
+      let k = subst theorems.HistoryGives r.is (paths_history setting.program setting.tables setting.memory ready r.kits r.steps) in
+      (k.0, ap replayed (sym h.history) ∙ k.1, k.2 ∙ same_lines setting s.pieces x.pieces h.pieces)

@@ -4,9 +4,7 @@ use Rattle.std.specs.Prelude.{ℤ, ◌-◌, length, if◌then◌else◌, ◌==�
 use Rattle.monoid_laws.specs.Worth.{Worth}
 use Rattle.monoid_laws.specs.Kinds.{operate_all}
 use Rattle.program_tree.specs.Plain.{Tree}
-use Rattle.meaning.specs.Tables.{Tables}
 use Rattle.meaning.specs.Outcome.{Place}
-use Rattle.meaning.specs.Records.{Revised}
 use Rattle.meaning.specs.SmallStep.{Phase as NamedPhase, entering, running, spawning, returning, leaving, broken, same_name}
 use Rattle.meaning.specs.LayeredStrand.{LayeredStrand}
 use Rattle.meaning.specs.Strands.{State, Held, Ended, Stalled, BookStep, Fold, done, waits}
@@ -14,8 +12,7 @@ use Rattle.meaning.specs.Strands as strands
 use Rattle.meaning.specs.Tallies.{tallies_joined}
 use Rattle.meaning.specs.Schedules.{Piece, RunState, without_memo, joined_pair}
 use Rattle.meaning.specs.Schedules as schedules
-use Rattle.linked_program.specs.declared.code.Code.{Code}
-use Rattle.linked_program.specs.TableNames.{Columned}
+use Rattle.positions.specs.Setting.{Setting}
 use Rattle.positions.specs.declared.phase.Phase.{Phase}
 use Rattle.positions.specs.declared.phase.Phase.TheVariants as phase
 use Rattle.positions.specs.declared.start.Start.{Start}
@@ -70,12 +67,12 @@ if_true : {A : Type 0} (b : Bool) (x y : A) → cond b (Some x) None ≡ Some y 
 if_true true x y e = refl
 if_true false x y e = absurd cc
 
-module _ (ts : List Columned) (program : Revised) (codes : List Code) (tables : Tables) where
+module _ (setting : Setting) where
   abbrev t : Tree
-  t = program.tree
+  t = setting.program.tree
 
   abbrev pair_of : LayeredStrand → NamedPhase → LayeredStrand → NamedPhase → Option LayeredStrand
-  pair_of = joined_pair program tables without_memo
+  pair_of = joined_pair setting.program setting.tables setting.memory
 
   -- ---- where the definitions fold, the numbers do
 
@@ -87,7 +84,7 @@ module _ (ts : List Columned) (program : Revised) (codes : List Code) (tables : 
   right_named x y z v (returning c) e = left_true _ _ (if_true _ _ z e)
   right_named x y z v (leaving c) e = left_true _ _ (if_true _ _ z e)
 
-  joins_by : (l r : PlainPiece) (x y : Piece) (z : LayeredStrand) (ph : Phase) (below : List PlainActivation) → StandsAt ts t codes ph below l.strand x.strand → schedules.place_of y ≡ place_of r → pair_of x.strand x.strand.phase y.strand y.strand.phase ≡ Some z → may_join_at ph l r ≡ true
+  joins_by : (l r : PlainPiece) (x y : Piece) (z : LayeredStrand) (ph : Phase) (below : List PlainActivation) → StandsAt setting ph below l.strand x.strand → schedules.place_of y ≡ place_of r → pair_of x.strand x.strand.phase y.strand y.strand.phase ≡ Some z → may_join_at ph l r ≡ true
   joins_by l r x y z (phase.Broken f) below i q e = refl
   joins_by l r x y z (phase.Leaving v) below i q e =
       ap (same_name l.strand.path) (sym q) ∙ ap (λ fr. same_name fr.instance (schedules.place_of y)) (sym i.frame)
@@ -102,7 +99,7 @@ module _ (ts : List Columned) (program : Revised) (codes : List Code) (tables : 
     abbrev one_of : Piece → Piece → LayeredStrand → Piece
     one_of x y z = record { strand = z; deque = []; state = Held w; tally = tallies_joined x.tally y.tally }
 
-    from_folded : (x y p : Piece) (b : Bool) (o : Option LayeredStrand) → cond b (schedules.folded_by program tables without_memo w x y o) None ≡ Some p → (z : LayeredStrand) × (o ≡ Some z) × (one_of x y z ≡ p)
+    from_folded : (x y p : Piece) (b : Bool) (o : Option LayeredStrand) → cond b (schedules.folded_by setting.program setting.tables setting.memory w x y o) None ≡ Some p → (z : LayeredStrand) × (o ≡ Some z) × (one_of x y z ≡ p)
     from_folded x y p true (Some z) e = (z, refl, (let q : one_of x y z ≡ p = cc in q))
     from_folded x y p true None e = absurd cc
     from_folded x y p false o e = absurd cc
@@ -110,15 +107,15 @@ module _ (ts : List Columned) (program : Revised) (codes : List Code) (tables : 
     -- what the definitions' fold gives is stood for
     record Folds (l r : PlainPiece) (p : Piece) : Type 0 where
       pub may : may_join_at l.strand.phase l r ≡ true
-      pub one : StandsForPiece ts t codes (folded w l r) p
+      pub one : StandsForPiece setting (folded w l r) p
 
-    folds_exact : (l r : PlainPiece) (x y p : Piece) → StandsForPiece ts t codes l x → StandsForPiece ts t codes r y → waits r.state ≡ true → schedules.folded program tables without_memo w x y ≡ Some p → Folds l r p
+    folds_exact : (l r : PlainPiece) (x y p : Piece) → StandsForPiece setting l x → StandsForPiece setting r y → waits r.state ≡ true → schedules.folded setting.program setting.tables setting.memory w x y ≡ Some p → Folds l r p
     folds_exact l r x y p hl hr wt e =
-        let f = from_folded x y p (schedules.may_fold program tables without_memo x.state y.state) (pair_of x.strand x.strand.phase y.strand y.strand.phase) e in
+        let f = from_folded x y p (schedules.may_fold setting.program setting.tables setting.memory x.state y.state) (pair_of x.strand x.strand.phase y.strand y.strand.phase) e in
         record {
-          may = joins_by l r x y f.0 l.strand.phase l.strand.below hl.strand.now (piece_place ts t codes r y hr) f.1;
-          one = subst (StandsForPiece ts t codes (folded w l r)) f.2 (record {
-            strand = joined_is ts t codes l.strand r.strand program tables without_memo x.strand y.strand f.0 refl (waiting_point r.state r.strand.phase wt hr.laid) hr.one_layer hl.strand hr.strand f.1;
+          may = joins_by l r x y f.0 l.strand.phase l.strand.below hl.strand.now (piece_place setting r y hr) f.1;
+          one = subst (StandsForPiece setting (folded w l r)) f.2 (record {
+            strand = joined_is setting l.strand r.strand x.strand y.strand f.0 (waiting_point r.state r.strand.phase wt hr.laid) hr.one_layer hl.strand hr.strand f.1;
             one_layer = joined_lower l.strand.phase l.strand r.strand ∙ hl.one_layer;
             tasks = tt;
             state = refl;
@@ -167,24 +164,24 @@ module _ (ts : List Columned) (program : Revised) (codes : List Code) (tables : 
     at_same (phase.Returning u) l r us vs e h k = absurd h
     at_same (phase.Broken f) l r us vs e h k = absurd h
 
-    folds_pair : (l r : PlainPiece) (x y p : Piece) → StandFolding ts t codes l r x y → schedules.folded program tables without_memo w x y ≡ Some p → Folds l r p
+    folds_pair : (l r : PlainPiece) (x y p : Piece) → StandFolding setting l r x y → schedules.folded setting.program setting.tables setting.memory w x y ≡ Some p → Folds l r p
     folds_pair l r x y p h e =
         let f = folds_exact (valued h.to_left l) (valued h.to_right r) x y p h.left h.right (ap waits h.stalled) e in
         let same : joined (with_worths h.to_left l.strand) (with_worths h.to_right r.strand) ≡ joined l.strand r.strand =
         at_same l.strand.phase l.strand r.strand h.to_left h.to_right h.product (subst (λ st. IsLaidAs st l.strand.phase) h.ended h.left.laid) (subst (λ st. IsLaidAs st r.strand.phase) h.stalled h.right.laid) in
         record {
           may = sym (may_valued l.strand.phase l r h.to_left h.to_right) ∙ f.may;
-          one = subst (λ s. StandsForPiece ts t codes (record { strand = s; deque = []; state = Held w }) p) same f.one;
+          one = subst (λ s. StandsForPiece setting (record { strand = s; deque = []; state = Held w }) p) same f.one;
         }
 
     -- ---- in the list
 
-    first_is : (r : PlainPiece) (ps : List PlainPiece) (y : Piece) (xs : List Piece) → StandForPieces ts t codes (r ∷ ps) (y ∷ xs) → (schedules.place_of y ≡ place_of r) × (y.state ≡ r.state)
-    first_is r [] y [] h = (piece_place ts t codes r y h, h.state)
+    first_is : (r : PlainPiece) (ps : List PlainPiece) (y : Piece) (xs : List Piece) → StandForPieces setting (r ∷ ps) (y ∷ xs) → (schedules.place_of y ≡ place_of r) × (y.state ≡ r.state)
+    first_is r [] y [] h = (piece_place setting r y h, h.state)
     first_is r [] y (z ∷ xs) h = absurd h
     first_is r (q ∷ ps) y [] h = absurd h
-    first_is r (q ∷ ps) y (z ∷ xs) (inl h) = (piece_place ts t codes r y h.0, h.0.state)
-    first_is r (q ∷ ps) y (z ∷ xs) (inr h) = (piece_place ts t codes (valued h.0.to_left r) y h.0.left, h.0.left.state)
+    first_is r (q ∷ ps) y (z ∷ xs) (inl h) = (piece_place setting r y h.0, h.0.state)
+    first_is r (q ∷ ps) y (z ∷ xs) (inr h) = (piece_place setting (valued h.0.to_left r) y h.0.left, h.0.left.state)
 
     all_three : (a b c : Bool) → a ≡ true → b ≡ true → c ≡ true → a && b && c ≡ true
     all_three true true true e f g = refl
@@ -205,70 +202,70 @@ module _ (ts : List Columned) (program : Revised) (codes : List Code) (tables : 
     module _ (kits kits' : ℕ) (same : kits' ≡ kits) (history history' : List BookStep) (same_history : history' ≡ history) where
       abbrev FoldAgrees : PlainPiece → PlainPiece → Piece → Piece → List PlainPiece → List PlainPiece → List Piece → List Piece → Type 0
       FoldAgrees l r x y before later us xs =
-          RunAgrees ts t codes (folded_if (may_fold l r) w kits before l r later history)
-          (schedules.folded_among program tables without_memo w kits' us xs history' (Fold (schedules.place_of x) (schedules.place_of y) w) (schedules.folded program tables without_memo w x y))
+          RunAgrees setting (folded_if (may_fold l r) w kits before l r later history)
+          (schedules.folded_among setting.program setting.tables setting.memory w kits' us xs history' (Fold (schedules.place_of x) (schedules.place_of y) w) (schedules.folded setting.program setting.tables setting.memory w x y))
 
       fold_refused : (l r : PlainPiece) (x y : Piece) (before later : List PlainPiece) (us xs : List Piece) → x.state ≡ l.state → y.state ≡ r.state → done l.state && waits r.state ≡ false → FoldAgrees l r x y before later us xs
       fold_refused l r x y before later us xs a b e =
-          subst (λ m. RunAgrees ts t codes (folded_if m w kits before l r later history) (schedules.folded_among program tables without_memo w kits' us xs history' (Fold (schedules.place_of x) (schedules.place_of y) w) (schedules.folded program tables without_memo w x y)))
+          subst (λ m. RunAgrees setting (folded_if m w kits before l r later history) (schedules.folded_among setting.program setting.tables setting.memory w kits' us xs history' (Fold (schedules.place_of x) (schedules.place_of y) w) (schedules.folded setting.program setting.tables setting.memory w x y)))
           (sym (not_both (done l.state) (waits r.state) (may_join_at l.strand.phase l r) e))
-          (subst (λ m. RunAgrees ts t codes (Err NotThere) (schedules.folded_among program tables without_memo w kits' us xs history' (Fold (schedules.place_of x) (schedules.place_of y) w) (cond m (schedules.folded_by program tables without_memo w x y (pair_of x.strand x.strand.phase y.strand y.strand.phase)) None)))
+          (subst (λ m. RunAgrees setting (Err NotThere) (schedules.folded_among setting.program setting.tables setting.memory w kits' us xs history' (Fold (schedules.place_of x) (schedules.place_of y) w) (cond m (schedules.folded_by setting.program setting.tables setting.memory w x y (pair_of x.strand x.strand.phase y.strand y.strand.phase)) None)))
           (sym (ap (λ st. done st && waits y.state) a ∙ ap (λ st. done l.state && waits st) b ∙ e)) tt)
 
       fold_taken : (l r : PlainPiece) (x y p : Piece) (before later : List PlainPiece) (us xs : List Piece) → schedules.place_of x ≡ place_of l → schedules.place_of y ≡ place_of r → done l.state ≡ true → waits r.state ≡ true
-          → StandForPieces ts t codes before us → StandForPieces ts t codes later xs → schedules.folded program tables without_memo w x y ≡ Some p → Folds l r p → FoldAgrees l r x y before later us xs
+          → StandForPieces setting before us → StandForPieces setting later xs → schedules.folded setting.program setting.tables setting.memory w x y ≡ Some p → Folds l r p → FoldAgrees l r x y before later us xs
       fold_taken l r x y p before later us xs a b d wt hb hl e f =
-          subst (λ m. RunAgrees ts t codes (folded_if m w kits before l r later history) (schedules.folded_among program tables without_memo w kits' us xs history' (Fold (schedules.place_of x) (schedules.place_of y) w) (schedules.folded program tables without_memo w x y)))
+          subst (λ m. RunAgrees setting (folded_if m w kits before l r later history) (schedules.folded_among setting.program setting.tables setting.memory w kits' us xs history' (Fold (schedules.place_of x) (schedules.place_of y) w) (schedules.folded setting.program setting.tables setting.memory w x y)))
           (sym (all_three (done l.state) (waits r.state) (may_join_at l.strand.phase l r) d wt f.may))
-          (subst (λ o. RunAgrees ts t codes (folded_if true w kits before l r later history) (schedules.folded_among program tables without_memo w kits' us xs history' (Fold (schedules.place_of x) (schedules.place_of y) w) o)) (sym e)
+          (subst (λ o. RunAgrees setting (folded_if true w kits before l r later history) (schedules.folded_among setting.program setting.tables setting.memory w kits' us xs history' (Fold (schedules.place_of x) (schedules.place_of y) w) o)) (sym e)
           (record {
-            pieces = in_front ts t codes before (folded w l r ∷ later) us (p ∷ xs) hb (with_first ts t codes (folded w l r) later p xs f.one hl);
+            pieces = in_front setting before (folded w l r ∷ later) us (p ∷ xs) hb (with_first setting (folded w l r) later p xs f.one hl);
             kits = ap (λ n. n + 1) same;
             history = ap (λ n. n ++ Fold (schedules.place_of x) (schedules.place_of y) w ∷ []) same_history ∙ ap (λ m. history ++ Fold m (schedules.place_of y) w ∷ []) a ∙ ap (λ m. history ++ Fold (place_of l) m w ∷ []) b;
           }))
 
       module _ (q : Place) (all : List Piece)
-          (joins : (us xs : List Piece) (x y : Piece) → all ≡ us ++ x ∷ y ∷ xs → done x.state ≡ true → waits y.state ≡ true → (p : Piece) × (schedules.folded program tables without_memo w x y ≡ Some p)) where
+          (joins : (us xs : List Piece) (x y : Piece) → all ≡ us ++ x ∷ y ∷ xs → done x.state ≡ true → waits y.state ≡ true → (p : Piece) × (schedules.folded setting.program setting.tables setting.memory w x y ≡ Some p)) where
         -- the left one has its own values
-        fold_at : (l r : PlainPiece) (x y : Piece) (before later : List PlainPiece) (us xs : List Piece) → StandForPieces ts t codes before us → StandsForPiece ts t codes l x → StandForPieces ts t codes (r ∷ later) (y ∷ xs) → all ≡ us ++ x ∷ y ∷ xs
+        fold_at : (l r : PlainPiece) (x y : Piece) (before later : List PlainPiece) (us xs : List Piece) → StandForPieces setting before us → StandsForPiece setting l x → StandForPieces setting (r ∷ later) (y ∷ xs) → all ≡ us ++ x ∷ y ∷ xs
             → (m : Bool) → done l.state && waits r.state ≡ m → FoldAgrees l r x y before later us xs
         fold_at l r x y before later us xs hb hl hr a false e = fold_refused l r x y before later us xs hl.state (first_is r later y xs hr).1 e
         fold_at l r x y before later us xs hb hl hr a true e =
             let both = both_are (done l.state) (waits r.state) e in
-            let k = waiting_first ts t codes r later y xs both.1 hr in
+            let k = waiting_first setting r later y xs both.1 hr in
             let j = joins us xs x y a (ap done hl.state ∙ both.0) (ap waits k.0.state ∙ both.1) in
-            fold_taken l r x y j.0 before later us xs (piece_place ts t codes l x hl) (piece_place ts t codes r y k.0) both.0 both.1 hb k.1 j.1 (folds_exact l r x y j.0 hl k.0 both.1 j.1)
+            fold_taken l r x y j.0 before later us xs (piece_place setting l x hl) (piece_place setting r y k.0) both.0 both.1 hb k.1 j.1 (folds_exact l r x y j.0 hl k.0 both.1 j.1)
 
-        pub folded_agrees : (before ps : List PlainPiece) (us xs : List Piece) → StandForPieces ts t codes before us → StandForPieces ts t codes ps xs → all ≡ us ++ xs
-            → RunAgrees ts t codes (folded_at w q kits before ps history) (schedules.folded_at program tables without_memo w q kits' us xs history')
+        pub folded_agrees : (before ps : List PlainPiece) (us xs : List Piece) → StandForPieces setting before us → StandForPieces setting ps xs → all ≡ us ++ xs
+            → RunAgrees setting (folded_at w q kits before ps history) (schedules.folded_at setting.program setting.tables setting.memory w q kits' us xs history')
         folded_agrees before [] us [] hb h a = tt
         folded_agrees before [] us (x ∷ xs) hb h a = absurd h
-        folded_agrees before (l ∷ ps) us [] hb h a = absurd (none_there ts t codes l ps h)
+        folded_agrees before (l ∷ ps) us [] hb h a = absurd (none_there setting l ps h)
         folded_agrees before (l ∷ []) us (x ∷ []) hb h a = tt
         folded_agrees before (l ∷ []) us (x ∷ y ∷ xs) hb h a = absurd h
         folded_agrees before (l ∷ r ∷ ps) us (x ∷ []) hb h a = absurd h
         folded_agrees before (l ∷ r ∷ ps) us (x ∷ y ∷ xs) hb (inl h) a =
-            either_agrees ts t codes (same_name (place_of r) q) (same_name (schedules.place_of y) q) _ _ _ _ (ap (λ n. same_name n q) (first_is r ps y xs h.1).0)
+            either_agrees setting (same_name (place_of r) q) (same_name (schedules.place_of y) q) _ _ _ _ (ap (λ n. same_name n q) (first_is r ps y xs h.1).0)
             (λ b. fold_at l r x y before ps us xs hb h.0 h.1 a (done l.state && waits r.state) refl)
-            (λ b. folded_agrees (before ++ l ∷ []) (r ∷ ps) (us ++ x ∷ []) (y ∷ xs) (in_front ts t codes before (l ∷ []) us (x ∷ []) hb h.0) h.1 (a ∙ sym (append_assoc us (x ∷ []) (y ∷ xs))))
+            (λ b. folded_agrees (before ++ l ∷ []) (r ∷ ps) (us ++ x ∷ []) (y ∷ xs) (in_front setting before (l ∷ []) us (x ∷ []) hb h.0) h.1 (a ∙ sym (append_assoc us (x ∷ []) (y ∷ xs))))
         folded_agrees before (l ∷ r ∷ ps) us (x ∷ y ∷ xs) hb (inr h) a =
-            either_agrees ts t codes (same_name (place_of r) q) (same_name (schedules.place_of y) q) _ _ _ _ (ap (λ n. same_name n q) (piece_place ts t codes (valued h.0.to_right r) y h.0.right))
+            either_agrees setting (same_name (place_of r) q) (same_name (schedules.place_of y) q) _ _ _ _ (ap (λ n. same_name n q) (piece_place setting (valued h.0.to_right r) y h.0.right))
             (λ b. let j = joins us xs x y a (ap done (h.0.left.state ∙ h.0.ended)) (ap waits (h.0.right.state ∙ h.0.stalled)) in
-            fold_taken l r x y j.0 before ps us xs (piece_place ts t codes (valued h.0.to_left l) x h.0.left) (piece_place ts t codes (valued h.0.to_right r) y h.0.right) (ap done h.0.ended) (ap waits h.0.stalled) hb h.1 j.1 (folds_pair l r x y j.0 h.0 j.1))
+            fold_taken l r x y j.0 before ps us xs (piece_place setting (valued h.0.to_left l) x h.0.left) (piece_place setting (valued h.0.to_right r) y h.0.right) (ap done h.0.ended) (ap waits h.0.stalled) hb h.1 j.1 (folds_pair l r x y j.0 h.0 j.1))
             (past ps xs h.1 a (λ e. folded_agrees ((before ++ l ∷ []) ++ r ∷ []) ps ((us ++ x ∷ []) ++ y ∷ []) xs
-            (subst (λ bs. StandForPieces ts t codes bs ((us ++ x ∷ []) ++ y ∷ [])) (sym (append_assoc before (l ∷ []) (r ∷ [])))
-            (subst (λ zs. StandForPieces ts t codes (before ++ l ∷ r ∷ []) zs) (sym (append_assoc us (x ∷ []) (y ∷ [])))
-            (in_front ts t codes before (l ∷ r ∷ []) us (x ∷ y ∷ []) hb (inr (h.0, tt))))) h.1
+            (subst (λ bs. StandForPieces setting bs ((us ++ x ∷ []) ++ y ∷ [])) (sym (append_assoc before (l ∷ []) (r ∷ [])))
+            (subst (λ zs. StandForPieces setting (before ++ l ∷ r ∷ []) zs) (sym (append_assoc us (x ∷ []) (y ∷ [])))
+            (in_front setting before (l ∷ r ∷ []) us (x ∷ y ∷ []) hb (inr (h.0, tt))))) h.1
             (a ∙ sym (append_assoc us (x ∷ []) (y ∷ xs)) ∙ sym (append_assoc (us ++ x ∷ []) (y ∷ []) xs))))
           where
             -- the stalled one isn't a left one
-            past : (ps : List PlainPiece) (xs : List Piece) → StandForPieces ts t codes ps xs → all ≡ us ++ x ∷ y ∷ xs
-                → ((e : Unit {0}) → RunAgrees ts t codes (folded_at w q kits ((before ++ l ∷ []) ++ r ∷ []) ps history) (schedules.folded_at program tables without_memo w q kits' ((us ++ x ∷ []) ++ y ∷ []) xs history'))
-                → same_name (place_of r) q ≡ false → RunAgrees ts t codes (folded_at w q kits (before ++ l ∷ []) (r ∷ ps) history) (schedules.folded_at program tables without_memo w q kits' (us ++ x ∷ []) (y ∷ xs) history')
+            past : (ps : List PlainPiece) (xs : List Piece) → StandForPieces setting ps xs → all ≡ us ++ x ∷ y ∷ xs
+                → ((e : Unit {0}) → RunAgrees setting (folded_at w q kits ((before ++ l ∷ []) ++ r ∷ []) ps history) (schedules.folded_at setting.program setting.tables setting.memory w q kits' ((us ++ x ∷ []) ++ y ∷ []) xs history'))
+                → same_name (place_of r) q ≡ false → RunAgrees setting (folded_at w q kits (before ++ l ∷ []) (r ∷ ps) history) (schedules.folded_at setting.program setting.tables setting.memory w q kits' (us ++ x ∷ []) (y ∷ xs) history')
             past [] [] k a f b = tt
             past [] (z ∷ xs) k a f b = absurd k
-            past (m ∷ ps) [] k a f b = absurd (none_there ts t codes m ps k)
+            past (m ∷ ps) [] k a f b = absurd (none_there setting m ps k)
             past (m ∷ ps) (z ∷ xs) k a f b =
-                either_agrees ts t codes (same_name (place_of m) q) (same_name (schedules.place_of z) q) _ _ _ _ (ap (λ n. same_name n q) (first_is m ps z xs k).0)
+                either_agrees setting (same_name (place_of m) q) (same_name (schedules.place_of z) q) _ _ _ _ (ap (λ n. same_name n q) (first_is m ps z xs k).0)
                 (λ c. fold_refused r m y z (before ++ l ∷ []) ps (us ++ x ∷ []) xs h.0.right.state (first_is m ps z xs k).1 (ap (λ st. done st && waits m.state) h.0.stalled))
                 (λ c. f tt)

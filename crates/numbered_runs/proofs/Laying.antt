@@ -2,7 +2,6 @@
 use Rattle.std.proofs.Common.{◌≡◌, ℕ, Bool, true, false, List, [], ◌∷◌, length, Option, None, refl, sym, ◌∙◌, ap, subst, arith}
 use Rattle.std.specs.Prelude.{ℤ, ◌&&◌}
 use Rattle.program_tree.specs.Plain.{Tree}
-use Rattle.meaning.specs.Tables.{Tables}
 use Rattle.meaning.specs.Outcome.{Place, Fault}
 use Rattle.meaning.specs.Records.{Revised}
 use Rattle.meaning.specs.SmallStep.{Phase as NamedPhase, entering, running, spawning, returning, leaving, broken, Parent, noting, opening_one, closing_one, Step, moved, taken, paused as paused_step, micro, Continuation, nothing_kept}
@@ -11,8 +10,7 @@ use Rattle.meaning.specs.Strands.{State, Ended, Stalled, BookStep}
 use Rattle.meaning.specs.Strands as strands
 use Rattle.meaning.specs.Schedules.{Piece, without_memo, step_of, bottom_alone}
 use Rattle.meaning.specs.Schedules as schedules
-use Rattle.linked_program.specs.declared.code.Code.{Code}
-use Rattle.linked_program.specs.TableNames.{Columned}
+use Rattle.positions.specs.Setting.{Setting, HasNoMemo}
 use Rattle.positions.specs.declared.phase.Phase.{Phase}
 use Rattle.positions.specs.declared.phase.Phase.TheVariants as phase
 use Rattle.positions.specs.declared.phase.Fault.{Fault as NumberedFault}
@@ -55,46 +53,46 @@ laid_returning : (v : ℤ) (b : Bool) → LaidAtSync (sync_pause b) (phase.Retur
 laid_returning v true = tt
 laid_returning v false = tt
 
-module _ (ts : List Columned) (program : Revised) (codes : List Code) (tables : Tables) where
+module _ (setting : Setting) (no_memo : HasNoMemo setting) where
   abbrev t : Tree
-  t = program.tree
+  t = setting.program.tree
 
-  none_under : (path : Place) (under : List Parent) → AreParents ts t codes path [] under → under ≡ []
+  none_under : (path : Place) (under : List Parent) → AreParents setting path [] under → under ≡ []
   none_under path [] h = refl
   none_under path (p ∷ under) h = absurd h
 
-  module _ (kits kits' : ℕ) (same : kits' ≡ kits) (p : PlainPiece) (x : Piece) (h : StandsForPiece ts t codes p x) where
+  module _ (kits kits' : ℕ) (same : kits' ≡ kits) (p : PlainPiece) (x : Piece) (h : StandsForPiece setting p x) where
     abbrev Lays : Paused → List PlainTask → Option schedules.Change → Type 0
-    Lays c tasks o = Agrees ts t codes (stalled_at c tasks kits p) o
+    Lays c tasks o = Agrees setting (stalled_at c tasks kits p) o
 
     -- ---- as it is
 
-    laid_as : (st : State) (step : Place → BookStep) → IsLaidAs st p.strand.phase → Agrees ts t codes (laid kits p p.strand st step) (schedules.laid program tables without_memo kits' x x.strand st step)
+    laid_as : (st : State) (step : Place → BookStep) → IsLaidAs st p.strand.phase → Agrees setting (laid kits p p.strand st step) (schedules.laid setting.program setting.tables setting.memory kits' x x.strand st step)
     laid_as st step l = record {
       pieces = record { strand = h.strand; one_layer = h.one_layer; tasks = tt; state = refl; laid = l };
       kits = same;
-      noted = ap (λ n. step n ∷ []) (piece_place ts t codes p x h);
+      noted = ap (λ n. step n ∷ []) (piece_place setting p x h);
     }
 
     -- ---- by the small step
 
     abbrev by_micro : Option schedules.Change
-    by_micro = schedules.stalled_by program tables without_memo kits' x (micro t tables nothing_kept false (bottom x.strand.layers) x.strand.start x.strand.frame x.strand.phase x.strand.under)
+    by_micro = schedules.stalled_by setting.program setting.tables setting.memory kits' x (micro t setting.tables nothing_kept false (bottom x.strand.layers) x.strand.start x.strand.frame x.strand.phase x.strand.under)
 
-    none_taken : (st : Step) → IsTaken st → schedules.stalled_by program tables without_memo kits' x st ≡ None
+    none_taken : (st : Step) → IsTaken st → schedules.stalled_by setting.program setting.tables setting.memory kits' x st ≡ None
     none_taken (moved noting es fr ph u) k = refl
     none_taken (moved opening_one es fr ph u) k = absurd k
     none_taken (moved closing_one es fr ph u) k = absurd k
     none_taken (taken es r fr ph u) k = absurd k
     none_taken (paused_step e) k = absurd k
 
-    paused_there : (c : Paused) → pause_of codes p.strand ≡ c → IsPauseBy ts t codes (named_pause c) tables x.strand
-    paused_there c e = subst (λ c. IsPauseBy ts t codes (named_pause c) tables x.strand) e (pause_is ts t codes tables p.strand x.strand h.strand)
+    paused_there : (c : Paused) → pause_of setting.codes p.strand ≡ c → IsPauseBy setting (named_pause c) x.strand
+    paused_there c e = subst (λ c. IsPauseBy setting (named_pause c) x.strand) e (pause_is setting p.strand x.strand h.strand)
 
-    with_none : (c : Paused) → pause_of codes p.strand ≡ c → IsOnItsWay c → LaidAtSync c p.strand.phase → Lays c [] by_micro
-    with_none paused.Working e w l = subst (Lays paused.Working []) (sym (none_taken _ (working_is ts t codes tables p.strand e x.strand h.strand))) tt
-    with_none paused.AtSpawn e w l = subst (λ st. Lays paused.AtSpawn [] (schedules.stalled_by program tables without_memo kits' x st)) (sym (paused_there paused.AtSpawn e)) tt
-    with_none paused.AtSync e w l = subst (λ st. Lays paused.AtSync [] (schedules.stalled_by program tables without_memo kits' x st)) (sym (paused_there paused.AtSync e)) (laid_as Stalled strands.Stall l)
+    with_none : (c : Paused) → pause_of setting.codes p.strand ≡ c → IsOnItsWay c → LaidAtSync c p.strand.phase → Lays c [] by_micro
+    with_none paused.Working e w l = subst (Lays paused.Working []) (sym (none_taken _ (working_is setting p.strand e x.strand h.strand))) tt
+    with_none paused.AtSpawn e w l = subst (λ st. Lays paused.AtSpawn [] (schedules.stalled_by setting.program setting.tables setting.memory kits' x st)) (sym (paused_there paused.AtSpawn e)) tt
+    with_none paused.AtSync e w l = subst (λ st. Lays paused.AtSync [] (schedules.stalled_by setting.program setting.tables setting.memory kits' x st)) (sym (paused_there paused.AtSync e)) (laid_as Stalled strands.Stall l)
     with_none paused.Returned e w l = absurd w
     with_none paused.Finished e w l = absurd w
     with_none paused.Faulted e w l = absurd w
@@ -107,10 +105,10 @@ module _ (ts : List Columned) (program : Revised) (codes : List Code) (tables : 
     with_some paused.Finished k ks w = absurd w
     with_some paused.Faulted k ks w = absurd w
 
-    by_step : (c : Paused) → pause_of codes p.strand ≡ c → IsOnItsWay c → LaidAtSync c p.strand.phase → (on : List Continuation → Option schedules.Change)
-        → on [] ≡ schedules.stalled_by program tables without_memo kits' x (step_of program tables without_memo kits' x.strand) → ((k : Continuation) (ks : List Continuation) → on (k ∷ ks) ≡ None) → (tasks : List PlainTask) (ks : List Continuation) → StandForTasks ts t codes tasks ks → Lays c tasks (on ks)
+    by_step : (c : Paused) → pause_of setting.codes p.strand ≡ c → IsOnItsWay c → LaidAtSync c p.strand.phase → (on : List Continuation → Option schedules.Change)
+        → on [] ≡ schedules.stalled_by setting.program setting.tables setting.memory kits' x (step_of setting.program setting.tables setting.memory kits' x.strand) → ((k : Continuation) (ks : List Continuation) → on (k ∷ ks) ≡ None) → (tasks : List PlainTask) (ks : List Continuation) → StandForTasks setting tasks ks → Lays c tasks (on ks)
     by_step c e w l on none some [] [] r =
-        subst (Lays c []) (sym (none ∙ ap (schedules.stalled_by program tables without_memo kits' x) (step_is ts program codes tables kits' p.strand x.strand h.one_layer h.strand))) (with_none c e w l)
+        subst (Lays c []) (sym (none ∙ ap (schedules.stalled_by setting.program setting.tables setting.memory kits' x) (step_is setting no_memo kits' p.strand x.strand h.one_layer h.strand))) (with_none c e w l)
     by_step c e w l on none some [] (k ∷ ks) r = absurd r
     by_step c e w l on none some (j ∷ js) [] r = absurd r
     by_step c e w l on none some (j ∷ js) (k ∷ ks) r = subst (Lays c (j ∷ js)) (sym (some k ks)) (with_some c j js w)
@@ -118,9 +116,9 @@ module _ (ts : List Columned) (program : Revised) (codes : List Code) (tables : 
     -- ---- at the bottom
 
     abbrev ends_at : Place → Option schedules.Change
-    ends_at n = schedules.left_by program tables without_memo kits' x n
+    ends_at n = schedules.left_by setting.program setting.tables setting.memory kits' x n
 
-    at_bottom : (v : ℤ) (path : Place) (tasks : List PlainTask) (ks : List Continuation) → p.strand.phase ≡ phase.Leaving v → x.strand.frame.instance ≡ path → StandForTasks ts t codes tasks ks → Lays (bottom_pause path) tasks (schedules.stalled_at program tables without_memo kits' x (leaving v) [] ks)
+    at_bottom : (v : ℤ) (path : Place) (tasks : List PlainTask) (ks : List Continuation) → p.strand.phase ≡ phase.Leaving v → x.strand.frame.instance ≡ path → StandForTasks setting tasks ks → Lays (bottom_pause path) tasks (schedules.stalled_at setting.program setting.tables setting.memory kits' x (leaving v) [] ks)
     at_bottom v [] [] [] e n r = subst (λ m. Lays paused.Finished [] (ends_at m)) (sym n) (laid_as strands.Finished strands.Finish (subst (IsLaidAs strands.Finished) (sym e) tt))
     at_bottom v (k ∷ path) [] [] e n r = subst (λ m. Lays paused.Returned [] (ends_at m)) (sym n) (laid_as Ended strands.End (subst (IsLaidAs Ended) (sym e) tt))
     at_bottom v path [] (k ∷ ks) e n r = absurd r
@@ -130,61 +128,61 @@ module _ (ts : List Columned) (program : Revised) (codes : List Code) (tables : 
 
     -- ---- with a fault
 
-    at_fault : (k : Fault) (under : List Parent) (ks : List Continuation) (f : NumberedFault) → p.strand.phase ≡ phase.Broken f → x.strand.phase ≡ broken k → Lays paused.Faulted p.deque (schedules.stalled_at program tables without_memo kits' x (broken k) under ks)
+    at_fault : (k : Fault) (under : List Parent) (ks : List Continuation) (f : NumberedFault) → p.strand.phase ≡ phase.Broken f → x.strand.phase ≡ broken k → Lays paused.Faulted p.deque (schedules.stalled_at setting.program setting.tables setting.memory kits' x (broken k) under ks)
     at_fault k under ks f e b = record {
       pieces = record {
-        strand = subst (λ ph. StandsFor ts t codes (lowest_alone p.strand) (record { start = x.strand.start; layers = bottom_alone program tables without_memo x.strand.layers; frame = x.strand.frame; phase = ph; under = x.strand.under })) b
-            (alone_is ts t codes p.strand program tables without_memo x.strand h.strand);
+        strand = subst (λ ph. StandsFor setting (lowest_alone p.strand) (record { start = x.strand.start; layers = bottom_alone setting.program setting.tables setting.memory x.strand.layers; frame = x.strand.frame; phase = ph; under = x.strand.under })) b
+            (alone_is setting p.strand x.strand h.strand);
         one_layer = refl;
         tasks = tt;
         state = refl;
         laid = subst (IsLaidAs strands.Faulted) (sym e) tt;
       };
       kits =
-          (let one : length x.strand.layers ≡ 1 = one_long ts program codes tables p.strand.layer p.strand.lower x.strand.layers h.one_layer h.strand.layers in
+          (let one : length x.strand.layers ≡ 1 = one_long setting p.strand.layer p.strand.lower x.strand.layers h.one_layer h.strand.layers in
           let none : length p.strand.lower ≡ 0 = ap length h.one_layer in
           let e : kits' ≡ kits = same in
           omega arith);
-      noted = ap (λ n. strands.Fault n ∷ []) (piece_place ts t codes p x h);
+      noted = ap (λ n. strands.Fault n ∷ []) (piece_place setting p x h);
     }
 
     -- ---- by what comes next
 
     abbrev Stalls : NamedPhase → List Parent → Phase → Type 0
-    Stalls nph under ph = Lays (pause_at codes ph p.strand) p.deque (schedules.stalled_at program tables without_memo kits' x nph under x.deque)
+    Stalls nph under ph = Lays (pause_at setting.codes ph p.strand) p.deque (schedules.stalled_at setting.program setting.tables setting.memory kits' x nph under x.deque)
 
-    point : (ph : Phase) → p.strand.phase ≡ ph → pause_of codes p.strand ≡ pause_at codes ph p.strand
-    point ph e = ap (λ q. pause_at codes q p.strand) e
+    point : (ph : Phase) → p.strand.phase ≡ ph → pause_of setting.codes p.strand ≡ pause_at setting.codes ph p.strand
+    point ph e = ap (λ q. pause_at setting.codes q p.strand) e
 
-    left_there : (v : ℤ) (below : List PlainActivation) (under : List Parent) → p.strand.phase ≡ phase.Leaving v → p.strand.below ≡ below → x.strand.frame.instance ≡ p.strand.path → AreParents ts t codes p.strand.path below under → Stalls (leaving v) under (phase.Leaving v)
+    left_there : (v : ℤ) (below : List PlainActivation) (under : List Parent) → p.strand.phase ≡ phase.Leaving v → p.strand.below ≡ below → x.strand.frame.instance ≡ p.strand.path → AreParents setting p.strand.path below under → Stalls (leaving v) under (phase.Leaving v)
     left_there v [] under e b n r =
         subst (λ us. Stalls (leaving v) us (phase.Leaving v)) (sym (none_under p.strand.path under r))
-        (subst (λ bs. Lays (leaving_pause bs p.strand.path) p.deque (schedules.stalled_at program tables without_memo kits' x (leaving v) [] x.deque)) (sym b)
+        (subst (λ bs. Lays (leaving_pause bs p.strand.path) p.deque (schedules.stalled_at setting.program setting.tables setting.memory kits' x (leaving v) [] x.deque)) (sym b)
         (at_bottom v p.strand.path p.deque x.deque e n h.tasks))
     left_there v (a ∷ below) [] e b n r = absurd r
     left_there v (a ∷ below) (q ∷ under) e b n r =
-        let c : pause_at codes (phase.Leaving v) p.strand ≡ paused.Working = ap (λ bs. leaving_pause bs p.strand.path) b in
-        subst (λ c. Lays c p.deque (schedules.stalled_at program tables without_memo kits' x (leaving v) (q ∷ under) x.deque)) (sym c)
-        (by_step paused.Working (point (phase.Leaving v) e ∙ c) tt tt (schedules.stalled_at program tables without_memo kits' x (leaving v) (q ∷ under)) refl (λ k ks. refl) p.deque x.deque h.tasks)
+        let c : pause_at setting.codes (phase.Leaving v) p.strand ≡ paused.Working = ap (λ bs. leaving_pause bs p.strand.path) b in
+        subst (λ c. Lays c p.deque (schedules.stalled_at setting.program setting.tables setting.memory kits' x (leaving v) (q ∷ under) x.deque)) (sym c)
+        (by_step paused.Working (point (phase.Leaving v) e ∙ c) tt tt (schedules.stalled_at setting.program setting.tables setting.memory kits' x (leaving v) (q ∷ under)) refl (λ k ks. refl) p.deque x.deque h.tasks)
 
-    stalled_where : (ph : Phase) (below : List PlainActivation) → p.strand.phase ≡ ph → p.strand.below ≡ below → StandsAt ts t codes ph below p.strand x.strand → Stalls x.strand.phase x.strand.under ph
+    stalled_where : (ph : Phase) (below : List PlainActivation) → p.strand.phase ≡ ph → p.strand.below ≡ below → StandsAt setting ph below p.strand x.strand → Stalls x.strand.phase x.strand.under ph
     stalled_where phase.Entering below e b i =
         subst (λ nph. Stalls nph x.strand.under phase.Entering) (sym i.phase)
-        (by_step paused.Working (point phase.Entering e) tt tt (schedules.stalled_at program tables without_memo kits' x (entering i.child) x.strand.under) refl (λ k ks. refl) p.deque x.deque h.tasks)
+        (by_step paused.Working (point phase.Entering e) tt tt (schedules.stalled_at setting.program setting.tables setting.memory kits' x (entering i.child) x.strand.under) refl (λ k ks. refl) p.deque x.deque h.tasks)
     stalled_where phase.Running below e b i =
-        let met = is_entry p.strand && is_sync (next_statement codes p.strand) in
+        let met = is_entry p.strand && is_sync (next_statement setting.codes p.strand) in
         subst (λ nph. Stalls nph x.strand.under phase.Running) (sym i.phase)
-        (by_step (sync_pause met) (point phase.Running e) (on_its_way met) (subst (LaidAtSync (sync_pause met)) (sym e) (laid_running met)) (schedules.stalled_at program tables without_memo kits' x (running i.todo) x.strand.under) refl (λ k ks. refl) p.deque x.deque h.tasks)
+        (by_step (sync_pause met) (point phase.Running e) (on_its_way met) (subst (LaidAtSync (sync_pause met)) (sym e) (laid_running met)) (schedules.stalled_at setting.program setting.tables setting.memory kits' x (running i.todo) x.strand.under) refl (λ k ks. refl) p.deque x.deque h.tasks)
     stalled_where phase.AtSpawn [] e b i = absurd i
     stalled_where phase.AtSpawn (a ∷ below) e b i =
         subst (λ nph. Stalls nph x.strand.under phase.AtSpawn) (sym i.phase)
-        (by_step paused.AtSpawn (point phase.AtSpawn e) tt tt (schedules.stalled_at program tables without_memo kits' x (spawning p.strand.top.left a.into i.child i.todo) x.strand.under) refl (λ k ks. refl) p.deque x.deque h.tasks)
+        (by_step paused.AtSpawn (point phase.AtSpawn e) tt tt (schedules.stalled_at setting.program setting.tables setting.memory kits' x (spawning p.strand.top.left a.into i.child i.todo) x.strand.under) refl (λ k ks. refl) p.deque x.deque h.tasks)
     stalled_where (phase.Returning v) below e b i =
         let met = is_entry p.strand in
         subst (λ nph. Stalls nph x.strand.under (phase.Returning v)) (sym i.phase)
-        (by_step (sync_pause met) (point (phase.Returning v) e) (on_its_way met) (subst (LaidAtSync (sync_pause met)) (sym e) (laid_returning v met)) (schedules.stalled_at program tables without_memo kits' x (returning v) x.strand.under) refl (λ k ks. refl) p.deque x.deque h.tasks)
+        (by_step (sync_pause met) (point (phase.Returning v) e) (on_its_way met) (subst (LaidAtSync (sync_pause met)) (sym e) (laid_returning v met)) (schedules.stalled_at setting.program setting.tables setting.memory kits' x (returning v) x.strand.under) refl (λ k ks. refl) p.deque x.deque h.tasks)
     stalled_where (phase.Leaving v) below e b i = subst (λ nph. Stalls nph x.strand.under (phase.Leaving v)) (sym i.phase) (left_there v below x.strand.under e b (ap (λ fr. fr.instance) i.frame) i.under)
-    stalled_where (phase.Broken f) below e b i = subst (λ nph. Stalls nph x.strand.under (phase.Broken f)) (sym i) (at_fault (named_fault ts t codes f) x.strand.under x.deque f e i)
+    stalled_where (phase.Broken f) below e b i = subst (λ nph. Stalls nph x.strand.under (phase.Broken f)) (sym i) (at_fault (named_fault setting f) x.strand.under x.deque f e i)
 
-    pub stalled_agrees : Agrees ts t codes (stalled_at (pause_of codes p.strand) p.deque kits p) (schedules.stalled program tables without_memo kits' x)
+    pub stalled_agrees : Agrees setting (stalled_at (pause_of setting.codes p.strand) p.deque kits p) (schedules.stalled setting.program setting.tables setting.memory kits' x)
     stalled_agrees = stalled_where p.strand.phase p.strand.below refl refl h.strand.now

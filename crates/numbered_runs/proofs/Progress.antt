@@ -1,24 +1,16 @@
 -- Where the definitions have a step, a run of numbers has it.
 use Rattle.std.proofs.Common.{◌≡◌, ◌⊎◌, inl, inr, ℕ, ◌<◌, Bool, true, false, not, ◌&&◌, List, [], ◌∷◌, Some, None, Result, Ok, Err, refl, sym, ◌∙◌, ap, subst, lt-ltb, eqb-true}
-use Rattle.monoid_laws.specs.declared.Kind.{Kind}
-use Rattle.meaning.specs.Tables.{Tables}
-use Rattle.meaning.specs.Records.{Revised}
 use Rattle.meaning.specs.Strands.{State, Held, Ended, Stalled, holds_by}
 use Rattle.meaning.specs.Strands as strands
-use Rattle.meaning.specs.Schedules.{RunState, RunStep, fold, without_memo}
-use Rattle.run_theory.specs.Theorems.{IsReady}
+use Rattle.meaning.specs.Schedules.{RunState, RunStep, fold}
 use Rattle.run_theory.specs.Progress.{IsOwnStep, HasEnded, IsTaken, SomeHolderGoesOn, Folds}
 use Rattle.run_theory.proofs.Progress.{some_step_is_there}
-use Rattle.linked_program.specs.declared.code.Code.{Code}
-use Rattle.linked_program.specs.TableNames.{Columned, columned_of}
-use Rattle.linked_program.specs.Procedures.{procedures}
-use Rattle.linked_program.specs.Linked.{kinds_of}
-use Rattle.linked_program.specs.CodeView.{AreCodesOf}
+use Rattle.positions.specs.Setting.{Setting}
 use Rattle.numbered_runs.specs.declared.refusal.Refusal.{Refusal}
 use Rattle.numbered_runs.specs.Pieces.{PlainPiece}
 use Rattle.numbered_runs.specs.Runs.{PlainRun, is_idle, stepped, are_workers}
 use Rattle.numbered_runs.specs.Stands.{StandsForRun}
-use Rattle.numbered_runs.specs.Simulation.{IsReached}
+use Rattle.numbered_runs.specs.Simulation.{IsPrepared, IsReached}
 use Rattle.numbered_runs.specs.Progress.{IsByWorker, AreByWorkers, HasAnswer, HasStep}
 use Rattle.numbered_runs.proofs.Steps.{idle_is, refusals_agree}
 use Rattle.numbered_runs.proofs.Ends.{same_answer}
@@ -46,26 +38,25 @@ own_by n v e l (inr (inl q)) = ap (are_workers n) q ∙ lt-ltb v n l
 own_by n v e l (inr (inr (inl q))) = ap (are_workers n) q ∙ lt-ltb v n l
 own_by n v e l (inr (inr (inr q))) = ap (are_workers n) q ∙ lt-ltb v n l
 
-module _ (ts : List Columned) (program : Revised) (codes : List Code) (tables : Tables) (ready : IsReady program tables without_memo) (kinds : List Kind) (tables_are : ts ≡ columned_of tables) (linked : AreCodesOf ts program.tree codes (procedures program.tree))
-    (kinds_are : kinds ≡ kinds_of program.tree) where
-  module _ (n : ℕ) (some : 0 < n) (s : PlainRun) (x : RunState) (r : IsReached program tables x) (h : StandsForRun ts program.tree codes s x) (by_workers : AreByWorkers n s.pieces) where
-    taken_by : (e : RunStep) → are_workers n e ≡ true → IsTaken program tables without_memo x e → (o : Result PlainRun Refusal) → stepped codes kinds tables s e ≡ o → HasStep codes kinds tables n s
+module _ (setting : Setting) (prepared : IsPrepared setting) where
+  module _ (n : ℕ) (some : 0 < n) (s : PlainRun) (x : RunState) (r : IsReached setting x) (h : StandsForRun setting s x) (by_workers : AreByWorkers n s.pieces) where
+    taken_by : (e : RunStep) → are_workers n e ≡ true → IsTaken setting.program setting.tables setting.memory x e → (o : Result PlainRun Refusal) → stepped setting s e ≡ o → HasStep setting n s
     taken_by e a t (Ok next) is = record { step = e; workers = a; next = next; taken = is }
     taken_by e a t (Err f) is =
-        let none = refusals_agree ts program codes tables ready kinds tables_are linked kinds_are s e f is x r h in
+        let none = refusals_agree setting prepared s e f is x r h in
         let q : None ≡ Some t.0 = sym none ∙ t.1 in
         absurd cc
 
-    takes : (e : RunStep) → are_workers n e ≡ true → IsTaken program tables without_memo x e → HasStep codes kinds tables n s
-    takes e a t = taken_by e a t (stepped codes kinds tables s e) refl
+    takes : (e : RunStep) → are_workers n e ≡ true → IsTaken setting.program setting.tables setting.memory x e → HasStep setting n s
+    takes e a t = taken_by e a t (stepped setting s e) refl
 
-    goes : HasEnded x ⊎ SomeHolderGoesOn program tables without_memo x ⊎ Folds program tables without_memo 0 x → HasAnswer ts program.tree codes s ⊎ HasStep codes kinds tables n s
-    goes (inl a) = inl (a.0, sym (same_answer ts program.tree codes s x h) ∙ a.1)
+    goes : HasEnded x ⊎ SomeHolderGoesOn setting.program setting.tables setting.memory x ⊎ Folds setting.program setting.tables setting.memory 0 x → HasAnswer setting s ⊎ HasStep setting n s
+    goes (inl a) = inl (a.0, sym (same_answer setting s x h) ∙ a.1)
     goes (inr (inl g)) =
-        let busy : is_idle g.0 s.pieces ≡ false = sym (idle_is ts program codes tables g.0 s.pieces x.pieces h.pieces) ∙ g.1 in
+        let busy : is_idle g.0 s.pieces ≡ false = sym (idle_is setting g.0 s.pieces x.pieces h.pieces) ∙ g.1 in
         inr (takes g.2.step (own_by n g.0 g.2.step (busy_is n g.0 s.pieces by_workers busy) g.2.own) g.2.taken)
     goes (inr (inr f)) = inr (takes (fold 0 f.place) (lt-ltb 0 n some) f.taken)
 
-    pub never_stuck : HasAnswer ts program.tree codes s ⊎ HasStep codes kinds tables n s
+    pub never_stuck : HasAnswer setting s ⊎ HasStep setting n s
     never_stuck =
-        goes (subst (λ x. HasEnded x ⊎ SomeHolderGoesOn program tables without_memo x ⊎ Folds program tables without_memo 0 x) r.is (some_step_is_there program tables without_memo ready r.kits r.steps 0))
+        goes (subst (λ x. HasEnded x ⊎ SomeHolderGoesOn setting.program setting.tables setting.memory x ⊎ Folds setting.program setting.tables setting.memory 0 x) r.is (some_step_is_there setting.program setting.tables setting.memory prepared.ready r.kits r.steps 0))

@@ -2,13 +2,11 @@
 use Rattle.std.proofs.Common.{◌≡◌, ℕ, ◌<◌, zero, suc, nat_lt, Bool, true, false, cond, List, [], ◌∷◌, ◌++◌, Option, Some, None, Result, Ok, Err, sym, ap, subst, ltb-true}
 use Rattle.std.proofs.lemmas.Bool.{and_parts}
 use Rattle.std.specs.Prelude.{ℤ}
-use Rattle.monoid_laws.specs.declared.Kind.{Kind}
-use Rattle.meaning.specs.Tables.{Tables}
 use Rattle.meaning.specs.Outcome.{Place}
 use Rattle.meaning.specs.SmallStep.{same_name}
 use Rattle.meaning.specs.Strands.{BookStep}
 use Rattle.meaning.specs.Schedules.{RunStep, work, push, inline, pop, stall, steal, fold}
-use Rattle.linked_program.specs.declared.code.Code.{Code}
+use Rattle.positions.specs.Setting.{Setting}
 use Rattle.positions.specs.declared.phase.Phase.{Phase}
 use Rattle.positions.specs.declared.phase.Phase.TheVariants as phase
 use Rattle.positions.specs.declared.phase.Paused.{Paused}
@@ -101,8 +99,8 @@ module _ (n : ℕ) where
     stalls paused.Returned (k ∷ ks) = tt
     stalls paused.Finished (k ∷ ks) = tt
 
-  module _ (codes : List Code) (kinds : List Kind) (tables : Tables) where
-    works : (kits : ℕ) (p : PlainPiece) → IsByWorker n p.state → (c : Paused) → ForOk Made (worked_at codes kinds tables c kits p)
+  module _ (setting : Setting) where
+    works : (kits : ℕ) (p : PlainPiece) → IsByWorker n p.state → (c : Paused) → ForOk Made (worked_at setting c kits p)
     works kits p h paused.Working = (h, tt)
     works kits p h paused.AtSpawn = tt
     works kits p h paused.AtSync = tt
@@ -110,11 +108,11 @@ module _ (n : ℕ) where
     works kits p h paused.Finished = tt
     works kits p h paused.Faulted = tt
 
-    robs : (thief kits : ℕ) (p : PlainPiece) (taken : List PlainTask × PlainTask) → thief < n → IsByWorker n p.state → ForOk Made (robbed_if codes kinds tables thief kits p taken)
+    robs : (thief kits : ℕ) (p : PlainPiece) (taken : List PlainTask × PlainTask) → thief < n → IsByWorker n p.state → ForOk Made (robbed_if setting thief kits p taken)
     robs thief zero p taken l h = tt
     robs thief (suc kits) p taken l h = (h, (l, tt))
 
-    steals : (thief kits : ℕ) (p : PlainPiece) (tasks : List PlainTask) → thief < n → IsByWorker n p.state → ForOk Made (stolen_of codes kinds tables thief kits p tasks)
+    steals : (thief kits : ℕ) (p : PlainPiece) (tasks : List PlainTask) → thief < n → IsByWorker n p.state → ForOk Made (stolen_of setting thief kits p tasks)
     steals thief kits p [] l h = tt
     steals thief kits p (k ∷ ks) l h = robs thief kits p (oldest [] k ks) l h
 
@@ -138,20 +136,20 @@ module _ (n : ℕ) where
     idle true r h = h
     idle false r h = tt
 
-    step_by : (s : PlainRun) (e : RunStep) → are_workers n e ≡ true → ByWorkers s → ForOk ByWorkers (stepped codes kinds tables s e)
-    step_by s (work w) a h = changed_by NotThere w (worked codes kinds tables s.kits) (λ p k. works s.kits p k (pause_of codes p.strand)) [] s.pieces s.history tt h
+    step_by : (s : PlainRun) (e : RunStep) → are_workers n e ≡ true → ByWorkers s → ForOk ByWorkers (stepped setting s e)
+    step_by s (work w) a h = changed_by NotThere w (worked setting s.kits) (λ p k. works s.kits p k (pause_of setting.codes p.strand)) [] s.pieces s.history tt h
     step_by s (push w) a h = changed_by NotThere w (pushed s.kits) (λ p k. pushes s.kits p k p.strand.phase) [] s.pieces s.history tt h
     step_by s (inline w) a h = changed_by NotThere w (inlined s.kits) (λ p k. inlines s.kits p k p.strand.phase) [] s.pieces s.history tt h
     step_by s (pop w) a h = changed_by NotThere w (popped s.kits) (λ p k. pops s.kits p k (returned_of p.strand)) [] s.pieces s.history tt h
-    step_by s (stall w) a h = changed_by NotThere w (stalled codes kinds tables s.kits) (λ p k. stalls s.kits p k (pause_of codes p.strand) p.deque) [] s.pieces s.history tt h
+    step_by s (stall w) a h = changed_by NotThere w (stalled setting s.kits) (λ p k. stalls s.kits p k (pause_of setting.codes p.strand) p.deque) [] s.pieces s.history tt h
     step_by s (steal thief v) a h =
         let l = ltb-true thief n (and_parts (nat_lt thief n) (nat_lt v n) a).0 in
-        idle (is_idle thief s.pieces) (changed Nothing v (stolen_from codes kinds tables thief s.kits) [] s.pieces s.history)
-        (changed_by Nothing v (stolen_from codes kinds tables thief s.kits) (λ p k. steals thief s.kits p p.deque l k) [] s.pieces s.history tt h)
+        idle (is_idle thief s.pieces) (changed Nothing v (stolen_from setting thief s.kits) [] s.pieces s.history)
+        (changed_by Nothing v (stolen_from setting thief s.kits) (λ p k. steals thief s.kits p p.deque l k) [] s.pieces s.history tt h)
     step_by s (fold w q) a h = idle (is_idle w s.pieces) (folded_at w q s.kits [] s.pieces s.history) (folds w q s.kits [] s.pieces s.history (ltb-true w n a) tt h)
 
-    pub steps_by : (s next : PlainRun) (e : RunStep) → are_workers n e ≡ true → stepped codes kinds tables s e ≡ Ok next → ByWorkers s → ByWorkers next
-    steps_by s next e a is h = ok_is ByWorkers (stepped codes kinds tables s e) next (step_by s e a h) is
+    pub steps_by : (s next : PlainRun) (e : RunStep) → are_workers n e ≡ true → stepped setting s e ≡ Ok next → ByWorkers s → ByWorkers next
+    steps_by s next e a is h = ok_is ByWorkers (stepped setting s e) next (step_by s e a h) is
 
   -- ---- folds that memory was refused for
 

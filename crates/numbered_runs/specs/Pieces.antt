@@ -1,12 +1,10 @@
 -- The steps of a strand with its deque, by numbers.
 use Rattle.std.specs.Prelude.{ℕ, zero, suc, ◌+◌, ℤ, Bool, true, false, ◌&&◌, List, [], ◌∷◌, ◌++◌, length, Option, Some, None, Result, Ok, Err}
-use Rattle.monoid_laws.specs.declared.Kind.{Kind}
-use Rattle.meaning.specs.Tables.{Tables}
 use Rattle.meaning.specs.Outcome.{Place}
 use Rattle.meaning.specs.SmallStep.{same_name}
 use Rattle.meaning.specs.Strands.{State, Held, Ended, Stalled, BookStep, Split, End, Stall, Finish}
 use Rattle.meaning.specs.Strands as strands
-use Rattle.linked_program.specs.declared.code.Code.{Code}
+use Rattle.positions.specs.Setting.{Setting}
 use Rattle.positions.specs.declared.phase.Phase.{Phase}
 use Rattle.positions.specs.declared.phase.Phase.TheVariants.{AtSpawn, Leaving, Broken}
 use Rattle.positions.specs.declared.phase.Paused.{Paused}
@@ -110,23 +108,23 @@ may_fold l r = strands.done l.state && strands.waits r.state && may_join_at l.st
 abbrev pub folded : ℕ → PlainPiece → PlainPiece → PlainPiece
 folded w l r = record { strand = joined l.strand r.strand; deque = []; state = Held w }
 
-module _ (codes : List Code) (kinds : List Kind) (tables : Tables) where
+module _ (setting : Setting) where
   abbrev pub worked_at : Paused → ℕ → PlainPiece → Result Change Refusal
-  worked_at paused.Working kits p = alone kits (record p { strand = advanced codes kinds tables p.strand })
+  worked_at paused.Working kits p = alone kits (record p { strand = advanced setting p.strand })
   worked_at _ kits p = Err NotThere
 
   -- one small step
   abbrev pub worked : ℕ → PlainPiece → Result Change Refusal
-  worked kits p = worked_at (pause_of codes p.strand) kits p
+  worked kits p = worked_at (pause_of setting.codes p.strand) kits p
 
   abbrev pub stalled : ℕ → PlainPiece → Result Change Refusal
-  stalled kits p = stalled_at (pause_of codes p.strand) p.deque kits p
+  stalled kits p = stalled_at (pause_of setting.codes p.strand) p.deque kits p
 
   -- a thief's strand stands directly after its victim's
   abbrev pub robbed : ℕ → ℕ → PlainPiece → List PlainTask × PlainTask → Result Change Refusal
   robbed thief kits p taken =
       Ok (record {
-        pieces = record p { deque = taken.0 } ∷ record { strand = stolen_strand codes kinds taken.1; deque = []; state = Held thief } ∷ [];
+        pieces = record p { deque = taken.0 } ∷ record { strand = stolen_strand setting.codes setting.kinds taken.1; deque = []; state = Held thief } ∷ [];
         kits = kits;
         noted = Split (place_of p) taken.1.place thief ∷ [];
       })

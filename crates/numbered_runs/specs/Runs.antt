@@ -1,13 +1,13 @@
 -- The steps of a run on several workers, by numbers.
 use Rattle.std.specs.Prelude.{ℕ, ◌+◌, ◌-◌, nat_lt, Bool, true, false, cond, not, ◌&&◌, List, [], ◌∷◌, ◌++◌, Result, Ok, Err}
 use Rattle.monoid_laws.specs.declared.Kind.{Kind}
-use Rattle.meaning.specs.Tables.{Tables}
 use Rattle.meaning.specs.Every.{every}
 use Rattle.meaning.specs.Outcome.{Place}
 use Rattle.meaning.specs.SmallStep.{same_name}
 use Rattle.meaning.specs.Strands.{Held, BookStep, Fold, Line}
 use Rattle.meaning.specs.Schedules.{RunStep, work, push, inline, pop, stall, steal, fold}
 use Rattle.linked_program.specs.declared.code.Code.{Code}
+use Rattle.positions.specs.Setting.{Setting}
 use Rattle.positions.specs.Moves.{first_strand}
 use Rattle.numbered_runs.specs.Pieces.{PlainPiece, Change, place_of, is_held_by, pushed, inlined, popped, may_fold, folded, worked, stalled, stolen_from}
 use Rattle.numbered_runs.specs.declared.refusal.Refusal.{Refusal}
@@ -52,15 +52,15 @@ abbrev pub folded_at : ℕ → Place → ℕ → List PlainPiece → List PlainP
 folded_at w q kits before (l ∷ r ∷ ps) history = cond (same_name (place_of r) q) (folded_if (may_fold l r) w kits before l r ps history) (folded_at w q kits (before ++ l ∷ []) (r ∷ ps) history)
 folded_at w q kits before _ history = Err NotThere
 
-module _ (codes : List Code) (kinds : List Kind) (tables : Tables) where
+module _ (setting : Setting) where
   -- a step by workers that there are, or why it is refused
   abbrev pub stepped : PlainRun → RunStep → Result PlainRun Refusal
-  stepped s (work w) = changed NotThere w (worked codes kinds tables s.kits) [] s.pieces s.history
+  stepped s (work w) = changed NotThere w (worked setting s.kits) [] s.pieces s.history
   stepped s (push w) = changed NotThere w (pushed s.kits) [] s.pieces s.history
   stepped s (inline w) = changed NotThere w (inlined s.kits) [] s.pieces s.history
   stepped s (pop w) = changed NotThere w (popped s.kits) [] s.pieces s.history
-  stepped s (stall w) = changed NotThere w (stalled codes kinds tables s.kits) [] s.pieces s.history
-  stepped s (steal t v) = if_idle (is_idle t s.pieces) (changed Nothing v (stolen_from codes kinds tables t s.kits) [] s.pieces s.history)
+  stepped s (stall w) = changed NotThere w (stalled setting s.kits) [] s.pieces s.history
+  stepped s (steal t v) = if_idle (is_idle t s.pieces) (changed Nothing v (stolen_from setting t s.kits) [] s.pieces s.history)
   stepped s (fold w q) = if_idle (is_idle w s.pieces) (folded_at w q s.kits [] s.pieces s.history)
 
 -- there are so many workers

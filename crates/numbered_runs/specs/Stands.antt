@@ -1,13 +1,11 @@
 -- What a run of numbers stands for: a run of the definitions.
 use Rattle.std.specs.Prelude.{◌≡◌, ◌⊎◌, List, [], ◌∷◌}
-use Rattle.program_tree.specs.Plain.{Tree}
 use Rattle.monoid_laws.specs.Worth.{Worth}
 use Rattle.monoid_laws.specs.Kinds.{operate_all}
 use Rattle.meaning.specs.SmallStep.{Continuation}
 use Rattle.meaning.specs.Strands.{State, Held, Ended, Stalled, Faulted, Finished}
 use Rattle.meaning.specs.Schedules.{Piece, RunState}
-use Rattle.linked_program.specs.declared.code.Code.{Code}
-use Rattle.linked_program.specs.TableNames.{Columned}
+use Rattle.positions.specs.Setting.{Setting}
 use Rattle.positions.specs.declared.phase.Phase.{Phase}
 use Rattle.positions.specs.declared.phase.Phase.TheVariants.{Running, Returning, Leaving, Broken}
 use Rattle.positions.specs.Strands.{PlainStrand, PlainTask}
@@ -32,15 +30,15 @@ IsLaidAs Faulted (Broken f) = Unit {0}
 IsLaidAs Finished (Leaving v) = Unit {0}
 IsLaidAs _ _ = ⊥
 
-module _ (ts : List Columned) (t : Tree) (codes : List Code) where
+module _ (setting : Setting) where
   abbrev pub StandForTasks : List PlainTask → List Continuation → Type 0
   StandForTasks [] [] = Unit {0}
-  StandForTasks (task ∷ tasks) (k ∷ ks) = StandsForTask ts t codes task k × StandForTasks tasks ks
+  StandForTasks (task ∷ tasks) (k ∷ ks) = StandsForTask setting task k × StandForTasks tasks ks
   StandForTasks _ _ = ⊥
 
   -- each instance is recorded in no layer of its own: `memo` has no effect
   pub record StandsForPiece (p : PlainPiece) (x : Piece) : Type 0 where
-    pub strand : StandsFor ts t codes p.strand x.strand
+    pub strand : StandsFor setting p.strand x.strand
     pub one_layer : p.strand.lower ≡ []
     pub tasks : StandForTasks p.deque x.deque
     pub state : x.state ≡ p.state

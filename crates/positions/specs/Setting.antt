@@ -36,3 +36,7 @@ HasItsTables setting = setting.names ≡ columned_of setting.tables
 -- the same program by the names that its tables have
 abbrev pub by_own_names : Setting → Setting
 by_own_names setting = record setting { names = columned_of setting.tables }
+
+-- `memo` has no effect
+abbrev pub HasNoMemo : Setting → Type 0
+HasNoMemo setting = setting.memory ≡ without_memo
