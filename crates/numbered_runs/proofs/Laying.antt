@@ -3,7 +3,6 @@ use Rattle.std.proofs.Common.{◌≡◌, ℕ, Bool, true, false, List, [], ◌�
 use Rattle.std.specs.Prelude.{ℤ, ◌&&◌}
 use Rattle.program_tree.specs.Plain.{Tree}
 use Rattle.meaning.specs.Outcome.{Place, Fault}
-use Rattle.meaning.specs.Records.{Revised}
 use Rattle.meaning.specs.SmallStep.{Phase as NamedPhase, entering, running, spawning, returning, leaving, broken, Parent, noting, opening_one, closing_one, Step, moved, taken, paused as paused_step, micro, Continuation, nothing_kept}
 use Rattle.meaning.specs.Layers.{bottom}
 use Rattle.meaning.specs.Strands.{State, Ended, Stalled, BookStep}
