@@ -13,7 +13,6 @@ use Rattle.linked_program.specs.Checked.{PlainChecked, revised_of, names_in}
 use Rattle.linked_program.specs.TableNames.{columned_of}
 use Rattle.linked_program.specs.Linked.{procedure_number}
 use Rattle.linked_program.specs.Procedures.{procedures}
-use Rattle.evaluation.specs.declared.note.Note.{Note}
 use Rattle.evaluation.specs.Numbers.{numbered}
 use Rattle.rerun_records.specs.Record.{PlainRecord}
 use Rattle.rerun_records.specs.Validity.{valid_at}

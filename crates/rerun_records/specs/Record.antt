@@ -6,6 +6,9 @@ use Rattle.monoid_laws.specs.Worth.{Worth}
 use Rattle.monoid_laws.specs.declared.Val.{Val}
 use Rattle.monoid_laws.specs.Kinds.{meaning}
 use Rattle.evaluation.specs.declared.note.Note.{Note}
+use Rattle.evaluation.specs.declared.note.Note.TheVariants as n
+use Rattle.rerun_records.specs.declared.reading.Reading.{Reading}
+use Rattle.rerun_records.specs.declared.reading.Reading.TheVariants as r
 
 -- of a memo instance that is over: its procedure and arguments, its value, what it made of each reducer that it touched, what it read,
 -- the procedures entered with their revision numbers, and how many instances were nested in it at most, itself counted
@@ -17,6 +20,12 @@ pub record PlainRecord : Type 0 where
   pub reads : List Note
   pub entered : List (ℕ × ℕ)
   pub height : ℕ
+
+-- the note that was put into fewer bytes
+abbrev pub note_of : Reading → Note
+note_of (r.Cell t c row v) = n.Cell t row c v
+note_of (r.Has t row there) = n.Has t row there
+note_of (r.Limit t v) = n.Limit t v
 
 -- a reducer's number and its value
 abbrev pub touched : ℕ × Val → ℕ × Worth

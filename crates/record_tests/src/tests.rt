@@ -1,0 +1,3 @@
+//! Records by hand, for programs as text.
+
+mod sizes;
