@@ -20,7 +20,7 @@ use Rattle.evaluation.specs.Numbers.{numbered}
 use Rattle.rerun_records.specs.Record.{PlainRecord, is_of, same_instance}
 use Rattle.rerun_records.specs.Validity.{note_agrees, has_revision, record_valid, only_valid, valid_at}
 use Rattle.rerun_records.specs.Commits.{put_record}
-use Rattle.rerun_records.specs.Named.{number_of, numbered_entry, IsKept, AreKept, IsFound, IsListed, Commits}
+use Rattle.rerun_records.specs.Named.{number_of, numbered_entry, IsKept, AreKept, IsFound, IsListed}
 use Rattle.rerun_records.proofs.Members.{every_member, every_mapped}
 use Rattle.rerun_records.proofs.Numbers.{same_name, current_is, reading_is, same_arguments}
 
@@ -107,7 +107,7 @@ module _ (program : PlainChecked) where
         | false ↦ (h.0, put_one ks rs j s h.1 i)
       ])
 
-  pub put_all : (ks js : List Kept) (rs ss : List PlainRecord) → Commits program ks js rs ss
+  pub put_all : (ks js : List Kept) (rs ss : List PlainRecord) → AreKept program ks rs → AreKept program js ss → AreKept program (committed ks js) (put_records rs ss)
   put_all ks [] rs [] h i = h
   put_all ks [] rs (s ∷ ss) h i = absurd i
   put_all ks (j ∷ js) rs [] h i = absurd i

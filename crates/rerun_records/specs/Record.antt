@@ -1,5 +1,5 @@
 -- Records as plain values: everything in them goes by number.
-use Rattle.std.specs.Prelude.{ℕ, nat_eq, ℤ, Bool, ◌&&◌, List}
+use Rattle.std.specs.Prelude.{ℕ, nat_eq, ℤ, Bool, ◌&&◌, List, map}
 use Rattle.std.specs.Cmp.Lexicographic.{pointwise}
 use Rattle.std.specs.Ordering.{int_eq}
 use Rattle.monoid_laws.specs.Worth.{Worth}
@@ -38,3 +38,8 @@ is_of procedure arguments r = nat_eq procedure r.procedure && pointwise int_eq a
 -- two records are of one procedure with the same arguments
 abbrev pub same_instance : PlainRecord → PlainRecord → Bool
 same_instance r s = is_of r.procedure r.arguments s
+
+-- the record of these parts
+abbrev pub made_of : ℕ → List ℤ → ℤ → List (ℕ × Val) → List Note → List (ℕ × ℕ) → ℕ → PlainRecord
+made_of procedure arguments value contribution reads entered height =
+    record { procedure = procedure; arguments = arguments; value = value; contribution = map touched contribution; reads = reads; entered = entered; height = height }

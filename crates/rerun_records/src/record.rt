@@ -7,7 +7,7 @@ ghost use Rattle.std.specs.Ordering.{on, eq_of_both, int_eq};
 ghost use Rattle.std.proofs.Common.{rules};
 ghost use Rattle.meaning.specs.Elision.{depth_limit};
 ghost use Rattle.meaning.specs.Every.{every};
-ghost use Rattle.rerun_records.specs.Record.{note_of, touched};
+ghost use Rattle.rerun_records.specs.Record.{note_of, touched, made_of};
 ghost use Rattle.rerun_records.specs.Validity.{note_agrees, has_revision, record_holds, record_valid};
 
 use crate::reading::{Reading, readings};
@@ -59,7 +59,8 @@ impl Record {
         entered: &[(usize, u64)],
         height: u32,
     ) -> Result<Record, AllocError>
-        ensures made { IfOk result (λ r. r ≡ record { procedure = procedure; arguments = arguments.now; value = value; contribution = map touched contribution.items; reads = reads.now; entered = entered.now; height = height }) }
+        ensures made { IfOk result (λ r.
+            r ≡ made_of procedure arguments.now value contribution.items reads.now entered.now height) }
     {
         let mut contribution = contribution;
         contribution.shrink_to_fit();
@@ -140,7 +141,8 @@ impl Record {
 
     /// Whether the record holds now, and an instance at that depth with as many nested in it stays within the limit.
     pub fn is_valid(&self, depth: u32, tables: &Tables, program: &Checked) -> bool
-        ensures valid { result ≡ record_valid program.now.revisions tables.now.tables depth self.now }
+        ensures valid { result
+            ≡ record_valid program.now.revisions tables.now.tables depth self.now }
     {
         self.holds_now(tables, program) && fits(depth, self.height)
     }
