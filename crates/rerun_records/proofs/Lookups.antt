@@ -1,5 +1,5 @@
 -- Records by number stand for those by name, as they are looked up and put in.
-use Rattle.std.proofs.Common.{◌≡◌, ℕ, suc, ◌+◌, ℤ, Bool, true, false, cond, List, [], ◌∷◌, Option, Some, None, refl, sym, ap, ◌∙◌, subst}
+use Rattle.std.proofs.Common.{◌≡◌, ℕ, suc, ◌+◌, ℤ, Bool, true, false, cond, List, [], ◌∷◌, Some, None, refl, sym, ap, ◌∙◌, subst}
 use Rattle.std.specs.Prelude.{◌&&◌, nat_eq, nat_le}
 use Rattle.std.specs.Cmp.Lexicographic.{pointwise}
 use Rattle.std.specs.List.{find}
@@ -8,7 +8,7 @@ use Rattle.std.specs.Str.{bytes_eq}
 use Rattle.std.proofs.lemmas.Slice.Eq.{bytes_eq-Decides}
 use Rattle.program_tree.specs.Plain.{Name}
 use Rattle.program_tree.specs.View.{tree}
-use Rattle.meaning.specs.Commits.{replaced, committed, same_key}
+use Rattle.meaning.specs.Commits.{replaced, same_key}
 use Rattle.meaning.specs.Elision.{depth_limit}
 use Rattle.meaning.specs.Every.{every}
 use Rattle.meaning.specs.Records.{Kept, agrees, is_current, is_valid, if_valid, record_of, same_args}
@@ -19,8 +19,8 @@ use Rattle.linked_program.specs.TableNames.{Columned, columned_of}
 use Rattle.evaluation.specs.Numbers.{numbered}
 use Rattle.rerun_records.specs.Record.{PlainRecord, is_of, same_instance}
 use Rattle.rerun_records.specs.Validity.{note_agrees, has_revision, record_valid, only_valid, valid_at}
-use Rattle.rerun_records.specs.Commits.{put_record, put_records}
-use Rattle.rerun_records.specs.Named.{number_of, numbered_entry, IsKept, AreKept, IsFound, IsListed, LooksUp, Commits}
+use Rattle.rerun_records.specs.Commits.{put_record}
+use Rattle.rerun_records.specs.Named.{number_of, numbered_entry, IsKept, AreKept, IsFound, IsListed}
 use Rattle.rerun_records.proofs.Members.{every_member, every_mapped}
 use Rattle.rerun_records.proofs.Numbers.{same_name, current_is, reading_is, same_arguments}
 
@@ -107,7 +107,7 @@ module _ (program : PlainChecked) where
         | false ↦ (h.0, put_one ks rs j s h.1 i)
       ])
 
-  pub put_all : (ks js : List Kept) (rs ss : List PlainRecord) → Commits program ks js rs ss
+  pub put_all : (ks js : List Kept) (rs ss : List PlainRecord) → AreKept program ks rs → AreKept program js ss → AreKept program (committed ks js) (put_records rs ss)
   put_all ks [] rs [] h i = h
   put_all ks [] rs (s ∷ ss) h i = absurd i
   put_all ks (j ∷ js) rs [] h i = absurd i

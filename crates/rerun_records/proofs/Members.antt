@@ -1,6 +1,6 @@
 -- Tests of lists that have the same members.
 use Rattle.std.proofs.Common.{◌≡◌, ℕ, zero, suc, ◌<◌, Bool, true, false, true≢false, List, [], ◌∷◌, length, map, refl, sym, ap, ◌∙◌, arith, Contains}
-use Rattle.std.specs.Prelude.{◌&&◌, ◌↔◌, slice_index_or}
+use Rattle.std.specs.Prelude.{◌&&◌, slice_index_or}
 use Rattle.meaning.specs.Every.{every}
 use Rattle.rerun_records.specs.Named.{SameMembers}
 

@@ -1,5 +1,5 @@
 -- What goes by name in the definitions, by the numbers of the names.
-use Rattle.std.proofs.Common.{◌≡◌, ℕ, suc, ℤ, Bool, true, false, true≢false, cond, List, [], ◌∷◌, map, pos, Option, Some, None, refl, sym, ap, ◌∙◌, subst}
+use Rattle.std.proofs.Common.{◌≡◌, ℕ, suc, ℤ, Bool, true, false, true≢false, cond, List, [], ◌∷◌, map, pos, Option, Some, None, refl, sym, ap, ◌∙◌}
 use Rattle.std.specs.Prelude.{◌&&◌, nat_eq, slice_get}
 use Rattle.std.specs.Cmp.Lexicographic.{pointwise}
 use Rattle.std.specs.Ordering.{int_eq}
@@ -12,7 +12,7 @@ use Rattle.program_tree.specs.View.{tree}
 use Rattle.meaning.specs.Outcome.{Reading, CellHeld, HasHeld, LimitHeld}
 use Rattle.meaning.specs.Records.{agrees, is_current, same_number, same_bool, same_args}
 use Rattle.meaning.specs.Statements.{procedure_of}
-use Rattle.meaning.specs.Tables.{Tables, place_of, is_there, cell_of, row_of, above_all}
+use Rattle.meaning.specs.Tables.{Tables, place_of, is_there, row_of, above_all}
 use Rattle.linked_program.specs.Checked.{PlainChecked, names_in}
 use Rattle.linked_program.specs.Linked.{procedure_number}
 use Rattle.linked_program.specs.Procedures.{procedures}
@@ -21,7 +21,7 @@ use Rattle.linked_program.proofs.Numbers.{procedure_is}
 use Rattle.evaluation.specs.Numbers.{numbered}
 use Rattle.evaluation.proofs.Meant.{rows_found, cell_found}
 use Rattle.rerun_records.specs.Validity.{note_agrees, has_revision, is_revision}
-use Rattle.rerun_records.specs.Named.{number_of, numbered_entry, IsListed}
+use Rattle.rerun_records.specs.Named.{numbered_entry, IsListed}
 
 -- ---- names of procedures
 

@@ -13,11 +13,9 @@ use Rattle.linked_program.specs.Checked.{PlainChecked, revised_of, names_in}
 use Rattle.linked_program.specs.TableNames.{columned_of}
 use Rattle.linked_program.specs.Linked.{procedure_number}
 use Rattle.linked_program.specs.Procedures.{procedures}
-use Rattle.evaluation.specs.declared.note.Note.{Note}
 use Rattle.evaluation.specs.Numbers.{numbered}
 use Rattle.rerun_records.specs.Record.{PlainRecord}
 use Rattle.rerun_records.specs.Validity.{valid_at}
-use Rattle.rerun_records.specs.Commits.{put_records}
 
 -- the values of all reducers: these, and the others' as they stand
 abbrev pub filled : Accumulators → List (ℕ × Worth) → Accumulators
@@ -65,6 +63,15 @@ abbrev pub looked_up : PlainChecked → Tables → ℕ → List PlainRecord → 
 looked_up program tables depth records key =
     cond (is_there (procedure_of (tree program.program) key.0)) (valid_at program.revisions tables depth records (number_of program key.0) key.1) None
 
+-- what is found for a key stands for what the definitions find for it
+abbrev pub FindsNamed : PlainChecked → Tables → ℕ → List PlainRecord → Key → Option PlainRecord → Type 0
+FindsNamed program tables depth records key found =
+    (ks : List Kept) → AreKept program ks records → columned_of tables ≡ program.tables → IsFound program (if_valid (revised_of program) tables depth (record_of ks key.0 key.1)) found
+
+-- the new records stand for those that the definitions have after they put in what the records made stand for
+abbrev pub CommitsNamed : PlainChecked → List PlainRecord → List PlainRecord → List PlainRecord → Type 0
+CommitsNamed program old made new = (ks js : List Kept) → AreKept program ks old → AreKept program js made → AreKept program (committed ks js) new
+
 -- the names of the procedures, in the order of the revision numbers, are those of the tree
 abbrev pub IsListed : PlainChecked → Type 0
 IsListed program = names_in program.revisions ≡ map (λ p. p.called) (procedures (tree program.program))
@@ -74,7 +81,3 @@ abbrev pub LooksUp : PlainChecked → Tables → ℕ → Name → List ℤ → T
 LooksUp program tables depth f args =
     (ks : List Kept) (rs : List PlainRecord) → AreKept program ks rs → IsListed program → columned_of tables ≡ program.tables
     → IsFound program (if_valid (revised_of program) tables depth (record_of ks f args)) (valid_at program.revisions tables depth rs (number_of program f) args)
-
--- records put in by number stand for those put in by name
-abbrev pub Commits : PlainChecked → List Kept → List Kept → List PlainRecord → List PlainRecord → Type 0
-Commits program ks js rs ss = AreKept program ks rs → AreKept program js ss → AreKept program (committed ks js) (put_records rs ss)

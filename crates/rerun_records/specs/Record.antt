@@ -1,11 +1,14 @@
 -- Records as plain values: everything in them goes by number.
-use Rattle.std.specs.Prelude.{ℕ, nat_eq, ℤ, Bool, ◌&&◌, List}
+use Rattle.std.specs.Prelude.{ℕ, nat_eq, ℤ, Bool, ◌&&◌, List, map}
 use Rattle.std.specs.Cmp.Lexicographic.{pointwise}
 use Rattle.std.specs.Ordering.{int_eq}
 use Rattle.monoid_laws.specs.Worth.{Worth}
 use Rattle.monoid_laws.specs.declared.Val.{Val}
 use Rattle.monoid_laws.specs.Kinds.{meaning}
 use Rattle.evaluation.specs.declared.note.Note.{Note}
+use Rattle.evaluation.specs.declared.note.Note.TheVariants as n
+use Rattle.rerun_records.specs.declared.reading.Reading.{Reading}
+use Rattle.rerun_records.specs.declared.reading.Reading.TheVariants as r
 
 -- of a memo instance that is over: its procedure and arguments, its value, what it made of each reducer that it touched, what it read,
 -- the procedures entered with their revision numbers, and how many instances were nested in it at most, itself counted
@@ -18,6 +21,12 @@ pub record PlainRecord : Type 0 where
   pub entered : List (ℕ × ℕ)
   pub height : ℕ
 
+-- the note that was put into fewer bytes
+abbrev pub note_of : Reading → Note
+note_of (r.Cell t c row v) = n.Cell t row c v
+note_of (r.Has t row there) = n.Has t row there
+note_of (r.Limit t v) = n.Limit t v
+
 -- a reducer's number and its value
 abbrev pub touched : ℕ × Val → ℕ × Worth
 touched e = (e.0, meaning e.1)
@@ -29,3 +38,8 @@ is_of procedure arguments r = nat_eq procedure r.procedure && pointwise int_eq a
 -- two records are of one procedure with the same arguments
 abbrev pub same_instance : PlainRecord → PlainRecord → Bool
 same_instance r s = is_of r.procedure r.arguments s
+
+-- the record of these parts
+abbrev pub made_of : ℕ → List ℤ → ℤ → List (ℕ × Val) → List Note → List (ℕ × ℕ) → ℕ → PlainRecord
+made_of procedure arguments value contribution reads entered height =
+    record { procedure = procedure; arguments = arguments; value = value; contribution = map touched contribution; reads = reads; entered = entered; height = height }

@@ -2,14 +2,14 @@
 ghost use Rattle.std.specs.Prelude.{◌≡◌, ℕ, ℤ, List};
 ghost use Rattle.program_tree.specs.Plain.{Name};
 ghost use Rattle.meaning.specs.Tables.{Tables};
-ghost use Rattle.meaning.specs.Records.{Kept};
 ghost use Rattle.linked_program.specs.Checked.{PlainChecked};
 ghost use Rattle.rerun_records.specs.Record.{PlainRecord};
-ghost use Rattle.rerun_records.specs.Named.{LooksUp, Commits};
+ghost use Rattle.rerun_records.specs.Commits.{put_records};
+ghost use Rattle.rerun_records.specs.Named.{LooksUp, CommitsNamed};
 
 /// What is looked up by number stands for what the definitions look up by name, and records put in by number stand for those that
 /// the definitions put in by name.
 pub fn records_are_the_definitions()
     ensures lookup { (program : PlainChecked) (tables : Tables) (depth : ℕ) (f : Name) (args : List ℤ) → LooksUp program tables depth f args }
-    ensures commit { (program : PlainChecked) (ks js : List Kept) (rs ss : List PlainRecord) → Commits program ks js rs ss }
+    ensures commit { (program : PlainChecked) (rs ss : List PlainRecord) → CommitsNamed program rs ss (put_records rs ss) }
 {}

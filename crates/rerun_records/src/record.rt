@@ -1,5 +1,5 @@
 //! The record of a memo instance that is over.
-ghost use Rattle.std.specs.Prelude.{◌≡◌, ◌+◌, suc, map, nat_eq, nat_le, ◌++◌};
+ghost use Rattle.std.specs.Prelude.{◌≡◌, ◌+◌, ◌<◌, suc, length, slice_get, Some, IfOk, map, nat_eq, nat_le, ◌++◌};
 ghost use Rattle.std.specs.Cmp.Lexicographic.{pointwise};
 ghost use Rattle.std.specs.Cmp.Rules.{comparing, hashing};
 ghost use Rattle.std.specs.Hash as fed;
@@ -7,13 +7,15 @@ ghost use Rattle.std.specs.Ordering.{on, eq_of_both, int_eq};
 ghost use Rattle.std.proofs.Common.{rules};
 ghost use Rattle.meaning.specs.Elision.{depth_limit};
 ghost use Rattle.meaning.specs.Every.{every};
-ghost use Rattle.rerun_records.specs.Record.{touched, same_instance};
+ghost use Rattle.rerun_records.specs.Record.{note_of, touched, made_of};
 ghost use Rattle.rerun_records.specs.Validity.{note_agrees, has_revision, record_holds, record_valid};
 
+use crate::reading::{Reading, readings};
 use evaluation::note::Note;
 use input_tables::Tables;
 use linked_program::checked::Checked;
 use monoid_laws::Val;
+use std::alloc::{AllocError, Global};
 use std::hash::{Hash, Hasher};
 use std::marker::Model;
 
@@ -28,44 +30,49 @@ pub struct Record {
     arguments: Vec<i64>,
     value: i64,
     contribution: Vec<(usize, Val)>,
-    reads: Vec<Note>,
+    reads: Vec<Reading>,
     entered: Vec<(usize, u64)>,
     height: u32,
 }
 
 impl Model for Record {
     ghost use Rattle.std.specs.Prelude.{map};
-    ghost use Rattle.rerun_records.specs.Record.{PlainRecord, touched};
+    ghost use Rattle.rerun_records.specs.Record.{PlainRecord, note_of, touched};
 
     ghost Value = { PlainRecord };
 
-    ghost view = { λ r. record { procedure = r.procedure; arguments = r.arguments.items; value = r.value; contribution = map touched r.contribution.items; reads = r.reads.items; entered = r.entered.items; height = r.height } };
+    ghost view = { λ r. record { procedure = r.procedure; arguments = r.arguments.items; value = r.value; contribution = map touched r.contribution.items; reads = map note_of r.reads.items; entered = r.entered.items; height = r.height } };
 }
 
 impl Record {
     /// The record of an instance of that procedure with these arguments: its value, the value that it gave to each reducer that it
     /// touched, each reading once, each procedure entered once with its revision number, and how many instances were nested in
-    /// it at most, itself counted. Reducers and procedures go by their numbers.
+    /// it at most, itself counted. Reducers and procedures go by their numbers. It keeps no spare room; an error is want of
+    /// memory, or the number of a table or column that is past what two bytes hold.
     pub fn new(
+        alloc: Global,
         procedure: usize,
-        arguments: Vec<i64>,
+        arguments: &[i64],
         value: i64,
         contribution: Vec<(usize, Val)>,
-        reads: Vec<Note>,
-        entered: Vec<(usize, u64)>,
+        reads: &[Note],
+        entered: &[(usize, u64)],
         height: u32,
-    ) -> Record
-        ensures made { result ≡ record { procedure = procedure; arguments = arguments.items; value = value; contribution = map touched contribution.items; reads = reads.items; entered = entered.items; height = height } }
+    ) -> Result<Record, AllocError>
+        ensures made { IfOk result (λ r.
+            r ≡ made_of procedure arguments.now value contribution.items reads.now entered.now height) }
     {
-        Record {
+        let mut contribution = contribution;
+        contribution.shrink_to_fit();
+        Ok(Record {
             procedure,
-            arguments,
+            arguments: Vec::from_slice(alloc, arguments)?,
             value,
             contribution,
-            reads,
-            entered,
+            reads: readings(alloc, reads)?,
+            entered: Vec::from_slice(alloc, entered)?,
             height,
-        }
+        })
     }
 
     /// The number of the procedure.
@@ -96,11 +103,19 @@ impl Record {
         &self.contribution
     }
 
-    /// Lends what was read, with what it held.
-    pub fn reads(&self) -> &[Note]
-        ensures reads { result.now ≡ self.now.reads }
+    /// How many readings there are.
+    pub fn read_count(&self) -> usize
+        ensures count { result ≡ length self.now.reads }
     {
-        &self.reads
+        self.reads.len()
+    }
+
+    /// The reading of that number, counted from 0, with what it held.
+    pub fn read(&self, index: usize) -> Note
+        requires within { index < length self.now.reads }
+        ensures read { Some result ≡ slice_get self.now.reads index }
+    {
+        self.reads[index].note()
     }
 
     /// Lends the numbers of the procedures entered, each with its revision number.
@@ -126,7 +141,8 @@ impl Record {
 
     /// Whether the record holds now, and an instance at that depth with as many nested in it stays within the limit.
     pub fn is_valid(&self, depth: u32, tables: &Tables, program: &Checked) -> bool
-        ensures valid { result ≡ record_valid program.now.revisions tables.now.tables depth self.now }
+        ensures valid { result
+            ≡ record_valid program.now.revisions tables.now.tables depth self.now }
     {
         self.holds_now(tables, program) && fits(depth, self.height)
     }
@@ -140,11 +156,11 @@ fn fits(depth: u32, height: u32) -> bool
 }
 
 // Whether the tables hold what was read.
-fn reads_agree(reads: &[Note], tables: &Tables) -> bool
-    ensures agree { result ≡ every (note_agrees tables.now.tables) reads.now }
+fn reads_agree(reads: &[Reading], tables: &Tables) -> bool
+    ensures agree { result ≡ every (note_agrees tables.now.tables) (map note_of reads.now) }
 {
-    for note in reads {
-        if !agrees(note, tables) {
+    for reading in reads {
+        if !agrees(&reading.note(), tables) {
             return false;
         }
     }

@@ -1,16 +1,12 @@
 //! The records of a session.
-ghost use Rattle.std.specs.Prelude.{◌≡◌, ℤ, List, [], length, ◌≤◌, OnOk, OnErr, option_copied};
+ghost use Rattle.std.specs.Prelude.{◌≡◌, [], length, ◌≤◌, OnOk, OnErr, option_copied};
 ghost use Rattle.std.specs.Cmp.Rules.{comparing, hashing};
 ghost use Rattle.indexmap.specs.IndexSet.{spare};
 ghost use Rattle.std.proofs.Common.{rules};
-ghost use Rattle.meaning.specs.Records.{Kept, if_valid, record_of};
-ghost use Rattle.meaning.specs.Commits.{committed};
-ghost use Rattle.linked_program.specs.Checked.{revised_of};
-ghost use Rattle.linked_program.specs.TableNames.{columned_of};
 ghost use Rattle.rerun_records.specs.Record.{is_of};
 ghost use Rattle.rerun_records.specs.Validity.{valid_at};
 ghost use Rattle.rerun_records.specs.Commits.{put_records, AreSingle};
-ghost use Rattle.rerun_records.specs.Named.{AreKept, IsFound, looked_up};
+ghost use Rattle.rerun_records.specs.Named.{looked_up, FindsNamed, CommitsNamed};
 
 use crate::key::Key;
 use crate::record::Record;
@@ -99,7 +95,8 @@ impl Records {
         tables: &Tables,
         program: &Checked,
     ) -> Option<&Record>
-        ensures valid { option_copied result ≡ valid_at program.now.revisions tables.now.tables depth self.now procedure arguments.now }
+        ensures valid { option_copied result
+            ≡ valid_at program.now.revisions tables.now.tables depth self.now procedure arguments.now }
     {
         match self.by_instance.get(Asked {
             procedure,
@@ -118,9 +115,9 @@ impl Records {
         tables: &Tables,
         program: &Checked,
     ) -> Option<&Record>
-        ensures numbered { option_copied result ≡ looked_up program.now tables.now.tables depth self.now key.now }
-        ensures named { (ks : List Kept) → AreKept program.now ks self.now → columned_of tables.now.tables ≡ program.now.tables
-            → IsFound program.now (if_valid (revised_of program.now) tables.now.tables depth (record_of ks key.now.0 key.now.1)) (option_copied result) }
+        ensures numbered { option_copied result
+            ≡ looked_up program.now tables.now.tables depth self.now key.now }
+        ensures named { FindsNamed program.now tables.now.tables depth self.now key.now (option_copied result) }
     {
         program.revised();
         match program.procedure(key.procedure()) {
@@ -138,8 +135,7 @@ impl Records {
         program: &Checked,
     ) -> Result<(), AllocError>
         ensures committed { OnOk result (self.new ≡ put_records self.old records.items) }
-        ensures named { (ks js : List Kept) → AreKept program.now ks self.old → AreKept program.now js records.items
-            → OnOk result (AreKept program.now (committed ks js) self.new) }
+        ensures named { OnOk result (CommitsNamed program.now self.old records.items self.new) }
         ensures same { OnErr result (self.new ≡ self.old) }
     {
         self.by_instance.reserve(records.len())?;

@@ -1,6 +1,5 @@
-use Rattle.std.proofs.Common.{List, ap, sym, subst, ◌∙◌, ◌≡◌}
+use Rattle.std.proofs.Common.{ap, sym, subst, ◌∙◌, ◌≡◌}
 use Rattle.meaning.specs.Commits.{committed}
-use Rattle.rerun_records.specs.Record.{PlainRecord}
 use Rattle.rerun_records.specs.Commits.{put_records}
 use Rattle.rerun_records.specs.Named.{AreKept}
 use Rattle.rerun_records.proofs.Lookups.{put_all}

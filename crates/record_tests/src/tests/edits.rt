@@ -1,0 +1,120 @@
+//! Records that hold while what they rest on is as it was.
+
+use super::making::{LINES, checked, committed, found, record, sales, second_line};
+use evaluation::note::Note;
+use input_tables::Tables;
+use linked_program::checked::Checked;
+use procedure_parser::parse;
+use rerun_records::records::Records;
+use spawn_checker::redefine;
+use std::alloc::{AllocError, Global};
+use std::process::Abort;
+
+/// The records of `line` at row 2, and of `line` at row 9, which is absent and past the limit.
+fn records_of_lines(
+    alloc: Global,
+    tables: &Tables,
+    program: &Checked,
+) -> Result<Records, AllocError> {
+    let absence = [
+        Note::Has {
+            table: 0,
+            row: 9,
+            found: false,
+        },
+        Note::Limit { table: 0, value: 4 },
+    ];
+    let mut made = Vec::new(alloc);
+    made.push(second_line(alloc)?)?;
+    made.push(record(alloc, (0, 0), 9, 0, &absence, 1)?)?;
+    committed(alloc, made, tables, program)
+}
+
+/// What the two records answer.
+fn answers(
+    rt: &impl Abort,
+    alloc: Global,
+    records: &Records,
+    tables: &Tables,
+    program: &Checked,
+) -> (Option<i64>, Option<i64>) {
+    (
+        found(rt, alloc, records, ("line", 2), 2, tables, program),
+        found(rt, alloc, records, ("line", 9), 2, tables, program),
+    )
+}
+
+/// What the two records answer after each of these rows was put into the sales, one after another.
+fn after_puts(
+    rt: &impl Abort,
+    alloc: Global,
+    rows: &[(i64, [i64; 2])],
+) -> (Option<i64>, Option<i64>) {
+    let mut tables = sales(rt, alloc);
+    let program = checked(rt, alloc, LINES, &tables);
+    let records = records_of_lines(alloc, &tables, &program).expect(rt, "memory");
+    for (row, values) in rows {
+        tables
+            .put(alloc, "sales", *row, values)
+            .expect(rt, "an edit");
+    }
+    answers(rt, alloc, &records, &tables, &program)
+}
+
+#[test]
+fn a_changed_cell_ends_a_record(rt: HostRuntime) {
+    let alloc = rt.alloc();
+    assert!(&rt; after_puts(&rt, alloc, &[]) == (Some(21), Some(0)));
+    assert!(&rt; after_puts(&rt, alloc, &[(2, [3, 8])]) == (None, Some(0)));
+    assert!(&rt; after_puts(&rt, alloc, &[(2, [4, 7])]) == (None, Some(0)));
+    assert!(&rt; after_puts(&rt, alloc, &[(1, [9, 9])]) == (Some(21), Some(0)));
+}
+
+/// What was changed there and back is as it was.
+#[test]
+fn there_and_back(rt: HostRuntime) {
+    let rows = [(2, [4, 7]), (2, [3, 7])];
+    assert!(&rt; after_puts(&rt, rt.alloc(), &rows) == (Some(21), Some(0)));
+}
+
+/// Row 9 is no longer absent; row 5 is put behind the last one.
+#[test]
+fn an_absent_row_and_a_limit_count(rt: HostRuntime) {
+    let alloc = rt.alloc();
+    assert!(&rt; after_puts(&rt, alloc, &[(9, [0, 0])]) == (Some(21), None));
+    assert!(&rt; after_puts(&rt, alloc, &[(5, [0, 0])]) == (Some(21), None));
+}
+
+/// The row of the first record is taken out.
+#[test]
+fn a_deleted_row_ends_a_record(rt: HostRuntime) {
+    let alloc = rt.alloc();
+    let mut tables = sales(&rt, alloc);
+    let program = checked(&rt, alloc, LINES, &tables);
+    let records = records_of_lines(alloc, &tables, &program).expect(&rt, "memory");
+    tables.delete("sales", 2).expect(&rt, "an edit");
+    assert!(&rt; answers(&rt, alloc, &records, &tables, &program) == (None, Some(0)));
+}
+
+/// The records' answers where the program is another.
+fn in_program(rt: &impl Abort, alloc: Global, text: &str) -> (Option<i64>, Option<i64>) {
+    let tables = sales(rt, alloc);
+    let before = checked(rt, alloc, LINES, &tables);
+    let records = records_of_lines(alloc, &tables, &before).expect(rt, "memory");
+    let program = parse(alloc, text.as_bytes()).expect(rt, "a program");
+    let after = redefine(alloc, &before, program, &tables).expect(rt, "no violation");
+    answers(rt, alloc, &records, &tables, &after)
+}
+
+/// `line` is another procedure here.
+const OTHER_LINE: &str = "reducer total : add;
+reducer top : argmax;
+memo proc line(r) { return 0; }
+memo proc down(n) { if n > 0 { call down(n - 1); } return n; }
+proc main() { cilk_for r in 1 .. limit sales : line(r); return 0; }";
+
+#[test]
+fn a_changed_procedure_ends_a_record(rt: HostRuntime) {
+    assert!(&rt; in_program(&rt, rt.alloc(), LINES) == (Some(21), Some(0)));
+    assert!(&rt; in_program(&rt, rt.alloc(), OTHER_LINE) == (None, None));
+}

@@ -1,0 +1,109 @@
+//! Programs, tables and records that the tests speak of.
+ghost use Rattle.std.specs.Prelude.{◌≡◌, map};
+
+use evaluation::note::Note;
+use input_tables::Tables;
+use linked_program::checked::Checked;
+use monoid_laws::Val;
+use procedure_parser::parse;
+use rerun_records::key::Key;
+use rerun_records::record::Record;
+use rerun_records::records::Records;
+use spawn_checker::check;
+use std::alloc::{AllocError, Global};
+use std::process::Abort;
+
+/// Three lines with quantities and prices.
+const SALES: &str = "[sales]
+columns = [\"qty\", \"price\"]
+rows = [[1, 2, 5], [2, 3, 7], [3, 1, 100]]
+";
+
+/// `line` is procedure 0, `down` is 1 and `main` is 2; `total` is reducer 0 and `top` is 1. Their revision numbers are 0, 1 and 2.
+pub const LINES: &str = "reducer total : add;
+reducer top : argmax;
+memo proc line(r) { v = sales[r].qty * sales[r].price; update total v; update top v, r; return v; }
+memo proc down(n) { if n > 0 { call down(n - 1); } return n; }
+proc main() { cilk_for r in 1 .. limit sales : line(r); return 0; }";
+
+/// The three lines.
+pub fn sales(rt: &impl Abort, alloc: Global) -> Tables {
+    Tables::from_toml(alloc, SALES).expect(rt, "tables")
+}
+
+/// The checked program that a text is.
+pub fn checked(rt: &impl Abort, alloc: Global, text: &str, tables: &Tables) -> Checked {
+    let program = parse(alloc, text.as_bytes()).expect(rt, "a program");
+    check(alloc, program, tables).expect(rt, "no violation")
+}
+
+/// A record of an instance with one argument in which its own procedure alone was entered, with its revision number.
+pub fn record(
+    alloc: Global,
+    procedure: (usize, u64),
+    argument: i64,
+    value: i64,
+    reads: &[Note],
+    height: u32,
+) -> Result<Record, AllocError> {
+    let mut touched = Vec::new(alloc);
+    touched.push((0, Val::Int(value)))?;
+    let entered = [procedure];
+    Record::new(
+        alloc,
+        procedure.0,
+        &[argument],
+        value,
+        touched,
+        reads,
+        &entered,
+        height,
+    )
+}
+
+/// The record of `line` at row 2, which holds 3 and 7.
+pub fn second_line(alloc: Global) -> Result<Record, AllocError> {
+    let reads = [cell(2, 0, 3), cell(2, 1, 7)];
+    record(alloc, (0, 0), 2, 21, &reads, 1)
+}
+
+/// A cell of the sales that was read.
+pub fn cell(row: i64, column: usize, value: i64) -> Note {
+    Note::Cell {
+        table: 0,
+        row,
+        column,
+        value,
+    }
+}
+
+/// Records of which these were committed.
+pub fn committed(
+    alloc: Global,
+    made: Vec<Record>,
+    tables: &Tables,
+    program: &Checked,
+) -> Result<Records, AllocError> {
+    let mut records = Records::new(alloc);
+    records.commit(made, tables, program)?;
+    Ok(records)
+}
+
+/// The value that is looked up for a procedure and one argument at a depth.
+pub fn found(
+    rt: &impl Abort,
+    alloc: Global,
+    records: &Records,
+    instance: (&str, i64),
+    depth: u32,
+    tables: &Tables,
+    program: &Checked,
+) -> Option<i64> {
+    let name = String::from_str(alloc, instance.0).expect(rt, "memory");
+    let arguments = Vec::from_slice(alloc, &[instance.1]).expect(rt, "memory");
+    let key = Key::new(name, arguments);
+    match records.lookup(&key, depth, tables, program) {
+        Some(record) => Some(record.value()),
+        None => None,
+    }
+}

@@ -1,0 +1,60 @@
+//! What a record gives back.
+
+use super::making::{LINES, cell, checked, committed, sales, second_line};
+use evaluation::note::Note;
+use monoid_laws::Val;
+use rerun_records::record::Record;
+use std::alloc::{AllocError, Global};
+use std::process::Abort;
+
+fn adds(touched: &(usize, Val), reducer: usize, number: i64) -> bool {
+    match &touched.1 {
+        Val::Int(value) => touched.0 == reducer && *value == number,
+        _ => false,
+    }
+}
+
+/// Whether the record is that of `line` at row 2.
+fn is_second_line(record: &Record) -> bool {
+    let numbers = record.procedure() == 0 && record.value() == 21 && record.height() == 1;
+    let lists = record.arguments() == [2].as_slice() && record.entered() == [(0, 0)].as_slice();
+    let touched = record.contribution();
+    numbers && lists && touched.len() == 1 && adds(&touched[0], 0, 21) && reads_second_line(record)
+}
+
+fn reads_second_line(record: &Record) -> bool {
+    record.read_count() == 2 && record.read(0) == cell(2, 0, 3) && record.read(1) == cell(2, 1, 7)
+}
+
+/// Whether the record of `line` at row 2 is found, by the procedure's number, as it was committed.
+fn comes_back(rt: &impl Abort, alloc: Global) -> Result<bool, AllocError> {
+    let tables = sales(rt, alloc);
+    let program = checked(rt, alloc, LINES, &tables);
+    let mut made = Vec::new(alloc);
+    made.push(second_line(alloc)?)?;
+    let records = committed(alloc, made, &tables, &program)?;
+    let found = match records.valid(0, &[2], 64, &tables, &program) {
+        Some(record) => is_second_line(record),
+        None => false,
+    };
+    let all = records.as_slice();
+    Ok(found && all.len() == 1 && is_second_line(&all[0]))
+}
+
+#[test]
+fn a_record_comes_back(rt: HostRuntime) {
+    assert!(&rt; comes_back(&rt, rt.alloc()) == Ok(true));
+}
+
+/// Whether a record is made of a reading of that table.
+fn is_made(alloc: Global, table: usize) -> bool {
+    let reads = [Note::Limit { table, value: 4 }];
+    Record::new(alloc, 0, &[], 0, Vec::new(alloc), &reads, &[], 1).is_ok()
+}
+
+/// Two bytes hold numbers up to 65535.
+#[test]
+fn a_number_past_two_bytes_is_refused(rt: HostRuntime) {
+    let made = [is_made(rt.alloc(), 65535), is_made(rt.alloc(), 65536)];
+    assert!(&rt; made == [true, false]);
+}
