@@ -1,15 +1,13 @@
 -- The answer of a strand is that of what it stands for.
 use Rattle.std.proofs.Common.{◌≡◌, List, [], ◌∷◌, refl, sym, ◌∙◌, ap, subst}
 use Rattle.monoid_laws.specs.Worth.{Worth}
-use Rattle.program_tree.specs.Plain.{Tree}
 use Rattle.meaning.specs.Outcome.{Place}
 use Rattle.meaning.specs.SmallStep.{entering, running, spawning, returning, leaving, broken, Parent}
 use Rattle.meaning.specs.Layers.{Notes, bottom}
 use Rattle.meaning.specs.LayeredStrand.{LayeredStrand}
-use Rattle.linked_program.specs.declared.code.Code.{Code}
-use Rattle.linked_program.specs.TableNames.{Columned}
 use Rattle.positions.specs.declared.phase.Phase.{Phase}
 use Rattle.positions.specs.declared.phase.Phase.TheVariants as phase
+use Rattle.positions.specs.Setting.{Setting}
 use Rattle.positions.specs.Activations.{PlainActivation}
 use Rattle.positions.specs.Layers.{PlainLayer, lowest}
 use Rattle.positions.specs.Strands.{PlainStrand}
@@ -18,18 +16,18 @@ use Rattle.frames.specs.declared.answer.RunAnswer.{RunAnswer}
 use Rattle.frames.specs.declared.answer.RunAnswer.TheVariants as answer
 use Rattle.frames.specs.Answers.{Ending, over, stopped, underway, ending_at, ending_of, IsAnswer, HasLeft, Answers, IsAnswerOf}
 
-module _ (ts : List Columned) (t : Tree) (codes : List Code) where
+module _ (setting : Setting) where
   -- how a strand of the definitions ends the run
   abbrev EndsAs : Ending → LayeredStrand → Type 0
-  EndsAs (over v) x = HasLeft ts t codes x v
-  EndsAs (stopped f) x = x.phase ≡ broken (named_fault ts t codes f)
-  EndsAs underway x = Answers ts t codes answer.Unfinished x
+  EndsAs (over v) x = HasLeft setting x v
+  EndsAs (stopped f) x = x.phase ≡ broken (named_fault setting f)
+  EndsAs underway x = Answers setting answer.Unfinished x
 
-  none_under : (path : Place) (under : List Parent) → AreParents ts t codes path [] under → under ≡ []
+  none_under : (path : Place) (under : List Parent) → AreParents setting path [] under → under ≡ []
   none_under path [] h = refl
   none_under path (p ∷ under) h = absurd h
 
-  ends_at : (s : PlainStrand) (x : LayeredStrand) (ph : Phase) (below : List PlainActivation) (path : Place) → s.path ≡ path → StandsAt ts t codes ph below s x → EndsAs (ending_at ph below path) x
+  ends_at : (s : PlainStrand) (x : LayeredStrand) (ph : Phase) (below : List PlainActivation) (path : Place) → s.path ≡ path → StandsAt setting ph below s x → EndsAs (ending_at ph below path) x
   ends_at s x phase.Entering below path e h =
       (λ k b. let c : entering h.child ≡ broken k = sym h.phase ∙ b in absurd cc, λ v l. let c : entering h.child ≡ leaving v = sym h.phase ∙ l.0 in absurd cc)
   ends_at s x phase.Running below path e h =
@@ -43,10 +41,10 @@ module _ (ts : List Columned) (t : Tree) (codes : List Code) where
   ends_at s x (phase.Leaving w) [] (k ∷ n) e h =
       (λ j b. let c : leaving w ≡ broken j = sym h.phase ∙ b in absurd cc, λ v l. let c : k ∷ n ≡ [] = sym e ∙ sym (ap (λ fr. fr.instance) h.frame) ∙ l.1 in absurd cc)
   ends_at s x (phase.Leaving w) (a ∷ below) path e h =
-      (λ j b. let c : leaving w ≡ broken j = sym h.phase ∙ b in absurd cc, λ v l. absurd (subst (AreParents ts t codes s.path (a ∷ below)) l.2 h.under))
+      (λ j b. let c : leaving w ≡ broken j = sym h.phase ∙ b in absurd cc, λ v l. absurd (subst (AreParents setting s.path (a ∷ below)) l.2 h.under))
   ends_at s x (phase.Broken f) below path e h = h
 
-  lowest_worths : (l : PlainLayer) (lower : List PlainLayer) (ls : List Notes) → AreNotes ts t codes (l ∷ lower) ls → (lowest l lower).worths ≡ bottom ls
+  lowest_worths : (l : PlainLayer) (lower : List PlainLayer) (ls : List Notes) → AreNotes setting (l ∷ lower) ls → (lowest l lower).worths ≡ bottom ls
   lowest_worths l [] [] h = absurd h
   lowest_worths l [] (n ∷ []) h = sym h.0.worths
   lowest_worths l [] (n ∷ m ∷ ns) h = absurd h.1
@@ -54,12 +52,12 @@ module _ (ts : List Columned) (t : Tree) (codes : List Code) where
   lowest_worths l (k ∷ lower) (n ∷ []) h = absurd h.1
   lowest_worths l (k ∷ lower) (n ∷ m ∷ ns) h = lowest_worths k lower (m ∷ ns) h.1
 
-  answers_by : (e : Ending) (a : RunAnswer) (x : LayeredStrand) (worths : List Worth) → EndsAs e x → worths ≡ bottom x.layers → IsAnswer e worths a → Answers ts t codes a x
+  answers_by : (e : Ending) (a : RunAnswer) (x : LayeredStrand) (worths : List Worth) → EndsAs e x → worths ≡ bottom x.layers → IsAnswer e worths a → Answers setting a x
   answers_by (over v) (answer.Finished w values) x worths h e a = ((h.0 ∙ ap leaving (sym a.0), h.1, h.2), a.1 ∙ e)
   answers_by (over v) answer.NoMemory x worths h e a = tt
   answers_by (over v) (answer.Fault f) x worths h e a = absurd a
   answers_by (over v) answer.Unfinished x worths h e a = absurd a
-  answers_by (stopped f) (answer.Fault k) x worths h e a = h ∙ ap (λ d. broken (named_fault ts t codes d)) (sym a)
+  answers_by (stopped f) (answer.Fault k) x worths h e a = h ∙ ap (λ d. broken (named_fault setting d)) (sym a)
   answers_by (stopped f) (answer.Finished w values) x worths h e a = absurd a
   answers_by (stopped f) answer.NoMemory x worths h e a = absurd a
   answers_by (stopped f) answer.Unfinished x worths h e a = absurd a
@@ -68,5 +66,5 @@ module _ (ts : List Columned) (t : Tree) (codes : List Code) where
   answers_by underway (answer.Fault k) x worths h e a = absurd a
   answers_by underway answer.NoMemory x worths h e a = absurd a
 
-  pub answer_is : (s : PlainStrand) (a : RunAnswer) → IsAnswer (ending_of s) (lowest s.layer s.lower).worths a → IsAnswerOf ts t codes s a
+  pub answer_is : (s : PlainStrand) (a : RunAnswer) → IsAnswer (ending_of s) (lowest s.layer s.lower).worths a → IsAnswerOf setting s a
   answer_is s a is x h = answers_by (ending_of s) a x (lowest s.layer s.lower).worths (ends_at s x s.phase s.below s.path refl h.now) (lowest_worths s.layer s.lower x.layers h.layers) is

@@ -7,11 +7,9 @@ use Rattle.monoid_laws.specs.declared.Kind.{Kind}
 use Rattle.monoid_laws.specs.Kinds.{names_element}
 use Rattle.meaning.specs.declared.FaultKind.{FaultKind}
 use Rattle.meaning.specs.declared.FaultKind.TheVariants.{TooDeep}
-use Rattle.meaning.specs.Tables.{Tables}
 use Rattle.linked_program.specs.declared.code.Operation.{Operation}
 use Rattle.linked_program.specs.declared.code.Operation.TheVariants as o
 use Rattle.linked_program.specs.declared.code.Instruction.{Instruction}
-use Rattle.linked_program.specs.declared.code.Code.{Code}
 use Rattle.evaluation.specs.declared.slot.Slot.{Slot}
 use Rattle.evaluation.specs.Values.{NumberedOut}
 use Rattle.positions.specs.declared.work.Position.{Position}
@@ -21,6 +19,7 @@ use Rattle.positions.specs.declared.work.Work.{Work}
 use Rattle.positions.specs.declared.work.Work.TheVariants.{Block, Over, Halves, Second, Turns}
 use Rattle.positions.specs.declared.phase.Phase.{Phase}
 use Rattle.positions.specs.declared.phase.Phase.TheVariants.{Entering, Running, AtSpawn, Returning, Leaving, Broken}
+use Rattle.positions.specs.Setting.{Setting}
 use Rattle.positions.specs.Activations.{PlainActivation}
 use Rattle.positions.specs.Code.{instruction_inside, loop_at}
 use Rattle.positions.specs.Strands.{PlainStrand, is_entry}
@@ -62,28 +61,28 @@ combining_keeps : (kind : Option Kind) (n : ℕ) (p : Position) (r : ℕ) (vs : 
 combining_keeps None n p r vs s = (refl, refl)
 combining_keeps (Some kind) n p r vs s = named_keeps (names_element kind vs) n p r kind vs s
 
-module _ (codes : List Code) (kinds : List Kind) (tables : Tables) where
-  performed_keeps : (p : Position) (n : ℕ) (op : Operation) (s : PlainStrand) → Keeps s (performed codes kinds tables p n op s)
+module _ (setting : Setting) where
+  performed_keeps : (p : Position) (n : ℕ) (op : Operation) (s : PlainStrand) → Keeps s (performed setting p n op s)
   performed_keeps p n (o.Bind x e) s = evaluated_keeps n _ _ s (λ v t. (refl, refl))
   performed_keeps p n (o.Enter x way f es) s = evaluated_keeps n _ _ s (λ v t. nested_keeps n way x _ f v t)
   performed_keeps p n (o.Read x r) s = (refl, refl)
   performed_keeps p n o.Sync s = either_keeps (is_entry s) s s (moved_on p s) (refl, refl) (refl, refl)
-  performed_keeps p n (o.Update r es) s = evaluated_keeps n _ _ s (λ v t. combining_keeps (slice_get kinds r) n p r v t)
+  performed_keeps p n (o.Update r es) s = evaluated_keeps n _ _ s (λ v t. combining_keeps (slice_get setting.kinds r) n p r v t)
   performed_keeps p n (o.If e a b) s = evaluated_keeps n _ _ s (λ v t. (refl, refl))
   performed_keeps p n (o.Loop x low high grain f es) s = evaluated_keeps n _ _ s (λ v t. (refl, refl))
   performed_keeps p n (o.Return e) s = evaluated_keeps n _ _ s (λ v t. (refl, refl))
 
-  gone_keeps : (p : Position) (i : Option Instruction) (s : PlainStrand) → Keeps s (gone_by codes kinds tables p i s)
+  gone_keeps : (p : Position) (i : Option Instruction) (s : PlainStrand) → Keeps s (gone_by setting p i s)
   gone_keeps p None s = (refl, refl)
   gone_keeps p (Some i) s = performed_keeps p i.number i.operation s
 
-  turned_keeps : (l : Loop) (h : Share) (s : PlainStrand) → Keeps s (turned codes tables l h s)
+  turned_keeps : (l : Loop) (h : Share) (s : PlainStrand) → Keeps s (turned setting l h s)
   turned_keeps l h s = either_keeps (h.count == 0) s _ _ (refl, refl) (evaluated_keeps _ _ _ s (λ v t. nested_keeps _ Call None _ _ v t))
 
-  worked_keeps : (w : Work) (s : PlainStrand) → Keeps s (worked codes kinds tables w s)
-  worked_keeps (Block p) s = gone_keeps p (instruction_inside codes s.top.procedure (length s.top.outer) p) s
+  worked_keeps : (w : Work) (s : PlainStrand) → Keeps s (worked setting w s)
+  worked_keeps (Block p) s = gone_keeps p (instruction_inside setting.codes s.top.procedure (length s.top.outer) p) s
   worked_keeps Over s = (refl, refl)
-  worked_keeps (Halves l k h) s = either_keeps (k == 0 || nat_le h.count (loop_at codes s.top.procedure l).grain) s _ _ (refl, refl) (refl, refl)
+  worked_keeps (Halves l k h) s = either_keeps (k == 0 || nat_le h.count (loop_at setting.codes s.top.procedure l).grain) s _ _ (refl, refl) (refl, refl)
   worked_keeps (Second l k h) s = (refl, refl)
   worked_keeps (Turns l h) s = turned_keeps l h s
 
@@ -91,7 +90,7 @@ module _ (codes : List Code) (kinds : List Kind) (tables : Tables) where
   left_keeps [] v s = (refl, refl)
   left_keeps (p ∷ rest) v s = (refl, refl)
 
-  advanced_keeps : (ph : Phase) (s : PlainStrand) → Keeps s (advanced_at codes kinds tables ph s)
+  advanced_keeps : (ph : Phase) (s : PlainStrand) → Keeps s (advanced_at setting ph s)
   advanced_keeps Entering s = started_keeps s.top.work s
   advanced_keeps Running s = worked_keeps s.top.work s
   advanced_keeps AtSpawn s = (refl, refl)
@@ -99,8 +98,8 @@ module _ (codes : List Code) (kinds : List Kind) (tables : Tables) where
   advanced_keeps (Leaving v) s = left_keeps s.below v s
   advanced_keeps (Broken f) s = (refl, refl)
 
-  pub keeps_kinds : (s : PlainStrand) → (advanced codes kinds tables s).layer.kinds ≡ s.layer.kinds
+  pub keeps_kinds : (s : PlainStrand) → (advanced setting s).layer.kinds ≡ s.layer.kinds
   keeps_kinds s = (advanced_keeps s.phase s).0
 
-  pub keeps_lower : (s : PlainStrand) → (advanced codes kinds tables s).lower ≡ s.lower
+  pub keeps_lower : (s : PlainStrand) → (advanced setting s).lower ≡ s.lower
   keeps_lower s = (advanced_keeps s.phase s).1

@@ -2,16 +2,14 @@
 use Rattle.std.specs.Prelude.{◌≡◌, ℕ, ℤ, List, [], map}
 use Rattle.monoid_laws.specs.Worth.{Worth}
 use Rattle.monoid_laws.specs.Kinds.{meaning}
-use Rattle.program_tree.specs.Plain.{Tree}
 use Rattle.meaning.specs.Outcome.{Fault as NamedFault}
 use Rattle.meaning.specs.SmallStep.{leaving, broken}
 use Rattle.meaning.specs.Layers.{bottom}
 use Rattle.meaning.specs.LayeredStrand.{LayeredStrand}
-use Rattle.linked_program.specs.declared.code.Code.{Code}
-use Rattle.linked_program.specs.TableNames.{Columned}
 use Rattle.positions.specs.declared.phase.Fault.{Fault}
 use Rattle.positions.specs.declared.phase.Phase.{Phase}
 use Rattle.positions.specs.declared.phase.Phase.TheVariants.{Leaving, Broken}
+use Rattle.positions.specs.Setting.{Setting}
 use Rattle.positions.specs.Activations.{PlainActivation}
 use Rattle.positions.specs.Strands.{PlainStrand}
 use Rattle.positions.specs.Stands.{StandsFor, named_fault}
@@ -41,7 +39,7 @@ IsAnswer (stopped f) worths (answer.Fault g) = g ≡ f
 IsAnswer underway worths answer.Unfinished = Unit {0}
 IsAnswer _ _ _ = ⊥
 
-module _ (ts : List Columned) (t : Tree) (codes : List Code) where
+module _ (setting : Setting) where
   -- main has left with that value, and nothing waits under it
   abbrev pub HasLeft : LayeredStrand → ℤ → Type 0
   HasLeft x v = (x.phase ≡ leaving v) × (x.frame.instance ≡ []) × (x.under ≡ [])
@@ -49,10 +47,10 @@ module _ (ts : List Columned) (t : Tree) (codes : List Code) where
   -- the answer of a strand of the definitions: main has left, or there was a fault, or neither
   abbrev pub Answers : RunAnswer → LayeredStrand → Type 0
   Answers (answer.Finished v values) x = HasLeft x v × (map meaning values.items ≡ bottom x.layers)
-  Answers (answer.Fault f) x = x.phase ≡ broken (named_fault ts t codes f)
+  Answers (answer.Fault f) x = x.phase ≡ broken (named_fault setting f)
   Answers answer.Unfinished x = ((k : NamedFault) → x.phase ≡ broken k → ⊥) × ((v : ℤ) → HasLeft x v → ⊥)
   Answers answer.NoMemory x = Unit {0}
 
   -- it is the answer of what the strand stands for, want of memory aside
   abbrev pub IsAnswerOf : PlainStrand → RunAnswer → Type 0
-  IsAnswerOf s a = (x : LayeredStrand) → StandsFor ts t codes s x → Answers a x
+  IsAnswerOf s a = (x : LayeredStrand) → StandsFor setting s x → Answers a x

@@ -1,3 +1,4 @@
+pub mod Given
 pub mod Ends
 pub mod Ready
 pub mod Updates

@@ -1,7 +1,7 @@
 // One small step of a strand, and the points at which there is none.
 ghost use Rattle.std.specs.Prelude.{◌≡◌, ◌+◌, ◌<◌, ◌^◌, OnErr, OnOk, IfOk, OnSome, option_copied};
-ghost use Rattle.program_tree.specs.View.{tree};
 ghost use Rattle.linked_program.specs.TableNames.{columned_of};
+ghost use Rattle.frames.specs.Given.{given};
 ghost use Rattle.positions.specs.Simulation.{IsSmallStep, IsPause, IsStepTaken};
 ghost use Rattle.positions.specs.Advance.{performed, gone, worked, left_to, synced, advanced, pause_of, next_statement, is_sync};
 
@@ -29,12 +29,12 @@ impl<V: View> Strand<V> {
     ) -> Result<Paused, AllocError>
         requires kinds { self.old.layer.kinds ≡ program.now.kinds }
         ensures pause { IfOk result (λ paused. paused ≡ pause_of program.now.codes self.old) }
-        ensures advanced { OnOk result (self.new ≡ advanced program.now.codes program.now.kinds tables.now.tables self.old) }
+        ensures advanced { OnOk result (self.new ≡ advanced (given program.now tables.now) self.old) }
         ensures kinds { self.new.layer.kinds ≡ self.old.layer.kinds }
         ensures lower { self.new.lower ≡ self.old.lower }
-        ensures small_step { OnOk result (program.now.tables ≡ columned_of tables.now.tables → IsSmallStep program.now.tables (tree program.now.program) program.now.codes tables.now.tables self.old self.new) }
-        ensures no_step { IfOk result (λ paused. IsPause program.now.tables (tree program.now.program) program.now.codes tables.now.tables paused self.old) }
-        ensures goes_on { IfOk result (λ paused. paused ≡ Paused.Working → IsStepTaken program.now.tables (tree program.now.program) program.now.codes tables.now.tables self.old) }
+        ensures small_step { OnOk result (program.now.tables ≡ columned_of tables.now.tables → IsSmallStep (given program.now tables.now) self.old self.new) }
+        ensures no_step { IfOk result (λ paused. IsPause (given program.now tables.now) paused self.old) }
+        ensures goes_on { IfOk result (λ paused. paused ≡ Paused.Working → IsStepTaken (given program.now tables.now) self.old) }
         ensures unchanged { OnErr result (self.new ≡ self.old) }
     {
         program.linked();
@@ -108,7 +108,7 @@ impl<V: View> Strand<V> {
     /// What the phase says.
     fn go_on(&mut self, alloc: Global, program: &Checked, tables: &Tables) -> Result<(), AllocError>
         requires kinds { self.old.layer.kinds ≡ program.now.kinds }
-        ensures advanced { OnOk result (self.new ≡ advanced program.now.codes program.now.kinds tables.now.tables self.old) }
+        ensures advanced { OnOk result (self.new ≡ advanced (given program.now tables.now) self.old) }
         ensures unchanged { OnErr result (self.new ≡ self.old) }
     {
         match self.phase {
@@ -125,7 +125,7 @@ impl<V: View> Strand<V> {
     fn work(&mut self, alloc: Global, program: &Checked, tables: &Tables) -> Result<(), AllocError>
         requires kinds { self.old.layer.kinds ≡ program.now.kinds }
         requires running { self.old.phase ≡ Phase.Running }
-        ensures worked { OnOk result (self.new ≡ worked program.now.codes program.now.kinds tables.now.tables self.old.top.work self.old) }
+        ensures worked { OnOk result (self.new ≡ worked (given program.now tables.now) self.old.top.work self.old) }
         ensures unchanged { OnErr result (self.new ≡ self.old) }
     {
         match self.top.work() {
@@ -152,7 +152,7 @@ impl<V: View> Strand<V> {
     ) -> Result<(), AllocError>
         requires kinds { self.old.layer.kinds ≡ program.now.kinds }
         requires running { self.old.phase ≡ Phase.Running }
-        ensures gone { OnOk result (self.new ≡ gone program.now.codes program.now.kinds tables.now.tables place self.old) }
+        ensures gone { OnOk result (self.new ≡ gone (given program.now tables.now) place self.old) }
         ensures unchanged { OnErr result (self.new ≡ self.old) }
     {
         match instruction(program, self.top.procedure(), self.top.depth(), place) {
@@ -176,7 +176,7 @@ impl<V: View> Strand<V> {
         requires room { place.index + 1 < 2 ^ 64 }
         requires kinds { self.old.layer.kinds ≡ program.now.kinds }
         requires running { self.old.phase ≡ Phase.Running }
-        ensures performed { OnOk result (self.new ≡ performed program.now.codes program.now.kinds tables.now.tables place instruction.now.number instruction.now.operation self.old) }
+        ensures performed { OnOk result (self.new ≡ performed (given program.now tables.now) place instruction.now.number instruction.now.operation self.old) }
         ensures unchanged { OnErr result (self.new ≡ self.old) }
     {
         let number = instruction.number;

@@ -2,9 +2,7 @@
 ghost use Rattle.std.specs.Prelude.{◌≡◌, ◌+◌, ◌≤◌, ◌<◌, suc, length, List, All, IfOk, map, reverse, []};
 ghost use Rattle.monoid_laws.specs.declared.Kind.{Kind};
 ghost use Rattle.monoid_laws.specs.Kinds.{meaning};
-ghost use Rattle.program_tree.specs.Plain.{Tree};
-ghost use Rattle.linked_program.specs.declared.code.Code.{Code};
-ghost use Rattle.linked_program.specs.TableNames.{Columned};
+ghost use Rattle.positions.specs.Setting.{Setting};
 ghost use Rattle.positions.specs.Layers.{lowest as lowest_of};
 ghost use Rattle.positions.specs.Moves.{lowest_alone};
 ghost use Rattle.positions.specs.Simulation.{IsAlone};
@@ -79,7 +77,7 @@ impl<V: View> Strand<V> {
         requires kinds { All (λ l. l.kinds ≡ self.old.layer.kinds) self.old.lower }
         requires fits { K.fits self.old.layer.kinds kits.old }
         ensures alone { self.new ≡ lowest_alone self.old }
-        ensures definition { (ts : List Columned) (t : Tree) (codes : List Code) → IsAlone ts t codes self.old self.new }
+        ensures definition { (setting : Setting) → IsAlone setting self.old self.new }
         ensures kinds { self.new.layer.kinds ≡ self.old.layer.kinds }
         ensures home { K.fits self.old.layer.kinds kits.new }
         ensures fitting { (k : List Kind) → K.fits k kits.old → K.fits k kits.new }
@@ -94,7 +92,7 @@ impl<V: View> Strand<V> {
         requires kinds { All (λ l. l.kinds ≡ self.layer.kinds) self.lower }
         requires fits { K.fits self.layer.kinds kits.old }
         ensures answer { IsAnswer (ending_of self) (lowest_of self.layer self.lower).worths result }
-        ensures definition { (ts : List Columned) (t : Tree) (codes : List Code) → IsAnswerOf ts t codes self result }
+        ensures definition { (setting : Setting) → IsAnswerOf setting self result }
         ensures fitting { (k : List Kind) → K.fits k kits.old → K.fits k kits.new }
         ensures given { suc (length self.lower) + K.free kits.old ≤ K.total kits.old → K.free kits.new ≡ suc (length self.lower) + K.free kits.old }
         ensures total { K.total kits.new ≡ K.total kits.old }

@@ -1,9 +1,7 @@
 // Two strands become one.
 ghost use Rattle.std.specs.Prelude.{◌≡◌, ◌||◌, [], List, All, IfOk, IfErr, OnOk, OnErr};
 ghost use Rattle.monoid_laws.specs.Kinds.{IsMonoid, operate_all};
-ghost use Rattle.program_tree.specs.Plain.{Tree};
-ghost use Rattle.linked_program.specs.declared.code.Code.{Code};
-ghost use Rattle.linked_program.specs.TableNames.{Columned};
+ghost use Rattle.positions.specs.Setting.{Setting};
 ghost use Rattle.positions.specs.Layers.{either, multiplied};
 ghost use Rattle.positions.specs.Moves.{joined, joined_ended, settled_by, FoldsViews};
 ghost use Rattle.positions.specs.Simulation.{IsJoined};
@@ -88,7 +86,7 @@ impl<V: View> Strand<V> {
         requires kinds { self.old.layer.kinds ≡ right.layer.kinds }
         requires monoids { All IsMonoid self.old.layer.kinds }
         ensures joined { OnOk result (self.new ≡ joined self.old right) }
-        ensures definition { (ts : List Columned) (t : Tree) (codes : List Code) → OnOk result (IsJoined ts t codes self.old right self.new) }
+        ensures definition { (setting : Setting) → OnOk result (IsJoined setting self.old right self.new) }
         ensures kit { IfOk result (λ kit. kit ≡ right.layer.kinds) }
         ensures left_kept { OnErr result (self.new ≡ with_worths self.new.layer.worths self.old) }
         ensures right_kept { IfErr result (λ e. e.1 ≡ with_worths e.1.layer.worths right) }

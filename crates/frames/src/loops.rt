@@ -7,6 +7,7 @@ ghost use Rattle.evaluation.specs.declared.slot.Slot.TheVariants.{Has};
 ghost use Rattle.positions.specs.Activations.{ShareFits};
 ghost use Rattle.positions.specs.Code.{loop_at, PlainLoop};
 ghost use Rattle.positions.specs.Advance.{evaluated, looping, split, halved, second_half, turned, turn_by, turn_slots, left_of as first_half_of, right_of as second_half_of, rest_of as later_of};
+ghost use Rattle.frames.specs.Given.{given};
 ghost use Rattle.frames.specs.Ends.{Evaluates, Notes};
 
 use crate::activation::{Activation, next_of};
@@ -210,7 +211,7 @@ impl<V: View> Strand<V> {
     ) -> Result<(), AllocError>
         requires fits { ShareFits site share }
         requires running { self.old.phase ≡ Phase.Running }
-        ensures turned { OnOk result (self.new ≡ turned program.now.codes tables.now.tables site share self.old) }
+        ensures turned { OnOk result (self.new ≡ turned (given program.now tables.now) site share self.old) }
         ensures unchanged { OnErr result (self.new ≡ self.old) }
     {
         if share.count == 0 {
@@ -234,7 +235,7 @@ impl<V: View> Strand<V> {
         requires fits { ShareFits site share }
         requires more { 0 < share.count }
         requires running { self.old.phase ≡ Phase.Running }
-        ensures turned { OnOk result (self.new ≡ turn_by program.now.codes tables.now.tables (record { number = code.entry.number; variable = code.entry.variable; grain = code.entry.grain; callee = code.entry.callee; arguments = code.entry.arguments.now }) site share self.old) }
+        ensures turned { OnOk result (self.new ≡ turn_by (given program.now tables.now) (record { number = code.entry.number; variable = code.entry.variable; grain = code.entry.grain; callee = code.entry.callee; arguments = code.entry.arguments.now }) site share self.old) }
         ensures unchanged { OnErr result (self.new ≡ self.old) }
     {
         let before = self.layer.readings();

@@ -1,10 +1,8 @@
 // Strands that begin, and what is taken out of a strand and put back.
 ghost use Rattle.std.specs.Prelude.{◌≡◌, ◌∷◌, [], List, IfOk, IfErr, length};
 ghost use Rattle.evaluation.specs.Slots.{slots_for};
-ghost use Rattle.program_tree.specs.Plain.{Tree};
-ghost use Rattle.program_tree.specs.View.{tree};
-ghost use Rattle.linked_program.specs.declared.code.Code.{Code};
-ghost use Rattle.linked_program.specs.TableNames.{Columned};
+ghost use Rattle.meaning.specs.Tables.{Tables};
+ghost use Rattle.positions.specs.Setting.{Setting, setting_of};
 ghost use Rattle.positions.specs.Simulation.{IsFirst, IsStolen, IsInlined, IsDetached, IsAttached, IsResumed, IsUpdateNext};
 ghost use Rattle.positions.specs.Advance.{next_statement};
 ghost use Rattle.positions.specs.Moves.{first_strand, stolen, stolen_with, inlined, detached, attached, returned_of, resumed, is_update_there, at_update};
@@ -44,7 +42,7 @@ impl<V: View> Strand<V> {
         kit: Kit<V>,
     ) -> Result<Strand<V>, (AllocError, Kit<V>)>
         ensures first { IfOk result (λ strand. strand ≡ first_strand program.now.codes kit program.now.main) }
-        ensures beginning { kit ≡ program.now.kinds → IfOk result (λ strand. IsFirst program.now.tables (tree program.now.program) program.now.codes strand) }
+        ensures beginning { kit ≡ program.now.kinds → (tables : Tables) → IfOk result (λ strand. IsFirst (setting_of program.now tables) strand) }
         ensures handed_back { IfErr result (λ e. e.1 ≡ kit) }
     {
         program.linked();
@@ -92,7 +90,7 @@ impl<V: View> Strand<V> {
         kit: Kit<V>,
     ) -> Result<Strand<V>, (AllocError, Task, Kit<V>)>
         ensures stolen { IfOk result (λ strand. strand ≡ stolen program.now.codes kit task) }
-        ensures definition { kit ≡ program.now.kinds → IfOk result (λ strand. IsStolen program.now.tables (tree program.now.program) program.now.codes task strand) }
+        ensures definition { kit ≡ program.now.kinds → (tables : Tables) → IfOk result (λ strand. IsStolen (setting_of program.now tables) task strand) }
         ensures task_back { IfErr result (λ e. e.1 ≡ task) }
         ensures kit_back { IfErr result (λ e. e.2 ≡ kit) }
     {
@@ -153,7 +151,7 @@ impl<V: View> Strand<V> {
         ensures task { self.old.below ≡ result.top ∷ result.below }
         ensures place { result.place ≡ self.old.path }
         ensures child { self.new ≡ detached self.old }
-        ensures definition { (ts : List Columned) (t : Tree) (codes : List Code) → IsDetached ts t codes self.old self.new result }
+        ensures definition { (setting : Setting) → IsDetached setting self.old self.new result }
     {
         self.take_out(alloc)
     }
@@ -179,7 +177,7 @@ impl<V: View> Strand<V> {
         requires bare { self.old.below ≡ [] }
         requires entering { self.old.phase ≡ Phase.Entering }
         ensures called { self.new ≡ attached task self.old }
-        ensures definition { (ts : List Columned) (t : Tree) (codes : List Code) → IsAttached ts t codes task self.old self.new }
+        ensures definition { (setting : Setting) → IsAttached setting task self.old self.new }
     {
         self.put_back(task);
     }
@@ -203,7 +201,7 @@ impl<V: View> Strand<V> {
     pub fn inline(&mut self)
         requires at_spawn { self.old.phase ≡ Phase.AtSpawn }
         ensures called { self.new ≡ inlined self.old }
-        ensures definition { (ts : List Columned) (t : Tree) (codes : List Code) → IsInlined ts t codes self.old self.new }
+        ensures definition { (setting : Setting) → IsInlined setting self.old self.new }
     {
         let called = Phase::Entering;
         self.phase = called;
@@ -222,7 +220,7 @@ impl<V: View> Strand<V> {
     /// Where the spawned child has returned: goes on with a continuation; elsewhere nothing changes. It takes no memory.
     pub fn resume(&mut self, task: Task)
         ensures resumed { self.new ≡ resumed task self.old }
-        ensures definition { (ts : List Columned) (t : Tree) (codes : List Code) → IsResumed ts t codes task self.old self.new }
+        ensures definition { (setting : Setting) → IsResumed setting task self.old self.new }
     {
         self.go_on_with(task);
     }
@@ -249,7 +247,7 @@ impl<V: View> Strand<V> {
     /// Whether the next small step is that of an update.
     pub fn at_update(&self, program: &Checked) -> bool
         ensures update { result ≡ at_update program.now.codes self.now }
-        ensures next { IsUpdateNext program.now.tables (tree program.now.program) program.now.codes self.now result }
+        ensures next { (tables : Tables) → IsUpdateNext (setting_of program.now tables) self.now result }
     {
         self.updates_next(program)
     }

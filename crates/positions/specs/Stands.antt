@@ -1,6 +1,6 @@
 -- What a strand of numbers stands for: a strand of the definitions, whose instances and procedures go by name.
 use Rattle.std.specs.Prelude.{◌≡◌, ℕ, zero, suc, ◌-◌, ◌<◌, ◌≤◌, ℤ, Bool, true, false, List, [], ◌∷◌, map, length, replicate, take, Option, None, slice_get, slice_set}
-use Rattle.program_tree.specs.Plain.{Body, Proc}
+use Rattle.program_tree.specs.Plain.{Body, Proc, Tree}
 use Rattle.meaning.specs.Outcome.{Place, Fault as NamedFault}
 use Rattle.meaning.specs.Trail.{child_of}
 use Rattle.meaning.specs.Statements.{reducers, found, proc_of, fresh, Job}
@@ -50,13 +50,20 @@ IsStart Root ph path (behind m j) = ⊥
 IsStart (Behind depth child) ph path root = ⊥
 IsStart (Behind depth child) ph path (behind m j) = (m ≡ take depth path) × (j ≡ child) × IsWithin ph depth (length path)
 
+-- the procedure of a number
+abbrev pub procedure_in : Tree → ℕ → Proc
+procedure_in t p = found (slice_get (procedures t) p)
+
+-- a fault by names
+abbrev pub fault_in : Tree → Fault → NamedFault
+fault_in t f = record { kind = f.kind; site = record { procedure = (procedure_in t f.procedure).called; statement = f.statement } }
+
 module _ (setting : Setting) where
-  -- the procedure of a number
   abbrev pub procedure_at : ℕ → Proc
-  procedure_at p = found (slice_get (procedures setting.program.tree) p)
+  procedure_at p = procedure_in setting.program.tree p
 
   abbrev pub named_fault : Fault → NamedFault
-  named_fault f = record { kind = f.kind; site = record { procedure = (procedure_at f.procedure).called; statement = f.statement } }
+  named_fault f = fault_in setting.program.tree f
 
   -- ---- layers
 

@@ -11,7 +11,7 @@ use Rattle.frames.specs.declared.answer.RunAnswer.TheVariants as answer
 use Rattle.numbered_runs.specs.declared.step.StrandLine.{StrandLine}
 use Rattle.numbered_runs.specs.Runs.{PlainRun, stepped, are_workers}
 use Rattle.worker_core.specs.Standing.{run_of, kits_in}
-use Rattle.worker_core.specs.Cores.{PlainCore}
+use Rattle.worker_core.specs.Cores.{PlainCore, setting_in}
 use Rattle.worker_core.specs.Keeps.{IsElision}
 
 -- another state of the same run: its program, its tables, its workers, and as many kits
@@ -37,7 +37,7 @@ HasEnded answer.NoMemory = ⊥
 abbrev pub IsRefused : PlainCore → RunStep → Type 0
 IsRefused c s =
     c.failed ≡ false → are_workers c.workers s ≡ true → (r : PlainRun)
-    → ¬ (stepped c.program.codes c.program.kinds c.tables.tables (run_of c.standing) s ≡ Ok r)
+    → ¬ (stepped (setting_in c) (run_of c.standing) s ≡ Ok r)
 
 -- the worker whose step it is
 abbrev pub worker_of : RunStep → ℕ

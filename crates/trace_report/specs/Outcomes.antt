@@ -7,7 +7,7 @@ use Rattle.meaning.specs.declared.FaultKind.{FaultKind}
 use Rattle.meaning.specs.Statements.{reducers}
 use Rattle.meaning.specs.Text.{result_text, worths_text, fault_text}
 use Rattle.linked_program.specs.Checked.{PlainChecked}
-use Rattle.positions.specs.Stands.{named_fault}
+use Rattle.positions.specs.Stands.{fault_in}
 use Rattle.positions.specs.declared.phase.Fault.{Fault}
 use Rattle.frames.specs.declared.answer.RunAnswer.{RunAnswer}
 use Rattle.frames.specs.declared.answer.RunAnswer.TheVariants as answer
@@ -23,7 +23,7 @@ fault_line kind procedure statement =
 
 -- the line of a fault by numbers
 abbrev pub named_fault_text : PlainChecked → Fault → List ℕ
-named_fault_text program fault = fault_text (named_fault program.tables (tree program.program) program.codes fault)
+named_fault_text program fault = fault_text (fault_in (tree program.program) fault)
 
 -- what a run came to was put behind the old text: its result and the reducers' values, or its fault; a run that came to no
 -- end has no text

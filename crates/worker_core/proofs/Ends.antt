@@ -16,12 +16,13 @@ use Rattle.run_theory.specs.Theorems.{IsRightNow}
 use Rattle.run_theory.proofs.Paths.{paths_right}
 use Rattle.linked_program.specs.Checked.{PlainChecked, revised_of}
 use Rattle.input_tables.specs.Edited.{Edited}
+use Rattle.positions.specs.Setting.{setting_of}
 use Rattle.positions.specs.declared.phase.Fault.{Fault}
 use Rattle.positions.specs.declared.phase.Phase.{Phase}
 use Rattle.positions.specs.declared.phase.Phase.TheVariants.{Entering, Running, AtSpawn, Returning, Leaving, Broken}
 use Rattle.positions.specs.Activations.{PlainActivation}
 use Rattle.positions.specs.Strands.{PlainStrand}
-use Rattle.positions.specs.Stands.{named_fault, AreParents, StandsAt, StandsFor}
+use Rattle.positions.specs.Stands.{fault_in, AreParents, StandsAt, StandsFor}
 use Rattle.frames.specs.Answers.{IsAnswer, over, stopped, underway, ending_at}
 use Rattle.frames.specs.declared.answer.RunAnswer.{RunAnswer}
 use Rattle.frames.specs.declared.answer.RunAnswer.TheVariants as answer
@@ -47,15 +48,15 @@ module _ (program : PlainChecked) (tables : Edited) where
   finished v worths answer.Unfinished h = tt
   finished v worths answer.NoMemory h = tt
 
-  faulted : (f : Fault) (worths : List Worth) (given : RunAnswer) → IsAnswer (stopped f) worths given → IsElision program (elision.Faulted (named_fault program.tables (tree program.program) program.codes f)) given
+  faulted : (f : Fault) (worths : List Worth) (given : RunAnswer) → IsAnswer (stopped f) worths given → IsElision program (elision.Faulted (fault_in (tree program.program) f)) given
   faulted f worths (answer.Finished w got) h = absurd h
-  faulted f worths (answer.Fault g) h = ap (named_fault program.tables (tree program.program) program.codes) h
+  faulted f worths (answer.Fault g) h = ap (fault_in (tree program.program)) h
   faulted f worths answer.Unfinished h = tt
   faulted f worths answer.NoMemory h = tt
 
   -- the answer by numbers, where there is one
   abbrev Gives : State → Phase → List Worth → Answer → Type 0
-  Gives st ph worths a = (b : Answer) → answer_at program.tables (tree program.program) program.codes st ph worths ≡ Some b → b ≡ a
+  Gives st ph worths a = (b : Answer) → answer_at (setting_of program tables.tables) st ph worths ≡ Some b → b ≡ a
 
   at_finished : (ph : Phase) (below : List PlainActivation) (path : List ℕ) (worths : List Worth) (a : Answer) (given : RunAnswer) → IsLaidAs Finished ph → Gives Finished ph worths a
       → IsAnswer (ending_at ph below path) worths given → IsElision program a given
@@ -70,7 +71,7 @@ module _ (program : PlainChecked) (tables : Edited) where
 
   at_faulted : (ph : Phase) (below : List PlainActivation) (path : List ℕ) (worths : List Worth) (a : Answer) (given : RunAnswer) → IsLaidAs Faulted ph → Gives Faulted ph worths a
       → IsAnswer (ending_at ph below path) worths given → IsElision program a given
-  at_faulted (Broken f) below path worths a given l g h = subst (λ b. IsElision program b given) (g (elision.Faulted (named_fault program.tables (tree program.program) program.codes f)) refl) (faulted f worths given h)
+  at_faulted (Broken f) below path worths a given l g h = subst (λ b. IsElision program b given) (g (elision.Faulted (fault_in (tree program.program) f)) refl) (faulted f worths given h)
   at_faulted (Leaving v) below path worths a given l g h = absurd l
   at_faulted Entering below path worths a given l g h = absurd l
   at_faulted Running below path worths a given l g h = absurd l
@@ -85,19 +86,19 @@ module _ (program : PlainChecked) (tables : Edited) where
   at_state Ended p a given l g h = no_more a p.strand.layer.worths given h
   at_state Stalled p a given l g h = no_more a p.strand.layer.worths given h
 
-  alone_is : (p : PlainPiece) (xs : List Piece) → StandForPieces program.tables (tree program.program) program.codes (p ∷ []) xs → IsLaidAs p.state p.strand.phase
+  alone_is : (p : PlainPiece) (xs : List Piece) → StandForPieces (setting_of program tables.tables) (p ∷ []) xs → IsLaidAs p.state p.strand.phase
   alone_is p [] h = absurd h
   alone_is p (x ∷ []) h = h.laid
   alone_is p (x ∷ y ∷ xs) h = absurd h
 
-  of_pieces : (ps : List PlainPiece) (xs : List Piece) (a : Answer) (given : RunAnswer) → StandForPieces program.tables (tree program.program) program.codes ps xs
-      → ((b : Answer) → answer_in program.tables (tree program.program) program.codes ps ≡ Some b → b ≡ a) → IsAnswer (ending_in ps) (worths_in ps) given → IsElision program a given
+  of_pieces : (ps : List PlainPiece) (xs : List Piece) (a : Answer) (given : RunAnswer) → StandForPieces (setting_of program tables.tables) ps xs
+      → ((b : Answer) → answer_in (setting_of program tables.tables) ps ≡ Some b → b ≡ a) → IsAnswer (ending_in ps) (worths_in ps) given → IsElision program a given
   of_pieces [] xs a given s g h = no_more a [] given h
   of_pieces (p ∷ []) xs a given s g h = at_state p.state p a given (alone_is p xs s) g h
   of_pieces (p ∷ q ∷ ps) xs a given s g h = no_more a [] given h
 
-  by_failed : (failed : Bool) (ps : List PlainPiece) (xs : List Piece) (a : Answer) (given : RunAnswer) → StandForPieces program.tables (tree program.program) program.codes ps xs
-      → ((b : Answer) → answer_in program.tables (tree program.program) program.codes ps ≡ Some b → b ≡ a) → IsEnd failed ps given → IsElision program a given
+  by_failed : (failed : Bool) (ps : List PlainPiece) (xs : List Piece) (a : Answer) (given : RunAnswer) → StandForPieces (setting_of program tables.tables) ps xs
+      → ((b : Answer) → answer_in (setting_of program tables.tables) ps ≡ Some b → b ≡ a) → IsEnd failed ps given → IsElision program a given
   by_failed true ps xs a given s g h = subst (IsElision program a) (sym h) tt
   by_failed false ps xs a given s g h = of_pieces ps xs a given s g h
 
@@ -106,7 +107,7 @@ module _ (program : PlainChecked) (tables : Edited) where
       → IsElision program (from_scratch (tree program.program) tables.tables) given
   IsElision-end s failed given k h =
       by_failed failed s.pieces k.path.run.pieces (from_scratch (tree program.program) tables.tables) given k.path.stands.pieces
-      (λ b is. answers_elision program.tables (revised_of program) program.codes tables.tables k.ready (run_of s) k.path.run b k.path.reached k.path.stands is) h
+      (λ b is. answers_elision (setting_of program tables.tables) k.prepared.ready (run_of s) k.path.run b k.path.reached k.path.stands is) h
 
 -- ---- where a run is over
 
@@ -141,13 +142,13 @@ alone_laid : (t : Tree) (tables : Tables) (sight : Accumulators) (lookup : Looku
 alone_laid t tables sight lookup x h = h.1.laid
 
 module _ (program : PlainChecked) (tables : Edited) where
-  none_below : (path : Place) (below : List PlainActivation) (under : List Parent) → AreParents program.tables (tree program.program) program.codes path below under → under ≡ [] → below ≡ []
+  none_below : (path : Place) (below : List PlainActivation) (under : List Parent) → AreParents (setting_of program tables.tables) path below under → under ≡ [] → below ≡ []
   none_below path [] under h e = refl
   none_below path (a ∷ below) [] h e = absurd h
   none_below path (a ∷ below) (p ∷ under) h e = absurd cc
 
   finished_given : (ph : Phase) (below : List PlainActivation) (s : PlainStrand) (x : LayeredStrand) (worths : List Worth) (given : RunAnswer) → IsLaidAs Finished ph
-      → StandsAt program.tables (tree program.program) program.codes ph below s x → x.under ≡ [] → x.frame.instance ≡ [] → IsAnswer (ending_at ph below s.path) worths given → IsGiven given
+      → StandsAt (setting_of program tables.tables) ph below s x → x.under ≡ [] → x.frame.instance ≡ [] → IsAnswer (ending_at ph below s.path) worths given → IsGiven given
   finished_given (Leaving v) below s x worths given l n u m h =
       main_given v below s.path worths given (none_below s.path below x.under n.under u) (sym (ap (λ (fr : Frame). fr.instance) n.frame) ∙ m) h
   finished_given (Broken f) below s x worths given l n u m h = absurd l
@@ -156,7 +157,7 @@ module _ (program : PlainChecked) (tables : Edited) where
   finished_given AtSpawn below s x worths given l n u m h = absurd l
   finished_given (Returning v) below s x worths given l n u m h = absurd l
 
-  state_given : (st : State) (p : PlainPiece) (x : Piece) (given : RunAnswer) → IsLaidAs st p.strand.phase → StandsFor program.tables (tree program.program) program.codes p.strand x.strand
+  state_given : (st : State) (p : PlainPiece) (x : Piece) (given : RunAnswer) → IsLaidAs st p.strand.phase → StandsFor (setting_of program tables.tables) p.strand x.strand
       → IsLaid st x.strand x.deque → is_last st ≡ true → IsAnswer (cores.ending_at st p) p.strand.layer.worths given → IsGiven given
   state_given Finished p x given l n d e h = finished_given p.strand.phase p.strand.below p.strand x.strand p.strand.layer.worths given l n.now d.under d.main h
   state_given Faulted p x given l n d e h = faulted_given p.strand.phase p.strand.below p.strand.path p.strand.layer.worths given l h
@@ -164,7 +165,7 @@ module _ (program : PlainChecked) (tables : Edited) where
   state_given Ended p x given l n d e h = absurd cc
   state_given Stalled p x given l n d e h = absurd cc
 
-  pieces_given : (ps : List PlainPiece) (xs : List Piece) (sight : Accumulators) (lookup : Lookup) (given : RunAnswer) → StandForPieces program.tables (tree program.program) program.codes ps xs
+  pieces_given : (ps : List PlainPiece) (xs : List Piece) (sight : Accumulators) (lookup : Lookup) (given : RunAnswer) → StandForPieces (setting_of program tables.tables) ps xs
       → PiecesFit (tree program.program) tables.tables sight lookup true xs [] → are_over ps ≡ true → IsAnswer (ending_in ps) (worths_in ps) given → IsGiven given
   pieces_given [] xs sight lookup given s r e h = absurd cc
   pieces_given (p ∷ []) [] sight lookup given s r e h = absurd s
@@ -173,7 +174,7 @@ module _ (program : PlainChecked) (tables : Edited) where
   pieces_given (p ∷ []) (x ∷ y ∷ xs) sight lookup given s r e h = absurd s
   pieces_given (p ∷ q ∷ ps) xs sight lookup given s r e h = absurd cc
 
-  given_by : (failed : Bool) (ps : List PlainPiece) (xs : List Piece) (sight : Accumulators) (lookup : Lookup) (given : RunAnswer) → StandForPieces program.tables (tree program.program) program.codes ps xs
+  given_by : (failed : Bool) (ps : List PlainPiece) (xs : List Piece) (sight : Accumulators) (lookup : Lookup) (given : RunAnswer) → StandForPieces (setting_of program tables.tables) ps xs
       → PiecesFit (tree program.program) tables.tables sight lookup true xs [] → IsEnd failed ps given → failed || are_over ps ≡ true → IsGiven given
   given_by true ps xs sight lookup given s r h e = subst IsGiven (sym h) tt
   given_by false ps xs sight lookup given s r h e = pieces_given ps xs sight lookup given s r e h
@@ -182,5 +183,5 @@ module _ (program : PlainChecked) (tables : Edited) where
   pub IsGiven-over : (s : Standing) (failed : Bool) (given : RunAnswer) → KeepsRun program tables s → IsEnd failed s.pieces given → failed || are_over s.pieces ≡ true → IsGiven given
   IsGiven-over s failed given k h e =
       let right : IsRightNow (revised_of program) tables.tables without_memo k.path.run =
-      subst (IsRightNow (revised_of program) tables.tables without_memo) k.path.reached.is (paths_right (revised_of program) tables.tables without_memo k.ready k.path.reached.kits k.path.reached.steps) in
+      subst (IsRightNow (revised_of program) tables.tables without_memo) k.path.reached.is (paths_right (revised_of program) tables.tables without_memo k.prepared.ready k.path.reached.kits k.path.reached.steps) in
       given_by failed s.pieces k.path.run.pieces _ _ given k.path.stands.pieces right h e

@@ -2,8 +2,7 @@
 use Rattle.std.proofs.Common.{◌≡◌, ℕ, ℤ, List, [], ◌∷◌, Option, Some, None, Result, Ok, Err, sym, subst, ◌∙◌}
 use Rattle.std.specs.Prelude.{OnOk, OnErr}
 use Rattle.monoid_laws.specs.declared.Kind.{Kind}
-use Rattle.meaning.specs.Tables.{Tables}
-use Rattle.linked_program.specs.declared.code.Code.{Code}
+use Rattle.positions.specs.Setting.{Setting}
 use Rattle.positions.specs.declared.phase.Phase.{Phase}
 use Rattle.positions.specs.declared.phase.Phase.TheVariants as phase
 use Rattle.positions.specs.declared.phase.Paused.{Paused}
@@ -29,13 +28,13 @@ abbrev FitAfter : List Kind → Result Change Refusal → Type 0
 FitAfter kinds (Err e) = Unit {0}
 FitAfter kinds (Ok c) = FitPieces kinds c.pieces
 
-worked_fit : (codes : List Code) (kinds : List Kind) (tables : Tables) (ks : List Kind) (pa : Paused) (kits : ℕ) (p : PlainPiece) → IsFit ks p → FitAfter ks (worked_at codes kinds tables pa kits p)
-worked_fit codes kinds tables ks paused.Working kits p h = record { views = keeps_kinds codes kinds tables p.strand ∙ h.views; one_layer = keeps_lower codes kinds tables p.strand ∙ h.one_layer }
-worked_fit codes kinds tables ks paused.AtSpawn kits p h = tt
-worked_fit codes kinds tables ks paused.AtSync kits p h = tt
-worked_fit codes kinds tables ks paused.Returned kits p h = tt
-worked_fit codes kinds tables ks paused.Finished kits p h = tt
-worked_fit codes kinds tables ks paused.Faulted kits p h = tt
+worked_fit : (setting : Setting) (ks : List Kind) (pa : Paused) (kits : ℕ) (p : PlainPiece) → IsFit ks p → FitAfter ks (worked_at setting pa kits p)
+worked_fit setting ks paused.Working kits p h = record { views = keeps_kinds setting p.strand ∙ h.views; one_layer = keeps_lower setting p.strand ∙ h.one_layer }
+worked_fit setting ks paused.AtSpawn kits p h = tt
+worked_fit setting ks paused.AtSync kits p h = tt
+worked_fit setting ks paused.Returned kits p h = tt
+worked_fit setting ks paused.Finished kits p h = tt
+worked_fit setting ks paused.Faulted kits p h = tt
 
 over_fit : (ks : List Kind) (below : List PlainActivation) (kits : ℕ) (p : PlainPiece) → IsFit ks p → FitAfter ks (pushed_over below kits p)
 over_fit ks [] kits p h = tt
@@ -69,17 +68,17 @@ popped_fit : (ks : List Kind) (o : Option ℤ) (kits : ℕ) (p : PlainPiece) →
 popped_fit ks None kits p h = tt
 popped_fit ks (Some v) kits p h = deque_fit ks p.deque kits p h
 
-moved_fit : (codes : List Code) (kinds : List Kind) (tables : Tables) (ks : List Kind) (m : Move) (kits : ℕ) (p : PlainPiece) → IsFit ks p → FitAfter ks (moved codes kinds tables m kits p)
-moved_fit codes kinds tables ks Work kits p h = worked_fit codes kinds tables ks (pause_of codes p.strand) kits p h
-moved_fit codes kinds tables ks Push kits p h = pushed_fit ks p.strand.phase kits p h
-moved_fit codes kinds tables ks Inline kits p h = inlined_fit ks p.strand.phase kits p h
-moved_fit codes kinds tables ks Pop kits p h = popped_fit ks (returned_of p.strand) kits p h
+moved_fit : (setting : Setting) (ks : List Kind) (m : Move) (kits : ℕ) (p : PlainPiece) → IsFit ks p → FitAfter ks (moved setting m kits p)
+moved_fit setting ks Work kits p h = worked_fit setting ks (pause_of setting.codes p.strand) kits p h
+moved_fit setting ks Push kits p h = pushed_fit ks p.strand.phase kits p h
+moved_fit setting ks Inline kits p h = inlined_fit ks p.strand.phase kits p h
+moved_fit setting ks Pop kits p h = popped_fit ks (returned_of p.strand) kits p h
 
 -- a strand after a move is fit
-pub move_fits : (codes : List Code) (kinds : List Kind) (tables : Tables) (ks : List Kind) (m : Move) (kits : ℕ) (p q : PlainPiece) → IsFit ks p → moved codes kinds tables m kits p ≡ alone kits q → IsFit ks q
-move_fits codes kinds tables ks m kits p q h e = subst (FitAfter ks) e (moved_fit codes kinds tables ks m kits p h)
+pub move_fits : (setting : Setting) (ks : List Kind) (m : Move) (kits : ℕ) (p q : PlainPiece) → IsFit ks p → moved setting m kits p ≡ alone kits q → IsFit ks q
+move_fits setting ks m kits p q h e = subst (FitAfter ks) e (moved_fit setting ks m kits p h)
 
-pub moves_fit : {A : Type 0} (codes : List Code) (kinds : List Kind) (tables : Tables) (ks : List Kind) (m : Move) (r : Result A Refusal) (p q : PlainPiece) → IsFit ks p
-    → OnOk r ((kits : ℕ) → moved codes kinds tables m kits p ≡ alone kits q) → OnErr r (q ≡ p) → IsFit ks q
-moves_fit codes kinds tables ks m (Ok a) p q h t u = move_fits codes kinds tables ks m 0 p q h (t 0)
-moves_fit codes kinds tables ks m (Err e) p q h t u = subst (IsFit ks) (sym u) h
+pub moves_fit : {A : Type 0} (setting : Setting) (ks : List Kind) (m : Move) (r : Result A Refusal) (p q : PlainPiece) → IsFit ks p
+    → OnOk r ((kits : ℕ) → moved setting m kits p ≡ alone kits q) → OnErr r (q ≡ p) → IsFit ks q
+moves_fit setting ks m (Ok a) p q h t u = move_fits setting ks m 0 p q h (t 0)
+moves_fit setting ks m (Err e) p q h t u = subst (IsFit ks) (sym u) h

@@ -1,5 +1,5 @@
 -- A run that stands for one of the definitions goes on to do so after each step, taken or refused.
-use Rattle.std.proofs.Common.{All, ◌≡◌, inl, inr, ℕ, length, Option, Some, None, Result, Ok, Err, sym, ap, subst}
+use Rattle.std.proofs.Common.{All, ◌≡◌, inl, inr, ℕ, length, Option, Some, None, Result, Ok, Err, refl, sym, ap, subst}
 use Rattle.std.specs.Prelude.{OnOk, IfErr}
 use Rattle.monoid_laws.specs.Kinds.{IsMonoid}
 use Rattle.program_tree.specs.View.{tree}
@@ -8,6 +8,7 @@ use Rattle.run_theory.specs.Theorems.{IsReady}
 use Rattle.linked_program.specs.TableNames.{columned_of}
 use Rattle.linked_program.specs.Checked.{PlainChecked, IsChecked, revised_of}
 use Rattle.input_tables.specs.Edited.{Edited}
+use Rattle.frames.specs.Given.{given}
 use Rattle.numbered_runs.specs.Named.{run_step}
 use Rattle.numbered_runs.specs.Runs.{first_run, stepped}
 use Rattle.numbered_runs.specs.Ends.{HistoryGives}
@@ -28,31 +29,30 @@ module _ (program : PlainChecked) (tables : Edited) where
   -- ---- the beginning
 
   pub begins : (s : Standing) (kits : ℕ) → IsChecked program → run_of s ≡ first_run program.codes program.kinds program.main kits
-      → IsFirstOf program.tables (revised_of program) program.codes tables.tables kits (run_of s)
+      → IsFirstOf (given program tables) kits (run_of s)
   begins s kits checked is =
-      subst (IsFirstOf program.tables (revised_of program) program.codes tables.tables kits) (sym is)
-      (first_agrees program.tables (revised_of program) program.codes tables.tables program.kinds checked.linked checked.kinds_are program.main kits checked.main_is)
+      subst (IsFirstOf (given program tables) kits) (sym is)
+      (first_agrees (given program tables) (record { codes = checked.linked; kinds = checked.kinds_are }) program.main kits checked.main_is)
 
   pub keeps_first : (s : Standing) (kits : ℕ) → IsReady (revised_of program) tables.tables without_memo → program.tables ≡ columned_of tables.tables → IsChecked program → All IsMonoid program.kinds
       → run_of s ≡ first_run program.codes program.kinds program.main kits → KeepsRun program tables s
   keeps_first s kits ready are checked monoids is =
-      let first : IsFirstOf program.tables (revised_of program) program.codes tables.tables kits (run_of s) = begins s kits checked is in
-      record { ready = ready; tables_are = are; checked = checked; monoids = monoids; path = record { run = first_state (tree program.program) kits; reached = first.0; stands = first.1 } }
+      let first : IsFirstOf (given program tables) kits (run_of s) = begins s kits checked is in
+      record { prepared = record { ready = ready; tables = are; linked = record { codes = checked.linked; kinds = checked.kinds_are }; no_memo = refl }; checked = checked; monoids = monoids; path = record { run = first_state (tree program.program) kits; reached = first.0; stands = first.1 } }
 
   -- ---- a step that is taken
 
-  pub step_is : (s t : Standing) (e : RunStep) → KeepsRun program tables s → stepped program.codes program.kinds tables.tables (run_of s) e ≡ Ok (run_of t)
-      → IsStepOf program.tables (revised_of program) program.codes tables.tables e (run_of s) (run_of t)
-  step_is s t e k is = steps_agree program.tables (revised_of program) program.codes tables.tables k.ready program.kinds k.tables_are k.checked.linked k.checked.kinds_are (run_of s) (run_of t) e is
+  pub step_is : (s t : Standing) (e : RunStep) → KeepsRun program tables s → stepped (given program tables) (run_of s) e ≡ Ok (run_of t)
+      → IsStepOf (given program tables) e (run_of s) (run_of t)
+  step_is s t e k is = steps_agree (given program tables) k.prepared (run_of s) (run_of t) e is
 
-  path_to : (o : Option RunState) (t : Standing) → LeadsTo program.tables (revised_of program) program.codes tables.tables o (run_of t) → IsOnPath program tables.tables t
+  path_to : (o : Option RunState) (t : Standing) → LeadsTo (given program tables) o (run_of t) → IsOnPath (given program tables) t
   path_to None t h = absurd h
   path_to (Some y) t h = record { run = y; reached = h.0; stands = h.1 }
 
-  pub keeps_step : (s t : Standing) (e : RunStep) → KeepsRun program tables s → stepped program.codes program.kinds tables.tables (run_of s) e ≡ Ok (run_of t) → KeepsRun program tables t
+  pub keeps_step : (s t : Standing) (e : RunStep) → KeepsRun program tables s → stepped (given program tables) (run_of s) e ≡ Ok (run_of t) → KeepsRun program tables t
   keeps_step s t e k is = record {
-    ready = k.ready;
-    tables_are = k.tables_are;
+    prepared = k.prepared;
     checked = k.checked;
     monoids = k.monoids;
     path = path_to (after_step (revised_of program) tables.tables without_memo k.path.run e) t (step_is s t e k is k.path.run k.path.reached k.path.stands);
@@ -60,9 +60,9 @@ module _ (program : PlainChecked) (tables : Edited) where
 
   -- ---- a step that is refused
 
-  pub no_step_is : (s : Standing) (e : RunStep) (f : Refusal) → KeepsRun program tables s → stepped program.codes program.kinds tables.tables (run_of s) e ≡ Err f
-      → IsNoStepOf program.tables (revised_of program) program.codes tables.tables e (run_of s)
-  no_step_is s e f k is = refusals_agree program.tables (revised_of program) program.codes tables.tables k.ready program.kinds k.tables_are k.checked.linked k.checked.kinds_are (run_of s) e f is
+  pub no_step_is : (s : Standing) (e : RunStep) (f : Refusal) → KeepsRun program tables s → stepped (given program tables) (run_of s) e ≡ Err f
+      → IsNoStepOf (given program tables) e (run_of s)
+  no_step_is s e f k is = refusals_agree (given program tables) k.prepared (run_of s) e f is
 
   keeps_same : (s t : Standing) → KeepsRun program tables s → t ≡ s → KeepsRun program tables t
   keeps_same s t k e = subst (KeepsRun program tables) (sym e) k
@@ -70,14 +70,13 @@ module _ (program : PlainChecked) (tables : Edited) where
   keeps_products : (s t : Standing) → KeepsRun program tables s → KeepsProducts s t → KeepsRun program tables t
   keeps_products s t k (inl e) = keeps_same s t k e
   keeps_products s t k (inr h) = record {
-    ready = k.ready;
-    tables_are = k.tables_are;
+    prepared = k.prepared;
     checked = k.checked;
     monoids = k.monoids;
     path = record {
       run = k.path.run;
       reached = k.path.reached;
-      stands = refused_kept program.tables (tree program.program) program.codes (run_of s) (run_of t) (record { pieces = h.1; kits = ap (λ (x : Standing). length x.kits) h.0; history = ap (λ (x : Standing). x.history) h.0 }) k.path.run k.path.stands;
+      stands = refused_kept (given program tables) (run_of s) (run_of t) (record { pieces = h.1; kits = ap (λ (x : Standing). length x.kits) h.0; history = ap (λ (x : Standing). x.history) h.0 }) k.path.run k.path.stands;
     };
   }
 
@@ -96,11 +95,11 @@ module _ (program : PlainChecked) (tables : Edited) where
 
   -- whatever came of the step
   pub keeps_on : {A : Type 0} → (e : Step) (r : Result A Refusal) (s t : Standing) → KeepsRun program tables s
-      → OnOk r (stepped program.codes program.kinds tables.tables (run_of s) (run_step e) ≡ Ok (run_of t)) → IfErr r (λ f. StandsAfter e f s t) → KeepsRun program tables t
+      → OnOk r (stepped (given program tables) (run_of s) (run_step e) ≡ Ok (run_of t)) → IfErr r (λ f. StandsAfter e f s t) → KeepsRun program tables t
   keeps_on e (Ok a) s t k h u = keeps_step s t (run_step e) k h
   keeps_on e (Err f) s t k h u = keeps_stands e f s t k u
 
   -- ---- the history
 
   pub keeps_legal : (s : Standing) → KeepsRun program tables s → HistoryGives (run_of s)
-  keeps_legal s k = keeps_history program.tables (revised_of program) program.codes tables.tables k.ready (run_of s) k.path.run k.path.reached k.path.stands
+  keeps_legal s k = keeps_history (given program tables) k.prepared.ready (run_of s) k.path.run k.path.reached k.path.stands

@@ -15,5 +15,5 @@ leaves c k = record {
   run = k.path.run;
   reached = k.path.reached;
   stands = k.path.stands;
-  left = subst (λ (x : RunState). rest_of_run (tree c.program.program) c.tables.tables x ≡ from_scratch (tree c.program.program) c.tables.tables) k.path.reached.is (paths_rest (revised_of c.program) c.tables.tables without_memo k.ready k.path.reached.kits k.path.reached.steps);
+  left = subst (λ (x : RunState). rest_of_run (tree c.program.program) c.tables.tables x ≡ from_scratch (tree c.program.program) c.tables.tables) k.path.reached.is (paths_rest (revised_of c.program) c.tables.tables without_memo k.prepared.ready k.path.reached.kits k.path.reached.steps);
 }

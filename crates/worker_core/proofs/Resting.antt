@@ -2,11 +2,9 @@
 use Rattle.std.proofs.Common.{arith, ◌≡◌, ℕ, suc, ◌+◌, true, List, [], ◌∷◌, ◌++◌, length, take, drop, get_or, Some, None, Ok, Err, refl, sym, ap, subst, ◌∙◌}
 use Rattle.std.specs.Prelude.{slice_set as set}
 use Rattle.std.proofs.lemmas.List.{set_split}
-use Rattle.monoid_laws.specs.declared.Kind.{Kind}
-use Rattle.meaning.specs.Tables.{Tables}
 use Rattle.meaning.specs.Strands.{BookStep}
 use Rattle.meaning.specs.Strands as strands
-use Rattle.linked_program.specs.declared.code.Code.{Code}
+use Rattle.positions.specs.Setting.{Setting}
 use Rattle.positions.specs.declared.phase.Paused.{Paused}
 use Rattle.positions.specs.declared.phase.Paused.TheVariants as paused
 use Rattle.positions.specs.Layers.{lowest}
@@ -65,22 +63,22 @@ no_rest_at paused.Finished (k ∷ ks) kits p e = refl
 no_rest_at paused.Working ks kits p e = refl
 no_rest_at paused.AtSpawn ks kits p e = refl
 
-module _ (codes : List Code) (kinds : List Kind) (tables : Tables) (w i : ℕ) (ps : List PlainPiece) (d : PlainPiece) (found : held_at w ps ≡ Some i) where
+module _ (setting : Setting) (w i : ℕ) (ps : List PlainPiece) (d : PlainPiece) (found : held_at w ps ≡ Some i) where
   -- a worker's strand is laid down
-  pub rest_taken : (s : State) (kits : ℕ) (h : List BookStep) → (get_or ps i d).strand.lower ≡ [] → rest_at (pause_of codes (get_or ps i d).strand) (get_or ps i d).deque ≡ Some s
-      → changed NotThere w (stalled codes kinds tables kits) [] ps h ≡ Ok (record { pieces = set ps i (laid_as s (get_or ps i d)); kits = kits; history = h ++ rest_noted s (place_of (get_or ps i d)) ∷ [] })
+  pub rest_taken : (s : State) (kits : ℕ) (h : List BookStep) → (get_or ps i d).strand.lower ≡ [] → rest_at (pause_of setting.codes (get_or ps i d).strand) (get_or ps i d).deque ≡ Some s
+      → changed NotThere w (stalled setting kits) [] ps h ≡ Ok (record { pieces = set ps i (laid_as s (get_or ps i d)); kits = kits; history = h ++ rest_noted s (place_of (get_or ps i d)) ∷ [] })
   rest_taken s kits h one e =
-      held_changes w i ps NotThere (stalled codes kinds tables kits) h d found
-      ∙ ap (among (take i ps) (drop (suc i) ps) h) (rests_at (pause_of codes (get_or ps i d).strand) (get_or ps i d).deque s kits (get_or ps i d) one e)
+      held_changes w i ps NotThere (stalled setting kits) h d found
+      ∙ ap (among (take i ps) (drop (suc i) ps) h) (rests_at (pause_of setting.codes (get_or ps i d).strand) (get_or ps i d).deque s kits (get_or ps i d) one e)
       ∙ ap (λ xs. Ok (record { pieces = xs; kits = kits; history = h ++ rest_noted s (place_of (get_or ps i d)) ∷ [] })) (sym (set_split ps i (laid_as s (get_or ps i d)) (held_within w i ps found)))
 
   -- its holder has something to do with it
-  pub rest_refused : (kits : ℕ) (h : List BookStep) → rest_at (pause_of codes (get_or ps i d).strand) (get_or ps i d).deque ≡ None → RefusedAs true (changed NotThere w (stalled codes kinds tables kits) [] ps h) NotThere
+  pub rest_refused : (kits : ℕ) (h : List BookStep) → rest_at (pause_of setting.codes (get_or ps i d).strand) (get_or ps i d).deque ≡ None → RefusedAs true (changed NotThere w (stalled setting kits) [] ps h) NotThere
   rest_refused kits h e =
-      held_refused true w i ps NotThere (stalled codes kinds tables kits) h d NotThere found
-      (subst (λ r. RefusedAs true r NotThere) (sym (no_rest_at (pause_of codes (get_or ps i d).strand) (get_or ps i d).deque kits (get_or ps i d) e)) (let same : NotThere ≡ NotThere = refl in same))
+      held_refused true w i ps NotThere (stalled setting kits) h d NotThere found
+      (subst (λ r. RefusedAs true r NotThere) (sym (no_rest_at (pause_of setting.codes (get_or ps i d).strand) (get_or ps i d).deque kits (get_or ps i d) e)) (let same : NotThere ≡ NotThere = refl in same))
 
   -- memory is refused for it
-  pub rest_lacks : (s : State) (kits : ℕ) (h : List BookStep) → (get_or ps i d).strand.lower ≡ [] → rest_at (pause_of codes (get_or ps i d).strand) (get_or ps i d).deque ≡ Some s
-      → RefusedAs true (changed NotThere w (stalled codes kinds tables kits) [] ps h) NoMemory
+  pub rest_lacks : (s : State) (kits : ℕ) (h : List BookStep) → (get_or ps i d).strand.lower ≡ [] → rest_at (pause_of setting.codes (get_or ps i d).strand) (get_or ps i d).deque ≡ Some s
+      → RefusedAs true (changed NotThere w (stalled setting kits) [] ps h) NoMemory
   rest_lacks s kits h one e = subst (λ r. RefusedAs true r NoMemory) (sym (rest_taken s kits h one e)) (let same : NoMemory ≡ NoMemory = refl in same)

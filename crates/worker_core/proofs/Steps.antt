@@ -1,9 +1,9 @@
 -- A step of a run is the definitions', and a refusal is where they have none.
 use Rattle.std.proofs.Common.{◌≡◌, ◌⊎◌, inl, inr, Bool, true, false, List, Result, Ok, Err, refl, sym, subst}
 use Rattle.std.specs.Prelude.{OnOk, IfErr}
-use Rattle.monoid_laws.specs.declared.Kind.{Kind}
 use Rattle.meaning.specs.Tables.{Tables}
-use Rattle.linked_program.specs.declared.code.Code.{Code}
+use Rattle.linked_program.specs.Checked.{PlainChecked}
+use Rattle.positions.specs.Setting.{setting_of}
 use Rattle.numbered_runs.specs.Named.{run_step}
 use Rattle.numbered_runs.specs.Runs.{PlainRun, stepped}
 use Rattle.numbered_runs.specs.declared.step.Step.{Step}
@@ -32,13 +32,13 @@ given_back P r f e h = subst (λ x. IfErr x P) (sym e) h
 
 -- ---- a step whose contract speaks of all tables
 
-module _ (codes : List Code) (kinds : List Kind) (tables : Tables) {A : Type 0} where
-  pub stepped_at : (r : Result A Refusal) (e d : Step) (s t : Standing) → e ≡ d → OnOk r ((ts : Tables) → stepped codes kinds ts (run_of s) (run_step d) ≡ Ok (run_of t))
-      → OnOk r (stepped codes kinds tables (run_of s) (run_step e) ≡ Ok (run_of t))
-  stepped_at (Ok a) e d s t is h = subst (λ x. stepped codes kinds tables (run_of s) (run_step x) ≡ Ok (run_of t)) (sym is) (h tables)
+module _ (program : PlainChecked) (tables : Tables) {A : Type 0} where
+  pub stepped_at : (r : Result A Refusal) (e d : Step) (s t : Standing) → e ≡ d → OnOk r ((ts : Tables) → stepped (setting_of program ts) (run_of s) (run_step d) ≡ Ok (run_of t))
+      → OnOk r (stepped (setting_of program tables) (run_of s) (run_step e) ≡ Ok (run_of t))
+  stepped_at (Ok a) e d s t is h = subst (λ x. stepped (setting_of program tables) (run_of s) (run_step x) ≡ Ok (run_of t)) (sym is) (h tables)
   stepped_at (Err f) e d s t is h = tt
 
-  pub refused_at : (r : Result A Refusal) (e d : Step) (s : Standing) → e ≡ d → IfErr r (λ f. (ts : Tables) → RefusedAs (takes_memory d) (stepped codes kinds ts (run_of s) (run_step d)) f)
-      → IfErr r (RefusedAs (takes_memory e) (stepped codes kinds tables (run_of s) (run_step e)))
+  pub refused_at : (r : Result A Refusal) (e d : Step) (s : Standing) → e ≡ d → IfErr r (λ f. (ts : Tables) → RefusedAs (takes_memory d) (stepped (setting_of program ts) (run_of s) (run_step d)) f)
+      → IfErr r (RefusedAs (takes_memory e) (stepped (setting_of program tables) (run_of s) (run_step e)))
   refused_at (Ok a) e d s is h = tt
-  refused_at (Err f) e d s is h = subst (λ x. RefusedAs (takes_memory x) (stepped codes kinds tables (run_of s) (run_step x)) f) (sym is) (h tables)
+  refused_at (Err f) e d s is h = subst (λ x. RefusedAs (takes_memory x) (stepped (setting_of program tables) (run_of s) (run_step x)) f) (sym is) (h tables)

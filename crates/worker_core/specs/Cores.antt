@@ -6,6 +6,8 @@ use Rattle.view_pool.specs.Stock.{Stock}
 use Rattle.meaning.specs.Strands.{State, Finished, Faulted}
 use Rattle.input_tables.specs.Edited.{Edited}
 use Rattle.linked_program.specs.Checked.{PlainChecked}
+use Rattle.frames.specs.Given.{given}
+use Rattle.positions.specs.Setting.{Setting}
 use Rattle.frames.specs.Answers.{Ending, underway, ending_of, IsAnswer}
 use Rattle.frames.specs.declared.answer.RunAnswer.{RunAnswer}
 use Rattle.frames.specs.declared.answer.RunAnswer.TheVariants as answer
@@ -35,9 +37,13 @@ takes_memory (step.Inline w) = false
 takes_memory (step.Pop w) = false
 takes_memory _ = true
 
+-- its program and tables
+abbrev pub setting_in : PlainCore → Setting
+setting_in c = given c.program c.tables
+
 -- the step on the run of numbers
 abbrev pub stepped_on : PlainCore → Step → Result PlainRun Refusal
-stepped_on c s = stepped c.program.codes c.program.kinds c.tables.tables (run_of c.standing) (run_step s)
+stepped_on c s = stepped (setting_in c) (run_of c.standing) (run_step s)
 
 -- whether there are such workers, in a run that has not failed
 abbrev pub is_open_to : PlainCore → Step → Bool

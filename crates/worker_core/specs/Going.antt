@@ -2,7 +2,7 @@
 use Rattle.std.specs.Prelude.{◌≡◌, ℕ, ◌<◌, false}
 use Rattle.numbered_runs.specs.Progress.{AreByWorkers, HasStep}
 use Rattle.worker_core.specs.Standing.{Standing, run_of}
-use Rattle.worker_core.specs.Cores.{PlainCore, is_over}
+use Rattle.worker_core.specs.Cores.{PlainCore, is_over, setting_in}
 
 -- the strands are held by the workers, where there is one
 abbrev pub AreHeldBy : ℕ → Standing → Type 0
@@ -10,4 +10,4 @@ AreHeldBy n s = 0 < n → AreByWorkers n s.pieces
 
 -- where there is a worker, a run that is not over has a step by one of them
 abbrev pub GoesOn : PlainCore → Type 0
-GoesOn c = is_over c ≡ false → 0 < c.workers → HasStep c.program.codes c.program.kinds c.tables.tables c.workers (run_of c.standing)
+GoesOn c = is_over c ≡ false → 0 < c.workers → HasStep (setting_in c) c.workers (run_of c.standing)

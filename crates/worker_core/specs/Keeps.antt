@@ -2,49 +2,47 @@
 use Rattle.std.specs.Prelude.{◌≡◌, ℕ, true, map, All}
 use Rattle.monoid_laws.specs.Kinds.{meaning, IsMonoid}
 use Rattle.program_tree.specs.View.{tree}
-use Rattle.meaning.specs.Tables.{Tables}
 use Rattle.meaning.specs.Elision.{Answer, Finished, Faulted, from_scratch}
-use Rattle.meaning.specs.Schedules.{RunState, without_memo}
-use Rattle.run_theory.specs.Theorems.{IsReady}
-use Rattle.linked_program.specs.TableNames.{columned_of}
-use Rattle.linked_program.specs.Checked.{PlainChecked, IsChecked, revised_of}
+use Rattle.meaning.specs.Schedules.{RunState}
+use Rattle.linked_program.specs.Checked.{PlainChecked, IsChecked}
 use Rattle.input_tables.specs.Edited.{Edited}
-use Rattle.positions.specs.Stands.{named_fault}
+use Rattle.frames.specs.Given.{given}
+use Rattle.positions.specs.Setting.{Setting}
+use Rattle.positions.specs.Stands.{fault_in}
 use Rattle.frames.specs.declared.answer.RunAnswer.{RunAnswer}
 use Rattle.frames.specs.declared.answer.RunAnswer.TheVariants as answer
 use Rattle.numbered_runs.specs.Named.{run_step}
 use Rattle.numbered_runs.specs.Stands.{StandsForRun}
 use Rattle.numbered_runs.specs.Ends.{HistoryGives}
-use Rattle.numbered_runs.specs.Simulation.{IsReached, IsStepOf, IsNoStepOf, IsFirstOf}
+use Rattle.numbered_runs.specs.Simulation.{IsPrepared, IsReached, IsStepOf, IsNoStepOf, IsFirstOf}
 use Rattle.numbered_runs.specs.declared.step.Step.{Step}
 use Rattle.worker_core.specs.Standing.{Standing, run_of}
-use Rattle.worker_core.specs.Cores.{PlainCore, is_open_to}
+use Rattle.worker_core.specs.Cores.{PlainCore, is_open_to, setting_in}
 
 -- it stands for a run of the definitions that some steps lead to
-pub record IsOnPath (program : PlainChecked) (tables : Tables) (s : Standing) : Type 0 where
+pub record IsOnPath (setting : Setting) (s : Standing) : Type 0 where
   pub run : RunState
-  pub reached : IsReached (revised_of program) tables run
-  pub stands : StandsForRun program.tables (tree program.program) program.codes (run_of s) run
+  pub reached : IsReached setting run
+  pub stands : StandsForRun setting (run_of s) run
 
 -- the program was checked against the tables, both keep what the theory asks for, and the run is one of the definitions
 pub record KeepsRun (program : PlainChecked) (tables : Edited) (s : Standing) : Type 0 where
-  pub ready : IsReady (revised_of program) tables.tables without_memo
-  pub tables_are : program.tables ≡ columned_of tables.tables
+  pub prepared : IsPrepared (given program tables)
   pub checked : IsChecked program
   pub monoids : All IsMonoid program.kinds
-  pub path : IsOnPath program tables.tables s
+  pub path : IsOnPath (given program tables) s
 
 -- the run stands for the beginning of one, with so many kits
 abbrev pub IsBeginning : ℕ → PlainCore → Type 0
-IsBeginning kits c = IsFirstOf c.program.tables (revised_of c.program) c.program.codes c.tables.tables kits (run_of c.standing)
+IsBeginning kits c = IsFirstOf (setting_in c) kits (run_of c.standing)
 
 -- the run after the step stands for the definitions' step of the run before it
 abbrev pub IsStep : Step → PlainCore → PlainCore → Type 0
-IsStep step c d = IsStepOf c.program.tables (revised_of c.program) c.program.codes c.tables.tables (run_step step) (run_of c.standing) (run_of d.standing)
+IsStep step c d = IsStepOf (setting_in c) (run_step step) (run_of c.standing) (run_of d.standing)
 
 -- there is no such worker, the run has failed, or there is no such step by the definitions
 abbrev pub IsNoStep : Step → PlainCore → Type 0
-IsNoStep step c = is_open_to c step ≡ true → IsNoStepOf c.program.tables (revised_of c.program) c.program.codes c.tables.tables (run_step step) (run_of c.standing)
+IsNoStep step c = is_open_to c step ≡ true → IsNoStepOf (setting_in c) (run_step step) (run_of c.standing)
 
 -- the history is legal, and gives the list of the strands
 abbrev pub IsLegal : PlainCore → Type 0
@@ -57,7 +55,7 @@ IsElision program a answer.NoMemory = Unit {0}
 IsElision program (Finished v worths) (answer.Finished w got) = (w ≡ v) × (map meaning got.items ≡ worths)
 IsElision program (Finished v worths) (answer.Fault f) = ⊥
 IsElision program (Faulted k) (answer.Finished w got) = ⊥
-IsElision program (Faulted k) (answer.Fault f) = named_fault program.tables (tree program.program) program.codes f ≡ k
+IsElision program (Faulted k) (answer.Fault f) = fault_in (tree program.program) f ≡ k
 
 -- the answer of the elision of its program on its tables, done from scratch
 abbrev pub AnswersElision : PlainCore → RunAnswer → Type 0

@@ -4,15 +4,14 @@ use Rattle.program_tree.specs.View.{tree}
 use Rattle.meaning.specs.Elision.{from_scratch}
 use Rattle.meaning.specs.RestOfRun.{rest_of_run}
 use Rattle.meaning.specs.Schedules.{RunState}
-use Rattle.linked_program.specs.Checked.{revised_of}
 use Rattle.numbered_runs.specs.Stands.{StandsForRun}
 use Rattle.numbered_runs.specs.Simulation.{IsReached}
 use Rattle.worker_core.specs.Standing.{run_of}
-use Rattle.worker_core.specs.Cores.{PlainCore}
+use Rattle.worker_core.specs.Cores.{PlainCore, setting_in}
 
 -- it stands for a run of the definitions that some steps lead to, of which the elision's answer from scratch is left
 pub record LeavesElision (c : PlainCore) : Type 0 where
   pub run : RunState
-  pub reached : IsReached (revised_of c.program) c.tables.tables run
-  pub stands : StandsForRun c.program.tables (tree c.program.program) c.program.codes (run_of c.standing) run
+  pub reached : IsReached (setting_in c) run
+  pub stands : StandsForRun (setting_in c) (run_of c.standing) run
   pub left : rest_of_run (tree c.program.program) c.tables.tables run ≡ from_scratch (tree c.program.program) c.tables.tables

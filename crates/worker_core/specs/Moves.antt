@@ -1,10 +1,9 @@
 -- What a worker does with the strand that it holds, and how it is laid down.
 use Rattle.std.specs.Prelude.{◌≡◌, ℕ, Bool, true, false, List, [], ◌∷◌, Option, Some, None, Result, Ok, Err}
 use Rattle.monoid_laws.specs.declared.Kind.{Kind}
-use Rattle.meaning.specs.Tables.{Tables}
 use Rattle.meaning.specs.Outcome.{Place}
 use Rattle.meaning.specs.Strands as strands
-use Rattle.linked_program.specs.declared.code.Code.{Code}
+use Rattle.positions.specs.Setting.{Setting}
 use Rattle.positions.specs.declared.phase.Paused.{Paused}
 use Rattle.positions.specs.declared.phase.Paused.TheVariants as paused
 use Rattle.positions.specs.Strands.{PlainTask}
@@ -17,11 +16,11 @@ use Rattle.worker_core.specs.declared.piece.Move.{Move}
 use Rattle.worker_core.specs.declared.piece.Move.TheVariants.{Work, Push, Inline, Pop}
 
 -- what a move makes of the piece
-abbrev pub moved : List Code → List Kind → Tables → Move → ℕ → PlainPiece → Result Change Refusal
-moved codes kinds tables Work kits p = worked codes kinds tables kits p
-moved codes kinds tables Push kits p = pushed kits p
-moved codes kinds tables Inline kits p = inlined kits p
-moved codes kinds tables Pop kits p = popped kits p
+abbrev pub moved : Setting → Move → ℕ → PlainPiece → Result Change Refusal
+moved setting Work kits p = worked setting kits p
+moved setting Push kits p = pushed kits p
+moved setting Inline kits p = inlined kits p
+moved setting Pop kits p = popped kits p
 
 -- the moves that take memory
 abbrev pub takes_memory : Move → Bool

@@ -1,11 +1,11 @@
 -- The strands of a run with the pool and the history, as plain values.
 use Rattle.std.specs.Prelude.{◌≡◌, ℕ, suc, ◌+◌, ◌<◌, true, cond, List, [], ◌∷◌, length, take, drop, slice_index_or, slice_set, ◌++◌, All, Option, Some, None, Ok}
 use Rattle.monoid_laws.specs.declared.Kind.{Kind}
-use Rattle.meaning.specs.Tables.{Tables}
 use Rattle.meaning.specs.Outcome.{Place}
 use Rattle.meaning.specs.SmallStep.{same_name}
 use Rattle.meaning.specs.Strands.{BookStep}
 use Rattle.linked_program.specs.declared.code.Code.{Code}
+use Rattle.positions.specs.Setting.{Setting}
 use Rattle.positions.specs.Advance.{pause_of}
 use Rattle.numbered_runs.specs.Named.{named_state}
 use Rattle.numbered_runs.specs.declared.step.State.{State}
@@ -59,9 +59,9 @@ abbrev pub MayRob : ℕ → List PlainPiece → Type 0
 MayRob i ps = (d : PlainPiece) → i < length ps → has_tasks (slice_index_or ps i d).deque ≡ true
 
 -- a thief has taken the oldest continuation of the strand of that number
-abbrev pub IsRobbed : List Code → List Kind → ℕ → ℕ → Standing → Standing → Type 0
-IsRobbed codes kinds thief i s t =
-    (tables : Tables) (d : PlainPiece) (kits : ℕ) → among (take i s.pieces) (drop (suc i) s.pieces) s.history (stolen_of codes kinds tables thief (suc kits) (slice_index_or s.pieces i d) (slice_index_or s.pieces i d).deque) ≡ Ok (record { pieces = t.pieces; kits = kits; history = t.history })
+abbrev pub IsRobbed : Setting → ℕ → ℕ → Standing → Standing → Type 0
+IsRobbed setting thief i s t =
+    (d : PlainPiece) (kits : ℕ) → among (take i s.pieces) (drop (suc i) s.pieces) s.history (stolen_of setting thief (suc kits) (slice_index_or s.pieces i d) (slice_index_or s.pieces i d).deque) ≡ Ok (record { pieces = t.pieces; kits = kits; history = t.history })
 
 -- the strand of that number, which is p, laid down so
 abbrev pub laid_down : ℕ → State → PlainPiece → Standing → Standing

@@ -1,6 +1,7 @@
 // A strand is laid down.
 ghost use Rattle.std.specs.Prelude.{◌≡◌, slice_index_or, ◌<◌, true, IfOk, IfErr, OnErr, OnOk, Ok, [], length};
 ghost use Rattle.meaning.specs.Tables.{Tables};
+ghost use Rattle.positions.specs.Setting.{setting_of};
 ghost use Rattle.positions.specs.Advance.{pause_of};
 ghost use Rattle.numbered_runs.specs.Named.{named_state, book_step};
 ghost use Rattle.numbered_runs.specs.Pieces.{PlainPiece, stalled};
@@ -61,8 +62,8 @@ impl<V: View> Strands<V> {
         worker: usize,
     ) -> Result<(), Refusal>
         requires fit { AreFit program.now.kinds self.old }
-        ensures taken { OnOk result ((tables : Tables) → changed Refusal.NotThere worker (stalled program.now.codes program.now.kinds tables (length self.old.kits)) [] self.old.pieces self.old.history ≡ Ok (run_of self.new)) }
-        ensures refused { IfErr result (λ e. (tables : Tables) → RefusedAs true (changed Refusal.NotThere worker (stalled program.now.codes program.now.kinds tables (length self.old.kits)) [] self.old.pieces self.old.history) e) }
+        ensures taken { OnOk result ((tables : Tables) → changed Refusal.NotThere worker (stalled (setting_of program.now tables) (length self.old.kits)) [] self.old.pieces self.old.history ≡ Ok (run_of self.new)) }
+        ensures refused { IfErr result (λ e. (tables : Tables) → RefusedAs true (changed Refusal.NotThere worker (stalled (setting_of program.now tables) (length self.old.kits)) [] self.old.pieces self.old.history) e) }
         ensures unchanged { OnErr result (self.new ≡ self.old) }
         ensures fit { AreFit program.now.kinds self.new }
         ensures total { self.new.total ≡ self.old.total }

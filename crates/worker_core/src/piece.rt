@@ -1,6 +1,6 @@
 // A strand with its holder's deque.
 ghost use Rattle.std.specs.Prelude.{◌≡◌, ℕ, List, IfErr, IfOk, OnErr, OnOk, [], true, false};
-ghost use Rattle.monoid_laws.specs.declared.Kind.{Kind};
+ghost use Rattle.frames.specs.Given.{given};
 ghost use Rattle.frames.specs.Answers.{IsAnswer};
 ghost use Rattle.numbered_runs.specs.Named.{named_state, line};
 ghost use Rattle.numbered_runs.specs.Runs.{line_of};
@@ -87,8 +87,8 @@ impl<V: View> Piece<V> {
         records: &Records,
     ) -> Result<(), Refusal>
         requires kinds { self.old.strand.layer.kinds ≡ program.now.kinds }
-        ensures taken { OnOk result ((kits : ℕ) → worked program.now.codes program.now.kinds tables.now.tables kits self.old ≡ alone kits self.new) }
-        ensures refused { IfErr result (λ e. (kits : ℕ) → RefusedAs true (worked program.now.codes program.now.kinds tables.now.tables kits self.old) e) }
+        ensures taken { OnOk result ((kits : ℕ) → worked (given program.now tables.now) kits self.old ≡ alone kits self.new) }
+        ensures refused { IfErr result (λ e. (kits : ℕ) → RefusedAs true (worked (given program.now tables.now) kits self.old) e) }
         ensures unchanged { OnErr result (self.new ≡ self.old) }
     {
         // No instance is recorded yet, so the step asks for no kit.
@@ -168,8 +168,8 @@ impl<V: View> Piece<V> {
         step: Move,
     ) -> Result<(), Refusal>
         requires kinds { self.old.strand.layer.kinds ≡ program.now.kinds }
-        ensures taken { OnOk result ((kits : ℕ) → moved program.now.codes program.now.kinds tables.now.tables step kits self.old ≡ alone kits self.new) }
-        ensures refused { IfErr result (λ e. (kits : ℕ) → RefusedAs (takes_memory step) (moved program.now.codes program.now.kinds tables.now.tables step kits self.old) e) }
+        ensures taken { OnOk result ((kits : ℕ) → moved (given program.now tables.now) step kits self.old ≡ alone kits self.new) }
+        ensures refused { IfErr result (λ e. (kits : ℕ) → RefusedAs (takes_memory step) (moved (given program.now tables.now) step kits self.old) e) }
         ensures unchanged { OnErr result (self.new ≡ self.old) }
     {
         match step {

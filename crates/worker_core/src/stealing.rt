@@ -2,6 +2,7 @@
 ghost use Rattle.std.specs.Prelude.{◌≡◌, true, ℕ, suc, ◌+◌, ◌<◌, IfOk, IfErr, OnErr, OnOk, Ok, [], ◌∷◌, length};
 ghost use Rattle.meaning.specs.Tables.{Tables};
 ghost use Rattle.meaning.specs.Strands.{Split};
+ghost use Rattle.positions.specs.Setting.{setting_of};
 ghost use Rattle.numbered_runs.specs.Pieces.{place_of as begins_at, stolen_of, stolen_from};
 ghost use Rattle.numbered_runs.specs.Runs.{changed, is_idle, if_idle};
 ghost use Rattle.worker_core.specs.Moves.{IsFit, RefusedAs, has_tasks};
@@ -45,7 +46,7 @@ impl<V: View> Piece<V> {
     ) -> Result<(Place, Piece<V>), Kit<V>>
         requires tasks { has_tasks self.old.deque ≡ true }
         requires kinds { kit ≡ program.now.kinds }
-        ensures robbed { IfOk result (λ r. (tables : Tables) (kits : ℕ) → stolen_of program.now.codes program.now.kinds tables thief (suc kits) self.old self.old.deque ≡ Ok (record { pieces = self.new ∷ r.1 ∷ []; kits = kits; noted = Split (begins_at self.old) r.0.items thief ∷ [] })) }
+        ensures robbed { IfOk result (λ r. (tables : Tables) (kits : ℕ) → stolen_of (setting_of program.now tables) thief (suc kits) self.old self.old.deque ≡ Ok (record { pieces = self.new ∷ r.1 ∷ []; kits = kits; noted = Split (begins_at self.old) r.0.items thief ∷ [] })) }
         ensures fit { IfOk result (λ r. IsFit program.now.kinds r.1) }
         ensures strand { self.new.strand ≡ self.old.strand }
         ensures unchanged { OnErr result (self.new ≡ self.old) }
@@ -84,7 +85,7 @@ impl<V: View> Strands<V> {
         requires fit { AreFit program.now.kinds self.old }
         requires tasks { MayRob number self.old.pieces }
         requires kinds { kit ≡ program.now.kinds }
-        ensures taken { OnOk result (IsRobbed program.now.codes program.now.kinds thief number self.old self.new) }
+        ensures taken { OnOk result ((tables : Tables) → IsRobbed (setting_of program.now tables) thief number self.old self.new) }
         ensures fit { AreFit program.now.kinds self.new }
         ensures total { self.new.total ≡ self.old.total }
         ensures free { self.new.kits ≡ self.old.kits }
@@ -119,8 +120,8 @@ impl<V: View> Strands<V> {
         victim: usize,
     ) -> Result<(), Refusal>
         requires fit { AreFit program.now.kinds self.old }
-        ensures taken { OnOk result ((tables : Tables) → if_idle (is_idle thief self.old.pieces) (changed Refusal.Nothing victim (stolen_from program.now.codes program.now.kinds tables thief (length self.old.kits)) [] self.old.pieces self.old.history) ≡ Ok (run_of self.new)) }
-        ensures refused { IfErr result (λ e. (tables : Tables) → RefusedAs true (if_idle (is_idle thief self.old.pieces) (changed Refusal.Nothing victim (stolen_from program.now.codes program.now.kinds tables thief (length self.old.kits)) [] self.old.pieces self.old.history)) e) }
+        ensures taken { OnOk result ((tables : Tables) → if_idle (is_idle thief self.old.pieces) (changed Refusal.Nothing victim (stolen_from (setting_of program.now tables) thief (length self.old.kits)) [] self.old.pieces self.old.history) ≡ Ok (run_of self.new)) }
+        ensures refused { IfErr result (λ e. (tables : Tables) → RefusedAs true (if_idle (is_idle thief self.old.pieces) (changed Refusal.Nothing victim (stolen_from (setting_of program.now tables) thief (length self.old.kits)) [] self.old.pieces self.old.history)) e) }
         ensures unchanged { OnErr result (self.new ≡ self.old) }
         ensures fit { AreFit program.now.kinds self.new }
         ensures total { self.new.total ≡ self.old.total }

@@ -1,6 +1,7 @@
 // A step by workers that there are.
 ghost use Rattle.std.specs.Prelude.{◌≡◌, All, IfErr, OnOk, Ok};
 ghost use Rattle.monoid_laws.specs.Kinds.{IsMonoid};
+ghost use Rattle.frames.specs.Given.{given};
 ghost use Rattle.numbered_runs.specs.Named.{run_step};
 ghost use Rattle.numbered_runs.specs.Runs.{stepped};
 ghost use Rattle.worker_core.specs.Moves.{RefusedAs};
@@ -30,8 +31,8 @@ impl<V: View> Strands<V> {
     ) -> Result<(), Refusal>
         requires fit { AreFit program.now.kinds self.old }
         requires monoids { All IsMonoid program.now.kinds }
-        ensures taken { OnOk result (stepped program.now.codes program.now.kinds tables.now.tables (run_of self.old) (run_step step.now) ≡ Ok (run_of self.new)) }
-        ensures refused { IfErr result (RefusedAs (takes_memory step.now) (stepped program.now.codes program.now.kinds tables.now.tables (run_of self.old) (run_step step.now))) }
+        ensures taken { OnOk result (stepped (given program.now tables.now) (run_of self.old) (run_step step.now) ≡ Ok (run_of self.new)) }
+        ensures refused { IfErr result (RefusedAs (takes_memory step.now) (stepped (given program.now tables.now) (run_of self.old) (run_step step.now))) }
         ensures stands { IfErr result (λ e. StandsAfter step.now e self.old self.new) }
         ensures fit { AreFit program.now.kinds self.new }
         ensures total { self.new.total ≡ self.old.total }

@@ -1,5 +1,6 @@
 // The strands of a run, the pool of kits, and the history.
 ghost use Rattle.std.specs.Prelude.{◌≡◌, All, IfErr, IfOk, OnErr, OnOk, Ok, [], length, map};
+ghost use Rattle.frames.specs.Given.{given};
 ghost use Rattle.numbered_runs.specs.Named.{line};
 ghost use Rattle.numbered_runs.specs.Runs.{changed, first_run, line_of};
 ghost use Rattle.worker_core.specs.Cores.{CannotStart};
@@ -73,8 +74,8 @@ impl<V: View> Strands<V> {
         worker: usize,
     ) -> Result<(), Refusal>
         requires fit { AreFit program.now.kinds self.old }
-        ensures taken { OnOk result (changed Refusal.NotThere worker (moved program.now.codes program.now.kinds tables.now.tables step (length self.old.kits)) [] self.old.pieces self.old.history ≡ Ok (run_of self.new)) }
-        ensures refused { IfErr result (RefusedAs (takes_memory step) (changed Refusal.NotThere worker (moved program.now.codes program.now.kinds tables.now.tables step (length self.old.kits)) [] self.old.pieces self.old.history)) }
+        ensures taken { OnOk result (changed Refusal.NotThere worker (moved (given program.now tables.now) step (length self.old.kits)) [] self.old.pieces self.old.history ≡ Ok (run_of self.new)) }
+        ensures refused { IfErr result (RefusedAs (takes_memory step) (changed Refusal.NotThere worker (moved (given program.now tables.now) step (length self.old.kits)) [] self.old.pieces self.old.history)) }
         ensures unchanged { OnErr result (self.new ≡ self.old) }
         ensures fit { AreFit program.now.kinds self.new }
         ensures total { self.new.total ≡ self.old.total }

@@ -5,5 +5,5 @@ use Rattle.positions.proofs.Moves.{attached_is}
 use Rattle.frames.proofs.strand.Strand.attach.Goals as goal
 
 pub returns-clause-definition : goal.returns-clause-definition
-returns-clause-definition g c ts t codes =
-    subst (λ (z : PlainStrand). IsAttached ts t codes c.args.task c.args.self.now z) (sym c.put_back.ensures.called) (attached_is ts t codes c.args.task c.args.self.now)
+returns-clause-definition g c setting =
+    subst (λ (z : PlainStrand). IsAttached setting c.args.task c.args.self.now z) (sym c.put_back.ensures.called) (attached_is setting c.args.task c.args.self.now)

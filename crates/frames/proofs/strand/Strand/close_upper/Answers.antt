@@ -13,9 +13,9 @@ close_all-requires-clause-kinds g c κs within =
     (subst (λ (s : PlainStrand). All (λ (l : PlainLayer). l.kinds ≡ s.layer.kinds) s.lower) (sym c.self.view_is) c.requires.kinds)
 
 pub returns-clause-definition : goal.returns-clause-definition
-returns-clause-definition g c ts t codes =
+returns-clause-definition g c setting =
     let s : PlainStrand = record { start = c.self.inside.start; layer = c.self.inside.layer; lower = reverse c.self.inside.lower.items; path = c.self.inside.path.items; top = c.self.inside.top; below = reverse c.self.inside.below.items; phase = c.self.inside.phase } in
     let new : PlainStrand = record s { layer = c.close_all.new.layer; lower = reverse c.close_all.new.lower.items } in
     let e : new ≡ lowest_alone s = search rules in
-    let h : IsAlone ts t codes s new = subst (λ (z : PlainStrand). IsAlone ts t codes s z) (sym e) (alone_is ts t codes s) in
-    subst (λ (z : PlainStrand). IsAlone ts t codes z new) c.self.view_is h
+    let h : IsAlone setting s new = subst (λ (z : PlainStrand). IsAlone setting s z) (sym e) (alone_is setting s) in
+    subst (λ (z : PlainStrand). IsAlone setting z new) c.self.view_is h

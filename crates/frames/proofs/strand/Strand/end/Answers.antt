@@ -2,4 +2,4 @@ use Rattle.frames.proofs.Endings.{answer_is}
 use Rattle.frames.proofs.strand.Strand.end.Goals as goal
 
 pub returns-clause-definition : goal.returns-clause-definition
-returns-clause-definition g c ts t codes = answer_is ts t codes c.args.self c.go_home.result c.go_home.ensures.answer
+returns-clause-definition g c setting = answer_is setting c.args.self c.go_home.result c.go_home.ensures.answer

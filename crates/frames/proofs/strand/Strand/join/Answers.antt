@@ -7,8 +7,8 @@ use Rattle.frames.proofs.Results.{on_ok}
 use Rattle.frames.proofs.strand.Strand.join.Goals as goal
 
 pub returns-clause-definition : goal.returns-clause-definition
-returns-clause-definition g c ts t codes =
+returns-clause-definition g c setting =
     let new = c.join_neighbour.new.self in
-    on_ok (new ≡ joined c.args.self.now c.args.right) (IsJoined ts t codes c.args.self.now c.args.right new)
-    (λ e. subst (λ (z : PlainStrand). IsJoined ts t codes c.args.self.now c.args.right z) (sym e) (joined_is ts t codes c.args.self.now c.args.right))
+    on_ok (new ≡ joined c.args.self.now c.args.right) (IsJoined setting c.args.self.now c.args.right new)
+    (λ e. subst (λ (z : PlainStrand). IsJoined setting c.args.self.now c.args.right z) (sym e) (joined_is setting c.args.self.now c.args.right))
     c.join_neighbour.result c.join_neighbour.ensures.joined

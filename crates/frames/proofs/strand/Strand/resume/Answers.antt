@@ -5,6 +5,6 @@ use Rattle.positions.proofs.Moves.{resumed_is}
 use Rattle.frames.proofs.strand.Strand.resume.Goals as goal
 
 pub returns-clause-definition : goal.returns-clause-definition
-returns-clause-definition g c ts t codes =
-    subst (λ (z : PlainStrand). IsResumed ts t codes c.args.task c.args.self.now z) (sym c.go_on_with.ensures.resumed)
-    (resumed_is ts t codes c.args.task c.args.self.now)
+returns-clause-definition g c setting =
+    subst (λ (z : PlainStrand). IsResumed setting c.args.task c.args.self.now z) (sym c.go_on_with.ensures.resumed)
+    (resumed_is setting c.args.task c.args.self.now)

@@ -1,5 +1,6 @@
 use Rattle.std.proofs.Common.{◌≡◌, ◌<◌, true, [], Some, None, length, sym, ap, subst, ◌∙◌}
 use Rattle.meaning.specs.Tables.{Tables}
+use Rattle.positions.specs.Setting.{setting_of}
 use Rattle.numbered_runs.specs.Pieces.{stalled}
 use Rattle.numbered_runs.specs.Runs.{changed}
 use Rattle.numbered_runs.specs.declared.refusal.Refusal.TheVariants.{NotThere}
@@ -12,8 +13,8 @@ use Rattle.worker_core.proofs.strands.Strands.stall.Goals as goal
 pub returns-in-None-clause-refused : goal.returns-in-None-clause-refused
 returns-in-None-clause-refused g c =
     let none : held_at c.args.worker c.self.inside.pieces.items ≡ None = sym (c.in-None.ensures.held ∙ ap (held_at c.args.worker) c.deref.ensures.value) in
-    subst (λ (s : Standing). (tables : Tables) → RefusedAs true (changed NotThere c.args.worker (stalled c.args.program.now.codes c.args.program.now.kinds tables (length s.kits)) [] s.pieces s.history) NotThere) c.self.view_is
-    (λ tables. none_refused true c.args.worker c.self.inside.pieces.items NotThere (stalled c.args.program.now.codes c.args.program.now.kinds tables (length c.self.inside.pool.kits)) _ none)
+    subst (λ (s : Standing). (tables : Tables) → RefusedAs true (changed NotThere c.args.worker (stalled (setting_of c.args.program.now tables) (length s.kits)) [] s.pieces s.history) NotThere) c.self.view_is
+    (λ tables. none_refused true c.args.worker c.self.inside.pieces.items NotThere (stalled (setting_of c.args.program.now tables) (length c.self.inside.pool.kits)) _ none)
 
 pub stall_at-requires-clause-number : goal.stall_at-requires-clause-number
 stall_at-requires-clause-number g c κs within =
@@ -23,24 +24,24 @@ stall_at-requires-clause-number g c κs within =
 pub returns-in-Some-clause-taken : goal.returns-in-Some-clause-taken
 returns-in-Some-clause-taken g c =
     let here : held_at c.args.worker c.self.inside.pieces.items ≡ Some c.in-Some.number = sym (c.in-Some.ensures.held ∙ ap (held_at c.args.worker) c.deref.ensures.value) in
-    stall_taken c.args.program.now.codes c.args.program.now.kinds c.args.worker c.in-Some.number c.args.self.now (subst (λ (s : Standing). held_at c.args.worker s.pieces ≡ Some c.in-Some.number) c.self.view_is here) c.requires.fit c.stall_at.result c.stall_at.new.self c.stall_at.ensures.taken
+    stall_taken c.args.program.now c.args.worker c.in-Some.number c.args.self.now (subst (λ (s : Standing). held_at c.args.worker s.pieces ≡ Some c.in-Some.number) c.self.view_is here) c.requires.fit c.stall_at.result c.stall_at.new.self c.stall_at.ensures.taken
 
 pub returns-in-Some-clause-refused : goal.returns-in-Some-clause-refused
 returns-in-Some-clause-refused g c =
     let here : held_at c.args.worker c.self.inside.pieces.items ≡ Some c.in-Some.number = sym (c.in-Some.ensures.held ∙ ap (held_at c.args.worker) c.deref.ensures.value) in
-    stall_refused c.args.program.now.codes c.args.program.now.kinds c.args.worker c.in-Some.number c.args.self.now (subst (λ (s : Standing). held_at c.args.worker s.pieces ≡ Some c.in-Some.number) c.self.view_is here) c.requires.fit c.stall_at.result c.stall_at.ensures.refused
+    stall_refused c.args.program.now c.args.worker c.in-Some.number c.args.self.now (subst (λ (s : Standing). held_at c.args.worker s.pieces ≡ Some c.in-Some.number) c.self.view_is here) c.requires.fit c.stall_at.result c.stall_at.ensures.refused
 
 pub returns-in-Some-clause-fit : goal.returns-in-Some-clause-fit
 returns-in-Some-clause-fit g c =
     let here : held_at c.args.worker c.self.inside.pieces.items ≡ Some c.in-Some.number = sym (c.in-Some.ensures.held ∙ ap (held_at c.args.worker) c.deref.ensures.value) in
-    stall_fit c.args.program.now.codes c.args.program.now.kinds c.args.worker c.in-Some.number c.args.self.now (subst (λ (s : Standing). held_at c.args.worker s.pieces ≡ Some c.in-Some.number) c.self.view_is here) c.requires.fit c.stall_at.result c.stall_at.new.self c.stall_at.ensures.taken c.stall_at.ensures.unchanged
+    stall_fit c.args.program.now c.args.worker c.in-Some.number c.args.self.now (subst (λ (s : Standing). held_at c.args.worker s.pieces ≡ Some c.in-Some.number) c.self.view_is here) c.requires.fit c.stall_at.result c.stall_at.new.self c.stall_at.ensures.taken c.stall_at.ensures.unchanged
 
 pub returns-in-Some-clause-kits : goal.returns-in-Some-clause-kits
 returns-in-Some-clause-kits g c =
     let here : held_at c.args.worker c.self.inside.pieces.items ≡ Some c.in-Some.number = sym (c.in-Some.ensures.held ∙ ap (held_at c.args.worker) c.deref.ensures.value) in
-    stall_kits c.args.program.now.codes c.args.program.now.kinds c.args.worker c.in-Some.number c.args.self.now (subst (λ (s : Standing). held_at c.args.worker s.pieces ≡ Some c.in-Some.number) c.self.view_is here) c.requires.fit c.stall_at.result c.stall_at.new.self c.stall_at.ensures.taken c.stall_at.ensures.unchanged
+    stall_kits c.args.program.now c.args.worker c.in-Some.number c.args.self.now (subst (λ (s : Standing). held_at c.args.worker s.pieces ≡ Some c.in-Some.number) c.self.view_is here) c.requires.fit c.stall_at.result c.stall_at.new.self c.stall_at.ensures.taken c.stall_at.ensures.unchanged
 
 pub returns-in-Some-clause-total : goal.returns-in-Some-clause-total
 returns-in-Some-clause-total g c =
     let here : held_at c.args.worker c.self.inside.pieces.items ≡ Some c.in-Some.number = sym (c.in-Some.ensures.held ∙ ap (held_at c.args.worker) c.deref.ensures.value) in
-    stall_total c.args.program.now.codes c.args.program.now.kinds c.args.worker c.in-Some.number c.args.self.now (subst (λ (s : Standing). held_at c.args.worker s.pieces ≡ Some c.in-Some.number) c.self.view_is here) c.requires.fit c.stall_at.result c.stall_at.new.self c.stall_at.ensures.taken c.stall_at.ensures.unchanged
+    stall_total c.args.program.now c.args.worker c.in-Some.number c.args.self.now (subst (λ (s : Standing). held_at c.args.worker s.pieces ≡ Some c.in-Some.number) c.self.view_is here) c.requires.fit c.stall_at.result c.stall_at.new.self c.stall_at.ensures.taken c.stall_at.ensures.unchanged

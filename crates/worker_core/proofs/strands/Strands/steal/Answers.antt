@@ -1,6 +1,7 @@
 use Rattle.std.proofs.Common.{rules, ◌≡◌, ◌<◌, true, false, Ok, Some, None, All, [], length, map, get_or, refl, sym, ap, subst, ◌∙◌}
 use Rattle.std.specs.Option.{is_some}
 use Rattle.meaning.specs.Tables.{Tables}
+use Rattle.positions.specs.Setting.{setting_of}
 use Rattle.numbered_runs.specs.Named.{book_step}
 use Rattle.numbered_runs.specs.Pieces.{stolen_from}
 use Rattle.numbered_runs.specs.Runs.{changed, is_idle, if_idle}
@@ -17,7 +18,7 @@ returns-then-is_some-clause-refused g c =
     let pieces : c.self.inside.pieces.items ≡ c.args.self.now.pieces = ap (λ (s : Standing). s.pieces) c.self.view_is in
     let busy : is_some (held_at c.args.thief c.args.self.now.pieces) ≡ true =
     ap is_some (sym (c.held_at.ensures.held ∙ ap (held_at c.args.thief) (c.deref.ensures.value ∙ pieces))) ∙ sym c.is_some.ensures ∙ c.if-is_some.true in
-    λ tables. theft_busy c.args.program.now.codes c.args.program.now.kinds tables c.args.thief c.args.victim c.args.self.now busy
+    λ tables. theft_busy (setting_of c.args.program.now tables) c.args.thief c.args.victim c.args.self.now busy
 
 pub returns-in_default-clause-refused : goal.returns-in_default-clause-refused
 returns-in_default-clause-refused g c =
@@ -25,7 +26,7 @@ returns-in_default-clause-refused g c =
     let idle : held_at c.args.thief c.args.self.now.pieces ≡ None =
     none_held _ (ap is_some (sym (c.held_at.ensures.held ∙ ap (held_at c.args.thief) (c.deref.ensures.value ∙ pieces))) ∙ sym c.is_some.ensures ∙ c.if-is_some.false) in
     let none : held_at c.args.victim c.args.self.now.pieces ≡ None = sym (c.in_default.ensures.held ∙ ap (held_at c.args.victim) (c.deref-2.ensures.value ∙ pieces)) in
-    λ tables. theft_alone c.args.program.now.codes c.args.program.now.kinds tables c.args.thief c.args.victim c.args.self.now idle none
+    λ tables. theft_alone (setting_of c.args.program.now tables) c.args.thief c.args.victim c.args.self.now idle none
 
 pub index-requires : goal.index-requires
 index-requires g c =
@@ -41,7 +42,7 @@ returns-then-not-has_tasks-clause-refused g c =
     let here : held_at c.args.victim c.args.self.now.pieces ≡ Some c.in-Some.number = sym (c.in-Some.ensures.held ∙ ap (held_at c.args.victim) (c.deref-2.ensures.value ∙ pieces)) in
     let at : c.index.result.now ≡ get_or c.args.self.now.pieces c.in-Some.number c.index.result.now = c.index.ensures ∙ ap (λ xs. get_or xs c.in-Some.number c.index.result.now) pieces in
     let bare : has_tasks c.index.result.now.deque ≡ false = sym c.has_tasks.ensures.tasks ∙ c.if-not-has_tasks.true in
-    λ tables. theft_nothing c.args.program.now.codes c.args.program.now.kinds tables c.args.thief c.args.victim c.args.self.now c.in-Some.number c.index.result.now idle here at bare
+    λ tables. theft_nothing (setting_of c.args.program.now tables) c.args.thief c.args.victim c.args.self.now c.in-Some.number c.index.result.now idle here at bare
 
 pub returns-in_default-take-clause-refused : goal.returns-in_default-take-clause-refused
 returns-in_default-take-clause-refused g c =
@@ -52,7 +53,7 @@ returns-in_default-take-clause-refused g c =
     let at : c.index.result.now ≡ get_or c.args.self.now.pieces c.in-Some.number c.index.result.now = c.index.ensures ∙ ap (λ xs. get_or xs c.in-Some.number c.index.result.now) pieces in
     let some : has_tasks c.index.result.now.deque ≡ true = sym c.has_tasks.ensures.tasks ∙ c.if-not-has_tasks.false in
     let none : c.args.self.now.kits ≡ [] = sym (ap (λ (s : Standing). s.kits) c.self.view_is) ∙ c.in_default-take.ensures.none refl in
-    λ tables. theft_bare c.args.program.now.codes c.args.program.now.kinds tables c.args.thief c.args.victim c.args.self.now c.in-Some.number c.index.result.now idle here at some none
+    λ tables. theft_bare (setting_of c.args.program.now tables) c.args.thief c.args.victim c.args.self.now c.in-Some.number c.index.result.now idle here at some none
 
 pub split-requires-clause-number : goal.split-requires-clause-number
 split-requires-clause-number g c κs within =
@@ -76,9 +77,9 @@ returns-in-Ok-clause-taken g c =
     let idle : held_at c.args.thief c.self.inside.pieces.items ≡ None =
     none_held _ (ap is_some (sym (c.held_at.ensures.held ∙ ap (held_at c.args.thief) c.deref.ensures.value)) ∙ sym c.is_some.ensures ∙ c.if-is_some.false) in
     let here : held_at c.args.victim c.self.inside.pieces.items ≡ Some c.in-Some.number = sym (c.in-Some.ensures.held ∙ ap (held_at c.args.victim) c.deref-2.ensures.value) in
-    subst (λ (s : Standing). (tables : Tables) → if_idle (is_idle c.args.thief s.pieces) (changed Nothing c.args.victim (stolen_from c.args.program.now.codes c.args.program.now.kinds tables c.args.thief (length s.kits)) [] s.pieces s.history) ≡ Ok (run_of c.split.new.self)) c.self.view_is
-    (λ tables. theft_taken c.args.program.now.codes c.args.program.now.kinds tables c.args.thief c.args.victim
-    (record { pieces = c.self.inside.pieces.items; kits = c.self.inside.pool.kits; total = c.self.inside.pool.total; history = map book_step c.self.inside.history.items }) c.in-Some.number c.index.result.now c.take.new.self.kits c.in-Some-take.kit c.split.new.self idle here c.in-Some-take.ensures.one c.in-Ok.ensures.taken c.in-Ok.ensures.free)
+    subst (λ (s : Standing). (tables : Tables) → if_idle (is_idle c.args.thief s.pieces) (changed Nothing c.args.victim (stolen_from (setting_of c.args.program.now tables) c.args.thief (length s.kits)) [] s.pieces s.history) ≡ Ok (run_of c.split.new.self)) c.self.view_is
+    (λ tables. theft_taken (setting_of c.args.program.now tables) c.args.thief c.args.victim
+    (record { pieces = c.self.inside.pieces.items; kits = c.self.inside.pool.kits; total = c.self.inside.pool.total; history = map book_step c.self.inside.history.items }) c.in-Some.number c.index.result.now c.take.new.self.kits c.in-Some-take.kit c.split.new.self idle here c.in-Some-take.ensures.one (c.in-Ok.ensures.taken tables) c.in-Ok.ensures.free)
 
 pub returns-in-Err-clause-refused : goal.returns-in-Err-clause-refused
 returns-in-Err-clause-refused g c =
@@ -89,4 +90,4 @@ returns-in-Err-clause-refused g c =
     let at : c.index.result.now ≡ get_or c.args.self.now.pieces c.in-Some.number c.index.result.now = c.index.ensures ∙ ap (λ xs. get_or xs c.in-Some.number c.index.result.now) pieces in
     let some : has_tasks c.index.result.now.deque ≡ true = sym c.has_tasks.ensures.tasks ∙ c.if-not-has_tasks.false in
     let kits : c.self.inside.pool.kits ≡ c.args.self.now.kits = ap (λ (s : Standing). s.kits) c.self.view_is in
-    λ tables. theft_lacks c.args.program.now.codes c.args.program.now.kinds tables c.args.thief c.args.victim c.args.self.now c.in-Some.number c.index.result.now c.take.new.self.kits c.in-Some-take.kit idle here at some (sym kits ∙ c.in-Some-take.ensures.one)
+    λ tables. theft_lacks (setting_of c.args.program.now tables) c.args.thief c.args.victim c.args.self.now c.in-Some.number c.index.result.now c.take.new.self.kits c.in-Some-take.kit idle here at some (sym kits ∙ c.in-Some-take.ensures.one)
