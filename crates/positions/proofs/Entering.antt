@@ -187,11 +187,11 @@ module _ (ts : List Columned) (t : Tree) (codes : List Code) where
         body_is : linked_body ts t (proc_of t f').body ≡ acts_at ts t codes f 0 (first_of 0)
         body_is = ap (λ p. linked_body ts t p.body) (sym (found_at ts t codes f' f number)) ∙ body_at ts t codes linked f
 
-        entered_layers : (d : ℕ) (n : Place) → a.left ≡ suc d → AreNotes ts t codes (entering f (64 - (a.left - 1)) l ∷ lower) (noted_top ls (opening t (look_of nothing_kept) d f' vs n))
+        entered_layers : (d : ℕ) (n : Place) → a.left ≡ suc d → AreNotes ts t codes (entering f (depth_limit - (a.left - 1)) l ∷ lower) (noted_top ls (opening t (look_of nothing_kept) d f' vs n))
         entered_layers d n e =
-            subst (λ k. AreNotes ts t codes (entering f k l ∷ lower) (noted_top ls (opening t (look_of nothing_kept) d f' vs n))) (let e' : 64 - d ≡ 64 - (a.left - 1) = omega arith in e')
-            (top_noted ts t codes l (entering f (64 - d) l) lower ls (opening t (look_of nothing_kept) d f' vs n)
-            (λ k i. subst (IsNotes ts t codes (entering f (64 - d) l)) (sym (opening_by k d f' vs n (proc_of t f').memo)) (notes_entered ts t codes l k f' vs f (64 - d) number i)) hl)
+            subst (λ k. AreNotes ts t codes (entering f k l ∷ lower) (noted_top ls (opening t (look_of nothing_kept) d f' vs n))) (let e' : depth_limit - d ≡ depth_limit - (a.left - 1) = omega arith in e')
+            (top_noted ts t codes l (entering f (depth_limit - d) l) lower ls (opening t (look_of nothing_kept) d f' vs n)
+            (λ k i. subst (IsNotes ts t codes (entering f (depth_limit - d) l)) (sym (opening_by k d f' vs n (proc_of t f').memo)) (notes_entered ts t codes l k f' vs f (depth_limit - d) number i)) hl)
 
         pub called_is : (d : ℕ) → a.left ≡ suc d → IsTodo ts t codes (waiting false into w a) todo
             → StandsFor ts t codes (entered Call into w f slots here)

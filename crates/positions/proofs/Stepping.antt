@@ -216,8 +216,8 @@ module _ (tables : Tables) (t : Tree) (codes : List Code) (linked : AreCodesOf (
       (sym (enter_is t tables (bottom ls) fr f vs under))
       (record {
         start = start_moved st phase.Entering phase.Running path path m (λ d w. (refl, w)) begins;
-        layers = top_noted (columned_of tables) t codes l (layers.entering a.procedure (64 - a.left) l) lower ls (opening t (look_of nothing_kept) a.left f vs path)
-            (λ k i. subst (IsNotes (columned_of tables) t codes (layers.entering a.procedure (64 - a.left) l)) (sym (opening_by k a.left f vs path (proc_of t f).memo)) (notes_entered (columned_of tables) t codes l k f vs a.procedure (64 - a.left) new.procedure i)) hl;
+        layers = top_noted (columned_of tables) t codes l (layers.entering a.procedure (depth_limit - a.left) l) lower ls (opening t (look_of nothing_kept) a.left f vs path)
+            (λ k i. subst (IsNotes (columned_of tables) t codes (layers.entering a.procedure (depth_limit - a.left) l)) (sym (opening_by k a.left f vs path (proc_of t f).memo)) (notes_entered (columned_of tables) t codes l k f vs a.procedure (depth_limit - a.left) new.procedure i)) hl;
         now = record {
           todo = blocks ((proc_of t f).body ∷ []);
           left = subst (λ w. IsTodoAt (columned_of tables) t codes a w (blocks ((proc_of t f).body ∷ []))) (sym new.work) bodies;

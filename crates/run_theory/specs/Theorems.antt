@@ -14,7 +14,8 @@ use Rattle.trail_theory.specs.Order.{Every}
 use Rattle.trail_theory.specs.ReadsAtEnd.{KeepsRules}
 use Rattle.trail_theory.specs.Counts.{CountsNeeded}
 use Rattle.trail_theory.specs.OpenLayers.{IsNewRecord}
-use Rattle.trail_theory.specs.Typed.{HasMonoids, ProgramFits, TablesFit}
+use Rattle.meaning.specs.Fitting.{ProgramFits}
+use Rattle.trail_theory.specs.Typed.{HasMonoids, TablesFit}
 use Rattle.run_theory.specs.RightRuns.{IsRightRun}
 use Rattle.run_theory.specs.OverRuns.{ReadsNoMore, AreOver}
 

@@ -184,7 +184,7 @@ module _ (program : Tree) (tables : Tables) where
       ap (answered program tables)
       (finished_left (phase_left program tables (first_strand program).frame (entering (instance main [])) (identities program))
       ∙ opened_left program tables [] (Ok (pos 0), []) [] (depth_limit - 1) (instance main []) [] (identities program))
-      ∙ sym (whole 63 (identities program))
+      ∙ sym (whole (depth_limit - 1) (identities program))
 
   pub steps_keep : StepsKeepRest program tables
   steps_keep = record {
