@@ -7,11 +7,11 @@ use Rattle.std.proofs.lemmas.List.{map-append}
 use Rattle.program_tree.specs.declared.Operator.{Operator}
 use Rattle.program_tree.specs.Plain.{Name, Term, number, name, cell, has, limit, negate, binary}
 use Rattle.meaning.specs.declared.FaultKind.{FaultKind}
-use Rattle.meaning.specs.Tables.{Tables, rows_of, columns_of, cell_of, row_of, at_column, place_of}
+use Rattle.meaning.specs.Tables.{Tables, rows_of, columns_of, cell_of, row_of, at_column, index_of}
 use Rattle.meaning.specs.Outcome.{Log, Out}
 use Rattle.meaning.specs.Outcome as outcome
 use Rattle.meaning.specs.Values.{value, values, apply, look}
-use Rattle.meaning.specs.Statements.{bounds, span}
+use Rattle.meaning.specs.Statements.{most_iterations, bounds, span}
 use Rattle.meaning.specs.Statements as statements
 use Rattle.input_tables.specs.Edited as read
 use Rattle.linked_program.specs.TableNames.{Columned, columned_of, table_of}
@@ -45,7 +45,7 @@ pub cell_found : (tables : Tables) (t : Name) (row : ℤ) (c : Name)
     → read.cell_at tables (table_number (columned_of tables) t) row (column_number (columned_of tables) t c) ≡ cell_of tables t row c
 cell_found tables t row c =
     ap (λ rows. at_column (row_of rows row) (column_number (columned_of tables) t c)) (rows_found tables t)
-    ∙ ap (λ cs. at_column (row_of (rows_of tables t) row) (place_of cs c)) (columns_found tables t)
+    ∙ ap (λ cs. at_column (row_of (rows_of tables t) row) (index_of cs c)) (columns_found tables t)
 
 -- ---- evaluations one behind the other
 
@@ -111,4 +111,4 @@ module _ (tables : Tables) (slots : List Slot) where
   bounds_are e f =
       then_is (columned_of tables) (value_at tables slots (linked_term (columned_of tables) e)) (value tables (env_of slots) e) _ _ (value_is e)
       (λ low. then_is (columned_of tables) (value_at tables slots (linked_term (columned_of tables) f)) (value tables (env_of slots) f) _ _ (value_is f)
-      (λ high. mapped_is (columned_of tables) (ranged (span low high)) (statements.ranged (span low high)) (λ n. (low, n)) (ranged_by (columned_of tables) (nat_le (span low high) 1048576) (span low high) _)))
+      (λ high. mapped_is (columned_of tables) (ranged (span low high)) (statements.ranged (span low high)) (λ n. (low, n)) (ranged_by (columned_of tables) (nat_le (span low high) most_iterations) (span low high) _)))

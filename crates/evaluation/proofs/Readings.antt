@@ -10,7 +10,7 @@ use Rattle.meaning.specs.declared.FaultKind.{FaultKind}
 use Rattle.meaning.specs.Tables.{Tables, cell_of}
 use Rattle.meaning.specs.Outcome.{Log, Out, Reads, Enters, Updates, Reuses, Begins, Syncs, Leaves, Marks, Faults, Spawns, onward, pure, fail}
 use Rattle.meaning.specs.Values.{Env, value, values, apply, look}
-use Rattle.meaning.specs.Statements.{Job, span, ranged, bounds, turn_values}
+use Rattle.meaning.specs.Statements.{most_iterations, Job, span, ranged, bounds, turn_values}
 use Rattle.evaluation.specs.Numbers.{readings, OnlyReads}
 
 pub readings-append : (l m : Log) → readings (l ++ m) ≡ readings l ++ readings m
@@ -84,7 +84,7 @@ module _ (tables : Tables) (env : Env) where
   bounds_read e f =
       then_reads (value tables env e).log (value tables env e).answer _ (value_reads e)
       (λ low. then_reads (value tables env f).log (value tables env f).answer _ (value_reads f)
-      (λ high. then_reads (ranged (span low high)).log (ranged (span low high)).answer _ (provided (nat_le (span low high) 1048576) _ _) (λ n. refl)))
+      (λ high. then_reads (ranged (span low high)).log (ranged (span low high)).answer _ (provided (nat_le (span low high) most_iterations) _ _) (λ n. refl)))
 
 pub turn_reads : (tables : Tables) (job : Job) (i : ℕ) → OnlyReads (turn_values tables job i).log
 turn_reads tables job i = values_read tables _ job.args

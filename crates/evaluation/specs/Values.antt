@@ -6,7 +6,7 @@ use Rattle.meaning.specs.declared.FaultKind.{FaultKind}
 use Rattle.meaning.specs.declared.FaultKind.TheVariants.{MissingRow, RangeTooLong}
 use Rattle.meaning.specs.Tables.{Tables}
 use Rattle.meaning.specs.Values.{apply, one_if}
-use Rattle.meaning.specs.Statements.{span}
+use Rattle.meaning.specs.Statements.{most_iterations, span}
 use Rattle.input_tables.specs.Edited as tables
 use Rattle.linked_program.specs.Linked.{Linked, constant, slot, cell_at, has_at, limit_at, minus, joined}
 use Rattle.evaluation.specs.declared.note.Note.{Note}
@@ -58,7 +58,7 @@ looked t row c (Some v) = reading (Cell t row c v) v
 
 -- how many iterations a loop has, where they are not too many
 abbrev pub ranged : ℕ → NumberedOut ℕ
-ranged n = cond (nat_le n 1048576) (pure n) (fail RangeTooLong)
+ranged n = cond (nat_le n most_iterations) (pure n) (fail RangeTooLong)
 
 module _ (ts : Tables) (slots : List Slot) where
   abbrev pub value_at : Linked → NumberedOut ℤ

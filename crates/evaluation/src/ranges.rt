@@ -3,7 +3,7 @@
 ghost use Rattle.std.specs.Prelude.{◌≡◌, IfSome, IfNone, ◌≤◌, ◌<◌, ◌+ℤ◌, pos, FitsSigned};
 ghost use Rattle.std.specs.Int.Width.{w64};
 ghost use Rattle.linked_program.specs.CodeView.{expression as plain};
-ghost use Rattle.meaning.specs.Statements.{span};
+ghost use Rattle.meaning.specs.Statements.{most_iterations, span};
 ghost use Rattle.evaluation.specs.Values.{bounds_at};
 ghost use Rattle.evaluation.specs.Ends.{Ends, Stops};
 
@@ -13,26 +13,23 @@ use crate::stop::Stop;
 use crate::values::evaluate;
 use input_tables::Tables;
 use linked_program::code::Expression;
-use meaning::FaultKind;
-
-/// How many iterations a loop has at most.
-const MOST_ITERATIONS: i64 = 1_048_576;
+use meaning::{FaultKind, MOST_ITERATIONS};
 
 /// A loop's first number, and how many iterations it has.
 #[derive(Clone, Copy, Debug, PartialEq, Eq)]
 pub struct LoopRange {
     pub low: i64,
     pub count: u32,
-    ghost few: { count ≤ 1048576 },
+    ghost few: { count ≤ most_iterations },
     ghost fits: { FitsSigned w64 (low +ℤ pos count) },
 }
 
 // How many numbers there are from `low` to below `high`, where they are not too many for a loop.
 fn count(low: i64, high: i64) -> Option<u32>
     ensures counted { IfSome result (λ n. n ≡ span low high) }
-    ensures within { IfSome result (λ n. n ≤ 1048576) }
+    ensures within { IfSome result (λ n. n ≤ most_iterations) }
     ensures fits { IfSome result (λ n. FitsSigned w64 (low +ℤ pos n)) }
-    ensures above { IfNone result (1048576 < span low high) }
+    ensures above { IfNone result (most_iterations < span low high) }
 {
     if high <= low {
         return Some(0);
@@ -40,7 +37,7 @@ fn count(low: i64, high: i64) -> Option<u32>
     match high.checked_sub(low) {
         None => None,
         Some(difference) => {
-            if difference <= MOST_ITERATIONS {
+            if difference <= i64::from(MOST_ITERATIONS) {
                 Some(difference as u32)
             } else {
                 None

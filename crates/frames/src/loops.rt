@@ -27,7 +27,7 @@ use std::mem;
 use view_pool::View;
 
 /// How many times a loop may be halved.
-const HALVINGS: u32 = 42;
+const HALVINGS: u32 = meaning::HALVINGS;
 
 /// The first half.
 fn left_of(loop_place: Loop, share: Share) -> Share

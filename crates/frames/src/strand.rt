@@ -18,7 +18,7 @@ use std::mem;
 use view_pool::View;
 
 /// The greatest depth of an instance.
-pub(crate) const DEEPEST: u32 = 64;
+pub(crate) const DEEPEST: u32 = meaning::DEPTH_LIMIT;
 
 /// A strand: where it begins, its layers, its topmost instance with its whole name and those that wait below it, and what the
 /// topmost does next. At a spawn the child stands on top already, and its name lies ready for the continuation.

@@ -3,7 +3,7 @@ use Rattle.std.proofs.Common.{◌≡◌, ℕ, zero, suc, ℤ, List, [], ◌∷�
 use Rattle.std.specs.Prelude.{slice_get, slice_set}
 use Rattle.std.specs.Str.{bytes_eq}
 use Rattle.program_tree.specs.Plain.{Name}
-use Rattle.meaning.specs.Tables.{Tables, Listed, rows_of, columns_of, place_of, cell_of, has_row, limit_of}
+use Rattle.meaning.specs.Tables.{Tables, Listed, rows_of, columns_of, index_of, cell_of, has_row, limit_of}
 use Rattle.meaning.specs.Edits.{table_of, table_changed}
 use Rattle.input_tables.specs.Rows.{Row}
 use Rattle.input_tables.specs.Edited.{AreFit, RowsFit, CellsFit, names_of, rows_at, columns_at, changed_at, cell_at, has_at, limit_at}
@@ -35,47 +35,47 @@ rows_either : (b : Bool) (x : Listed) (xs : Tables) (n : ℕ) (rows : List Row) 
 rows_either true x xs n rows h = refl
 rows_either false x xs n rows h = h
 
-pub rows_at-place : (ts : Tables) (t : Name) → rows_at ts (place_of (names_of ts) t) ≡ rows_of ts t
+pub rows_at-place : (ts : Tables) (t : Name) → rows_at ts (index_of (names_of ts) t) ≡ rows_of ts t
 rows_at-place [] t = refl
-rows_at-place (x ∷ xs) t = rows_either (bytes_eq x.called t) x xs (place_of (names_of xs) t) (rows_of xs t) (rows_at-place xs t)
+rows_at-place (x ∷ xs) t = rows_either (bytes_eq x.called t) x xs (index_of (names_of xs) t) (rows_of xs t) (rows_at-place xs t)
 
 table_either : (b : Bool) (x : Listed) (xs : Tables) (n : ℕ) (o : Option Listed) → slice_get xs n ≡ o
     → slice_get (x ∷ xs) (cond b 0 (suc n)) ≡ cond b (Some x) o
 table_either true x xs n o h = refl
 table_either false x xs n o h = h
 
-pub table_of-place : (ts : Tables) (t : Name) → slice_get ts (place_of (names_of ts) t) ≡ table_of ts t
+pub table_of-place : (ts : Tables) (t : Name) → slice_get ts (index_of (names_of ts) t) ≡ table_of ts t
 table_of-place [] t = refl
-table_of-place (x ∷ xs) t = table_either (bytes_eq x.called t) x xs (place_of (names_of xs) t) (table_of xs t) (table_of-place xs t)
+table_of-place (x ∷ xs) t = table_either (bytes_eq x.called t) x xs (index_of (names_of xs) t) (table_of xs t) (table_of-place xs t)
 
 changed_either : (b : Bool) (f : Listed → Listed) (x : Listed) (xs : Tables) (n : ℕ) (ys : Tables) → changed_at f xs n ≡ ys
     → changed_at f (x ∷ xs) (cond b 0 (suc n)) ≡ cond b (f x ∷ xs) (x ∷ ys)
 changed_either true f x xs n ys h = refl
 changed_either false f x xs n ys h = ap (λ zs. x ∷ zs) h
 
-pub changed_at-place : (f : Listed → Listed) (ts : Tables) (t : Name) → changed_at f ts (place_of (names_of ts) t) ≡ table_changed f ts t
+pub changed_at-place : (f : Listed → Listed) (ts : Tables) (t : Name) → changed_at f ts (index_of (names_of ts) t) ≡ table_changed f ts t
 changed_at-place f [] t = refl
-changed_at-place f (x ∷ xs) t = changed_either (bytes_eq x.called t) f x xs (place_of (names_of xs) t) (table_changed f xs t) (changed_at-place f xs t)
+changed_at-place f (x ∷ xs) t = changed_either (bytes_eq x.called t) f x xs (index_of (names_of xs) t) (table_changed f xs t) (changed_at-place f xs t)
 
 -- a table that stands at the place of a name
-pub table_of-at : (ts : Tables) (t : Name) (n : ℕ) (x : Listed) → n ≡ place_of (names_of ts) t → slice_get ts n ≡ Some x → table_of ts t ≡ Some x
+pub table_of-at : (ts : Tables) (t : Name) (n : ℕ) (x : Listed) → n ≡ index_of (names_of ts) t → slice_get ts n ≡ Some x → table_of ts t ≡ Some x
 table_of-at ts t n x place at = sym (table_of-place ts t) ∙ subst (λ k. slice_get ts k ≡ Some x) place at
 
-pub table_of-absent : (ts : Tables) (t : Name) → place_of (names_of ts) t ≡ length ts → table_of ts t ≡ None
+pub table_of-absent : (ts : Tables) (t : Name) → index_of (names_of ts) t ≡ length ts → table_of ts t ≡ None
 table_of-absent ts t place = sym (table_of-place ts t) ∙ ap (slice_get ts) place ∙ past ts
   where
     past : (xs : Tables) → slice_get xs (length xs) ≡ None
     past [] = refl
     past (x ∷ xs) = past xs
 
-pub cell_at-named : (ts : Tables) (n : ℕ) (row : ℤ) (k : ℕ) (t c : Name) → n ≡ place_of (names_of ts) t → k ≡ place_of (columns_of ts t) c
+pub cell_at-named : (ts : Tables) (n : ℕ) (row : ℤ) (k : ℕ) (t c : Name) → n ≡ index_of (names_of ts) t → k ≡ index_of (columns_of ts t) c
     → cell_at ts n row k ≡ cell_of ts t row c
 cell_at-named ts n row k t c table column = rw (table, column, rows_at-place ts t) refl
 
-pub has_at-named : (ts : Tables) (n : ℕ) (row : ℤ) (t : Name) → n ≡ place_of (names_of ts) t → has_at ts n row ≡ has_row ts t row
+pub has_at-named : (ts : Tables) (n : ℕ) (row : ℤ) (t : Name) → n ≡ index_of (names_of ts) t → has_at ts n row ≡ has_row ts t row
 has_at-named ts n row t table = rw (table, rows_at-place ts t) refl
 
-pub limit_at-named : (ts : Tables) (n : ℕ) (t : Name) → n ≡ place_of (names_of ts) t → limit_at ts n ≡ limit_of ts t
+pub limit_at-named : (ts : Tables) (n : ℕ) (t : Name) → n ≡ index_of (names_of ts) t → limit_at ts n ≡ limit_of ts t
 limit_at-named ts n t table = rw (table, rows_at-place ts t) refl
 
 -- ---- changes
@@ -97,7 +97,7 @@ rows_of_fit [] t all = λ row column v at. absurd cc
 rows_of_fit (x ∷ xs) t all = rows_either_fit (bytes_eq x.called t) x.rows (rows_of xs t) all.0 (rows_of_fit xs t all.1)
 
 pub cells_of_fit : (ts : Tables) → AreFit ts → CellsFit ts
-cells_of_fit ts all t row c v at = rows_of_fit ts t all row (place_of (columns_of ts t) c) v at
+cells_of_fit ts all t row c v at = rows_of_fit ts t all row (index_of (columns_of ts t) c) v at
 
 pub none_left : (ts : Tables) (i : ℕ) → length ts ≤ i → AreFit (drop i ts)
 none_left [] zero h = tt

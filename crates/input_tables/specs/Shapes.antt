@@ -2,7 +2,7 @@
 use Rattle.std.specs.Prelude.{ℕ, suc, ℤ, List, [], ◌∷◌, ◌++◌, length, Bool, true, false, cond, not, ◌&&◌, nat_eq, nat_le, Option, Some, None, codes}
 use Rattle.toml.specs.Data.{Data, Items, no_items, item, Members, no_members, member, get_member, as_str, as_integer, as_array, as_table}
 use Rattle.program_tree.specs.Plain.{Name}
-use Rattle.meaning.specs.Tables.{Listed, row_of, is_there, place_of}
+use Rattle.meaning.specs.Tables.{Listed, row_of, is_there, index_of}
 use Rattle.meaning.specs.Edits.{in_range, row_put}
 use Rattle.input_tables.specs.Names.{is_name}
 use Rattle.input_tables.specs.Rows.{Row}
@@ -29,7 +29,7 @@ member_count (member k d ms) = suc (member_count ms)
 
 -- a name that isn't yet among the columns
 abbrev pub new_column : List Name → Name → Option Name
-new_column cs c = passing (is_name c && nat_eq (place_of cs c) (length cs)) c
+new_column cs c = passing (is_name c && nat_eq (index_of cs c) (length cs)) c
 
 abbrev pub columns_from : List Name → Items → Option (List Name)
 columns_from cs no_items = Some cs

@@ -1,7 +1,7 @@
 // The names of tables and columns.
 
 ghost use Rattle.std.specs.Prelude.{◌≡◌, ◌≤◌, length, map, string_bytes};
-ghost use Rattle.meaning.specs.Tables.{place_of};
+ghost use Rattle.meaning.specs.Tables.{index_of};
 ghost use Rattle.input_tables.specs.Names.{is_lower, begins_name, is_name_byte, are_name_bytes, is_keyword, is_name};
 
 fn is_lower(byte: u8) -> bool
@@ -70,9 +70,9 @@ pub fn is_name(text: &str) -> bool
     begins_name(bytes) && are_name_bytes(bytes) && bytes.len() <= 32 && !is_keyword(text)
 }
 
-/// The place of a name, or the number of names where it isn't among them.
-pub fn place_of(names: &[String], name: &str) -> usize
-    ensures place { result ≡ place_of (map string_bytes names.now) name.now }
+/// The index of a name, or the number of names where it isn't among them.
+pub fn index_of(names: &[String], name: &str) -> usize
+    ensures place { result ≡ index_of (map string_bytes names.now) name.now }
     ensures within { result ≤ length names.now }
 {
     for (place, other) in names.iter().enumerate() {

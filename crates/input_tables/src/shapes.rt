@@ -7,7 +7,7 @@ ghost use Rattle.input_tables.specs.Shapes.{new_column, columns_from, columns_in
 ghost use Rattle.input_tables.specs.Faults.{IsFaulty};
 ghost use Rattle.toml.specs.Data.{as_str, as_array};
 
-use crate::names::{is_name, place_of};
+use crate::names::{index_of, is_name};
 use crate::refusal::Fault;
 use crate::rows::Rows;
 use std::alloc::Global;
@@ -29,7 +29,7 @@ fn new_column(alloc: Global, columns: &[String], item: &Value) -> Result<String,
     ensures refused { IfErr result (IsFaulty (given (as_str (view item.now)) (new_column (map string_bytes columns.now)))) }
 {
     match item.as_str() {
-        Some(name) if is_name(name) && place_of(columns, name) == columns.len() => {
+        Some(name) if is_name(name) && index_of(columns, name) == columns.len() => {
             Ok(String::from_str(alloc, name)?)
         }
         _ => Err(Fault::Shape),

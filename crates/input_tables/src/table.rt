@@ -3,13 +3,13 @@
 ghost use Rattle.std.specs.Prelude.{◌≡◌, ◌<◌, pos, IfOk, IfErr, OnOk, OnErr, IfSome, IfNone, Some, map, option_map, length, string_bytes, true};
 ghost use Rattle.std.specs.Str.{bytes_eq};
 ghost use Rattle.toml.specs.View.{view, table_view};
-ghost use Rattle.meaning.specs.Tables.{row_of, at_column, is_there, above_all, place_of};
+ghost use Rattle.meaning.specs.Tables.{row_of, at_column, is_there, above_all, index_of};
 ghost use Rattle.meaning.specs.Edits.{with_rows, row_put, row_gone, in_range, table_of};
 ghost use Rattle.input_tables.specs.Edited.{names_of, RowsFit};
 ghost use Rattle.input_tables.specs.Shapes.{table_in, listed_in, with_rows_of};
 ghost use Rattle.input_tables.specs.Faults.{IsFaulty};
 
-use crate::names::{is_name, place_of};
+use crate::names::{index_of, is_name};
 use crate::refusal::Fault;
 use crate::rows::Rows;
 use crate::shapes::{array_at, columns_in, rows_in};
@@ -65,11 +65,11 @@ impl Table {
 
     /// The number of the column of a name.
     pub fn column(&self, name: &str) -> Option<usize>
-        ensures found { IfSome result (λ number. number ≡ place_of self.now.columns name.now) }
+        ensures found { IfSome result (λ number. number ≡ index_of self.now.columns name.now) }
         ensures within { IfSome result (λ number. number < length self.now.columns) }
-        ensures absent { IfNone result (place_of self.now.columns name.now ≡ length self.now.columns) }
+        ensures absent { IfNone result (index_of self.now.columns name.now ≡ length self.now.columns) }
     {
-        let number = place_of(&self.columns, name);
+        let number = index_of(&self.columns, name);
         if number < self.columns.len() {
             Some(number)
         } else {
@@ -129,9 +129,9 @@ impl Table {
 /// The table of a name, and its place.
 pub fn find<'a>(tables: &'a [Table], name: &str) -> Option<(usize, &'a Table)>
     ensures found { option_map (λ p. p.1.now) result ≡ table_of tables.now name.now }
-    ensures number { IfSome result (λ p. p.0 ≡ place_of (names_of tables.now) name.now) }
+    ensures number { IfSome result (λ p. p.0 ≡ index_of (names_of tables.now) name.now) }
     ensures within { IfSome result (λ p. p.0 < length tables.now) }
-    ensures absent { IfNone result (place_of (names_of tables.now) name.now ≡ length tables.now) }
+    ensures absent { IfNone result (index_of (names_of tables.now) name.now ≡ length tables.now) }
 {
     for (number, table) in tables.iter().enumerate() {
         if table.is_called(name) {

@@ -3,7 +3,7 @@
 ghost use Rattle.std.specs.Prelude.{◌≡◌, ℕ, suc, ℤ, List, true, ◌<◌, length, IfOk, IfErr, OnOk, OnErr, IfSome, IfNone, Some, Ok, [], option_map, option_copied, slice_get, map, string_bytes};
 ghost use Rattle.program_tree.specs.Plain.{Name};
 ghost use Rattle.program_tree.specs.View.{Lined};
-ghost use Rattle.meaning.specs.Tables.{place_of, columns_of, cell_of, has_row, limit_of};
+ghost use Rattle.meaning.specs.Tables.{index_of, columns_of, cell_of, has_row, limit_of};
 ghost use Rattle.input_tables.specs.Document.{reading, HasCause};
 ghost use Rattle.meaning.specs.Records.{Revised};
 ghost use Rattle.meaning.specs.Edits.{after_put, after_delete, in_range, table_of};
@@ -103,18 +103,18 @@ impl Tables {
     // The table of a name, and its number.
     fn find(&self, name: &str) -> Option<(usize, &Table)>
         ensures found { option_map (λ p. p.1.now) result ≡ table_of self.now.tables name.now }
-        ensures number { IfSome result (λ p. p.0 ≡ place_of (names_of self.now.tables) name.now) }
+        ensures number { IfSome result (λ p. p.0 ≡ index_of (names_of self.now.tables) name.now) }
         ensures within { IfSome result (λ p. p.0 < length self.now.tables) }
-        ensures absent { IfNone result (place_of (names_of self.now.tables) name.now ≡ length self.now.tables) }
+        ensures absent { IfNone result (index_of (names_of self.now.tables) name.now ≡ length self.now.tables) }
     {
         find(&self.listed, name)
     }
 
     /// The number of the table of a name.
     pub fn table(&self, name: &str) -> Option<usize>
-        ensures found { IfSome result (λ number. number ≡ place_of (names_of self.now.tables) name.now) }
+        ensures found { IfSome result (λ number. number ≡ index_of (names_of self.now.tables) name.now) }
         ensures within { IfSome result (λ number. number < length self.now.tables) }
-        ensures absent { IfNone result (place_of (names_of self.now.tables) name.now ≡ length self.now.tables) }
+        ensures absent { IfNone result (index_of (names_of self.now.tables) name.now ≡ length self.now.tables) }
     {
         match self.find(name) {
             Some((number, _)) => Some(number),
@@ -124,9 +124,9 @@ impl Tables {
 
     /// The number of the column of a name in the table of a number.
     pub fn column(&self, table: usize, name: &str) -> Option<usize>
-        ensures found { IfSome result (λ number. number ≡ place_of (columns_at self.now.tables table) name.now) }
+        ensures found { IfSome result (λ number. number ≡ index_of (columns_at self.now.tables table) name.now) }
         ensures within { IfSome result (λ number. number < length (columns_at self.now.tables table)) }
-        ensures absent { IfNone result (place_of (columns_at self.now.tables table) name.now ≡ length (columns_at self.now.tables table)) }
+        ensures absent { IfNone result (index_of (columns_at self.now.tables table) name.now ≡ length (columns_at self.now.tables table)) }
     {
         match self.at(table) {
             Some(table) => table.column(name),
@@ -137,7 +137,7 @@ impl Tables {
     /// The value of a row in a column, by the numbers of the table and the column.
     pub fn cell(&self, table: usize, row: i64, column: usize) -> Option<i64>
         ensures numbered { result ≡ cell_at self.now.tables table row column }
-        ensures named { (t c : Name) → table ≡ place_of (names_of self.now.tables) t → column ≡ place_of (columns_of self.now.tables t) c
+        ensures named { (t c : Name) → table ≡ index_of (names_of self.now.tables) t → column ≡ index_of (columns_of self.now.tables t) c
             → result ≡ cell_of self.now.tables t row c }
     {
         match self.at(table) {
@@ -149,7 +149,7 @@ impl Tables {
     /// Whether the table of a number has a row.
     pub fn has(&self, table: usize, row: i64) -> bool
         ensures numbered { result ≡ has_at self.now.tables table row }
-        ensures named { (t : Name) → table ≡ place_of (names_of self.now.tables) t → result ≡ has_row self.now.tables t row }
+        ensures named { (t : Name) → table ≡ index_of (names_of self.now.tables) t → result ≡ has_row self.now.tables t row }
     {
         match self.at(table) {
             Some(table) => table.has(row),
@@ -160,7 +160,7 @@ impl Tables {
     /// One more than the greatest row number of the table of a number, or 0 where it has no rows.
     pub fn limit(&self, table: usize) -> i64
         ensures numbered { result ≡ limit_at self.now.tables table }
-        ensures named { (t : Name) → table ≡ place_of (names_of self.now.tables) t → result ≡ limit_of self.now.tables t }
+        ensures named { (t : Name) → table ≡ index_of (names_of self.now.tables) t → result ≡ limit_of self.now.tables t }
     {
         match self.at(table) {
             Some(table) => table.limit(),
@@ -209,7 +209,7 @@ impl Tables {
 
     // The number of the table into which a row of so many values may be put, or why it may not.
     fn table_to_put(&self, name: &str, row: i64, values: usize) -> Result<usize, EditError>
-        ensures found { IfOk result (λ number. number ≡ place_of (names_of self.now.tables) name.now) }
+        ensures found { IfOk result (λ number. number ≡ index_of (names_of self.now.tables) name.now) }
         ensures within { IfOk result (λ number. number < length self.now.tables) }
         ensures range { OnOk result (in_range row ≡ true) }
         ensures room { OnOk result (self.now.edits < 18446744073709551615) }
@@ -236,7 +236,7 @@ impl Tables {
 
     // The number of the table out of which a row may be taken, or why it may not.
     fn table_to_delete(&self, name: &str, row: i64) -> Result<usize, EditError>
-        ensures found { IfOk result (λ number. number ≡ place_of (names_of self.now.tables) name.now) }
+        ensures found { IfOk result (λ number. number ≡ index_of (names_of self.now.tables) name.now) }
         ensures within { IfOk result (λ number. number < length self.now.tables) }
         ensures room { OnOk result (self.now.edits < 18446744073709551615) }
         ensures allowed { OnOk result ((program : Revised) (lines : List Lined) → after_delete (beside program lines self.now) name.now row ≡ Ok (beside program lines (edited (row_out_of row) self.now name.now))) }

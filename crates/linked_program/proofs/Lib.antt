@@ -4,3 +4,4 @@ pub mod Numbers
 pub mod Pushes
 pub mod Named
 pub mod Quiet
+pub mod Fits

@@ -11,7 +11,7 @@ use Rattle.std.proofs.lemmas.Slice.Eq.{bytes_eq-Decides}
 use Rattle.program_tree.specs.Plain.{Name, Proc, reducer, procedure, Tree}
 use Rattle.meaning.specs.Edits.{revision_of}
 use Rattle.meaning.specs.Statements.{procedure_of}
-use Rattle.meaning.specs.Tables.{place_of, is_there}
+use Rattle.meaning.specs.Tables.{index_of, is_there}
 use Rattle.linked_program.specs.Checked.{numbered_name, names_in, number_in}
 use Rattle.linked_program.specs.Linked.{procedure_number}
 use Rattle.linked_program.specs.Procedures.{procedures}
@@ -54,15 +54,15 @@ abbrev test : Name → String Global → Bool
 test f k = bytes_eq f (string_bytes k)
 
 -- the place in a map of a name is its place among the names
-place_found : (f : Name) (es : List (String Global × ℕ)) → position_or_len (test f) (keys_of es) ≡ place_of (names_in (map numbered_name es)) f
+place_found : (f : Name) (es : List (String Global × ℕ)) → position_or_len (test f) (keys_of es) ≡ index_of (names_in (map numbered_name es)) f
 place_found f [] = refl
 place_found f (e ∷ es) =
-    rw (bytes_turned (string_bytes e.0) f) (elim (bytes_eq f (string_bytes e.0)) as (λ b. cond (not b) (1 + position_or_len (test f) (keys_of es)) 0 ≡ cond b 0 (suc (place_of (names_in (map numbered_name es)) f))) [
+    rw (bytes_turned (string_bytes e.0) f) (elim (bytes_eq f (string_bytes e.0)) as (λ b. cond (not b) (1 + position_or_len (test f) (keys_of es)) 0 ≡ cond b 0 (suc (index_of (names_in (map numbered_name es)) f))) [
       | true ↦ refl
       | false ↦ omega (arith, place_found f es)
     ])
 
-number_is_place : (f : Name) (ps : List Proc) → procedure_number ps f ≡ place_of (map (λ p. p.called) ps) f
+number_is_place : (f : Name) (ps : List Proc) → procedure_number ps f ≡ index_of (map (λ p. p.called) ps) f
 number_is_place f [] = refl
 number_is_place f (p ∷ ps) = ap (λ (n : ℕ). cond (bytes_eq p.called f) 0 (suc n)) (number_is_place f ps)
 
@@ -76,13 +76,13 @@ less_behind m n =
       ]
     ]
 
-within_is_there : (f : Name) (t : Tree) → nat_lt (place_of (map (λ p. p.called) (procedures t)) f) (length (map (λ p. p.called) (procedures t))) ≡ is_there (procedure_of t f)
+within_is_there : (f : Name) (t : Tree) → nat_lt (index_of (map (λ p. p.called) (procedures t)) f) (length (map (λ p. p.called) (procedures t))) ≡ is_there (procedure_of t f)
 within_is_there f [] = refl
 within_is_there f (reducer r ∷ t) = within_is_there f t
 within_is_there f (procedure p ∷ t) =
-    elim (bytes_eq p.called f) as (λ b. nat_lt (cond b 0 (suc (place_of (map (λ p. p.called) (procedures t)) f))) (suc (length (map (λ p. p.called) (procedures t)))) ≡ is_there (cond b (Some p) (procedure_of t f))) [
+    elim (bytes_eq p.called f) as (λ b. nat_lt (cond b 0 (suc (index_of (map (λ p. p.called) (procedures t)) f))) (suc (length (map (λ p. p.called) (procedures t)))) ≡ is_there (cond b (Some p) (procedure_of t f))) [
       | true ↦ lt-ltb 0 (suc (length (map (λ p. p.called) (procedures t)))) (omega arith)
-      | false ↦ less_behind (place_of (map (λ p. p.called) (procedures t)) f) (length (map (λ p. p.called) (procedures t))) ∙ within_is_there f t
+      | false ↦ less_behind (index_of (map (λ p. p.called) (procedures t)) f) (length (map (λ p. p.called) (procedures t))) ∙ within_is_there f t
     ]
 
 keys_length : (es : List (String Global × ℕ)) → length (keys_of es) ≡ length (names_in (map numbered_name es))
@@ -99,7 +99,7 @@ number_if false n m e = tt
 
 module _ (f : Name) (es : List (String Global × ℕ)) (t : Tree) (each : names_in (map numbered_name es) ≡ map (λ p. p.called) (procedures t)) where
   at_place : position_or_len (test f) (keys_of es) ≡ procedure_number (procedures t) f
-  at_place = place_found f es ∙ ap (λ (xs : List Name). place_of xs f) each ∙ sym (number_is_place f (procedures t))
+  at_place = place_found f es ∙ ap (λ (xs : List Name). index_of xs f) each ∙ sym (number_is_place f (procedures t))
 
   pub procedure_if : IfSome (position (test f) (keys_of es)) (λ n. n ≡ procedure_number (procedures t) f)
   procedure_if = number_if (nat_lt (position_or_len (test f) (keys_of es)) (length (keys_of es))) (position_or_len (test f) (keys_of es)) (procedure_number (procedures t) f) at_place
@@ -108,5 +108,5 @@ module _ (f : Name) (es : List (String Global × ℕ)) (t : Tree) (each : names_
   procedure_known =
       some_if (nat_lt (position_or_len (test f) (keys_of es)) (length (keys_of es))) (position_or_len (test f) (keys_of es))
       ∙ ap (λ (n : ℕ). nat_lt n (length (keys_of es))) (at_place ∙ number_is_place f (procedures t))
-      ∙ ap (λ (n : ℕ). nat_lt (place_of (map (λ p. p.called) (procedures t)) f) n) (keys_length es ∙ ap (λ (xs : List Name). length xs) each)
+      ∙ ap (λ (n : ℕ). nat_lt (index_of (map (λ p. p.called) (procedures t)) f) n) (keys_length es ∙ ap (λ (xs : List Name). length xs) each)
       ∙ within_is_there f t

@@ -5,7 +5,7 @@ use Rattle.std.specs.Str.{bytes_eq}
 use Rattle.std.proofs.lemmas.Slice.Eq.{bytes_eq-Decides}
 use Rattle.program_tree.specs.Plain.{Name, Red, procedure, reducer, Tree}
 use Rattle.meaning.specs.Statements.{reducers, procedure_of, numbered}
-use Rattle.meaning.specs.Tables.{Tables, columns_of, place_of}
+use Rattle.meaning.specs.Tables.{Tables, columns_of, index_of}
 use Rattle.meaning.specs.Edits.{table_of}
 use Rattle.linked_program.specs.TableNames.{columned_of, table_of as columned_table}
 use Rattle.linked_program.specs.Procedures.{procedures}
@@ -52,20 +52,20 @@ same_columns (x ∷ xs) u =
 same_bytes : (x y : Name) → bytes_eq x y ≡ true → x ≡ y
 same_bytes x y = (bytes_eq-Decides x y).0
 
-first_found : (x : Name) (xs : List Name) (c : Name) → x ≡ c → slice_get (x ∷ xs) (place_of (x ∷ xs) c) ≡ Some c
+first_found : (x : Name) (xs : List Name) (c : Name) → x ≡ c → slice_get (x ∷ xs) (index_of (x ∷ xs) c) ≡ Some c
 first_found x xs c e = rw ((bytes_eq-Decides x c).1 e) (ap Some e)
 
-later_found : (x : Name) (xs : List Name) (c : Name) (b : Bool) → bytes_eq x c ≡ b → slice_get xs (place_of xs c) ≡ Some c → slice_get (x ∷ xs) (cond b 0 (suc (place_of xs c))) ≡ Some c
+later_found : (x : Name) (xs : List Name) (c : Name) (b : Bool) → bytes_eq x c ≡ b → slice_get xs (index_of xs c) ≡ Some c → slice_get (x ∷ xs) (cond b 0 (suc (index_of xs c))) ≡ Some c
 later_found x xs c true q h = ap Some (same_bytes x c q)
 later_found x xs c false q h = h
 
-column_found : (cs : List Name) (c : Name) (k : ℕ) → k < length cs → slice_index_or cs k c ≡ c → slice_get cs (place_of cs c) ≡ Some c
+column_found : (cs : List Name) (c : Name) (k : ℕ) → k < length cs → slice_index_or cs k c ≡ c → slice_get cs (index_of cs c) ≡ Some c
 column_found [] c k l e = absurd (omega (arith, l))
 column_found (x ∷ xs) c zero l e = first_found x xs c e
 column_found (x ∷ xs) c (suc k) l e = later_found x xs c (bytes_eq x c) refl (column_found xs c k (omega (arith, l)) e)
 
 pub column_is : (tables : Tables) (u c : Name) → ColumnIs tables u c
 column_is tables u c = record {
-  place = ap (λ (cs : List Name). place_of cs c) (same_columns tables u);
-  name = λ h. subst (λ (cs : List Name). slice_get (columns_of tables u) (place_of cs c) ≡ Some c) (sym (same_columns tables u)) (column_found (columns_of tables u) c h.0 h.1 h.2);
+  place = ap (λ (cs : List Name). index_of cs c) (same_columns tables u);
+  name = λ h. subst (λ (cs : List Name). slice_get (columns_of tables u) (index_of cs c) ≡ Some c) (sym (same_columns tables u)) (column_found (columns_of tables u) c h.0 h.1 h.2);
 }

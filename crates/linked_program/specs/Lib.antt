@@ -11,4 +11,5 @@ pub mod Procedures
 pub mod Linked
 pub mod CodeView
 pub mod Checked
+pub mod Fitting
 pub mod Links

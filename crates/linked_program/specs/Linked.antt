@@ -7,7 +7,7 @@ use Rattle.program_tree.specs.Plain.{Name, Term, number, name, cell, has, limit,
 use Rattle.monoid_laws.specs.declared.Kind.{Kind}
 use Rattle.meaning.specs.Statements.{reducers}
 use Rattle.meaning.specs.Elision.{main}
-use Rattle.meaning.specs.Tables.{place_of}
+use Rattle.meaning.specs.Tables.{index_of}
 use Rattle.linked_program.specs.TableNames.{Columned, table_of}
 use Rattle.linked_program.specs.Procedures.{procedures}
 
@@ -68,7 +68,7 @@ columns_in (Some t) = t.columns
 
 -- the number of a column of the first table of a name
 abbrev pub column_number : List Columned → Name → Name → ℕ
-column_number ts t c = place_of (columns_in (table_of ts t)) c
+column_number ts t c = index_of (columns_in (table_of ts t)) c
 
 -- ---- linking
 

@@ -2,7 +2,7 @@
 use Rattle.std.specs.Prelude.{◌≡◌, ℕ, Option, Some, None, slice_get, Contains}
 use Rattle.program_tree.specs.Plain.{Name, Red, Tree}
 use Rattle.meaning.specs.Statements.{reducers, procedure_of, numbered}
-use Rattle.meaning.specs.Tables.{Tables, columns_of, place_of}
+use Rattle.meaning.specs.Tables.{Tables, columns_of, index_of}
 use Rattle.meaning.specs.Edits.{table_of}
 use Rattle.linked_program.specs.TableNames.{columned_of}
 use Rattle.linked_program.specs.Procedures.{procedures}
@@ -26,5 +26,5 @@ TableIs tables u = slice_get tables (table_number (columned_of tables) u) ≡ ta
 
 -- the number of a column's name is the place at which the definitions read a row, and that of the name where there is such a column
 pub record ColumnIs (tables : Tables) (u c : Name) : Type 0 where
-  pub place : column_number (columned_of tables) u c ≡ place_of (columns_of tables u) c
+  pub place : column_number (columned_of tables) u c ≡ index_of (columns_of tables u) c
   pub name : Contains (columns_of tables u) c → slice_get (columns_of tables u) (column_number (columned_of tables) u c) ≡ Some c

@@ -1,6 +1,7 @@
 //! The type of a checked program.
 ghost use Rattle.std.specs.Prelude.{◌≡◌, ◌+◌, ◌<◌, ◌^◌, [], map, All, option_copied, option_map, slice_get, is_some, IfSome, OnSome};
 ghost use Rattle.meaning.specs.Edits.{revision_of};
+ghost use Rattle.meaning.specs.Fitting.{ProgramFits};
 ghost use Rattle.meaning.specs.Statements.{procedure_of};
 ghost use Rattle.meaning.specs.Tables.{is_there};
 ghost use Rattle.program_tree.specs.View.{tree, lines};
@@ -12,13 +13,14 @@ ghost use Rattle.linked_program.specs.CodeView.{AreCodesOf, memo_of, slots_of, i
 ghost use Rattle.linked_program.specs.Checked.{IsChecked, numbers_in, names_in, number_in};
 
 use crate::code::{Code, Instruction};
+use crate::fitting::numbers_fit;
 use crate::tables::TableNames;
 use indexmap::IndexMap;
 use monoid_laws::Kind;
 use program_tree::Program;
 use std::marker::Model;
 
-/// A program in which no rule is broken, the names of the tables that it was checked against, its code, and its procedures in their order, each name with its revision number.
+/// A program in which no rule is broken and whose numbers fit 64 bits, the names of the tables that it was checked against, its code, and its procedures in their order, each name with its revision number.
 #[derive(Drop)]
 pub struct Checked {
     program: Program,
@@ -42,16 +44,18 @@ impl Model for Checked {
     ghost coded = { Prim.hlevel (coded_rules, e.the_row.coded, t.the_row.coded) };
 
     ghost use Rattle.std.specs.Prelude.{map};
+    ghost use Rattle.meaning.specs.Fitting.{ProgramFits};
+    ghost use Rattle.program_tree.specs.View.{tree};
     ghost use Rattle.linked_program.specs.TableNames.{columned};
     ghost use Rattle.linked_program.specs.Checked.{IsChecked, numbers_in};
 
     ghost view = { λ c. record { program = c.program; tables = map columned c.tables.items; codes = c.codes.items; kinds = c.kinds.items; main = c.main; revisions = numbers_in c.revisions; counter = c.counter } };
 
-    ghost invariant = { λ c. IsChecked (record { program = c.program; tables = map columned c.tables.items; codes = c.codes.items; kinds = c.kinds.items; main = c.main; revisions = numbers_in c.revisions; counter = c.counter }) };
+    ghost invariant = { λ c. IsChecked (record { program = c.program; tables = map columned c.tables.items; codes = c.codes.items; kinds = c.kinds.items; main = c.main; revisions = numbers_in c.revisions; counter = c.counter }) × ProgramFits (tree c.program) };
 }
 
 impl Checked {
-    /// The program with these tables' names, its code, its reducers' kinds, the number of `main`, its procedures' names with their revision numbers and the least number that was never used.
+    /// The program with these tables' names, its code, its reducers' kinds, the number of `main`, its procedures' names with their revision numbers and the least number that was never used. That its numbers fit is found out here, in time proportional to the tree.
     pub fn new(
         program: Program,
         tables: Vec<TableNames>,
@@ -64,6 +68,7 @@ impl Checked {
         requires checked { IsChecked (record { program = program; tables = map columned tables.items; codes = codes.items; kinds = kinds.items; main = main; revisions = numbers_in revisions; counter = counter }) }
         ensures checked { result ≡ record { program = program; tables = map columned tables.items; codes = codes.items; kinds = kinds.items; main = main; revisions = numbers_in revisions; counter = counter } }
     {
+        numbers_fit(&program);
         Checked {
             program,
             tables,
@@ -180,6 +185,13 @@ impl Checked {
     /// What the type keeps: no rule is broken.
     pub fn clean(&self)
         ensures clean { violations self.now.tables (tree self.now.program) (lines self.now.program) ≡ [] }
+    {
+        let _ = &self.program;
+    }
+
+    /// What the type keeps: the program's numbers fit 64 bits.
+    pub fn fitting(&self)
+        ensures numbers { ProgramFits (tree self.now.program) }
     {
         let _ = &self.program;
     }

@@ -3,6 +3,7 @@
 
 pub mod checked;
 pub mod code;
+mod fitting;
 pub mod knowledge;
 pub mod laws;
 pub mod linking;

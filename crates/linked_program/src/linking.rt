@@ -3,7 +3,7 @@ ghost use Rattle.std.specs.Prelude.{◌≡◌, ℕ, map, string_bytes, IfOk, Ok}
 ghost use Rattle.program_tree.specs.Plain.{Body};
 ghost use Rattle.program_tree.specs.View.{term, deed, statements as body_of, decl, proc};
 ghost use Rattle.meaning.specs.Statements.{reducers};
-ghost use Rattle.meaning.specs.Tables.{place_of as place_in};
+ghost use Rattle.meaning.specs.Tables.{index_of as index_in};
 ghost use Rattle.linked_program.specs.TableNames.{columned};
 ghost use Rattle.linked_program.specs.Procedures.{procedures};
 ghost use Rattle.linked_program.specs.Linked.{procedure_number as number_of_procedure, reducer_number as number_of_reducer, table_number as number_of_table, column_number as number_of_column, linked_term, linked_deed, linked_body, Acts, loops, kinds_of};
@@ -59,9 +59,9 @@ fn table_number(tables: &[TableNames], name: &str) -> usize
     number
 }
 
-// The place of a name among these.
-fn place_of(names: &[String], name: &str) -> usize
-    ensures { result ≡ place_in (map string_bytes names.now) name.now }
+// The index of a name among these, or their number where it is not there.
+fn index_of(names: &[String], name: &str) -> usize
+    ensures { result ≡ index_in (map string_bytes names.now) name.now }
 {
     let mut number = 0;
     for other in names {
@@ -78,7 +78,7 @@ fn column_number(tables: &[TableNames], table: &str, column: &str) -> usize
 {
     for other in tables {
         if other.name.as_str() == table {
-            return place_of(&other.columns, column);
+            return index_of(&other.columns, column);
         }
     }
     0

@@ -5,6 +5,7 @@ pub mod Run
 pub mod Values
 pub mod Statements
 pub mod Elision
+pub mod Fitting
 pub mod Records
 pub mod Strands
 pub mod Trail

@@ -82,8 +82,12 @@ natural (negsuc n) = 0
 abbrev pub span : ℤ → ℤ → ℕ
 span low high = cond (int_lt low high) (natural (high -ℤ low)) 0
 
+-- the greatest number of iterations of a loop
+abbrev pub most_iterations : ℕ
+most_iterations = 1048576
+
 abbrev pub ranged : ℕ → Out FaultKind ℕ
-ranged n = cond (nat_le n 1048576) (pure n) (fail RangeTooLong)
+ranged n = cond (nat_le n most_iterations) (pure n) (fail RangeTooLong)
 
 -- a loop's first number, and how many iterations it has
 abbrev pub bounds : Tables → Env → Term → Term → Out FaultKind (ℤ × ℕ)

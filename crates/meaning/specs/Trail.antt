@@ -122,8 +122,12 @@ abbrev pub inner : Tree → Look → ℕ → Name → List ℤ → Look
 inner program look left f args = within look (answers look f args (depth_limit - left) (proc_of program f).memo)
 
 -- a loop may be halved so many times
+abbrev pub most_halvings : ℕ
+most_halvings = 42
+
+-- the same number, which doesn't unfold: the walk recurs on it
 unfoldable pub halvings : ℕ
-halvings = 42
+halvings = most_halvings
 
 module _ (program : Tree) (tables : Tables) (sight : Accumulators) where
   module _ (sub : Runner) where

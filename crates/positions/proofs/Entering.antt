@@ -185,11 +185,11 @@ module _ (setting : Setting) where
         body_is : linked_body setting.names setting.program.tree (proc_of setting.program.tree f').body ≡ acts_at setting f 0 (first_of 0)
         body_is = ap (λ p. linked_body setting.names setting.program.tree p.body) (sym (found_at setting f' f number)) ∙ body_at setting linked f
 
-        entered_layers : (d : ℕ) (n : Place) → a.left ≡ suc d → AreNotes setting (entering f (64 - (a.left - 1)) l ∷ lower) (noted_top ls (opening setting.program.tree (look_of nothing_kept) d f' vs n))
+        entered_layers : (d : ℕ) (n : Place) → a.left ≡ suc d → AreNotes setting (entering f (depth_limit - (a.left - 1)) l ∷ lower) (noted_top ls (opening setting.program.tree (look_of nothing_kept) d f' vs n))
         entered_layers d n e =
-            subst (λ k. AreNotes setting (entering f k l ∷ lower) (noted_top ls (opening setting.program.tree (look_of nothing_kept) d f' vs n))) (let e' : 64 - d ≡ 64 - (a.left - 1) = omega arith in e')
-            (top_noted setting l (entering f (64 - d) l) lower ls (opening setting.program.tree (look_of nothing_kept) d f' vs n)
-            (λ k i. subst (IsNotes setting (entering f (64 - d) l)) (sym (opening_by k d f' vs n (proc_of setting.program.tree f').memo)) (notes_entered setting l k f' vs f (64 - d) number i)) hl)
+            subst (λ k. AreNotes setting (entering f k l ∷ lower) (noted_top ls (opening setting.program.tree (look_of nothing_kept) d f' vs n))) (let e' : depth_limit - d ≡ depth_limit - (a.left - 1) = omega arith in e')
+            (top_noted setting l (entering f (depth_limit - d) l) lower ls (opening setting.program.tree (look_of nothing_kept) d f' vs n)
+            (λ k i. subst (IsNotes setting (entering f (depth_limit - d) l)) (sym (opening_by k d f' vs n (proc_of setting.program.tree f').memo)) (notes_entered setting l k f' vs f (depth_limit - d) number i)) hl)
 
         pub called_is : (d : ℕ) → a.left ≡ suc d → IsTodo setting (waiting false into w a) todo
             → StandsFor setting (entered Call into w f slots here)

@@ -14,7 +14,7 @@ use Rattle.meaning.specs.declared.FaultKind.TheVariants.{BadElement}
 use Rattle.meaning.specs.Outcome.{Site, Place, Accumulators, Updates, Syncs}
 use Rattle.meaning.specs.Values.{value, values}
 use Rattle.meaning.specs.Statements.{reducers, numbered as reducer_of, number_of, reading, proc_of, fresh, job_of, bounds, naming, updating}
-use Rattle.meaning.specs.Trail.{halvings, fault_at}
+use Rattle.meaning.specs.Trail.{most_halvings, halvings, fault_at}
 use Rattle.meaning.specs.SmallStep.{slot, seen, has, Start as NamedStart, Frame, blocks, instance, half, Phase as NamedPhase, running, spawning, returning, broken, Parent, noting, Step, moved, with_env, on_value, on_depth, enter_child, deed_step, is_entry, unless, todo_step, sync_step, nothing_kept}
 use Rattle.meaning.specs.Layers.{Notes, noted_top, bottom}
 use Rattle.meaning.specs.LayeredStrand.{LayeredStrand, advanced}
@@ -52,9 +52,9 @@ use Rattle.positions.proofs.Layering.{notes_updated, top_noted, bottom_is}
 use Rattle.positions.proofs.Places.{slots_at, found_at}
 use Rattle.positions.proofs.Starts.{start_moved, entry_is}
 
-forty_two : halvings ≡ 42
+all_halvings : halvings ≡ most_halvings
 unfolding halvings
-forty_two = refl
+all_halvings = refl
 
 module _ (setting : Setting) (linked : AreCodesOf (columned_of setting.tables) setting.program.tree setting.codes (procedures setting.program.tree)) (kinds_are : setting.kinds ≡ kinds_of setting.program.tree)
     (m : NamedStart) (under : List Parent) (st : Start) (lower : List PlainLayer) (path : Place) (a : PlainActivation) (q : Position) (below : List PlainActivation) where
@@ -271,7 +271,7 @@ module _ (setting : Setting) (linked : AreCodesOf (columned_of setting.tables) s
         bounded low high low' high' h i (looping q)
         (λ range. enter_child setting.program.tree setting.tables nothing_kept false acc fr fr.left false None (half halvings (job_of site (map seen fr.env) x f' es' grain range.0) range.1 0) (blocks (rest ∷ bs)) under) (λ range. tt)
         (λ range k ks hk. half_is (by_own_names setting) path top (map meant a.slots) None (Block (next_of q)) (blocks (rest ∷ bs)) refl tt below under hu st m begins k lower ks hk Running ph
-        a.procedure a.slots (record { block = q.block; index = q.index; low = range.0 }) 42 (record { first = 0; count = range.1 }) halvings (job_of site (map seen fr.env) x f' es' grain range.0) range.1 0
+        a.procedure a.slots (record { block = q.block; index = q.index; low = range.0 }) most_halvings (record { first = 0; count = range.1 }) halvings (job_of site (map seen fr.env) x f' es' grain range.0) range.1 0
         refl (
           record {
             site = ap (λ w. record { procedure = (procedure_at (by_own_names setting) a.procedure).called; statement = w.number }) (sym found);
@@ -282,7 +282,7 @@ module _ (setting : Setting) (linked : AreCodesOf (columned_of setting.tables) s
             grain = ap (λ w. w.grain) (sym found);
             low = refl;
           },
-          forty_two,
+          all_halvings,
           refl,
           refl,
         )

@@ -213,8 +213,8 @@ module _ (setting : Setting) (linked : AreCodesOf (columned_of setting.tables) s
       (sym (enter_is setting.program.tree setting.tables (bottom ls) fr f vs under))
       (record {
         start = start_moved st phase.Entering phase.Running path path m (λ d w. (refl, w)) begins;
-        layers = top_noted (by_own_names setting) l (layers.entering a.procedure (64 - a.left) l) lower ls (opening setting.program.tree (look_of nothing_kept) a.left f vs path)
-            (λ k i. subst (IsNotes (by_own_names setting) (layers.entering a.procedure (64 - a.left) l)) (sym (opening_by k a.left f vs path (proc_of setting.program.tree f).memo)) (notes_entered (by_own_names setting) l k f vs a.procedure (64 - a.left) new.procedure i)) hl;
+        layers = top_noted (by_own_names setting) l (layers.entering a.procedure (depth_limit - a.left) l) lower ls (opening setting.program.tree (look_of nothing_kept) a.left f vs path)
+            (λ k i. subst (IsNotes (by_own_names setting) (layers.entering a.procedure (depth_limit - a.left) l)) (sym (opening_by k a.left f vs path (proc_of setting.program.tree f).memo)) (notes_entered (by_own_names setting) l k f vs a.procedure (depth_limit - a.left) new.procedure i)) hl;
         now = record {
           todo = blocks ((proc_of setting.program.tree f).body ∷ []);
           left = subst (λ w. IsTodoAt (by_own_names setting) a w (blocks ((proc_of setting.program.tree f).body ∷ []))) (sym new.work) bodies;

@@ -7,6 +7,7 @@ use Rattle.positions.specs.declared.work.Loop.{Loop}
 use Rattle.positions.specs.declared.work.Share.{Share}
 use Rattle.positions.specs.declared.work.Work.{Work}
 use Rattle.positions.specs.declared.work.Work.TheVariants.{Block, Over, Halves, Second, Turns}
+use Rattle.meaning.specs.Statements.{most_iterations}
 
 -- an instance: how many may be nested in it, how many it has entered, its procedure's number, its slots, the places behind its innermost block, what it has left; and of the one that it entered last whether that was spawned, and the slot for its value. The slots of a loop's instance are those of the loop
 pub record PlainActivation : Type 0 where
@@ -61,7 +62,7 @@ outside a = outside_by a.outer a
 
 -- so few iterations from the first number on that their numbers fit
 abbrev pub ShareFits : Loop → Share → Type 0
-ShareFits l h = (h.first + h.count ≤ 1048576) × FitsSigned w64 (l.low +ℤ pos (h.first + h.count))
+ShareFits l h = (h.first + h.count ≤ most_iterations) × FitsSigned w64 (l.low +ℤ pos (h.first + h.count))
 
 -- the iterations that are left fit
 abbrev pub WorkFits : Work → Type 0

@@ -9,6 +9,7 @@ use Rattle.meaning.specs.declared.FaultKind.{FaultKind}
 use Rattle.meaning.specs.declared.FaultKind.TheVariants.{TooDeep, BadElement}
 use Rattle.meaning.specs.Statements.{number_of}
 use Rattle.meaning.specs.Elision.{depth_limit}
+use Rattle.meaning.specs.Trail.{most_halvings}
 use Rattle.linked_program.specs.declared.code.Operation.{Operation}
 use Rattle.linked_program.specs.declared.code.Operation.TheVariants as o
 use Rattle.linked_program.specs.declared.code.Instruction.{Instruction}
@@ -114,7 +115,7 @@ choosing p a b v s = with_top (inside (if int_eq v (pos 0) then b else a) p s.to
 -- a loop's instance over so many numbers
 abbrev pub looping : Position → ℤ × ℕ → PlainStrand → PlainStrand
 looping p range s =
-    pushed (made s.top.procedure s.top.slots (Halves (record { block = p.block; index = p.index; low = range.0 }) 42 (record { first = 0; count = range.1 })) s.top.left)
+    pushed (made s.top.procedure s.top.slots (Halves (record { block = p.block; index = p.index; low = range.0 }) most_halvings (record { first = 0; count = range.1 })) s.top.left)
     false None (Block (next_of p)) Running s
 
 abbrev pub giving : ℤ → PlainStrand → PlainStrand

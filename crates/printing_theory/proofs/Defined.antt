@@ -5,7 +5,7 @@ use Rattle.program_tree.specs.Plain as plain
 use Rattle.program_tree.specs.View.{Lined}
 use Rattle.token_scanner.specs.Words.{Over, Words}
 use Rattle.token_scanner.specs.Words as word
-use Rattle.token_scanner.specs.Scanning.{tokens_of}
+use Rattle.token_scanner.specs.Scanning.{tokens_of, longest_text}
 use Rattle.source_tree.specs.Source.{Decl, Reduces, Defines, Source, stmts_of}
 use Rattle.source_tree.specs.Lowering.{Lowered, lowered_decl, lower_decl, lowered, settled, lower_proc, body_lines}
 use Rattle.program_edits.specs.Putting.{is_in, last_place, spot_of, put_at, put_all}
@@ -119,5 +119,5 @@ defined_of_texts t l text after (a, r, p) (s, i, e) =
     let h = put_all_procedures (room_of t) s (tokens_of text) [] i.1.1 [] t l fits in
     (subst (λ (z : Tree). AllOfSome z) (sym q) (put_all_of_some s [] t l (definition_defined t s text p i) a), subst (λ (z : Tree). reducer_count (settled z) ≤ 16) (sym q) (put_all_reducers s [] t l r), subst (λ (z : Tree). procedure_count (settled z) ≤ 256) (sym q) h)
 
-pub defined_prints : (t : Tree) (l : List Lined) (text : List ℕ) (after : Tree × List Lined) → IsOfTexts t → IsDefined (t, l) text after → length (printed after.0) ≤ 1048576 → PrintsAgain after.0
+pub defined_prints : (t : Tree) (l : List Lined) (text : List ℕ) (after : Tree × List Lined) → IsOfTexts t → IsDefined (t, l) text after → length (printed after.0) ≤ longest_text → PrintsAgain after.0
 defined_prints t l text after i d h = collected_prints after.0 (defined_of_texts t l text after i d) h

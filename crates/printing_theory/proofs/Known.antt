@@ -6,7 +6,7 @@ use Rattle.std.proofs.lemmas.Bool.{ltb-true}
 use Rattle.std.proofs.lemmas.Slice.Eq.{bytes_eq-Decides}
 use Rattle.program_tree.specs.Plain.{Name, Proc, reducer, procedure, Tree}
 use Rattle.token_scanner.specs.Words.{for_some}
-use Rattle.source_tree.specs.Lowering.{place_of, settled}
+use Rattle.source_tree.specs.Lowering.{found_index, settled}
 use Rattle.program_edits.specs.Putting.{is_in, last_place, spot_of}
 use Rattle.procedure_parser.specs.Defining.{Room, room_behind, with_new, names_from, procedures_in}
 use Rattle.printing_theory.specs.Again.{procedure_count}
@@ -29,14 +29,14 @@ abbrev pub AllApart : List Name → Type 0
 AllApart [] = Unit {0}
 AllApart (x ∷ xs) = IsApart x xs × AllApart xs
 
-none_apart : (f : Name) (xs : List Name) → place_of f xs ≡ None → IsApart f xs
+none_apart : (f : Name) (xs : List Name) → found_index f xs ≡ None → IsApart f xs
 none_apart f [] e = tt
 none_apart f (y ∷ ys) e =
     elim (on_bool (bytes_eq f y)) [
-      | inl b ↦ let g : Some zero ≡ None = sym (ap (λ (b : Bool). cond b (Some 0) (option_map (λ n. suc n) (place_of f ys))) b) ∙ e in absurd (cc)
+      | inl b ↦ let g : Some zero ≡ None = sym (ap (λ (b : Bool). cond b (Some 0) (option_map (λ n. suc n) (found_index f ys))) b) ∙ e in absurd (cc)
       | inr b ↦
-          let g : option_map (λ n. suc n) (place_of f ys) ≡ None = sym (ap (λ (b : Bool). cond b (Some 0) (option_map (λ n. suc n) (place_of f ys))) b) ∙ e in
-          elim (on_option (place_of f ys)) [
+          let g : option_map (λ n. suc n) (found_index f ys) ≡ None = sym (ap (λ (b : Bool). cond b (Some 0) (option_map (λ n. suc n) (found_index f ys))) b) ∙ e in
+          elim (on_option (found_index f ys)) [
             | inl h ↦ (b, none_apart f ys h)
             | inr (m, h) ↦ let k : Some (suc m) ≡ None = sym (ap (λ (o : Option ℕ). option_map (λ n. suc n) o) h) ∙ g in absurd (cc)
           ]
@@ -49,16 +49,16 @@ apart_removed x (y ∷ ys) zero a = a.1
 apart_removed x (y ∷ ys) (suc n) a = (a.0, apart_removed x ys n a.1)
 
 -- a place is the first, or one behind it
-placed : (f y : Name) (ys : List Name) (n : ℕ) → place_of f (y ∷ ys) ≡ Some n → ((y ≡ f) × (zero ≡ n)) ⊎ ((m : ℕ) × (bytes_eq f y ≡ false) × (place_of f ys ≡ Some m) × (suc m ≡ n))
+placed : (f y : Name) (ys : List Name) (n : ℕ) → found_index f (y ∷ ys) ≡ Some n → ((y ≡ f) × (zero ≡ n)) ⊎ ((m : ℕ) × (bytes_eq f y ≡ false) × (found_index f ys ≡ Some m) × (suc m ≡ n))
 placed f y ys n e =
     elim (on_bool (bytes_eq f y)) [
       | inl b ↦
-          let g : Some 0 ≡ Some n = sym (ap (λ (b : Bool). cond b (Some 0) (option_map (λ n. suc n) (place_of f ys))) b) ∙ e in
+          let g : Some 0 ≡ Some n = sym (ap (λ (b : Bool). cond b (Some 0) (option_map (λ n. suc n) (found_index f ys))) b) ∙ e in
           let k : 0 ≡ n = (cc) in
           inl (sym ((bytes_eq-Decides f y).0 b), k)
       | inr b ↦
-          let g : option_map (λ n. suc n) (place_of f ys) ≡ Some n = sym (ap (λ (b : Bool). cond b (Some 0) (option_map (λ n. suc n) (place_of f ys))) b) ∙ e in
-          elim (on_option (place_of f ys)) [
+          let g : option_map (λ n. suc n) (found_index f ys) ≡ Some n = sym (ap (λ (b : Bool). cond b (Some 0) (option_map (λ n. suc n) (found_index f ys))) b) ∙ e in
+          elim (on_option (found_index f ys)) [
             | inl h ↦ let k : None ≡ Some n = sym (ap (λ (o : Option ℕ). option_map (λ n. suc n) o) h) ∙ g in absurd (cc)
             | inr (m, h) ↦
                 let k : Some (suc m) ≡ Some n = sym (ap (λ (o : Option ℕ). option_map (λ n. suc n) o) h) ∙ g in
@@ -85,7 +85,7 @@ apart_stand f (x ∷ xs) seen t u go a s = (go x s.0, seen_last x f seen s.1 a.0
 abbrev Replaced : Name → List Name → List Name → Tree → Tree → Type 0
 Replaced f rest seen t u = Has f t × (is_in f seen ≡ false) × AllApart rest × Stand rest (seen ++ f ∷ []) u
 
-replaced : (f : Name) (xs : List Name) (n : ℕ) (seen : List Name) (t u : Tree) → ((x : Name) → Has x t → Has x u) → AllApart xs → Stand xs seen t → place_of f xs ≡ Some n → Replaced f (remove xs n) seen t u
+replaced : (f : Name) (xs : List Name) (n : ℕ) (seen : List Name) (t u : Tree) → ((x : Name) → Has x t → Has x u) → AllApart xs → Stand xs seen t → found_index f xs ≡ Some n → Replaced f (remove xs n) seen t u
 replaced f [] n seen t u go a s e = absurd (cc)
 replaced f (y ∷ ys) n seen t u go a s e =
     elim (placed f y ys n e) [
@@ -112,7 +112,7 @@ fits_behind known left after p seen t e fits =
     let u = put_in (is_in p.called seen) p t in
     let go = has_put (is_in p.called seen) p t in
     let g = put_grows (spot_of (is_in p.called seen) (last_place 0 None p.called t)) t p in
-    elim (on_option (place_of p.called known)) [
+    elim (on_option (found_index p.called known)) [
       | inr (n, h) ↦
           let k : Some (remove known n, left) ≡ Some after = sym (ap (λ (o : Option ℕ). for_some o (cond (ltb 0 left) (Some (known, left - 1)) None) (λ n. Some (remove known n, left))) h) ∙ e in
           let q : (remove known n, left) ≡ after = (cc) in
@@ -134,9 +134,9 @@ fits_behind known left after p seen t e fits =
 -- ---- a program before
 
 -- what holds of names, and of them with a new one behind, holds of them with any one more
-with_any : (P : List Name → Type 0) (xs : List Name) (x : Name) → P xs → (place_of x xs ≡ None → P (xs ++ x ∷ [])) → P (with_new xs x)
+with_any : (P : List Name → Type 0) (xs : List Name) (x : Name) → P xs → (found_index x xs ≡ None → P (xs ++ x ∷ [])) → P (with_new xs x)
 with_any P xs x old new =
-    elim (on_option (place_of x xs)) [
+    elim (on_option (found_index x xs)) [
       | inl e ↦ subst (λ (o : Option ℕ). P (for_some o (xs ++ x ∷ []) (λ n. xs))) (sym e) (new e)
       | inr (n, e) ↦ subst (λ (o : Option ℕ). P (for_some o (xs ++ x ∷ []) (λ n. xs))) (sym e) old
     ]

@@ -13,7 +13,7 @@ use Rattle.monoid_laws.specs.declared.Kind.{Kind}
 use Rattle.monoid_laws.specs.declared.Kind.TheVariants as k
 use Rattle.source_tree.specs.Kinds.{WrittenKind, written}
 use Rattle.source_tree.specs.Source.{Phrase, Num, Var, Cell, Has, Limit, Neg, Bin, Stmt, Binds, Enters, Reads, Syncs, Updates, Tests, Loops, Returns, Stmts, none, some, stmts_of, Decl, Reduces, Defines, Source}
-use Rattle.source_tree.specs.Lowering.{place_of, numbered, lower_term, lower_terms, optional, Walk, lower_deed, lower_body, Lowered, lowered_decl, settled, lower_proc, lower_decl, lowered}
+use Rattle.source_tree.specs.Lowering.{found_index, numbered, lower_term, lower_terms, optional, Walk, lower_deed, lower_body, Lowered, lowered_decl, settled, lower_proc, lower_decl, lowered}
 use Rattle.source_tree.specs.Lowering as l
 use Rattle.program_printer.specs.Printing.{operator_mark, way_mark, names_words, memo_words, variable, term_words, more_terms, terms_words, bound_words, deed_words, body_words, else_words, kind_words, decl_words, printed_words}
 use Rattle.printing_theory.proofs.Said.{phrase_words, more_phrases, phrases_words, target_words, stmt_words, stmts_words, otherwise_words, written_words, decl_said, said}
@@ -63,18 +63,18 @@ mapped : (o : Option ℕ) (n : ℕ) → option_map (λ n. suc n) o ≡ Some n �
 mapped None n h = absurd cc
 mapped (Some m) n h = let e : suc m ≡ n = cc in (m, refl, sym e)
 
-place_leads : (a : List Name) (x : Name) (n : ℕ) → place_of x a ≡ Some n → slice_get a n ≡ Some x
+place_leads : (a : List Name) (x : Name) (n : ℕ) → found_index x a ≡ Some n → slice_get a n ≡ Some x
 place_leads [] x n h = absurd cc
 place_leads (y ∷ a) x n h =
     elim (on_bool (bytes_eq x y)) [
       | inl t ↦ let g : Some 0 ≡ Some n = rw t at h in let e : n ≡ 0 = cc in rw e (ap Some (sym ((bytes_eq-Decides x y).0 t)))
-      | inr f ↦ let g = rw f at h in let m = mapped (place_of x a) n g in rw m.2 (place_leads a x m.0 m.1)
+      | inr f ↦ let g = rw f at h in let m = mapped (found_index x a) n g in rw m.2 (place_leads a x m.0 m.1)
     ]
 
 pub number_leads : (a : List Name) (x : Name) → Ext a (numbered a x).0 × Leads (numbered a x).0 (numbered a x).1 x
 unfolding Ext Leads
 number_leads a x =
-    elim (on_option (place_of x a)) [
+    elim (on_option (found_index x a)) [
       | inl e ↦ rw e (((x ∷ []), refl), last_leads a x)
       | inr (n, e) ↦ rw e (([], sym (append-nil a)), place_leads a x n e)
     ]

@@ -12,6 +12,7 @@ use Rattle.program_printer.specs.Tokens.{AllTokens, bare}
 use Rattle.program_printer.specs.Printing.{operator_mark}
 use Rattle.printing_theory.proofs.Read.{AllRead}
 use Rattle.printing_theory.proofs.Said.{phrase_words}
+use Rattle.procedure_parser.specs.Limits.{most_open, most_levels}
 
 -- what is left is read, and what is printed are tokens
 pub record Clean {A : Type 0} (say : A → List Word → List Word) (x : A) (us : Words) : Type 0 where
@@ -76,7 +77,7 @@ inside_clean (suc more) m e ts vs h (l, us, q, c) =
     compared_clean (Sum (nat_eq more 0) (Inside more)) (sum_clean (nat_eq more 0) (Inside more) (inside_clean more)) e us vs r.1 c
 
 pub whole_clean : (e : Phrase) (ts us : Words) → AllRead ts → Whole e ts us → Clean phrase_words e us
-whole_clean e ts us h w = compared_clean (Sum (nat_eq 64 0) (Inside 64)) (sum_clean (nat_eq 64 0) (Inside 64) (inside_clean 64)) e ts us h w.0
+whole_clean e ts us h w = compared_clean (Sum (nat_eq most_open 0) (Inside most_open)) (sum_clean (nat_eq most_open 0) (Inside most_open) (inside_clean most_open)) e ts us h w.0
 
 -- ---- what is printed is read
 
@@ -184,7 +185,7 @@ atom_again (Bin o e f) (suc n) d vs ws h =
     at_word (λ v. Atom (nat_eq n 0) (Inside n) f v2 v → P ((Sign mark.OpenParen, l) ∷ v1)) (Sign mark.CloseParen) ws s.0 s.1 (λ j us b q.
     (us, b, paren (Bin o e f) j ((Sign mark.OpenParen, l) ∷ v1) us (l, v1, refl, operated (nat_eq n 0) (Inside n) e f i v1 v2 ((Sign mark.CloseParen, j) ∷ us) o p q))) s.2) r.2)
 
-pub whole_again : (e : Phrase) → depth e ≤ 64 → (vs : Words) (ws : List Word) → bare vs ≡ phrase_words e ws → Finds Whole e ws vs
+pub whole_again : (e : Phrase) → depth e ≤ most_levels → (vs : Words) (ws : List Word) → bare vs ≡ phrase_words e ws → Finds Whole e ws vs
 whole_again e d vs ws h =
-    let r = atom_again e 64 (omega arith) vs ws h in
-    (r.0, r.1, (as_compared (nat_eq 64 0) (Inside 64) e vs r.0 (atom e vs r.0 r.2), d))
+    let r = atom_again e most_open (omega arith) vs ws h in
+    (r.0, r.1, (as_compared (nat_eq most_open 0) (Inside most_open) e vs r.0 (atom e vs r.0 r.2), d))

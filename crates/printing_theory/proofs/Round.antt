@@ -6,7 +6,7 @@ use Rattle.program_tree.specs.Plain.{Tree}
 use Rattle.program_tree.specs.View.{tree, lines}
 use Rattle.program_tree.specs.declared.Program.{Program}
 use Rattle.token_scanner.specs.Words.{Word, Words}
-use Rattle.token_scanner.specs.Scanning.{tokens_of}
+use Rattle.token_scanner.specs.Scanning.{tokens_of, longest_text}
 use Rattle.source_tree.specs.Source.{Source}
 use Rattle.source_tree.specs.Lowering.{Lowered, settled, lowered, lines_of}
 use Rattle.source_tree.proofs.Settled.{settled_back}
@@ -37,7 +37,7 @@ source_again t s text i e =
     let f = q.again (tokens_of (printed t)) [] (tokens_again (printed_words t) a ∙ w) in
     (f.one, subst (λ (z : Words). Declarations 16 256 f.one (tokens_of (printed t)) z) (bare_nil f.rest f.behind) f.holds, f.same)
 
-pub prints_again : (t : Tree) → IsOfText t → length (printed t) ≤ 1048576 → PrintsAgain t
+pub prints_again : (t : Tree) → IsOfText t → length (printed t) ≤ longest_text → PrintsAgain t
 prints_again t (text, (l, (s, i, e, g))) h =
     let q = source_again t s text i.1 e in
     (lines_of q.0, (q.0, (h, q.1), e ∙ sym q.2, refl))
@@ -50,7 +50,7 @@ answered t s (Err (Text n)) e a = a
 pub reads_again : (t : Tree) → PrintsAgain t → (answer : Result Program TextError) → ((s : Source) → IsSource s (printed t) → Answers answer s) → IsAgain t answer
 reads_again t p answer f = answered t p.1.0 answer p.1.2 (f p.1.0 p.1.1)
 
-pub collected_prints : (t : Tree) → IsOfTexts t → length (printed t) ≤ 1048576 → PrintsAgain t
+pub collected_prints : (t : Tree) → IsOfTexts t → length (printed t) ≤ longest_text → PrintsAgain t
 collected_prints t (i, r, p) h =
     let c = chosen t i in
     let w : printed_words t ≡ said c.0 = said_of t c.0 c.2 in
@@ -60,16 +60,16 @@ collected_prints t (i, r, p) h =
     let f = collected_again 16 256 c.0 c.1 n m (tokens_of (printed t)) [] (tokens_again (printed_words t) a ∙ w) in
     (lines_of f.one, (f.one, (h, subst (λ (z : Words). Declarations 16 256 f.one (tokens_of (printed t)) z) (bare_nil f.rest f.behind) f.holds), c.2 ∙ sym f.same, refl))
 
-pub too_long : (text : List ℕ) (answer : Result Program TextError) → 1048576 < length text → IfOk answer (λ p. IsText text (tree p) (lines p)) → IfErr answer (λ e. IsFault text e) → IsTooLong answer
+pub too_long : (text : List ℕ) (answer : Result Program TextError) → longest_text < length text → IfOk answer (λ p. IsText text (tree p) (lines p)) → IfErr answer (λ e. IsFault text e) → IsTooLong answer
 too_long text (Ok p) h f g = absurd (omega (arith, h, f.1.0))
 too_long text (Err NoMemory) h f g = tt
 too_long text (Err (Text l)) h f (inl e) = e.1
 too_long text (Err (Text l)) h f (inr e) = absurd (omega (arith, h, e.1))
 
-text_again : (t : Tree) (text : List ℕ) → text ≡ printed t → IsOfTexts t → length text ≤ 1048576 → HasTree text t
+text_again : (t : Tree) (text : List ℕ) → text ≡ printed t → IsOfTexts t → length text ≤ longest_text → HasTree text t
 text_again t text e i h =
-    subst (λ (xs : List ℕ). HasTree xs t) (sym e) (collected_prints t i (subst (λ (xs : List ℕ). length xs ≤ 1048576) e h))
+    subst (λ (xs : List ℕ). HasTree xs t) (sym e) (collected_prints t i (subst (λ (xs : List ℕ). length xs ≤ longest_text) e h))
 
-pub carried : {E : Type 0} (t : Tree) (answer : Result (Vec ℕ) E) → IfOk answer (λ text. text.items ≡ printed t) → IfOk answer (λ text. IsOfTexts t → length text.items ≤ 1048576 → HasTree text.items t)
+pub carried : {E : Type 0} (t : Tree) (answer : Result (Vec ℕ) E) → IfOk answer (λ text. text.items ≡ printed t) → IfOk answer (λ text. IsOfTexts t → length text.items ≤ longest_text → HasTree text.items t)
 carried t (Ok text) e = λ i h. text_again t text.items e i h
 carried t (Err f) e = tt

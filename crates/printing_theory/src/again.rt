@@ -4,6 +4,7 @@ ghost use Rattle.std.specs.Prelude.{◌≡◌, ◌<◌, ◌≤◌, length};
 ghost use Rattle.program_tree.specs.View.{tree};
 ghost use Rattle.program_printer.specs.Printing.{printed};
 ghost use Rattle.printing_theory.specs.Again.{IsOfText, IsOfTexts, IsAgain, IsTooLong};
+ghost use Rattle.token_scanner.specs.Scanning.{longest_text};
 
 use crate::printing::print;
 use procedure_parser::{TextError, parse};
@@ -13,11 +14,11 @@ use std::alloc::Global;
 /// The program that the printed text of a program is read as. An error is NoMemory, or line 0 where the printed text is too long; no other where the program is that of a text, or its declarations are of several texts.
 pub fn print_and_parse(alloc: Global, program: &Program) -> Result<Program, TextError>
     // A program that was read is read again with the same tree.
-    ensures text { IsOfText (tree program.now) → length (printed (tree program.now)) ≤ 1048576 → IsAgain (tree program.now) result }
+    ensures text { IsOfText (tree program.now) → length (printed (tree program.now)) ≤ longest_text → IsAgain (tree program.now) result }
     // The same of a program whose declarations are of several texts.
-    ensures texts { IsOfTexts (tree program.now) → length (printed (tree program.now)) ≤ 1048576 → IsAgain (tree program.now) result }
+    ensures texts { IsOfTexts (tree program.now) → length (printed (tree program.now)) ≤ longest_text → IsAgain (tree program.now) result }
     // A program whose printed text is too long is refused at line 0.
-    ensures long { 1048576 < length (printed (tree program.now)) → IsTooLong result }
+    ensures long { longest_text < length (printed (tree program.now)) → IsTooLong result }
 {
     let text = print(alloc, program)?;
     parse(alloc, &text)

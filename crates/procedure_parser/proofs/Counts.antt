@@ -2,7 +2,7 @@
 use Rattle.std.proofs.Common.{◌≡◌, ℕ, zero, suc, ◌+◌, ◌-◌, ◌<◌, ◌≤◌, eqb, List, [], ◌∷◌, ◌++◌, length, drop, Some, refl, sym, ap, subst, ◌∙◌, arith, inl, inr}
 use Rattle.token_scanner.specs.declared.scanning.Class.TheVariants as class
 use Rattle.token_scanner.specs.Words.{Words}
-use Rattle.token_scanner.specs.Scanning.{scan, is_space, front_len, belongs, word_at, tokens_of}
+use Rattle.token_scanner.specs.Scanning.{scan, is_space, front_len, belongs, word_at, tokens_of, longest_text}
 use Rattle.source_tree.specs.Kinds.{WrittenKind}
 use Rattle.source_tree.specs.Source.{Stmt, Returns, stmts_of, Decl, Source}
 use Rattle.source_tree.specs.Lowering.{count, count_all, BodiesWithin}
@@ -154,15 +154,15 @@ line_counted text [] c = omega arith
 line_counted text (t ∷ us) c = c.0
 
 -- the line of a fault
-pub fault_line_in : (G : Source → Words → Type 0) (text : List ℕ) (ts : Words) (n l : ℕ) → ts ≡ tokens_of text → length text ≤ 1048576 → (us : Words) × FirstFaultIn G ts us × (drop (length ts - n) ts ≡ us) → l ≡ line_at text (drop (length ts - n) ts) → IsFaultLineIn G text l
+pub fault_line_in : (G : Source → Words → Type 0) (text : List ℕ) (ts : Words) (n l : ℕ) → ts ≡ tokens_of text → length text ≤ longest_text → (us : Words) × FirstFaultIn G ts us × (drop (length ts - n) ts ≡ us) → l ≡ line_at text (drop (length ts - n) ts) → IsFaultLineIn G text l
 fault_line_in G text ts n l e le s is =
     let c : Counted (s.1.front ++ s.0) = subst (λ (w : Words). Counted w) (sym e ∙ s.1.parts) (scan_lines (length text) 1 text (omega arith)) in
     let at : l ≡ line_at text s.0 = is ∙ ap (λ (w : Words). line_at text w) s.2 in
     let pos : 0 < l = subst (λ (k : ℕ). 0 < k) (sym at) (line_counted text s.0 (counted_tail s.1.front s.0 c)) in
     inr (s.0, le, subst (λ (w : Words). FirstFaultIn G w s.0) e s.1, at, pos)
 
-pub fault_line_is : (text : List ℕ) (ts : Words) (n l : ℕ) → ts ≡ tokens_of text → length text ≤ 1048576 → stuck_before (text_at ts) ≡ Some n → l ≡ line_at text (drop (length ts - n) ts) → IsFaultLineIn InGrammar text l
+pub fault_line_is : (text : List ℕ) (ts : Words) (n l : ℕ) → ts ≡ tokens_of text → length text ≤ longest_text → stuck_before (text_at ts) ≡ Some n → l ≡ line_at text (drop (length ts - n) ts) → IsFaultLineIn InGrammar text l
 fault_line_is text ts n l e le stuck is = fault_line_in InGrammar text ts n l e le (text_stuck ts n stuck) is
 
-pub definition_line_is : (room : Room) (text : List ℕ) (ts : Words) (n l : ℕ) → ts ≡ tokens_of text → length text ≤ 1048576 → stuck_before (definition_at room ts) ≡ Some n → l ≡ line_at text (drop (length ts - n) ts) → IsFaultLineIn (InDefinition room) text l
+pub definition_line_is : (room : Room) (text : List ℕ) (ts : Words) (n l : ℕ) → ts ≡ tokens_of text → length text ≤ longest_text → stuck_before (definition_at room ts) ≡ Some n → l ≡ line_at text (drop (length ts - n) ts) → IsFaultLineIn (InDefinition room) text l
 definition_line_is room text ts n l e le stuck is = fault_line_in (InDefinition room) text ts n l e le (definition_stuck room ts n stuck) is

@@ -8,7 +8,7 @@ use Rattle.token_scanner.specs.declared.token.Mark.TheVariants.{OpenParen, Close
 use Rattle.token_scanner.specs.Words.{Word, Over, Words, for_some, rest, front_name, line_of}
 use Rattle.token_scanner.specs.Words as word
 use Rattle.source_tree.specs.Source.{Defines, Source}
-use Rattle.source_tree.specs.Lowering.{place_of}
+use Rattle.source_tree.specs.Lowering.{found_index}
 use Rattle.procedure_parser.specs.Reading.{◌>>=◌, Read, over_as, params_at, block_at, procedure_word_at, starts_procedure, and_then}
 use Rattle.procedure_parser.specs.Grammar.{Form, Params, no_params, Block, ProcedureWord, unmarked, marked}
 use Rattle.procedure_parser.specs.Defining.{Room, room_behind, BehindName, behind_name, Procedures, no_procedure, one_procedure, no_room, Defining, behind_name_at, nameless_at, named_at, one_at, procedures_at, turns_of, defining_at}
@@ -19,17 +19,17 @@ use Rattle.procedure_parser.proofs.Declarations.{params_law, Worded, words_law, 
 
 -- ---- rooms
 
-place_within : (x : Name) (xs : List Name) (n : ℕ) → place_of x xs ≡ Some n → n < length xs
+place_within : (x : Name) (xs : List Name) (n : ℕ) → found_index x xs ≡ Some n → n < length xs
 place_within x [] n e = absurd cc
 place_within x (y ∷ ys) n e =
     elim (on_bool (bytes_eq x y)) [
       | inl t ↦
-          let g : Some 0 ≡ Some n = sym (ap (λ (b : Bool). cond b (Some 0) (option_map (λ n. suc n) (place_of x ys))) t) ∙ e in
+          let g : Some 0 ≡ Some n = sym (ap (λ (b : Bool). cond b (Some 0) (option_map (λ n. suc n) (found_index x ys))) t) ∙ e in
           let k : 0 ≡ n = (cc) in
           omega (arith, k)
       | inr f ↦
-          let g : option_map (λ n. suc n) (place_of x ys) ≡ Some n = sym (ap (λ (b : Bool). cond b (Some 0) (option_map (λ n. suc n) (place_of x ys))) f) ∙ e in
-          elim (on_option (place_of x ys)) [
+          let g : option_map (λ n. suc n) (found_index x ys) ≡ Some n = sym (ap (λ (b : Bool). cond b (Some 0) (option_map (λ n. suc n) (found_index x ys))) f) ∙ e in
+          elim (on_option (found_index x ys)) [
             | inl h ↦ let k : None ≡ Some n = sym (ap (λ (o : Option ℕ). option_map (λ n. suc n) o) h) ∙ g in absurd (cc)
             | inr (m, h) ↦
                 let k : Some (suc m) ≡ Some n = sym (ap (λ (o : Option ℕ). option_map (λ n. suc n) o) h) ∙ g in
@@ -47,7 +47,7 @@ remove_length (x ∷ xs) (suc n) lt = ap (λ (k : ℕ). suc k) (remove_length xs
 -- there is always less room behind
 pub less_room : (room after : Room) (f : Name) → room_behind room f ≡ Some after → turns_of after < turns_of room
 less_room (known, p) after f e =
-    elim (on_option (place_of f known)) [
+    elim (on_option (found_index f known)) [
       | inr (n, h) ↦
           let g : Some (remove known n, p) ≡ Some after = sym (ap (λ (o : Option ℕ). for_some o (cond (ltb 0 p) (Some (known, p - 1)) None) (λ n. Some (remove known n, p))) h) ∙ e in
           let q : (remove known n, p) ≡ after = (cc) in
@@ -68,7 +68,7 @@ less_room (known, p) after f e =
 -- where a new one may come, there is room for each name
 any_room : (known : List Name) (p : ℕ) (f : Name) → 0 < p → (after : Room) × (room_behind (known, p) f ≡ Some after)
 any_room known p f lt =
-    elim (on_option (place_of f known)) [
+    elim (on_option (found_index f known)) [
       | inr (n, h) ↦ ((remove known n, p), ap (λ (o : Option ℕ). for_some o (cond (ltb 0 p) (Some (known, p - 1)) None) (λ n. Some (remove known n, p))) h)
       | inl h ↦
           elim (on_bool (ltb 0 p)) [

@@ -14,6 +14,7 @@ use Rattle.procedure_parser.specs.Reading.{◌>>=◌, Read, Reader, mark_at, nam
 use Rattle.procedure_parser.specs.Grammar.{Form, Atom, number, variable, cell, has, has_over, limit, paren, Unary, atom, negative, Chain, over, goes_on, Comparison, equal, unequal, less, at_most, greater, at_least, Additive, Multiplicative, adds, subtracts, times, divides, remains, Term, Sum, Compared, alone, against, Inside, Expression}
 use Rattle.procedure_parser.proofs.Law.{nothing, LawAt, IsLocal, by_reply, if_true, if_false, some_there, none_there, gives_at, refuses_at, skip_at, map_at, then_at}
 use Rattle.procedure_parser.proofs.Head.{nought, on_bool, on_option, number_is, starts_local, number_local, comparison_local, additive_local, multiplicative_local, Found, picked, over_law, expect_at, name_then_at, last_mark, behind_mark}
+use Rattle.procedure_parser.specs.Limits.{most_open}
 
 abbrev pub Bounded : ℕ → Form Phrase → Form Phrase
 Bounded r R e ts us = R e ts us × (depth e ≤ r)
@@ -331,5 +332,5 @@ pub expr_law : (n : ℕ) → HasLaw (expr_at n) (Expression n)
 unfolding expr_at
 expr_law n = compared_law (nat_eq n 0) (inside_at n) (Inside n) (inside_law n)
 
-pub zero_whole : (v : Words) → Expression 64 (Num nought) ((Number nought, 0) ∷ v) v
-zero_whole v = a_number 64 v
+pub zero_whole : (v : Words) → Expression most_open (Num nought) ((Number nought, 0) ∷ v) v
+zero_whole v = a_number most_open v

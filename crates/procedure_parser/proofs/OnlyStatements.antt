@@ -17,6 +17,7 @@ use Rattle.procedure_parser.proofs.Numbers.{only_within}
 use Rattle.procedure_parser.proofs.Lists.{only_many, many_ends}
 use Rattle.procedure_parser.proofs.Short.{IsShort, comma_short, statement_short, block_short}
 use Rattle.procedure_parser.proofs.Statements.{comma_law, way_is, goes_on_local, statement_law, empty_block, block_law}
+use Rattle.procedure_parser.specs.Limits.{most_open, most_levels}
 
 -- ---- expressions
 
@@ -57,7 +58,7 @@ ends_over l us = ended ((Over, l) ∷ us) refl refl refl refl
 
 only_whole : (e : Phrase) (ts us : Words) → Whole e ts us → EndsExpr us → whole_at ts ≡ Ok (e, us)
 unfolding whole_at
-only_whole e ts us w h = only_expr 64 64 e ts us w.0 w.1 h
+only_whole e ts us w h = only_expr most_open most_levels e ts us w.0 w.1 h
 
 -- an expression doesn't begin so
 abbrev NoExpr : Word → Type 0

@@ -7,7 +7,7 @@ use Rattle.std.specs.Prelude.{string_bytes}
 use Rattle.program_tree.specs.Plain.{Name}
 use Rattle.token_scanner.specs.Words.{Words, for_some, rest, front_name}
 use Rattle.source_tree.specs.Source.{Decl, Source, texts}
-use Rattle.source_tree.specs.Lowering.{place_of}
+use Rattle.source_tree.specs.Lowering.{found_index}
 use Rattle.procedure_parser.specs.Reading.{Read, with_front}
 use Rattle.procedure_parser.specs.Defining.{Room, room_behind, behind_name_at, named_at}
 use Rattle.procedure_parser.proofs.Many.{regroup}
@@ -21,7 +21,7 @@ texts_remove (x ∷ xs) (suc n) = ap (λ (ys : List Name). string_bytes x ∷ ys
 abbrev space : List Name → ℕ → Room
 space xs p = (xs, p)
 
-pub room_known : (xs ys : List (String Global)) (p n : ℕ) (f : Name) → Some n ≡ place_of f (texts xs) → ys ≡ remove xs n → Some (space (texts ys) p) ≡ room_behind (space (texts xs) p) f
+pub room_known : (xs ys : List (String Global)) (p n : ℕ) (f : Name) → Some n ≡ found_index f (texts xs) → ys ≡ remove xs n → Some (space (texts ys) p) ≡ room_behind (space (texts xs) p) f
 room_known xs ys p n f at e =
     subst (λ (o : Option ℕ). Some (space (texts ys) p) ≡ for_some o (cond (ltb 0 p) (Some (space (texts xs) (p - 1))) None) (λ n. Some (space (remove (texts xs) n) p))) at
     (ap (λ (zs : List Name). Some (space zs p)) (ap texts e ∙ texts_remove xs n))

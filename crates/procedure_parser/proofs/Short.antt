@@ -6,6 +6,7 @@ use Rattle.program_tree.specs.declared.Operator.{Operator}
 use Rattle.token_scanner.specs.Words.{Word, Words}
 use Rattle.source_tree.specs.Source.{Phrase, Stmt}
 use Rattle.procedure_parser.specs.Grammar.{Form, Atom, number, variable, cell, has, has_over, limit, paren, Unary, atom, negative, Chain, over, goes_on, Additive, Multiplicative, Term, Sum, Compared, alone, against, Inside, Many, nil, cons, Whole, CommaExpr, comma_expr, Exprs, exprs, Args, no_args, args, Entry, entry, Within, within, Grained, no_grain, grained, Ranged, ranged, Statement, binds, binds_entry, binds_read, enters, syncs, updates, tests, tests_else, loops, Body, plain, returning, Block}
+use Rattle.procedure_parser.specs.Limits.{most_open}
 
 abbrev pub IsShort : {A : Type 0} → Form A → Type 0
 IsShort R = (a : _) (ts us : Words) → R a ts us → length us < length ts
@@ -44,7 +45,7 @@ inside_short zero m e ts us i = absurd i
 inside_short (suc n) m e ts us (l, vs, is, s) = omega (arith, ap length is, compared_short (Sum (nat_eq n 0) (Inside n)) (sum_short (nat_eq n 0) (Inside n) (inside_short n)) e vs us s)
 
 pub whole_short : IsShort Whole
-whole_short e ts us w = compared_short (Sum (nat_eq 64 0) (Inside 64)) (sum_short (nat_eq 64 0) (Inside 64) (inside_short 64)) e ts us w.0
+whole_short e ts us w = compared_short (Sum (nat_eq most_open 0) (Inside most_open)) (sum_short (nat_eq most_open 0) (Inside most_open) (inside_short most_open)) e ts us w.0
 
 pub many_short : {A : Type 0} (R : Form A) → IsShort R → (xs : List A) (ts us : Words) → Many R xs ts us → length us ≤ length ts
 many_short R h _ _ _ (nil ts) = omega arith

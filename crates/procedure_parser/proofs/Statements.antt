@@ -14,13 +14,14 @@ use Rattle.procedure_parser.proofs.Expressions.{expr_law, zero_whole}
 use Rattle.procedure_parser.proofs.Numbers.{within_law}
 use Rattle.procedure_parser.proofs.Lists.{many_law}
 use Rattle.procedure_parser.proofs.Short.{IsShort, comma_short, statement_short, block_short}
+use Rattle.procedure_parser.specs.Limits.{most_open, most_levels}
 
 abbrev pub a_name : List ℕ
 a_name = 97 ∷ []
 
 pub whole_law : (ts : Words) → LawAt whole_at Whole ts
 unfolding whole_at
-whole_law ts = expr_law 64 64 ts (omega arith)
+whole_law ts = expr_law most_open most_levels ts (omega arith)
 
 naught : (v : Words) → Whole (Num nought) ((Number nought, 0) ∷ v) v
 naught v = (zero_whole v, omega arith)

@@ -10,7 +10,7 @@ use Rattle.std.specs.Global.{Vec}
 use Rattle.source_tree.specs.declared.source.Declaration.{Declaration}
 use Rattle.source_tree.specs.Source.{Source, source}
 use Rattle.procedure_parser.specs.Grammar.{Declarations}
-use Rattle.token_scanner.specs.Scanning.{tokens_of, line_ends}
+use Rattle.token_scanner.specs.Scanning.{tokens_of, line_ends, longest_text}
 use Rattle.source_tree.specs.Lowering.{settled, lowered, lines_of}
 use Rattle.procedure_parser.specs.Defining.{Room, room_of, Defining}
 
@@ -39,7 +39,7 @@ FirstFault = FirstFaultIn InGrammar
 
 -- the source tree of a text within the limit
 abbrev pub IsSource : Source → List ℕ → Type 0
-IsSource s text = (length text ≤ 1048576) × InGrammar s (tokens_of text)
+IsSource s text = (length text ≤ longest_text) × InGrammar s (tokens_of text)
 
 -- a text's tree, and the lines of its declarations and statements
 abbrev pub IsText : List ℕ → Tree → List Lined → Type 0
@@ -64,7 +64,7 @@ line_at text (t ∷ ts) = t.1
 
 -- 0 for a text that is too long; else the line of the first token that can't follow what stands before it
 abbrev pub IsFaultLineIn : (Source → Words → Type 0) → List ℕ → ℕ → Type 0
-IsFaultLineIn G text l = ((1048576 < length text) × (l ≡ 0)) ⊎ ((us : Words) × (length text ≤ 1048576) × FirstFaultIn G (tokens_of text) us × (l ≡ line_at text us) × (0 < l))
+IsFaultLineIn G text l = ((longest_text < length text) × (l ≡ 0)) ⊎ ((us : Words) × (length text ≤ longest_text) × FirstFaultIn G (tokens_of text) us × (l ≡ line_at text us) × (0 < l))
 
 abbrev pub IsFaultIn : (Source → Words → Type 0) → List ℕ → TextError → Type 0
 IsFaultIn G text NoMemory = Unit {0}
@@ -81,7 +81,7 @@ InDefinition room s ts = Defining room s ts []
 
 -- the source tree of a text within the limit, for a program with this tree
 abbrev pub IsDefinition : Tree → Source → List ℕ → Type 0
-IsDefinition t s text = (length text ≤ 1048576) × InDefinition (room_of t) s (tokens_of text)
+IsDefinition t s text = (length text ≤ longest_text) × InDefinition (room_of t) s (tokens_of text)
 
 abbrev pub IsDefinitionFault : Tree → List ℕ → TextError → Type 0
 IsDefinitionFault t = IsFaultIn (InDefinition (room_of t))

@@ -5,7 +5,7 @@ use Rattle.program_tree.specs.Plain as plain
 use Rattle.token_scanner.specs.Words.{Word, Over, Words, for_some, rest, front_name, line_of, ended}
 use Rattle.token_scanner.specs.Words as word
 use Rattle.source_tree.specs.Source.{Stmt, Decl, Defines, Source}
-use Rattle.source_tree.specs.Lowering.{place_of}
+use Rattle.source_tree.specs.Lowering.{found_index}
 use Rattle.procedure_parser.specs.Reading.{◌>>=◌, Read, over_as, params_at, block_at, procedure_word_at, starts_procedure, and_then}
 use Rattle.procedure_parser.specs.Grammar.{Form, Params, Block, ProcedureWord}
 
@@ -15,7 +15,7 @@ Room = List Name × ℕ
 
 -- names, with one more, where it is new
 abbrev pub with_new : List Name → Name → List Name
-with_new names f = for_some (place_of f names) (names ++ f ∷ []) (λ n. names)
+with_new names f = for_some (found_index f names) (names ++ f ∷ []) (λ n. names)
 
 -- names, with those of a program's procedures, each once
 abbrev pub names_from : List Name → Tree → List Name
@@ -35,7 +35,7 @@ room_of t = (names_from [] t, 256 - procedures_in t)
 
 -- behind a procedure of this name, where there is room for it
 abbrev pub room_behind : Room → Name → Option Room
-room_behind room f = for_some (place_of f room.0) (if nat_lt 0 room.1 then Some (room.0, room.1 - 1) else None) (λ n. Some (remove room.0 n, room.1))
+room_behind room f = for_some (found_index f room.0) (if nat_lt 0 room.1 then Some (room.0, room.1 - 1) else None) (λ n. Some (remove room.0 n, room.1))
 
 -- ---- the grammar
 

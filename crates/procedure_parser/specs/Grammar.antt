@@ -13,6 +13,7 @@ use Rattle.source_tree.specs.Kinds as kinds
 use Rattle.source_tree.specs.Source.{Phrase, Num, Var, Cell, Neg, Bin, depth, Stmt, Binds, Enters, Reads, Syncs, Updates, Tests, Loops, Returns, none, stmts_of, Decl, Reduces, Defines, Source}
 use Rattle.source_tree.specs.Source as source
 use Rattle.procedure_parser.specs.KindWords.{simple_kind}
+use Rattle.procedure_parser.specs.Limits.{most_open, most_levels}
 
 abbrev pub Form : Type 0 → Type 1
 Form A = A → Words → Words → Type 0
@@ -79,9 +80,9 @@ pub data Many {A : Type 0} (item : Form A) : List A → Words → Words → Type
   nil : (ts : Words) → Many item [] ts ts
   cons : (x : A) (xs : List A) (ts us vs : Words) → item x ts us → Many item xs us vs → Many item (x ∷ xs) ts vs
 
--- an expression within the limits: 64 open parentheses and brackets, 64 levels
+-- an expression within the limits
 abbrev pub Whole : Form Phrase
-Whole e ts us = Expression 64 e ts us × (depth e ≤ 64)
+Whole e ts us = Expression most_open e ts us × (depth e ≤ most_levels)
 
 pub data CommaExpr : Phrase → Words → Words → Type 0 where
   comma_expr : (e : Phrase) (l : ℕ) (ts us : Words) → Whole e ts us → CommaExpr e ((Sign Comma, l) ∷ ts) us

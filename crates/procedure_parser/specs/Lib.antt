@@ -1,4 +1,5 @@
 pub mod KindWords
+pub mod Limits
 pub mod Reading
 pub mod Ranges
 pub mod Grammar

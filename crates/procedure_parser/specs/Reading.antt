@@ -15,6 +15,7 @@ use Rattle.source_tree.specs.Kinds as kinds
 use Rattle.source_tree.specs.Source.{Phrase, Num, Var, Cell, Neg, Bin, depth, Stmt, Binds, Enters, Reads, Syncs, Updates, Tests, Loops, Returns, none, stmts_of, Decl, Reduces, Defines, Source}
 use Rattle.source_tree.specs.Source as source
 use Rattle.procedure_parser.specs.KindWords.{simple_kind}
+use Rattle.procedure_parser.specs.Limits.{most_open, most_levels}
 
 abbrev pub Read : Type 0 → Type 0
 Read A = Result (A × Words) Words
@@ -183,7 +184,7 @@ many_at go item ts = many_go go item (length ts) ts
 
 -- a whole expression
 unfoldable pub whole_at : Words → Read Phrase
-whole_at = expr_at 64 64
+whole_at = expr_at most_open most_levels
 
 unfoldable pub comma_expr_at : Words → Read Phrase
 comma_expr_at ts = mark_at Comma ts >>= whole_at

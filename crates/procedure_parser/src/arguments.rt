@@ -6,14 +6,14 @@ ghost use Rattle.token_scanner.specs.declared.token.Mark.TheVariants.{Comma};
 ghost use Rattle.source_tree.specs.Source.{phrase, phrases};
 ghost use Rattle.procedure_parser.specs.Reading.{Gives, with_front, many_at, comma_expr_at, whole_at, exprs_at, args_at};
 
-use crate::expression::expression;
+use crate::expression::{Limits, expression};
 use crate::fault::ParseError;
 use crate::front::{mark, rest_of, starts};
 use source_tree::Expr;
 use std::alloc::Global;
 use token_scanner::{Mark, Placed};
 
-/// An expression within the limits: 64 levels, 64 parentheses and brackets open at once.
+/// An expression within the limits.
 #[tactic(auto, unfolding(crate::specs::Reading::whole_at))]
 pub fn whole<'a, 'b>(
     alloc: Global,
@@ -21,7 +21,7 @@ pub fn whole<'a, 'b>(
 ) -> Result<(Expr, &'b [Placed<'a>]), ParseError>
     ensures { Gives (λ x. (phrase x.0, words x.1.now)) result (whole_at (words tokens.now)) }
 {
-    let (measured, rest) = expression(alloc, 64, 64, tokens)?;
+    let (measured, rest) = expression(alloc, Limits::whole(), tokens)?;
     Ok((measured.expr, rest))
 }
 

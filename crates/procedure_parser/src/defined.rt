@@ -12,7 +12,7 @@ use crate::text::fault_line;
 use program_tree::Program;
 use source_tree::Declaration;
 use std::alloc::Global;
-use token_scanner::tokens;
+use token_scanner::{LONGEST_TEXT, tokens};
 
 /// The source trees of the procedures that a text defines for a program. An error is NoMemory, or the line of the first token that can't follow what stands before it: 0 for a text that is too long, the name's for a procedure that would bring the program to 257.
 pub fn define_source(
@@ -24,7 +24,7 @@ pub fn define_source(
     ensures only { (s : Source) → IsDefinition (tree program.now) s text.now → AnswersSource result s }
     ensures fault { IfErr result (λ e. IsDefinitionFault (tree program.now) text.now e) }
 {
-    if text.len() > 1048576 {
+    if text.len() > LONGEST_TEXT {
         return Err(TextError::Text { line: 0 });
     }
     let tokens = tokens(alloc, text)?;

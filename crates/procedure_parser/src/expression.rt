@@ -3,6 +3,7 @@
 ghost use Rattle.std.specs.Prelude.{string_bytes, ◌≡◌, ◌≤◌, ◌-◌, ◌<◌, ◌+◌, length, max, IfOk, IfSome, map, option_map, Option, Some, None, nat_eq};
 ghost use Rattle.token_scanner.specs.Words.{words, rest, front_name, front_number};
 ghost use Rattle.source_tree.specs.Source.{phrase, depth, Bin};
+ghost use Rattle.procedure_parser.specs.Limits.{most_open, most_levels};
 ghost use Rattle.procedure_parser.specs.Reading.{Gives, limit_at, after_name_at, row_at, has_at, plain_atom_at, atom_at, unary_at, term_at, sum_at, against_at, inside_at, expr_at};
 
 use crate::fault::ParseError;
@@ -13,6 +14,59 @@ use program_tree::Operator;
 use source_tree::{Expr, Measured};
 use std::alloc::{AllocError, Global};
 use token_scanner::{Mark, Placed};
+
+/// How many parentheses and brackets may be open at once in an expression.
+const MOST_OPEN: usize = 64;
+
+/// How many levels an expression has at most.
+const MOST_LEVELS: usize = 64;
+
+/// How far an expression may still go: how many more parentheses and brackets may be open, and how many levels there is room for.
+#[derive(Clone, Copy)]
+pub struct Limits {
+    pub more: usize,
+    pub room: usize,
+    ghost open: { more ≤ most_open },
+    ghost low: { 0 < room },
+    ghost high: { room ≤ most_levels },
+}
+
+impl Limits {
+    /// The limits of a whole expression.
+    pub fn whole() -> Limits
+        ensures more { result.more ≡ most_open }
+        ensures room { result.room ≡ most_levels }
+    {
+        Limits {
+            more: MOST_OPEN,
+            room: MOST_LEVELS,
+        }
+    }
+
+    /// With a level less.
+    fn lower(self) -> Limits
+        requires { 1 < self.room }
+        ensures more { result.more ≡ self.more }
+        ensures room { result.room ≡ self.room - 1 }
+    {
+        Limits {
+            more: self.more,
+            room: self.room - 1,
+        }
+    }
+
+    /// Behind one more parenthesis or bracket.
+    fn inner(self) -> Limits
+        requires { 0 < self.more }
+        ensures more { result.more ≡ self.more - 1 }
+        ensures room { result.room ≡ self.room }
+    {
+        Limits {
+            more: self.more - 1,
+            room: self.room,
+        }
+    }
+}
 
 fn joined(
     alloc: Global,
@@ -40,48 +94,40 @@ fn is_full(more: usize) -> bool
     more == 0
 }
 
-/// An expression of at most `room` levels, in which at most `more` parentheses and brackets may be open.
+/// An expression within the limits.
 #[cycle(reading)]
 #[tactic(auto, unfolding(crate::specs::Reading::expr_at, crate::specs::Reading::expr_with))]
 pub fn expression<'a, 'b>(
     alloc: Global,
-    more: usize,
-    room: usize,
+    limits: Limits,
     tokens: &'b [Placed<'a>],
 ) -> Result<(Measured, &'b [Placed<'a>]), ParseError>
-    requires more { more ≤ 64 }
-    requires low { 0 < room }
-    requires high { room ≤ 64 }
-    ensures exact { Gives (λ x. (phrase x.0.expr, words x.1.now)) result (expr_at more room (words tokens.now)) }
-    ensures levels { IfOk result (λ x. x.0.levels ≤ room) }
+    ensures exact { Gives (λ x. (phrase x.0.expr, words x.1.now)) result (expr_at limits.more limits.room (words tokens.now)) }
+    ensures levels { IfOk result (λ x. x.0.levels ≤ limits.room) }
 {
-    let (left, rest) = sum(alloc, more, room, tokens)?;
-    against(alloc, more, room, left, rest)
+    let (left, rest) = sum(alloc, limits, tokens)?;
+    against(alloc, limits, left, rest)
 }
 
 #[cycle(reading)]
 #[tactic(auto, unfolding(crate::specs::Reading::against_at))]
 fn against<'a, 'b>(
     alloc: Global,
-    more: usize,
-    room: usize,
+    limits: Limits,
     left: Measured,
     tokens: &'b [Placed<'a>],
 ) -> Result<(Measured, &'b [Placed<'a>]), ParseError>
-    requires more { more ≤ 64 }
-    requires low { 0 < room }
-    requires high { room ≤ 64 }
-    requires left { left.levels ≤ room }
-    ensures exact { Gives (λ x. (phrase x.0.expr, words x.1.now)) result (against_at (sum_at (nat_eq more 0) (inside_at more)) room (phrase left.expr) (words tokens.now)) }
-    ensures levels { IfOk result (λ x. x.0.levels ≤ room) }
+    requires left { left.levels ≤ limits.room }
+    ensures exact { Gives (λ x. (phrase x.0.expr, words x.1.now)) result (against_at (sum_at (nat_eq limits.more 0) (inside_at limits.more)) limits.room (phrase left.expr) (words tokens.now)) }
+    ensures levels { IfOk result (λ x. x.0.levels ≤ limits.room) }
 {
     let Some(operation) = comparison(tokens) else {
         return Ok((left, tokens));
     };
-    if left.levels >= room {
+    if left.levels >= limits.room {
         return Err(ParseError::Stuck(tokens.len()));
     }
-    let (right, rest) = sum(alloc, more, room - 1, rest_of(tokens))?;
+    let (right, rest) = sum(alloc, limits.lower(), rest_of(tokens))?;
     Ok((joined(alloc, operation, left, right)?, rest))
 }
 
@@ -89,25 +135,21 @@ fn against<'a, 'b>(
 #[tactic(auto, unfolding(crate::specs::Reading::sum_at))]
 fn sum<'a, 'b>(
     alloc: Global,
-    more: usize,
-    room: usize,
+    limits: Limits,
     tokens: &'b [Placed<'a>],
 ) -> Result<(Measured, &'b [Placed<'a>]), ParseError>
-    requires more { more ≤ 64 }
-    requires low { 0 < room }
-    requires high { room ≤ 64 }
-    ensures exact { Gives (λ x. (phrase x.0.expr, words x.1.now)) result (sum_at (nat_eq more 0) (inside_at more) room (words tokens.now)) }
-    ensures levels { IfOk result (λ x. x.0.levels ≤ room) }
+    ensures exact { Gives (λ x. (phrase x.0.expr, words x.1.now)) result (sum_at (nat_eq limits.more 0) (inside_at limits.more) limits.room (words tokens.now)) }
+    ensures levels { IfOk result (λ x. x.0.levels ≤ limits.room) }
 {
-    let (mut left, mut rest) = term(alloc, more, room, tokens)?;
-    for _ in 0..room {
+    let (mut left, mut rest) = term(alloc, limits, tokens)?;
+    for _ in 0..limits.room {
         let Some(operation) = additive(rest) else {
             return Ok((left, rest));
         };
-        if left.levels >= room {
+        if left.levels >= limits.room {
             return Err(ParseError::Stuck(rest.len()));
         }
-        let (right, after) = term(alloc, more, room - 1, rest_of(rest))?;
+        let (right, after) = term(alloc, limits.lower(), rest_of(rest))?;
         left = joined(alloc, operation, left, right)?;
         rest = after;
     }
@@ -118,25 +160,21 @@ fn sum<'a, 'b>(
 #[tactic(auto, unfolding(crate::specs::Reading::term_at))]
 fn term<'a, 'b>(
     alloc: Global,
-    more: usize,
-    room: usize,
+    limits: Limits,
     tokens: &'b [Placed<'a>],
 ) -> Result<(Measured, &'b [Placed<'a>]), ParseError>
-    requires more { more ≤ 64 }
-    requires low { 0 < room }
-    requires high { room ≤ 64 }
-    ensures exact { Gives (λ x. (phrase x.0.expr, words x.1.now)) result (term_at (nat_eq more 0) (inside_at more) room (words tokens.now)) }
-    ensures levels { IfOk result (λ x. x.0.levels ≤ room) }
+    ensures exact { Gives (λ x. (phrase x.0.expr, words x.1.now)) result (term_at (nat_eq limits.more 0) (inside_at limits.more) limits.room (words tokens.now)) }
+    ensures levels { IfOk result (λ x. x.0.levels ≤ limits.room) }
 {
-    let (mut left, mut rest) = unary(alloc, more, room, tokens)?;
-    for _ in 0..room {
+    let (mut left, mut rest) = unary(alloc, limits, tokens)?;
+    for _ in 0..limits.room {
         let Some(operation) = multiplicative(rest) else {
             return Ok((left, rest));
         };
-        if left.levels >= room {
+        if left.levels >= limits.room {
             return Err(ParseError::Stuck(rest.len()));
         }
-        let (right, after) = unary(alloc, more, room - 1, rest_of(rest))?;
+        let (right, after) = unary(alloc, limits.lower(), rest_of(rest))?;
         left = joined(alloc, operation, left, right)?;
         rest = after;
     }
@@ -147,23 +185,19 @@ fn term<'a, 'b>(
 #[tactic(auto, unfolding(crate::specs::Reading::unary_at))]
 fn unary<'a, 'b>(
     alloc: Global,
-    more: usize,
-    room: usize,
+    limits: Limits,
     tokens: &'b [Placed<'a>],
 ) -> Result<(Measured, &'b [Placed<'a>]), ParseError>
-    requires more { more ≤ 64 }
-    requires low { 0 < room }
-    requires high { room ≤ 64 }
-    ensures exact { Gives (λ x. (phrase x.0.expr, words x.1.now)) result (unary_at (nat_eq more 0) (inside_at more) room (words tokens.now)) }
-    ensures levels { IfOk result (λ x. x.0.levels ≤ room) }
+    ensures exact { Gives (λ x. (phrase x.0.expr, words x.1.now)) result (unary_at (nat_eq limits.more 0) (inside_at limits.more) limits.room (words tokens.now)) }
+    ensures levels { IfOk result (λ x. x.0.levels ≤ limits.room) }
 {
     if !starts(tokens, Mark::Minus) {
-        return atom(alloc, more, room, tokens);
+        return atom(alloc, limits, tokens);
     }
-    if room == 1 {
+    if limits.room == 1 {
         return Err(ParseError::Stuck(tokens.len()));
     }
-    let (inner, rest) = unary(alloc, more, room - 1, rest_of(tokens))?;
+    let (inner, rest) = unary(alloc, limits.lower(), rest_of(tokens))?;
     let levels = inner.levels + 1;
     let expr = Expr::Negate(Box::new(alloc, inner.expr)?);
     Ok((Measured { expr, levels }, rest))
@@ -173,75 +207,63 @@ fn unary<'a, 'b>(
 #[tactic(auto, unfolding(crate::specs::Reading::atom_at))]
 fn atom<'a, 'b>(
     alloc: Global,
-    more: usize,
-    room: usize,
+    limits: Limits,
     tokens: &'b [Placed<'a>],
 ) -> Result<(Measured, &'b [Placed<'a>]), ParseError>
-    requires more { more ≤ 64 }
-    requires low { 0 < room }
-    requires high { room ≤ 64 }
-    ensures exact { Gives (λ x. (phrase x.0.expr, words x.1.now)) result (atom_at (nat_eq more 0) (inside_at more) room (words tokens.now)) }
-    ensures levels { IfOk result (λ x. x.0.levels ≤ room) }
+    ensures exact { Gives (λ x. (phrase x.0.expr, words x.1.now)) result (atom_at (nat_eq limits.more 0) (inside_at limits.more) limits.room (words tokens.now)) }
+    ensures levels { IfOk result (λ x. x.0.levels ≤ limits.room) }
 {
     if starts(tokens, Mark::OpenParen) {
-        let (inner, rest) = inside(alloc, more, room, tokens)?;
+        let (inner, rest) = inside(alloc, limits, tokens)?;
         let rest = mark(rest, Mark::CloseParen)?;
         return Ok((inner, rest));
     }
-    plain_atom(alloc, more, room, tokens)
+    plain_atom(alloc, limits, tokens)
 }
 
 #[cycle(reading)]
 #[tactic(auto, unfolding(crate::specs::Reading::plain_atom_at))]
 fn plain_atom<'a, 'b>(
     alloc: Global,
-    more: usize,
-    room: usize,
+    limits: Limits,
     tokens: &'b [Placed<'a>],
 ) -> Result<(Measured, &'b [Placed<'a>]), ParseError>
-    requires more { more ≤ 64 }
-    requires low { 0 < room }
-    requires high { room ≤ 64 }
-    ensures exact { Gives (λ x. (phrase x.0.expr, words x.1.now)) result (plain_atom_at (nat_eq more 0) (inside_at more) room (words tokens.now)) }
-    ensures levels { IfOk result (λ x. x.0.levels ≤ room) }
+    ensures exact { Gives (λ x. (phrase x.0.expr, words x.1.now)) result (plain_atom_at (nat_eq limits.more 0) (inside_at limits.more) limits.room (words tokens.now)) }
+    ensures levels { IfOk result (λ x. x.0.levels ≤ limits.room) }
 {
     if starts(tokens, Mark::Has) {
-        return has(alloc, more, room, tokens);
+        return has(alloc, limits, tokens);
     }
     if starts(tokens, Mark::Limit) {
-        return limit(alloc, room, rest_of(tokens));
+        return limit(alloc, limits, rest_of(tokens));
     }
     if let Some(n) = front_number(tokens) {
         let expr = Expr::Number(n);
         return Ok((Measured { expr, levels: 1 }, rest_of(tokens)));
     }
     let (x, rest) = name(alloc, tokens)?;
-    after_name(alloc, more, room, x, rest)
+    after_name(alloc, limits, x, rest)
 }
 
 #[cycle(reading)]
 #[tactic(auto, unfolding(crate::specs::Reading::after_name_at))]
 fn after_name<'a, 'b>(
     alloc: Global,
-    more: usize,
-    room: usize,
+    limits: Limits,
     x: String,
     tokens: &'b [Placed<'a>],
 ) -> Result<(Measured, &'b [Placed<'a>]), ParseError>
-    requires more { more ≤ 64 }
-    requires low { 0 < room }
-    requires high { room ≤ 64 }
-    ensures exact { Gives (λ x. (phrase x.0.expr, words x.1.now)) result (after_name_at (inside_at more) room (string_bytes x) (words tokens.now)) }
-    ensures levels { IfOk result (λ x. x.0.levels ≤ room) }
+    ensures exact { Gives (λ x. (phrase x.0.expr, words x.1.now)) result (after_name_at (inside_at limits.more) limits.room (string_bytes x) (words tokens.now)) }
+    ensures levels { IfOk result (λ x. x.0.levels ≤ limits.room) }
 {
     if !starts(tokens, Mark::OpenBracket) {
         let expr = Expr::Name(x);
         return Ok((Measured { expr, levels: 1 }, tokens));
     }
-    if room <= 1 {
+    if limits.room <= 1 {
         return Err(ParseError::Stuck(tokens.len()));
     }
-    let (row, rest) = inside(alloc, more, room - 1, tokens)?;
+    let (row, rest) = inside(alloc, limits.lower(), tokens)?;
     let rest = mark(mark(rest, Mark::CloseBracket)?, Mark::Dot)?;
     let (column, rest) = name(alloc, rest)?;
     let levels = row.levels + 1;
@@ -252,12 +274,11 @@ fn after_name<'a, 'b>(
 #[tactic(auto, unfolding(crate::specs::Reading::limit_at))]
 fn limit<'a, 'b>(
     alloc: Global,
-    room: usize,
+    limits: Limits,
     tokens: &'b [Placed<'a>],
 ) -> Result<(Measured, &'b [Placed<'a>]), ParseError>
-    requires low { 0 < room }
     ensures exact { Gives (λ x. (phrase x.0.expr, words x.1.now)) result (limit_at (words tokens.now)) }
-    ensures levels { IfOk result (λ x. x.0.levels ≤ room) }
+    ensures levels { IfOk result (λ x. x.0.levels ≤ limits.room) }
 {
     let (x, rest) = name(alloc, tokens)?;
     let expr = Expr::Limit(x);
@@ -268,45 +289,38 @@ fn limit<'a, 'b>(
 #[tactic(auto, unfolding(crate::specs::Reading::has_at))]
 fn has<'a, 'b>(
     alloc: Global,
-    more: usize,
-    room: usize,
+    limits: Limits,
     tokens: &'b [Placed<'a>],
 ) -> Result<(Measured, &'b [Placed<'a>]), ParseError>
-    requires more { more ≤ 64 }
-    requires low { 0 < room }
-    requires high { room ≤ 64 }
-    ensures exact { Gives (λ x. (phrase x.0.expr, words x.1.now)) result (has_at (nat_eq more 0) (inside_at more) room (words tokens.now)) }
-    ensures levels { IfOk result (λ x. x.0.levels ≤ room) }
+    ensures exact { Gives (λ x. (phrase x.0.expr, words x.1.now)) result (has_at (nat_eq limits.more 0) (inside_at limits.more) limits.room (words tokens.now)) }
+    ensures levels { IfOk result (λ x. x.0.levels ≤ limits.room) }
 {
-    if room <= 1 {
+    if limits.room <= 1 {
         return Err(ParseError::Stuck(tokens.len()));
     }
     let (x, rest) = name(alloc, rest_of(tokens))?;
-    row(alloc, more, room, x, rest)
+    row(alloc, limits, x, rest)
 }
 
 #[cycle(reading)]
 #[tactic(auto, unfolding(crate::specs::Reading::row_at, crate::specs::Reading::over_as))]
 fn row<'a, 'b>(
     alloc: Global,
-    more: usize,
-    room: usize,
+    limits: Limits,
     x: String,
     tokens: &'b [Placed<'a>],
 ) -> Result<(Measured, &'b [Placed<'a>]), ParseError>
-    requires more { more ≤ 64 }
-    requires low { 1 < room }
-    requires high { room ≤ 64 }
-    ensures exact { Gives (λ x. (phrase x.0.expr, words x.1.now)) result (row_at (nat_eq more 0) (inside_at more) room (string_bytes x) (words tokens.now)) }
-    ensures levels { IfOk result (λ x. x.0.levels ≤ room) }
+    requires room { 1 < limits.room }
+    ensures exact { Gives (λ x. (phrase x.0.expr, words x.1.now)) result (row_at (nat_eq limits.more 0) (inside_at limits.more) limits.room (string_bytes x) (words tokens.now)) }
+    ensures levels { IfOk result (λ x. x.0.levels ≤ limits.room) }
 {
-    if is_full(more) {
+    if is_full(limits.more) {
         return Err(ParseError::Stuck(left(tokens)));
     }
     if !starts(tokens, Mark::OpenBracket) {
         return Err(ParseError::Stuck(tokens.len()));
     }
-    let (row, rest) = inside(alloc, more, room - 1, tokens)?;
+    let (row, rest) = inside(alloc, limits.lower(), tokens)?;
     let rest = mark(rest, Mark::CloseBracket)?;
     let levels = row.levels + 1;
     let expr = Expr::Has(x, Box::new(alloc, row.expr)?);
@@ -317,18 +331,14 @@ fn row<'a, 'b>(
 #[tactic(auto, unfolding(crate::specs::Reading::inside_at, crate::specs::Reading::expr_at))]
 fn inside<'a, 'b>(
     alloc: Global,
-    more: usize,
-    room: usize,
+    limits: Limits,
     tokens: &'b [Placed<'a>],
 ) -> Result<(Measured, &'b [Placed<'a>]), ParseError>
-    requires more { more ≤ 64 }
-    requires low { 0 < room }
-    requires high { room ≤ 64 }
-    ensures exact { Gives (λ x. (phrase x.0.expr, words x.1.now)) result (inside_at more room (words tokens.now)) }
-    ensures levels { IfOk result (λ x. x.0.levels ≤ room) }
+    ensures exact { Gives (λ x. (phrase x.0.expr, words x.1.now)) result (inside_at limits.more limits.room (words tokens.now)) }
+    ensures levels { IfOk result (λ x. x.0.levels ≤ limits.room) }
 {
-    if more == 0 {
+    if limits.more == 0 {
         return Err(ParseError::Stuck(tokens.len()));
     }
-    expression(alloc, more - 1, room, rest_of(tokens))
+    expression(alloc, limits.inner(), rest_of(tokens))
 }

@@ -3,7 +3,7 @@
 ghost use Rattle.std.specs.Prelude.{◌≡◌, ◌<◌, [], IfOk, IfSome, OnOk, map, length, option_map};
 ghost use Rattle.program_tree.specs.View.{decl, tree};
 ghost use Rattle.source_tree.specs.Source.{texts};
-ghost use Rattle.source_tree.specs.Lowering.{place_of};
+ghost use Rattle.source_tree.specs.Lowering.{found_index};
 ghost use Rattle.procedure_parser.specs.Defining.{with_new, names_from, procedures_in, room_of, room_behind, turns_of};
 ghost use Rattle.procedure_parser.specs.Rooms as seen;
 
@@ -17,8 +17,8 @@ pub struct Room {
     left: u32,
 }
 
-fn place_of(names: &[String], name: &str) -> Option<usize>
-    ensures exact { result ≡ place_of name.now (texts names.now) }
+fn found_index(names: &[String], name: &str) -> Option<usize>
+    ensures exact { result ≡ found_index name.now (texts names.now) }
     ensures there { IfSome result (λ n. n < length names.now) }
 {
     for (place, other) in names.iter().enumerate() {
@@ -33,7 +33,7 @@ fn place_of(names: &[String], name: &str) -> Option<usize>
 fn add_new(alloc: Global, names: &mut Vec<String>, name: &str) -> Result<(), AllocError>
     ensures { OnOk result (texts names.new.items ≡ with_new (texts names.old.items) name.now) }
 {
-    if place_of(names, name).is_some() {
+    if found_index(names, name).is_some() {
         return Ok(());
     }
     names.push(String::from_str(alloc, name)?)?;
@@ -79,7 +79,7 @@ pub fn room_of(alloc: Global, program: &Program) -> Result<Room, AllocError>
 pub fn room_behind(mut room: Room, name: &str) -> Option<Room>
     ensures { option_map seen.room result ≡ room_behind (seen.room room) name.now }
 {
-    match place_of(&room.known, name) {
+    match found_index(&room.known, name) {
         Some(place) => {
             room.known.remove(place);
             Some(room)

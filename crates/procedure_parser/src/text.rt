@@ -5,17 +5,18 @@ ghost use Rattle.token_scanner.specs.Words.{words};
 ghost use Rattle.program_tree.specs.View.{tree, lines};
 ghost use Rattle.source_tree.specs.Source.{Source, source};
 ghost use Rattle.procedure_parser.specs.Correct.{line_at, IsText, IsSource, AnswersSource, Answers, IsFault};
+ghost use Rattle.token_scanner.specs.Scanning.{longest_text};
 
 use crate::declaration;
 use crate::fault::{ParseError, TextError};
 use program_tree::Program;
 use source_tree::{Declaration, lower};
 use std::alloc::Global;
-use token_scanner::{Placed, line_ends, tokens};
+use token_scanner::{LONGEST_TEXT, Placed, line_ends, tokens};
 
 /// The line of the token from which so many are left, or that of the text's end.
 pub fn fault_line(text: &[u8], tokens: &[Placed], left: usize) -> u32
-    requires { length text.now ≤ 1048576 }
+    requires { length text.now ≤ longest_text }
     ensures { result ≡ line_at text.now (drop (length tokens.now - left) (words tokens.now)) }
 {
     let at = tokens.len().saturating_sub(left);
@@ -35,7 +36,7 @@ fn parse_source(alloc: Global, text: &[u8]) -> Result<Vec<Declaration>, TextErro
     // A fault is at the first token that can't follow; line 0 is that of a text that is too long.
     ensures fault { IfErr result (λ e. IsFault text.now e) }
 {
-    if text.len() > 1048576 {
+    if text.len() > LONGEST_TEXT {
         return Err(TextError::Text { line: 0 });
     }
     let tokens = tokens(alloc, text)?;

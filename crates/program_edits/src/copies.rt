@@ -4,7 +4,7 @@ ghost use Rattle.std.specs.Prelude.{◌≡◌, IfOk, map, string_bytes};
 ghost use Rattle.program_tree.specs.Plain.{cell, has, negate, binary};
 ghost use Rattle.program_tree.specs.View.{term, proc, decl, lined, block_lines};
 ghost use Rattle.source_tree.specs.Source.{texts};
-ghost use Rattle.source_tree.specs.Layout.{act, entries, flats, Loop, Enter, Update};
+ghost use Rattle.source_tree.specs.Layout.{flat_deed, entries, flats, Loop, Enter, Update};
 
 use program_tree::{
     Action, Block, Declaration, Expr, Operator, Procedure, Reducer, Statement, Way,
@@ -91,7 +91,7 @@ fn copy_loop(
     callee: &str,
     arguments: &[Expr],
 ) -> Result<Action, AllocError>
-    ensures { IfOk result (λ a. act a ≡ Loop x (term low.now) (term high.now) grain callee.now (map term arguments.now)) }
+    ensures { IfOk result (λ a. flat_deed a ≡ Loop x (term low.now) (term high.now) grain callee.now (map term arguments.now)) }
 {
     let low = copy_expression(alloc, low)?;
     let high = copy_expression(alloc, high)?;
@@ -107,7 +107,7 @@ fn copy_enter(
     callee: &str,
     arguments: &[Expr],
 ) -> Result<Action, AllocError>
-    ensures { IfOk result (λ a. act a ≡ Enter bound way callee.now (map term arguments.now)) }
+    ensures { IfOk result (λ a. flat_deed a ≡ Enter bound way callee.now (map term arguments.now)) }
 {
     let callee = String::from_str(alloc, callee)?;
     let arguments = copy_expressions(alloc, arguments)?;
@@ -115,14 +115,14 @@ fn copy_enter(
 }
 
 fn copy_update(alloc: Global, reducer: &str, numbers: &[Expr]) -> Result<Action, AllocError>
-    ensures { IfOk result (λ a. act a ≡ Update reducer.now (map term numbers.now)) }
+    ensures { IfOk result (λ a. flat_deed a ≡ Update reducer.now (map term numbers.now)) }
 {
     let reducer = String::from_str(alloc, reducer)?;
     Ok(Action::Update(reducer, copy_expressions(alloc, numbers)?))
 }
 
 fn copy_action(alloc: Global, action: &Action) -> Result<Action, AllocError>
-    ensures { IfOk result (λ a. act a ≡ act action.now) }
+    ensures { IfOk result (λ a. flat_deed a ≡ flat_deed action.now) }
 {
     match action {
         Action::Bind(x, value) => Ok(Action::Bind(*x, copy_expression(alloc, value)?)),

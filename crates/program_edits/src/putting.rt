@@ -5,7 +5,7 @@ ghost use Rattle.program_tree.specs.View.{proc, decl, tree, lined, lines, block_
 ghost use Rattle.program_tree.specs.Plain as plain;
 ghost use Rattle.program_tree.specs.declared.Declaration.TheVariants as variant;
 ghost use Rattle.source_tree.specs.Source as written;
-ghost use Rattle.source_tree.specs.Lowering.{BodiesWithin};
+ghost use Rattle.source_tree.specs.Lowering.{BodiesWithin, most_statements};
 ghost use Rattle.program_edits.specs.Putting.{is_in, is_procedure, last_place, spot_of, put_at, put_all};
 
 use crate::copies::copy_declarations;
@@ -77,7 +77,7 @@ pub fn with_procedures(
     program: &Program,
     source: &[source_tree::Declaration],
 ) -> Result<Program, AllocError>
-    requires { BodiesWithin 1048576 (written.source source.now) }
+    requires { BodiesWithin most_statements (written.source source.now) }
     ensures { IfOk result (λ p. (tree p, lines p) ≡ put_all [] (written.source source.now) (tree program.now, lines program.now)) }
 {
     let mut declarations = copy_declarations(alloc, &program.declarations)?;

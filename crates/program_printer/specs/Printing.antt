@@ -1,10 +1,11 @@
 -- The one printed form of a program: its tokens. Each function gives the tokens of a part, and then the rest.
-use Rattle.std.specs.Prelude.{ℕ, ◌*◌, pos, List, [], ◌∷◌, take, Bool, true, false, Option, Some, None, unwrap_or, slice_get, codes}
+use Rattle.std.specs.Prelude.{ℕ, ◌*◌, pos, List, [], ◌∷◌, map, take, Bool, true, false, Option, Some, None, unwrap_or, slice_get, codes, string_bytes}
 use Rattle.monoid_laws.specs.declared.Kind.{Kind}
 use Rattle.monoid_laws.specs.declared.Kind.TheVariants as kind
 use Rattle.monoid_laws.specs.declared.Table.{Table}
 use Rattle.program_tree.specs.declared.Operator.{Operator}
 use Rattle.program_tree.specs.declared.Operator.TheVariants.{Add, Subtract, Multiply, Divide, Remainder, Equal, Unequal, Less, AtMost, Greater, AtLeast}
+use Rattle.program_tree.specs.declared.Procedure.{Procedure}
 use Rattle.program_tree.specs.declared.Way.{Way}
 use Rattle.program_tree.specs.declared.Way.TheVariants as way
 use Rattle.program_tree.specs.Plain.{Name, Term, number, name, cell, has, limit, negate, binary, Deed, bind, enter, read, sync, update, choose, loop, give, Body, end, step, Proc, Decl, reducer, procedure, Tree}
@@ -30,6 +31,10 @@ operator_mark AtLeast = mark.AtLeast
 abbrev pub way_mark : Way → Mark
 way_mark way.Call = mark.Call
 way_mark way.Spawn = mark.Spawn
+
+-- the names of a procedure's pool
+abbrev pub names_of : Procedure → List Name
+names_of p = map string_bytes p.names.items
 
 -- the name of a variable
 abbrev pub variable : List Name → ℕ → Name
@@ -68,6 +73,18 @@ abbrev pub bound_words : List Name → Option ℕ → List Word → List Word
 bound_words names None us = us
 bound_words names (Some x) us = word.Name (variable names x) ∷ Sign mark.Assign ∷ us
 
+-- behind a loop's variable
+abbrev pub range_words : List Name → Term → Term → ℕ → List Word → List Word
+range_words names low high grain us = term_words names low (Sign mark.Range ∷ term_words names high (Sign mark.Grain ∷ Number (pos grain) ∷ Sign mark.Colon ∷ us))
+
+-- what stands before the procedure that a loop enters
+abbrev pub loop_words : List Name → ℕ → Term → Term → ℕ → List Word → List Word
+loop_words names x low high grain us = Sign mark.CilkFor ∷ word.Name (variable names x) ∷ Sign mark.In ∷ range_words names low high grain us
+
+-- what stands before the first block of an `if`
+abbrev pub test_words : List Name → Term → List Word → List Word
+test_words names e us = Sign mark.If ∷ term_words names e (Sign mark.OpenBrace ∷ us)
+
 -- whether a block has no statements
 abbrev pub is_end : Body → Bool
 is_end end = true
@@ -80,8 +97,8 @@ abbrev mutual
   deed_words names (read x r) us = word.Name (variable names x) ∷ Sign mark.Assign ∷ Sign mark.Read ∷ word.Name r ∷ Sign mark.Semicolon ∷ us
   deed_words names sync us = Sign mark.Sync ∷ Sign mark.Semicolon ∷ us
   deed_words names (update r es) us = Sign mark.Update ∷ word.Name r ∷ terms_words names es (Sign mark.Semicolon ∷ us)
-  deed_words names (choose e b c) us = Sign mark.If ∷ term_words names e (Sign mark.OpenBrace ∷ body_words names b (Sign mark.CloseBrace ∷ else_words names c us))
-  deed_words names (loop x low high grain f es) us = Sign mark.CilkFor ∷ word.Name (variable names x) ∷ Sign mark.In ∷ term_words names low (Sign mark.Range ∷ term_words names high (Sign mark.Grain ∷ Number (pos grain) ∷ Sign mark.Colon ∷ entry_words names f es us))
+  deed_words names (choose e b c) us = test_words names e (body_words names b (Sign mark.CloseBrace ∷ else_words names c us))
+  deed_words names (loop x low high grain f es) us = loop_words names x low high grain (entry_words names f es us)
   deed_words names (give e) us = Sign mark.Return ∷ term_words names e (Sign mark.Semicolon ∷ us)
 
   pub body_words : List Name → Body → List Word → List Word
@@ -134,9 +151,17 @@ abbrev pub memo_words : Bool → List Word → List Word
 memo_words true us = Sign mark.Memo ∷ us
 memo_words false us = us
 
+-- behind `proc`: the name, the parameters and the mark that opens the block
+abbrev pub head_words : Name → List Name → List Word → List Word
+head_words f parameters us = word.Name f ∷ Sign mark.OpenParen ∷ names_words parameters (Sign mark.CloseParen ∷ Sign mark.OpenBrace ∷ us)
+
+-- what stands before a procedure's statements, but for its mark
+abbrev pub opening_words : Procedure → List Word → List Word
+opening_words p us = Sign mark.Proc ∷ head_words (string_bytes p.name) (take p.parameters (names_of p)) us
+
 -- behind `proc`
 abbrev pub proc_words : Proc → List Word → List Word
-proc_words p us = word.Name p.called ∷ Sign mark.OpenParen ∷ names_words (take p.parameters p.names) (Sign mark.CloseParen ∷ Sign mark.OpenBrace ∷ body_words p.names p.body (Sign mark.CloseBrace ∷ us))
+proc_words p us = head_words p.called (take p.parameters p.names) (body_words p.names p.body (Sign mark.CloseBrace ∷ us))
 
 abbrev pub decl_words : Decl → List Word → List Word
 decl_words (reducer r) us = Sign mark.Reducer ∷ word.Name r.called ∷ Sign mark.Colon ∷ kind_words r.kind (Sign mark.Semicolon ∷ us)

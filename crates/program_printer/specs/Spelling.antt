@@ -1,6 +1,8 @@
 -- How tokens are written: one after the other, parted by a space or by an end of line.
-use Rattle.std.specs.Prelude.{◌≡◌, ℕ, List, [], ◌∷◌, ◌++◌, Bool, true, false, if◌then◌else◌, codes}
+use Rattle.std.specs.Prelude.{◌≡◌, ℕ, List, [], ◌∷◌, ◌++◌, Bool, true, false, if◌then◌else◌, codes, string_bytes}
 use Rattle.std.specs.Fmt.{signed_decimal}
+use Rattle.std.specs.Global.{Global}
+use Rattle.std.specs.declared.string.String.{String}
 use Rattle.token_scanner.specs.declared.token.Mark.{Mark}
 use Rattle.token_scanner.specs.declared.token.Mark.TheVariants.{OpenBrace, CloseBrace, OpenParen, CloseParen, OpenBracket, CloseBracket, Colon, Semicolon, Comma, Dot, Range, Assign, Equal, Unequal, Less, AtMost, Greater, AtLeast, Plus, Minus, Star, Slash, Percent, Reducer, Memo, Proc, Call, Spawn, Sync, Update, If, Else, CilkFor, In, Grain, Return, Read, Has, Limit}
 use Rattle.token_scanner.specs.Words.{Word, Name, Number, Sign, Bad, Over}
@@ -80,3 +82,10 @@ Puts old new part = (rest : List Word) → old ++ written (part rest) ≡ new ++
 -- the same of a part that may end with `}`
 abbrev pub PutsBlock : List ℕ → List ℕ → (List Word → List Word) → Type 0
 PutsBlock old new part = (rest : List Word) → starts_else rest ≡ false → old ++ written (part rest) ≡ new ++ written rest
+
+-- the same of texts as code has them
+abbrev pub Grows : String Global → String Global → (List Word → List Word) → Type 0
+Grows old new part = Puts (string_bytes old) (string_bytes new) part
+
+abbrev pub GrowsByBlock : String Global → String Global → (List Word → List Word) → Type 0
+GrowsByBlock old new part = PutsBlock (string_bytes old) (string_bytes new) part

@@ -5,8 +5,8 @@ ghost use Rattle.program_tree.specs.Plain.{Body, choose};
 ghost use Rattle.program_tree.specs.View.{term, deed, statements, statements_of, block};
 ghost use Rattle.token_scanner.specs.Words.{Word, Sign};
 ghost use Rattle.token_scanner.specs.declared.token.Mark.TheVariants as mark;
-ghost use Rattle.program_printer.specs.Spelling.{Puts, PutsBlock};
-ghost use Rattle.program_printer.specs.Printing.{term_words, deed_words, body_words, else_words, is_end};
+ghost use Rattle.program_printer.specs.Spelling.{Puts, Grows, GrowsByBlock};
+ghost use Rattle.program_printer.specs.Printing.{test_words, deed_words, body_words, else_words, is_end, names_of};
 
 use crate::expression::put_expression;
 use crate::statement::{
@@ -36,7 +36,7 @@ fn is_empty(procedure: &Procedure, levels: usize, number: usize) -> bool
 /// Puts the condition of an `if` and the mark that opens its block at the end of the text.
 #[tactic(auto, unfolding(crate::specs::Spelling::written))]
 fn put_test(text: &mut String, procedure: &Procedure, condition: &Expr) -> Result<(), AllocError>
-    ensures { OnOk result (Puts (string_bytes text.old) (string_bytes text.new) (λ us. Sign mark.If ∷ term_words (map string_bytes procedure.now.names.items) (term condition.now) (Sign mark.OpenBrace ∷ us))) }
+    ensures { OnOk result (Grows text.old text.new (test_words (names_of procedure.now) (term condition.now))) }
 {
     text.push_str("if ")?;
     put_expression(text, procedure, condition)?;
@@ -46,7 +46,7 @@ fn put_test(text: &mut String, procedure: &Procedure, condition: &Expr) -> Resul
 /// Puts the mark that closes a block at the end of the text.
 #[tactic(auto, unfolding(crate::specs::Spelling::written))]
 pub fn put_close(text: &mut String) -> Result<(), AllocError>
-    ensures { OnOk result (PutsBlock (string_bytes text.old) (string_bytes text.new) (λ us. Sign mark.CloseBrace ∷ us)) }
+    ensures { OnOk result (GrowsByBlock text.old text.new (λ us. Sign mark.CloseBrace ∷ us)) }
 {
     text.push_str("}\n")
 }
@@ -54,7 +54,7 @@ pub fn put_close(text: &mut String) -> Result<(), AllocError>
 /// Puts the marks between an `if`'s block and its `else`'s at the end of the text.
 #[tactic(auto, unfolding(crate::specs::Spelling::written))]
 fn put_otherwise(text: &mut String) -> Result<(), AllocError>
-    ensures { OnOk result (Puts (string_bytes text.old) (string_bytes text.new) (λ us. Sign mark.CloseBrace ∷ Sign mark.Else ∷ Sign mark.OpenBrace ∷ us)) }
+    ensures { OnOk result (Grows text.old text.new (λ us. Sign mark.CloseBrace ∷ Sign mark.Else ∷ Sign mark.OpenBrace ∷ us)) }
 {
     text.push_str("} else {\n")
 }
@@ -67,8 +67,8 @@ fn put_statement(
     levels: usize,
     statement: &Statement,
 ) -> Result<(), AllocError>
-    ensures { OnOk result (PutsBlock (string_bytes text.old) (string_bytes text.new)
-        (deed_words (map string_bytes procedure.now.names.items) (deed (block procedure.now.blocks.items levels) statement.now.action))) }
+    ensures { OnOk result (GrowsByBlock text.old text.new
+        (deed_words (names_of procedure.now) (deed (block procedure.now.blocks.items levels) statement.now.action))) }
 {
     match &statement.action {
         Action::Bind(x, value) => put_bind(text, procedure, *x, value),
@@ -99,8 +99,8 @@ fn put_if(
     then: usize,
     otherwise: usize,
 ) -> Result<(), AllocError>
-    ensures { OnOk result (PutsBlock (string_bytes text.old) (string_bytes text.new)
-        (deed_words (map string_bytes procedure.now.names.items) (choose (term condition.now) (block procedure.now.blocks.items levels then) (block procedure.now.blocks.items levels otherwise)))) }
+    ensures { OnOk result (GrowsByBlock text.old text.new
+        (deed_words (names_of procedure.now) (choose (term condition.now) (block procedure.now.blocks.items levels then) (block procedure.now.blocks.items levels otherwise)))) }
 {
     put_test(text, procedure, condition)?;
     put_block(text, procedure, levels, then)?;
@@ -115,8 +115,8 @@ fn put_else(
     levels: usize,
     otherwise: usize,
 ) -> Result<(), AllocError>
-    ensures { OnOk result (PutsBlock (string_bytes text.old) (string_bytes text.new)
-        (λ us. Sign mark.CloseBrace ∷ else_words (map string_bytes procedure.now.names.items) (block procedure.now.blocks.items levels otherwise) us)) }
+    ensures { OnOk result (GrowsByBlock text.old text.new
+        (λ us. Sign mark.CloseBrace ∷ else_words (names_of procedure.now) (block procedure.now.blocks.items levels otherwise) us)) }
 {
     if is_empty(procedure, levels, otherwise) {
         return put_close(text);
@@ -134,8 +134,8 @@ pub fn put_block(
     levels: usize,
     number: usize,
 ) -> Result<(), AllocError>
-    ensures { OnOk result (PutsBlock (string_bytes text.old) (string_bytes text.new)
-        (body_words (map string_bytes procedure.now.names.items) (block procedure.now.blocks.items levels number))) }
+    ensures { OnOk result (GrowsByBlock text.old text.new
+        (body_words (names_of procedure.now) (block procedure.now.blocks.items levels number))) }
 {
     if levels == 0 {
         return Ok(());
@@ -152,8 +152,8 @@ fn put_statements(
     levels: usize,
     body: &[Statement],
 ) -> Result<(), AllocError>
-    ensures { OnOk result (PutsBlock (string_bytes text.old) (string_bytes text.new)
-        (body_words (map string_bytes procedure.now.names.items) (statements (block procedure.now.blocks.items levels) body.now))) }
+    ensures { OnOk result (GrowsByBlock text.old text.new
+        (body_words (names_of procedure.now) (statements (block procedure.now.blocks.items levels) body.now))) }
 {
     for statement in body {
         put_statement(text, procedure, levels, statement)?;

@@ -7,8 +7,8 @@ ghost use Rattle.program_tree.specs.Plain as plain;
 ghost use Rattle.token_scanner.specs.Words.{Word, Sign, Number};
 ghost use Rattle.token_scanner.specs.Words as word;
 ghost use Rattle.token_scanner.specs.declared.token.Mark.TheVariants as mark;
-ghost use Rattle.program_printer.specs.Spelling.{Puts, PutsBlock};
-ghost use Rattle.program_printer.specs.Printing.{more_numbers, numbers_words, table_words, kind_words, more_names, names_words, memo_words, body_words, decl_words};
+ghost use Rattle.program_printer.specs.Spelling.{Puts, Grows, GrowsByBlock};
+ghost use Rattle.program_printer.specs.Printing.{more_numbers, numbers_words, table_words, kind_words, more_names, names_words, memo_words, decl_words, names_of, opening_words};
 
 use crate::block::{put_block, put_close};
 use monoid_laws::{Kind, Table};
@@ -18,7 +18,7 @@ use std::fmt::Write;
 
 /// Puts numbers, each behind a comma, at the end of the text.
 fn put_more_numbers(text: &mut String, numbers: &[u8]) -> Result<(), AllocError>
-    ensures { OnOk result (Puts (string_bytes text.old) (string_bytes text.new) (more_numbers numbers.now)) }
+    ensures { OnOk result (Grows text.old text.new (more_numbers numbers.now)) }
 {
     for number in numbers {
         put_next_number(text, *number)?;
@@ -29,7 +29,7 @@ fn put_more_numbers(text: &mut String, numbers: &[u8]) -> Result<(), AllocError>
 /// Puts a comma and a number at the end of the text.
 #[tactic(auto, unfolding(crate::specs::Spelling::written))]
 fn put_next_number(text: &mut String, number: u8) -> Result<(), AllocError>
-    ensures { OnOk result (Puts (string_bytes text.old) (string_bytes text.new) (λ us. Sign mark.Comma ∷ Number (pos number) ∷ us)) }
+    ensures { OnOk result (Grows text.old text.new (λ us. Sign mark.Comma ∷ Number (pos number) ∷ us)) }
 {
     write!(text, ", {number} ")
 }
@@ -37,14 +37,14 @@ fn put_next_number(text: &mut String, number: u8) -> Result<(), AllocError>
 /// Puts a number at the end of the text.
 #[tactic(auto, unfolding(crate::specs::Spelling::written))]
 fn put_number(text: &mut String, number: u8) -> Result<(), AllocError>
-    ensures { OnOk result (Puts (string_bytes text.old) (string_bytes text.new) (λ us. Number (pos number) ∷ us)) }
+    ensures { OnOk result (Grows text.old text.new (λ us. Number (pos number) ∷ us)) }
 {
     write!(text, "{number} ")
 }
 
 /// Puts numbers, parted by commas, at the end of the text.
 fn put_numbers(text: &mut String, numbers: &[u8]) -> Result<(), AllocError>
-    ensures { OnOk result (Puts (string_bytes text.old) (string_bytes text.new) (numbers_words numbers.now)) }
+    ensures { OnOk result (Grows text.old text.new (numbers_words numbers.now)) }
 {
     match numbers {
         [] => Ok(()),
@@ -58,7 +58,7 @@ fn put_numbers(text: &mut String, numbers: &[u8]) -> Result<(), AllocError>
 /// Puts what a table is at the end of the text: its size, its unit and its numbers, row by row.
 #[tactic(auto, unfolding(crate::specs::Spelling::written))]
 fn put_table(text: &mut String, table: &Table) -> Result<(), AllocError>
-    ensures { OnOk result (Puts (string_bytes text.old) (string_bytes text.new) (table_words table.now)) }
+    ensures { OnOk result (Grows text.old text.new (table_words table.now)) }
 {
     let size = table.size;
     let unit = table.unit;
@@ -70,7 +70,7 @@ fn put_table(text: &mut String, table: &Table) -> Result<(), AllocError>
 /// Puts a kind at the end of the text.
 #[tactic(auto, unfolding(crate::specs::Spelling::written))]
 fn put_kind(text: &mut String, kind: &Kind) -> Result<(), AllocError>
-    ensures { OnOk result (Puts (string_bytes text.old) (string_bytes text.new) (kind_words kind.now)) }
+    ensures { OnOk result (Grows text.old text.new (kind_words kind.now)) }
 {
     match kind {
         Kind::Add => text.push_str("add "),
@@ -93,7 +93,7 @@ fn put_kind(text: &mut String, kind: &Kind) -> Result<(), AllocError>
 /// Puts a reducer at the end of the text.
 #[tactic(auto, unfolding(crate::specs::Spelling::written))]
 fn put_reducer(text: &mut String, reducer: &Reducer) -> Result<(), AllocError>
-    ensures { OnOk result (Puts (string_bytes text.old) (string_bytes text.new) (decl_words (plain.reducer (red reducer.now)))) }
+    ensures { OnOk result (Grows text.old text.new (decl_words (plain.reducer (red reducer.now)))) }
 {
     let name = reducer.name.as_str();
     write!(text, "reducer {name} : ")?;
@@ -104,14 +104,14 @@ fn put_reducer(text: &mut String, reducer: &Reducer) -> Result<(), AllocError>
 /// Puts a comma and a name at the end of the text.
 #[tactic(auto, unfolding(crate::specs::Spelling::written))]
 fn put_next_name(text: &mut String, name: &str) -> Result<(), AllocError>
-    ensures { OnOk result (Puts (string_bytes text.old) (string_bytes text.new) (λ us. Sign mark.Comma ∷ word.Name name.now ∷ us)) }
+    ensures { OnOk result (Grows text.old text.new (λ us. Sign mark.Comma ∷ word.Name name.now ∷ us)) }
 {
     write!(text, ", {name} ")
 }
 
 /// Puts names, each behind a comma, at the end of the text.
 fn put_more_names(text: &mut String, names: &[String]) -> Result<(), AllocError>
-    ensures { OnOk result (Puts (string_bytes text.old) (string_bytes text.new) (more_names (map string_bytes names.now))) }
+    ensures { OnOk result (Grows text.old text.new (more_names (map string_bytes names.now))) }
 {
     for name in names {
         put_next_name(text, name.as_str())?;
@@ -122,14 +122,14 @@ fn put_more_names(text: &mut String, names: &[String]) -> Result<(), AllocError>
 /// Puts a name at the end of the text.
 #[tactic(auto, unfolding(crate::specs::Spelling::written))]
 fn put_name(text: &mut String, name: &str) -> Result<(), AllocError>
-    ensures { OnOk result (Puts (string_bytes text.old) (string_bytes text.new) (λ us. word.Name name.now ∷ us)) }
+    ensures { OnOk result (Grows text.old text.new (λ us. word.Name name.now ∷ us)) }
 {
     write!(text, "{name} ")
 }
 
 /// Puts names, parted by commas, at the end of the text.
 fn put_names(text: &mut String, names: &[String]) -> Result<(), AllocError>
-    ensures { OnOk result (Puts (string_bytes text.old) (string_bytes text.new) (names_words (map string_bytes names.now))) }
+    ensures { OnOk result (Grows text.old text.new (names_words (map string_bytes names.now))) }
 {
     match names {
         [] => Ok(()),
@@ -142,7 +142,7 @@ fn put_names(text: &mut String, names: &[String]) -> Result<(), AllocError>
 
 /// A procedure's parameters.
 fn parameters(procedure: &Procedure) -> &[String]
-    ensures { map string_bytes result.now ≡ take procedure.now.parameters (map string_bytes procedure.now.names.items) }
+    ensures { map string_bytes result.now ≡ take procedure.now.parameters (names_of procedure.now) }
 {
     let names: &[String] = &procedure.names;
     &names[..procedure.parameters.min(names.len())]
@@ -151,7 +151,7 @@ fn parameters(procedure: &Procedure) -> &[String]
 /// Puts the mark of a procedure that is recorded at the end of the text.
 #[tactic(auto, unfolding(crate::specs::Spelling::written))]
 fn put_memo(text: &mut String, memo: bool) -> Result<(), AllocError>
-    ensures { OnOk result (Puts (string_bytes text.old) (string_bytes text.new) (memo_words memo)) }
+    ensures { OnOk result (Grows text.old text.new (memo_words memo)) }
 {
     if memo { text.push_str("memo ") } else { Ok(()) }
 }
@@ -159,7 +159,7 @@ fn put_memo(text: &mut String, memo: bool) -> Result<(), AllocError>
 /// Puts the name of a procedure, its parameters and the mark that opens its block at the end of the text.
 #[tactic(auto, unfolding(crate::specs::Spelling::written))]
 fn put_head(text: &mut String, procedure: &Procedure) -> Result<(), AllocError>
-    ensures { OnOk result (Puts (string_bytes text.old) (string_bytes text.new) (λ us. Sign mark.Proc ∷ word.Name (string_bytes procedure.now.name) ∷ Sign mark.OpenParen ∷ names_words (take procedure.now.parameters (map string_bytes procedure.now.names.items)) (Sign mark.CloseParen ∷ Sign mark.OpenBrace ∷ us))) }
+    ensures { OnOk result (Grows text.old text.new (opening_words procedure.now)) }
 {
     let name = procedure.name.as_str();
     write!(text, "proc {name} ( ")?;
@@ -169,7 +169,7 @@ fn put_head(text: &mut String, procedure: &Procedure) -> Result<(), AllocError>
 
 /// Puts a procedure at the end of the text.
 fn put_procedure(text: &mut String, procedure: &Procedure) -> Result<(), AllocError>
-    ensures { OnOk result (PutsBlock (string_bytes text.old) (string_bytes text.new) (decl_words (plain.procedure (proc procedure.now)))) }
+    ensures { OnOk result (GrowsByBlock text.old text.new (decl_words (plain.procedure (proc procedure.now)))) }
 {
     put_memo(text, procedure.memo)?;
     put_head(text, procedure)?;
@@ -179,7 +179,7 @@ fn put_procedure(text: &mut String, procedure: &Procedure) -> Result<(), AllocEr
 
 /// Puts a declaration at the end of the text.
 pub fn put_declaration(text: &mut String, declaration: &Declaration) -> Result<(), AllocError>
-    ensures { OnOk result (PutsBlock (string_bytes text.old) (string_bytes text.new) (decl_words (decl declaration.now))) }
+    ensures { OnOk result (GrowsByBlock text.old text.new (decl_words (decl declaration.now))) }
 {
     match declaration {
         Declaration::Reducer(reducer) => put_reducer(text, reducer),

@@ -5,8 +5,8 @@ ghost use Rattle.program_tree.specs.Plain.{cell, binary};
 ghost use Rattle.program_tree.specs.View.{term};
 ghost use Rattle.token_scanner.specs.Words.{Word, Sign};
 ghost use Rattle.token_scanner.specs.declared.token.Mark.TheVariants as mark;
-ghost use Rattle.program_printer.specs.Spelling.{Puts};
-ghost use Rattle.program_printer.specs.Printing.{variable, term_words, operator_mark};
+ghost use Rattle.program_printer.specs.Spelling.{Puts, Grows};
+ghost use Rattle.program_printer.specs.Printing.{variable, term_words, operator_mark, names_of};
 
 use program_tree::{Expr, Operator, Procedure};
 use std::alloc::AllocError;
@@ -14,7 +14,7 @@ use std::fmt::Write;
 
 /// The name of a variable; none has a number past the pool's end.
 pub fn variable(procedure: &Procedure, number: usize) -> &str
-    ensures { result.now ≡ variable (map string_bytes procedure.now.names.items) number }
+    ensures { result.now ≡ variable (names_of procedure.now) number }
 {
     match procedure.names.get(number) {
         Some(name) => name.as_str(),
@@ -25,7 +25,7 @@ pub fn variable(procedure: &Procedure, number: usize) -> &str
 /// Puts an operator at the end of the text.
 #[tactic(auto, unfolding(crate::specs::Spelling::written))]
 fn put_operator(text: &mut String, operator: Operator) -> Result<(), AllocError>
-    ensures { OnOk result (Puts (string_bytes text.old) (string_bytes text.new) (λ us. Sign (operator_mark operator) ∷ us)) }
+    ensures { OnOk result (Grows text.old text.new (λ us. Sign (operator_mark operator) ∷ us)) }
 {
     match operator {
         Operator::Add => text.push_str("+ "),
@@ -45,7 +45,7 @@ fn put_operator(text: &mut String, operator: Operator) -> Result<(), AllocError>
 /// Puts the beginning of an expression in parentheses at the end of the text.
 #[tactic(auto, unfolding(crate::specs::Spelling::written))]
 fn put_open(text: &mut String) -> Result<(), AllocError>
-    ensures { OnOk result (Puts (string_bytes text.old) (string_bytes text.new) (λ us. Sign mark.OpenParen ∷ us)) }
+    ensures { OnOk result (Grows text.old text.new (λ us. Sign mark.OpenParen ∷ us)) }
 {
     text.push_str("( ")
 }
@@ -53,7 +53,7 @@ fn put_open(text: &mut String) -> Result<(), AllocError>
 /// Puts the end of an expression in parentheses at the end of the text.
 #[tactic(auto, unfolding(crate::specs::Spelling::written))]
 fn put_close(text: &mut String) -> Result<(), AllocError>
-    ensures { OnOk result (Puts (string_bytes text.old) (string_bytes text.new) (λ us. Sign mark.CloseParen ∷ us)) }
+    ensures { OnOk result (Grows text.old text.new (λ us. Sign mark.CloseParen ∷ us)) }
 {
     text.push_str(") ")
 }
@@ -68,7 +68,7 @@ fn put_cell(
     row: &Expr,
     column: &str,
 ) -> Result<(), AllocError>
-    ensures { OnOk result (Puts (string_bytes text.old) (string_bytes text.new) (term_words (map string_bytes procedure.now.names.items) (cell table.now (term row.now) column.now))) }
+    ensures { OnOk result (Grows text.old text.new (term_words (names_of procedure.now) (cell table.now (term row.now) column.now))) }
 {
     write!(text, "{table} [ ")?;
     put_expression(text, procedure, row)?;
@@ -84,7 +84,7 @@ fn put_binary(
     left: &Expr,
     right: &Expr,
 ) -> Result<(), AllocError>
-    ensures { OnOk result (Puts (string_bytes text.old) (string_bytes text.new) (term_words (map string_bytes procedure.now.names.items) (binary operator (term left.now) (term right.now)))) }
+    ensures { OnOk result (Grows text.old text.new (term_words (names_of procedure.now) (binary operator (term left.now) (term right.now)))) }
 {
     put_open(text)?;
     put_expression(text, procedure, left)?;
@@ -101,7 +101,7 @@ pub fn put_expression(
     procedure: &Procedure,
     expr: &Expr,
 ) -> Result<(), AllocError>
-    ensures { OnOk result (Puts (string_bytes text.old) (string_bytes text.new) (term_words (map string_bytes procedure.now.names.items) (term expr.now))) }
+    ensures { OnOk result (Grows text.old text.new (term_words (names_of procedure.now) (term expr.now))) }
 {
     match expr {
         Expr::Number(n) => write!(text, "{n} "),

@@ -6,8 +6,8 @@ ghost use Rattle.program_tree.specs.View.{term};
 ghost use Rattle.token_scanner.specs.Words.{Word, Sign, Number};
 ghost use Rattle.token_scanner.specs.Words as word;
 ghost use Rattle.token_scanner.specs.declared.token.Mark.TheVariants as mark;
-ghost use Rattle.program_printer.specs.Spelling.{Puts};
-ghost use Rattle.program_printer.specs.Printing.{variable, term_words, terms_words, more_terms, arguments_words, entry_words, bound_words, way_mark, deed_words};
+ghost use Rattle.program_printer.specs.Spelling.{Puts, Grows};
+ghost use Rattle.program_printer.specs.Printing.{variable, term_words, terms_words, more_terms, entry_words, bound_words, way_mark, deed_words, names_of, range_words, loop_words};
 
 use crate::expression::{put_expression, variable};
 use program_tree::{Expr, Procedure, Way};
@@ -17,7 +17,7 @@ use std::fmt::Write;
 /// Puts a variable and the mark behind it that binds it at the end of the text.
 #[tactic(auto, unfolding(crate::specs::Spelling::written))]
 fn put_target(text: &mut String, procedure: &Procedure, number: usize) -> Result<(), AllocError>
-    ensures { OnOk result (Puts (string_bytes text.old) (string_bytes text.new) (λ us. word.Name (variable (map string_bytes procedure.now.names.items) number) ∷ Sign mark.Assign ∷ us)) }
+    ensures { OnOk result (Grows text.old text.new (λ us. word.Name (variable (names_of procedure.now) number) ∷ Sign mark.Assign ∷ us)) }
 {
     let name = variable(procedure, number);
     write!(text, "{name} = ")
@@ -26,14 +26,14 @@ fn put_target(text: &mut String, procedure: &Procedure, number: usize) -> Result
 /// Puts the end of a statement at the end of the text.
 #[tactic(auto, unfolding(crate::specs::Spelling::written))]
 fn put_end(text: &mut String) -> Result<(), AllocError>
-    ensures { OnOk result (Puts (string_bytes text.old) (string_bytes text.new) (λ us. Sign mark.Semicolon ∷ us)) }
+    ensures { OnOk result (Grows text.old text.new (λ us. Sign mark.Semicolon ∷ us)) }
 {
     text.push_str(";\n")
 }
 
 /// Puts expressions, each behind a comma, at the end of the text.
 fn put_more(text: &mut String, procedure: &Procedure, exprs: &[Expr]) -> Result<(), AllocError>
-    ensures { OnOk result (Puts (string_bytes text.old) (string_bytes text.new) (more_terms (map string_bytes procedure.now.names.items) (map term exprs.now))) }
+    ensures { OnOk result (Grows text.old text.new (more_terms (names_of procedure.now) (map term exprs.now))) }
 {
     for expr in exprs {
         put_next(text, procedure, expr)?;
@@ -44,7 +44,7 @@ fn put_more(text: &mut String, procedure: &Procedure, exprs: &[Expr]) -> Result<
 /// Puts a comma and an expression at the end of the text.
 #[tactic(auto, unfolding(crate::specs::Spelling::written))]
 fn put_next(text: &mut String, procedure: &Procedure, expr: &Expr) -> Result<(), AllocError>
-    ensures { OnOk result (Puts (string_bytes text.old) (string_bytes text.new) (λ us. Sign mark.Comma ∷ term_words (map string_bytes procedure.now.names.items) (term expr.now) us)) }
+    ensures { OnOk result (Grows text.old text.new (λ us. Sign mark.Comma ∷ term_words (names_of procedure.now) (term expr.now) us)) }
 {
     text.push_str(", ")?;
     put_expression(text, procedure, expr)
@@ -56,7 +56,7 @@ fn put_expressions(
     procedure: &Procedure,
     exprs: &[Expr],
 ) -> Result<(), AllocError>
-    ensures { OnOk result (Puts (string_bytes text.old) (string_bytes text.new) (terms_words (map string_bytes procedure.now.names.items) (map term exprs.now))) }
+    ensures { OnOk result (Grows text.old text.new (terms_words (names_of procedure.now) (map term exprs.now))) }
 {
     match exprs {
         [] => Ok(()),
@@ -75,7 +75,7 @@ pub fn put_entry(
     callee: &str,
     arguments: &[Expr],
 ) -> Result<(), AllocError>
-    ensures { OnOk result (Puts (string_bytes text.old) (string_bytes text.new) (entry_words (map string_bytes procedure.now.names.items) callee.now (map term arguments.now))) }
+    ensures { OnOk result (Grows text.old text.new (entry_words (names_of procedure.now) callee.now (map term arguments.now))) }
 {
     write!(text, "{callee} ( ")?;
     put_expressions(text, procedure, arguments)?;
@@ -88,7 +88,7 @@ fn put_bound(
     procedure: &Procedure,
     bound: Option<usize>,
 ) -> Result<(), AllocError>
-    ensures { OnOk result (Puts (string_bytes text.old) (string_bytes text.new) (bound_words (map string_bytes procedure.now.names.items) bound)) }
+    ensures { OnOk result (Grows text.old text.new (bound_words (names_of procedure.now) bound)) }
 {
     match bound {
         None => Ok(()),
@@ -99,7 +99,7 @@ fn put_bound(
 /// Puts the word for how a procedure is entered at the end of the text.
 #[tactic(auto, unfolding(crate::specs::Spelling::written))]
 fn put_way(text: &mut String, way: Way) -> Result<(), AllocError>
-    ensures { OnOk result (Puts (string_bytes text.old) (string_bytes text.new) (λ us. Sign (way_mark way) ∷ us)) }
+    ensures { OnOk result (Grows text.old text.new (λ us. Sign (way_mark way) ∷ us)) }
 {
     match way {
         Way::Call => text.push_str("call "),
@@ -109,7 +109,7 @@ fn put_way(text: &mut String, way: Way) -> Result<(), AllocError>
 
 /// Puts an expression and the end of the statement at the end of the text.
 fn put_last(text: &mut String, procedure: &Procedure, expr: &Expr) -> Result<(), AllocError>
-    ensures { OnOk result (Puts (string_bytes text.old) (string_bytes text.new) (λ us. term_words (map string_bytes procedure.now.names.items) (term expr.now) (Sign mark.Semicolon ∷ us))) }
+    ensures { OnOk result (Grows text.old text.new (λ us. term_words (names_of procedure.now) (term expr.now) (Sign mark.Semicolon ∷ us))) }
 {
     put_expression(text, procedure, expr)?;
     put_end(text)
@@ -122,7 +122,7 @@ pub fn put_bind(
     number: usize,
     value: &Expr,
 ) -> Result<(), AllocError>
-    ensures { OnOk result (Puts (string_bytes text.old) (string_bytes text.new) (deed_words (map string_bytes procedure.now.names.items) (bind number (term value.now)))) }
+    ensures { OnOk result (Grows text.old text.new (deed_words (names_of procedure.now) (bind number (term value.now)))) }
 {
     put_target(text, procedure, number)?;
     put_last(text, procedure, value)
@@ -137,7 +137,7 @@ pub fn put_enter(
     callee: &str,
     arguments: &[Expr],
 ) -> Result<(), AllocError>
-    ensures { OnOk result (Puts (string_bytes text.old) (string_bytes text.new) (deed_words (map string_bytes procedure.now.names.items) (enter bound way callee.now (map term arguments.now)))) }
+    ensures { OnOk result (Grows text.old text.new (deed_words (names_of procedure.now) (enter bound way callee.now (map term arguments.now)))) }
 {
     put_bound(text, procedure, bound)?;
     put_way(text, way)?;
@@ -152,7 +152,7 @@ pub fn put_read(
     number: usize,
     reducer: &str,
 ) -> Result<(), AllocError>
-    ensures { OnOk result (Puts (string_bytes text.old) (string_bytes text.new) (deed_words (map string_bytes procedure.now.names.items) (read number reducer.now))) }
+    ensures { OnOk result (Grows text.old text.new (deed_words (names_of procedure.now) (read number reducer.now))) }
 {
     let name = variable(procedure, number);
     write!(text, "{name} = read {reducer} ;\n")
@@ -161,7 +161,7 @@ pub fn put_read(
 /// Puts a statement that waits for all children at the end of the text.
 #[tactic(auto, unfolding(crate::specs::Spelling::written))]
 pub fn put_sync(text: &mut String) -> Result<(), AllocError>
-    ensures { OnOk result (Puts (string_bytes text.old) (string_bytes text.new) (λ us. Sign mark.Sync ∷ Sign mark.Semicolon ∷ us)) }
+    ensures { OnOk result (Grows text.old text.new (λ us. Sign mark.Sync ∷ Sign mark.Semicolon ∷ us)) }
 {
     text.push_str("sync ;\n")
 }
@@ -174,7 +174,7 @@ pub fn put_update(
     reducer: &str,
     numbers: &[Expr],
 ) -> Result<(), AllocError>
-    ensures { OnOk result (Puts (string_bytes text.old) (string_bytes text.new) (deed_words (map string_bytes procedure.now.names.items) (update reducer.now (map term numbers.now)))) }
+    ensures { OnOk result (Grows text.old text.new (deed_words (names_of procedure.now) (update reducer.now (map term numbers.now)))) }
 {
     write!(text, "update {reducer} ")?;
     put_expressions(text, procedure, numbers)?;
@@ -190,7 +190,7 @@ fn put_range(
     high: &Expr,
     grain: u32,
 ) -> Result<(), AllocError>
-    ensures { OnOk result (Puts (string_bytes text.old) (string_bytes text.new) (λ us. term_words (map string_bytes procedure.now.names.items) (term low.now) (Sign mark.Range ∷ term_words (map string_bytes procedure.now.names.items) (term high.now) (Sign mark.Grain ∷ Number (pos grain) ∷ Sign mark.Colon ∷ us)))) }
+    ensures { OnOk result (Grows text.old text.new (range_words (names_of procedure.now) (term low.now) (term high.now) grain)) }
 {
     put_expression(text, procedure, low)?;
     text.push_str(".. ")?;
@@ -208,7 +208,7 @@ pub fn put_loop_head(
     high: &Expr,
     grain: u32,
 ) -> Result<(), AllocError>
-    ensures { OnOk result (Puts (string_bytes text.old) (string_bytes text.new) (λ us. Sign mark.CilkFor ∷ word.Name (variable (map string_bytes procedure.now.names.items) number) ∷ Sign mark.In ∷ term_words (map string_bytes procedure.now.names.items) (term low.now) (Sign mark.Range ∷ term_words (map string_bytes procedure.now.names.items) (term high.now) (Sign mark.Grain ∷ Number (pos grain) ∷ Sign mark.Colon ∷ us)))) }
+    ensures { OnOk result (Grows text.old text.new (loop_words (names_of procedure.now) number (term low.now) (term high.now) grain)) }
 {
     let name = variable(procedure, number);
     write!(text, "cilk_for {name} in ")?;
@@ -218,7 +218,7 @@ pub fn put_loop_head(
 /// Puts a statement that gives the procedure's value at the end of the text.
 #[tactic(auto, unfolding(crate::specs::Spelling::written))]
 pub fn put_return(text: &mut String, procedure: &Procedure, value: &Expr) -> Result<(), AllocError>
-    ensures { OnOk result (Puts (string_bytes text.old) (string_bytes text.new) (deed_words (map string_bytes procedure.now.names.items) (give (term value.now)))) }
+    ensures { OnOk result (Grows text.old text.new (deed_words (names_of procedure.now) (give (term value.now)))) }
 {
     text.push_str("return ")?;
     put_last(text, procedure, value)

@@ -4,4 +4,3 @@ pub mod Monoids
 pub mod Moments
 pub mod Known
 pub mod Waits
-pub mod Fits

@@ -15,7 +15,7 @@ use Rattle.linked_program.specs.Rules.{Setting, use_rules, table_rules, column_r
 use Rattle.linked_program.specs.Bodies.{body_violations, inner_violations}
 use Rattle.linked_program.specs.Declarations.{IsClean, setting_of, missing_main, decls_violations}
 use Rattle.trail_theory.specs.Order.{In}
-use Rattle.trail_theory.specs.Waiting.{IsFree, AreFree, waiting_deed, waiting_body, IsOrderlyDeed, IsOrderly, IsChecked}
+use Rattle.trail_theory.specs.Waiting.{IsFree, AreFree, waiting_deed, waiting_body, IsOrderlyDeed, IsOrderly, UsesNoWaitingName}
 use Rattle.linked_program.proofs.Quiet.{nil_left, nil_right, no_when}
 use Rattle.rules_theory.proofs.Clean.{first_deed, inside_deed, later_deeds, clean_procedure}
 use Rattle.rules_theory.proofs.Moments.{precedes_depth, not_before_itself, before_inside, before_next, now_before_next}
@@ -383,7 +383,7 @@ begins_shallow parameters names =
     let n = min parameters names in
     shallow_append (replicate n (Known (moment 0 0) false)) (replicate (names - n) Unbound) (shallow_same n (Known (moment 0 0) false) (omega arith)) (shallow_same (names - n) Unbound tt)
 
-pub uses_no_waiting_name : (ts : List Columned) (p : Program) → IsClean ts p → IsChecked (tree p)
+pub uses_no_waiting_name : (ts : List Columned) (p : Program) → IsClean ts p → UsesNoWaitingName (tree p)
 uses_no_waiting_name ts p clean f =
     let ds = p.declarations.items in
     let t = tree p in

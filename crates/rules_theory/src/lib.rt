@@ -10,11 +10,7 @@ ghost use Rattle.linked_program.specs.Declarations.{IsClean};
 ghost use Rattle.linked_program.specs.Checked.{PlainChecked, IsChecked};
 ghost use Rattle.trail_theory.specs.ReadsAtEnd.{ReadsAtMainsEnd, KeepsRules};
 ghost use Rattle.trail_theory.specs.Typed.{HasMonoids};
-ghost use Rattle.trail_theory.specs.Waiting.{IsChecked as UsesNoWaitingName};
-
-mod fitting;
-
-pub use fitting::numbers_fit;
+ghost use Rattle.trail_theory.specs.Waiting.{UsesNoWaitingName};
 
 /// In a program that breaks no rule no statement uses a name that waits for a spawned child.
 pub fn no_waiting_name_is_used()

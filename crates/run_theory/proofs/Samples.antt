@@ -9,7 +9,7 @@ use Rattle.meaning.specs.Schedules.{recording_from, RunStep, first_state, path, 
 use Rattle.meaning.specs.Statements.{absent, found, proc_of}
 use Rattle.trail_theory.specs.Waiting.{IsOrderly, NoReads}
 use Rattle.trail_theory.specs.ReadsAtEnd.{IsOther, EntersOnly}
-use Rattle.trail_theory.specs.Typed.{FitsBody}
+use Rattle.meaning.specs.Fitting.{FitsBody}
 use Rattle.trail_theory.proofs.FitNumbers.{natural_fits}
 use Rattle.run_theory.specs.Theorems.{IsReady}
 use Rattle.run_theory.proofs.Paths.{paths_answer}

@@ -14,9 +14,10 @@ use Rattle.trail_theory.specs.Order.{Every}
 use Rattle.trail_theory.specs.ReadsAtEnd.{KeepsRules}
 use Rattle.trail_theory.specs.Counts.{CountsNeeded}
 use Rattle.trail_theory.specs.OpenLayers.{IsNewRecord}
+use Rattle.meaning.specs.Fitting.{ProgramFits}
 use Rattle.trail_theory.specs.OwedLayers.{Unbroken}
 use Rattle.trail_theory.specs.OwnLayers.{OwnsNow}
-use Rattle.trail_theory.specs.Typed.{HasMonoids, ProgramFits, TablesFit}
+use Rattle.trail_theory.specs.Typed.{HasMonoids, TablesFit}
 use Rattle.run_theory.specs.RightRuns.{IsRightRun}
 use Rattle.run_theory.specs.OverRuns.{ReadsNoMore, AreOver}
 

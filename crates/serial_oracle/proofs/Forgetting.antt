@@ -13,11 +13,11 @@ use Rattle.meaning.specs.Outcome.{Log, Event, Reads, Enters, Updates, Reuses, Be
 use Rattle.meaning.specs.Outcome as outcome
 use Rattle.meaning.specs.Run.{Run, ◌>>=◌, placed, at}
 use Rattle.meaning.specs.Values.{Env, put, value, values, apply, look}
-use Rattle.meaning.specs.Statements.{span, ranged, bounds, Job, turn_values}
+use Rattle.meaning.specs.Statements.{most_iterations, span, ranged, bounds, Job, turn_values}
 use Rattle.monoid_laws.specs.Kinds.{names_element}
 use Rattle.meaning.specs.Statements.{procedure_of, numbered, naming, updating, update_of}
 use Rattle.meaning.specs.Records.{Key, is_memo}
-use Rattle.serial_oracle.specs.Results.{Standing, with_worths, with_executed, with_reused, through, seen, results}
+use Rattle.serial_oracle.specs.Results.{Summary, with_worths, with_executed, with_reused, through, seen, results}
 
 pub after-append : (l m : Log) (acc : Accumulators) → after (l ++ m) acc ≡ after m (after l acc)
 after-append [] m acc = refl
@@ -32,7 +32,7 @@ after-append (Faults f ∷ l) m acc = after-append l m acc
 after-append (Spawns p ∷ l) m acc = after-append l m acc
 after-append (Updates n kind w ∷ l) m acc = after-append l m (updated acc n kind w (slice_get acc n))
 
-pub through-append : (program : Tree) (l m : Log) (now : Standing) → through program (l ++ m) now ≡ through program m (through program l now)
+pub through-append : (program : Tree) (l m : Log) (now : Summary) → through program (l ++ m) now ≡ through program m (through program l now)
 through-append program [] m now = refl
 through-append program (Reads r ∷ l) m now = through-append program l m now
 through-append program (Enters f args d ∷ l) m now = through-append program l m (cond (is_memo (procedure_of program f)) (with_executed now (f, args)) now)
@@ -45,12 +45,12 @@ through-append program (Faults f ∷ l) m now = through-append program l m now
 through-append program (Spawns p ∷ l) m now = through-append program l m now
 through-append program (Updates n kind w ∷ l) m now = through-append program l m (with_worths now (updated now.worths n kind w (slice_get now.worths n)))
 
-worths_of_entry : (b : Bool) (now : Standing) (key : Key) → (cond b (with_executed now key) now).worths ≡ now.worths
+worths_of_entry : (b : Bool) (now : Summary) (key : Key) → (cond b (with_executed now key) now).worths ≡ now.worths
 worths_of_entry true now key = refl
 worths_of_entry false now key = refl
 
 -- the values of the reducers are those after the log
-pub through_worths : (program : Tree) (l : Log) (now : Standing) → (through program l now).worths ≡ after l now.worths
+pub through_worths : (program : Tree) (l : Log) (now : Summary) → (through program l now).worths ≡ after l now.worths
 through_worths program [] now = refl
 through_worths program (Reads r ∷ l) now = through_worths program l now
 through_worths program (Enters f args d ∷ l) now = through_worths program l (cond (is_memo (procedure_of program f)) (with_executed now (f, args)) now) ∙ ap (after l) (worths_of_entry (is_memo (procedure_of program f)) now (f, args))
@@ -64,23 +64,23 @@ through_worths program (Spawns p ∷ l) now = through_worths program l now
 through_worths program (Updates n kind w ∷ l) now = through_worths program l (with_worths now (updated now.worths n kind w (slice_get now.worths n)))
 
 -- the rest of a run, from the results of its first piece
-abbrev pub next : {A B : Type 0} → Tree → Result A Fault × Standing → (A → Run B) → Result B Fault × Standing
+abbrev pub next : {A B : Type 0} → Tree → Result A Fault × Summary → (A → Run B) → Result B Fault × Summary
 next program (Ok a, now) f = results program (f a) now
 next program (Err e, now) f = (Err e, now)
 
-onward_results : {A B : Type 0} (program : Tree) (log : Log) (r : Result A Fault) (now : Standing) (f : A → Run B) → seen program now (onward log r (λ a. f a (after log now.worths))) ≡ next program (r, through program log now) f
+onward_results : {A B : Type 0} (program : Tree) (log : Log) (r : Result A Fault) (now : Summary) (f : A → Run B) → seen program now (onward log r (λ a. f a (after log now.worths))) ≡ next program (r, through program log now) f
 onward_results program log (Err e) now f = refl
 onward_results program log (Ok a) now f =
     ap (λ x. ((f a (after log now.worths)).answer, x)) (through-append program log (f a (after log now.worths)).log now)
     ∙ ap (λ w. seen program (through program log now) (f a w)) (sym (through_worths program log now))
 
-pub bind_results : {A B : Type 0} (program : Tree) (m : Run A) (f : A → Run B) (now : Standing) → results program (m >>= f) now ≡ next program (results program m now) f
+pub bind_results : {A B : Type 0} (program : Tree) (m : Run A) (f : A → Run B) (now : Summary) → results program (m >>= f) now ≡ next program (results program m now) f
 bind_results program m f now = onward_results program (m now.worths).log (m now.worths).answer now f
 
 module _ (program : Tree) where
   -- an evaluation changes nothing
   abbrev pub Quiet : Log → Type 0
-  Quiet log = (now : Standing) → through program log now ≡ now
+  Quiet log = (now : Summary) → through program log now ≡ now
 
   onward_quiet : {F A B : Type 0} (log : Log) (r : Result A F) (f : A → Out F B) → Quiet log → ((a : A) → Quiet (f a).log) → Quiet (onward log r f).log
   onward_quiet log (Err e) f h k now = h now
@@ -121,10 +121,10 @@ module _ (program : Tree) where
   values_quiet tables env (e ∷ es) = onward_quiet _ (value tables env e).answer _ (value_quiet tables env e) (λ x. onward_quiet _ (values tables env es).answer _ (values_quiet tables env es) (λ y acc. refl))
 
   -- the results of an evaluation at a statement
-  pub value_results : (tables : Tables) (env : Env) (e : Term) (site : Site) (now : Standing) → results program (at site (value tables env e)) now ≡ (placed site (value tables env e).answer, now)
+  pub value_results : (tables : Tables) (env : Env) (e : Term) (site : Site) (now : Summary) → results program (at site (value tables env e)) now ≡ (placed site (value tables env e).answer, now)
   value_results tables env e site now = ap (λ x. (placed site (value tables env e).answer, x)) (value_quiet tables env e now)
 
-  pub values_results : (tables : Tables) (env : Env) (es : List Term) (site : Site) (now : Standing) → results program (at site (values tables env es)) now ≡ (placed site (values tables env es).answer, now)
+  pub values_results : (tables : Tables) (env : Env) (es : List Term) (site : Site) (now : Summary) → results program (at site (values tables env es)) now ≡ (placed site (values tables env es).answer, now)
   values_results tables env es site now = ap (λ x. (placed site (values tables env es).answer, x)) (values_quiet tables env es now)
 
   ranged_quiet : (n : ℕ) (b : Bool) (kind : FaultKind) → Quiet (cond b (outcome.pure n) (outcome.fail kind)).log
@@ -135,20 +135,20 @@ module _ (program : Tree) where
   bounds_quiet tables env e f =
       onward_quiet _ (value tables env e).answer _ (value_quiet tables env e) (λ low.
       onward_quiet _ (value tables env f).answer _ (value_quiet tables env f) (λ high.
-      onward_quiet _ (ranged (span low high)).answer _ (ranged_quiet (span low high) (nat_le (span low high) 1048576) RangeTooLong) (λ n acc. refl)))
+      onward_quiet _ (ranged (span low high)).answer _ (ranged_quiet (span low high) (nat_le (span low high) most_iterations) RangeTooLong) (λ n acc. refl)))
 
-  pub bounds_results : (tables : Tables) (env : Env) (e f : Term) (site : Site) (now : Standing) → results program (at site (bounds tables env e f)) now ≡ (placed site (bounds tables env e f).answer, now)
+  pub bounds_results : (tables : Tables) (env : Env) (e f : Term) (site : Site) (now : Summary) → results program (at site (bounds tables env e f)) now ≡ (placed site (bounds tables env e f).answer, now)
   bounds_results tables env e f site now = ap (λ x. (placed site (bounds tables env e f).answer, x)) (bounds_quiet tables env e f now)
 
-  pub turn_quiet : (tables : Tables) (job : Job) (i : ℕ) (now : Standing) → through program (turn_values tables job i).log now ≡ now
+  pub turn_quiet : (tables : Tables) (job : Job) (i : ℕ) (now : Summary) → through program (turn_values tables job i).log now ≡ now
   turn_quiet tables job i now = values_quiet tables (put job.env job.variable (job.low +ℤ pos i)) job.args now
 
   -- what changes nothing changes no values, and an update changes these alone
   pub still : (log : Log) → Quiet log → (acc : Accumulators) → after log acc ≡ acc
-  still log h acc = let now : Standing = record { worths = acc; executed = []; reused = [] } in sym (through_worths program log now) ∙ ap (λ x. x.worths) (h now)
+  still log h acc = let now : Summary = record { worths = acc; executed = []; reused = [] } in sym (through_worths program log now) ∙ ap (λ x. x.worths) (h now)
 
   abbrev Settles : Log → Type 0
-  Settles log = (now : Standing) → through program log now ≡ with_worths now (after log now.worths)
+  Settles log = (now : Summary) → through program log now ≡ with_worths now (after log now.worths)
 
   onward_settles : {F A B : Type 0} (log : Log) (r : Result A F) (f : A → Out F B) → Quiet log → ((a : A) → Settles (f a).log) → Settles (onward log r f).log
   onward_settles log (Err e) f h k now = h now ∙ ap (with_worths now) (sym (still log h now.worths))

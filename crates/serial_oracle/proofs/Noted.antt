@@ -24,7 +24,7 @@ use Rattle.serial_oracle.specs.Keeping.{tree_in, records_in, key_plain}
 use Rattle.serial_oracle.specs.Pieces.{by_record}
 use Rattle.serial_oracle.specs.declared.journal.Change.{Change}
 use Rattle.serial_oracle.specs.declared.journal.Change.TheVariants as c
-use Rattle.serial_oracle.specs.Worths.{kinds, noticed, change_log, reused_log, noted, combined_from, AreFit, standing, worths, outcome_of, updated_by}
+use Rattle.serial_oracle.specs.Worths.{kinds, noticed, change_log, reused_log, noted, combined_from, AreFit, summary, worths, outcome_of, updated_by}
 use Rattle.monoid_laws.specs.Kinds as laws
 use Rattle.monoid_laws.proofs.Rows.{AreWorths-identities}
 use Rattle.meaning.specs.declared.FaultKind.{FaultKind}
@@ -35,7 +35,7 @@ use Rattle.meaning.specs.Outcome.{Out, onward}
 use Rattle.meaning.specs.Statements.{update_of}
 use Rattle.serial_oracle.specs.declared.stops.Trouble.{Trouble}
 use Rattle.serial_oracle.specs.declared.stops.Trouble.TheVariants as trouble
-use Rattle.serial_oracle.specs.Results.{Standing, Notes, EvaluatesAll}
+use Rattle.serial_oracle.specs.Results.{Summary, Notes, EvaluatesAll}
 use Rattle.serial_oracle.proofs.Forgetting.{after-append, still, values_quiet}
 
 abbrev pair_in : ℕ × Kind → Option (ℕ × Kind) → ℕ × Kind
@@ -313,12 +313,12 @@ kept_in ks vals i k new a lt e h = added_kept ks vals i k new a (slice_get_read 
 
 -- ---- a record that answers
 
-abbrev standing_of : List Worth → List Key → List Key → Standing
+abbrev standing_of : List Worth → List Key → List Key → Summary
 standing_of ws executed reused = record { worths = ws; executed = executed; reused = reused }
 
 pub record_answers : (scope : Scope) (old new : Journal) (place : ℕ) (k : Kept) (key : Key) → slice_get (records_in scope) place ≡ Some k
     → new.changes.items ≡ old.changes.items ++ (c.Reused place ∷ []) → map key_plain new.reused.items ≡ map key_plain old.reused.items ++ (key ∷ []) → new.executed ≡ old.executed
-    → by_record (tree_in scope) k key (standing scope old) ≡ (Ok k.value, standing scope new)
+    → by_record (tree_in scope) k key (summary scope old) ≡ (Ok k.value, summary scope new)
 record_answers scope old new place k key h ch re ex =
     let w : combined (worths (tree_in scope) (records_in scope) old.changes.items) (with_kinds (reducers (tree_in scope)) k.contribution) ≡ worths (tree_in scope) (records_in scope) new.changes.items =
     sym (worths_reuse (tree_in scope) (records_in scope) old.changes.items place k h) ∙ ap (worths (tree_in scope) (records_in scope)) (sym ch) in
@@ -327,7 +327,7 @@ record_answers scope old new place k key h ch re ex =
     ∙ ap (λ r. (Ok k.value, standing_of (worths (tree_in scope) (records_in scope) new.changes.items) (map key_plain new.executed.items) r)) (sym re)
 
 pub standing_begin : (scope : Scope) (j : Journal) → j.changes.items ≡ [] → j.executed.items ≡ [] → j.reused.items ≡ []
-    → standing scope j ≡ record { worths = identities (tree_in scope); executed = []; reused = [] }
+    → summary scope j ≡ record { worths = identities (tree_in scope); executed = []; reused = [] }
 standing_begin scope j ch ex re =
     ap (λ a. standing_of a (map key_plain j.executed.items) (map key_plain j.reused.items)) (ap (worths (tree_in scope) (records_in scope)) ch ∙ worths_none (tree_in scope) (records_in scope))
     ∙ ap (λ e. standing_of (identities (tree_in scope)) (map key_plain e) (map key_plain j.reused.items)) ex

@@ -9,7 +9,7 @@ use Rattle.std.specs.declared.string.String.{String}
 use Rattle.program_tree.specs.Plain.{Name}
 use Rattle.serial_oracle.specs.declared.tables.TableRows.{TableRows}
 use Rattle.serial_oracle.specs.declared.tables.Row.{Row}
-use Rattle.meaning.specs.Tables.{rows_of, columns_of, place_of, row_of}
+use Rattle.meaning.specs.Tables.{rows_of, columns_of, index_of, row_of}
 use Rattle.serial_oracle.specs.Listing.{rows_plain, tables_plain}
 
 abbrev pub rows_from : List TableRows → Name → ℕ → List (ℤ × List ℤ)
@@ -25,7 +25,7 @@ pub columns_here : (ts : List TableRows) (n : Name) (i : ℕ) (d : TableRows) �
 columns_here ts n i d h = rw (add-one, drop-cons ts i d) refl
 
 abbrev pub place_from : List (String Global) → Name → ℕ → ℕ
-place_from cs n i = i + place_of (map string_bytes (drop i cs)) n
+place_from cs n i = i + index_of (map string_bytes (drop i cs)) n
 
 pub row_here : (rs : List Row) (n : ℤ) (i : ℕ) (d : Row) → i < length rs → row_of (rows_plain (drop i rs)) n ≡ cond (int_eq (get_or rs i d).number n) (Some (get_or rs i d).values.items) (row_of (rows_plain (drop (i + 1) rs)) n)
 row_here rs n i d h = rw (add-one, drop-cons rs i d) refl

@@ -4,4 +4,5 @@ pub mod Results
 pub mod Worths
 pub mod Ranges
 pub mod Pieces
+pub mod Scoped
 pub mod Answers

@@ -10,7 +10,7 @@ use Rattle.meaning.specs.Values.{Env, put, value, values}
 use Rattle.meaning.specs.Statements.{reducers, numbered, reading, put_into, fresh, update_of, bounds, Job, job_of, turn_values}
 use Rattle.meaning.specs.Records.{Key, Kept, with_kinds}
 use Rattle.serial_oracle.specs.declared.scope.Entry.{Entry}
-use Rattle.serial_oracle.specs.Results.{Standing, with_executed, with_reused, results}
+use Rattle.serial_oracle.specs.Results.{Summary, with_executed, with_reused, results}
 use Rattle.meaning.specs.Elision.{Enter, Next, On, Back, back_or_zero, body, all_turns}
 
 -- where a statement that enters a procedure stands
@@ -54,10 +54,10 @@ inside program tables enters p args =
     body program tables enters p.called (fresh p.names args) p.body >>= (λ next. pure (back_or_zero next))
 
 -- what a record does in the place of its instance
-abbrev pub by_record : Tree → Kept → Key → Standing → Result ℤ Fault × Standing
+abbrev pub by_record : Tree → Kept → Key → Summary → Result ℤ Fault × Summary
 by_record program k key s = (Ok k.value, with_reused s (with_kinds (reducers program) k.contribution) key)
 
 -- a memo instance: by the record that answers it, or else by itself
-abbrev pub memoised : Tree → Option Kept → Key → Run ℤ → Standing → Result ℤ Fault × Standing
+abbrev pub memoised : Tree → Option Kept → Key → Run ℤ → Summary → Result ℤ Fault × Summary
 memoised program None key run s = results program run (with_executed s key)
 memoised program (Some k) key run s = by_record program k key s

@@ -18,50 +18,50 @@ use Rattle.meaning.specs.Records.{Key, is_memo}
 use Rattle.meaning.specs.Values.{Env}
 
 -- the values of the reducers, the memo instances that were run, and those that a record answered
-pub record Standing : Type 0 where
+pub record Summary : Type 0 where
   pub worths : Accumulators
   pub executed : List Key
   pub reused : List Key
 
-abbrev pub with_worths : Standing → Accumulators → Standing
+abbrev pub with_worths : Summary → Accumulators → Summary
 with_worths s acc = record { worths = acc; executed = s.executed; reused = s.reused }
 
-abbrev pub with_executed : Standing → Key → Standing
+abbrev pub with_executed : Summary → Key → Summary
 with_executed s key = record { worths = s.worths; executed = s.executed ++ key ∷ []; reused = s.reused }
 
-abbrev pub with_reused : Standing → List (Kind × Worth) → Key → Standing
+abbrev pub with_reused : Summary → List (Kind × Worth) → Key → Summary
 with_reused s ws key = record { worths = combined s.worths ws; executed = s.executed; reused = s.reused ++ key ∷ [] }
 
-abbrev pub through : Tree → Log → Standing → Standing
+abbrev pub through : Tree → Log → Summary → Summary
 through program [] s = s
 through program (Enters f args depth ∷ log) s = through program log (cond (is_memo (procedure_of program f)) (with_executed s (f, args)) s)
 through program (Updates n kind w ∷ log) s = through program log (with_worths s (updated s.worths n kind w (slice_get s.worths n)))
 through program (Reuses f args ws ∷ log) s = through program log (with_reused s ws (f, args))
 through program (_ ∷ log) s = through program log s
 
-abbrev pub seen : {A : Type 0} → Tree → Standing → Out Fault A → Result A Fault × Standing
+abbrev pub seen : {A : Type 0} → Tree → Summary → Out Fault A → Result A Fault × Summary
 seen program s o = (o.answer, through program o.log s)
 
-abbrev pub results : {A : Type 0} → Tree → Run A → Standing → Result A Fault × Standing
+abbrev pub results : {A : Type 0} → Tree → Run A → Summary → Result A Fault × Summary
 results program m s = seen program s (m s.worths)
 
 abbrev pub fault_plain : stopped.Fault → Fault
 fault_plain f = record { kind = f.kind; site = record { procedure = f.procedure.now; statement = f.statement } }
 
--- the code's result and standing are those, unless memory ran out
-abbrev pub Gives : {A : Type 0} → Result A Stop → Standing → Result A Fault × Standing → Type 0
+-- the code's result and summary are those, unless memory ran out
+abbrev pub Gives : {A : Type 0} → Result A Stop → Summary → Result A Fault × Summary → Type 0
 Gives (Ok a) s o = o ≡ (Ok a, s)
 Gives (Err (stop.Fault f)) s o = o ≡ (Err (fault_plain f), s)
 Gives (Err stop.NoMemory) s o = Unit {0}
 
 -- the same where there is no answer
-abbrev pub Does : Result (Unit {0}) Stop → Standing → Result (Unit {0}) Fault × Standing → Type 0
+abbrev pub Does : Result (Unit {0}) Stop → Summary → Result (Unit {0}) Fault × Summary → Type 0
 Does (Ok a) s o = o ≡ (Ok tt, s)
 Does (Err (stop.Fault f)) s o = o ≡ (Err (fault_plain f), s)
 Does (Err stop.NoMemory) s o = Unit {0}
 
 -- the same of a block, with the values of the names after it
-abbrev pub GivesNext : Result (Option ℤ) Stop → Env → Standing → Result Next Fault × Standing → Type 0
+abbrev pub GivesNext : Result (Option ℤ) Stop → Env → Summary → Result Next Fault × Summary → Type 0
 GivesNext (Ok None) env s o = o ≡ (Ok (On env), s)
 GivesNext (Ok (Some v)) env s o = o ≡ (Ok (Back v), s)
 GivesNext (Err (stop.Fault f)) env s o = o ≡ (Err (fault_plain f), s)

@@ -14,7 +14,7 @@ use Rattle.serial_oracle.specs.declared.journal.Change.TheVariants as c
 use Rattle.serial_oracle.specs.declared.journal.Journal.{Journal}
 use Rattle.serial_oracle.specs.declared.scope.Scope.{Scope}
 use Rattle.serial_oracle.specs.Keeping.{tree_in, records_in, key_plain}
-use Rattle.serial_oracle.specs.Results.{Standing}
+use Rattle.serial_oracle.specs.Results.{Summary}
 
 abbrev pub kinds : Tree → List Kind
 kinds program = map (λ r. r.kind) (reducers program)
@@ -45,8 +45,8 @@ unfoldable pub AreFit : Tree → List Kept → Type 0
 AreFit program records = All (λ k. AreWorths (kinds program) k.contribution) records
 
 -- what a journal stands for
-abbrev pub standing : Scope → Journal → Standing
-standing scope j = record {
+abbrev pub summary : Scope → Journal → Summary
+summary scope j = record {
   worths = worths (tree_in scope) (records_in scope) j.changes.items;
   executed = map key_plain j.executed.items;
   reused = map key_plain j.reused.items;

@@ -15,6 +15,7 @@ use crate::scope::Scope;
 use crate::stops::{Fault, NoMemory, Stop};
 use crate::tables::TableRows;
 use crate::updates::values_after;
+use meaning::DEPTH_LIMIT;
 use monoid_laws::Val;
 use program_tree::Program;
 use std::alloc::Global;
@@ -68,7 +69,7 @@ fn run_main<'p, 's>(
     ensures executed { IfOk result (λ a. map key_plain journal.new.executed.items ≡ executed (tree_in scope.now) (needed (revised_in scope.now) (tables_in scope.now) (records_in scope.now))) }
     ensures reused { IfOk result (λ a. map key_plain journal.new.reused.items ≡ reused (needed (revised_in scope.now) (tables_in scope.now) (records_in scope.now))) }
 {
-    match enter(scope, 64, "main", 0, "main", &[], journal) {
+    match enter(scope, DEPTH_LIMIT, "main", 0, "main", &[], journal) {
         Ok(value) => finished(scope, value, &journal.changes),
         Err(stop) => halted(stop),
     }

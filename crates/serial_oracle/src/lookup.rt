@@ -1,7 +1,7 @@
 //! What is read of tables.
 
 ghost use Rattle.std.specs.Prelude.{◌≡◌, ℕ, ◌+◌, ◌<◌, ◌≤◌, map, length, string_bytes, slice_get, option_map};
-ghost use Rattle.meaning.specs.Tables.{rows_of, columns_of, place_of, row_of, at_column, above_all, cell_of, has_row, limit_of};
+ghost use Rattle.meaning.specs.Tables.{rows_of, columns_of, index_of, row_of, at_column, above_all, cell_of, has_row, limit_of};
 ghost use Rattle.serial_oracle.specs.Listing.{rows_plain, tables_plain};
 
 use crate::tables::{Row, TableRows};
@@ -20,7 +20,7 @@ pub fn rows<'a>(tables: &'a [TableRows], name: &str) -> &'a [Row]
 
 /// The place of a column in a table.
 pub fn column(tables: &[TableRows], name: &str, wanted: &str) -> usize
-    ensures { result ≡ place_of (columns_of (tables_plain tables.now) name.now) wanted.now }
+    ensures { result ≡ index_of (columns_of (tables_plain tables.now) name.now) wanted.now }
 {
     for table in tables {
         if table.name.as_str() == name {
@@ -31,7 +31,7 @@ pub fn column(tables: &[TableRows], name: &str, wanted: &str) -> usize
 }
 
 fn place(columns: &[String], wanted: &str) -> usize
-    ensures { result ≡ place_of (map string_bytes columns.now) wanted.now }
+    ensures { result ≡ index_of (map string_bytes columns.now) wanted.now }
 {
     for (i, c) in columns.iter().enumerate() {
         if c.as_str() == wanted {

@@ -7,10 +7,10 @@ ghost use Rattle.serial_oracle.specs.Ranges.{AreBounds, ranging};
 use crate::expressions::evaluate;
 use crate::range::Range;
 use crate::tables::TableRows;
-use meaning::FaultKind;
+use meaning::{FaultKind, MOST_ITERATIONS};
 use program_tree::Expr;
 
-/// The numbers from `low` to below `high`; too long where they are more than 1,048,576.
+/// The numbers from `low` to below `high`; too long where they are more than a loop may have.
 fn range_between(low: i64, high: i64) -> Result<Range, FaultKind>
     ensures { AreBounds result (ranging low (span low high)).answer }
 {
@@ -18,7 +18,7 @@ fn range_between(low: i64, high: i64) -> Result<Range, FaultKind>
         return Ok(Range { low, count: 0 });
     }
     let count = high.abs_diff(low);
-    if count > 1048576 {
+    if count > u64::from(MOST_ITERATIONS) {
         return Err(FaultKind::RangeTooLong);
     }
     Ok(Range { low, count })

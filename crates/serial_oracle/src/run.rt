@@ -1,18 +1,18 @@
 //! A run of a program, statement by statement, in the order of a run on one worker.
-ghost use Rattle.std.specs.Prelude.{◌≡◌, ℕ, ◌<◌, ◌-◌, map, slice_get, string_bytes, Some};
+ghost use Rattle.std.specs.Prelude.{◌≡◌, ℕ, ◌<◌, map, slice_get, string_bytes, Some};
 ghost use Rattle.program_tree.specs.View.{term, proc};
 ghost use Rattle.program_tree.specs.View.{deed as deed_plain, statements as statements_plain, block as block_plain};
 ghost use Rattle.meaning.specs.Outcome.{Site};
 ghost use Rattle.meaning.specs.Statements.{job_of};
 ghost use Rattle.meaning.specs.Statements.{turn_values as turn_values_of};
-ghost use Rattle.meaning.specs.Elision.{deed, body, all_turns, depth_limit};
-ghost use Rattle.meaning.specs.Records.{if_valid, record_of};
+ghost use Rattle.meaning.specs.Elision.{deed, body, all_turns};
 ghost use Rattle.program_tree.specs.Plain.{Tree};
 ghost use Rattle.serial_oracle.specs.Listing.{tables_plain};
-ghost use Rattle.serial_oracle.specs.Results.{Gives, Does, GivesNext, EvaluatesAll, Standing, results, site_at, with_executed, with_reused};
-ghost use Rattle.serial_oracle.specs.Keeping.{kept, tree_in, tables_in, records_in, revised_in, enters_in};
-ghost use Rattle.serial_oracle.specs.Worths.{AreFit, standing};
-ghost use Rattle.serial_oracle.specs.Pieces.{site_of, job_in, bound, back, told, updates_here, entered, chosen, looped, inside, turn, memoised, by_record};
+ghost use Rattle.serial_oracle.specs.Results.{Gives, Does, GivesNext, EvaluatesAll, Summary, results, site_at, with_executed, with_reused};
+ghost use Rattle.serial_oracle.specs.Keeping.{kept, tree_in, tables_in, records_in, enters_in};
+ghost use Rattle.serial_oracle.specs.Worths.{AreFit, summary};
+ghost use Rattle.serial_oracle.specs.Pieces.{site_of, job_in, bound, back, told, updates_here, entered, looped, inside, turn, by_record};
+ghost use Rattle.serial_oracle.specs.Scoped.{results_in, inside_in, memo_results, chosen_in};
 
 use crate::expressions::{all_values, evaluate};
 use crate::journal::{Journal, note_executed, note_reused};
@@ -24,7 +24,7 @@ use crate::stops::{Stop, Trouble, stopped};
 use crate::tables::TableRows;
 use crate::updates;
 use crate::validity::{Found, valid_record};
-use meaning::FaultKind;
+use meaning::{DEPTH_LIMIT, FaultKind};
 use program_tree::{Action, Expr, Procedure, Statement};
 
 /// Binds a name to the value of an expression.
@@ -36,7 +36,7 @@ fn run_bind<'p>(
     e: &Expr,
     env: &mut Vec<Option<i64>>,
 ) -> Result<Option<i64>, Stop<'p>>
-    ensures { (program : Tree) (s : Standing) → GivesNext result env.new.items s (results program (bound (tables_plain tables.now) (site_at here.now number) env.old.items x (term e.now)) s) }
+    ensures { (program : Tree) (s : Summary) → GivesNext result env.new.items s (results program (bound (tables_plain tables.now) (site_at here.now number) env.old.items x (term e.now)) s) }
 {
     match evaluate(tables, env, e) {
         Err(kind) => Err(stopped(kind, here, number)),
@@ -55,7 +55,7 @@ fn run_return<'p>(
     e: &Expr,
     env: &[Option<i64>],
 ) -> Result<Option<i64>, Stop<'p>>
-    ensures { (program : Tree) (s : Standing) → GivesNext result env.now s (results program (back (tables_plain tables.now) (site_at here.now number) env.now (term e.now)) s) }
+    ensures { (program : Tree) (s : Summary) → GivesNext result env.now s (results program (back (tables_plain tables.now) (site_at here.now number) env.now (term e.now)) s) }
 {
     match evaluate(tables, env, e) {
         Err(kind) => Err(stopped(kind, here, number)),
@@ -72,7 +72,7 @@ fn run_read<'p, 's>(
     journal: &Journal<'p>,
 ) -> Result<Option<i64>, Stop<'p>>
     requires fit { AreFit (tree_in scope.now) (records_in scope.now) }
-    ensures { GivesNext result env.new.items (standing scope.now journal.now) (results (tree_in scope.now) (told (tree_in scope.now) env.old.items x r.now) (standing scope.now journal.now)) }
+    ensures { GivesNext result env.new.items (summary scope.now journal.now) (results (tree_in scope.now) (told (tree_in scope.now) env.old.items x r.now) (summary scope.now journal.now)) }
 {
     match updates::read(scope, r, &journal.changes) {
         Err(_) => Err(Stop::NoMemory),
@@ -93,7 +93,7 @@ fn run_update<'p, 's>(
     env: &[Option<i64>],
     journal: &mut Journal<'p>,
 ) -> Result<Option<i64>, Stop<'p>>
-    ensures { GivesNext result env.now (standing scope.now journal.new) (results (tree_in scope.now) (updates_here (tree_in scope.now) (tables_in scope.now) (site_at here.now number) env.now r.now (map term es.now)) (standing scope.now journal.old)) }
+    ensures { GivesNext result env.now (summary scope.now journal.new) (results (tree_in scope.now) (updates_here (tree_in scope.now) (tables_in scope.now) (site_at here.now number) env.now r.now (map term es.now)) (summary scope.now journal.old)) }
 {
     match updates::update_reducer(scope, env, r, es, &mut journal.changes) {
         Err(trouble) => Err(trouble.at(here, number)),
@@ -128,7 +128,7 @@ fn answer_by<'p, 's>(
     journal: &mut Journal<'p>,
 ) -> Result<i64, Stop<'p>>
     requires place { slice_get (records_in scope.now) found.place ≡ Some (kept found.known.now) }
-    ensures { Gives result (standing scope.now journal.new) (by_record (tree_in scope.now) (kept found.entry.known.now) (name.now, args.now) (standing scope.now journal.old)) }
+    ensures { Gives result (summary scope.now journal.new) (by_record (tree_in scope.now) (kept found.entry.known.now) (name.now, args.now) (summary scope.now journal.old)) }
 {
     match note_reused(scope.alloc, journal, found.place, name, args) {
         Err(_) => Err(Stop::NoMemory),
@@ -148,7 +148,7 @@ pub fn enter<'p, 's>(
     journal: &mut Journal<'p>,
 ) -> Result<i64, Stop<'p>>
     requires fit { AreFit (tree_in scope.now) (records_in scope.now) }
-    ensures { Gives result (standing scope.now journal.new) (results (tree_in scope.now) (enters_in scope.now left (site_at here.now statement) name.now args.now) (standing scope.now journal.old)) }
+    ensures { Gives result (summary scope.now journal.new) (results (tree_in scope.now) (enters_in scope.now left (site_at here.now statement) name.now args.now) (summary scope.now journal.old)) }
 {
     if left == 0 {
         return Err(stopped(FaultKind::TooDeep, here, statement));
@@ -176,9 +176,9 @@ fn run_memo<'p, 's>(
     journal: &mut Journal<'p>,
 ) -> Result<i64, Stop<'p>>
     requires fit { AreFit (tree_in scope.now) (records_in scope.now) }
-    ensures { Gives result (standing scope.now journal.new) (memoised (tree_in scope.now) (if_valid (revised_in scope.now) (tables_in scope.now) (depth_limit - left) (record_of (records_in scope.now) name.now args.now)) (name.now, args.now) (inside (tree_in scope.now) (tables_in scope.now) (enters_in scope.now left) (proc p.now) args.now) (standing scope.now journal.old)) }
+    ensures { Gives result (summary scope.now journal.new) (memo_results scope.now left p.now name.now args.now journal.old) }
 {
-    match valid_record(scope, 64u32.saturating_sub(left), name, args) {
+    match valid_record(scope, DEPTH_LIMIT.saturating_sub(left), name, args) {
         Some(found) => answer_by(scope, found, name, args, journal),
         None => run_new(scope, left, p, name, args, journal),
     }
@@ -195,7 +195,7 @@ fn run_new<'p, 's>(
     journal: &mut Journal<'p>,
 ) -> Result<i64, Stop<'p>>
     requires fit { AreFit (tree_in scope.now) (records_in scope.now) }
-    ensures { Gives result (standing scope.now journal.new) (results (tree_in scope.now) (inside (tree_in scope.now) (tables_in scope.now) (enters_in scope.now left) (proc p.now) args.now) (with_executed (standing scope.now journal.old) (name.now, args.now))) }
+    ensures { Gives result (summary scope.now journal.new) (results (tree_in scope.now) (inside (tree_in scope.now) (tables_in scope.now) (enters_in scope.now left) (proc p.now) args.now) (with_executed (summary scope.now journal.old) (name.now, args.now))) }
 {
     match note_executed(scope.alloc, journal, name, args) {
         Err(_) => Err(Stop::NoMemory),
@@ -213,7 +213,7 @@ fn run_instance<'p, 's>(
     journal: &mut Journal<'p>,
 ) -> Result<i64, Stop<'p>>
     requires fit { AreFit (tree_in scope.now) (records_in scope.now) }
-    ensures { Gives result (standing scope.now journal.new) (results (tree_in scope.now) (inside (tree_in scope.now) (tables_in scope.now) (enters_in scope.now left) (proc p.now) args.now) (standing scope.now journal.old)) }
+    ensures { Gives result (summary scope.now journal.new) (results_in scope.now journal.old (inside_in scope.now left p.now args.now)) }
 {
     match fresh(scope.alloc, &p.names, args) {
         Err(_) => Err(Stop::NoMemory),
@@ -237,7 +237,7 @@ fn run_block<'p, 's>(
     journal: &mut Journal<'p>,
 ) -> Result<Option<i64>, Stop<'p>>
     requires fit { AreFit (tree_in scope.now) (records_in scope.now) }
-    ensures { GivesNext result env.new.items (standing scope.now journal.new) (results (tree_in scope.now) (body (tree_in scope.now) (tables_in scope.now) (enters_in scope.now left) (string_bytes p.now.name) env.old.items (block_plain p.now.blocks.items levels n)) (standing scope.now journal.old)) }
+    ensures { GivesNext result env.new.items (summary scope.now journal.new) (results (tree_in scope.now) (body (tree_in scope.now) (tables_in scope.now) (enters_in scope.now left) (string_bytes p.now.name) env.old.items (block_plain p.now.blocks.items levels n)) (summary scope.now journal.old)) }
 {
     if levels == 0 {
         return Ok(None);
@@ -260,7 +260,7 @@ fn run_statements<'p, 's>(
     journal: &mut Journal<'p>,
 ) -> Result<Option<i64>, Stop<'p>>
     requires fit { AreFit (tree_in scope.now) (records_in scope.now) }
-    ensures { GivesNext result env.new.items (standing scope.now journal.new) (results (tree_in scope.now) (body (tree_in scope.now) (tables_in scope.now) (enters_in scope.now left) (string_bytes p.now.name) env.old.items (statements_plain (block_plain p.now.blocks.items levels) statements.now)) (standing scope.now journal.old)) }
+    ensures { GivesNext result env.new.items (summary scope.now journal.new) (results (tree_in scope.now) (body (tree_in scope.now) (tables_in scope.now) (enters_in scope.now left) (string_bytes p.now.name) env.old.items (statements_plain (block_plain p.now.blocks.items levels) statements.now)) (summary scope.now journal.old)) }
 {
     for s in statements {
         match run_statement(scope, left, p, levels, s, env, journal) {
@@ -284,7 +284,7 @@ fn run_statement<'p, 's>(
     journal: &mut Journal<'p>,
 ) -> Result<Option<i64>, Stop<'p>>
     requires fit { AreFit (tree_in scope.now) (records_in scope.now) }
-    ensures { GivesNext result env.new.items (standing scope.now journal.new) (results (tree_in scope.now) (deed (tree_in scope.now) (tables_in scope.now) (enters_in scope.now left) (site_at (string_bytes p.now.name) s.now.number) env.old.items (deed_plain (block_plain p.now.blocks.items levels) s.now.action)) (standing scope.now journal.old)) }
+    ensures { GivesNext result env.new.items (summary scope.now journal.new) (results (tree_in scope.now) (deed (tree_in scope.now) (tables_in scope.now) (enters_in scope.now left) (site_at (string_bytes p.now.name) s.now.number) env.old.items (deed_plain (block_plain p.now.blocks.items levels) s.now.action)) (summary scope.now journal.old)) }
 {
     let here = &p.name;
     match &s.action {
@@ -334,7 +334,7 @@ fn run_entry<'p, 's>(
     journal: &mut Journal<'p>,
 ) -> Result<Option<i64>, Stop<'p>>
     requires fit { AreFit (tree_in scope.now) (records_in scope.now) }
-    ensures { GivesNext result env.new.items (standing scope.now journal.new) (results (tree_in scope.now) (entered (tables_in scope.now) (enters_in scope.now left) (site_of entry.now) env.old.items x entry.now.callee.now (map term entry.now.arguments.now)) (standing scope.now journal.old)) }
+    ensures { GivesNext result env.new.items (summary scope.now journal.new) (results (tree_in scope.now) (entered (tables_in scope.now) (enters_in scope.now left) (site_of entry.now) env.old.items x entry.now.callee.now (map term entry.now.arguments.now)) (summary scope.now journal.old)) }
 {
     let Entry {
         here,
@@ -366,7 +366,7 @@ fn run_if<'p, 's>(
     journal: &mut Journal<'p>,
 ) -> Result<Option<i64>, Stop<'p>>
     requires fit { AreFit (tree_in scope.now) (records_in scope.now) }
-    ensures { GivesNext result env.new.items (standing scope.now journal.new) (results (tree_in scope.now) (chosen (tree_in scope.now) (tables_in scope.now) (enters_in scope.now left) (site_at (string_bytes p.now.name) choice.now.number) env.old.items (term choice.now.condition.now) (block_plain p.now.blocks.items levels choice.now.first) (block_plain p.now.blocks.items levels choice.now.second)) (standing scope.now journal.old)) }
+    ensures { GivesNext result env.new.items (summary scope.now journal.new) (results_in scope.now journal.old (chosen_in scope.now left p.now levels choice.now env.old.items)) }
 {
     match evaluate(scope.tables, env, choice.condition) {
         Err(kind) => Err(stopped(kind, &p.name, choice.number)),
@@ -390,7 +390,7 @@ fn run_loop<'p, 's>(
     journal: &mut Journal<'p>,
 ) -> Result<Option<i64>, Stop<'p>>
     requires fit { AreFit (tree_in scope.now) (records_in scope.now) }
-    ensures { (grain : ℕ) → GivesNext result env.now (standing scope.now journal.new) (results (tree_in scope.now) (looped (tree_in scope.now) (tables_in scope.now) (enters_in scope.now left) (site_of entry.now) env.now x (term low.now) (term high.now) grain entry.now.callee.now (map term entry.now.arguments.now)) (standing scope.now journal.old)) }
+    ensures { (grain : ℕ) → GivesNext result env.now (summary scope.now journal.new) (results (tree_in scope.now) (looped (tree_in scope.now) (tables_in scope.now) (enters_in scope.now left) (site_of entry.now) env.now x (term low.now) (term high.now) grain entry.now.callee.now (map term entry.now.arguments.now)) (summary scope.now journal.old)) }
 {
     match range_of(scope.tables, env, low, high) {
         Err(kind) => Err(stopped(kind, entry.here, entry.number)),
@@ -413,7 +413,7 @@ fn run_turns<'p, 's>(
     journal: &mut Journal<'p>,
 ) -> Result<(), Stop<'p>>
     requires fit { AreFit (tree_in scope.now) (records_in scope.now) }
-    ensures { (grain : ℕ) → Does result (standing scope.now journal.new) (results (tree_in scope.now) (all_turns (tree_in scope.now) (tables_in scope.now) (enters_in scope.now left) (job_in entry.now env.now x grain range.low) range.count) (standing scope.now journal.old)) }
+    ensures { (grain : ℕ) → Does result (summary scope.now journal.new) (results (tree_in scope.now) (all_turns (tree_in scope.now) (tables_in scope.now) (enters_in scope.now left) (job_in entry.now env.now x grain range.low) range.count) (summary scope.now journal.old)) }
 {
     let mut i = 0;
     while i < range.count {
@@ -439,7 +439,7 @@ fn run_turn<'p, 's>(
 ) -> Result<(), Stop<'p>>
     requires within { i < range.count }
     requires fit { AreFit (tree_in scope.now) (records_in scope.now) }
-    ensures { (grain : ℕ) → Does result (standing scope.now journal.new) (results (tree_in scope.now) (turn (tables_in scope.now) (enters_in scope.now left) (job_in entry.now env.now x grain range.low) i) (standing scope.now journal.old)) }
+    ensures { (grain : ℕ) → Does result (summary scope.now journal.new) (results (tree_in scope.now) (turn (tables_in scope.now) (enters_in scope.now left) (job_in entry.now env.now x grain range.low) i) (summary scope.now journal.old)) }
 {
     let Entry {
         here,

@@ -10,6 +10,7 @@ use crate::lookup;
 use crate::records::{Reading, Record, Revision};
 use crate::scope::Scope;
 use crate::tables::TableRows;
+use meaning::DEPTH_LIMIT;
 
 /// A record, with its place among all.
 #[derive(Clone, Copy)]
@@ -95,7 +96,8 @@ fn holds_now(scope: &Scope, known: &Record) -> bool
 fn is_valid(scope: &Scope, depth: u32, known: &Record) -> bool
     ensures { result ≡ is_valid_of (revised_in scope.now) (tables_in scope.now) depth (kept known.now) }
 {
-    holds_now(scope, known) && u64::from(depth) + u64::from(known.height) <= 65
+    holds_now(scope, known)
+        && u64::from(depth) + u64::from(known.height) <= u64::from(DEPTH_LIMIT) + 1
 }
 
 /// Whether both are the same numbers.

@@ -10,23 +10,23 @@ use Rattle.program_tree.specs.Plain.{Name, Deed, bind, enter, read, sync, update
 use Rattle.program_tree.specs.View.{deed, statements, statements_of, block, statement_lines, block_lines}
 use Rattle.source_tree.specs.Source.{Stmt, Binds, Enters, Reads, Syncs, Updates, Tests, Loops, Returns, Stmts, none, some}
 use Rattle.source_tree.specs.Lowering.{Walk, lower_term, lower_deed, lower_body, line_of_stmt, count, count_all, own_lines, inner_lines, inside_lines, body_lines}
-use Rattle.source_tree.specs.Layout.{Act, Bind, Enter, Read, Sync, Update, If, Loop, Return, Flat, Made, laid_act, laid, act, entries, flat, flats, laid_procedure}
+use Rattle.source_tree.specs.Layout.{FlatDeed, Bind, Enter, Read, Sync, Update, If, Loop, Return, Flat, Made, laid_deed, laid, flat_deed, entries, flat, flats, laid_procedure}
 
 -- ---- what a table of blocks stands for
 
-abbrev act_deed : (ℕ → Body) → Act → Deed
-act_deed inner (Bind n t) = bind n t
-act_deed inner (Enter n h f ts) = enter n h f ts
-act_deed inner (Read n r) = read n r
-act_deed inner Sync = sync
-act_deed inner (Update r ts) = update r ts
-act_deed inner (If t b c) = choose t (inner b) (inner c)
-act_deed inner (Loop n s t g f ts) = loop n s t g f ts
-act_deed inner (Return t) = give t
+abbrev deed_of_flat : (ℕ → Body) → FlatDeed → Deed
+deed_of_flat inner (Bind n t) = bind n t
+deed_of_flat inner (Enter n h f ts) = enter n h f ts
+deed_of_flat inner (Read n r) = read n r
+deed_of_flat inner Sync = sync
+deed_of_flat inner (Update r ts) = update r ts
+deed_of_flat inner (If t b c) = choose t (inner b) (inner c)
+deed_of_flat inner (Loop n s t g f ts) = loop n s t g f ts
+deed_of_flat inner (Return t) = give t
 
 abbrev flat_body : (ℕ → Body) → Flat → Body
 flat_body inner [] = end
-flat_body inner (x ∷ xs) = step x.0 (act_deed inner x.2) (flat_body inner xs)
+flat_body inner (x ∷ xs) = step x.0 (deed_of_flat inner x.2) (flat_body inner xs)
 
 abbrev flat_of : (ℕ → Body) → Option Flat → Body
 flat_of inner None = end
@@ -45,7 +45,7 @@ table_lines [] = []
 table_lines (f ∷ fs) = flat_lines f ++ table_lines fs
 
 module _ (inner other : ℕ → Body) (same : (n : ℕ) → inner n ≡ other n) where
-  deed_flat : (x : Action) → deed inner x ≡ act_deed other (act x)
+  deed_flat : (x : Action) → deed inner x ≡ deed_of_flat other (flat_deed x)
   deed_flat (a.Bind n x) = refl
   deed_flat (a.Enter n way f xs) = refl
   deed_flat (a.Read n r) = refl
@@ -103,20 +103,20 @@ block_in own t xs ys y (suc levels) b e lt does =
 laid_front : (m : Made) (done : Flat) (ss : Stmts) → laid (m, done) ss ≡ ((laid (m, []) ss).0, done ++ (laid (m, []) ss).1)
 laid_front m done none = ap (λ (f : Flat). (m, f)) (sym (append-nil done))
 laid_front m done (some s ss) =
-    let d = laid_act (m.0, m.1 + 1, m.2) s in
-    let x : ℕ × ℕ × Act = (m.1 + 1, line_of_stmt s, d.1) in
+    let d = laid_deed (m.0, m.1 + 1, m.2) s in
+    let x : ℕ × ℕ × FlatDeed = (m.1 + 1, line_of_stmt s, d.1) in
     let h = laid_front d.0 (done ++ x ∷ []) ss in
     let k = laid_front d.0 (x ∷ []) ss in
     rw (h, k) (ap (λ (f : Flat). ((laid (d.0, []) ss).0, f)) (append_assoc done (x ∷ []) (laid (d.0, []) ss).1))
 
 -- what laying out a statement comes to, against its lowering
-record ActRight (m : Made) (s : Stmt) (out : Made × Act) (to : Walk × Deed) : Type 0 where
+record DeedRight (m : Made) (s : Stmt) (out : Made × FlatDeed) (to : Walk × Deed) : Type 0 where
   walk : (out.0.0, out.0.1) ≡ to.0
   last : out.0.1 + 1 ≡ m.1 + count s
   new : List Flat
   grown : out.0.2 ≡ m.2 ++ new
   lines : table_lines new ≡ inner_lines m.1 s
-  does : (own : Flat) (more : List Flat) (levels : ℕ) → length out.0.2 ≤ levels → act_deed (flat_block (own ∷ out.0.2 ++ more) levels) out.1 ≡ to.1
+  does : (own : Flat) (more : List Flat) (levels : ℕ) → length out.0.2 ≤ levels → deed_of_flat (flat_block (own ∷ out.0.2 ++ more) levels) out.1 ≡ to.1
 
 record BodyRight (m : Made) (ss : Stmts) (out : Made × Flat) (to : Walk × Body) : Type 0 where
   walk : (out.0.0, out.0.1) ≡ to.0
@@ -128,7 +128,7 @@ record BodyRight (m : Made) (ss : Stmts) (out : Made × Flat) (to : Walk × Body
   does : (own : Flat) (more : List Flat) (levels : ℕ) → length out.0.2 ≤ levels → flat_body (flat_block (own ∷ out.0.2 ++ more) levels) out.1 ≡ to.1
 
 -- a statement without blocks inside
-plain_right : (m : Made) (s : Stmt) (pool : List Name) (x : Act) (y : Deed) → count s ≡ 1 → inner_lines m.1 s ≡ [] → ((inner : ℕ → Body) → act_deed inner x ≡ y) → ActRight m s ((pool, m.1, m.2), x) ((pool, m.1), y)
+plain_right : (m : Made) (s : Stmt) (pool : List Name) (x : FlatDeed) (y : Deed) → count s ≡ 1 → inner_lines m.1 s ≡ [] → ((inner : ℕ → Body) → deed_of_flat inner x ≡ y) → DeedRight m s ((pool, m.1, m.2), x) ((pool, m.1), y)
 plain_right m s pool x y one without does = record {
   walk = refl;
   last = rw one refl;
@@ -139,7 +139,7 @@ plain_right m s pool x y one without does = record {
 }
 
 -- an `if`, from its blocks
-tests_right : (m : Made) (l : ℕ) (e : _) (b c : Stmts) (ra rb : Made × Flat) (pool : List Name) (t : _) (p q : Walk × Body) → BodyRight (pool, m.1, m.2) b ra p → BodyRight (ra.0.0, ra.0.1, ra.0.2 ++ ra.1 ∷ []) c rb q → ActRight m (Tests l e b c) ((rb.0.0, rb.0.1, rb.0.2 ++ rb.1 ∷ []), If t (length ra.0.2 + 1) (length rb.0.2 + 1)) (q.0, choose t p.1 q.1)
+tests_right : (m : Made) (l : ℕ) (e : _) (b c : Stmts) (ra rb : Made × Flat) (pool : List Name) (t : _) (p q : Walk × Body) → BodyRight (pool, m.1, m.2) b ra p → BodyRight (ra.0.0, ra.0.1, ra.0.2 ++ ra.1 ∷ []) c rb q → DeedRight m (Tests l e b c) ((rb.0.0, rb.0.1, rb.0.2 ++ rb.1 ∷ []), If t (length ra.0.2 + 1) (length rb.0.2 + 1)) (q.0, choose t p.1 q.1)
 tests_right m l e b c ra rb pool t p q f g =
     let second : rb.0.2 ≡ ra.0.2 ++ (ra.1 ∷ g.new) = g.grown ∙ append_assoc ra.0.2 (ra.1 ∷ []) g.new in
     record {
@@ -169,7 +169,7 @@ tests_right m l e b c ra rb pool t p q f g =
     }
 
 -- a block, from its first statement and the others
-some_right : (m : Made) (s : Stmt) (ss : Stmts) (d : Made × Act) (r : Made × Flat) (p : Walk × Deed) (q : Walk × Body) → ActRight (m.0, m.1 + 1, m.2) s d p → BodyRight d.0 ss r q → BodyRight m (some s ss) (r.0, (m.1 + 1, line_of_stmt s, d.1) ∷ r.1) (q.0, step (m.1 + 1) p.1 q.1)
+some_right : (m : Made) (s : Stmt) (ss : Stmts) (d : Made × FlatDeed) (r : Made × Flat) (p : Walk × Deed) (q : Walk × Body) → DeedRight (m.0, m.1 + 1, m.2) s d p → BodyRight d.0 ss r q → BodyRight m (some s ss) (r.0, (m.1 + 1, line_of_stmt s, d.1) ∷ r.1) (q.0, step (m.1 + 1) p.1 q.1)
 some_right m s ss d r p q f g =
     let n : d.0.1 ≡ m.1 + count s = let x = f.last in omega (arith, x) in
     record {
@@ -182,18 +182,18 @@ some_right m s ss d r p q f g =
       does = λ own more levels le.
           let k : length r.0.2 ≡ length d.0.2 + length g.new = ap (λ (z : List Flat). length z) g.grown ∙ length-append d.0.2 g.new in
           let all : own ∷ r.0.2 ++ more ≡ own ∷ d.0.2 ++ (g.new ++ more) = ap (λ (z : List Flat). own ∷ z ++ more) g.grown ∙ ap (λ (z : List Flat). own ∷ z) (append_assoc d.0.2 g.new more) in
-          let first : act_deed (flat_block (own ∷ r.0.2 ++ more) levels) d.1 ≡ p.1 = rw all (f.does own (g.new ++ more) levels (omega (arith, k, le))) in
+          let first : deed_of_flat (flat_block (own ∷ r.0.2 ++ more) levels) d.1 ≡ p.1 = rw all (f.does own (g.new ++ more) levels (omega (arith, k, le))) in
           rw (first, g.does own more levels le) refl;
     }
 
 mutual
-  act_right : (m : Made) (s : Stmt) → ActRight m s (laid_act m s) (lower_deed (m.0, m.1) s)
-  act_right m (Binds l x e) = plain_right m (Binds l x e) _ _ _ refl refl (λ inner. refl)
-  act_right m (Enters l x h f es) = plain_right m (Enters l x h f es) _ _ _ refl refl (λ inner. refl)
-  act_right m (Reads l x r) = plain_right m (Reads l x r) _ _ _ refl refl (λ inner. refl)
-  act_right m (Syncs l) = plain_right m (Syncs l) _ _ _ refl refl (λ inner. refl)
-  act_right m (Updates l r es) = plain_right m (Updates l r es) _ _ _ refl refl (λ inner. refl)
-  act_right m (Tests l e b c) =
+  deed_right : (m : Made) (s : Stmt) → DeedRight m s (laid_deed m s) (lower_deed (m.0, m.1) s)
+  deed_right m (Binds l x e) = plain_right m (Binds l x e) _ _ _ refl refl (λ inner. refl)
+  deed_right m (Enters l x h f es) = plain_right m (Enters l x h f es) _ _ _ refl refl (λ inner. refl)
+  deed_right m (Reads l x r) = plain_right m (Reads l x r) _ _ _ refl refl (λ inner. refl)
+  deed_right m (Syncs l) = plain_right m (Syncs l) _ _ _ refl refl (λ inner. refl)
+  deed_right m (Updates l r es) = plain_right m (Updates l r es) _ _ _ refl refl (λ inner. refl)
+  deed_right m (Tests l e b c) =
       let t = lower_term m.0 e in
       let f = body_right (t.0, m.1, m.2) b in
       let ra = laid ((t.0, m.1, m.2), []) b in
@@ -201,8 +201,8 @@ mutual
       let rb = laid ((ra.0.0, ra.0.1, ra.0.2 ++ ra.1 ∷ []), []) c in
       let p = lower_body (t.0, m.1) b in
       tests_right m l e b c ra rb t.0 t.1 p (lower_body p.0 c) f (subst (λ (w : Walk). BodyRight (ra.0.0, ra.0.1, ra.0.2 ++ ra.1 ∷ []) c rb (lower_body w c)) f.walk g)
-  act_right m (Loops l x e f g h es) = plain_right m (Loops l x e f g h es) _ _ _ refl refl (λ inner. refl)
-  act_right m (Returns l e) = plain_right m (Returns l e) _ _ _ refl refl (λ inner. refl)
+  deed_right m (Loops l x e f g h es) = plain_right m (Loops l x e f g h es) _ _ _ refl refl (λ inner. refl)
+  deed_right m (Returns l e) = plain_right m (Returns l e) _ _ _ refl refl (λ inner. refl)
 
   body_right : (m : Made) (ss : Stmts) → BodyRight m ss (laid (m, []) ss) (lower_body (m.0, m.1) ss)
   body_right m none = record {
@@ -215,9 +215,9 @@ mutual
     does = λ own more levels le. refl;
   }
   body_right m (some s ss) =
-      let d = laid_act (m.0, m.1 + 1, m.2) s in
+      let d = laid_deed (m.0, m.1 + 1, m.2) s in
       let p = lower_deed (m.0, m.1 + 1) s in
-      let f = act_right (m.0, m.1 + 1, m.2) s in
+      let f = deed_right (m.0, m.1 + 1, m.2) s in
       let g = subst (λ (w : Walk). BodyRight d.0 ss (laid (d.0, []) ss) (lower_body w ss)) f.walk (body_right d.0 ss) in
       let e = laid_front d.0 ((m.1 + 1, line_of_stmt s, d.1) ∷ []) ss in
       subst (λ (z : Made × Flat). BodyRight m (some s ss) z (lower_body (m.0, m.1) (some s ss))) (sym e) (some_right m s ss d (laid (d.0, []) ss) p (lower_body p.0 ss) f g)

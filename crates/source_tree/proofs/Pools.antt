@@ -5,7 +5,7 @@ use Rattle.std.specs.Option.{option_map}
 use Rattle.std.proofs.lemmas.Slice.Eq.{bytes_eq-Decides}
 use Rattle.program_tree.specs.Plain.{Name}
 use Rattle.token_scanner.specs.Words.{for_some}
-use Rattle.source_tree.specs.Lowering.{place_of, kept}
+use Rattle.source_tree.specs.Lowering.{found_index, kept}
 
 on_bool : (b : Bool) → (b ≡ true) ⊎ (b ≡ false)
 on_bool true = inl refl
@@ -20,12 +20,12 @@ later b (Some k) n = refl
 later true None n = refl
 later false None n = refl
 
-pub place_push : (x y : Name) (ys : List Name) → place_of x (ys ++ y ∷ []) ≡ for_some (place_of x ys) (cond (bytes_eq x y) (Some (length ys)) None) (λ k. Some k)
+pub place_push : (x y : Name) (ys : List Name) → found_index x (ys ++ y ∷ []) ≡ for_some (found_index x ys) (cond (bytes_eq x y) (Some (length ys)) None) (λ k. Some k)
 place_push x y [] = refl
 place_push x y (z ∷ ys) =
     elim (on_bool (bytes_eq x z)) [
       | inl h ↦ rw h refl
-      | inr h ↦ rw (h, place_push x y ys) (later (bytes_eq x y) (place_of x ys) (length ys))
+      | inr h ↦ rw (h, place_push x y ys) (later (bytes_eq x y) (found_index x ys) (length ys))
     ]
 
 unseen : {A : Type 0} (o : Option A) → is_some o ≡ false → o ≡ None

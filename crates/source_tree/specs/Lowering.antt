@@ -7,21 +7,26 @@ use Rattle.program_tree.specs.Plain as plain
 use Rattle.program_tree.specs.View.{Lined}
 use Rattle.source_tree.specs.Kinds.{WrittenKind, written}
 use Rattle.source_tree.specs.Source.{Phrase, Num, Var, Cell, Has, Limit, Neg, Bin, Stmt, Binds, Enters, Reads, Syncs, Updates, Tests, Loops, Returns, Stmts, none, some, stmts_of, Decl, Reduces, Defines, Source}
+use Rattle.token_scanner.specs.Scanning.{longest_text}
+
+-- the greatest number of statements of a text: each takes a byte of it at least
+abbrev pub most_statements : ℕ
+most_statements = longest_text
 
 -- ---- variables
 
--- the first place of a name
-abbrev pub place_of : Name → List Name → Option ℕ
-place_of x [] = None
-place_of x (y ∷ ys) = if bytes_eq x y then Some 0 else option_map (λ n. suc n) (place_of x ys)
+-- the first index of a name in a list, where it is there
+abbrev pub found_index : Name → List Name → Option ℕ
+found_index x [] = None
+found_index x (y ∷ ys) = if bytes_eq x y then Some 0 else option_map (λ n. suc n) (found_index x ys)
 
--- the places of names, with that of one more, where it has none
+-- the indices of names, with that of one more, where it has none
 abbrev pub kept : (Name → Option ℕ) → Name → ℕ → Name → Option ℕ
 kept places y n x = for_some (places x) (if bytes_eq x y then Some n else None) (λ k. Some k)
 
 -- the number of a name in a pool, where a new one is put last
 abbrev pub numbered : List Name → Name → List Name × ℕ
-numbered pool x = for_some (place_of x pool) (pool ++ x ∷ [], length pool) (λ n. (pool, n))
+numbered pool x = for_some (found_index x pool) (pool ++ x ∷ [], length pool) (λ n. (pool, n))
 
 abbrev pub lower_term : List Name → Phrase → List Name × Term
 lower_term pool (Num n) = (pool, number n)

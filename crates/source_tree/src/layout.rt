@@ -2,8 +2,8 @@
 
 ghost use Rattle.std.specs.Prelude.{◌≡◌, ℕ, ◌+◌, ◌≤◌, IfOk, [], map, string_bytes, length};
 ghost use Rattle.source_tree.specs.Source.{phrase, phrases, option_text, stmt, stmts, stmts_of, Binds, Enters, Reads, Updates, Tests, Loops};
-ghost use Rattle.source_tree.specs.Lowering.{count, count_all};
-ghost use Rattle.source_tree.specs.Layout.{laid_plain, laid_act, laid_block, laid, act, entries, flats};
+ghost use Rattle.source_tree.specs.Lowering.{count, count_all, most_statements};
+ghost use Rattle.source_tree.specs.Layout.{laid_plain, laid_deed, laid_block, laid, flat_deed, entries, flats};
 
 use crate::pool::Pool;
 use crate::source::{self, line_of};
@@ -12,7 +12,7 @@ use program_tree::{Action, Block, Statement, Way};
 use std::alloc::{AllocError, Global};
 
 fn bind(alloc: Global, pool: &mut Pool, x: &str, value: &source::Expr) -> Result<Action, AllocError>
-    ensures { IfOk result (λ a. (pool.new, act a) ≡ laid_plain pool.old (Binds 0 x.now (phrase value.now))) }
+    ensures { IfOk result (λ a. (pool.new, flat_deed a) ≡ laid_plain pool.old (Binds 0 x.now (phrase value.now))) }
 {
     let number = pool.number_of(alloc, x)?;
     Ok(Action::Bind(number, lower_expression(alloc, pool, value)?))
@@ -26,7 +26,7 @@ fn enter(
     callee: &str,
     arguments: &[source::Expr],
 ) -> Result<Action, AllocError>
-    ensures { IfOk result (λ a. (pool.new, act a) ≡ laid_plain pool.old (Enters 0 (option_text bound.now) way callee.now (phrases arguments.now))) }
+    ensures { IfOk result (λ a. (pool.new, flat_deed a) ≡ laid_plain pool.old (Enters 0 (option_text bound.now) way callee.now (phrases arguments.now))) }
 {
     let number = number_of_bound(alloc, pool, bound)?;
     let arguments = lower_expressions(alloc, pool, arguments)?;
@@ -35,7 +35,7 @@ fn enter(
 }
 
 fn read(alloc: Global, pool: &mut Pool, x: &str, reducer: &str) -> Result<Action, AllocError>
-    ensures { IfOk result (λ a. (pool.new, act a) ≡ laid_plain pool.old (Reads 0 x.now reducer.now)) }
+    ensures { IfOk result (λ a. (pool.new, flat_deed a) ≡ laid_plain pool.old (Reads 0 x.now reducer.now)) }
 {
     let number = pool.number_of(alloc, x)?;
     Ok(Action::Read(number, String::from_str(alloc, reducer)?))
@@ -47,7 +47,7 @@ fn update(
     reducer: &str,
     numbers: &[source::Expr],
 ) -> Result<Action, AllocError>
-    ensures { IfOk result (λ a. (pool.new, act a) ≡ laid_plain pool.old (Updates 0 reducer.now (phrases numbers.now))) }
+    ensures { IfOk result (λ a. (pool.new, flat_deed a) ≡ laid_plain pool.old (Updates 0 reducer.now (phrases numbers.now))) }
 {
     let numbers = lower_expressions(alloc, pool, numbers)?;
     Ok(Action::Update(String::from_str(alloc, reducer)?, numbers))
@@ -63,7 +63,7 @@ fn loop_over(
     callee: &str,
     arguments: &[source::Expr],
 ) -> Result<Action, AllocError>
-    ensures { IfOk result (λ a. (pool.new, act a) ≡ laid_plain pool.old (Loops 0 x.now (phrase low.now) (phrase high.now) grain callee.now (phrases arguments.now))) }
+    ensures { IfOk result (λ a. (pool.new, flat_deed a) ≡ laid_plain pool.old (Loops 0 x.now (phrase low.now) (phrase high.now) grain callee.now (phrases arguments.now))) }
 {
     let number = pool.number_of(alloc, x)?;
     let low = lower_expression(alloc, pool, low)?;
@@ -83,8 +83,8 @@ fn choice(
     first: &[source::Statement],
     second: &[source::Statement],
 ) -> Result<Action, AllocError>
-    requires { last.old + count_all (stmts_of (stmts first.now)) + count_all (stmts_of (stmts second.now)) ≤ 1048576 }
-    ensures made { IfOk result (λ a. ((pool.new, last.new, flats blocks.new.items), act a) ≡ laid_act (pool.old, last.old, flats blocks.old.items) (Tests 0 (phrase condition.now) (stmts_of (stmts first.now)) (stmts_of (stmts second.now)))) }
+    requires { last.old + count_all (stmts_of (stmts first.now)) + count_all (stmts_of (stmts second.now)) ≤ most_statements }
+    ensures made { IfOk result (λ a. ((pool.new, last.new, flats blocks.new.items), flat_deed a) ≡ laid_deed (pool.old, last.old, flats blocks.old.items) (Tests 0 (phrase condition.now) (stmts_of (stmts first.now)) (stmts_of (stmts second.now)))) }
     ensures counted { IfOk result (λ a. last.new ≡ last.old + count_all (stmts_of (stmts first.now)) + count_all (stmts_of (stmts second.now))) }
 {
     let condition = lower_expression(alloc, pool, condition)?;
@@ -102,7 +102,7 @@ fn action(
     statement: &source::Statement,
 ) -> Result<Action, AllocError>
     requires { last.old + count (stmt statement.now) ≤ 1048577 }
-    ensures made { IfOk result (λ a. ((pool.new, last.new, flats blocks.new.items), act a) ≡ laid_act (pool.old, last.old, flats blocks.old.items) (stmt statement.now)) }
+    ensures made { IfOk result (λ a. ((pool.new, last.new, flats blocks.new.items), flat_deed a) ≡ laid_deed (pool.old, last.old, flats blocks.old.items) (stmt statement.now)) }
     ensures counted { IfOk result (λ a. last.new + 1 ≡ last.old + count (stmt statement.now)) }
 {
     match statement {
@@ -134,7 +134,7 @@ pub fn statements(
     blocks: &mut Vec<Block>,
     body: &[source::Statement],
 ) -> Result<Vec<Statement>, AllocError>
-    requires { last.old + count_all (stmts_of (stmts body.now)) ≤ 1048576 }
+    requires { last.old + count_all (stmts_of (stmts body.now)) ≤ most_statements }
     ensures made { IfOk result (λ ss. ((pool.new, last.new, flats blocks.new.items), entries ss.items) ≡ laid ((pool.old, last.old, flats blocks.old.items), []) (stmts_of (stmts body.now))) }
     ensures counted { IfOk result (λ ss. last.new ≡ last.old + count_all (stmts_of (stmts body.now))) }
 {
@@ -161,7 +161,7 @@ fn block(
     blocks: &mut Vec<Block>,
     body: &[source::Statement],
 ) -> Result<usize, AllocError>
-    requires { last.old + count_all (stmts_of (stmts body.now)) ≤ 1048576 }
+    requires { last.old + count_all (stmts_of (stmts body.now)) ≤ most_statements }
     ensures made { IfOk result (λ n. ((pool.new, last.new, flats blocks.new.items), n) ≡ laid_block (pool.old, last.old, flats blocks.old.items) (stmts_of (stmts body.now))) }
     ensures counted { IfOk result (λ n. last.new ≡ last.old + count_all (stmts_of (stmts body.now))) }
 {

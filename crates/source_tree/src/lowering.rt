@@ -4,7 +4,7 @@ ghost use Rattle.std.specs.Prelude.{◌≡◌, ◌≤◌, IfOk, string_bytes};
 ghost use Rattle.program_tree.specs.View.{proc, decl, tree, lines, lined, block_lines};
 ghost use Rattle.source_tree.specs.Source.{stmts, stmts_of, texts};
 ghost use Rattle.source_tree.specs.Source as plain;
-ghost use Rattle.source_tree.specs.Lowering.{count_all, body_len, BodiesWithin, lower_proc, body_lines, lowered_decl, lower_decl, lined_decl, settled, lowered, lines_of};
+ghost use Rattle.source_tree.specs.Lowering.{count_all, body_len, BodiesWithin, lower_proc, body_lines, lowered_decl, lower_decl, lined_decl, settled, lowered, lines_of, most_statements};
 ghost use Rattle.source_tree.specs.Layout.{flats, laid_procedure};
 
 use crate::layout::statements;
@@ -19,7 +19,7 @@ fn blocks_of(
     pool: &mut Pool,
     body: &[source::Statement],
 ) -> Result<Vec<Block>, AllocError>
-    requires { count_all (stmts_of (stmts body.now)) ≤ 1048576 }
+    requires { count_all (stmts_of (stmts body.now)) ≤ most_statements }
     ensures { IfOk result (λ bs. (pool.new, flats bs.items) ≡ laid_procedure pool.old (stmts_of (stmts body.now))) }
 {
     let mut last = 0;
@@ -34,7 +34,7 @@ pub fn lower_procedure(
     alloc: Global,
     procedure: &source::Procedure,
 ) -> Result<Procedure, AllocError>
-    requires { count_all (stmts_of (stmts procedure.now.body.items)) ≤ 1048576 }
+    requires { count_all (stmts_of (stmts procedure.now.body.items)) ≤ most_statements }
     ensures tree { IfOk result (λ p. proc p ≡ lower_proc procedure.now.memo (string_bytes procedure.now.name) (texts procedure.now.parameters.items) (stmts procedure.now.body.items)) }
     ensures line { IfOk result (λ p. p.line ≡ procedure.now.line) }
     ensures lines { IfOk result (λ p. block_lines p.blocks.items ≡ body_lines (stmts_of (stmts procedure.now.body.items))) }
@@ -69,7 +69,7 @@ fn lower_declaration(
     alloc: Global,
     declaration: &source::Declaration,
 ) -> Result<Declaration, AllocError>
-    requires { body_len (plain.decl declaration.now) ≤ 1048576 }
+    requires { body_len (plain.decl declaration.now) ≤ most_statements }
     ensures tree { IfOk result (λ d. lowered_decl (decl d) ≡ lower_decl (plain.decl declaration.now)) }
     ensures lines { IfOk result (λ d. lined d ≡ lined_decl (plain.decl declaration.now)) }
 {
@@ -85,7 +85,7 @@ fn lower_declaration(
 
 /// The tree of a program, from its source tree, in which no procedure has more than 1,048,576 statements. Want of memory is the only error.
 pub fn lower(alloc: Global, source: &[source::Declaration]) -> Result<Program, AllocError>
-    requires { BodiesWithin 1048576 (plain.source source.now) }
+    requires { BodiesWithin most_statements (plain.source source.now) }
     ensures tree { IfOk result (λ p. settled (tree p) ≡ lowered (plain.source source.now)) }
     ensures lines { IfOk result (λ p. lines p ≡ lines_of (plain.source source.now)) }
 {

@@ -19,13 +19,13 @@ impl Model for Pool {
     ghost use Rattle.std.specs.Prelude.{◌≡◌, ℕ, List};
     ghost use Rattle.std.specs.BTreeMap.{get_by_text};
     ghost use Rattle.source_tree.specs.Source.{texts};
-    ghost use Rattle.source_tree.specs.Lowering.{place_of};
+    ghost use Rattle.source_tree.specs.Lowering.{found_index};
 
     ghost Value = { List (List ℕ) };
 
     ghost view = { λ p. texts p.names.items };
 
-    ghost invariant = { λ p. (x : List ℕ) → get_by_text p.places x ≡ place_of x (texts p.names.items) };
+    ghost invariant = { λ p. (x : List ℕ) → get_by_text p.places x ≡ found_index x (texts p.names.items) };
 }
 
 /// Keeps the place of a name, unless it has one or memory runs out.
@@ -49,7 +49,7 @@ fn keep(
 impl Pool {
     ghost use Rattle.std.specs.Prelude.{◌≡◌, ◌++◌, ◌∷◌, [], IfOk, OnErr, OnOk};
     ghost use Rattle.source_tree.specs.Source.{texts};
-    ghost use Rattle.source_tree.specs.Lowering.{place_of, numbered};
+    ghost use Rattle.source_tree.specs.Lowering.{found_index, numbered};
 
     /// A pool of no names.
     pub fn new(alloc: Global) -> Self

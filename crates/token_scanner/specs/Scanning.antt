@@ -6,6 +6,10 @@ use Rattle.token_scanner.specs.declared.scanning.Class.{Class}
 use Rattle.token_scanner.specs.declared.scanning.Class.TheVariants as class
 use Rattle.token_scanner.specs.Words.{Word, Words, Name, Number, Sign, Bad, for_some}
 
+-- the greatest length of a text
+abbrev pub longest_text : ℕ
+longest_text = 1048576
+
 abbrev pub is_letter : ℕ → Bool
 is_letter b = nat_le 97 b && nat_le b 122
 

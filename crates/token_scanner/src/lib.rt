@@ -4,5 +4,5 @@
 mod scanning;
 mod token;
 
-pub use scanning::{line_ends, tokens};
+pub use scanning::{LONGEST_TEXT, limit, line_ends, tokens};
 pub use token::{Mark, Placed, Token, same};

@@ -2,7 +2,7 @@
 
 ghost use Rattle.std.specs.Prelude.{◌≡◌, ◌≤◌, ◌<◌, ◌+◌, length, IfOk, IfSome, MatchOption, IsUtf8, pos, None};
 ghost use Rattle.token_scanner.specs.Words.{words, word};
-ghost use Rattle.token_scanner.specs.Scanning.{is_letter, is_digit, is_space, belongs, front_len, followed, longer, single_of, mark_of, name_of, number_of, keyword_of, decimal, word_at, tokens_of, line_ends};
+ghost use Rattle.token_scanner.specs.Scanning.{is_letter, is_digit, is_space, belongs, front_len, followed, longer, single_of, mark_of, name_of, number_of, keyword_of, decimal, word_at, tokens_of, line_ends, longest_text};
 
 use crate::token::{Mark, Placed, Token};
 use std::alloc::{AllocError, Global};
@@ -217,9 +217,17 @@ fn token_at<'a>(b: u8, bytes: &'a [u8]) -> (Token<'a>, usize)
     mark_of(b, bytes)
 }
 
-/// The tokens of a text, each with its line, counted from 1. The text has at most 1,048,576 bytes; want of memory is the only error.
+/// The greatest length of a text, in bytes.
+pub const LONGEST_TEXT: usize = 1_048_576;
+
+/// The limit in code is that of the definitions.
+pub fn limit()
+    ensures longest { LONGEST_TEXT ≡ longest_text }
+{}
+
+/// The tokens of a text, each with its line, counted from 1. The text is not too long; want of memory is the only error.
 pub fn tokens<'a>(alloc: Global, text: &'a [u8]) -> Result<Vec<Placed<'a>>, AllocError>
-    requires { length text.now ≤ 1048576 }
+    requires { length text.now ≤ longest_text }
     ensures { IfOk result (λ v. words v.items ≡ tokens_of text.now) }
 {
     let mut out = Vec::new(alloc);

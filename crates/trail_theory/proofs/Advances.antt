@@ -9,7 +9,7 @@ use Rattle.trail_theory.specs.SerialRest.{Beside, child_inside, todo_walk, below
 use Rattle.meaning.specs.Layers.{SameNotes, Notes, noted, blank, notes, notes_of, multiplied, noted_top, layers_by, closed_top, ahead_of_entry, from_entry, take_top, total, bottom}
 use Rattle.meaning.specs.LayeredStrand.{LayeredStrand, advanced, advance_with, advance, inlined, detached, continuation}
 use Rattle.trail_theory.specs.Order.{In, Every, LeavesInOrder}
-use Rattle.trail_theory.specs.Waiting.{IsChecked, with_name}
+use Rattle.trail_theory.specs.Waiting.{UsesNoWaitingName, with_name}
 use Rattle.trail_theory.specs.TaskFits.{sound, SyncInside}
 use Rattle.trail_theory.specs.Right.{StartsAfter, stretch, LayersFit, Logged, full_rest, RightAt, IsRight, IsRightContinuation, RecordedAreSound, StretchesMultiply, Layered, Sees}
 use Rattle.trail_theory.proofs.Places.{IsEarly}
@@ -194,7 +194,7 @@ module _ (program : Tree) (tables : Tables) (sight : Accumulators) (lookup : Loo
       }
   step_right law m ls fr ph t h fits (paused p) reads k = h
 
-  module _ (law : StretchesMultiply program tables sight lookup) (checked : IsChecked program) (is_sound : RecordedAreSound program tables sight lookup) (kit : Bool) where
+  module _ (law : StretchesMultiply program tables sight lookup) (checked : UsesNoWaitingName program) (is_sound : RecordedAreSound program tables sight lookup) (kit : Bool) where
     by_step : (acc : Accumulators) (m : Start) (ls : List Notes) (fr : Frame) (ph : Phase) (t : List Parent) (h : RightNow m ls fr ph t) → LayersFit program ls h.segments → Sees acc sight ph → IsRight program tables sight lookup (advance_with program tables lookup kit acc (record { start = m; layers = ls; frame = fr; phase = ph; under = t }))
     by_step acc m ls fr ph t h fits sees =
         step_right law m ls fr ph t h fits (micro program tables lookup kit acc m fr ph t) (λ ruled. micro_reads program tables lookup ruled kit acc (h.before ++ stretch h.segments) m fr ph t (h.reads ruled)) (micro_kept program tables sight lookup checked is_sound kit acc h.before m (early_at m ls fr ph t h) fr ph t h.top h.others h.task sees)

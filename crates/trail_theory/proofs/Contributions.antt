@@ -13,7 +13,8 @@ use Rattle.meaning.specs.Layers.{Notes, blank, noted}
 use Rattle.trail_theory.specs.Order.{Every}
 use Rattle.trail_theory.specs.ReadsAtEnd.{IsOther, ReadsAtMainsEnd}
 use Rattle.trail_theory.specs.ElisionBeside.{forgotten, Fits}
-use Rattle.trail_theory.specs.Typed.{kinds_of, HasMonoids, IsTyped, ProgramFits, TablesFit}
+use Rattle.meaning.specs.Fitting.{ProgramFits}
+use Rattle.trail_theory.specs.Typed.{kinds_of, HasMonoids, IsTyped, TablesFit}
 use Rattle.trail_theory.specs.MadeRecords.{IsLater}
 use Rattle.trail_theory.specs.KeptRecords.{CommitsStaySound, RecordsStaySound, ActsByContribution}
 use Rattle.trail_theory.proofs.Ends.{worth_of}

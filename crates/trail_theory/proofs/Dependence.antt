@@ -15,7 +15,7 @@ use Rattle.meaning.specs.Outcome.{Log, Accumulators, Fault, Site, Event, Reads, 
 use Rattle.meaning.specs.Run as run
 use Rattle.meaning.specs.Run.{Run, placed, at}
 use Rattle.meaning.specs.Values.{Env, put, one_if, value, values, apply, look}
-use Rattle.meaning.specs.Statements.{reducers, numbered, Job, job_of, proc_of, fresh, put_into, reading, naming, updating, update_of, ranged, span, bounds, turn_values}
+use Rattle.meaning.specs.Statements.{most_iterations, reducers, numbered, Job, job_of, proc_of, fresh, put_into, reading, naming, updating, update_of, ranged, span, bounds, turn_values}
 use Rattle.meaning.specs.Elision.{Enter, Next, On, Back, go_on, back_or_zero, turns, all_turns, deed, body, instance, elide, depth_limit}
 use Rattle.meaning.specs.Records.{agrees, same_number, same_bool}
 use Rattle.trail_theory.specs.Order.{Every}
@@ -154,7 +154,7 @@ module _ (program other : Tree) (tables others : Tables) (a b : ℕ) (reds : red
   bounds_follow : (env : Env) (e f : Term) → Follow (bounds tables env e f) (bounds others env e f)
   bounds_follow env e f =
       follows_onward _ (value tables env e).answer (value others env e) _ _ (value_follows env e) (λ low. follows_onward _ (value tables env f).answer (value others env f) _ _ (value_follows env f) (λ high.
-      follows_onward _ (ranged (span low high)).answer (ranged (span low high)) _ _ (follows_cond (nat_le (span low high) 1048576) (pure (span low high)) (fail RangeTooLong) (λ t. refl) tt) (λ n t. refl)))
+      follows_onward _ (ranged (span low high)).answer (ranged (span low high)) _ _ (follows_cond (nat_le (span low high) most_iterations) (pure (span low high)) (fail RangeTooLong) (λ t. refl) tt) (λ n t. refl)))
 
   naming_follows : (n : ℕ) (kind : Kind) (vs : List ℤ) (c : Bool) → Follow (naming n kind vs c) (naming n kind vs c)
   naming_follows n kind vs false = tt

@@ -10,7 +10,7 @@ use Rattle.meaning.specs.Tables.{Tables, cell_of}
 use Rattle.monoid_laws.specs.Kinds.{names_element}
 use Rattle.meaning.specs.Outcome.{Log, Event, Reads, Enters, Updates, Reuses, Begins, Syncs, Leaves, Faults, Marks, Spawns, Out, onward, pure, fail}
 use Rattle.meaning.specs.Values.{Env, value, values, apply, look}
-use Rattle.meaning.specs.Statements.{numbered, naming, updating, update_of, ranged, span, bounds}
+use Rattle.meaning.specs.Statements.{most_iterations, numbered, naming, updating, update_of, ranged, span, bounds}
 use Rattle.meaning.specs.SmallStep.{Start}
 use Rattle.trail_theory.specs.Order.{Every}
 use Rattle.trail_theory.specs.TaskFits.{SyncInside}
@@ -97,4 +97,4 @@ pub calm_update : (tables : Tables) (reds : List Red) (env : Env) (r : Name) (es
 calm_update tables reds env r es = calm_onward _ (values tables env es).answer _ (calm_values tables env es) (λ vs. calm_updating (numbered 0 reds r) vs)
 
 pub calm_bounds : (tables : Tables) (env : Env) (e f : Term) → Calm (bounds tables env e f)
-calm_bounds tables env e f = calm_onward _ (value tables env e).answer _ (calm_value tables env e) (λ low. calm_onward _ (value tables env f).answer _ (calm_value tables env f) (λ high. calm_onward _ (ranged (span low high)).answer _ (calm_cond (nat_le (span low high) 1048576) (pure (span low high)) (fail RangeTooLong) tt tt) (λ n. tt)))
+calm_bounds tables env e f = calm_onward _ (value tables env e).answer _ (calm_value tables env e) (λ low. calm_onward _ (value tables env f).answer _ (calm_value tables env f) (λ high. calm_onward _ (ranged (span low high)).answer _ (calm_cond (nat_le (span low high) most_iterations) (pure (span low high)) (fail RangeTooLong) tt tt) (λ n. tt)))

@@ -1,6 +1,7 @@
 -- What an evaluation gives and notes, where the program's and the tables' numbers fit.
 use Rattle.std.proofs.Common.{length-take, length-drop, ℕ, zero, suc, ◌+◌, ◌<◌, List, [], ◌∷◌, Option, Some, None, Result, Ok, Err, ℤ, pos, negsuc, ◌≡◌, refl, ap, arith, map, true, false, Bool, cond}
 use Rattle.std.specs.Prelude.{nat_le, take, length, ◌-◌, slice_get, slice_set, ◌+ℤ◌, int_lt, not, unsigned_abs, ◌&&◌, All}
+use Rattle.std.specs.List.{AllByRecursion}
 use Rattle.std.specs.Ordering.{int_eq}
 use Rattle.std.specs.Str.{bytes_eq}
 use Rattle.std.specs.Int.{w64, int_wrapping_add}
@@ -17,9 +18,10 @@ use Rattle.meaning.specs.declared.FaultKind.TheVariants.{DivideByZero, RangeTooL
 use Rattle.meaning.specs.Tables.{Tables, cell_of, above_all, rows_of}
 use Rattle.meaning.specs.Outcome.{Log, Out, onward, pure, fail}
 use Rattle.meaning.specs.Values.{Env, put, or_zero, one_if, value, values, apply, look}
-use Rattle.meaning.specs.Statements.{numbered, naming, updating, update_of, reducers, ranged, span, bounds, put_into, fresh}
+use Rattle.meaning.specs.Statements.{most_iterations, numbered, naming, updating, update_of, reducers, ranged, span, bounds, put_into, fresh}
 use Rattle.trail_theory.specs.Order.{Every}
-use Rattle.trail_theory.specs.Typed.{IsTyped, FitsTerm, TablesFit, kinds_of}
+use Rattle.meaning.specs.Fitting.{FitsTerm}
+use Rattle.trail_theory.specs.Typed.{IsTyped, TablesFit, kinds_of}
 use Rattle.trail_theory.proofs.Places.{every_append}
 use Rattle.trail_theory.proofs.FitNumbers.{zero_fits, one_fits, added_fits, less_fits, times_fits, opposite_fits, quotient_fits, remainder_fits, range_fits}
 
@@ -127,7 +129,7 @@ module _ (kinds : List Kind) where
         let w = value_fits env e' h f.1 in
         fits_onward Fits Fits _ (value tables env e').answer _ w.0 w.1 (λ y g'. apply_fits op x y g g'))
 
-    pub values_fits : (env : Env) (es : List Term) → FitsEnv env → Every FitsTerm es → FitsOut (Every Fits) (values tables env es)
+    pub values_fits : (env : Env) (es : List Term) → FitsEnv env → AllByRecursion FitsTerm es → FitsOut (Every Fits) (values tables env es)
     values_fits env [] h f = (tt, tt)
     values_fits env (e ∷ es) h f =
         let v = value_fits env e h f.0 in
@@ -140,7 +142,7 @@ module _ (kinds : List Kind) where
     FitsRange range = Fits range.0 × ((i : ℕ) → i < range.1 → Fits (range.0 +ℤ pos i))
 
     ranged_fits : (n : ℕ) → FitsOut (λ m. m ≡ n) (ranged n)
-    ranged_fits n = fits_cond (λ m. m ≡ n) (nat_le n 1048576) (pure n) (fail RangeTooLong) (tt, refl) (tt, tt)
+    ranged_fits n = fits_cond (λ m. m ≡ n) (nat_le n most_iterations) (pure n) (fail RangeTooLong) (tt, refl) (tt, tt)
 
     pub bounds_fits : (env : Env) (e e' : Term) → FitsEnv env → FitsTerm e → FitsTerm e' → FitsOut FitsRange (bounds tables env e e')
     bounds_fits env e e' h f f' =
@@ -236,7 +238,7 @@ module _ (program : Tree) (tables : Tables) (held : TablesFit tables) where
       let q : n ≡ a.place = omega (arith, c) in
       rw q a.is
 
-  pub update_fits : (env : Env) (r : Name) (es : List Term) → FitsEnv env → Every FitsTerm es → FitsOut (kinds_of program) Done (update_of tables (reducers program) env r es)
+  pub update_fits : (env : Env) (r : Name) (es : List Term) → FitsEnv env → AllByRecursion FitsTerm es → FitsOut (kinds_of program) Done (update_of tables (reducers program) env r es)
   update_fits env r es h f =
       let v = values_fits (kinds_of program) tables held env es h f in
       fits_onward (kinds_of program) (Every Fits) Done _ (values tables env es).answer _ v.0 v.1 (λ vs g. updating_fits (numbered 0 (reducers program) r) vs g (reducer_at r))

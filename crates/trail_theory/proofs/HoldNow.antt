@@ -14,7 +14,7 @@ use Rattle.meaning.specs.Outcome.{Log, Accumulators, Event, Site, Out, onward, p
 use Rattle.meaning.specs.Run as run
 use Rattle.meaning.specs.Run.{Run, at, ◌>>=◌}
 use Rattle.meaning.specs.Values.{Env, put, value, values, apply, look}
-use Rattle.meaning.specs.Statements.{reducers, numbered, naming, updating, update_of, ranged, span, bounds, Job, job_of, proc_of, fresh, put_into, turn_values}
+use Rattle.meaning.specs.Statements.{most_iterations, reducers, numbered, naming, updating, update_of, ranged, span, bounds, Job, job_of, proc_of, fresh, put_into, turn_values}
 use Rattle.meaning.specs.Elision.{Enter, Next, On, Back, go_on, back_or_zero, turns, all_turns, deed, body, elide, depth_limit}
 use Rattle.meaning.specs.Records.{same_bool, agrees}
 use Rattle.trail_theory.specs.Order.{Every}
@@ -95,7 +95,7 @@ module _ (tables : Tables) (Known : Name → Type 0) where
   now_update reds env r es = now_onward _ (values tables env es).answer _ (now_values env es) (λ vs. now_updating (numbered 0 reds r) vs)
 
   now_bounds : (env : Env) (e f : Term) → HoldsOut (bounds tables env e f)
-  now_bounds env e f = now_onward _ (value tables env e).answer _ (now_value env e) (λ low. now_onward _ (value tables env f).answer _ (now_value env f) (λ high. now_onward _ (ranged (span low high)).answer _ (now_cond (nat_le (span low high) 1048576) (pure (span low high)) (fail RangeTooLong) tt tt) (λ n. tt)))
+  now_bounds env e f = now_onward _ (value tables env e).answer _ (now_value env e) (λ low. now_onward _ (value tables env f).answer _ (now_value env f) (λ high. now_onward _ (ranged (span low high)).answer _ (now_cond (nat_le (span low high) most_iterations) (pure (span low high)) (fail RangeTooLong) tt tt) (λ n. tt)))
 
   -- ---- runs
 

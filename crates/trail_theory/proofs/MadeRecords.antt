@@ -155,7 +155,7 @@ made_is_sound program tables depth k made =
     record {
       below = made.below;
       gives = λ others e out now fits.
-          let deep : depth ≤ 64 = made.deep in
+          let deep : depth ≤ depth_limit = made.deep in
           let q : suc depth_limit - depth ≡ suc (depth_limit - depth) = omega arith in
           let n = says_moved program.tree program.tree tables others e depth refl k (depth_limit - depth) (suc depth_limit - e) (omega arith) made.outermost (omega arith) out fits (now_reads program others k now) (λ f c. refl)
           (subst (λ z. SaysOf program.tree depth k (elide program.tree tables z start k.of k.args (identities program.tree))) q made.noted) in

@@ -106,7 +106,7 @@ module _ (program : Revised) (tables : Tables) where
       marked rs all = (needed_marks program tables rs ruled all S).executed_are ∙ ap executions (before_all (trail_by rs) (quiet (look_of (valid_record program tables rs))))
 
       both : Every Ran (executions (trail_by records)) × (Every Found (executions (trail_by records)) → executions (trail_by later) ≡ [])
-      both = (twin_run Ran Found P tables S ruled (there records) (there later) answers_after 63 (omega arith) main [] []).events (quiet (look_of (valid_record program tables records)))
+      both = (twin_run Ran Found P tables S ruled (there records) (there later) answers_after (depth_limit - 1) (omega arith) main [] []).events (quiet (look_of (valid_record program tables records)))
 
       pub later_sound : Every (IsSound program) later
       later_sound = commits_sound program records (map (made program tables) keys) sound (sound_each keys (subst (Every Ran) (sym (marked records sound)) both.0))
@@ -156,7 +156,7 @@ module _ (program : Revised) (tables : Tables) where
 
       none_after : (v : ℤ) (acc : Accumulators) → from_scratch P tables ≡ Finished v acc → executed P (needed program tables grown) ≡ []
       none_after v acc finished =
-          let walked = (twin_run Anything (HasRecord new) P tables S ruled (there records) (there grown) grown_answers 63 (omega arith) main [] []).events (quiet v acc finished (look_of (valid_record program tables records))) in
+          let walked = (twin_run Anything (HasRecord new) P tables S ruled (there records) (there grown) grown_answers (depth_limit - 1) (omega arith) main [] []).events (quiet v acc finished (look_of (valid_record program tables records))) in
           marked v acc finished grown (commits_sound program records new sound (new_sound new given.news)) ∙ walked.1 (subst (Every (HasRecord new)) (marked v acc finished records sound) given.each)
 
     pub none_after_each : NoneAfterEach program tables records

@@ -12,7 +12,7 @@ use Rattle.trail_theory.specs.Order.{In}
 use Rattle.trail_theory.specs.Waiting.{IsFree, AreFree, IsOrderlyDeed, IsOrderlyTodo}
 use Rattle.trail_theory.specs.TaskFits.{value_in, SlotFits, same, late, lost, EnvFits, IsOrderlyPhase}
 use Rattle.trail_theory.specs.Right.{IsRight}
-use Rattle.trail_theory.specs.Ready.{NotWaiting, IsReady, AreReady, IsReadyDeed, IsReadyTodo, IsReadyPhase, StepsReady}
+use Rattle.trail_theory.specs.Ready.{NotWaiting, IsReadyTerm, AreReadyTerms, IsReadyDeed, IsReadyTodo, IsReadyPhase, StepsReady}
 
 value_ready : (s : Slot) (o : Option ℤ) → value_in s o → NotWaiting (Some s)
 value_ready unset o h = tt
@@ -31,7 +31,7 @@ get_ready B n W k (s ∷ env) (o ∷ E) h zero f = slot_ready h.0 (let e : k + 0
 get_ready B n W k (s ∷ env) (o ∷ E) h (suc x) f = get_ready B n W (suc k) env E h.1 x (let e : k + suc x ≡ suc k + x = omega arith in rw e at f)
 
 module _ (B : Log) (n : Place) (W : List ℕ) (env : List Slot) (E : Env) (h : EnvFits B n W 0 env E) where
-  term_ready : (e : Term) → IsFree W e → IsReady env e
+  term_ready : (e : Term) → IsFree W e → IsReadyTerm env e
   term_ready (number k) f = tt
   term_ready (name x) f = get_ready B n W 0 env E h x (let e : 0 + x ≡ x = omega arith in rw e f)
   term_ready (cell t e c) f = term_ready e f
@@ -40,7 +40,7 @@ module _ (B : Log) (n : Place) (W : List ℕ) (env : List Slot) (E : Env) (h : E
   term_ready (negate e) f = term_ready e f
   term_ready (binary op e e') f = (term_ready e f.0, term_ready e' f.1)
 
-  terms_ready : (es : List Term) → AreFree W es → AreReady env es
+  terms_ready : (es : List Term) → AreFree W es → AreReadyTerms env es
   terms_ready [] f = tt
   terms_ready (e ∷ es) f = (term_ready e f.0, terms_ready es f.1)
 

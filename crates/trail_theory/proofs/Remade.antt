@@ -179,10 +179,10 @@ module _ (program : Revised) (tables : Tables) (ruled : ReadsAtMainsEnd program.
       let top : d ≤ D = first_deep P tables left f vs (identities P) in
       let n = new_with left h f vs v deep number e (omega (arith, low, deep)) (omega (arith, top)) in
       let g = n.sound.gives tables 1 (omega arith) n.now (omega (arith, low, top, deep)) in
-      let H = deepest (elided 63 f vs).log in
+      let H = deepest (elided (depth_limit - 1) f vs).log in
       let high : H + 1 ≡ 1 + h = g.2 in
       record {
-        is_new = new_with 63 H f vs (value_of (elided left f vs).answer) (omega arith) number g.0 (omega (arith, high, low, deep)) (omega arith);
+        is_new = new_with (depth_limit - 1) H f vs (value_of (elided left f vs).answer) (omega arith) number g.0 (omega (arith, high, low, deep)) (omega arith);
         fits = omega (arith, high, low, top);
       }
 
@@ -191,6 +191,6 @@ module _ (program : Revised) (tables : Tables) (ruled : ReadsAtMainsEnd program.
   new_fits left k f vs v deep memo e q n =
       let low : k.height ≤ depth_limit = n.low in
       let g = n.sound.gives tables 1 (omega arith) n.now (omega (arith, low)) in
-      let high : deepest (elided 63 f vs).log + 1 ≡ 1 + k.height = subst (λ g. deepest (elided 63 g vs).log + 1 ≡ 1 + k.height) (key_name k f vs q) (subst (λ ws. deepest (elided 63 k.of ws).log + 1 ≡ 1 + k.height) (key_args k f vs q) g.2) in
-      let fits : (depth_limit - left) + deepest (elided 63 f vs).log ≤ suc depth_limit = (remade left f vs v deep memo e).fits in
+      let high : deepest (elided (depth_limit - 1) f vs).log + 1 ≡ 1 + k.height = subst (λ g. deepest (elided (depth_limit - 1) g vs).log + 1 ≡ 1 + k.height) (key_name k f vs q) (subst (λ ws. deepest (elided (depth_limit - 1) k.of ws).log + 1 ≡ 1 + k.height) (key_args k f vs q) g.2) in
+      let fits : (depth_limit - left) + deepest (elided (depth_limit - 1) f vs).log ≤ suc depth_limit = (remade left f vs v deep memo e).fits in
       omega (arith, high, fits)

@@ -18,7 +18,7 @@ use Rattle.meaning.specs.Layers.{SameNotes, notes_of, Notes, noted_one, noted, b
 use Rattle.meaning.specs.Tallies.{executions}
 use Rattle.trail_theory.specs.Counts.{reuses}
 use Rattle.trail_theory.specs.Order.{Every}
-use Rattle.trail_theory.specs.Waiting.{IsChecked, IsOrderlyTodo}
+use Rattle.trail_theory.specs.Waiting.{UsesNoWaitingName, IsOrderlyTodo}
 use Rattle.trail_theory.specs.TaskFits.{EnvFits, DoomFits, sound, FrameFits, UnderFits, Higher, Spot, Fringe, Stacked, SyncInside, TaskFits}
 use Rattle.trail_theory.specs.Right.{full_rest, RecordedAreSound, Sees}
 use Rattle.trail_theory.proofs.Places.{IsEarly}
@@ -46,7 +46,7 @@ module _ (program : Tree) (tables : Tables) (sight : Accumulators) (sub : Runner
   loop_same zero count i n c doom = turns_same count i n c doom
   loop_same (suc k) count i n c doom = rw (turns_same count i n c doom, loop_same k (count / 2) i (child_of n c) 1 None, loop_same k (count - count / 2) (i + count / 2) (child_of n (suc c)) 1 None) refl
 
-module _ (program : Tree) (tables : Tables) (sight : Accumulators) (lookup : Lookup) (checked : IsChecked program) (is_sound : RecordedAreSound program tables sight lookup) (kit : Bool) (acc : Accumulators) (B : Log) (m : Start) (early : IsEarly m B) where
+module _ (program : Tree) (tables : Tables) (sight : Accumulators) (lookup : Lookup) (checked : UsesNoWaitingName program) (is_sound : RecordedAreSound program tables sight lookup) (kit : Bool) (acc : Accumulators) (B : Log) (m : Start) (early : IsEarly m B) where
   abbrev L : Look
   L = look_of lookup
 

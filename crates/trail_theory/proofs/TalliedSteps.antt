@@ -13,7 +13,7 @@ use Rattle.meaning.specs.LayeredStrand.{LayeredStrand, advanced, advance_with}
 use Rattle.meaning.specs.Tallies.{Opened, Tally, executions, opened_all, answered_one, passed_all, closed_by, record_by, tallied}
 use Rattle.trail_theory.specs.Counts.{reuses, IsCounted}
 use Rattle.trail_theory.specs.Order.{Every}
-use Rattle.trail_theory.specs.Waiting.{IsChecked}
+use Rattle.trail_theory.specs.Waiting.{UsesNoWaitingName}
 use Rattle.trail_theory.specs.ReadsAtEnd.{ReadsAtMainsEnd}
 use Rattle.trail_theory.specs.SerialRest.{below}
 use Rattle.trail_theory.specs.Right.{stretch, Layered, LayersFit, Sees, full_rest, RightAt, RecordedAreSound, StretchesMultiply}
@@ -198,7 +198,7 @@ module _ (program : Revised) (tables : Tables) (sight : Accumulators) (lookup : 
           made = c.1.0;
         }
 
-    module _ (checked : IsChecked P) (is_sound : RecordedAreSound P tables sight lookup) (kit : Bool) (acc : Accumulators) where
+    module _ (checked : UsesNoWaitingName P) (is_sound : RecordedAreSound P tables sight lookup) (kit : Bool) (acc : Accumulators) where
       abbrev Next : Start → List Notes → Frame → Phase → List Parent → Tally → Type 0
       Next m ls fr ph t y = IsTallied program tables sight lookup (advance_with P tables lookup kit acc (record { start = m; layers = ls; frame = fr; phase = ph; under = t })) (tallied program ls (micro P tables lookup kit acc m fr ph t) y)
 

@@ -8,7 +8,7 @@ use Rattle.meaning.specs.Layers.{Notes, take_top}
 use Rattle.meaning.specs.LayeredStrand.{LayeredStrand, joined_layers, resumed, joined}
 use Rattle.meaning.specs.Trail.{sight_of}
 use Rattle.trail_theory.specs.ReadsAtEnd.{ReadsAtMainsEnd}
-use Rattle.trail_theory.specs.Waiting.{IsChecked, HasNoReads}
+use Rattle.trail_theory.specs.Waiting.{UsesNoWaitingName, HasNoReads}
 use Rattle.trail_theory.specs.Right.{RightAt, IsRight, LookupIsSound, IsRecorded, StretchesMultiply}
 use Rattle.trail_theory.specs.Theorems.{AdvanceStaysRight, InlineStaysRight, DetachStaysRight, ContinuationIsRight, PopStaysRight, JoinStaysRight, EndsWithElision, FaultsWithElision}
 use Rattle.trail_theory.proofs.Advances.{advance_right, inline_right, detach_right, continuation_right}
@@ -50,7 +50,7 @@ module _ (program : Tree) (tables : Tables) (sight : Accumulators) (lookup : Loo
       (pop_right program tables sight lookup s.layers s.frame v k d (right_with s _ _ _ _ c refl a b h) g)
 
   module _ (law : StretchesMultiply program tables sight lookup) where
-    pub advances : IsChecked program → LookupIsSound program tables sight lookup → AdvanceStaysRight program tables sight lookup
+    pub advances : UsesNoWaitingName program → LookupIsSound program tables sight lookup → AdvanceStaysRight program tables sight lookup
     advances checked sound kit s h sees = advance_right program tables sight lookup law checked (narrower program tables sight lookup (λ f. Unit {0}) (IsRecorded program) (λ f q. tt) sound) kit s h sees
 
     pub joins : JoinStaysRight program tables sight lookup

@@ -1,6 +1,7 @@
 -- Each update on the trail is of its reducer's kind.
 use Rattle.std.proofs.Common.{ℕ, zero, suc, ◌+◌, ◌-◌, ◌<◌, ◌≤◌, List, [], ◌∷◌, ◌++◌, Option, Some, None, Result, Ok, Err, ℤ, pos, ◌⊎◌, inl, inr, arith, true, false, Bool, cond}
 use Rattle.std.specs.Prelude.{nat_le, ◌/◌, ◌+ℤ◌}
+use Rattle.std.specs.List.{AllByRecursion}
 use Rattle.std.specs.Ordering.{int_eq}
 use Rattle.std.proofs.Math.Nat.{div-le_self}
 use Rattle.monoid_laws.specs.declared.Kind.{Kind}
@@ -23,7 +24,8 @@ use Rattle.trail_theory.specs.ReadsAtEnd.{IsOther, EntersOnlyDeed, EntersOnly, R
 use Rattle.trail_theory.proofs.Elides.{AnyName, enters_any}
 use Rattle.trail_theory.proofs.MainElides.{Still}
 use Rattle.trail_theory.proofs.AfterReads.{ending_block}
-use Rattle.trail_theory.specs.Typed.{kinds_of, HasMonoids, IsTyped, FitsTerm, FitsDeed, FitsBody, ProgramFits, TablesFit, SightFits}
+use Rattle.meaning.specs.Fitting.{FitsTerm, FitsDeed, FitsBody, ProgramFits}
+use Rattle.trail_theory.specs.Typed.{kinds_of, HasMonoids, IsTyped, TablesFit, SightFits}
 use Rattle.trail_theory.proofs.Places.{every_append}
 use Rattle.trail_theory.proofs.FitValues.{FitsEnv, set_fits_env, put_fits, put_into_fits, fresh_fits, Gives, FitsOut, value_fits, values_fits, FitsRange, bounds_fits, update_fits}
 use Rattle.trail_theory.proofs.FitNumbers.{zero_fits}
@@ -118,7 +120,7 @@ module _ (program : Tree) (tables : Tables) (sight : Accumulators) (numbers : Pr
   -- a loop whose numbers fit, so many from the i-th on
   record GoodJob (job : Job) (count i : ℕ) : Type 0 where
     env : FitsEnv job.env
-    args : Every FitsTerm job.args
+    args : AllByRecursion FitsTerm job.args
     callee : May job.callee
     range : (j : ℕ) → i ≤ j → j < i + count → Fits (job.low +ℤ pos j)
 

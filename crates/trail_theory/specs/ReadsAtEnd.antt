@@ -4,7 +4,7 @@ use Rattle.program_tree.specs.Plain.{Name, Deed, bind, enter, read, sync, update
 use Rattle.program_tree.specs.declared.Way.TheVariants.{Spawn}
 use Rattle.meaning.specs.Statements.{proc_of}
 use Rattle.meaning.specs.Elision.{main}
-use Rattle.trail_theory.specs.Waiting.{IsChecked, NoReadsDeed, NoReads}
+use Rattle.trail_theory.specs.Waiting.{UsesNoWaitingName, NoReadsDeed, NoReads}
 
 abbrev pub IsOther : Name → Type 0
 IsOther f = f ≡ main → ⊥
@@ -77,5 +77,5 @@ pub record ReadsAtMainsEnd (program : Tree) : Type 0 where
 
 -- what the checker's rules on waiting names, on reads and on main give
 pub record KeepsRules (program : Tree) : Type 0 where
-  pub waiting : IsChecked program
+  pub waiting : UsesNoWaitingName program
   pub reads : ReadsAtMainsEnd program

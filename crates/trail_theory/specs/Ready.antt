@@ -12,28 +12,28 @@ NotWaiting (Some (waits j)) = ⊥
 NotWaiting _ = Unit {0}
 
 -- no name that the expression uses waits
-abbrev pub IsReady : List Slot → Term → Type 0
-IsReady env (number n) = Unit {0}
-IsReady env (name x) = NotWaiting (slice_get env x)
-IsReady env (cell t e c) = IsReady env e
-IsReady env (has_row t e) = IsReady env e
-IsReady env (limit t) = Unit {0}
-IsReady env (negate e) = IsReady env e
-IsReady env (binary op e f) = IsReady env e × IsReady env f
+abbrev pub IsReadyTerm : List Slot → Term → Type 0
+IsReadyTerm env (number n) = Unit {0}
+IsReadyTerm env (name x) = NotWaiting (slice_get env x)
+IsReadyTerm env (cell t e c) = IsReadyTerm env e
+IsReadyTerm env (has_row t e) = IsReadyTerm env e
+IsReadyTerm env (limit t) = Unit {0}
+IsReadyTerm env (negate e) = IsReadyTerm env e
+IsReadyTerm env (binary op e f) = IsReadyTerm env e × IsReadyTerm env f
 
-abbrev pub AreReady : List Slot → List Term → Type 0
-AreReady env [] = Unit {0}
-AreReady env (e ∷ es) = IsReady env e × AreReady env es
+abbrev pub AreReadyTerms : List Slot → List Term → Type 0
+AreReadyTerms env [] = Unit {0}
+AreReadyTerms env (e ∷ es) = IsReadyTerm env e × AreReadyTerms env es
 
 abbrev pub IsReadyDeed : List Slot → Deed → Type 0
-IsReadyDeed env (bind x e) = IsReady env e
-IsReadyDeed env (enter x way f es) = AreReady env es
+IsReadyDeed env (bind x e) = IsReadyTerm env e
+IsReadyDeed env (enter x way f es) = AreReadyTerms env es
 IsReadyDeed env (read x r) = Unit {0}
 IsReadyDeed env sync = Unit {0}
-IsReadyDeed env (update r es) = AreReady env es
-IsReadyDeed env (choose e a b) = IsReady env e
-IsReadyDeed env (loop x e f grain g es) = IsReady env e × (IsReady env f × AreReady env es)
-IsReadyDeed env (give e) = IsReady env e
+IsReadyDeed env (update r es) = AreReadyTerms env es
+IsReadyDeed env (choose e a b) = IsReadyTerm env e
+IsReadyDeed env (loop x e f grain g es) = IsReadyTerm env e × (IsReadyTerm env f × AreReadyTerms env es)
+IsReadyDeed env (give e) = IsReadyTerm env e
 
 abbrev pub IsReadyTodo : List Slot → Todo → Type 0
 IsReadyTodo env (blocks (step n d b ∷ bs)) = IsReadyDeed env d

@@ -1,11 +1,11 @@
--- Updates of a reducer's kind, and the programs and tables whose numbers fit 64 bits.
+-- Updates of a reducer's kind, and the tables whose numbers fit 64 bits.
 use Rattle.std.specs.Prelude.{◌≡◌, ℤ, List, map, Some, slice_get}
 use Rattle.monoid_laws.specs.declared.Kind.{Kind}
 use Rattle.monoid_laws.specs.Kinds.{Fits, IsWorth, IsTableMonoid}
-use Rattle.program_tree.specs.Plain.{Name, Term, number, name, cell, has as has_row, limit, negate, binary, Deed, bind, enter, read, sync, update, choose, loop, give, Body, end, step, Tree}
+use Rattle.program_tree.specs.Plain.{Name, Tree}
 use Rattle.meaning.specs.Tables.{Tables, cell_of}
 use Rattle.meaning.specs.Outcome.{Accumulators, Event, Reads, Enters, Updates, Reuses, Begins, Syncs, Leaves, Faults, Marks, Spawns}
-use Rattle.meaning.specs.Statements.{reducers, proc_of, numbered, reading}
+use Rattle.meaning.specs.Statements.{reducers, numbered, reading}
 use Rattle.trail_theory.specs.Order.{Every}
 
 abbrev pub kinds_of : Tree → List Kind
@@ -27,35 +27,6 @@ IsTyped kinds (Spawns n) = Unit {0}
 IsTyped kinds (Leaves n v) = Unit {0}
 IsTyped kinds (Faults k) = Unit {0}
 IsTyped kinds (Marks f args b) = Unit {0}
-
--- the numbers of an expression fit
-abbrev pub FitsTerm : Term → Type 0
-FitsTerm (number n) = Fits n
-FitsTerm (name x) = Unit {0}
-FitsTerm (cell t e c) = FitsTerm e
-FitsTerm (has_row t e) = FitsTerm e
-FitsTerm (limit t) = Unit {0}
-FitsTerm (negate e) = FitsTerm e
-FitsTerm (binary op e f) = FitsTerm e × FitsTerm f
-
-abbrev mutual
-  pub FitsDeed : Deed → Type 0
-  FitsDeed (bind x e) = FitsTerm e
-  FitsDeed (enter x way f es) = Every FitsTerm es
-  FitsDeed (read x r) = Unit {0}
-  FitsDeed sync = Unit {0}
-  FitsDeed (update r es) = Every FitsTerm es
-  FitsDeed (choose e a b) = FitsTerm e × (FitsBody a × FitsBody b)
-  FitsDeed (loop x e f grain g es) = FitsTerm e × (FitsTerm f × Every FitsTerm es)
-  FitsDeed (give e) = FitsTerm e
-
-  pub FitsBody : Body → Type 0
-  FitsBody end = Unit {0}
-  FitsBody (step s d b) = FitsDeed d × FitsBody b
-
--- the numbers of a program fit
-abbrev pub ProgramFits : Tree → Type 0
-ProgramFits program = (f : Name) → FitsBody (proc_of program f).body
 
 -- the numbers in the tables fit
 abbrev pub TablesFit : Tables → Type 0

@@ -60,8 +60,8 @@ abbrev pub AreOrderly : List ℕ → List Body → Type 0
 AreOrderly W [] = Unit {0}
 AreOrderly W (b ∷ bs) = IsOrderly W b × AreOrderly (waiting_body W b) bs
 
-abbrev pub IsChecked : Tree → Type 0
-IsChecked program = (f : Name) → IsOrderly [] (proc_of program f).body
+abbrev pub UsesNoWaitingName : Tree → Type 0
+UsesNoWaitingName program = (f : Name) → IsOrderly [] (proc_of program f).body
 
 abbrev pub IsOrderlyTodo : List ℕ → Todo → Type 0
 IsOrderlyTodo W (blocks bs) = AreOrderly W bs

@@ -22,9 +22,10 @@ ghost use Rattle.trail_theory.specs.Ready.{StepsReady};
 ghost use Rattle.trail_theory.specs.Right.{LookupIsSound, RecordedAreSound, StretchesMultiply};
 ghost use Rattle.trail_theory.specs.TalliedTheorems.{ClosesItsOwn, EndCountsNeeded, EndLeavesNone, EntryHasOneLayer, LayersStayOwed, NoneAfterEach, ReadHasOneLayer, RerunExecutesNone, TalliedStays};
 ghost use Rattle.trail_theory.specs.Theorems.{ElisionIsTrail, OthersAreTrail, MainIsTrail, RecordsAreSound, RecordedRecordsAreSound, FirstIsRight, AdvanceStaysRight, AdvanceReadingStaysRight, AdvanceByProductStaysRight, ReadsStandAtRoot, ReadsSeeTheEnd, InlineStaysRight, DetachStaysRight, ContinuationIsRight, StolenIsRight, PopStaysRight, JoinStaysRight, EndsWithElision, FaultsWithElision};
-ghost use Rattle.trail_theory.specs.Typed.{HasMonoids, IsTyped, ProgramFits, SightFits, TablesFit, kinds_of};
+ghost use Rattle.meaning.specs.Fitting.{ProgramFits};
+ghost use Rattle.trail_theory.specs.Typed.{HasMonoids, IsTyped, SightFits, TablesFit, kinds_of};
 ghost use Rattle.trail_theory.specs.Unflagged.{FlagsAreNoMatter, UnflaggedStaysOwn};
-ghost use Rattle.trail_theory.specs.Waiting.{IsChecked, HasNoReads};
+ghost use Rattle.trail_theory.specs.Waiting.{UsesNoWaitingName, HasNoReads};
 
 /// On the trail each instance is left before those whose names come later: children before their parent, earlier children before later ones.
 pub fn trail_is_in_order()
@@ -118,7 +119,7 @@ pub fn first_is_right()
 
 /// A small step keeps a right strand right.
 pub fn advance_stays_right()
-    ensures right { (program : Tree) (tables : Tables) (sight : Accumulators) (lookup : Lookup) → StretchesMultiply program tables sight lookup → IsChecked program → LookupIsSound program tables sight lookup → AdvanceStaysRight program tables sight lookup }
+    ensures right { (program : Tree) (tables : Tables) (sight : Accumulators) (lookup : Lookup) → StretchesMultiply program tables sight lookup → UsesNoWaitingName program → LookupIsSound program tables sight lookup → AdvanceStaysRight program tables sight lookup }
 {}
 
 /// Where main alone reads reducers, at its end, a right strand that stands at a read begins at the trail's beginning, is main's, and has nothing below it.

@@ -21,7 +21,7 @@ use input_tables::Tables;
 use linked_program::checked::Checked;
 use numbered_runs::refusal::{Refusal, StartError};
 use numbered_runs::step::{BookStep, Step, StrandLine};
-use rules_theory::{checked_programs_keep_the_rules, numbers_fit};
+use rules_theory::checked_programs_keep_the_rules;
 use std::alloc::{AllocError, Global};
 use std::marker::Model;
 use view_pool::{Kit, Pool, View};
@@ -192,7 +192,7 @@ fn are_ready(program: &Checked, tables: &Tables)
     program.clean();
     program.linked();
     program.revised();
-    numbers_fit(program.program());
+    program.fitting();
     tables.cells_fit();
     checked_programs_keep_the_rules();
 }

@@ -3,8 +3,9 @@ use Rattle.source_tree.specs.Source.{source}
 use Rattle.procedure_parser.specs.Defining.{room_of}
 use Rattle.procedure_parser.proofs.Counts.{definition_bodies}
 use Rattle.define_parser.proofs.defined.parse_define.Goals as goal
+use Rattle.token_scanner.specs.Scanning.{longest_text}
 
 pub with_procedures-requires : goal.with_procedures-requires
 with_procedures-requires c =
     let found = c.in-Ok.ensures.found in
-    rw c.deref.ensures.value (definition_bodies (room_of (tree c.args.program.now)) c.args.text.now (source c.in-Ok.procedures.items) 1048576 found.0 found.1)
+    rw c.deref.ensures.value (definition_bodies (room_of (tree c.args.program.now)) c.args.text.now (source c.in-Ok.procedures.items) longest_text found.0 found.1)

@@ -5,7 +5,7 @@ use Rattle.meaning.specs.Elision.{body, turns, all_turns}
 use Rattle.serial_oracle.specs.Keeping.{tree_in, tables_in, enters_in}
 use Rattle.serial_oracle.specs.Pieces.{job_in}
 use Rattle.serial_oracle.specs.Results.{results}
-use Rattle.serial_oracle.specs.Worths.{standing}
+use Rattle.serial_oracle.specs.Worths.{summary}
 use Rattle.serial_oracle.proofs.run.+run.Given as goal
 
 abbrev pub decreases-enter : goal.decreases-enter
@@ -47,16 +47,16 @@ decreases-run_memo l = l.left * 2 ^ 70 + 2 ^ 69 + 2
 -- the rest of the statements does what all of them do
 abbrev pub invariant-run_statements-loop-s : goal.invariant-run_statements-loop-s
 invariant-run_statements-loop-s l =
-    results (tree_in l.scope) (body (tree_in l.scope) (tables_in l.scope) (enters_in l.scope l.left) (string_bytes l.p.name) l.initial.env.items (statements_plain (block_plain l.p.blocks.items l.levels) l.statements)) (standing l.scope l.initial.journal)
-    ≡ results (tree_in l.scope) (body (tree_in l.scope) (tables_in l.scope) (enters_in l.scope l.left) (string_bytes l.p.name) l.env.items (statements_plain (block_plain l.p.blocks.items l.levels) (drop l.s-index l.statements))) (standing l.scope l.journal)
+    results (tree_in l.scope) (body (tree_in l.scope) (tables_in l.scope) (enters_in l.scope l.left) (string_bytes l.p.name) l.initial.env.items (statements_plain (block_plain l.p.blocks.items l.levels) l.statements)) (summary l.scope l.initial.journal)
+    ≡ results (tree_in l.scope) (body (tree_in l.scope) (tables_in l.scope) (enters_in l.scope l.left) (string_bytes l.p.name) l.env.items (statements_plain (block_plain l.p.blocks.items l.levels) (drop l.s-index l.statements))) (summary l.scope l.journal)
 
 -- the rest of the iterations does what all of them do
 abbrev pub invariant-run_turns-loop-i : goal.invariant-run_turns-loop-i
 invariant-run_turns-loop-i l =
     (l.i ≤ l.range.count)
     × ((grain : ℕ)
-    → results (tree_in l.scope) (all_turns (tree_in l.scope) (tables_in l.scope) (enters_in l.scope l.left) (job_in l.entry l.env l.x grain l.range.low) l.range.count) (standing l.scope l.initial.journal)
-    ≡ results (tree_in l.scope) (turns (tree_in l.scope) (tables_in l.scope) (enters_in l.scope l.left) (job_in l.entry l.env l.x grain l.range.low) (l.range.count - l.i) l.i) (standing l.scope l.journal))
+    → results (tree_in l.scope) (all_turns (tree_in l.scope) (tables_in l.scope) (enters_in l.scope l.left) (job_in l.entry l.env l.x grain l.range.low) l.range.count) (summary l.scope l.initial.journal)
+    ≡ results (tree_in l.scope) (turns (tree_in l.scope) (tables_in l.scope) (enters_in l.scope l.left) (job_in l.entry l.env l.x grain l.range.low) (l.range.count - l.i) l.i) (summary l.scope l.journal))
 
 abbrev pub decreases-run_turns-loop-i : goal.decreases-run_turns-loop-i
 decreases-run_turns-loop-i l = l.range.count - l.i

@@ -14,7 +14,7 @@ returns-clause-ready c =
     record {
       rules = c.checked_programs_keep_the_rules.ensures.kept c.args.program.now checked;
       monoids = c.checked_programs_keep_the_rules.ensures.monoids c.args.program.now checked;
-      numbers = rw (← c.program.ensures.program) (c.numbers_fit.ensures);
+      numbers = c.fitting.ensures.numbers;
       cells = c.cells_fit.ensures.fit;
       sound = tt;
     }

@@ -14,11 +14,11 @@ returns-clause-number c =
     let f = c.args.name.now in
     let s = c.self.inside in
     subst (λ (p : PlainChecked). IfSome c.get_index_of.result (λ n. n ≡ procedure_number (procedures (tree p.program)) f)) c.self.view_is
-    (rw c.get_index_of.ensures.index (procedure_if f s.revisions.entries (tree s.program) c.self.invariant.each))
+    (rw c.get_index_of.ensures.index (procedure_if f s.revisions.entries (tree s.program) c.self.invariant.0.each))
 
 pub returns-clause-known : goal.returns-clause-known
 returns-clause-known c =
     let f = c.args.name.now in
     let s = c.self.inside in
     subst (λ (p : PlainChecked). is_some c.get_index_of.result ≡ is_there (procedure_of (tree p.program) f)) c.self.view_is
-    (rw c.get_index_of.ensures.index (procedure_known f s.revisions.entries (tree s.program) c.self.invariant.each))
+    (rw c.get_index_of.ensures.index (procedure_known f s.revisions.entries (tree s.program) c.self.invariant.0.each))

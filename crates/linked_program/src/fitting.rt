@@ -3,9 +3,9 @@ ghost use Rattle.std.specs.Prelude.{ℕ, map};
 ghost use Rattle.monoid_laws.specs.Kinds.{Fits};
 ghost use Rattle.program_tree.specs.Plain.{Body};
 ghost use Rattle.program_tree.specs.View.{term, deed, statements as body_of, block, proc, tree};
-ghost use Rattle.trail_theory.specs.Order.{Every};
-ghost use Rattle.trail_theory.specs.Typed.{FitsTerm, FitsDeed, FitsBody, ProgramFits};
-ghost use Rattle.rules_theory.specs.Fitting.{DeclarationFits};
+ghost use Rattle.std.specs.List.{AllByRecursion};
+ghost use Rattle.meaning.specs.Fitting.{FitsTerm, FitsDeed, FitsBody, ProgramFits};
+ghost use Rattle.linked_program.specs.Fitting.{DeclarationFits};
 
 use program_tree::{Action, Block, Declaration, Expr, Program, Statement};
 
@@ -32,7 +32,7 @@ fn expression_fits(expr: &Expr)
 }
 
 fn expressions_fit(exprs: &[Expr])
-    ensures { Every FitsTerm (map term exprs.now) }
+    ensures { AllByRecursion FitsTerm (map term exprs.now) }
 {
     for expr in exprs {
         expression_fits(expr);
@@ -82,8 +82,8 @@ fn declaration_fits(declaration: &Declaration)
     }
 }
 
-/// The numbers of a program fit 64 bits, since each of its tree is a number of 64 bits. Takes time in proportion to the tree.
-pub fn numbers_fit(program: &Program)
+/// The numbers of a program fit 64 bits, since each of its tree is a number of 64 bits. It takes time in proportion to the tree.
+pub(crate) fn numbers_fit(program: &Program)
     ensures { ProgramFits (tree program.now) }
 {
     for declaration in &program.declarations {

@@ -1,7 +1,7 @@
 use Rattle.std.proofs.Common.{◌≡◌, length, ap, arith}
-use Rattle.rules_theory.specs.Fitting.{DeclarationFits}
-use Rattle.rules_theory.proofs.Fits.{none_left, names_fit}
-use Rattle.rules_theory.proofs.fitting.numbers_fit.Goals as goal
+use Rattle.linked_program.specs.Fitting.{DeclarationFits}
+use Rattle.linked_program.proofs.Fits.{none_left, names_fit}
+use Rattle.linked_program.proofs.fitting.numbers_fit.Goals as goal
 
 pub returns : goal.returns
 returns c = λ f.

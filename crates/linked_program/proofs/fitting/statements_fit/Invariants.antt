@@ -1,8 +1,8 @@
 use Rattle.std.proofs.Common.{ℕ, drop}
 use Rattle.program_tree.specs.Plain.{Body}
 use Rattle.program_tree.specs.View.{statements}
-use Rattle.trail_theory.specs.Typed.{FitsBody}
-use Rattle.rules_theory.proofs.fitting.statements_fit.Given as goal
+use Rattle.meaning.specs.Fitting.{FitsBody}
+use Rattle.linked_program.proofs.fitting.statements_fit.Given as goal
 
 abbrev pub invariant-loop-statement : goal.invariant-loop-statement
 invariant-loop-statement l = (inner : ℕ → Body) → ((n : ℕ) → FitsBody (inner n)) → FitsBody (statements inner (drop l.statement-index l.statements)) → FitsBody (statements inner l.statements)

@@ -7,26 +7,26 @@ use Rattle.program_tree.specs.declared.Declaration.TheVariants as d
 use Rattle.program_tree.specs.Plain.{Name, Body}
 use Rattle.program_tree.specs.View.{statements_of, block, proc, decl}
 use Rattle.meaning.specs.Statements.{procedure_of, found, proc_of}
-use Rattle.trail_theory.specs.Order.{Every}
-use Rattle.trail_theory.specs.Typed.{FitsBody}
-use Rattle.rules_theory.specs.Fitting.{BlockFits, DeclarationFits}
+use Rattle.std.specs.List.{AllByRecursion}
+use Rattle.meaning.specs.Fitting.{FitsBody}
+use Rattle.linked_program.specs.Fitting.{BlockFits, DeclarationFits}
 
-pub none_left : {A : Type 0} (P : A → Type 0) (xs : List A) (i : ℕ) → length xs ≤ i → Every P (drop i xs)
+pub none_left : {A : Type 0} (P : A → Type 0) (xs : List A) (i : ℕ) → length xs ≤ i → AllByRecursion P (drop i xs)
 none_left P [] zero h = tt
 none_left P [] (suc i) h = tt
 none_left P (x ∷ xs) zero h = absurd (omega (arith, h))
 none_left P (x ∷ xs) (suc i) h = none_left P xs i (omega (arith, h))
 
-found_fits : (bs : List Block) (n : ℕ) (inner : ℕ → Body) → ((m : ℕ) → FitsBody (inner m)) → Every BlockFits bs → FitsBody (statements_of inner (slice_get bs n))
+found_fits : (bs : List Block) (n : ℕ) (inner : ℕ → Body) → ((m : ℕ) → FitsBody (inner m)) → AllByRecursion BlockFits bs → FitsBody (statements_of inner (slice_get bs n))
 found_fits [] n inner f h = tt
 found_fits (b ∷ bs) zero inner f h = h.0 inner f
 found_fits (b ∷ bs) (suc n) inner f h = found_fits bs n inner f h.1
 
-pub block_fits : (bs : List Block) → Every BlockFits bs → (levels n : ℕ) → FitsBody (block bs levels n)
+pub block_fits : (bs : List Block) → AllByRecursion BlockFits bs → (levels n : ℕ) → FitsBody (block bs levels n)
 block_fits bs h zero n = tt
 block_fits bs h (suc levels) n = found_fits bs n (block bs levels) (λ m. block_fits bs h levels m) h
 
-pub names_fit : (ds : List Declaration) (f : Name) → Every DeclarationFits ds → FitsBody (proc_of (map decl ds) f).body
+pub names_fit : (ds : List Declaration) (f : Name) → AllByRecursion DeclarationFits ds → FitsBody (proc_of (map decl ds) f).body
 names_fit [] f h = tt
 names_fit (d.Reducer r ∷ ds) f h = names_fit ds f h.1
 names_fit (d.Procedure p ∷ ds) f h =

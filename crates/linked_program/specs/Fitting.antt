@@ -5,7 +5,7 @@ use Rattle.program_tree.specs.declared.Declaration.{Declaration}
 use Rattle.program_tree.specs.declared.Declaration.TheVariants as d
 use Rattle.program_tree.specs.Plain.{Body}
 use Rattle.program_tree.specs.View.{statements, proc}
-use Rattle.trail_theory.specs.Typed.{FitsBody}
+use Rattle.meaning.specs.Fitting.{FitsBody}
 
 -- whatever blocks stand inside, where their numbers fit
 abbrev pub BlockFits : Block → Type 0

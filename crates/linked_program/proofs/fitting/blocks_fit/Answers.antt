@@ -1,7 +1,7 @@
 use Rattle.std.proofs.Common.{arith}
-use Rattle.rules_theory.specs.Fitting.{BlockFits}
-use Rattle.rules_theory.proofs.Fits.{none_left, block_fits}
-use Rattle.rules_theory.proofs.fitting.blocks_fit.Goals as goal
+use Rattle.linked_program.specs.Fitting.{BlockFits}
+use Rattle.linked_program.proofs.Fits.{none_left, block_fits}
+use Rattle.linked_program.proofs.fitting.blocks_fit.Goals as goal
 
 pub returns : goal.returns
 returns c =
