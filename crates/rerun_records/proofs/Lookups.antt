@@ -8,7 +8,7 @@ use Rattle.std.specs.Str.{bytes_eq}
 use Rattle.std.proofs.lemmas.Slice.Eq.{bytes_eq-Decides}
 use Rattle.program_tree.specs.Plain.{Name}
 use Rattle.program_tree.specs.View.{tree}
-use Rattle.meaning.specs.Commits.{replaced, same_key}
+use Rattle.meaning.specs.Commits.{replaced, committed, same_key}
 use Rattle.meaning.specs.Elision.{depth_limit}
 use Rattle.meaning.specs.Every.{every}
 use Rattle.meaning.specs.Records.{Kept, agrees, is_current, is_valid, if_valid, record_of, same_args}
@@ -19,7 +19,7 @@ use Rattle.linked_program.specs.TableNames.{Columned, columned_of}
 use Rattle.evaluation.specs.Numbers.{numbered}
 use Rattle.rerun_records.specs.Record.{PlainRecord, is_of, same_instance}
 use Rattle.rerun_records.specs.Validity.{note_agrees, has_revision, record_valid, only_valid, valid_at}
-use Rattle.rerun_records.specs.Commits.{put_record}
+use Rattle.rerun_records.specs.Commits.{put_record, put_records}
 use Rattle.rerun_records.specs.Named.{number_of, numbered_entry, IsKept, AreKept, IsFound, IsListed}
 use Rattle.rerun_records.proofs.Members.{every_member, every_mapped}
 use Rattle.rerun_records.proofs.Numbers.{same_name, current_is, reading_is, same_arguments}

@@ -1,5 +1,5 @@
 //! The records of a session.
-ghost use Rattle.std.specs.Prelude.{◌≡◌, [], length, ◌≤◌, OnOk, OnErr, option_copied};
+ghost use Rattle.std.specs.Prelude.{◌≡◌, ◌↔◌, IsTrue, [], length, ◌≤◌, OnOk, OnErr, option_copied};
 ghost use Rattle.std.specs.Cmp.Rules.{comparing, hashing};
 ghost use Rattle.indexmap.specs.IndexSet.{spare};
 ghost use Rattle.std.proofs.Common.{rules};
@@ -69,6 +69,13 @@ impl Records {
         ensures count { result ≡ length self.now }
     {
         self.by_instance.len()
+    }
+
+    /// Whether there are no records.
+    pub fn is_empty(&self) -> bool
+        ensures empty { IsTrue result ↔ (length self.now ≡ 0) }
+    {
+        self.by_instance.is_empty()
     }
 
     /// Lends the records.

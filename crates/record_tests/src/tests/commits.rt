@@ -1,45 +1,66 @@
 //! Which records are there after a commit.
 
-use super::making::{LINES, checked, committed, found, record, sales};
+use super::making::{LINES, checked, found, record, sales};
+use input_tables::Tables;
+use linked_program::checked::Checked;
+use rerun_records::record::Record;
 use rerun_records::records::Records;
 use std::alloc::{AllocError, Global};
 use std::process::Abort;
 
-/// The numbers of records, and the values of `down(1)`, `down(2)` and `line(1)`, after each of three commits: of `down(1)` and
-/// `line(1)`; of `down(2)`, and of `down(1)` twice; of nothing.
-fn counts_and_values(
+/// A procedure's number, which is its revision number too, an argument, and the value.
+type Made = (usize, i64, i64);
+
+/// The records of these.
+fn made(rt: &impl Abort, alloc: Global, rows: &[Made]) -> Result<Vec<Record>, AllocError> {
+    let mut made = Vec::new(alloc);
+    for row in rows {
+        let procedure = (row.0, row.0 as u64);
+        made.push(record(rt, alloc, procedure, row.1, row.2, &[], 1))?;
+    }
+    Ok(made)
+}
+
+/// How many records there are, and the values of `down(1)`, `down(2)` and `line(1)`.
+fn seen(
     rt: &impl Abort,
     alloc: Global,
-) -> Result<[(usize, [Option<i64>; 3]); 3], AllocError> {
+    records: &Records,
+    tables: &Tables,
+    program: &Checked,
+) -> (usize, [Option<i64>; 3]) {
+    let values = [
+        found(rt, alloc, records, ("down", 1), 1, tables, program),
+        found(rt, alloc, records, ("down", 2), 1, tables, program),
+        found(rt, alloc, records, ("line", 1), 1, tables, program),
+    ];
+    (records.len(), values)
+}
+
+/// What is seen after these were committed, at once and one after another.
+fn after(
+    rt: &impl Abort,
+    alloc: Global,
+    commits: &[&[Made]],
+) -> Result<(usize, [Option<i64>; 3]), AllocError> {
     let tables = sales(rt, alloc);
     let program = checked(rt, alloc, LINES, &tables);
-    let seen = |records: &Records| {
-        let values = [
-            found(rt, alloc, records, ("down", 1), 1, &tables, &program),
-            found(rt, alloc, records, ("down", 2), 1, &tables, &program),
-            found(rt, alloc, records, ("line", 1), 1, &tables, &program),
-        ];
-        (records.len(), values)
-    };
-    let mut made = Vec::new(alloc);
-    made.push(record(alloc, (1, 1), 1, 10, &[], 2)?)?;
-    made.push(record(alloc, (0, 0), 1, 30, &[], 1)?)?;
-    let mut records = committed(alloc, made, &tables, &program)?;
-    let first = seen(&records);
-    let mut made = Vec::new(alloc);
-    made.push(record(alloc, (1, 1), 2, 20, &[], 3)?)?;
-    made.push(record(alloc, (1, 1), 1, 11, &[], 2)?)?;
-    made.push(record(alloc, (1, 1), 1, 12, &[], 2)?)?;
-    records.commit(made, &tables, &program)?;
-    let second = seen(&records);
-    records.commit(Vec::new(alloc), &tables, &program)?;
-    Ok([first, second, seen(&records)])
+    let mut records = Records::new(alloc);
+    for rows in commits {
+        records.commit(made(rt, alloc, rows)?, &tables, &program)?;
+    }
+    Ok(seen(rt, alloc, &records, &tables, &program))
 }
 
 /// Of several records of one key the last counts, and the others stay.
 #[test]
 fn the_last_of_a_key_counts(rt: HostRuntime) {
-    let seen = counts_and_values(&rt, rt.alloc()).expect(&rt, "memory");
-    let last = (3, [Some(12), Some(20), Some(30)]);
-    assert!(&rt; seen == [(2, [Some(10), None, Some(30)]), last, last]);
+    let first: &[Made] = &[(1, 1, 10), (0, 1, 30)];
+    let second: &[Made] = &[(1, 2, 20), (1, 1, 11), (1, 1, 12)];
+    let once = after(&rt, rt.alloc(), &[first]);
+    assert!(&rt; once == Ok((2, [Some(10), None, Some(30)])));
+    let twice = after(&rt, rt.alloc(), &[first, second]);
+    assert!(&rt; twice == Ok((3, [Some(12), Some(20), Some(30)])));
+    let none = after(&rt, rt.alloc(), &[first, second, &[]]);
+    assert!(&rt; none == Ok((3, [Some(12), Some(20), Some(30)])));
 }

@@ -1,21 +1,17 @@
 //! Records that hold while what they rest on is as it was.
 
-use super::making::{LINES, checked, committed, found, record, sales, second_line};
+use super::making::{LINES, checked, commit, committed, found, record, sales, second_line};
 use evaluation::note::Note;
 use input_tables::Tables;
 use linked_program::checked::Checked;
 use procedure_parser::parse;
 use rerun_records::records::Records;
 use spawn_checker::redefine;
-use std::alloc::{AllocError, Global};
+use std::alloc::Global;
 use std::process::Abort;
 
 /// The records of `line` at row 2, and of `line` at row 9, which is absent and past the limit.
-fn records_of_lines(
-    alloc: Global,
-    tables: &Tables,
-    program: &Checked,
-) -> Result<Records, AllocError> {
+fn records_of_lines(rt: &impl Abort, alloc: Global, tables: &Tables, program: &Checked) -> Records {
     let absence = [
         Note::Has {
             table: 0,
@@ -24,10 +20,10 @@ fn records_of_lines(
         },
         Note::Limit { table: 0, value: 4 },
     ];
-    let mut made = Vec::new(alloc);
-    made.push(second_line(alloc)?)?;
-    made.push(record(alloc, (0, 0), 9, 0, &absence, 1)?)?;
-    committed(alloc, made, tables, program)
+    let mut records = committed(rt, alloc, second_line(rt, alloc), tables, program);
+    let absent = record(rt, alloc, (0, 0), 9, 0, &absence, 1);
+    commit(rt, alloc, &mut records, absent, tables, program);
+    records
 }
 
 /// What the two records answer.
@@ -52,7 +48,7 @@ fn after_puts(
 ) -> (Option<i64>, Option<i64>) {
     let mut tables = sales(rt, alloc);
     let program = checked(rt, alloc, LINES, &tables);
-    let records = records_of_lines(alloc, &tables, &program).expect(rt, "memory");
+    let records = records_of_lines(rt, alloc, &tables, &program);
     for (row, values) in rows {
         tables
             .put(alloc, "sales", *row, values)
@@ -91,7 +87,7 @@ fn a_deleted_row_ends_a_record(rt: HostRuntime) {
     let alloc = rt.alloc();
     let mut tables = sales(&rt, alloc);
     let program = checked(&rt, alloc, LINES, &tables);
-    let records = records_of_lines(alloc, &tables, &program).expect(&rt, "memory");
+    let records = records_of_lines(&rt, alloc, &tables, &program);
     tables.delete("sales", 2).expect(&rt, "an edit");
     assert!(&rt; answers(&rt, alloc, &records, &tables, &program) == (None, Some(0)));
 }
@@ -100,7 +96,7 @@ fn a_deleted_row_ends_a_record(rt: HostRuntime) {
 fn in_program(rt: &impl Abort, alloc: Global, text: &str) -> (Option<i64>, Option<i64>) {
     let tables = sales(rt, alloc);
     let before = checked(rt, alloc, LINES, &tables);
-    let records = records_of_lines(alloc, &tables, &before).expect(rt, "memory");
+    let records = records_of_lines(rt, alloc, &tables, &before);
     let program = parse(alloc, text.as_bytes()).expect(rt, "a program");
     let after = redefine(alloc, &before, program, &tables).expect(rt, "no violation");
     answers(rt, alloc, &records, &tables, &after)

@@ -1,6 +1,4 @@
 //! Programs, tables and records that the tests speak of.
-ghost use Rattle.std.specs.Prelude.{◌≡◌, map};
-
 use evaluation::note::Note;
 use input_tables::Tables;
 use linked_program::checked::Checked;
@@ -10,7 +8,7 @@ use rerun_records::key::Key;
 use rerun_records::record::Record;
 use rerun_records::records::Records;
 use spawn_checker::check;
-use std::alloc::{AllocError, Global};
+use std::alloc::Global;
 use std::process::Abort;
 
 /// Three lines with quantities and prices.
@@ -37,19 +35,21 @@ pub fn checked(rt: &impl Abort, alloc: Global, text: &str, tables: &Tables) -> C
     check(alloc, program, tables).expect(rt, "no violation")
 }
 
-/// A record of an instance with one argument in which its own procedure alone was entered, with its revision number.
+/// A record of an instance with one argument in which its own procedure alone was entered: the procedure's number with its
+/// revision number, the argument, the value, which `total` is given too, and the height.
 pub fn record(
+    rt: &impl Abort,
     alloc: Global,
     procedure: (usize, u64),
     argument: i64,
     value: i64,
     reads: &[Note],
     height: u32,
-) -> Result<Record, AllocError> {
-    let mut touched = Vec::new(alloc);
-    touched.push((0, Val::Int(value)))?;
+) -> Record {
+    let touched = [(0, Val::Int(value))];
+    let touched = Vec::from_array(alloc, touched).expect(rt, "memory");
     let entered = [procedure];
-    Record::new(
+    let made = Record::new(
         alloc,
         procedure.0,
         &[argument],
@@ -58,13 +58,14 @@ pub fn record(
         reads,
         &entered,
         height,
-    )
+    );
+    made.expect(rt, "memory")
 }
 
 /// The record of `line` at row 2, which holds 3 and 7.
-pub fn second_line(alloc: Global) -> Result<Record, AllocError> {
+pub fn second_line(rt: &impl Abort, alloc: Global) -> Record {
     let reads = [cell(2, 0, 3), cell(2, 1, 7)];
-    record(alloc, (0, 0), 2, 21, &reads, 1)
+    record(rt, alloc, (0, 0), 2, 21, &reads, 1)
 }
 
 /// A cell of the sales that was read.
@@ -77,16 +78,30 @@ pub fn cell(row: i64, column: usize, value: i64) -> Note {
     }
 }
 
-/// Records of which these were committed.
+/// Records of which this one was committed.
 pub fn committed(
+    rt: &impl Abort,
     alloc: Global,
-    made: Vec<Record>,
+    made: Record,
     tables: &Tables,
     program: &Checked,
-) -> Result<Records, AllocError> {
+) -> Records {
     let mut records = Records::new(alloc);
-    records.commit(made, tables, program)?;
-    Ok(records)
+    commit(rt, alloc, &mut records, made, tables, program);
+    records
+}
+
+/// Commits one more record.
+pub fn commit(
+    rt: &impl Abort,
+    alloc: Global,
+    records: &mut Records,
+    made: Record,
+    tables: &Tables,
+    program: &Checked,
+) {
+    let made = Vec::from_array(alloc, [made]).expect(rt, "memory");
+    records.commit(made, tables, program).expect(rt, "memory");
 }
 
 /// The value that is looked up for a procedure and one argument at a depth.

@@ -4,7 +4,7 @@ use super::making::{LINES, cell, checked, committed, sales, second_line};
 use evaluation::note::Note;
 use monoid_laws::Val;
 use rerun_records::record::Record;
-use std::alloc::{AllocError, Global};
+use std::alloc::Global;
 use std::process::Abort;
 
 fn adds(touched: &(usize, Val), reducer: usize, number: i64) -> bool {
@@ -27,23 +27,24 @@ fn reads_second_line(record: &Record) -> bool {
 }
 
 /// Whether the record of `line` at row 2 is found, by the procedure's number, as it was committed.
-fn comes_back(rt: &impl Abort, alloc: Global) -> Result<bool, AllocError> {
+fn comes_back(rt: &impl Abort, alloc: Global) -> bool {
     let tables = sales(rt, alloc);
     let program = checked(rt, alloc, LINES, &tables);
-    let mut made = Vec::new(alloc);
-    made.push(second_line(alloc)?)?;
-    let records = committed(alloc, made, &tables, &program)?;
-    let found = match records.valid(0, &[2], 64, &tables, &program) {
-        Some(record) => is_second_line(record),
+    let records = committed(rt, alloc, second_line(rt, alloc), &tables, &program);
+    match records.valid(0, &[2], 64, &tables, &program) {
+        Some(record) => is_second_line(record) && are_second_line(records.as_slice()),
         None => false,
-    };
-    let all = records.as_slice();
-    Ok(found && all.len() == 1 && is_second_line(&all[0]))
+    }
+}
+
+/// Whether the record of `line` at row 2 is the only one.
+fn are_second_line(records: &[Record]) -> bool {
+    records.len() == 1 && is_second_line(&records[0])
 }
 
 #[test]
 fn a_record_comes_back(rt: HostRuntime) {
-    assert!(&rt; comes_back(&rt, rt.alloc()) == Ok(true));
+    assert!(&rt; comes_back(&rt, rt.alloc()));
 }
 
 /// Whether a record is made of a reading of that table.
