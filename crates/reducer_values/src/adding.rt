@@ -9,7 +9,7 @@ use std::alloc::{AllocError, Global};
 use std::mem;
 
 /// Where a key stands, or where it would be put.
-fn place_of(amounts: &[(i64, i64)], key: i64) -> usize
+fn key_index(amounts: &[(i64, i64)], key: i64) -> usize
     requires { IsRising amounts.now }
     ensures within { result ≤ length amounts.now }
     ensures passed { (v : ℤ) → add_at key v amounts.now ≡ take result amounts.now ++ add_at key v (drop result amounts.now) }
@@ -38,7 +38,7 @@ pub(crate) fn add_amount(
     ensures added { OnOk result (amounts.new.items ≡ add_at key amount amounts.old.items) }
     ensures refused { OnErr result (amounts.new.items ≡ amounts.old.items) }
 {
-    let i = place_of(amounts, key);
+    let i = key_index(amounts, key);
     if i < amounts.len() {
         let (found, held) = amounts[i];
         if found == key {

@@ -16,7 +16,7 @@ use Rattle.procedure_parser.proofs.defined.define_source.Goals as goal
 pub returns-in-Ok-clause-found : goal.returns-in-Ok-clause-found
 returns-in-Ok-clause-found c =
     let t : definition_at (room_of (tree c.args.program.now)) (tokens_of c.args.text.now) ≡ Ok (source c.in-Ok.declarations.items) = rw (← c.in_ok-tokens.ensures, ← c.deref.ensures.value, ← c.in_ok-room.ensures) c.in-Ok.ensures in
-    (c.if-text-gtLONGEST_TEXT.false, definition_found (room_of (tree c.args.program.now)) (tokens_of c.args.text.now) (source c.in-Ok.declarations.items) t)
+    (c.if-text-gt-LONGEST_TEXT.false, definition_found (room_of (tree c.args.program.now)) (tokens_of c.args.text.now) (source c.in-Ok.declarations.items) t)
 
 pub returns-in-Ok-clause-only : goal.returns-in-Ok-clause-only
 returns-in-Ok-clause-only c = λ s i.
@@ -39,4 +39,4 @@ returns-clause-fault c =
     let l = length-map c.deref.result.now placed in
     let is : c.fault_line.result ≡ line_at c.args.text.now (drop (length (words c.deref.result.now) - c.in-Err-Stuck.left) (words c.deref.result.now)) = rw (l, ← same, ← c.in-Err-Stuck.left-is) c.fault_line.ensures in
     let stuck : stuck_before (definition_at space (words c.deref.result.now)) ≡ Some c.in-Err-Stuck.left = rw (← c.in_ok-room.ensures) (subst (λ (f : ParseError). Fails {Y = Source} f (definition_at (room c.in_ok-room.room) (words c.deref.result.now))) c.in-Err-Stuck.field-0-is c.in-Err-Stuck.ensures) in
-    definition_line_is space c.args.text.now (words c.deref.result.now) c.in-Err-Stuck.left c.fault_line.result e c.if-text-gtLONGEST_TEXT.false stuck is
+    definition_line_is space c.args.text.now (words c.deref.result.now) c.in-Err-Stuck.left c.fault_line.result e c.if-text-gt-LONGEST_TEXT.false stuck is

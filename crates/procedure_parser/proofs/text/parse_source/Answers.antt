@@ -13,7 +13,7 @@ use Rattle.procedure_parser.proofs.text.parse_source.Goals as goal
 pub returns-in-Ok-clause-found : goal.returns-in-Ok-clause-found
 returns-in-Ok-clause-found c =
     let t : text_at (tokens_of c.args.text.now) ≡ Ok (source c.in-Ok.declarations.items) = rw (← c.in_ok-tokens.ensures, ← c.deref.ensures.value) c.in-Ok.ensures in
-    (c.if-text-gtLONGEST_TEXT.false, text_found (tokens_of c.args.text.now) (source c.in-Ok.declarations.items) t)
+    (c.if-text-gt-LONGEST_TEXT.false, text_found (tokens_of c.args.text.now) (source c.in-Ok.declarations.items) t)
 
 pub returns-in-Ok-clause-only : goal.returns-in-Ok-clause-only
 returns-in-Ok-clause-only c = λ s i.
@@ -34,4 +34,4 @@ returns-clause-fault c =
     let l = length-map c.deref.result.now placed in
     let is : c.fault_line.result ≡ line_at c.args.text.now (drop (length (words c.deref.result.now) - c.in-Err-Stuck.left) (words c.deref.result.now)) = rw (l, ← same, ← c.in-Err-Stuck.left-is) c.fault_line.ensures in
     let stuck : stuck_before (text_at (words c.deref.result.now)) ≡ Some c.in-Err-Stuck.left = subst (λ (f : ParseError). Fails f (text_at (words c.deref.result.now))) c.in-Err-Stuck.field-0-is c.in-Err-Stuck.ensures in
-    fault_line_is c.args.text.now (words c.deref.result.now) c.in-Err-Stuck.left c.fault_line.result e c.if-text-gtLONGEST_TEXT.false stuck is
+    fault_line_is c.args.text.now (words c.deref.result.now) c.in-Err-Stuck.left c.fault_line.result e c.if-text-gt-LONGEST_TEXT.false stuck is

@@ -5,7 +5,7 @@ use Rattle.std.proofs.lemmas.Int.{to_z-of_z}
 use Rattle.std.proofs.lemmas.List.{get_or_default}
 use Rattle.monoid_laws.specs.Kinds.{add_at}
 use Rattle.monoid_laws.proofs.Amounts.{add_at_past, lt_holds}
-use Rattle.reducer_values.proofs.adding.place_of.Goals as goal
+use Rattle.reducer_values.proofs.adding.key_index.Goals as goal
 
 pub loop-low-preserved-then-amounts-middle : goal.loop-low-preserved-then-amounts-middle
 loop-low-preserved-then-amounts-middle c =

@@ -1,6 +1,6 @@
 use Rattle.std.proofs.Common.{◌≡◌, ℤ, ◌<◌, ◌≤◌, ◌-◌, ◌≤ℤ◌, length, take, drop, ◌++◌, slice_index_or}
 use Rattle.monoid_laws.specs.Kinds.{add_at}
-use Rattle.reducer_values.proofs.adding.place_of.Given as goal
+use Rattle.reducer_values.proofs.adding.key_index.Given as goal
 
 abbrev pub invariant-loop-low : goal.invariant-loop-low
 invariant-loop-low l = record {
