@@ -4,14 +4,16 @@ use Rattle.meaning.specs.Tables.{Tables}
 use Rattle.meaning.specs.Outcome.{Log, Place}
 use Rattle.meaning.specs.Records.{Revised}
 use Rattle.meaning.specs.SmallStep.{Start, same_name, is_entry, Frame, Phase, entering, running, spawning, returning, leaving, broken, Parent, with_layer, Layers, at_spawn, at_sync, returned, faulted, Step, moved, taken, paused, unless, micro, Continuation}
-use Rattle.meaning.specs.Layers.{total}
+use Rattle.meaning.specs.Layers.{bottom, total}
 use Rattle.meaning.specs.LayeredStrand.{LayeredStrand, advanced, joined}
 use Rattle.meaning.specs.Strands.{State, BookStep, Fold}
 use Rattle.meaning.specs.Strands as strands
 use Rattle.meaning.specs.Schedules.{Memory, Piece, RunState, RunStep, Change, work, push, inline, pop, stall, steal, fold, first_state, place_of, place_of_start, line_of, is_held_by, is_idle, among, changed, kits_after, step_of, worked_by, worked, pushed_at, pushed, inlined_at, inlined_of, popped_at, popped, robbed_of, stolen_from, left_by, stalled_by, stalled_at, stalled, none_waits, none_waits_under, may_join, joined_pair, folded_by, folded, folded_among, folded_at, if_idle, after_step, or_same, path, answer_of_pieces, end_of}
 use Rattle.trail_theory.specs.Order.{Every}
+use Rattle.trail_theory.specs.Right.{Sees}
 use Rattle.trail_theory.specs.OwnLayers.{TopTest, is_top, frame_by}
 use Rattle.trail_theory.specs.Unflagged.{unflagged_under, unflagged, unflagged_continuation}
+use Rattle.trail_theory.proofs.ReadPoints.{sees_when}
 use Rattle.trail_theory.proofs.Unflagged.{no_matter}
 use Rattle.run_theory.specs.UnflaggedRuns.{unflagged_step, unflagged_piece, unflagged_run, unflagged_after, worked_with, step_by, path_by, RunsBy}
 use Rattle.run_theory.proofs.Steps.{L}
@@ -26,10 +28,6 @@ map_append f (x ∷ a) b = ap (λ l. f x ∷ l) (map_append f a b)
 abbrev unflagged_change : Option Change → Option Change
 unflagged_change None = None
 unflagged_change (Some c) = Some (record { pieces = map unflagged_piece c.pieces; kits = c.kits; noted = c.noted })
-
--- the flag of an instance that returns off the entry is the one that the test gives
-abbrev pub IsTold : TopTest → Piece → Type 0
-IsTold test p = is_entry p.strand.start p.strand.frame.instance ≡ false → frame_by test p.strand.phase p.tally.opened p.strand.frame ≡ p.strand.frame
 
 unflagged_among : (before later : List Piece) (history : List BookStep) (o : Option Change) → unflagged_after (among before later history o) ≡ among (map unflagged_piece before) (map unflagged_piece later) history (unflagged_change o)
 unflagged_among before later history None = refl
@@ -52,6 +50,11 @@ unflagged_changed w change change' before (p ∷ ps) history h =
     ∙ ap (λ b. changed w change' b (map unflagged_piece ps) history) (map_append unflagged_piece before (p ∷ [])))
 
 module _ (program : Revised) (tables : Tables) (memory : Memory) where
+  -- the flag of an instance that returns off the entry is the one that the test gives, and a read gives the bottom layer's value
+  pub record IsTold (test : TopTest) (p : Piece) : Type 0 where
+    pub flag : is_entry p.strand.start p.strand.frame.instance ≡ false → frame_by test p.strand.phase p.tally.opened p.strand.frame ≡ p.strand.frame
+    pub reads : Sees (bottom p.strand.layers) (total program.tree p.strand.layers).worth p.strand.phase
+
   -- ---- work and stall
 
   unflagged_worked : (kits : ℕ) (p : Piece) (st : Step) → unflagged_change (worked_by program tables memory kits p st) ≡ worked_by program tables memory kits (unflagged_piece p) (unflagged_step st)
@@ -74,7 +77,7 @@ module _ (program : Revised) (tables : Tables) (memory : Memory) where
   works_quiet test kits p told =
       let s = p.strand in
       unflagged_worked kits p (step_of program tables memory kits s)
-      ∙ ap (worked_by program tables memory kits (unflagged_piece p)) (sym (micro_alike program.tree tables (L program tables memory) (memory.recording && nat_lt 0 kits) (total program.tree s.layers).worth test p.tally.opened s.start s.frame s.phase s.under told))
+      ∙ ap (worked_by program tables memory kits (unflagged_piece p)) (sym (micro_alike program.tree tables (L program tables memory) (memory.recording && nat_lt 0 kits) (bottom s.layers) (total program.tree s.layers).worth test p.tally.opened s.start s.frame s.phase s.under told.flag told.reads))
 
   pauses_quiet : (kits : ℕ) (q : Piece) (st : Step) → stalled_by program tables memory kits q (unflagged_step st) ≡ stalled_by program tables memory kits q st
   pauses_quiet kits q (moved l evs fr ph t) = refl
@@ -98,8 +101,9 @@ module _ (program : Revised) (tables : Tables) (memory : Memory) where
         → unflagged_step (at_phase (with_layer false p.strand.frame) ph (unflagged_under p.strand.under)) ≡ unflagged_step (at_phase p.strand.frame ph p.strand.under)
     alike ph e k =
         let s = p.strand in
+        let acc = (total program.tree s.layers).worth in
         ap (λ fr. unflagged_step (at_phase fr ph (unflagged_under s.under))) (sym e)
-        ∙ micro_alike program.tree tables (L program tables memory) (memory.recording && nat_lt 0 kits) (total program.tree s.layers).worth is_top [] s.start s.frame ph s.under (λ z. k)
+        ∙ micro_alike program.tree tables (L program tables memory) (memory.recording && nat_lt 0 kits) acc acc is_top [] s.start s.frame ph s.under (λ z. k) (sees_when acc acc ph (λ n x r b bs q. refl))
 
     by_alike : (ph : Phase) → unflagged_step (at_phase (with_layer false p.strand.frame) ph (unflagged_under p.strand.under)) ≡ unflagged_step (at_phase p.strand.frame ph p.strand.under)
         → stalled_by program tables memory kits (unflagged_piece p) (at_phase p.strand.frame ph p.strand.under) ≡ stalled_by program tables memory kits (unflagged_piece p) (at_phase (with_layer false p.strand.frame) ph (unflagged_under p.strand.under))
