@@ -1,9 +1,10 @@
 -- The steps of a run without flags are those of the run with flags, where each flag that is asked for is the one that the test gives.
 use Rattle.std.proofs.Common.{◌&&◌, ◌+◌, zero, ℕ, suc, ℤ, List, [], ◌∷◌, ◌++◌, map, Option, Some, None, ◌≡◌, refl, sym, ap, ◌∙◌, subst, true, false, Bool, cond, nat_lt}
+use Rattle.program_tree.specs.Plain.{bind, enter, read, sync, update, choose, loop, give, end, step}
 use Rattle.meaning.specs.Tables.{Tables}
-use Rattle.meaning.specs.Outcome.{Log, Place}
+use Rattle.meaning.specs.Outcome.{Log, Place, Accumulators}
 use Rattle.meaning.specs.Records.{Revised}
-use Rattle.meaning.specs.SmallStep.{Start, same_name, is_entry, Frame, Phase, entering, running, spawning, returning, leaving, broken, Parent, with_layer, Layers, at_spawn, at_sync, returned, faulted, Step, moved, taken, paused, unless, micro, Continuation}
+use Rattle.meaning.specs.SmallStep.{Start, same_name, is_entry, Frame, blocks, halves, second, turns, Phase, entering, running, spawning, returning, leaving, broken, Parent, with_layer, Layers, at_spawn, at_sync, returned, faulted, Step, moved, taken, paused, unless, micro, Continuation}
 use Rattle.meaning.specs.Layers.{bottom, total}
 use Rattle.meaning.specs.LayeredStrand.{LayeredStrand, advanced, joined}
 use Rattle.meaning.specs.Strands.{State, BookStep, Fold}
@@ -91,6 +92,41 @@ module _ (program : Revised) (tables : Tables) (memory : Memory) where
       → stalled_by program tables memory kits q (unless b (moved l evs fr ph t)) ≡ stalled_by program tables memory kits q (unless b (moved l' evs fr ph t'))
   returns_quiet kits q true l l' evs fr ph t t' = refl
   returns_quiet kits q false l l' evs fr ph t t' = refl
+
+  -- a strand is paused, or not, whatever a read gives
+  module _ (kits : ℕ) (q : Piece) (m : Start) (fr : Frame) (t : List Parent) (acc' acc : Accumulators) where
+    abbrev by_read : Accumulators → Phase → Step
+    by_read a ph = micro program.tree tables (L program tables memory) (memory.recording && nat_lt 0 kits) a m fr ph t
+
+    abbrev IsSamePause : Phase → Type 0
+    IsSamePause ph = stalled_by program tables memory kits q (by_read acc' ph) ≡ stalled_by program tables memory kits q (by_read acc ph)
+
+    unread : (ph : Phase) → frame_by is_top ph [] fr ≡ fr → Sees acc acc' ph → IsSamePause ph
+    unread ph keep sees =
+        let alike = λ (a b : Accumulators) (h : Sees a b ph). micro_alike program.tree tables (L program tables memory) (memory.recording && nat_lt 0 kits) a b is_top [] m fr ph t (λ z. keep) h in
+        sym (pauses_quiet kits q (by_read acc' ph))
+        ∙ ap (stalled_by program tables memory kits q) (sym (alike acc acc' sees) ∙ alike acc acc (sees_when acc acc ph (λ n x r b bs e. refl)))
+        ∙ pauses_quiet kits q (by_read acc ph)
+
+    pub pauses_whatever_is_read : (ph : Phase) → IsSamePause ph
+    pauses_whatever_is_read (entering child) = unread (entering child) refl tt
+    pauses_whatever_is_read (running (blocks [])) = unread (running (blocks [])) refl tt
+    pauses_whatever_is_read (running (blocks (end ∷ bs))) = unread (running (blocks (end ∷ bs))) refl tt
+    pauses_whatever_is_read (running (blocks (step s (bind x e) b ∷ bs))) = unread (running (blocks (step s (bind x e) b ∷ bs))) refl tt
+    pauses_whatever_is_read (running (blocks (step s (enter x w f es) b ∷ bs))) = unread (running (blocks (step s (enter x w f es) b ∷ bs))) refl tt
+    pauses_whatever_is_read (running (blocks (step s (read x r) b ∷ bs))) = refl
+    pauses_whatever_is_read (running (blocks (step s sync b ∷ bs))) = unread (running (blocks (step s sync b ∷ bs))) refl tt
+    pauses_whatever_is_read (running (blocks (step s (update r es) b ∷ bs))) = unread (running (blocks (step s (update r es) b ∷ bs))) refl tt
+    pauses_whatever_is_read (running (blocks (step s (choose e x y) b ∷ bs))) = unread (running (blocks (step s (choose e x y) b ∷ bs))) refl tt
+    pauses_whatever_is_read (running (blocks (step s (loop x e f g c es) b ∷ bs))) = unread (running (blocks (step s (loop x e f g c es) b ∷ bs))) refl tt
+    pauses_whatever_is_read (running (blocks (step s (give e) b ∷ bs))) = unread (running (blocks (step s (give e) b ∷ bs))) refl tt
+    pauses_whatever_is_read (running (halves k job count i)) = unread (running (halves k job count i)) refl tt
+    pauses_whatever_is_read (running (second k job count i)) = unread (running (second k job count i)) refl tt
+    pauses_whatever_is_read (running (turns job count i)) = unread (running (turns job count i)) refl tt
+    pauses_whatever_is_read (spawning d x child todo) = refl
+    pauses_whatever_is_read (returning v) = returns_quiet kits q (is_entry m fr.instance) _ _ _ _ _ t t
+    pauses_whatever_is_read (leaving v) = unread (leaving v) refl tt
+    pauses_whatever_is_read (broken k) = refl
 
   module _ (kits : ℕ) (p : Piece) where
     abbrev at_phase : Frame → Phase → List Parent → Step
