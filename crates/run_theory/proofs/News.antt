@@ -111,7 +111,7 @@ module _ (program : Revised) (tables : Tables) (memory : Memory) where
       (λ e. let i = inner program tables memory before (p ∷ ps) b found r in among_fit before p ps history (change p) (k i.0 i.1.0 i.1.1.0 p ps i.1.1.1 i.1.1.2) h)
       (changed_fit w change k (before ++ p ∷ []) ps history b found (subst (λ u. FitAll program tables memory b u found) shift r) (subst (λ u. TallyFit [] u) shift h))
 
-  own_of : (left right : List Place) (p : Piece) → ((k : Fault) → p.strand.phase ≡ broken k → ⊥) → PieceTallied left right p → Own p.strand p.tally
+  pub own_of : (left right : List Place) (p : Piece) → ((k : Fault) → p.strand.phase ≡ broken k → ⊥) → PieceTallied left right p → Own p.strand p.tally
   own_of left right p good h = elim h.owns [ inl g ↦ absurd (good g.1.0 g.1.1) | inr t ↦ t ]
 
   pub now_of : (left right : List Place) (p : Piece) → ((k : Fault) → p.strand.phase ≡ broken k → ⊥) → PieceTallied left right p → Now p.strand p.tally

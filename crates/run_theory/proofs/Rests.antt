@@ -46,7 +46,7 @@ module _ (program : Tree) (tables : Tables) where
   main_left =
       ap (answered program tables) (then_pure (phase_left program tables (opened program (depth_limit - 1) (instance main []) []) (entering (instance main [])) (identities program))
       ∙ opened_left (depth_limit - 1) (instance main []) [] (identities program))
-      ∙ whole_left 63 (identities program)
+      ∙ whole_left (depth_limit - 1) (identities program)
 
 module _ (program : Revised) (tables : Tables) (memory : Memory) (ready : IsReady program tables memory) where
   -- the identities, and then a stretch of the trail

@@ -1,17 +1,20 @@
 -- The steps of a run without flags are those of the run with flags, where each flag that is asked for is the one that the test gives.
 use Rattle.std.proofs.Common.{◌&&◌, ◌+◌, zero, ℕ, suc, ℤ, List, [], ◌∷◌, ◌++◌, map, Option, Some, None, ◌≡◌, refl, sym, ap, ◌∙◌, subst, true, false, Bool, cond, nat_lt}
+use Rattle.program_tree.specs.Plain.{bind, enter, read, sync, update, choose, loop, give, end, step}
 use Rattle.meaning.specs.Tables.{Tables}
-use Rattle.meaning.specs.Outcome.{Log, Place}
+use Rattle.meaning.specs.Outcome.{Log, Place, Accumulators}
 use Rattle.meaning.specs.Records.{Revised}
-use Rattle.meaning.specs.SmallStep.{Start, same_name, is_entry, Frame, Phase, entering, running, spawning, returning, leaving, broken, Parent, with_layer, Layers, at_spawn, at_sync, returned, faulted, Step, moved, taken, paused, unless, micro, Continuation}
-use Rattle.meaning.specs.Layers.{total}
+use Rattle.meaning.specs.SmallStep.{Start, same_name, is_entry, Frame, blocks, halves, second, turns, Phase, entering, running, spawning, returning, leaving, broken, Parent, with_layer, Layers, at_spawn, at_sync, returned, faulted, Step, moved, taken, paused, unless, micro, Continuation}
+use Rattle.meaning.specs.Layers.{bottom, total}
 use Rattle.meaning.specs.LayeredStrand.{LayeredStrand, advanced, joined}
 use Rattle.meaning.specs.Strands.{State, BookStep, Fold}
 use Rattle.meaning.specs.Strands as strands
 use Rattle.meaning.specs.Schedules.{Memory, Piece, RunState, RunStep, Change, work, push, inline, pop, stall, steal, fold, first_state, place_of, place_of_start, line_of, is_held_by, is_idle, among, changed, kits_after, step_of, worked_by, worked, pushed_at, pushed, inlined_at, inlined_of, popped_at, popped, robbed_of, stolen_from, left_by, stalled_by, stalled_at, stalled, none_waits, none_waits_under, may_join, joined_pair, folded_by, folded, folded_among, folded_at, if_idle, after_step, or_same, path, answer_of_pieces, end_of}
 use Rattle.trail_theory.specs.Order.{Every}
+use Rattle.trail_theory.specs.Right.{Sees}
 use Rattle.trail_theory.specs.OwnLayers.{TopTest, is_top, frame_by}
 use Rattle.trail_theory.specs.Unflagged.{unflagged_under, unflagged, unflagged_continuation}
+use Rattle.trail_theory.proofs.ReadPoints.{sees_when}
 use Rattle.trail_theory.proofs.Unflagged.{no_matter}
 use Rattle.run_theory.specs.UnflaggedRuns.{unflagged_step, unflagged_piece, unflagged_run, unflagged_after, worked_with, step_by, path_by, RunsBy}
 use Rattle.run_theory.proofs.Steps.{L}
@@ -26,10 +29,6 @@ map_append f (x ∷ a) b = ap (λ l. f x ∷ l) (map_append f a b)
 abbrev unflagged_change : Option Change → Option Change
 unflagged_change None = None
 unflagged_change (Some c) = Some (record { pieces = map unflagged_piece c.pieces; kits = c.kits; noted = c.noted })
-
--- the flag of an instance that returns off the entry is the one that the test gives
-abbrev pub IsTold : TopTest → Piece → Type 0
-IsTold test p = is_entry p.strand.start p.strand.frame.instance ≡ false → frame_by test p.strand.phase p.tally.opened p.strand.frame ≡ p.strand.frame
 
 unflagged_among : (before later : List Piece) (history : List BookStep) (o : Option Change) → unflagged_after (among before later history o) ≡ among (map unflagged_piece before) (map unflagged_piece later) history (unflagged_change o)
 unflagged_among before later history None = refl
@@ -52,6 +51,11 @@ unflagged_changed w change change' before (p ∷ ps) history h =
     ∙ ap (λ b. changed w change' b (map unflagged_piece ps) history) (map_append unflagged_piece before (p ∷ [])))
 
 module _ (program : Revised) (tables : Tables) (memory : Memory) where
+  -- the flag of an instance that returns off the entry is the one that the test gives, and a read gives the bottom layer's value
+  pub record IsTold (test : TopTest) (p : Piece) : Type 0 where
+    pub flag : is_entry p.strand.start p.strand.frame.instance ≡ false → frame_by test p.strand.phase p.tally.opened p.strand.frame ≡ p.strand.frame
+    pub reads : Sees (bottom p.strand.layers) (total program.tree p.strand.layers).worth p.strand.phase
+
   -- ---- work and stall
 
   unflagged_worked : (kits : ℕ) (p : Piece) (st : Step) → unflagged_change (worked_by program tables memory kits p st) ≡ worked_by program tables memory kits (unflagged_piece p) (unflagged_step st)
@@ -74,7 +78,7 @@ module _ (program : Revised) (tables : Tables) (memory : Memory) where
   works_quiet test kits p told =
       let s = p.strand in
       unflagged_worked kits p (step_of program tables memory kits s)
-      ∙ ap (worked_by program tables memory kits (unflagged_piece p)) (sym (micro_alike program.tree tables (L program tables memory) (memory.recording && nat_lt 0 kits) (total program.tree s.layers).worth test p.tally.opened s.start s.frame s.phase s.under told))
+      ∙ ap (worked_by program tables memory kits (unflagged_piece p)) (sym (micro_alike program.tree tables (L program tables memory) (memory.recording && nat_lt 0 kits) (bottom s.layers) (total program.tree s.layers).worth test p.tally.opened s.start s.frame s.phase s.under told.flag told.reads))
 
   pauses_quiet : (kits : ℕ) (q : Piece) (st : Step) → stalled_by program tables memory kits q (unflagged_step st) ≡ stalled_by program tables memory kits q st
   pauses_quiet kits q (moved l evs fr ph t) = refl
@@ -89,6 +93,41 @@ module _ (program : Revised) (tables : Tables) (memory : Memory) where
   returns_quiet kits q true l l' evs fr ph t t' = refl
   returns_quiet kits q false l l' evs fr ph t t' = refl
 
+  -- a strand is paused, or not, whatever a read gives
+  module _ (kits : ℕ) (q : Piece) (m : Start) (fr : Frame) (t : List Parent) (acc' acc : Accumulators) where
+    abbrev by_read : Accumulators → Phase → Step
+    by_read a ph = micro program.tree tables (L program tables memory) (memory.recording && nat_lt 0 kits) a m fr ph t
+
+    abbrev IsSamePause : Phase → Type 0
+    IsSamePause ph = stalled_by program tables memory kits q (by_read acc' ph) ≡ stalled_by program tables memory kits q (by_read acc ph)
+
+    unread : (ph : Phase) → frame_by is_top ph [] fr ≡ fr → Sees acc acc' ph → IsSamePause ph
+    unread ph keep sees =
+        let alike = λ (a b : Accumulators) (h : Sees a b ph). micro_alike program.tree tables (L program tables memory) (memory.recording && nat_lt 0 kits) a b is_top [] m fr ph t (λ z. keep) h in
+        sym (pauses_quiet kits q (by_read acc' ph))
+        ∙ ap (stalled_by program tables memory kits q) (sym (alike acc acc' sees) ∙ alike acc acc (sees_when acc acc ph (λ n x r b bs e. refl)))
+        ∙ pauses_quiet kits q (by_read acc ph)
+
+    pub pauses_whatever_is_read : (ph : Phase) → IsSamePause ph
+    pauses_whatever_is_read (entering child) = unread (entering child) refl tt
+    pauses_whatever_is_read (running (blocks [])) = unread (running (blocks [])) refl tt
+    pauses_whatever_is_read (running (blocks (end ∷ bs))) = unread (running (blocks (end ∷ bs))) refl tt
+    pauses_whatever_is_read (running (blocks (step s (bind x e) b ∷ bs))) = unread (running (blocks (step s (bind x e) b ∷ bs))) refl tt
+    pauses_whatever_is_read (running (blocks (step s (enter x w f es) b ∷ bs))) = unread (running (blocks (step s (enter x w f es) b ∷ bs))) refl tt
+    pauses_whatever_is_read (running (blocks (step s (read x r) b ∷ bs))) = refl
+    pauses_whatever_is_read (running (blocks (step s sync b ∷ bs))) = unread (running (blocks (step s sync b ∷ bs))) refl tt
+    pauses_whatever_is_read (running (blocks (step s (update r es) b ∷ bs))) = unread (running (blocks (step s (update r es) b ∷ bs))) refl tt
+    pauses_whatever_is_read (running (blocks (step s (choose e x y) b ∷ bs))) = unread (running (blocks (step s (choose e x y) b ∷ bs))) refl tt
+    pauses_whatever_is_read (running (blocks (step s (loop x e f g c es) b ∷ bs))) = unread (running (blocks (step s (loop x e f g c es) b ∷ bs))) refl tt
+    pauses_whatever_is_read (running (blocks (step s (give e) b ∷ bs))) = unread (running (blocks (step s (give e) b ∷ bs))) refl tt
+    pauses_whatever_is_read (running (halves k job count i)) = unread (running (halves k job count i)) refl tt
+    pauses_whatever_is_read (running (second k job count i)) = unread (running (second k job count i)) refl tt
+    pauses_whatever_is_read (running (turns job count i)) = unread (running (turns job count i)) refl tt
+    pauses_whatever_is_read (spawning d x child todo) = refl
+    pauses_whatever_is_read (returning v) = returns_quiet kits q (is_entry m fr.instance) _ _ _ _ _ t t
+    pauses_whatever_is_read (leaving v) = unread (leaving v) refl tt
+    pauses_whatever_is_read (broken k) = refl
+
   module _ (kits : ℕ) (p : Piece) where
     abbrev at_phase : Frame → Phase → List Parent → Step
     at_phase fr ph t = micro program.tree tables (L program tables memory) (memory.recording && nat_lt 0 kits) (total program.tree p.strand.layers).worth p.strand.start fr ph t
@@ -98,8 +137,9 @@ module _ (program : Revised) (tables : Tables) (memory : Memory) where
         → unflagged_step (at_phase (with_layer false p.strand.frame) ph (unflagged_under p.strand.under)) ≡ unflagged_step (at_phase p.strand.frame ph p.strand.under)
     alike ph e k =
         let s = p.strand in
+        let acc = (total program.tree s.layers).worth in
         ap (λ fr. unflagged_step (at_phase fr ph (unflagged_under s.under))) (sym e)
-        ∙ micro_alike program.tree tables (L program tables memory) (memory.recording && nat_lt 0 kits) (total program.tree s.layers).worth is_top [] s.start s.frame ph s.under (λ z. k)
+        ∙ micro_alike program.tree tables (L program tables memory) (memory.recording && nat_lt 0 kits) acc acc is_top [] s.start s.frame ph s.under (λ z. k) (sees_when acc acc ph (λ n x r b bs q. refl))
 
     by_alike : (ph : Phase) → unflagged_step (at_phase (with_layer false p.strand.frame) ph (unflagged_under p.strand.under)) ≡ unflagged_step (at_phase p.strand.frame ph p.strand.under)
         → stalled_by program tables memory kits (unflagged_piece p) (at_phase p.strand.frame ph p.strand.under) ≡ stalled_by program tables memory kits (unflagged_piece p) (at_phase (with_layer false p.strand.frame) ph (unflagged_under p.strand.under))

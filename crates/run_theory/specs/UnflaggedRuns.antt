@@ -1,11 +1,16 @@
 -- Runs whose instances carry no flag: a layer closes where a test of names says that the top layer is that of the instance that returns.
-use Rattle.std.specs.Prelude.{◌≡◌, ℕ, false, List, [], ◌∷◌, map, Option, Some, None}
+use Rattle.std.specs.Prelude.{◌≡◌, ℕ, nat_lt, ◌&&◌, false, List, [], ◌∷◌, map, Option, Some, None}
+use Rattle.program_tree.specs.Plain.{Name, read, Body, step}
 use Rattle.meaning.specs.Tables.{Tables}
 use Rattle.meaning.specs.Records.{Revised}
-use Rattle.meaning.specs.SmallStep.{is_entry, with_layer, Step, moved, taken, paused}
-use Rattle.meaning.specs.Schedules.{Memory, Piece, RunState, RunStep, Change, work, push, inline, pop, stall, steal, fold, first_state, changed, step_of, worked_by, after_step, or_same, path, end_of}
+use Rattle.meaning.specs.SmallStep.{is_entry, blocks, running, with_layer, Step, moved, taken, paused, micro}
+use Rattle.meaning.specs.Layers.{bottom}
+use Rattle.meaning.specs.LayeredStrand.{LayeredStrand}
+use Rattle.meaning.specs.Tallies.{Tally, valid_record}
+use Rattle.meaning.specs.Schedules.{Memory, Piece, RunState, RunStep, Change, work, push, inline, pop, stall, steal, fold, first_state, changed, worked_by, after_step, or_same, path, end_of}
 use Rattle.trail_theory.specs.Order.{Every}
-use Rattle.trail_theory.specs.OwnLayers.{TopTest, strand_by, by_name}
+use Rattle.trail_theory.specs.Right.{IsOneLayer}
+use Rattle.trail_theory.specs.OwnLayers.{TopTest, frame_by, by_name}
 use Rattle.trail_theory.specs.Unflagged.{unflagged_under, unflagged, unflagged_continuation}
 
 -- ---- without flags
@@ -30,17 +35,27 @@ unflagged_after (Some s) = Some (unflagged_run s)
 abbrev pub IsToldByName : Piece → Type 0
 IsToldByName p = is_entry p.strand.start p.strand.frame.instance ≡ false → by_name p.strand p.tally ≡ p.strand
 
+-- a strand that stands at a read of a reducer has one layer
+abbrev pub ReadsByOne : Piece → Type 0
+ReadsByOne p = (n x : ℕ) (r : Name) (b : Body) (bs : List Body) → p.strand.phase ≡ running (blocks (step n (read x r) b ∷ bs)) → IsOneLayer p.strand.layers
+
 module _ (program : Revised) (tables : Tables) (memory : Memory) where
   -- so it is after any steps
   abbrev pub FlagsAreTold : Type 0
   FlagsAreTold = (kits : ℕ) (es : List RunStep) → Every IsToldByName (path program tables memory (first_state program.tree kits) es).pieces
 
+  abbrev pub PathsReadByOne : Type 0
+  PathsReadByOne = (kits : ℕ) (es : List RunStep) → Every ReadsByOne (path program tables memory (first_state program.tree kits) es).pieces
+
   -- ---- steps of a run without flags
 
   module _ (test : TopTest) where
-    -- a small step, in which an instance that returns has the flag that the test gives it
+    -- the small step, in which an instance that returns has the flag that the test gives it, and a read gives the bottom layer's value
+    abbrev pub small_step : ℕ → LayeredStrand → Tally → Step
+    small_step kits s t = micro program.tree tables (valid_record program tables memory.records) (memory.recording && nat_lt 0 kits) (bottom s.layers) s.start (frame_by test s.phase t.opened s.frame) s.phase s.under
+
     abbrev pub worked_with : ℕ → Piece → Option Change
-    worked_with kits p = worked_by program tables memory kits p (unflagged_step (step_of program tables memory kits (strand_by test p.strand p.tally)))
+    worked_with kits p = worked_by program tables memory kits p (unflagged_step (small_step kits p.strand p.tally))
 
     -- no other step asks for a flag
     abbrev pub step_by : RunState → RunStep → Option RunState

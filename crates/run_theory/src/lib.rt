@@ -7,7 +7,7 @@ ghost use Rattle.meaning.specs.Tables.{Tables};
 ghost use Rattle.run_theory.specs.Theorems.{IsReady, StepsStayRight, PathsAreRight, RightRunsAnswer, PathsAnswer, StepsKeepKits, PathsKeepKits, EndsFreeKits, PathsKeepHistory, NeighboursFold, PathsMakeNews, PathsOwnLayers, PathsCountNeeded, PathsLeaveNothing, RestBegins, PathsKeepRest, RestEnds, OverRunsAnswer, FrontRunsAnswer};
 ghost use Rattle.trail_theory.specs.OpenLayers.{IsNumbered};
 ghost use Rattle.run_theory.specs.Progress.{HoldersGoOn, LaidRunsGoOn, SomeStepIsThere};
-ghost use Rattle.run_theory.specs.UnflaggedRuns.{FlagsAreTold, RunsBy};
+ghost use Rattle.run_theory.specs.UnflaggedRuns.{FlagsAreTold, PathsReadByOne, RunsBy};
 ghost use Rattle.trail_theory.specs.OwnLayers.{is_top, is_top_by_length};
 
 /// Each step of a run on several workers keeps it right.
@@ -118,6 +118,11 @@ pub fn some_step_is_there()
 /// After any steps, an instance that returns, and is not at its strand's entry, has the flag that says whether the top layer has its name.
 pub fn flags_are_told()
     ensures told { (program : Revised) (tables : Tables) (memory : Memory) → IsReady program tables memory → IsNumbered program → FlagsAreTold program tables memory }
+{}
+
+/// After any steps, a strand that stands at a read of a reducer has one layer: what it reads is the bottom layer's value.
+pub fn paths_read_by_one_layer()
+    ensures one { (program : Revised) (tables : Tables) (memory : Memory) → IsReady program tables memory → IsNumbered program → PathsReadByOne program tables memory }
 {}
 
 /// A run whose instances carry no flag, and whose layers close where the top one has the name of the instance that returns, or a name as long, takes the same steps and comes to the same states, flags aside, and to the same end.

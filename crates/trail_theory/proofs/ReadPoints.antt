@@ -112,7 +112,7 @@ log_before o es (Ok v) h = ap (λ x. x.log) h.0 ∙ ap forgotten (sym (before_al
 log_before o es (Err k) h = h.1.0
 
 -- what is said of a read alone
-sees_when : (acc sight : Accumulators) (ph : Phase) → ((s x : ℕ) (r : Name) (b : Body) (bs : List Body) → ph ≡ running (blocks (step s (read x r) b ∷ bs)) → acc ≡ sight) → Sees acc sight ph
+pub sees_when : (acc sight : Accumulators) (ph : Phase) → ((s x : ℕ) (r : Name) (b : Body) (bs : List Body) → ph ≡ running (blocks (step s (read x r) b ∷ bs)) → acc ≡ sight) → Sees acc sight ph
 sees_when acc sight (entering child) here = tt
 sees_when acc sight (running (blocks [])) here = tt
 sees_when acc sight (running (blocks (end ∷ bs))) here = tt
