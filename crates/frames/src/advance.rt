@@ -1,12 +1,13 @@
 // One small step of a strand, and the points at which there is none.
 ghost use Rattle.std.specs.Prelude.{◌≡◌, ◌+◌, ◌<◌, ◌^◌, OnErr, OnOk, IfOk, OnSome, option_copied};
-ghost use Rattle.linked_program.specs.TableNames.{columned_of};
-ghost use Rattle.frames.specs.Given.{given};
+ghost use Rattle.positions.specs.Setting.{HasItsTables};
+ghost use Rattle.frames.specs.Given.{given, lent};
 ghost use Rattle.positions.specs.Simulation.{IsSmallStep, IsPause, IsStepTaken};
 ghost use Rattle.positions.specs.Advance.{performed, gone, worked, left_to, synced, advanced, pause_of, next_statement, is_sync};
 
 use crate::code::instruction;
 use crate::records::Records;
+use crate::setting::Setting;
 use crate::strand::Strand;
 use input_tables::Tables;
 use linked_program::checked::Checked;
@@ -29,17 +30,23 @@ impl<V: View> Strand<V> {
     ) -> Result<Paused, AllocError>
         requires kinds { self.old.layer.kinds ≡ program.now.kinds }
         ensures pause { IfOk result (λ paused. paused ≡ pause_of program.now.codes self.old) }
-        ensures advanced { OnOk result (self.new ≡ advanced (given program.now tables.now) self.old) }
+        ensures advanced { OnOk result
+            (self.new ≡ advanced (given program.now tables.now) self.old) }
         ensures kinds { self.new.layer.kinds ≡ self.old.layer.kinds }
         ensures lower { self.new.lower ≡ self.old.lower }
-        ensures small_step { OnOk result (program.now.tables ≡ columned_of tables.now.tables → IsSmallStep (given program.now tables.now) self.old self.new) }
-        ensures no_step { IfOk result (λ paused. IsPause (given program.now tables.now) paused self.old) }
-        ensures goes_on { IfOk result (λ paused. paused ≡ Paused.Working → IsStepTaken (given program.now tables.now) self.old) }
+        ensures small_step { OnOk result
+            (HasItsTables (given program.now tables.now)
+            → IsSmallStep (given program.now tables.now) self.old self.new) }
+        ensures no_step { IfOk result
+            (λ paused. IsPause (given program.now tables.now) paused self.old) }
+        ensures goes_on { IfOk result
+            (λ paused. paused ≡ Paused.Working
+            → IsStepTaken (given program.now tables.now) self.old) }
         ensures unchanged { OnErr result (self.new ≡ self.old) }
     {
         program.linked();
         let paused = self.pause(program);
-        self.go_on(alloc, program, tables)?;
+        self.go_on(alloc, Setting { program, tables })?;
         Ok(paused)
     }
 
@@ -106,14 +113,14 @@ impl<V: View> Strand<V> {
     }
 
     /// What the phase says.
-    fn go_on(&mut self, alloc: Global, program: &Checked, tables: &Tables) -> Result<(), AllocError>
-        requires kinds { self.old.layer.kinds ≡ program.now.kinds }
-        ensures advanced { OnOk result (self.new ≡ advanced (given program.now tables.now) self.old) }
+    fn go_on(&mut self, alloc: Global, setting: Setting<'_>) -> Result<(), AllocError>
+        requires kinds { self.old.layer.kinds ≡ setting.program.now.kinds }
+        ensures advanced { OnOk result (self.new ≡ advanced (lent setting.entry) self.old) }
         ensures unchanged { OnErr result (self.new ≡ self.old) }
     {
         match self.phase {
             Phase::Entering => self.start(),
-            Phase::Running => self.work(alloc, program, tables)?,
+            Phase::Running => self.work(alloc, setting)?,
             Phase::Returning(value) => self.last_sync(value),
             Phase::Leaving(value) => self.leave(value),
             Phase::AtSpawn | Phase::Broken(_) => {}
@@ -122,45 +129,48 @@ impl<V: View> Strand<V> {
     }
 
     /// What the topmost instance has left.
-    fn work(&mut self, alloc: Global, program: &Checked, tables: &Tables) -> Result<(), AllocError>
-        requires kinds { self.old.layer.kinds ≡ program.now.kinds }
+    fn work(&mut self, alloc: Global, setting: Setting<'_>) -> Result<(), AllocError>
+        requires kinds { self.old.layer.kinds ≡ setting.program.now.kinds }
         requires running { self.old.phase ≡ Phase.Running }
-        ensures worked { OnOk result (self.new ≡ worked (given program.now tables.now) self.old.top.work self.old) }
+        ensures worked { OnOk result (self.new ≡ worked (lent setting.entry) self.old.top.work self.old) }
         ensures unchanged { OnErr result (self.new ≡ self.old) }
     {
         match self.top.work() {
-            Work::Block(place) => self.go(alloc, program, tables, place),
+            Work::Block(place) => self.go(alloc, setting, place),
             Work::Over => {
                 self.phase = Phase::Returning(0);
                 Ok(())
             }
             Work::Halves(site, halvings, share) => self.halve(
-                alloc, program, site, halvings, share,
+                alloc,
+                setting.program,
+                site,
+                halvings,
+                share,
             ),
             Work::Second(site, halvings, share) => self.second_half(alloc, site, halvings, share),
-            Work::Turns(site, share) => self.turn(alloc, program, tables, site, share),
+            Work::Turns(site, share) => self.turn(alloc, setting, site, share),
         }
     }
 
     /// The statement at that place, or the block's end.
-    fn go(
-        &mut self,
-        alloc: Global,
-        program: &Checked,
-        tables: &Tables,
-        place: Position,
-    ) -> Result<(), AllocError>
-        requires kinds { self.old.layer.kinds ≡ program.now.kinds }
+    fn go(&mut self, alloc: Global, setting: Setting<'_>, place: Position) -> Result<(), AllocError>
+        requires kinds { self.old.layer.kinds ≡ setting.program.now.kinds }
         requires running { self.old.phase ≡ Phase.Running }
-        ensures gone { OnOk result (self.new ≡ gone (given program.now tables.now) place self.old) }
+        ensures gone { OnOk result (self.new ≡ gone (lent setting.entry) place self.old) }
         ensures unchanged { OnErr result (self.new ≡ self.old) }
     {
-        match instruction(program, self.top.procedure(), self.top.depth(), place) {
+        match instruction(
+            setting.program,
+            self.top.procedure(),
+            self.top.depth(),
+            place,
+        ) {
             None => {
                 self.top.go_outside();
                 Ok(())
             }
-            Some(instruction) => self.perform(alloc, program, tables, place, instruction),
+            Some(instruction) => self.perform(alloc, setting, place, instruction),
         }
     }
 
@@ -168,24 +178,23 @@ impl<V: View> Strand<V> {
     fn perform(
         &mut self,
         alloc: Global,
-        program: &Checked,
-        tables: &Tables,
+        setting: Setting<'_>,
         place: Position,
         instruction: &Instruction,
     ) -> Result<(), AllocError>
         requires room { place.index + 1 < 2 ^ 64 }
-        requires kinds { self.old.layer.kinds ≡ program.now.kinds }
+        requires kinds { self.old.layer.kinds ≡ setting.program.now.kinds }
         requires running { self.old.phase ≡ Phase.Running }
-        ensures performed { OnOk result (self.new ≡ performed (given program.now tables.now) place instruction.now.number instruction.now.operation self.old) }
+        ensures performed { OnOk result (self.new ≡ performed (lent setting.entry) place instruction.now.number instruction.now.operation self.old) }
         ensures unchanged { OnErr result (self.new ≡ self.old) }
     {
         let number = instruction.number;
         match &instruction.operation {
-            Operation::Bind(name, value) => self.bind(tables, number, place, *name, value),
+            Operation::Bind(name, value) => self.bind(setting.tables, number, place, *name, value),
             Operation::Enter(into, way, callee, arguments) => {
                 let arguments = arguments.as_slice();
                 self.enter(
-                    alloc, program, tables, number, place, *way, *into, *callee, arguments,
+                    alloc, setting, number, place, *way, *into, *callee, arguments,
                 )
             }
             Operation::Read(name, reducer) => self.read(place, *name, *reducer),
@@ -195,15 +204,15 @@ impl<V: View> Strand<V> {
             }
             Operation::Update(reducer, values) => {
                 let values = values.as_slice();
-                self.update(alloc, program, tables, number, place, *reducer, values)
+                self.update(alloc, setting, number, place, *reducer, values)
             }
             Operation::If(condition, first, second) => {
-                self.choose(tables, number, place, condition, *first, *second)
+                self.choose(setting.tables, number, place, condition, *first, *second)
             }
             Operation::Loop(_, low, high, _, _, _) => {
-                self.repeat(alloc, tables, number, place, low, high)
+                self.repeat(alloc, setting.tables, number, place, low, high)
             }
-            Operation::Return(value) => self.give(tables, number, value),
+            Operation::Return(value) => self.give(setting.tables, number, value),
         }
     }
 

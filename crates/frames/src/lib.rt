@@ -13,6 +13,7 @@ mod loops;
 mod moves;
 mod places;
 pub mod records;
+pub mod setting;
 mod statements;
 pub mod strand;
 pub mod task;

@@ -7,11 +7,12 @@ ghost use Rattle.evaluation.specs.declared.slot.Slot.TheVariants.{Has};
 ghost use Rattle.positions.specs.Activations.{ShareFits};
 ghost use Rattle.positions.specs.Code.{loop_at, PlainLoop};
 ghost use Rattle.positions.specs.Advance.{evaluated, looping, split, halved, second_half, turned, turn_by, turn_slots, left_of as first_half_of, right_of as second_half_of, rest_of as later_of};
-ghost use Rattle.frames.specs.Given.{given};
+ghost use Rattle.frames.specs.Given.{lent};
 ghost use Rattle.frames.specs.Ends.{Evaluates, Notes};
 
 use crate::activation::{Activation, next_of};
 use crate::code::{LoopCode, loop_code};
+use crate::setting::Setting;
 use crate::strand::Strand;
 use evaluation::ranges::LoopRange;
 use evaluation::slot::Slot;
@@ -204,30 +205,28 @@ impl<V: View> Strand<V> {
     pub(crate) fn turn(
         &mut self,
         alloc: Global,
-        program: &Checked,
-        tables: &Tables,
+        setting: Setting<'_>,
         site: Loop,
         share: Share,
     ) -> Result<(), AllocError>
         requires fits { ShareFits site share }
         requires running { self.old.phase ≡ Phase.Running }
-        ensures turned { OnOk result (self.new ≡ turned (given program.now tables.now) site share self.old) }
+        ensures turned { OnOk result (self.new ≡ turned (lent setting.entry) site share self.old) }
         ensures unchanged { OnErr result (self.new ≡ self.old) }
     {
         if share.count == 0 {
             self.phase = Phase::Returning(0);
             return Ok(());
         }
-        let code = loop_code(program, self.top.procedure(), site);
-        self.iterate(alloc, program, tables, code, site, share)
+        let code = loop_code(setting.program, self.top.procedure(), site);
+        self.iterate(alloc, setting, code, site, share)
     }
 
     /// Enters the next iteration of a loop that has more.
     fn iterate(
         &mut self,
         alloc: Global,
-        program: &Checked,
-        tables: &Tables,
+        setting: Setting<'_>,
         code: LoopCode,
         site: Loop,
         share: Share,
@@ -235,12 +234,12 @@ impl<V: View> Strand<V> {
         requires fits { ShareFits site share }
         requires more { 0 < share.count }
         requires running { self.old.phase ≡ Phase.Running }
-        ensures turned { OnOk result (self.new ≡ turn_by (given program.now tables.now) (record { number = code.entry.number; variable = code.entry.variable; grain = code.entry.grain; callee = code.entry.callee; arguments = code.entry.arguments.now }) site share self.old) }
+        ensures turned { OnOk result (self.new ≡ turn_by (lent setting.entry) (record { number = code.entry.number; variable = code.entry.variable; grain = code.entry.grain; callee = code.entry.callee; arguments = code.entry.arguments.now }) site share self.old) }
         ensures unchanged { OnErr result (self.new ≡ self.old) }
     {
         let before = self.layer.readings();
-        let size = program.slots(code.callee);
-        match self.turn_entry(alloc, tables, size, code, site, share)? {
+        let size = setting.program.slots(code.callee);
+        match self.turn_entry(alloc, setting.tables, size, code, site, share)? {
             Some(slots) => {
                 let work = Work::Turns(site, rest_of(site, share));
                 match self.nest(

@@ -42,7 +42,8 @@ impl<V: View> Strand<V> {
         kit: Kit<V>,
     ) -> Result<Strand<V>, (AllocError, Kit<V>)>
         ensures first { IfOk result (λ strand. strand ≡ first_strand program.now.codes kit program.now.main) }
-        ensures beginning { kit ≡ program.now.kinds → (tables : Tables) → IfOk result (λ strand. IsFirst (setting_of program.now tables) strand) }
+        ensures beginning { kit ≡ program.now.kinds → (tables : Tables)
+            → IfOk result (λ strand. IsFirst (setting_of program.now tables) strand) }
         ensures handed_back { IfErr result (λ e. e.1 ≡ kit) }
     {
         program.linked();
@@ -90,7 +91,8 @@ impl<V: View> Strand<V> {
         kit: Kit<V>,
     ) -> Result<Strand<V>, (AllocError, Task, Kit<V>)>
         ensures stolen { IfOk result (λ strand. strand ≡ stolen program.now.codes kit task) }
-        ensures definition { kit ≡ program.now.kinds → (tables : Tables) → IfOk result (λ strand. IsStolen (setting_of program.now tables) task strand) }
+        ensures definition { kit ≡ program.now.kinds → (tables : Tables)
+            → IfOk result (λ strand. IsStolen (setting_of program.now tables) task strand) }
         ensures task_back { IfErr result (λ e. e.1 ≡ task) }
         ensures kit_back { IfErr result (λ e. e.2 ≡ kit) }
     {
@@ -247,7 +249,8 @@ impl<V: View> Strand<V> {
     /// Whether the next small step is that of an update.
     pub fn at_update(&self, program: &Checked) -> bool
         ensures update { result ≡ at_update program.now.codes self.now }
-        ensures next { (tables : Tables) → IsUpdateNext (setting_of program.now tables) self.now result }
+        ensures next { (tables : Tables)
+            → IsUpdateNext (setting_of program.now tables) self.now result }
     {
         self.updates_next(program)
     }

@@ -9,10 +9,10 @@ ghost use Rattle.positions.specs.Advance.{evaluated, moved_on, binding, reading,
 
 use crate::activation::{Activation, next_of};
 use crate::layer::Layer;
+use crate::setting::Setting;
 use crate::strand::Strand;
 use evaluation::slot::Slot;
 use input_tables::Tables;
-use linked_program::checked::Checked;
 use linked_program::code::Expression;
 use meaning::FaultKind;
 use positions::phase::Phase;
@@ -180,8 +180,7 @@ impl<V: View> Strand<V> {
     pub(crate) fn enter(
         &mut self,
         alloc: Global,
-        program: &Checked,
-        tables: &Tables,
+        setting: Setting<'_>,
         statement: u32,
         place: Position,
         way: Way,
@@ -191,12 +190,12 @@ impl<V: View> Strand<V> {
     ) -> Result<(), AllocError>
         requires room { place.index + 1 < 2 ^ 64 }
         requires running { self.old.phase ≡ Phase.Running }
-        ensures entered { OnOk result (self.new ≡ evaluated statement (entry_at tables.now.tables self.old.top.slots (slots_of program.now.codes callee) (map plain arguments.now)) (nested statement way into (Work.Block (place_after place)) callee) self.old) }
+        ensures entered { OnOk result (self.new ≡ evaluated statement (entry_at setting.entry.tables.now.tables self.old.top.slots (slots_of setting.entry.program.now.codes callee) (map plain arguments.now)) (nested statement way into (Work.Block (place_after place)) callee) self.old) }
         ensures unchanged { OnErr result (self.new ≡ self.old) }
     {
         let before = self.layer.readings();
-        let size = program.slots(callee);
-        match self.entry(alloc, tables, statement, size, arguments)? {
+        let size = setting.program.slots(callee);
+        match self.entry(alloc, setting.tables, statement, size, arguments)? {
             Some(slots) => {
                 let work = Work::Block(next_of(place));
                 match self.nest(alloc, statement, way, into, work, callee, slots) {

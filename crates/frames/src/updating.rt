@@ -9,8 +9,8 @@ ghost use Rattle.positions.specs.Advance.{evaluated, combining};
 ghost use Rattle.frames.specs.Updates.{is_list as is_list_kind, IsIdentity};
 
 use crate::layer::Layer;
+use crate::setting::Setting;
 use crate::strand::Strand;
-use input_tables::Tables;
 use linked_program::checked::Checked;
 use linked_program::code::Expression;
 use meaning::FaultKind;
@@ -35,22 +35,20 @@ impl<V: View> Strand<V> {
     pub(crate) fn update(
         &mut self,
         alloc: Global,
-        program: &Checked,
-        tables: &Tables,
+        setting: Setting<'_>,
         statement: u32,
         place: Position,
         reducer: usize,
         expressions: &[Expression],
     ) -> Result<(), AllocError>
         requires room { place.index + 1 < 2 ^ 64 }
-        requires kinds { self.old.layer.kinds ≡ program.now.kinds }
-        ensures updated { OnOk result (self.new ≡ evaluated statement (values_at tables.now.tables self.old.top.slots (map plain expressions.now)) (combining (slice_get program.now.kinds reducer) statement place reducer) self.old) }
+        requires kinds { self.old.layer.kinds ≡ setting.program.now.kinds }
+        ensures updated { OnOk result (self.new ≡ evaluated statement (values_at setting.entry.tables.now.tables self.old.top.slots (map plain expressions.now)) (combining (slice_get setting.entry.program.now.kinds reducer) statement place reducer) self.old) }
         ensures unchanged { OnErr result (self.new ≡ self.old) }
     {
         let mut numbers = mem::replace(&mut self.numbers, Vec::new(alloc));
         let outcome = self.update_by(
-            program,
-            tables,
+            setting,
             statement,
             place,
             reducer,
@@ -64,8 +62,7 @@ impl<V: View> Strand<V> {
     /// The same, by the values that are put into `numbers`.
     fn update_by(
         &mut self,
-        program: &Checked,
-        tables: &Tables,
+        setting: Setting<'_>,
         statement: u32,
         place: Position,
         reducer: usize,
@@ -73,13 +70,13 @@ impl<V: View> Strand<V> {
         numbers: &mut Vec<i64>,
     ) -> Result<(), AllocError>
         requires room { place.index + 1 < 2 ^ 64 }
-        requires kinds { self.old.layer.kinds ≡ program.now.kinds }
-        ensures updated { OnOk result (self.new ≡ evaluated statement (values_at tables.now.tables self.old.top.slots (map plain expressions.now)) (combining (slice_get program.now.kinds reducer) statement place reducer) self.old) }
+        requires kinds { self.old.layer.kinds ≡ setting.program.now.kinds }
+        ensures updated { OnOk result (self.new ≡ evaluated statement (values_at setting.entry.tables.now.tables self.old.top.slots (map plain expressions.now)) (combining (slice_get setting.entry.program.now.kinds reducer) statement place reducer) self.old) }
         ensures unchanged { OnErr result (self.new ≡ self.old) }
     {
         let before = self.layer.readings();
-        match self.values(tables, statement, expressions, numbers)? {
-            Some(()) => match self.combine(program, statement, place, reducer, numbers) {
+        match self.values(setting.tables, statement, expressions, numbers)? {
+            Some(()) => match self.combine(setting.program, statement, place, reducer, numbers) {
                 Ok(()) => Ok(()),
                 Err(AllocError) => {
                     self.forget(before);

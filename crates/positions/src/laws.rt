@@ -13,25 +13,36 @@ use crate::phase::Paused;
 /// the names that it was linked by. At the point at which a strand is said to be there is no small step, and where it is said to go on there is one. The next step is
 /// said to be an update where it is one.
 pub fn steps_are_the_definitions()
-    ensures step { (setting : Setting) → HasItsTables setting → IsLinked setting → (s : PlainStrand) → IsSmallStep setting s (advanced setting s) }
-    ensures pause { (setting : Setting) (s : PlainStrand) → IsPause setting (pause_of setting.codes s) s }
-    ensures working { (setting : Setting) (s : PlainStrand) → pause_of setting.codes s ≡ Paused.Working → IsStepTaken setting s }
-    ensures update { (setting : Setting) (s : PlainStrand) → IsUpdateNext setting s (at_update setting.codes s) }
+    ensures step { (setting : Setting) → HasItsTables setting → IsLinked setting
+        → (s : PlainStrand) → IsSmallStep setting s (advanced setting s) }
+    ensures pause { (setting : Setting) (s : PlainStrand)
+        → IsPause setting (pause_of setting.codes s) s }
+    ensures working { (setting : Setting) (s : PlainStrand)
+        → pause_of setting.codes s ≡ Paused.Working → IsStepTaken setting s }
+    ensures update { (setting : Setting) (s : PlainStrand)
+        → IsUpdateNext setting s (at_update setting.codes s) }
 {}
 
 /// The strands that begin are those of the definitions: main's, and that of a continuation which was stolen.
 pub fn beginnings_are_the_definitions()
-    ensures first { (setting : Setting) → IsLinked setting → (main : ℕ) → main ≡ main_number setting.program.tree → IsFirst setting (first_strand setting.codes setting.kinds main) }
-    ensures stolen { (setting : Setting) → IsLinked setting → (task : PlainTask) → IsStolen setting task (stolen setting.codes setting.kinds task) }
+    ensures first { (setting : Setting) → IsLinked setting
+        → (main : ℕ) → main ≡ main_number setting.program.tree
+        → IsFirst setting (first_strand setting.codes setting.kinds main) }
+    ensures stolen { (setting : Setting) → IsLinked setting
+        → (task : PlainTask) → IsStolen setting task (stolen setting.codes setting.kinds task) }
 {}
 
 /// What is taken out of a strand and put back is what the definitions take and put, and two neighbours become the strand that
 /// they say.
 pub fn moves_are_the_definitions()
     ensures inlined { (setting : Setting) (s : PlainStrand) → IsInlined setting s (inlined s) }
-    ensures detached { (setting : Setting) (s : PlainStrand) (task : PlainTask) → task.place ≡ s.path → s.below ≡ task.top ∷ task.below → IsDetached setting s (detached s) task }
-    ensures attached { (setting : Setting) (task : PlainTask) (s : PlainStrand) → IsAttached setting task s (attached task s) }
-    ensures resumed { (setting : Setting) (task : PlainTask) (s : PlainStrand) → IsResumed setting task s (resumed task s) }
+    ensures detached { (setting : Setting) (s : PlainStrand) (task : PlainTask)
+        → task.place ≡ s.path → s.below ≡ task.top ∷ task.below
+        → IsDetached setting s (detached s) task }
+    ensures attached { (setting : Setting) (task : PlainTask) (s : PlainStrand)
+        → IsAttached setting task s (attached task s) }
+    ensures resumed { (setting : Setting) (task : PlainTask) (s : PlainStrand)
+        → IsResumed setting task s (resumed task s) }
     ensures joined { (setting : Setting) (l r : PlainStrand) → IsJoined setting l r (joined l r) }
     ensures alone { (setting : Setting) (s : PlainStrand) → IsAlone setting s (lowest_alone s) }
 {}

@@ -1,6 +1,6 @@
 // A strand with its holder's deque.
 ghost use Rattle.std.specs.Prelude.{◌≡◌, ℕ, List, IfErr, IfOk, OnErr, OnOk, [], true, false};
-ghost use Rattle.frames.specs.Given.{given};
+ghost use Rattle.frames.specs.Given.{lent};
 ghost use Rattle.frames.specs.Answers.{IsAnswer};
 ghost use Rattle.numbered_runs.specs.Named.{named_state, line};
 ghost use Rattle.numbered_runs.specs.Runs.{line_of};
@@ -10,10 +10,9 @@ ghost use Rattle.worker_core.specs.Moves.{moved, takes_memory, RefusedAs, IsFit}
 
 use frames::answer::RunAnswer;
 use frames::records::Records;
+use frames::setting::Setting;
 use frames::strand::Strand;
 use frames::task::Task;
-use input_tables::Tables;
-use linked_program::checked::Checked;
 use numbered_runs::refusal::Refusal;
 use numbered_runs::step::{Place, State, StrandLine};
 use positions::phase::{Paused, Phase};
@@ -82,21 +81,20 @@ impl<V: View> Piece<V> {
     fn work(
         &mut self,
         alloc: Global,
-        program: &Checked,
-        tables: &Tables,
+        setting: Setting<'_>,
         records: &Records,
     ) -> Result<(), Refusal>
-        requires kinds { self.old.strand.layer.kinds ≡ program.now.kinds }
-        ensures taken { OnOk result ((kits : ℕ) → worked (given program.now tables.now) kits self.old ≡ alone kits self.new) }
-        ensures refused { IfErr result (λ e. (kits : ℕ) → RefusedAs true (worked (given program.now tables.now) kits self.old) e) }
+        requires kinds { self.old.strand.layer.kinds ≡ setting.program.now.kinds }
+        ensures taken { OnOk result ((kits : ℕ) → worked (lent setting.entry) kits self.old ≡ alone kits self.new) }
+        ensures refused { IfErr result (λ e. (kits : ℕ) → RefusedAs true (worked (lent setting.entry) kits self.old) e) }
         ensures unchanged { OnErr result (self.new ≡ self.old) }
     {
         // No instance is recorded yet, so the step asks for no kit.
         let mut none: Pool<Kit<V>> = Pool::new(Vec::new(alloc));
-        match self.strand.pause(program) {
+        match self.strand.pause(setting.program) {
             Paused::Working => match self
                 .strand
-                .advance(alloc, program, tables, records, &mut none)
+                .advance(alloc, setting.program, setting.tables, records, &mut none)
             {
                 Err(_) => Err(Refusal::NoMemory),
                 Ok(_) => Ok(()),
@@ -162,18 +160,17 @@ impl<V: View> Piece<V> {
     pub(crate) fn go(
         &mut self,
         alloc: Global,
-        program: &Checked,
-        tables: &Tables,
+        setting: Setting<'_>,
         records: &Records,
         step: Move,
     ) -> Result<(), Refusal>
-        requires kinds { self.old.strand.layer.kinds ≡ program.now.kinds }
-        ensures taken { OnOk result ((kits : ℕ) → moved (given program.now tables.now) step kits self.old ≡ alone kits self.new) }
-        ensures refused { IfErr result (λ e. (kits : ℕ) → RefusedAs (takes_memory step) (moved (given program.now tables.now) step kits self.old) e) }
+        requires kinds { self.old.strand.layer.kinds ≡ setting.program.now.kinds }
+        ensures taken { OnOk result ((kits : ℕ) → moved (lent setting.entry) step kits self.old ≡ alone kits self.new) }
+        ensures refused { IfErr result (λ e. (kits : ℕ) → RefusedAs (takes_memory step) (moved (lent setting.entry) step kits self.old) e) }
         ensures unchanged { OnErr result (self.new ≡ self.old) }
     {
         match step {
-            Move::Work => self.work(alloc, program, tables, records),
+            Move::Work => self.work(alloc, setting, records),
             Move::Push => self.push(alloc),
             Move::Inline => self.inline(),
             Move::Pop => self.pop(),

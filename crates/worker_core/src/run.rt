@@ -17,6 +17,7 @@ ghost use Rattle.worker_core.specs.Cores.{IsFirstCore, CannotStart, is_failure, 
 use crate::strands::Strands;
 use frames::answer::RunAnswer;
 use frames::records::Records;
+use frames::setting::Setting;
 use input_tables::Tables;
 use linked_program::checked::Checked;
 use numbered_runs::refusal::{Refusal, StartError};
@@ -128,8 +129,11 @@ impl<'a, V: View> Core<'a, V> {
         ensures total { self.new.standing.total ≡ self.old.standing.total }
         ensures kits { kits_in self.new.standing ≡ kits_in self.old.standing }
     {
-        self.strands
-            .take(alloc, self.program, self.tables, self.records, step)
+        let setting = Setting {
+            program: self.program,
+            tables: self.tables,
+        };
+        self.strands.take(alloc, setting, self.records, step)
     }
 
     /// What the type keeps: the run stands for one of the definitions, of which the elision's answer from scratch is left to do.

@@ -1,6 +1,6 @@
 // The strands of a run, the pool of kits, and the history.
 ghost use Rattle.std.specs.Prelude.{◌≡◌, All, IfErr, IfOk, OnErr, OnOk, Ok, [], length, map};
-ghost use Rattle.frames.specs.Given.{given};
+ghost use Rattle.frames.specs.Given.{lent};
 ghost use Rattle.numbered_runs.specs.Named.{line};
 ghost use Rattle.numbered_runs.specs.Runs.{changed, first_run, line_of};
 ghost use Rattle.worker_core.specs.Cores.{CannotStart};
@@ -9,8 +9,8 @@ ghost use Rattle.worker_core.specs.Standing.{held_at, behind_from, run_of, kits_
 
 use crate::piece::{Move, Piece};
 use frames::records::Records;
+use frames::setting::Setting;
 use frames::strand::Strand;
-use input_tables::Tables;
 use linked_program::checked::Checked;
 use numbered_runs::refusal::{Refusal, StartError};
 use numbered_runs::step::{BookStep, StrandLine};
@@ -67,23 +67,22 @@ impl<V: View> Strands<V> {
     pub(crate) fn go(
         &mut self,
         alloc: Global,
-        program: &Checked,
-        tables: &Tables,
+        setting: Setting<'_>,
         records: &Records,
         step: Move,
         worker: usize,
     ) -> Result<(), Refusal>
-        requires fit { AreFit program.now.kinds self.old }
-        ensures taken { OnOk result (changed Refusal.NotThere worker (moved (given program.now tables.now) step (length self.old.kits)) [] self.old.pieces self.old.history ≡ Ok (run_of self.new)) }
-        ensures refused { IfErr result (RefusedAs (takes_memory step) (changed Refusal.NotThere worker (moved (given program.now tables.now) step (length self.old.kits)) [] self.old.pieces self.old.history)) }
+        requires fit { AreFit setting.program.now.kinds self.old }
+        ensures taken { OnOk result (changed Refusal.NotThere worker (moved (lent setting.entry) step (length self.old.kits)) [] self.old.pieces self.old.history ≡ Ok (run_of self.new)) }
+        ensures refused { IfErr result (RefusedAs (takes_memory step) (changed Refusal.NotThere worker (moved (lent setting.entry) step (length self.old.kits)) [] self.old.pieces self.old.history)) }
         ensures unchanged { OnErr result (self.new ≡ self.old) }
-        ensures fit { AreFit program.now.kinds self.new }
+        ensures fit { AreFit setting.entry.program.now.kinds self.new }
         ensures total { self.new.total ≡ self.old.total }
         ensures kits { kits_in self.new ≡ kits_in self.old }
     {
         match held_at(&self.pieces, worker) {
             None => Err(Refusal::NotThere),
-            Some(number) => self.pieces[number].go(alloc, program, tables, records, step),
+            Some(number) => self.pieces[number].go(alloc, setting, records, step),
         }
     }
 }

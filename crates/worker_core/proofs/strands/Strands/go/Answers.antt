@@ -1,5 +1,5 @@
 use Rattle.std.proofs.Common.{rules, ◌≡◌, ◌<◌, OnOk, IfErr, Ok, Some, None, [], length, map, slice_set, sym, ap, subst, ◌∙◌}
-use Rattle.frames.specs.Given.{given}
+use Rattle.frames.specs.Given.{lent}
 use Rattle.numbered_runs.specs.Named.{book_step}
 use Rattle.numbered_runs.specs.Runs.{changed}
 use Rattle.numbered_runs.specs.declared.refusal.Refusal.TheVariants.{NotThere}
@@ -20,40 +20,40 @@ pub go-requires-clause-kinds : goal.go-requires-clause-kinds
 go-requires-clause-kinds g c κs within =
     let here : held_at c.args.worker c.self.inside.pieces.items ≡ Some c.in-Some.number = sym (c.in-Some.ensures.held ∙ ap (held_at c.args.worker) c.deref.ensures.value) in
     let less : c.in-Some.number < length c.self.inside.pieces.items = held_within c.args.worker c.in-Some.number c.self.inside.pieces.items here in
-    let fit : IsFit c.args.program.now.kinds c.index_mut.result.now =
-    piece_fit c.args.program.now.kinds c.args.self.now c.self.inside.pieces.items c.in-Some.number c.index_mut.result.now (sym (ap (λ (s : Standing). s.pieces) c.self.view_is)) less c.index_mut.ensures.value c.requires.fit in
+    let fit : IsFit c.args.setting.program.now.kinds c.index_mut.result.now =
+    piece_fit c.args.setting.program.now.kinds c.args.self.now c.self.inside.pieces.items c.in-Some.number c.index_mut.result.now (sym (ap (λ (s : Standing). s.pieces) c.self.view_is)) less c.index_mut.ensures.value c.requires.fit in
     fit.views
 
 pub returns-in-None-clause-refused : goal.returns-in-None-clause-refused
 returns-in-None-clause-refused g c =
     let none : held_at c.args.worker c.self.inside.pieces.items ≡ None = sym (c.in-None.ensures.held ∙ ap (held_at c.args.worker) c.deref.ensures.value) in
-    subst (λ (s : Standing). RefusedAs (takes_memory c.args.step) (changed NotThere c.args.worker (moved (given c.args.program.now c.args.tables.now) c.args.step (length s.kits)) [] s.pieces s.history) NotThere) c.self.view_is
-    (none_refused (takes_memory c.args.step) c.args.worker c.self.inside.pieces.items NotThere (moved (given c.args.program.now c.args.tables.now) c.args.step (length c.self.inside.pool.kits)) (map book_step c.self.inside.history.items) none)
+    subst (λ (s : Standing). RefusedAs (takes_memory c.args.step) (changed NotThere c.args.worker (moved (lent c.args.setting) c.args.step (length s.kits)) [] s.pieces s.history) NotThere) c.self.view_is
+    (none_refused (takes_memory c.args.step) c.args.worker c.self.inside.pieces.items NotThere (moved (lent c.args.setting) c.args.step (length c.self.inside.pool.kits)) (map book_step c.self.inside.history.items) none)
 
 pub returns-in-Some-clause-taken : goal.returns-in-Some-clause-taken
 returns-in-Some-clause-taken g c =
     let here : held_at c.args.worker c.self.inside.pieces.items ≡ Some c.in-Some.number = sym (c.in-Some.ensures.held ∙ ap (held_at c.args.worker) c.deref.ensures.value) in
-    subst (λ (s : Standing). OnOk c.go.result (changed NotThere c.args.worker (moved (given c.args.program.now c.args.tables.now) c.args.step (length s.kits)) [] s.pieces s.history
+    subst (λ (s : Standing). OnOk c.go.result (changed NotThere c.args.worker (moved (lent c.args.setting) c.args.step (length s.kits)) [] s.pieces s.history
     ≡ Ok (record { pieces = slice_set c.self.inside.pieces.items c.in-Some.number c.go.new.self; kits = length c.self.inside.pool.kits; history = map book_step c.self.inside.history.items }))) c.self.view_is
-    (moves_taken c.go.result c.args.worker c.in-Some.number c.self.inside.pieces.items (moved (given c.args.program.now c.args.tables.now) c.args.step) c.index_mut.result.now c.go.new.self here c.index_mut.ensures.value
+    (moves_taken c.go.result c.args.worker c.in-Some.number c.self.inside.pieces.items (moved (lent c.args.setting) c.args.step) c.index_mut.result.now c.go.new.self here c.index_mut.ensures.value
     NotThere (length c.self.inside.pool.kits) (map book_step c.self.inside.history.items) c.go.ensures.taken)
 
 pub returns-in-Some-clause-refused : goal.returns-in-Some-clause-refused
 returns-in-Some-clause-refused g c =
     let here : held_at c.args.worker c.self.inside.pieces.items ≡ Some c.in-Some.number = sym (c.in-Some.ensures.held ∙ ap (held_at c.args.worker) c.deref.ensures.value) in
-    subst (λ (s : Standing). IfErr c.go.result (RefusedAs (takes_memory c.args.step) (changed NotThere c.args.worker (moved (given c.args.program.now c.args.tables.now) c.args.step (length s.kits)) [] s.pieces s.history))) c.self.view_is
-    (moves_refused c.go.result c.args.worker c.in-Some.number c.self.inside.pieces.items (moved (given c.args.program.now c.args.tables.now) c.args.step) c.index_mut.result.now c.go.new.self here c.index_mut.ensures.value
+    subst (λ (s : Standing). IfErr c.go.result (RefusedAs (takes_memory c.args.step) (changed NotThere c.args.worker (moved (lent c.args.setting) c.args.step (length s.kits)) [] s.pieces s.history))) c.self.view_is
+    (moves_refused c.go.result c.args.worker c.in-Some.number c.self.inside.pieces.items (moved (lent c.args.setting) c.args.step) c.index_mut.result.now c.go.new.self here c.index_mut.ensures.value
     (takes_memory c.args.step) NotThere (length c.self.inside.pool.kits) (map book_step c.self.inside.history.items) c.go.ensures.refused)
 
 pub returns-in-Some-clause-fit : goal.returns-in-Some-clause-fit
 returns-in-Some-clause-fit g c =
     let here : held_at c.args.worker c.self.inside.pieces.items ≡ Some c.in-Some.number = sym (c.in-Some.ensures.held ∙ ap (held_at c.args.worker) c.deref.ensures.value) in
     let less : c.in-Some.number < length c.self.inside.pieces.items = held_within c.args.worker c.in-Some.number c.self.inside.pieces.items here in
-    let all : AreFit c.args.program.now.kinds (record { pieces = c.self.inside.pieces.items; kits = c.self.inside.pool.kits; total = c.self.inside.pool.total; history = map book_step c.self.inside.history.items }) =
-    subst (AreFit c.args.program.now.kinds) (sym c.self.view_is) c.requires.fit in
-    let fit : IsFit c.args.program.now.kinds c.index_mut.result.now =
-    piece_fit c.args.program.now.kinds c.args.self.now c.self.inside.pieces.items c.in-Some.number c.index_mut.result.now (sym (ap (λ (s : Standing). s.pieces) c.self.view_is)) less c.index_mut.ensures.value c.requires.fit in
+    let all : AreFit c.args.setting.program.now.kinds (record { pieces = c.self.inside.pieces.items; kits = c.self.inside.pool.kits; total = c.self.inside.pool.total; history = map book_step c.self.inside.history.items }) =
+    subst (AreFit c.args.setting.program.now.kinds) (sym c.self.view_is) c.requires.fit in
+    let fit : IsFit c.args.setting.program.now.kinds c.index_mut.result.now =
+    piece_fit c.args.setting.program.now.kinds c.args.self.now c.self.inside.pieces.items c.in-Some.number c.index_mut.result.now (sym (ap (λ (s : Standing). s.pieces) c.self.view_is)) less c.index_mut.ensures.value c.requires.fit in
     record {
-      pieces = set_fit c.args.program.now.kinds _ c.in-Some.number c.go.new.self all (moves_fit (given c.args.program.now c.args.tables.now) c.args.program.now.kinds c.args.step c.go.result c.index_mut.result.now c.go.new.self fit c.go.ensures.taken c.go.ensures.unchanged);
+      pieces = set_fit c.args.setting.program.now.kinds _ c.in-Some.number c.go.new.self all (moves_fit (lent c.args.setting) c.args.setting.program.now.kinds c.args.step c.go.result c.index_mut.result.now c.go.new.self fit c.go.ensures.taken c.go.ensures.unchanged);
       kits = all.kits;
     }
