@@ -1,6 +1,5 @@
 -- A record that takes the place of another in a set.
-use Rattle.std.proofs.Common.{◌≡◌, true≢false, ℕ, suc, ◌+◌, ◌≤◌, ◌<◌, Bool, true, false, cond, ◌||◌, List, [], ◌∷◌, ◌++◌, length, if◌then◌else◌, refl, sym, ap, ◌∙◌, arith}
-use Rattle.std.specs.Prelude.{Result, Ok, Err, IsOk, OnOk}
+use Rattle.std.proofs.Common.{◌≡◌, ℕ, suc, ◌+◌, ◌≤◌, ◌<◌, Bool, true, false, cond, ◌||◌, List, [], ◌∷◌, ◌++◌, length, if◌then◌else◌, refl, sym, ap, ◌∙◌, arith}
 use Rattle.std.specs.List.{list_any}
 use Rattle.indexmap.specs.IndexSet.{replace_key, swap_key}
 use Rattle.rerun_records.specs.Record.{PlainRecord, same_instance}
@@ -17,11 +16,6 @@ replaced_is_put (s ∷ ss) r =
       | true ↦ refl
       | false ↦ behind_both (list_any (same_instance r) ss) s (swap_key (same_instance r) ss r) (ss ++ r ∷ []) ∙ ap (λ xs. s ∷ xs) (replaced_is_put ss r)
     ]
-
--- what holds of an answer without an error
-pub where_ok : {A E P : Type 0} (answer : Result A E) → IsOk answer → OnOk answer P → P
-where_ok (Ok a) i h = h
-where_ok (Err e) i h = absurd (true≢false (sym i))
 
 -- one more record was put in
 pub still_put : (before now rest all whole : List PlainRecord) (r : PlainRecord)

@@ -1,9 +1,9 @@
 //! The records of a session.
-ghost use Rattle.std.specs.Prelude.{◌≡◌, ◌↔◌, IsTrue, [], length, ◌≤◌, OnOk, OnErr, option_copied};
+ghost use Rattle.std.specs.Prelude.{◌≡◌, ◌↔◌, IsTrue, [], length, ◌<◌, ◌≤◌, ◌+◌, OnOk, OnErr, option_copied};
 ghost use Rattle.std.specs.Cmp.Rules.{comparing, hashing};
-ghost use Rattle.indexmap.specs.IndexSet.{spare};
+ghost use Rattle.indexmap.specs.IndexSet.{spare, replace_key};
 ghost use Rattle.std.proofs.Common.{rules};
-ghost use Rattle.rerun_records.specs.Record.{is_of};
+ghost use Rattle.rerun_records.specs.Record.{is_of, same_instance};
 ghost use Rattle.rerun_records.specs.Validity.{valid_at};
 ghost use Rattle.rerun_records.specs.Commits.{put_records, AreSingle};
 ghost use Rattle.rerun_records.specs.Named.{looked_up, FindsNamed, CommitsNamed};
@@ -159,6 +159,16 @@ fn put_all(by_instance: &mut IndexSet<Record>, records: Vec<Record>)
     ensures single { AreSingle by_instance.new.keys }
 {
     for record in records {
-        let _ = by_instance.replace(record).unwrap();
+        put(by_instance, record);
     }
+}
+
+// Puts a record in, for which there is room.
+fn put(by_instance: &mut IndexSet<Record>, made: Record)
+    requires room { 0 < spare by_instance.old }
+    ensures put { by_instance.new.keys ≡ replace_key same_instance by_instance.old.keys made }
+    ensures room { spare by_instance.old ≤ spare by_instance.new + 1 }
+    ensures single { AreSingle by_instance.new.keys }
+{
+    let _ = by_instance.replace(made).unwrap();
 }

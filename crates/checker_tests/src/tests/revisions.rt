@@ -38,6 +38,7 @@ fn assert_numbered(rt: &impl Abort, program: &Checked, procedures: &[(&str, u64)
     for (number, (name, revision)) in procedures.iter().enumerate() {
         assert_eq!(rt; program.procedure(name), Some(number), "of {name}");
         assert_eq!(rt; program.revision(name), Some(*revision), "of {name}");
+        assert_eq!(rt; program.revision_at(number), Some(*revision), "of {name}");
     }
     assert_eq!(rt; program.counter(), counter);
 }
