@@ -85,7 +85,14 @@ fn entering_a_procedure_goes_by_its_number(rt: HostRuntime) {
     let text = "memo proc leaf(v, w) { return v; }
 proc main() { return 5; }";
     let program = checked(&rt, rt.alloc(), text);
-    assert_eq!(rt; (program.is_memo(0), program.is_memo(1), program.is_memo(2)), (true, false, false));
-    let revisions = (program.revision_at(0), program.revision_at(1), program.revision_at(2));
+    assert_eq!(rt;
+        (program.is_memo(0), program.is_memo(1), program.is_memo(2)),
+        (true, false, false)
+    );
+    let revisions = (
+        program.revision_at(0),
+        program.revision_at(1),
+        program.revision_at(2),
+    );
     assert_eq!(rt; revisions, (Some(0), Some(1), None));
 }
