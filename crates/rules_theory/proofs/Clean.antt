@@ -7,9 +7,8 @@ use Rattle.program_tree.specs.declared.Declaration.TheVariants as d
 use Rattle.program_tree.specs.Plain.{Name, Deed, Body, step, Proc, Tree}
 use Rattle.program_tree.specs.View.{decl, lined, proc, red, block_lines}
 use Rattle.meaning.specs.Statements.{procedure_of}
-use Rattle.linked_program.specs.declared.violation.Rule.{Rule}
 use Rattle.linked_program.specs.declared.violation.Violation.{Violation}
-use Rattle.linked_program.specs.Violations.{at, when}
+use Rattle.linked_program.specs.Violations.{at}
 use Rattle.linked_program.specs.TableNames.{Columned}
 use Rattle.linked_program.specs.Scope.{Scope, moment, after_deed}
 use Rattle.linked_program.specs.Rules.{Setting, deed_rules}

@@ -1,5 +1,6 @@
 pub mod Clean
 pub mod Reading
+pub mod Numbered
 pub mod Monoids
 pub mod Moments
 pub mod Known

@@ -34,30 +34,32 @@ module _ (s : Setting) where
   pub own_of : (now : Moment) (scope : Scope) (d : Deed) → late_rules (s.in_main && (now.depth == 0)) scope d ++ own_rules s now scope d ≡ [] → own_rules s now scope d ≡ []
   own_of now scope d e = nil_right (late_rules (s.in_main && (now.depth == 0)) scope d) (own_rules s now scope d) e
 
-  mutual
-    enters_deed : (now : Moment) (scope : Scope) (d : Deed) → own_rules s now scope d ≡ [] → inner_violations s now scope d ≡ [] → EntersOnlyDeed IsOther d
-    enters_deed now scope (bind x e) r v = tt
-    enters_deed now scope (enter x way f es) r v =
-        enters_other s.program f (length es) (nil_right (target_rules scope x) (enter_rules s.program f (length es)) (nil_right (terms_rules s.tables scope es) (target_rules scope x ++ enter_rules s.program f (length es)) r))
-    enters_deed now scope (read x q) r v = tt
-    enters_deed now scope sync r v = tt
-    enters_deed now scope (update q es) r v = tt
-    enters_deed now scope (choose e a b) r v =
-        let one = body_violations s (now.depth + 1) 1 scope a in
-        let two = body_violations s (now.depth + 1) 1 (second now scope a) b in
-        (enters_body (now.depth + 1) 1 scope a (nil_left one two v), enters_body (now.depth + 1) 1 (second now scope a) b (nil_right one two v))
-    enters_deed now scope (loop x e f grain g es) r v =
-        let terms = terms_rules s.tables (bound now false scope x) es in
-        let rules = enter_rules s.program g (length es) in
-        enters_other s.program g (length es) (nil_right terms rules (nil_right (range_rules s scope x e f) (terms ++ rules) r))
-    enters_deed now scope (give e) r v = tt
+  -- what is entered keeps what the rules of entering give
+  module _ (P : Name → Type 0) (entered : (f : Name) (count : ℕ) → enter_rules s.program f count ≡ [] → P f) where
+    mutual
+      enters_deed : (now : Moment) (scope : Scope) (d : Deed) → own_rules s now scope d ≡ [] → inner_violations s now scope d ≡ [] → EntersOnlyDeed P d
+      enters_deed now scope (bind x e) r v = tt
+      enters_deed now scope (enter x way f es) r v =
+          entered f (length es) (nil_right (target_rules scope x) (enter_rules s.program f (length es)) (nil_right (terms_rules s.tables scope es) (target_rules scope x ++ enter_rules s.program f (length es)) r))
+      enters_deed now scope (read x q) r v = tt
+      enters_deed now scope sync r v = tt
+      enters_deed now scope (update q es) r v = tt
+      enters_deed now scope (choose e a b) r v =
+          let one = body_violations s (now.depth + 1) 1 scope a in
+          let two = body_violations s (now.depth + 1) 1 (second now scope a) b in
+          (enters_body (now.depth + 1) 1 scope a (nil_left one two v), enters_body (now.depth + 1) 1 (second now scope a) b (nil_right one two v))
+      enters_deed now scope (loop x e f grain g es) r v =
+          let terms = terms_rules s.tables (bound now false scope x) es in
+          let rules = enter_rules s.program g (length es) in
+          entered g (length es) (nil_right terms rules (nil_right (range_rules s scope x e f) (terms ++ rules) r))
+      enters_deed now scope (give e) r v = tt
 
-    enters_body : (depth place : ℕ) (scope : Scope) (b : Body) → body_violations s depth place scope b ≡ [] → EntersOnly IsOther b
-    enters_body depth place scope end v = tt
-    enters_body depth place scope (step n d rest) v = (
-      enters_deed (moment depth place) scope d (own_of (moment depth place) scope d (first_deed s depth place scope n d rest v)) (inside_deed s depth place scope n d rest v),
-      enters_body depth (place + 1) (after_deed (moment depth place) scope d) rest (later_deeds s depth place scope n d rest v),
-    )
+      pub enters_body : (depth place : ℕ) (scope : Scope) (b : Body) → body_violations s depth place scope b ≡ [] → EntersOnly P b
+      enters_body depth place scope end v = tt
+      enters_body depth place scope (step n d rest) v = (
+        enters_deed (moment depth place) scope d (own_of (moment depth place) scope d (first_deed s depth place scope n d rest v)) (inside_deed s depth place scope n d rest v),
+        enters_body depth (place + 1) (after_deed (moment depth place) scope d) rest (later_deeds s depth place scope n d rest v),
+      )
 
 -- ---- no reads elsewhere than in main's outermost block
 
@@ -354,7 +356,7 @@ main_reads_at_its_end ts p clean =
       elsewhere = λ f other. by_name t ts f (λ q. NoReads q.body) tt
           (λ q k. unread_body (setting_of t ts (k.clean.place + 1) q k.clean.lines) 0 1 (scope_of q.parameters (length q.names)) q.body (not_of_main q f k.named other) k.clean.body) (named f) (procedure_of t f) refl;
       alone = λ f. by_name t ts f (λ q. EntersOnly IsOther q.body) tt
-          (λ q k. enters_body (setting_of t ts (k.clean.place + 1) q k.clean.lines) 0 1 (scope_of q.parameters (length q.names)) q.body k.clean.body) (named f) (procedure_of t f) refl;
+          (λ q k. enters_body (setting_of t ts (k.clean.place + 1) q k.clean.lines) IsOther (enters_other t) 0 1 (scope_of q.parameters (length q.names)) q.body k.clean.body) (named f) (procedure_of t f) refl;
       unrecorded = by_name t ts main (λ q. q.memo ≡ false) refl
           (λ q k.
           let twice = when (is_there (procedure_of (take k.clean.place t) q.called)) Twice in

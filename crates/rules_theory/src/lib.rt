@@ -7,7 +7,9 @@ ghost use Rattle.program_tree.specs.declared.Program.{Program};
 ghost use Rattle.program_tree.specs.View.{tree};
 ghost use Rattle.linked_program.specs.TableNames.{Columned};
 ghost use Rattle.linked_program.specs.Declarations.{IsClean};
-ghost use Rattle.linked_program.specs.Checked.{PlainChecked, IsChecked};
+ghost use Rattle.linked_program.specs.Checked.{PlainChecked, IsChecked, revised_of};
+ghost use Rattle.trail_theory.specs.Defines.{IsComplete};
+ghost use Rattle.trail_theory.specs.OpenLayers.{IsNumbered};
 ghost use Rattle.trail_theory.specs.ReadsAtEnd.{ReadsAtMainsEnd, KeepsRules};
 ghost use Rattle.trail_theory.specs.Typed.{HasMonoids};
 ghost use Rattle.trail_theory.specs.Waiting.{UsesNoWaitingName};
@@ -37,4 +39,15 @@ pub fn checked_programs_keep_the_rules()
     ensures kept { (checked : PlainChecked) → IsChecked checked → KeepsRules (tree checked.program) }
     ensures monoids { (checked : PlainChecked) → IsChecked checked → HasMonoids (tree checked.program) }
     ensures kinds { (checked : PlainChecked) → IsChecked checked → All IsMonoid checked.kinds }
+{}
+
+/// In a program that breaks no rule each procedure that is called, spawned or looped over is there.
+pub fn clean_programs_are_complete()
+    ensures complete { (tables : List Columned) (program : Program) → IsClean tables program
+        → IsComplete (tree program) }
+{}
+
+/// The procedures of a checked program have revision numbers, each of which was used before.
+pub fn checked_programs_are_numbered()
+    ensures numbered { (checked : PlainChecked) → IsChecked checked → IsNumbered (revised_of checked) }
 {}
