@@ -12,7 +12,7 @@ use Rattle.program_tree.specs.View.{tree}
 use Rattle.meaning.specs.Outcome.{Reading, CellHeld, HasHeld, LimitHeld}
 use Rattle.meaning.specs.Records.{agrees, is_current, same_number, same_bool, same_args}
 use Rattle.meaning.specs.Statements.{procedure_of}
-use Rattle.meaning.specs.Tables.{Tables, place_of, is_there, row_of, above_all}
+use Rattle.meaning.specs.Tables.{Tables, index_of, is_there, row_of, above_all}
 use Rattle.linked_program.specs.Checked.{PlainChecked, names_in}
 use Rattle.linked_program.specs.Linked.{procedure_number}
 use Rattle.linked_program.specs.Procedures.{procedures}
@@ -55,14 +55,14 @@ same_name t f g known =
     (λ h. (Decides-eqb (procedure_number (procedures t) f) (procedure_number (procedures t) g)).1 (ap (procedure_number (procedures t)) (sym ((bytes_eq-Decides g f).0 h))))
     (λ h. (bytes_eq-Decides g f).1 (name_of_number t f g known ((Decides-eqb (procedure_number (procedures t) f) (procedure_number (procedures t) g)).0 h)))
 
-number_is_place : (f : Name) (ps : List Proc) → procedure_number ps f ≡ place_of (map (λ p. p.called) ps) f
+number_is_place : (f : Name) (ps : List Proc) → procedure_number ps f ≡ index_of (map (λ p. p.called) ps) f
 number_is_place f [] = refl
 number_is_place f (p ∷ ps) = ap (λ (n : ℕ). cond (bytes_eq p.called f) 0 (suc n)) (number_is_place f ps)
 
-current_at : (revisions : List (Name × ℕ)) (f : Name) (n : ℕ) → is_current revisions (f, n) ≡ has_revision revisions (place_of (names_in revisions) f, n)
+current_at : (revisions : List (Name × ℕ)) (f : Name) (n : ℕ) → is_current revisions (f, n) ≡ has_revision revisions (index_of (names_in revisions) f, n)
 current_at [] f n = refl
 current_at (e ∷ es) f n =
-    elim (bytes_eq e.0 f) as (λ b. cond b (nat_eq e.1 n) (is_current es (f, n)) ≡ is_revision (slice_get (e ∷ es) (cond b 0 (suc (place_of (names_in es) f)))) n) [
+    elim (bytes_eq e.0 f) as (λ b. cond b (nat_eq e.1 n) (is_current es (f, n)) ≡ is_revision (slice_get (e ∷ es) (cond b 0 (suc (index_of (names_in es) f)))) n) [
       | true ↦ refl
       | false ↦ current_at es f n
     ]
@@ -70,7 +70,7 @@ current_at (e ∷ es) f n =
 pub current_is : (program : PlainChecked) → IsListed program → (e : Name × ℕ) → is_current program.revisions e ≡ has_revision program.revisions (numbered_entry program e)
 current_is program listed e =
     current_at program.revisions e.0 e.1
-    ∙ ap (λ (n : ℕ). has_revision program.revisions (n, e.1)) (ap (λ (ns : List Name). place_of ns e.0) listed ∙ sym (number_is_place e.0 (procedures (tree program.program))))
+    ∙ ap (λ (n : ℕ). has_revision program.revisions (n, e.1)) (ap (λ (ns : List Name). index_of ns e.0) listed ∙ sym (number_is_place e.0 (procedures (tree program.program))))
 
 -- ---- readings
 

@@ -1,5 +1,5 @@
 -- Records as plain values: everything in them goes by number.
-use Rattle.std.specs.Prelude.{ℕ, nat_eq, ℤ, Bool, ◌&&◌, List, map}
+use Rattle.std.specs.Prelude.{ℕ, nat_eq, nat_le, ℤ, Bool, ◌&&◌, List, map}
 use Rattle.std.specs.Cmp.Lexicographic.{pointwise}
 use Rattle.std.specs.Ordering.{int_eq}
 use Rattle.monoid_laws.specs.Worth.{Worth}
@@ -26,6 +26,12 @@ abbrev pub note_of : Reading → Note
 note_of (r.Cell t c row v) = n.Cell t row c v
 note_of (r.Has t row there) = n.Has t row there
 note_of (r.Limit t v) = n.Limit t v
+
+-- the numbers of its table and column take two bytes each at most
+abbrev pub is_short : Note → Bool
+is_short (n.Cell t row c v) = nat_le t 65535 && nat_le c 65535
+is_short (n.Has t row there) = nat_le t 65535
+is_short (n.Limit t v) = nat_le t 65535
 
 -- a reducer's number and its value
 abbrev pub touched : ℕ × Val → ℕ × Worth

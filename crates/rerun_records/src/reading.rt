@@ -1,6 +1,6 @@
 // Readings in fewer bytes.
-ghost use Rattle.std.specs.Prelude.{◌≡◌, IfOk, IfSome, map};
-ghost use Rattle.rerun_records.specs.Record.{note_of};
+ghost use Rattle.std.specs.Prelude.{◌≡◌, IfOk, IfSome, is_some, nat_le, map};
+ghost use Rattle.rerun_records.specs.Record.{note_of, is_short};
 
 use evaluation::note::Note;
 use std::alloc::{AllocError, Global};
@@ -28,6 +28,7 @@ pub enum Reading {
 // The number in two bytes, where it fits.
 fn short(number: usize) -> Option<u16>
     ensures same { IfSome result (λ n. n ≡ number) }
+    ensures there { is_some result ≡ nat_le number 65535 }
 {
     if number <= 65535 {
         Some(number as u16)
@@ -40,6 +41,7 @@ impl Reading {
     /// The note in fewer bytes; none where the number of a table or column is too large, which no program's is.
     pub fn new(note: &Note) -> Option<Reading>
         ensures made { IfSome result (λ r. note_of r ≡ note.now) }
+        ensures there { is_some result ≡ is_short note.now }
     {
         match note {
             Note::Cell {
