@@ -1,0 +1,143 @@
+#!/usr/bin/env python3
+"""Checks one crate over libraries that are kept by their content, so that a library is proved once and not once a clone.
+
+usage: tools/check.py CRATE [FLAGS OF rattle check ..]   proves the crate: --only FN, --allow-holes, --test, --jobs N ..
+       tools/check.py CRATE --lib                        proves it and keeps its library for the crates above
+       tools/check.py CRATE --run [WORD]                 proves, builds and runs its tests, those whose names have WORD
+       tools/check.py CRATE --edits [EDIT ..]            tries its must-fail edits: each has to be refused
+       tools/check.py CRATE --plant [FLAGS OF rt plant]  lists the wrong bodies that its contracts let through
+       tools/check.py --type CRATE ..                    reads the crates and their tests from sources: types and borrows
+
+Libraries below that aren't kept yet are proved first. They are kept in $HEARTSPLUM_LIBRARIES, or ~/.cache/heartsplum, by
+the sum of the sources that they are made of; rt's own checks know nothing of them. What a check has proved of the crate
+itself stays in the crate's folder out/, so a check again takes seconds. None of this is a verdict: the gate is `rt ci`.
+It works by what this kit's rt is made of, and says so where that is otherwise.
+"""
+import fcntl
+import importlib.machinery
+import importlib.util
+import os
+import shutil
+import sys
+import tempfile
+
+TOP = os.path.dirname(os.path.dirname(os.path.realpath(__file__)))
+KEPT_IN = os.environ.get("HEARTSPLUM_LIBRARIES", os.path.expanduser("~/.cache/heartsplum"))
+KIT = os.path.dirname(os.path.realpath(shutil.which("rt") or sys.exit("rt is not on the path")))
+
+
+def program(name):
+    """A program of the kit as a module."""
+    loader = importlib.machinery.SourceFileLoader(name.replace("-", "_"), f"{KIT}/{name}")
+    module = importlib.util.module_from_spec(importlib.util.spec_from_loader(loader.name, loader))
+    loader.exec_module(module)
+    return module
+
+
+sys.path.insert(0, KIT)
+sys.dont_write_bytecode = True
+import rtlib  # noqa: E402  (found by the path above)
+
+if not all(hasattr(rtlib, name) for name in ("Crate", "RATTLE", "KEPT", "guarded")):
+    sys.exit("this kit's rt is made otherwise than this tool knows of")
+
+
+def keeps_libraries(crate_type):
+    """Has crates of that type read the libraries below them from where they are kept."""
+    made_of, crate_type.sums = crate_type.stamp, {}
+
+    def stamp(self):
+        if self.folder not in self.sums:
+            self.sums[self.folder] = made_of(self)
+        return self.sums[self.folder]
+
+    def library(self):
+        return f"{KEPT_IN}/{self.name}/{stamp(self)[:24]}/{self.name}.rlib"
+
+    crate_type.stamp = stamp
+    crate_type.rlib = property(library, lambda self, path: None)
+    crate_type.is_built = lambda self: os.path.isdir(self.rlib)
+    crate_type.build_rlib = lambda self, flags, anew: make(self)
+
+
+def make(crate):
+    """Proves the crate, and keeps its library; the work stays in the crate's out/ too."""
+    room, file = os.path.split(crate.rlib)
+    os.makedirs(os.path.dirname(room), exist_ok=True)
+    with open(f"{room}.lock", "w", encoding="utf-8") as lock:
+        fcntl.flock(lock, fcntl.LOCK_EX)
+        if os.path.isdir(crate.rlib):
+            return 0
+        print(f"making the library {crate.name}", flush=True)
+        made = tempfile.mkdtemp(dir=os.path.dirname(room))
+        words = [*crate.words(["--jobs", "1"], keeps=False), *rtlib.KEPT]
+        status = crate.call(rtlib.RATTLE, "build", *words, "-o", f"{made}/{file}")
+        crate.sums.clear()
+        if status or os.path.dirname(crate.rlib) != room:
+            shutil.rmtree(made)
+            return status or print("the sources were changed meanwhile: once more") or 1
+        os.rename(made, room)
+        return 0
+
+
+def typed(crate):
+    """Reads the crate and its tests from sources."""
+    tests = ["--test"] * crate.has_tests()
+    return crate.call(rtlib.RATTLE, "check", *crate.words(["--jobs", "1", "--only", "", *tests], as_source=True))
+
+
+def edits(crate, names):
+    """Tries the crate's must-fail edits, each over what was proved of the crate."""
+    rt = program("rt")
+    found, wrong = rt.edits_of(crate)
+    kept = f"{crate.folder}/{rtlib.KEPT[1]}"
+    os.makedirs(kept, exist_ok=True)
+    failed = len(wrong)
+    for edit in found:
+        if not names or os.path.basename(edit)[: -len(".edit")] in names:
+            is_refused, said = rt.must_fail(crate, edit, ["--jobs", "1"], kept)
+            failed += not is_refused
+            print(said, flush=True)
+    return int(failed > 0)
+
+
+def plants(crate, flags):
+    """Lists the wrong bodies that the crate's contracts let through."""
+    plant = program("rt-plant")
+    keeps_libraries(plant.rt.Crate)
+    os.chdir(crate.folder)
+    return plant.main(*flags)
+
+
+def crate_of(name):
+    return rtlib.Crate(f"{TOP}/crates/{name}", TOP, {})
+
+
+def main(words):
+    if not words or words[0] in ("-h", "--help"):
+        print(__doc__)
+        return 0
+    os.chdir(TOP)
+    rtlib.guarded()
+    rtlib.Crate.may_have_bugs = rtlib.Crate.may_be_empty = True
+    keeps_libraries(rtlib.Crate)
+    if words[0] == "--type":
+        return max([typed(crate_of(name)) for name in words[1:]], default=0)
+    crate, flags = crate_of(words[0]), words[1:]
+    if any(make(below) for below in crate.below()):
+        return 1
+    verb, rest = (flags[0], flags[1:]) if flags else ("", [])
+    if verb == "--edits":
+        return edits(crate, rest)
+    if verb == "--plant":
+        return plants(crate, rest)
+    if verb == "--run":
+        crate.held = []
+        return crate.run(["--jobs", "1"], rest[:1], tests=crate.has_tests() and not crate.is_program)
+    if verb == "--lib":
+        return make(crate)
+    return crate.check(flags if "--jobs" in flags else [*flags, "--jobs", "1"])
+
+
+if __name__ == "__main__":
+    sys.exit(main(sys.argv[1:]))
