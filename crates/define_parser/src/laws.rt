@@ -7,5 +7,6 @@ ghost use Rattle.define_parser.specs.Defined.{IsDefined};
 
 /// A text defines at most one program, with one list of lines, from another.
 pub fn laws_of_defined_programs()
-    ensures defined { (text : List ℕ) (before after other : Tree × List Lined) → IsDefined before text after → IsDefined before text other → after ≡ other }
+    ensures defined { (text : List ℕ) (before after other : Tree × List Lined)
+        → IsDefined before text after → IsDefined before text other → after ≡ other }
 {}

@@ -23,7 +23,8 @@ pub fn entry_slots(
     tables: &Tables,
     notes: &mut Vec<Note>,
 ) -> Result<Vec<Slot>, Stop>
-    ensures ends { Ends (λ v. v.items) (entry_at tables.now.tables slots.now size (map plain arguments.now)) notes.old.items notes.new.items result }
+    ensures ends { Ends (λ v. v.items) (entry_at tables.now.tables slots.now size
+        (map plain arguments.now)) notes.old.items notes.new.items result }
 {
     let before = notes.len();
     match slots_of(alloc, size, arguments, slots, tables, notes) {

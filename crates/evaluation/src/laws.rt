@@ -12,8 +12,10 @@ ghost use Rattle.evaluation.specs.Numbers.{ValueIs, ValuesAre, BoundsAre, PutIs,
 /// of them and the bounds of loops.
 pub fn values_are_the_definitions()
     ensures value { (tables : Tables) (slots : List Slot) (e : Term) → ValueIs tables slots e }
-    ensures values { (tables : Tables) (slots : List Slot) (es : List Term) → ValuesAre tables slots es }
-    ensures bounds { (tables : Tables) (slots : List Slot) (e f : Term) → BoundsAre tables slots e f }
+    ensures values { (tables : Tables) (slots : List Slot) (es : List Term)
+        → ValuesAre tables slots es }
+    ensures bounds { (tables : Tables) (slots : List Slot) (e f : Term)
+        → BoundsAre tables slots e f }
 {}
 
 /// A slot that is given a value is a name that is given it, and the slots of a new instance are its names' values.
@@ -25,7 +27,10 @@ pub fn slots_are_names()
 /// An evaluation of the definitions does nothing but read.
 pub fn evaluations_only_read()
     ensures value { (tables : Tables) (env : Env) (e : Term) → OnlyReads (value tables env e).log }
-    ensures values { (tables : Tables) (env : Env) (es : List Term) → OnlyReads (values tables env es).log }
-    ensures bounds { (tables : Tables) (env : Env) (e f : Term) → OnlyReads (bounds tables env e f).log }
-    ensures turn { (tables : Tables) (job : Job) (i : ℕ) → OnlyReads (turn_values tables job i).log }
+    ensures values { (tables : Tables) (env : Env) (es : List Term)
+        → OnlyReads (values tables env es).log }
+    ensures bounds { (tables : Tables) (env : Env) (e f : Term)
+        → OnlyReads (bounds tables env e f).log }
+    ensures turn { (tables : Tables) (job : Job) (i : ℕ)
+        → OnlyReads (turn_values tables job i).log }
 {}

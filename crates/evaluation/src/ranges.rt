@@ -55,7 +55,8 @@ pub fn bounds(
     tables: &Tables,
     notes: &mut Vec<Note>,
 ) -> Result<LoopRange, Stop>
-    ensures ends { Ends (λ r. (r.low, r.count)) (bounds_at tables.now.tables slots.now (plain low.now) (plain high.now)) notes.old.items notes.new.items result }
+    ensures ends { Ends (λ r. (r.low, r.count)) (bounds_at tables.now.tables slots.now
+        (plain low.now) (plain high.now)) notes.old.items notes.new.items result }
 {
     let before = notes.len();
     match range(low, high, slots, tables, notes) {

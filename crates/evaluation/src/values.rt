@@ -24,7 +24,8 @@ pub fn value(
     tables: &Tables,
     notes: &mut Vec<Note>,
 ) -> Result<i64, Stop>
-    ensures ends { Ends (λ v. v) (value_at tables.now.tables slots.now (plain expression.now)) notes.old.items notes.new.items result }
+    ensures ends { Ends (λ v. v) (value_at tables.now.tables slots.now (plain expression.now))
+        notes.old.items notes.new.items result }
 {
     let before = notes.len();
     match evaluate(expression, slots, tables, notes) {
@@ -46,7 +47,9 @@ pub fn values(
     numbers: &mut Vec<i64>,
     notes: &mut Vec<Note>,
 ) -> Result<(), Stop>
-    ensures ends { Ends (λ u. numbers.new.items) (values_at tables.now.tables slots.now (map plain expressions.now)) notes.old.items notes.new.items result }
+    ensures ends { Ends (λ u. numbers.new.items)
+        (values_at tables.now.tables slots.now (map plain expressions.now)) notes.old.items
+        notes.new.items result }
 {
     let before = notes.len();
     numbers.clear();

@@ -15,7 +15,8 @@ use toml::{Table as Members, Value};
 
 /// The array at a key.
 pub fn array_at<'a>(members: &'a Members, key: &str) -> Option<&'a Vec<Value>>
-    ensures { option_map (λ items. array_view items.now) result ≡ array_at key.now (table_view members.now) }
+    ensures { option_map (λ items. array_view items.now) result
+        ≡ array_at key.now (table_view members.now) }
 {
     match members.get(key) {
         Some(value) => value.as_array(),
@@ -38,7 +39,8 @@ fn new_column(alloc: Global, columns: &[String], item: &Value) -> Result<String,
 
 /// The 1 to 8 columns that an array names.
 pub fn columns_in(alloc: Global, items: &[Value]) -> Result<Vec<String>, Fault>
-    ensures read { IfOk result (λ columns. columns_in (items_view items.now) ≡ Some (map string_bytes columns.items)) }
+    ensures read { IfOk result (λ columns. columns_in (items_view items.now)
+        ≡ Some (map string_bytes columns.items)) }
     ensures refused { IfErr result (IsFaulty (columns_in (items_view items.now))) }
 {
     if items.is_empty() || 8 < items.len() {

@@ -67,7 +67,8 @@ impl Table {
     pub fn column(&self, name: &str) -> Option<usize>
         ensures found { IfSome result (λ number. number ≡ index_of self.now.columns name.now) }
         ensures within { IfSome result (λ number. number < length self.now.columns) }
-        ensures absent { IfNone result (index_of self.now.columns name.now ≡ length self.now.columns) }
+        ensures absent { IfNone result (index_of self.now.columns name.now
+            ≡ length self.now.columns) }
     {
         let number = index_of(&self.columns, name);
         if number < self.columns.len() {
@@ -111,7 +112,8 @@ impl Table {
     /// Puts a row in the place of the one of its number.
     pub fn put(&mut self, row: i64, values: Vec<i64>) -> Result<(), AllocError>
         requires { in_range row ≡ true }
-        ensures put { OnOk result (self.new ≡ with_rows self.old (row_put row values.items self.old.rows)) }
+        ensures put { OnOk result (self.new ≡ with_rows self.old
+            (row_put row values.items self.old.rows)) }
         ensures same { OnErr result (self.new ≡ self.old) }
     {
         self.rows.put(row, values)?;

@@ -112,9 +112,11 @@ impl Tables {
 
     /// The number of the table of a name.
     pub fn table(&self, name: &str) -> Option<usize>
-        ensures found { IfSome result (λ number. number ≡ index_of (names_of self.now.tables) name.now) }
+        ensures found { IfSome result (λ number. number
+            ≡ index_of (names_of self.now.tables) name.now) }
         ensures within { IfSome result (λ number. number < length self.now.tables) }
-        ensures absent { IfNone result (index_of (names_of self.now.tables) name.now ≡ length self.now.tables) }
+        ensures absent { IfNone result (index_of (names_of self.now.tables) name.now
+            ≡ length self.now.tables) }
     {
         match self.find(name) {
             Some((number, _)) => Some(number),
@@ -124,9 +126,12 @@ impl Tables {
 
     /// The number of the column of a name in the table of a number.
     pub fn column(&self, table: usize, name: &str) -> Option<usize>
-        ensures found { IfSome result (λ number. number ≡ index_of (columns_at self.now.tables table) name.now) }
-        ensures within { IfSome result (λ number. number < length (columns_at self.now.tables table)) }
-        ensures absent { IfNone result (index_of (columns_at self.now.tables table) name.now ≡ length (columns_at self.now.tables table)) }
+        ensures found { IfSome result (λ number. number
+            ≡ index_of (columns_at self.now.tables table) name.now) }
+        ensures within { IfSome result (λ number. number < length
+            (columns_at self.now.tables table)) }
+        ensures absent { IfNone result (index_of (columns_at self.now.tables table) name.now
+            ≡ length (columns_at self.now.tables table)) }
     {
         match self.at(table) {
             Some(table) => table.column(name),
@@ -137,7 +142,8 @@ impl Tables {
     /// The value of a row in a column, by the numbers of the table and the column.
     pub fn cell(&self, table: usize, row: i64, column: usize) -> Option<i64>
         ensures numbered { result ≡ cell_at self.now.tables table row column }
-        ensures named { (t c : Name) → table ≡ index_of (names_of self.now.tables) t → column ≡ index_of (columns_of self.now.tables t) c
+        ensures named { (t c : Name) → table ≡ index_of (names_of self.now.tables) t
+            → column ≡ index_of (columns_of self.now.tables t) c
             → result ≡ cell_of self.now.tables t row c }
     {
         match self.at(table) {
@@ -149,7 +155,8 @@ impl Tables {
     /// Whether the table of a number has a row.
     pub fn has(&self, table: usize, row: i64) -> bool
         ensures numbered { result ≡ has_at self.now.tables table row }
-        ensures named { (t : Name) → table ≡ index_of (names_of self.now.tables) t → result ≡ has_row self.now.tables t row }
+        ensures named { (t : Name) → table ≡ index_of (names_of self.now.tables) t
+            → result ≡ has_row self.now.tables t row }
     {
         match self.at(table) {
             Some(table) => table.has(row),
@@ -160,7 +167,8 @@ impl Tables {
     /// One more than the greatest row number of the table of a number, or 0 where it has no rows.
     pub fn limit(&self, table: usize) -> i64
         ensures numbered { result ≡ limit_at self.now.tables table }
-        ensures named { (t : Name) → table ≡ index_of (names_of self.now.tables) t → result ≡ limit_of self.now.tables t }
+        ensures named { (t : Name) → table ≡ index_of (names_of self.now.tables) t
+            → result ≡ limit_of self.now.tables t }
     {
         match self.at(table) {
             Some(table) => table.limit(),
@@ -177,8 +185,12 @@ impl Tables {
         row: i64,
         values: &[i64],
     ) -> Result<(), EditError>
-        ensures put { OnOk result ((program : Revised) (lines : List Lined) → after_put (beside program lines self.old) table.now row values.now ≡ Ok (beside program lines self.new)) }
-        ensures refused { IfErr result (λ error. (program : Revised) (lines : List Lined) → IsEditCause (after_put (beside program lines self.old) table.now row values.now) error) }
+        ensures put { OnOk result ((program : Revised) (lines : List Lined)
+            → after_put (beside program lines self.old) table.now row values.now
+            ≡ Ok (beside program lines self.new)) }
+        ensures refused { IfErr result (λ error. (program : Revised) (lines : List Lined)
+            → IsEditCause (after_put (beside program lines self.old) table.now row values.now)
+            error) }
         ensures same { OnErr result (self.new ≡ self.old) }
     {
         match self.table_to_put(table, row, values.len()) {
@@ -194,8 +206,11 @@ impl Tables {
     /// Takes a row out of a table. Refused by E4, E6, E7, E18, in this order; a refusal changes nothing. It takes no memory,
     /// and is never refused for want of it.
     pub fn delete(&mut self, table: &str, row: i64) -> Result<(), EditError>
-        ensures deleted { OnOk result ((program : Revised) (lines : List Lined) → after_delete (beside program lines self.old) table.now row ≡ Ok (beside program lines self.new)) }
-        ensures refused { IfErr result (λ error. (program : Revised) (lines : List Lined) → IsDeleteCause (after_delete (beside program lines self.old) table.now row) error) }
+        ensures deleted { OnOk result ((program : Revised) (lines : List Lined)
+            → after_delete (beside program lines self.old) table.now row
+            ≡ Ok (beside program lines self.new)) }
+        ensures refused { IfErr result (λ error. (program : Revised) (lines : List Lined)
+            → IsDeleteCause (after_delete (beside program lines self.old) table.now row) error) }
         ensures same { OnErr result (self.new ≡ self.old) }
     {
         match self.table_to_delete(table, row) {

@@ -65,8 +65,24 @@ impl Checked {
         revisions: IndexMap<String, u64>,
         counter: u64,
     ) -> Checked
-        requires checked { IsChecked (record { program = program; tables = map columned tables.items; codes = codes.items; kinds = kinds.items; main = main; revisions = numbers_in revisions; counter = counter }) }
-        ensures checked { result ≡ record { program = program; tables = map columned tables.items; codes = codes.items; kinds = kinds.items; main = main; revisions = numbers_in revisions; counter = counter } }
+        requires checked { IsChecked (record {
+          program = program;
+          tables = map columned tables.items;
+          codes = codes.items;
+          kinds = kinds.items;
+          main = main;
+          revisions = numbers_in revisions;
+          counter = counter;
+        }) }
+        ensures checked { result ≡ record {
+          program = program;
+          tables = map columned tables.items;
+          codes = codes.items;
+          kinds = kinds.items;
+          main = main;
+          revisions = numbers_in revisions;
+          counter = counter;
+        } }
     {
         numbers_fit(&program);
         Checked {
@@ -151,7 +167,8 @@ impl Checked {
 
     /// The number of the procedure of a name among the procedures; none where there is no such procedure.
     pub fn procedure(&self, name: &str) -> Option<usize>
-        ensures number { IfSome result (λ n. n ≡ procedure_number (procedures (tree self.now.program)) name.now) }
+        ensures number { IfSome result (λ n. n ≡ procedure_number
+            (procedures (tree self.now.program)) name.now) }
         ensures known { is_some result ≡ is_there (procedure_of (tree self.now.program) name.now) }
     {
         self.revisions.get_index_of(name)
@@ -184,7 +201,8 @@ impl Checked {
 
     /// What the type keeps: no rule is broken.
     pub fn clean(&self)
-        ensures clean { violations self.now.tables (tree self.now.program) (lines self.now.program) ≡ [] }
+        ensures clean { violations self.now.tables (tree self.now.program) (lines self.now.program)
+            ≡ [] }
     {
         let _ = &self.program;
     }
@@ -198,7 +216,8 @@ impl Checked {
 
     /// What the type keeps: the codes, the kinds and the number of `main` are those of the tree.
     pub fn linked(&self)
-        ensures codes { AreCodesOf self.now.tables (tree self.now.program) self.now.codes (procedures (tree self.now.program)) }
+        ensures codes { AreCodesOf self.now.tables (tree self.now.program) self.now.codes
+            (procedures (tree self.now.program)) }
         ensures kinds { self.now.kinds ≡ kinds_of (tree self.now.program) }
         ensures main { self.now.main ≡ main_number (tree self.now.program) }
     {
@@ -207,7 +226,8 @@ impl Checked {
 
     /// What the type keeps: the procedures, in the program's order, have revision numbers, all below the counter.
     pub fn revised(&self)
-        ensures each { names_in self.now.revisions ≡ map (λ p. p.called) (procedures (tree self.now.program)) }
+        ensures each { names_in self.now.revisions
+            ≡ map (λ p. p.called) (procedures (tree self.now.program)) }
         ensures below { All (λ e. e.1 < self.now.counter) self.now.revisions }
     {
         let _ = &self.program;

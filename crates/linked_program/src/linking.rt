@@ -251,7 +251,8 @@ pub fn codes(
     declarations: &[Declaration],
     tables: &[TableNames],
 ) -> Result<Vec<Code>, AllocError>
-    ensures codes { IfOk result (λ made. AreCodesOf (map columned tables.now) (map decl declarations.now) made.items (procedures (map decl declarations.now))) }
+    ensures codes { IfOk result (λ made. AreCodesOf (map columned tables.now)
+        (map decl declarations.now) made.items (procedures (map decl declarations.now))) }
 {
     let mut made = Vec::new(alloc);
     for declaration in declarations {

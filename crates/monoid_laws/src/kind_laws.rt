@@ -8,5 +8,6 @@ use crate::Kind;
 pub fn laws_of(kind: Kind)
     ensures monoid { IsTableMonoid kind → IsMonoid kind }
     ensures identity { IsWorth kind (identity_of kind) }
-    ensures closed { (x y : Worth) → IsWorth kind x → IsWorth kind y → IsWorth kind (operate kind x y) }
+    ensures closed { (x y : Worth) → IsWorth kind x → IsWorth kind y
+        → IsWorth kind (operate kind x y) }
 {}

@@ -14,9 +14,11 @@ use std::alloc::Global;
 /// The program that the printed text of a program is read as. An error is NoMemory, or line 0 where the printed text is too long; no other where the program is that of a text, or its declarations are of several texts.
 pub fn print_and_parse(alloc: Global, program: &Program) -> Result<Program, TextError>
     // A program that was read is read again with the same tree.
-    ensures text { IsOfText (tree program.now) → length (printed (tree program.now)) ≤ longest_text → IsAgain (tree program.now) result }
+    ensures text { IsOfText (tree program.now) → length (printed (tree program.now)) ≤ longest_text
+        → IsAgain (tree program.now) result }
     // The same of a program whose declarations are of several texts.
-    ensures texts { IsOfTexts (tree program.now) → length (printed (tree program.now)) ≤ longest_text → IsAgain (tree program.now) result }
+    ensures texts { IsOfTexts (tree program.now)
+        → length (printed (tree program.now)) ≤ longest_text → IsAgain (tree program.now) result }
     // A program whose printed text is too long is refused at line 0.
     ensures long { longest_text < length (printed (tree program.now)) → IsTooLong result }
 {

@@ -12,7 +12,10 @@ ghost use Rattle.token_scanner.specs.Scanning.{longest_text};
 pub fn laws_of_definitions()
     ensures text { (t : Tree) → IsOfText t → IsOfTexts t }
     // A program of texts stays one of texts with a text's procedures put in.
-    ensures defined { (t : Tree) (l : List Lined) (text : List ℕ) (after : Tree × List Lined) → IsOfTexts t → IsDefined (t, l) text after → IsOfTexts after.0 }
+    ensures defined { (t : Tree) (l : List Lined) (text : List ℕ) (after : Tree × List Lined)
+        → IsOfTexts t → IsDefined (t, l) text after → IsOfTexts after.0 }
     // Its tree is then that of its printed text, where this is within the length limit.
-    ensures printed { (t : Tree) (l : List Lined) (text : List ℕ) (after : Tree × List Lined) → IsOfTexts t → IsDefined (t, l) text after → length (printed after.0) ≤ longest_text → PrintsAgain after.0 }
+    ensures printed { (t : Tree) (l : List Lined) (text : List ℕ) (after : Tree × List Lined)
+        → IsOfTexts t → IsDefined (t, l) text after → length (printed after.0) ≤ longest_text
+        → PrintsAgain after.0 }
 {}

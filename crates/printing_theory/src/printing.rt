@@ -13,7 +13,8 @@ use std::alloc::{AllocError, Global};
 pub fn print(alloc: Global, program: &Program) -> Result<Vec<u8>, AllocError>
     ensures printed { IfOk result (λ text. text.items ≡ printed (tree program.now)) }
     // The text has the program's tree, where its declarations are of texts, as those of each program that `parse` answers, and `parse_define` of such a one.
-    ensures round_trip { IfOk result (λ text. IsOfTexts (tree program.now) → length text.items ≤ longest_text → HasTree text.items (tree program.now)) }
+    ensures round_trip { IfOk result (λ text. IsOfTexts (tree program.now)
+        → length text.items ≤ longest_text → HasTree text.items (tree program.now)) }
 {
     program_printer::print(alloc, program)
 }

@@ -169,7 +169,8 @@ pub fn block<'a, 'b>(
     nested: usize,
     tokens: &'b [Placed<'a>],
 ) -> Result<(Vec<Statement>, &'b [Placed<'a>]), ParseError>
-    ensures { Gives (λ x. (stmts x.0.items, words x.1.now)) result (block_at nested (words tokens.now)) }
+    ensures { Gives (λ x. (stmts x.0.items, words x.1.now)) result
+        (block_at nested (words tokens.now)) }
 {
     if nested == 0 {
         return Err(ParseError::Stuck(left(tokens)));

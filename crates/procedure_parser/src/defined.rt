@@ -21,7 +21,8 @@ pub fn define_source(
     program: &Program,
 ) -> Result<Vec<Declaration>, TextError>
     ensures found { IfOk result (λ ds. IsDefinition (tree program.now) (source ds.items) text.now) }
-    ensures only { (s : Source) → IsDefinition (tree program.now) s text.now → AnswersSource result s }
+    ensures only { (s : Source) → IsDefinition (tree program.now) s text.now
+        → AnswersSource result s }
     ensures fault { IfErr result (λ e. IsDefinitionFault (tree program.now) text.now e) }
 {
     if text.len() > LONGEST_TEXT {

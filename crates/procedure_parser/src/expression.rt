@@ -102,7 +102,8 @@ pub fn expression<'a, 'b>(
     limits: Limits,
     tokens: &'b [Placed<'a>],
 ) -> Result<(Measured, &'b [Placed<'a>]), ParseError>
-    ensures exact { Gives (λ x. (phrase x.0.expr, words x.1.now)) result (expr_at limits.more limits.room (words tokens.now)) }
+    ensures exact { Gives (λ x. (phrase x.0.expr, words x.1.now)) result
+        (expr_at limits.more limits.room (words tokens.now)) }
     ensures levels { IfOk result (λ x. x.0.levels ≤ limits.room) }
 {
     let (left, rest) = sum(alloc, limits, tokens)?;

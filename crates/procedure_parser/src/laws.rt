@@ -9,6 +9,8 @@ ghost use Rattle.procedure_parser.specs.Correct.{IsSource, IsText};
 /// A text has at most one source tree, and so one tree of a program, with one list of lines.
 pub fn laws_of_texts()
     ensures source { (text : List ℕ) (s r : Source) → IsSource s text → IsSource r text → s ≡ r }
-    ensures tree { (text : List ℕ) (t u : Tree) (l m : List Lined) → IsText text t l → IsText text u m → t ≡ u }
-    ensures lines { (text : List ℕ) (t u : Tree) (l m : List Lined) → IsText text t l → IsText text u m → l ≡ m }
+    ensures tree { (text : List ℕ) (t u : Tree) (l m : List Lined) → IsText text t l
+        → IsText text u m → t ≡ u }
+    ensures lines { (text : List ℕ) (t u : Tree) (l m : List Lined) → IsText text t l
+        → IsText text u m → l ≡ m }
 {}

@@ -23,7 +23,8 @@ pub fn entry<'a, 'b>(
     way: Way,
     tokens: &'b [Placed<'a>],
 ) -> Result<(Statement, &'b [Placed<'a>]), ParseError>
-    ensures { Gives (λ x. (stmt x.0, words x.1.now)) result (entry_at line (option_map string_bytes bound) way (words tokens.now)) }
+    ensures { Gives (λ x. (stmt x.0, words x.1.now)) result
+        (entry_at line (option_map string_bytes bound) way (words tokens.now)) }
 {
     let (callee, rest) = name(alloc, tokens)?;
     let (arguments, rest) = arguments(alloc, rest)?;
@@ -86,7 +87,8 @@ pub fn bind<'a, 'b>(
     x: String,
     tokens: &'b [Placed<'a>],
 ) -> Result<(Statement, &'b [Placed<'a>]), ParseError>
-    ensures { Gives (λ x. (stmt x.0, words x.1.now)) result (bind_at line (string_bytes x) (words tokens.now)) }
+    ensures { Gives (λ x. (stmt x.0, words x.1.now)) result
+        (bind_at line (string_bytes x) (words tokens.now)) }
 {
     let rest = mark(tokens, Mark::Assign)?;
     bound(alloc, line, x, rest)

@@ -78,7 +78,8 @@ pub fn with_procedures(
     source: &[source_tree::Declaration],
 ) -> Result<Program, AllocError>
     requires { BodiesWithin most_statements (written.source source.now) }
-    ensures { IfOk result (λ p. (tree p, lines p) ≡ put_all [] (written.source source.now) (tree program.now, lines program.now)) }
+    ensures { IfOk result (λ p. (tree p, lines p)
+        ≡ put_all [] (written.source source.now) (tree program.now, lines program.now)) }
 {
     let mut declarations = copy_declarations(alloc, &program.declarations)?;
     let mut seen: Vec<&str> = Vec::with_capacity(alloc, source.len())?;

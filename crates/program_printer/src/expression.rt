@@ -101,7 +101,8 @@ pub fn put_expression(
     procedure: &Procedure,
     expr: &Expr,
 ) -> Result<(), AllocError>
-    ensures { OnOk result (Grows text.old text.new (term_words (names_of procedure.now) (term expr.now))) }
+    ensures { OnOk result (Grows text.old text.new
+        (term_words (names_of procedure.now) (term expr.now))) }
 {
     match expr {
         Expr::Number(n) => write!(text, "{n} "),

@@ -8,5 +8,6 @@ ghost use Rattle.program_printer.specs.Tokens.{AllTokens, bare};
 
 /// The tokens of a printed program are those that it was printed from, where each of them can stand in a text (`AllTokens`): names are of the language's form and no keywords, numbers are not negative and fit 63 bits.
 pub fn laws_of_printing()
-    ensures tokens { (t : Tree) → AllTokens (printed_words t) → bare (tokens_of (printed t)) ≡ printed_words t }
+    ensures tokens { (t : Tree) → AllTokens (printed_words t)
+        → bare (tokens_of (printed t)) ≡ printed_words t }
 {}

@@ -75,7 +75,8 @@ pub fn put_entry(
     callee: &str,
     arguments: &[Expr],
 ) -> Result<(), AllocError>
-    ensures { OnOk result (Grows text.old text.new (entry_words (names_of procedure.now) callee.now (map term arguments.now))) }
+    ensures { OnOk result (Grows text.old text.new
+        (entry_words (names_of procedure.now) callee.now (map term arguments.now))) }
 {
     write!(text, "{callee} ( ")?;
     put_expressions(text, procedure, arguments)?;
@@ -122,7 +123,8 @@ pub fn put_bind(
     number: usize,
     value: &Expr,
 ) -> Result<(), AllocError>
-    ensures { OnOk result (Grows text.old text.new (deed_words (names_of procedure.now) (bind number (term value.now)))) }
+    ensures { OnOk result (Grows text.old text.new
+        (deed_words (names_of procedure.now) (bind number (term value.now)))) }
 {
     put_target(text, procedure, number)?;
     put_last(text, procedure, value)
@@ -137,7 +139,8 @@ pub fn put_enter(
     callee: &str,
     arguments: &[Expr],
 ) -> Result<(), AllocError>
-    ensures { OnOk result (Grows text.old text.new (deed_words (names_of procedure.now) (enter bound way callee.now (map term arguments.now)))) }
+    ensures { OnOk result (Grows text.old text.new
+        (deed_words (names_of procedure.now) (enter bound way callee.now (map term arguments.now)))) }
 {
     put_bound(text, procedure, bound)?;
     put_way(text, way)?;
@@ -152,7 +155,8 @@ pub fn put_read(
     number: usize,
     reducer: &str,
 ) -> Result<(), AllocError>
-    ensures { OnOk result (Grows text.old text.new (deed_words (names_of procedure.now) (read number reducer.now))) }
+    ensures { OnOk result (Grows text.old text.new
+        (deed_words (names_of procedure.now) (read number reducer.now))) }
 {
     let name = variable(procedure, number);
     write!(text, "{name} = read {reducer} ;\n")
@@ -161,7 +165,8 @@ pub fn put_read(
 /// Puts a statement that waits for all children at the end of the text.
 #[tactic(auto, unfolding(crate::specs::Spelling::written))]
 pub fn put_sync(text: &mut String) -> Result<(), AllocError>
-    ensures { OnOk result (Grows text.old text.new (λ us. Sign mark.Sync ∷ Sign mark.Semicolon ∷ us)) }
+    ensures { OnOk result (Grows text.old text.new
+        (λ us. Sign mark.Sync ∷ Sign mark.Semicolon ∷ us)) }
 {
     text.push_str("sync ;\n")
 }
@@ -174,7 +179,8 @@ pub fn put_update(
     reducer: &str,
     numbers: &[Expr],
 ) -> Result<(), AllocError>
-    ensures { OnOk result (Grows text.old text.new (deed_words (names_of procedure.now) (update reducer.now (map term numbers.now)))) }
+    ensures { OnOk result (Grows text.old text.new
+        (deed_words (names_of procedure.now) (update reducer.now (map term numbers.now)))) }
 {
     write!(text, "update {reducer} ")?;
     put_expressions(text, procedure, numbers)?;
@@ -208,7 +214,8 @@ pub fn put_loop_head(
     high: &Expr,
     grain: u32,
 ) -> Result<(), AllocError>
-    ensures { OnOk result (Grows text.old text.new (loop_words (names_of procedure.now) number (term low.now) (term high.now) grain)) }
+    ensures { OnOk result (Grows text.old text.new
+        (loop_words (names_of procedure.now) number (term low.now) (term high.now) grain)) }
 {
     let name = variable(procedure, number);
     write!(text, "cilk_for {name} in ")?;
@@ -218,7 +225,8 @@ pub fn put_loop_head(
 /// Puts a statement that gives the procedure's value at the end of the text.
 #[tactic(auto, unfolding(crate::specs::Spelling::written))]
 pub fn put_return(text: &mut String, procedure: &Procedure, value: &Expr) -> Result<(), AllocError>
-    ensures { OnOk result (Grows text.old text.new (deed_words (names_of procedure.now) (give (term value.now)))) }
+    ensures { OnOk result (Grows text.old text.new
+        (deed_words (names_of procedure.now) (give (term value.now)))) }
 {
     text.push_str("return ")?;
     put_last(text, procedure, value)

@@ -76,7 +76,8 @@ fn combine_growing(alloc: Global, kind: Kind, left: &mut Val, right: Val) -> Res
 pub fn combine(alloc: Global, kind: Kind, left: &mut Val, right: Val) -> Result<(), Val>
     requires left_value { IsWorth kind (meaning left.old) }
     requires right_value { IsWorth kind (meaning right) }
-    ensures combined { OnOk result (meaning left.new ≡ operate kind (meaning left.old) (meaning right)) }
+    ensures combined { OnOk result (meaning left.new
+        ≡ operate kind (meaning left.old) (meaning right)) }
     ensures refused { OnErr result (meaning left.new ≡ meaning left.old) }
     ensures handed_back { IfErr result (λ v. v ≡ right) }
     ensures fixed { is_fixed kind ≡ true → IsOk result }

@@ -140,12 +140,14 @@ pub fn add_element(
 ) -> Result<(), InjectError>
     requires count { length numbers.now ≡ arity kind.now }
     requires of_kind { IsWorth kind.now (meaning value.old) }
-    ensures combined { OnOk result (meaning value.new ≡ operate kind.now (meaning value.old) (element_of kind.now numbers.now)) }
+    ensures combined { OnOk result (meaning value.new
+        ≡ operate kind.now (meaning value.old) (element_of kind.now numbers.now)) }
     ensures element { OnOk result (IsWorth kind.now (element_of kind.now numbers.now)) }
     ensures named { OnOk result (names_element kind.now numbers.now ≡ true) }
     ensures refused { OnErr result (meaning value.new ≡ meaning value.old) }
     ensures cause { IfErr result (λ e. e ≡ refusal kind.now numbers.now) }
-    ensures fixed { is_fixed kind.now ≡ true → names_element kind.now numbers.now ≡ true → IsOk result }
+    ensures fixed { is_fixed kind.now ≡ true → names_element kind.now numbers.now ≡ true
+        → IsOk result }
 {
     let added = match kind {
         Kind::List | Kind::First(_) | Kind::Last(_) => add_number(alloc, kind, value, numbers[0]),

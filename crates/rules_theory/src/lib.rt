@@ -16,28 +16,34 @@ ghost use Rattle.trail_theory.specs.Waiting.{UsesNoWaitingName};
 
 /// In a program that breaks no rule no statement uses a name that waits for a spawned child.
 pub fn no_waiting_name_is_used()
-    ensures free { (tables : List Columned) (program : Program) → IsClean tables program → UsesNoWaitingName (tree program) }
+    ensures free { (tables : List Columned) (program : Program) → IsClean tables program
+        → UsesNoWaitingName (tree program) }
 {}
 
 /// In a program that breaks no rule main alone reads reducers, at its end, and nothing enters or records main.
 pub fn main_reads_at_its_end()
-    ensures reads { (tables : List Columned) (program : Program) → IsClean tables program → ReadsAtMainsEnd (tree program) }
+    ensures reads { (tables : List Columned) (program : Program) → IsClean tables program
+        → ReadsAtMainsEnd (tree program) }
 {}
 
 /// A program that breaks no rule keeps the rules of the theory.
 pub fn rules_are_kept()
-    ensures kept { (tables : List Columned) (program : Program) → IsClean tables program → KeepsRules (tree program) }
+    ensures kept { (tables : List Columned) (program : Program) → IsClean tables program
+        → KeepsRules (tree program) }
 {}
 
 /// In a program that breaks no rule the operation of each table reducer is a monoid.
 pub fn tables_are_monoids()
-    ensures monoids { (tables : List Columned) (program : Program) → IsClean tables program → HasMonoids (tree program) }
+    ensures monoids { (tables : List Columned) (program : Program) → IsClean tables program
+        → HasMonoids (tree program) }
 {}
 
 /// A checked program keeps the rules of the theory, its table reducers are monoids, and so are the kinds that it keeps.
 pub fn checked_programs_keep_the_rules()
-    ensures kept { (checked : PlainChecked) → IsChecked checked → KeepsRules (tree checked.program) }
-    ensures monoids { (checked : PlainChecked) → IsChecked checked → HasMonoids (tree checked.program) }
+    ensures kept { (checked : PlainChecked) → IsChecked checked
+        → KeepsRules (tree checked.program) }
+    ensures monoids { (checked : PlainChecked) → IsChecked checked
+        → HasMonoids (tree checked.program) }
     ensures kinds { (checked : PlainChecked) → IsChecked checked → All IsMonoid checked.kinds }
 {}
 
@@ -49,5 +55,6 @@ pub fn clean_programs_are_complete()
 
 /// The procedures of a checked program have revision numbers, each of which was used before.
 pub fn checked_programs_are_numbered()
-    ensures numbered { (checked : PlainChecked) → IsChecked checked → IsNumbered (revised_of checked) }
+    ensures numbered { (checked : PlainChecked) → IsChecked checked
+        → IsNumbered (revised_of checked) }
 {}

@@ -84,9 +84,15 @@ pub fn needed_instances<'p>(
     records: &[Record],
 ) -> Result<Rerun<'p>, NoMemory>
     requires fit { AreFit (tree program.now) (map kept records.now) }
-    ensures answer { IfOk result (λ r. answer_plain r.answer ≡ needed_answer (revised (tree program.now) revisions.now) (tables_plain tables.now) (map kept records.now)) }
-    ensures executed { IfOk result (λ r. map key_plain r.executed.items ≡ executed (tree program.now) (needed (revised (tree program.now) revisions.now) (tables_plain tables.now) (map kept records.now))) }
-    ensures reused { IfOk result (λ r. map key_plain r.reused.items ≡ reused (needed (revised (tree program.now) revisions.now) (tables_plain tables.now) (map kept records.now))) }
+    ensures answer { IfOk result (λ r. answer_plain r.answer
+        ≡ needed_answer (revised (tree program.now) revisions.now) (tables_plain tables.now)
+        (map kept records.now)) }
+    ensures executed { IfOk result (λ r. map key_plain r.executed.items
+        ≡ executed (tree program.now) (needed (revised (tree program.now) revisions.now)
+        (tables_plain tables.now) (map kept records.now))) }
+    ensures reused { IfOk result (λ r. map key_plain r.reused.items
+        ≡ reused (needed (revised (tree program.now) revisions.now) (tables_plain tables.now)
+        (map kept records.now))) }
 {
     let scope = Scope {
         alloc,
@@ -112,7 +118,8 @@ pub fn from_scratch<'p>(
     program: &'p Program,
     tables: &[TableRows],
 ) -> Result<Answer<'p>, NoMemory>
-    ensures { IfOk result (λ a. answer_plain a ≡ from_scratch_of (tree program.now) (tables_plain tables.now)) }
+    ensures { IfOk result (λ a. answer_plain a
+        ≡ from_scratch_of (tree program.now) (tables_plain tables.now)) }
 {
     let revisions = Revisions {
         numbers: Vec::new(alloc),

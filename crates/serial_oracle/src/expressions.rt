@@ -98,7 +98,8 @@ pub fn all_values(
     env: &[Option<i64>],
     es: &[Expr],
 ) -> Result<Vec<i64>, Trouble>
-    ensures { EvaluatesAll result (values_of (tables_plain tables.now) env.now (map term es.now)).answer }
+    ensures { EvaluatesAll result (values_of (tables_plain tables.now) env.now
+        (map term es.now)).answer }
 {
     let mut vs = Vec::new(alloc);
     for e in es {

@@ -63,7 +63,8 @@ pub fn note_executed<'p>(
     name: &'p str,
     args: &[i64],
 ) -> Result<(), AllocError>
-    ensures executed { OnOk result (map key_plain journal.new.executed.items ≡ map key_plain journal.old.executed.items ++ (name.now, args.now) ∷ []) }
+    ensures executed { OnOk result (map key_plain journal.new.executed.items
+        ≡ map key_plain journal.old.executed.items ++ (name.now, args.now) ∷ []) }
     ensures changes { journal.new.changes ≡ journal.old.changes }
     ensures reused { journal.new.reused ≡ journal.old.reused }
 {
@@ -78,8 +79,10 @@ pub fn note_reused<'p>(
     name: &'p str,
     args: &[i64],
 ) -> Result<(), AllocError>
-    ensures reused { OnOk result (map key_plain journal.new.reused.items ≡ map key_plain journal.old.reused.items ++ (name.now, args.now) ∷ []) }
-    ensures changes { OnOk result (journal.new.changes.items ≡ journal.old.changes.items ++ Reused place ∷ []) }
+    ensures reused { OnOk result (map key_plain journal.new.reused.items
+        ≡ map key_plain journal.old.reused.items ++ (name.now, args.now) ∷ []) }
+    ensures changes { OnOk result (journal.new.changes.items
+        ≡ journal.old.changes.items ++ Reused place ∷ []) }
     ensures executed { journal.new.executed ≡ journal.old.executed }
 {
     if journal.changes.push(Change::Reused(place)).is_err() {

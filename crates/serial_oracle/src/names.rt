@@ -24,7 +24,8 @@ pub fn find_procedure<'p>(program: &'p Program, name: &str) -> Option<&'p Proced
 
 /// The number and the kind of a reducer.
 pub fn find_reducer(program: &Program, name: &str) -> Option<(usize, Kind)>
-    ensures { result ≡ option_map (λ p. (p.0, p.1.kind)) (numbered 0 (reducers (tree program.now)) name.now) }
+    ensures { result ≡ option_map (λ p. (p.0, p.1.kind))
+        (numbered 0 (reducers (tree program.now)) name.now) }
 {
     let mut n = 0;
     for d in &program.declarations {

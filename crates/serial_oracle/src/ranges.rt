@@ -31,7 +31,8 @@ pub fn range_of(
     low: &Expr,
     high: &Expr,
 ) -> Result<Range, FaultKind>
-    ensures { AreBounds result (bounds (tables_plain tables.now) env.now (term low.now) (term high.now)).answer }
+    ensures { AreBounds result (bounds (tables_plain tables.now) env.now (term low.now)
+        (term high.now)).answer }
 {
     let first = evaluate(tables, env, low)?;
     let last = evaluate(tables, env, high)?;

@@ -148,7 +148,9 @@ pub fn enter<'p, 's>(
     journal: &mut Journal<'p>,
 ) -> Result<i64, Stop<'p>>
     requires fit { AreFit (tree_in scope.now) (records_in scope.now) }
-    ensures { Gives result (summary scope.now journal.new) (results (tree_in scope.now) (enters_in scope.now left (site_at here.now statement) name.now args.now) (summary scope.now journal.old)) }
+    ensures { Gives result (summary scope.now journal.new)
+        (results (tree_in scope.now) (enters_in scope.now left (site_at here.now statement) name.now
+        args.now) (summary scope.now journal.old)) }
 {
     if left == 0 {
         return Err(stopped(FaultKind::TooDeep, here, statement));

@@ -283,7 +283,8 @@ fn apply(
 /// What the reducers are worth after the changes.
 pub fn values_after(scope: &Scope, changes: &[Change]) -> Result<Vec<Val>, AllocError>
     requires fit { AreFit (tree_in scope.now) (records_in scope.now) }
-    ensures { IfOk result (λ v. map meaning v.items ≡ worths (tree_in scope.now) (records_in scope.now) changes.now) }
+    ensures { IfOk result (λ v. map meaning v.items
+        ≡ worths (tree_in scope.now) (records_in scope.now) changes.now) }
 {
     let kinds = kinds_of(scope.alloc, scope.program)?;
     let mut values = identities_of(scope.alloc, &kinds)?;
@@ -307,7 +308,8 @@ fn number_of_value(value: &Val) -> i64
 /// The number that a reducer gives after the changes.
 pub fn read(scope: &Scope, name: &str, changes: &[Change]) -> Result<i64, AllocError>
     requires fit { AreFit (tree_in scope.now) (records_in scope.now) }
-    ensures { IfOk result (λ v. v ≡ reading (worths (tree_in scope.now) (records_in scope.now) changes.now) (numbered 0 (reducers (tree_in scope.now)) name.now)) }
+    ensures { IfOk result (λ v. v ≡ reading (worths (tree_in scope.now) (records_in scope.now)
+        changes.now) (numbered 0 (reducers (tree_in scope.now)) name.now)) }
 {
     match names::find_reducer(scope.program, name) {
         None => Ok(0),
@@ -352,7 +354,10 @@ pub fn update_reducer(
     numbers: &[Expr],
     changes: &mut Vec<Change>,
 ) -> Result<(), Trouble>
-    ensures { Notes result (worths (tree_in scope.now) (records_in scope.now) changes.new.items) (outcome_of (update_of (tables_in scope.now) (reducers (tree_in scope.now)) env.now name.now (map term numbers.now)) (worths (tree_in scope.now) (records_in scope.now) changes.old.items)) }
+    ensures { Notes result (worths (tree_in scope.now) (records_in scope.now) changes.new.items)
+        (outcome_of (update_of (tables_in scope.now) (reducers (tree_in scope.now)) env.now name.now
+        (map term numbers.now)) (worths (tree_in scope.now) (records_in scope.now)
+        changes.old.items)) }
 {
     match expressions::all_values(scope.alloc, scope.tables, env, numbers) {
         Err(trouble) => Err(trouble),

@@ -133,8 +133,11 @@ pub fn valid_record<'p, 's>(
     name: &str,
     args: &[i64],
 ) -> Option<Found<'s>>
-    ensures answer { option_map (λ f. kept f.known.now) result ≡ if_valid (revised_in scope.now) (tables_in scope.now) depth (record_of (records_in scope.now) name.now args.now) }
-    ensures place { IfSome result (λ f. slice_get (records_in scope.now) f.place ≡ Some (kept f.known.now)) }
+    ensures answer { option_map (λ f. kept f.known.now) result
+        ≡ if_valid (revised_in scope.now) (tables_in scope.now) depth
+        (record_of (records_in scope.now) name.now args.now) }
+    ensures place { IfSome result (λ f. slice_get (records_in scope.now) f.place
+        ≡ Some (kept f.known.now)) }
 {
     match find_record(scope.records, name, args) {
         None => None,

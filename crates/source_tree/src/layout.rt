@@ -135,8 +135,11 @@ pub fn statements(
     body: &[source::Statement],
 ) -> Result<Vec<Statement>, AllocError>
     requires { last.old + count_all (stmts_of (stmts body.now)) ≤ most_statements }
-    ensures made { IfOk result (λ ss. ((pool.new, last.new, flats blocks.new.items), entries ss.items) ≡ laid ((pool.old, last.old, flats blocks.old.items), []) (stmts_of (stmts body.now))) }
-    ensures counted { IfOk result (λ ss. last.new ≡ last.old + count_all (stmts_of (stmts body.now))) }
+    ensures made { IfOk result (λ ss.
+        ((pool.new, last.new, flats blocks.new.items), entries ss.items)
+        ≡ laid ((pool.old, last.old, flats blocks.old.items), []) (stmts_of (stmts body.now))) }
+    ensures counted { IfOk result (λ ss. last.new ≡ last.old + count_all
+        (stmts_of (stmts body.now))) }
 {
     let mut out = Vec::with_capacity(alloc, body.len())?;
     for statement in body {

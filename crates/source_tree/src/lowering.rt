@@ -35,9 +35,12 @@ pub fn lower_procedure(
     procedure: &source::Procedure,
 ) -> Result<Procedure, AllocError>
     requires { count_all (stmts_of (stmts procedure.now.body.items)) ≤ most_statements }
-    ensures tree { IfOk result (λ p. proc p ≡ lower_proc procedure.now.memo (string_bytes procedure.now.name) (texts procedure.now.parameters.items) (stmts procedure.now.body.items)) }
+    ensures tree { IfOk result (λ p. proc p ≡ lower_proc procedure.now.memo
+        (string_bytes procedure.now.name) (texts procedure.now.parameters.items)
+        (stmts procedure.now.body.items)) }
     ensures line { IfOk result (λ p. p.line ≡ procedure.now.line) }
-    ensures lines { IfOk result (λ p. block_lines p.blocks.items ≡ body_lines (stmts_of (stmts procedure.now.body.items))) }
+    ensures lines { IfOk result (λ p. block_lines p.blocks.items
+        ≡ body_lines (stmts_of (stmts procedure.now.body.items))) }
 {
     let parameters: &[String] = &procedure.parameters;
     let mut pool = Pool::with_parameters(alloc, parameters)?;

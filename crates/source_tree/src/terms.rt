@@ -84,7 +84,8 @@ pub fn lower_expressions(
     pool: &mut Pool,
     exprs: &[source::Expr],
 ) -> Result<Vec<Expr>, AllocError>
-    ensures { IfOk result (λ es. (pool.new, map term es.items) ≡ lower_terms (pool.old, []) (phrases exprs.now)) }
+    ensures { IfOk result (λ es. (pool.new, map term es.items)
+        ≡ lower_terms (pool.old, []) (phrases exprs.now)) }
 {
     let mut out = Vec::with_capacity(alloc, exprs.len())?;
     for expr in exprs {

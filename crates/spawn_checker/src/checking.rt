@@ -61,9 +61,12 @@ fn first_checked(
 pub fn check(alloc: Global, program: Program, tables: &Tables) -> Result<Checked, CheckError>
     ensures program { IfOk result (λ checked. checked.program ≡ program) }
     ensures tables { IfOk result (λ checked. checked.tables ≡ columned_of tables.now.tables) }
-    ensures clean { OnOk result (violations (columned_of tables.now.tables) (tree program) (lines program) ≡ []) }
-    ensures revisions { IfOk result (λ checked. ((revised_of checked).revisions, checked.counter) ≡ revised nothing (tree program) 0) }
-    ensures refused { IfErr result (IsRefused (columned_of tables.now.tables) (tree program) (lines program)) }
+    ensures clean { OnOk result (violations (columned_of tables.now.tables) (tree program)
+        (lines program) ≡ []) }
+    ensures revisions { IfOk result (λ checked. ((revised_of checked).revisions, checked.counter)
+        ≡ revised nothing (tree program) 0) }
+    ensures refused { IfErr result (IsRefused (columned_of tables.now.tables) (tree program)
+        (lines program)) }
 {
     match names_if_clean(alloc, &program, tables) {
         Ok(names) => first_checked(alloc, program, names),
@@ -102,9 +105,12 @@ pub fn redefine(
 ) -> Result<Checked, CheckError>
     ensures program { IfOk result (λ checked. checked.program ≡ program) }
     ensures tables { IfOk result (λ checked. checked.tables ≡ columned_of tables.now.tables) }
-    ensures clean { OnOk result (violations (columned_of tables.now.tables) (tree program) (lines program) ≡ []) }
-    ensures revisions { IfOk result (λ checked. ((revised_of checked).revisions, checked.counter) ≡ revised (revised_of old.now) (tree program) old.now.counter) }
-    ensures refused { IfErr result (IsRefusedAnew (revised_of old.now) (columned_of tables.now.tables) (tree program) (lines program)) }
+    ensures clean { OnOk result (violations (columned_of tables.now.tables) (tree program)
+        (lines program) ≡ []) }
+    ensures revisions { IfOk result (λ checked. ((revised_of checked).revisions, checked.counter)
+        ≡ revised (revised_of old.now) (tree program) old.now.counter) }
+    ensures refused { IfErr result (IsRefusedAnew (revised_of old.now)
+        (columned_of tables.now.tables) (tree program) (lines program)) }
 {
     match names_if_clean(alloc, &program, tables) {
         Ok(names) => next_checked(alloc, old, program, names),

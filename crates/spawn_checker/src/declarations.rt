@@ -174,7 +174,9 @@ pub fn first_violation(
     declarations: &[Declaration],
     tables: &[TableNames],
 ) -> Result<Option<Violation>, AllocError>
-    ensures { IfOk result (λ found. found ≡ first_of (violations (map columned tables.now) (map decl declarations.now) (map lined declarations.now))) }
+    ensures { IfOk result (λ found. found ≡ first_of
+        (violations (map columned tables.now) (map decl declarations.now)
+        (map lined declarations.now))) }
 {
     let mut found = note_missing(declarations);
     for (number, declaration) in declarations.iter().enumerate() {

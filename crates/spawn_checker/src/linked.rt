@@ -22,7 +22,8 @@ pub fn linked(
     counter: u64,
 ) -> Result<Checked, AllocError>
     requires clean { IsClean (map columned tables.items) program }
-    requires each { names_in (numbers_in revisions) ≡ map (λ p. p.called) (procedures (tree program)) }
+    requires each { names_in (numbers_in revisions)
+        ≡ map (λ p. p.called) (procedures (tree program)) }
     requires below { All (λ e. e.1 < counter) (numbers_in revisions) }
     ensures program { IfOk result (λ checked. checked.program ≡ program) }
     ensures tables { IfOk result (λ checked. checked.tables ≡ map columned tables.items) }

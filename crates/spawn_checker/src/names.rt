@@ -13,7 +13,8 @@ use program_tree::{Declaration, Procedure};
 
 /// The procedure of that name.
 pub fn find_procedure<'a>(declarations: &'a [Declaration], name: &str) -> Option<&'a Procedure>
-    ensures found { option_map (λ p. proc p.now) result ≡ procedure_of (map decl declarations.now) name.now }
+    ensures found { option_map (λ p. proc p.now) result
+        ≡ procedure_of (map decl declarations.now) name.now }
 {
     for declaration in declarations {
         if let Declaration::Procedure(procedure) = declaration {
@@ -27,7 +28,8 @@ pub fn find_procedure<'a>(declarations: &'a [Declaration], name: &str) -> Option
 
 /// How many parameters the procedure of that name has.
 pub fn parameters_of(declarations: &[Declaration], name: &str) -> Option<usize>
-    ensures { result ≡ option_map (λ p. p.parameters) (procedure_of (map decl declarations.now) name.now) }
+    ensures { result ≡ option_map (λ p. p.parameters)
+        (procedure_of (map decl declarations.now) name.now) }
 {
     match find_procedure(declarations, name) {
         Some(procedure) => Some(procedure.parameters),
@@ -72,7 +74,8 @@ pub fn is_readable(kind: &Kind) -> bool
 
 /// The table of that name.
 pub fn table_of<'a>(tables: &'a [TableNames], name: &str) -> Option<&'a TableNames>
-    ensures { option_map columned (option_copied result) ≡ table_of (map columned tables.now) name.now }
+    ensures { option_map columned (option_copied result)
+        ≡ table_of (map columned tables.now) name.now }
 {
     for table in tables {
         if table.name.as_str() == name {

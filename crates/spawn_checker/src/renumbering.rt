@@ -37,8 +37,11 @@ pub fn next_revisions(
     declarations: &[Declaration],
 ) -> Result<Option<Numbers>, AllocError>
     requires new { AreNew [] (map decl declarations.now) }
-    ensures numbers { IfOk result (λ found. IfSome found (λ made. (numbers_in made.revisions, made.counter) ≡ revised (revised_of old.now) (map decl declarations.now) old.now.counter)) }
-    ensures exhausted { IfOk result (λ found. IfNone found (most < (revised (revised_of old.now) (map decl declarations.now) old.now.counter).1)) }
+    ensures numbers { IfOk result (λ found. IfSome found
+        (λ made. (numbers_in made.revisions, made.counter)
+        ≡ revised (revised_of old.now) (map decl declarations.now) old.now.counter)) }
+    ensures exhausted { IfOk result (λ found. IfNone found
+        (most < (revised (revised_of old.now) (map decl declarations.now) old.now.counter).1)) }
 {
     let mut revisions = IndexMap::new(alloc);
     let mut counter = old.counter();

@@ -25,7 +25,8 @@ pub fn put_revision(
     revision: u64,
 ) -> Result<(), AllocError>
     requires new { has_name (names_in (numbers_in revisions.old)) name.now ≡ false }
-    ensures put { IfOk result (λ _. numbers_in revisions.new ≡ numbers_in revisions.old ++ (name.now, revision) ∷ []) }
+    ensures put { IfOk result (λ _. numbers_in revisions.new
+        ≡ numbers_in revisions.old ++ (name.now, revision) ∷ []) }
 {
     let name = String::from_str(alloc, name)?;
     let Ok(_) = revisions.insert(name, revision) else {
@@ -37,7 +38,8 @@ pub fn put_revision(
 /// The first revision numbers of a program's procedures: in their order from 0 on.
 pub fn first_revisions(alloc: Global, declarations: &[Declaration]) -> Result<Numbers, AllocError>
     requires new { AreNew [] (map decl declarations.now) }
-    ensures numbers { IfOk result (λ made. (numbers_in made.revisions, made.counter) ≡ revised nothing (map decl declarations.now) 0) }
+    ensures numbers { IfOk result (λ made. (numbers_in made.revisions, made.counter)
+        ≡ revised nothing (map decl declarations.now) 0) }
 {
     let mut revisions = IndexMap::new(alloc);
     let mut counter: u64 = 0;

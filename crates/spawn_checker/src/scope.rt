@@ -109,7 +109,8 @@ impl Scope {
 
     /// The first violation so far or that of the name's use in an expression.
     pub fn note_use(&self, first: Option<Violation>, place: Place, name: usize) -> Option<Violation>
-        ensures noted { result ≡ noted first (at place.declaration place.line (use_rules self.now.synced (slice_get self.now.names name))) }
+        ensures noted { result ≡ noted first (at place.declaration place.line
+            (use_rules self.now.synced (slice_get self.now.names name))) }
     {
         match self.names.get(name) {
             Some(Knowledge::Known { since, spawned }) => {

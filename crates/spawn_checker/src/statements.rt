@@ -240,8 +240,11 @@ pub fn note_own(
     now: Moment,
     action: &Action,
 ) -> Option<Violation>
-    ensures noted { (inner : ℕ → Body) → result ≡ noted first (at place.declaration place.line (own_rules (plain setting.now) now scope.old (deed inner action.now))) }
-    ensures after { (inner : ℕ → Body) → scope.new ≡ after_own now scope.old (deed inner action.now) }
+    ensures noted { (inner : ℕ → Body) → result ≡ noted first
+        (at place.declaration place.line (own_rules (plain setting.now) now scope.old
+        (deed inner action.now))) }
+    ensures after { (inner : ℕ → Body) → scope.new
+        ≡ after_own now scope.old (deed inner action.now) }
 {
     match action {
         Action::Bind(name, value) => note_binding(setting, first, place, scope, now, *name, value),

@@ -50,7 +50,8 @@ pub fn note_term(
     scope: &Scope,
     expr: &Expr,
 ) -> Option<Violation>
-    ensures { result ≡ noted first (at place.declaration place.line (term_rules (map columned tables.now) scope.now (term expr.now))) }
+    ensures { result ≡ noted first (at place.declaration place.line
+        (term_rules (map columned tables.now) scope.now (term expr.now))) }
 {
     match expr {
         Expr::Number(_) => first,
@@ -82,7 +83,8 @@ pub fn note_terms(
     scope: &Scope,
     exprs: &[Expr],
 ) -> Option<Violation>
-    ensures { result ≡ noted first (at place.declaration place.line (terms_rules (map columned tables.now) scope.now (map term exprs.now))) }
+    ensures { result ≡ noted first (at place.declaration place.line
+        (terms_rules (map columned tables.now) scope.now (map term exprs.now))) }
 {
     let mut found = first;
     for expr in exprs {

@@ -126,7 +126,8 @@ pub fn note_block(
     number: usize,
 ) -> Option<Violation>
     requires { depth + levels < 2 ^ 64 }
-    ensures noted { result ≡ noted first (body_violations (plain setting.now) depth 1 scope.old (block blocks.now levels number)) }
+    ensures noted { result ≡ noted first (body_violations (plain setting.now) depth 1 scope.old
+        (block blocks.now levels number)) }
     ensures after { scope.new ≡ after_body depth 1 scope.old (block blocks.now levels number) }
 {
     if levels == 0 {

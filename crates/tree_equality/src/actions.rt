@@ -199,7 +199,8 @@ pub fn same_block(
     their_levels: usize,
     other: usize,
 ) -> bool
-    ensures same { result ≡ same_body (block ours.now our_levels one) (block theirs.now their_levels other) }
+    ensures same { result ≡ same_body (block ours.now our_levels one)
+        (block theirs.now their_levels other) }
 {
     match block_at(ours, our_levels, one) {
         None => match block_at(theirs, their_levels, other) {

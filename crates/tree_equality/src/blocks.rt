@@ -6,7 +6,8 @@ use program_tree::Block;
 
 /// The block of a number, where blocks nest at most so many levels; none where no level is left or there is no such block.
 pub fn block_at(blocks: &[Block], levels: usize, number: usize) -> Option<&Block>
-    ensures found { block blocks.now levels number ≡ statements_of (block blocks.now (levels - 1)) (option_copied result) }
+    ensures found { block blocks.now levels number
+        ≡ statements_of (block blocks.now (levels - 1)) (option_copied result) }
     ensures nested { OnSome result (0 < levels) }
 {
     if levels == 0 {
