@@ -1,0 +1,26 @@
+-- What a checked program and its tables stand for, and what procedures that are put in leave as it was.
+use Rattle.std.specs.Prelude.{◌≡◌, List, [], ◌++◌, map}
+use Rattle.program_tree.specs.Plain.{Name, Tree}
+use Rattle.program_tree.specs.View.{Lined, lines}
+use Rattle.meaning.specs.Edits.{Standing}
+use Rattle.source_tree.specs.Source.{Source}
+use Rattle.program_edits.specs.Putting.{put_all}
+use Rattle.linked_program.specs.Procedures.{procedures}
+use Rattle.linked_program.specs.Checked.{PlainChecked, revised_of}
+use Rattle.input_tables.specs.Edited.{Edited, beside}
+
+-- the program with its revision numbers and its lines, beside its tables
+abbrev pub standing : PlainChecked → Edited → Standing
+standing checked now = beside (revised_of checked) (lines checked.program) now
+
+-- the program, with its lines, is another with some text's procedures put in
+abbrev pub HasPut : Tree × List Lined → Tree × List Lined → Type 0
+HasPut before after = (s : Source) × (after ≡ put_all [] s before)
+
+-- the procedures' names, in the program's order
+abbrev pub called_in : Tree → List Name
+called_in t = map (λ p. p.called) (procedures t)
+
+-- each procedure keeps its number: the names that are new stand last
+abbrev pub KeepsPlaces : Tree → Tree → Type 0
+KeepsPlaces old new = (more : List Name) × (called_in new ≡ called_in old ++ more)
