@@ -1,2 +1,5 @@
 pub mod FirstFaults
 pub mod Texts
+pub mod Rules
+pub mod Puts
+pub mod Definitions

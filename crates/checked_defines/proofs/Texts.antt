@@ -46,12 +46,12 @@ module _ (text : List ℕ) (before : Tree × List Lined) where
       let a : answer ≡ Ok s = only_definition (room_of before.0) s (tokens_of text) g in
       rw (short, a, e) refl
 
-  pub is_refused : (line : ℕ) → IsFaultLineIn (InDefinition (room_of before.0)) text line → reads_text text before ≡ Err line
+  pub text_refused : (line : ℕ) → IsFaultLineIn (InDefinition (room_of before.0)) text line → reads_text text before ≡ Err line
   unfolding reads_text
-  is_refused line (inl (lt, z)) =
+  text_refused line (inl (lt, z)) =
       let long : is_long ≡ true = lt-ltb longest_text (length text) lt in
       rw (long, z) refl
-  is_refused line (inr (us, le, f, at, some)) =
+  text_refused line (inr (us, le, f, at, some)) =
       let short : is_long ≡ false = le-ltb longest_text (length text) le in
       let a : answer ≡ Err us = stops_at_fault (room_of before.0) (tokens_of text) us f in
       rw (short, a, at) refl
@@ -67,5 +67,5 @@ module _ (text : List ℕ) (before : Tree × List Lined) where
 pub reads_grammar : ReadsGrammar reads_text
 reads_grammar = record {
   puts = λ text before after. (put_is text before after, is_put text before after);
-  refuses = λ text before line. (refused_is text before line, is_refused text before line);
+  refuses = λ text before line. (refused_is text before line, text_refused text before line);
 }

@@ -29,6 +29,7 @@ fn in_place(
     ensures defined { IfOk result (λ new. defined_as checks_rules (standing checked.now tables.now) (Ok (tree program, lines program)) ≡ Ok (standing new tables.now)) }
     ensures refused { IfErr result (λ error. IsDefineCause (defined_as checks_rules (standing checked.now tables.now) (Ok (tree program, lines program))) error) }
     ensures later { IfOk result (λ new. IsLater (revised_of checked.now) (revised_of new)) }
+    ensures sound { IfOk result (λ new. RecordsStaySound (revised_of checked.now) (revised_of new)) }
     ensures tables { IfOk result (λ new. new.tables ≡ columned_of tables.now.tables) }
     ensures kinds { IfOk result (λ new. new.kinds ≡ checked.now.kinds) }
     ensures places { IfOk result (λ new. KeepsPlaces (tree checked.now.program) (tree new.program)) }
