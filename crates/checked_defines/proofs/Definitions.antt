@@ -1,5 +1,5 @@
 -- The edit of the definitions, at a checked program.
-use Rattle.std.proofs.Common.{◌≡◌, ℕ, ◌≤◌, ◌<◌, nat_lt, Bool, true, false, List, [], Option, Some, None, map, Result, Ok, Err, option_map, refl, sym, ap, subst, ◌∙◌}
+use Rattle.std.proofs.Common.{◌≡◌, ℕ, ◌≤◌, nat_lt, Bool, false, List, [], Option, Some, None, map, Result, Ok, Err, option_map, sym, ap, subst, ◌∙◌}
 use Rattle.std.proofs.lemmas.Bool.{le-ltb}
 use Rattle.std.specs.Prelude.{string_bytes}
 use Rattle.program_tree.specs.Plain.{Name, Red, Tree}

@@ -3,3 +3,4 @@ pub mod Texts
 pub mod Rules
 pub mod Puts
 pub mod Definitions
+pub mod Numbers

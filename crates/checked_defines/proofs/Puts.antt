@@ -1,5 +1,5 @@
 -- What procedures that are put in leave as it was: the reducers, and the numbers of the procedures where no name stands twice.
-use Rattle.std.proofs.Common.{◌≡◌, ℕ, zero, suc, ◌+◌, ◌≤◌, ◌<◌, Bool, true, false, cond, ◌||◌, List, [], ◌∷◌, ◌++◌, Option, Some, None, map, ◌⊎◌, inl, inr, refl, sym, ap, subst, ◌∙◌, arith, append_assoc, add-one}
+use Rattle.std.proofs.Common.{◌≡◌, ℕ, zero, suc, ◌+◌, ◌≤◌, ◌<◌, Bool, true, false, cond, ◌||◌, List, [], ◌∷◌, ◌++◌, Option, Some, None, ◌⊎◌, inl, inr, refl, sym, ap, subst, ◌∙◌, arith, append_assoc, add-one}
 use Rattle.std.specs.Prelude.{insert, slice_set}
 use Rattle.std.proofs.lemmas.List.{append-nil}
 use Rattle.std.proofs.lemmas.Slice.Eq.{bytes_eq-Decides}
@@ -10,10 +10,9 @@ use Rattle.meaning.specs.Statements.{reducers}
 use Rattle.source_tree.specs.Source.{Reduces, Defines, Source, stmts_of}
 use Rattle.source_tree.specs.Lowering.{lower_proc, body_lines}
 use Rattle.linked_program.specs.TableNames.{has_name}
-use Rattle.linked_program.specs.Procedures.{procedures}
 use Rattle.spawn_checker.specs.Renumbered.{AreNew}
 use Rattle.trail_theory.proofs.SameTrees.{name_true}
-use Rattle.program_edits.specs.Putting.{is_in, is_procedure, last_place, Spot, Last, Over, Behind, spot_of, put_at, Placed, put_procedure, put_all}
+use Rattle.program_edits.specs.Putting.{is_in, is_procedure, last_place, spot_of, put_at, Placed, put_procedure, put_all}
 use Rattle.checked_defines.specs.Standings.{called_in, KeepsPlaces}
 
 -- ---- the place of a procedure

@@ -1,5 +1,5 @@
 -- The checker finds what the rules say.
-use Rattle.std.proofs.Common.{◌≡◌, List, [], ◌∷◌, Option, Some, None, Bool, true, false, option_map, refl, sym, ap, subst, ◌∙◌}
+use Rattle.std.proofs.Common.{◌≡◌, List, [], Option, Some, None, option_map, refl, sym, ap}
 use Rattle.program_tree.specs.Plain.{Tree}
 use Rattle.program_tree.specs.View.{Lined}
 use Rattle.meaning.specs.Tables.{Tables}
@@ -7,7 +7,7 @@ use Rattle.meaning.specs.Edits as edits
 use Rattle.linked_program.specs.declared.violation.Violation.{Violation}
 use Rattle.linked_program.specs.TableNames.{columned_of}
 use Rattle.linked_program.specs.Violations.{first_of}
-use Rattle.linked_program.specs.First.{IsFirst, IsFirstOf}
+use Rattle.linked_program.specs.First.{IsFirstOf}
 use Rattle.linked_program.specs.Declarations.{violations}
 use Rattle.linked_program.proofs.Least.{first_is_least}
 use Rattle.spawn_checker.proofs.Counting.{nothing_violated}

@@ -1,5 +1,5 @@
 -- The reader of texts that define procedures gives what the grammar says.
-use Rattle.std.proofs.Common.{◌≡◌, ℕ, ◌<◌, ◌≤◌, nat_lt, Bool, true, false, cond, List, [], length, ◌⊎◌, inl, inr, Result, Ok, Err, refl, sym, ap, ◌∙◌}
+use Rattle.std.proofs.Common.{◌≡◌, ℕ, nat_lt, Bool, true, false, cond, List, [], length, inl, inr, Result, Ok, Err, refl, sym, ap, ◌∙◌}
 use Rattle.std.proofs.lemmas.Bool.{ltb-true, ltb-false, lt-ltb, le-ltb}
 use Rattle.program_tree.specs.View.{Lined}
 use Rattle.program_tree.specs.Plain.{Tree}

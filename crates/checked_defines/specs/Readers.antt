@@ -1,5 +1,5 @@
 -- How a text's procedures are put into a program, and how a program is checked: the two that the definitions of edits leave open.
-use Rattle.std.specs.Prelude.{◌≡◌, ◌↔◌, ℕ, nat_lt, cond, List, [], Option, Some, None, Result, Ok, Err, length, option_map}
+use Rattle.std.specs.Prelude.{◌≡◌, ◌↔◌, ℕ, nat_lt, cond, List, [], Some, None, Result, Ok, Err, length, option_map}
 use Rattle.program_tree.specs.Plain.{Tree}
 use Rattle.program_tree.specs.View.{Lined}
 use Rattle.meaning.specs.Tables.{Tables}

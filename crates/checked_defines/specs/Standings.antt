@@ -1,11 +1,14 @@
 -- What a checked program and its tables stand for, and what procedures that are put in leave as it was.
-use Rattle.std.specs.Prelude.{◌≡◌, List, [], ◌++◌, map}
+use Rattle.std.specs.Prelude.{◌≡◌, true, List, [], ◌++◌, map}
 use Rattle.program_tree.specs.Plain.{Name, Tree}
 use Rattle.program_tree.specs.View.{Lined, lines}
 use Rattle.meaning.specs.Edits.{Standing}
+use Rattle.meaning.specs.Statements.{procedure_of}
+use Rattle.meaning.specs.Tables.{is_there}
 use Rattle.source_tree.specs.Source.{Source}
 use Rattle.program_edits.specs.Putting.{put_all}
 use Rattle.linked_program.specs.Procedures.{procedures}
+use Rattle.linked_program.specs.Linked.{procedure_number}
 use Rattle.linked_program.specs.Checked.{PlainChecked, revised_of}
 use Rattle.input_tables.specs.Edited.{Edited, beside}
 
@@ -21,6 +24,11 @@ HasPut before after = (s : Source) × (after ≡ put_all [] s before)
 abbrev pub called_in : Tree → List Name
 called_in t = map (λ p. p.called) (procedures t)
 
--- each procedure keeps its number: the names that are new stand last
+-- each procedure keeps its place: the names that are new stand last
 abbrev pub KeepsPlaces : Tree → Tree → Type 0
 KeepsPlaces old new = (more : List Name) × (called_in new ≡ called_in old ++ more)
+
+-- each procedure that is there stays there, with the number that its name had
+abbrev pub KeepsNumbers : Tree → Tree → Type 0
+KeepsNumbers old new =
+    (f : Name) → is_there (procedure_of old f) ≡ true → (is_there (procedure_of new f) ≡ true) × (procedure_number (procedures new) f ≡ procedure_number (procedures old) f)

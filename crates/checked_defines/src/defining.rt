@@ -66,7 +66,7 @@ pub fn define(
     ensures sound { IfOk result (λ new. RecordsStaySound (revised_of checked.now) (revised_of new)) }
     ensures tables { IfOk result (λ new. new.tables ≡ columned_of tables.now.tables) }
     ensures kinds { IfOk result (λ new. new.kinds ≡ checked.now.kinds) }
-    // Each procedure keeps its number.
+    // Each procedure stands where it stood.
     ensures places { IfOk result (λ new. KeepsPlaces (tree checked.now.program) (tree new.program)) }
 {
     match parse_define(alloc, text, checked.program()) {

@@ -6,6 +6,7 @@ ghost use Rattle.program_tree.specs.Plain.{Tree};
 ghost use Rattle.source_tree.specs.Source.{Source};
 ghost use Rattle.program_edits.specs.Putting.{put_all};
 ghost use Rattle.checked_defines.specs.Readers.{reads_text, checks_rules, ReadsGrammar, ChecksRules};
+ghost use Rattle.checked_defines.specs.Standings.{KeepsPlaces, KeepsNumbers};
 
 /// The reader gives the program with the procedures of a text put in exactly where the text is one of the grammar, and the line of its first fault exactly where it is none.
 pub fn reader_is_grammar()
@@ -20,4 +21,9 @@ pub fn checker_is_rules()
 /// Procedures that are put in leave the reducers as they are, in their order.
 pub fn reducers_stay()
     ensures reducers { (source : Source) (before : Tree × List Lined) → reducers (put_all [] source before).0 ≡ reducers before.0 }
+{}
+
+/// Procedures that keep their places keep their numbers.
+pub fn places_are_numbers()
+    ensures numbers { (old new : Tree) → KeepsPlaces old new → KeepsNumbers old new }
 {}

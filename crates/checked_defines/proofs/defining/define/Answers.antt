@@ -1,11 +1,10 @@
 use Rattle.std.proofs.Common.{◌≡◌, ℕ, List, Result, Ok, IfOk, IfErr, sym, subst}
 use Rattle.program_tree.specs.Plain.{Tree}
 use Rattle.program_tree.specs.View.{tree, lines, Lined}
-use Rattle.program_tree.specs.declared.Program.{Program}
 use Rattle.meaning.specs.Edits.{defined_as}
 use Rattle.procedure_parser.specs.Correct.{IsDefinitionFault}
 use Rattle.define_parser.specs.Defined.{IsDefined}
-use Rattle.checked_defines.specs.Readers.{reads_text, checks_rules}
+use Rattle.checked_defines.specs.Readers.{checks_rules}
 use Rattle.checked_defines.specs.Standings.{standing}
 use Rattle.checked_defines.specs.Causes.{IsDefineCause}
 use Rattle.checked_defines.proofs.Texts.{is_put}
