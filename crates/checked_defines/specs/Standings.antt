@@ -1,8 +1,9 @@
 -- What a checked program and its tables stand for, and what procedures that are put in leave as it was.
-use Rattle.std.specs.Prelude.{◌≡◌, true, List, [], ◌++◌, map}
+use Rattle.std.specs.Prelude.{◌≡◌, true, List, [], ◌++◌, map, Result, Ok}
 use Rattle.program_tree.specs.Plain.{Name, Tree}
-use Rattle.program_tree.specs.View.{Lined, lines}
-use Rattle.meaning.specs.Edits.{Standing}
+use Rattle.program_tree.specs.declared.Program.{Program}
+use Rattle.program_tree.specs.View.{Lined, lines, tree}
+use Rattle.meaning.specs.Edits.{Standing, EditRefusal, defined_as}
 use Rattle.meaning.specs.Statements.{procedure_of}
 use Rattle.meaning.specs.Tables.{is_there}
 use Rattle.source_tree.specs.Source.{Source}
@@ -11,10 +12,15 @@ use Rattle.linked_program.specs.Procedures.{procedures}
 use Rattle.linked_program.specs.Linked.{procedure_number}
 use Rattle.linked_program.specs.Checked.{PlainChecked, revised_of}
 use Rattle.input_tables.specs.Edited.{Edited, beside}
+use Rattle.checked_defines.specs.Readers.{checks_rules}
 
 -- the program with its revision numbers and its lines, beside its tables
 abbrev pub standing : PlainChecked → Edited → Standing
 standing checked now = beside (revised_of checked) (lines checked.program) now
+
+-- the answer to a program that takes the place of another
+abbrev pub answer_to : Standing → Program → Result Standing EditRefusal
+answer_to s p = defined_as checks_rules s (Ok (tree p, lines p))
 
 -- the program, with its lines, is another with some text's procedures put in
 abbrev pub HasPut : Tree × List Lined → Tree × List Lined → Type 0

@@ -1,13 +1,13 @@
 //! Defines procedures of a checked program.
 ghost use Rattle.std.specs.Prelude.{◌≡◌, Ok, IfOk, IfErr};
-ghost use Rattle.meaning.specs.Edits.{after_define, defined_as};
+ghost use Rattle.meaning.specs.Edits.{after_define};
 ghost use Rattle.program_tree.specs.View.{tree, lines};
 ghost use Rattle.linked_program.specs.TableNames.{columned_of};
 ghost use Rattle.linked_program.specs.Checked.{revised_of};
 ghost use Rattle.trail_theory.specs.KeptRecords.{RecordsStaySound};
 ghost use Rattle.trail_theory.specs.MadeRecords.{IsLater};
 ghost use Rattle.checked_defines.specs.Readers.{reads_text, checks_rules};
-ghost use Rattle.checked_defines.specs.Standings.{standing, HasPut, KeepsPlaces};
+ghost use Rattle.checked_defines.specs.Standings.{standing, answer_to, HasPut, KeepsPlaces};
 ghost use Rattle.checked_defines.specs.Causes.{IsDefineCause};
 
 use crate::refusal::{DefineError, unchecked, unread};
@@ -25,9 +25,12 @@ fn in_place(
     tables: &Tables,
     program: Program,
 ) -> Result<Checked, DefineError>
-    requires put { HasPut (tree checked.now.program, lines checked.now.program) (tree program, lines program) }
-    ensures defined { IfOk result (λ new. defined_as checks_rules (standing checked.now tables.now) (Ok (tree program, lines program)) ≡ Ok (standing new tables.now)) }
-    ensures refused { IfErr result (λ error. IsDefineCause (defined_as checks_rules (standing checked.now tables.now) (Ok (tree program, lines program))) error) }
+    requires put { HasPut (tree checked.now.program, lines checked.now.program)
+        (tree program, lines program) }
+    ensures defined { IfOk result (λ new. answer_to (standing checked.now tables.now) program
+        ≡ Ok (standing new tables.now)) }
+    ensures refused { IfErr result (λ error.
+        IsDefineCause (answer_to (standing checked.now tables.now) program) error) }
     ensures later { IfOk result (λ new. IsLater (revised_of checked.now) (revised_of new)) }
     ensures sound { IfOk result (λ new. RecordsStaySound (revised_of checked.now) (revised_of new)) }
     ensures tables { IfOk result (λ new. new.tables ≡ columned_of tables.now.tables) }
@@ -36,6 +39,7 @@ fn in_place(
 {
     match redefine(alloc, checked, program, tables) {
         Ok(new) => {
+            // What the types of both keep, and that the new counter fits 64 bits.
             checked.clean();
             checked.linked();
             checked.revised();
@@ -57,9 +61,12 @@ pub fn define(
     text: &[u8],
 ) -> Result<Checked, DefineError>
     // The new program is the one that the definitions' edit leaves.
-    ensures defined { IfOk result (λ new. after_define reads_text checks_rules (standing checked.now tables.now) text.now ≡ Ok (standing new tables.now)) }
+    ensures defined { IfOk result (λ new.
+        after_define reads_text checks_rules (standing checked.now tables.now) text.now
+        ≡ Ok (standing new tables.now)) }
     // Each refusal is the definitions' one.
-    ensures refused { IfErr result (λ error. IsDefineCause (after_define reads_text checks_rules (standing checked.now tables.now) text.now) error) }
+    ensures refused { IfErr result (λ error. IsDefineCause
+        (after_define reads_text checks_rules (standing checked.now tables.now) text.now) error) }
     // A procedure whose revision number is as it was is the same, and the reducers are the same.
     ensures later { IfOk result (λ new. IsLater (revised_of checked.now) (revised_of new)) }
     // Records that were sound are sound.
