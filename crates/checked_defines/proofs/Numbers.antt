@@ -1,13 +1,16 @@
 -- Procedures that stand where they stood have the numbers that they had.
-use Rattle.std.proofs.Common.{◌≡◌, ℕ, suc, true, false, cond, ◌||◌, List, [], ◌∷◌, ◌++◌, Some, map, refl, sym, ap, ◌∙◌}
+use Rattle.std.proofs.Common.{◌≡◌, ℕ, suc, true, false, nat_eq, cond, ◌||◌, List, [], ◌∷◌, ◌++◌, Some, map, refl, sym, ap, ◌∙◌}
 use Rattle.std.specs.Str.{bytes_eq}
 use Rattle.program_tree.specs.Plain.{Name, Proc, reducer, procedure, Tree}
 use Rattle.meaning.specs.Statements.{procedure_of}
 use Rattle.meaning.specs.Tables.{is_there}
 use Rattle.linked_program.specs.TableNames.{has_name}
 use Rattle.linked_program.specs.Procedures.{procedures}
+use Rattle.linked_program.specs.Checked.{PlainChecked, IsChecked, names_in}
 use Rattle.linked_program.specs.Linked.{procedure_number}
-use Rattle.checked_defines.specs.Standings.{called_in, KeepsPlaces, KeepsNumbers}
+use Rattle.meaning.specs.Records.{is_current}
+use Rattle.program_tree.specs.View.{tree}
+use Rattle.checked_defines.specs.Standings.{called_in, KeepsPlaces, KeepsNumbers, CurrentAreThere}
 
 name_number : List Name → Name → ℕ
 name_number [] f = 0
@@ -50,3 +53,17 @@ keeps_numbers old new (more, e) = λ f there.
     let here : is_there (procedure_of new f) ≡ true = there_by_name new f ∙ ap (λ (xs : List Name). has_name xs f) e ∙ still_there (called_in old) more f named in
     let number = number_by_name (procedures new) f ∙ ap (λ (xs : List Name). name_number xs f) e ∙ same_number (called_in old) more f named ∙ sym (number_by_name (procedures old) f) in
     (here, number)
+
+-- ---- revision numbers that are current
+
+current_named : (numbers : List (Name × ℕ)) (f : Name) (n : ℕ) → is_current numbers (f, n) ≡ true → has_name (names_in numbers) f ≡ true
+current_named [] f n e = absurd cc
+current_named ((g, m) ∷ numbers) f n e =
+    elim (bytes_eq g f) as (λ b. cond b (nat_eq m n) (is_current numbers (f, n)) ≡ true → b || has_name (names_in numbers) f ≡ true) [
+      | true ↦ λ h. refl
+      | false ↦ λ h. current_named numbers f n h
+    ] e
+
+pub current_are_there : (checked : PlainChecked) → IsChecked checked → CurrentAreThere checked
+current_are_there checked is = λ f n e.
+    there_by_name (tree checked.program) f ∙ ap (λ (xs : List Name). has_name xs f) (sym is.each) ∙ current_named checked.revisions f n e

@@ -1,9 +1,10 @@
 -- What a checked program and its tables stand for, and what procedures that are put in leave as it was.
-use Rattle.std.specs.Prelude.{◌≡◌, true, List, [], ◌++◌, map, Result, Ok}
+use Rattle.std.specs.Prelude.{◌≡◌, ℕ, true, List, [], ◌++◌, map, Result, Ok}
 use Rattle.program_tree.specs.Plain.{Name, Tree}
 use Rattle.program_tree.specs.declared.Program.{Program}
 use Rattle.program_tree.specs.View.{Lined, lines, tree}
 use Rattle.meaning.specs.Edits.{Standing, EditRefusal, defined_as}
+use Rattle.meaning.specs.Records.{is_current}
 use Rattle.meaning.specs.Statements.{procedure_of}
 use Rattle.meaning.specs.Tables.{is_there}
 use Rattle.source_tree.specs.Source.{Source}
@@ -38,3 +39,8 @@ KeepsPlaces old new = (more : List Name) × (called_in new ≡ called_in old ++ 
 abbrev pub KeepsNumbers : Tree → Tree → Type 0
 KeepsNumbers old new =
     (f : Name) → is_there (procedure_of old f) ≡ true → (is_there (procedure_of new f) ≡ true) × (procedure_number (procedures new) f ≡ procedure_number (procedures old) f)
+
+-- a procedure whose revision number is current is there
+abbrev pub CurrentAreThere : PlainChecked → Type 0
+CurrentAreThere checked =
+    (f : Name) (n : ℕ) → is_current checked.revisions (f, n) ≡ true → is_there (procedure_of (tree checked.program) f) ≡ true

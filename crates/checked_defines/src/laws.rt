@@ -5,8 +5,9 @@ ghost use Rattle.meaning.specs.Statements.{reducers};
 ghost use Rattle.program_tree.specs.Plain.{Tree};
 ghost use Rattle.source_tree.specs.Source.{Source};
 ghost use Rattle.program_edits.specs.Putting.{put_all};
+ghost use Rattle.linked_program.specs.Checked.{PlainChecked, IsChecked};
 ghost use Rattle.checked_defines.specs.Readers.{reads_text, checks_rules, ReadsGrammar, ChecksRules};
-ghost use Rattle.checked_defines.specs.Standings.{KeepsPlaces, KeepsNumbers};
+ghost use Rattle.checked_defines.specs.Standings.{KeepsPlaces, KeepsNumbers, CurrentAreThere};
 
 /// The reader gives the program with the procedures of a text put in exactly where the text is one of the grammar, and the line of its first fault exactly where it is none.
 pub fn reader_is_grammar()
@@ -26,4 +27,9 @@ pub fn reducers_stay()
 /// Procedures that keep their places keep their numbers.
 pub fn places_are_numbers()
     ensures numbers { (old new : Tree) → KeepsPlaces old new → KeepsNumbers old new }
+{}
+
+/// A procedure whose revision number is current is there: so those that a record names, which held once, are there, and stay there with their numbers.
+pub fn current_ones_are_there()
+    ensures there { (checked : PlainChecked) → IsChecked checked → CurrentAreThere checked }
 {}
