@@ -3,6 +3,7 @@
 mod answers;
 mod code;
 mod declared;
+mod defines;
 mod exhausted;
 mod names;
 mod reads;

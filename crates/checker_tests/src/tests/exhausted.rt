@@ -54,7 +54,7 @@ fn number_of_main(rt: &impl Abort, alloc: Global) -> IndexMap<String, u64>
 }
 
 /// That program, checked, whose `main` has the revision number 0, and this as the least that was never used.
-fn before(rt: &impl Abort, alloc: Global, counter: u64) -> Checked
+pub fn before(rt: &impl Abort, alloc: Global, counter: u64) -> Checked
     requires { 0 < counter }
 {
     let program = main_alone(rt, alloc);

@@ -34,7 +34,12 @@ pub fn redefined(
 }
 
 /// Asserts that these are the first procedures, each with its revision number, and this the least number that was never used.
-fn assert_numbered(rt: &impl Abort, program: &Checked, procedures: &[(&str, u64)], counter: u64) {
+pub fn assert_numbered(
+    rt: &impl Abort,
+    program: &Checked,
+    procedures: &[(&str, u64)],
+    counter: u64,
+) {
     for (number, (name, revision)) in procedures.iter().enumerate() {
         assert_eq!(rt; program.procedure(name), Some(number), "of {name}");
         assert_eq!(rt; program.revision(name), Some(*revision), "of {name}");

@@ -1,0 +1,3 @@
+pub mod Readers
+pub mod Standings
+pub mod Causes
