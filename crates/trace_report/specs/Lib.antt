@@ -1,2 +1,3 @@
 pub mod Amounts
+pub mod EditTexts
 pub mod Outcomes

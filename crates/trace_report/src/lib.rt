@@ -3,3 +3,4 @@
 
 pub mod amounts;
 pub mod answers;
+pub mod edits;
