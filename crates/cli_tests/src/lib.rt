@@ -4,11 +4,15 @@
 #[cfg(test)]
 mod answer_tests;
 #[cfg(test)]
+mod edit_tests;
+#[cfg(test)]
 mod memory_tests;
 #[cfg(test)]
 mod program_tests;
 #[cfg(test)]
 mod row_tests;
+#[cfg(test)]
+mod script_tests;
 #[cfg(test)]
 mod session_tests;
 #[cfg(test)]
