@@ -17,3 +17,5 @@ mod script_tests;
 mod session_tests;
 #[cfg(test)]
 mod stream_tests;
+#[cfg(test)]
+mod trace_tests;

@@ -5,8 +5,7 @@ use std::alloc::{AllocError, Global};
 use std::fmt::Write;
 use std::process::Abort;
 
-const REFUSED: &str =
-    "put\nput sales 1\nput sales 1 9223372036854775808 1\nrun now\ndefine\n";
+const REFUSED: &str = "put\nput sales 1\nput sales 1 9223372036854775808 1\nrun now\ndefine\n";
 
 const NINE_LINES: &str = "put stock 1 2
 put sales 1 2
@@ -90,8 +89,18 @@ fn lines_that_are_no_command(rt: HostRuntime) {
 
 #[test]
 fn bytes_that_are_not_shown(rt: HostRuntime) {
-    says(&rt, rt.alloc(), b"run\r\n#\r\nrun \x7f\nrun\n", "unknown 1\nunknown 3\nrun\n");
-    says(&rt, rt.alloc(), b"define\n#\r\n\nend\nrun\n", "define [#\r\n\n]\nrun\n");
+    says(
+        &rt,
+        rt.alloc(),
+        b"run\r\n#\r\nrun \x7f\nrun\n",
+        "unknown 1\nunknown 3\nrun\n",
+    );
+    says(
+        &rt,
+        rt.alloc(),
+        b"define\n#\r\n\nend\nrun\n",
+        "define [#\r\n\n]\nrun\n",
+    );
 }
 
 #[test]
@@ -105,6 +114,16 @@ fn numbers_of_64_bits(rt: HostRuntime) {
 
 #[test]
 fn defines_and_their_ends(rt: HostRuntime) {
-    says(&rt, rt.alloc(), b"define\nend\n define \nrun\n end\t", "define []\ndefine [run\n]\n");
-    says(&rt, rt.alloc(), b"run\ndefine\nrun\nend it\nrun\n", "run\nunknown 2\n");
+    says(
+        &rt,
+        rt.alloc(),
+        b"define\nend\n define \nrun\n end\t",
+        "define []\ndefine [run\n]\n",
+    );
+    says(
+        &rt,
+        rt.alloc(),
+        b"run\ndefine\nrun\nend it\nrun\n",
+        "run\nunknown 2\n",
+    );
 }

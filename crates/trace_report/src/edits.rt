@@ -21,7 +21,9 @@ pub enum EditError {
     /// There is no row of the number.
     NoRow,
     /// The text isn't one of procedures: the line of its first fault.
-    BadText { line: u32 },
+    BadText {
+        line: u32,
+    },
     /// A rule would be broken: by which reducer or procedure, and on which line.
     Broken {
         rule: Rule,
@@ -64,7 +66,12 @@ pub fn push_edit_refusal(text: &mut String, error: &EditError) -> Result<(), All
         EditError::RowRange => writeln!(text, "refused E6"),
         EditError::NoRow => writeln!(text, "refused E7"),
         EditError::BadText { line } => push_bad_text(text, *line),
-        EditError::Broken { rule, holder, line } => push_broken(text, *rule, holder.as_str(), *line),
+        EditError::Broken { rule, holder, line } => push_broken(
+            text,
+            *rule,
+            holder.as_str(),
+            *line,
+        ),
         EditError::Exhausted => writeln!(text, "refused E18"),
     }
 }

@@ -4,3 +4,4 @@
 pub mod amounts;
 pub mod answers;
 pub mod edits;
+pub mod trace;
