@@ -4,12 +4,18 @@
 #[cfg(test)]
 mod answer_tests;
 #[cfg(test)]
+mod edit_tests;
+#[cfg(test)]
 mod memory_tests;
 #[cfg(test)]
 mod program_tests;
 #[cfg(test)]
 mod row_tests;
 #[cfg(test)]
+mod script_tests;
+#[cfg(test)]
 mod session_tests;
 #[cfg(test)]
 mod stream_tests;
+#[cfg(test)]
+mod trace_tests;

@@ -1,2 +1,4 @@
 pub mod Amounts
+pub mod EditTexts
 pub mod Outcomes
+pub mod Traces

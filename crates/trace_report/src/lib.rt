@@ -3,3 +3,5 @@
 
 pub mod amounts;
 pub mod answers;
+pub mod edits;
+pub mod trace;

@@ -1,0 +1,4 @@
+pub mod Defines
+pub mod Digits
+pub mod Places
+pub mod Shown

@@ -1,0 +1,4 @@
+pub mod Commands
+pub mod Digits
+pub mod Lines
+pub mod Said

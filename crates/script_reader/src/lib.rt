@@ -1,0 +1,9 @@
+//! The commands of a script: what its lines say.
+#![tactic(auto)]
+
+pub mod command;
+mod edits;
+mod lines;
+mod numbers;
+pub mod script;
+mod words;

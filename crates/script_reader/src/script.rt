@@ -1,0 +1,145 @@
+// The commands of a script, line by line.
+ghost use Rattle.std.specs.Prelude.{◌≡◌, ◌<◌, ◌≤◌, ℕ, Some, [], ◌∷◌, ◌++◌, true, IfOk, IfSome, OnOk, drop, map, option_map, codes};
+ghost use Rattle.std.specs.Option.{option_to_list};
+ghost use Rattle.meaning.specs.Every.{every};
+ghost use Rattle.meaning.specs.Script.{is_shown, lines, are_only, words as words_of, command_of, line_command as command_in, define_from, commands as commands_of};
+ghost use Rattle.script_reader.specs.Said.{said};
+ghost use Rattle.script_reader.specs.Lines.{IsLine, text_of};
+ghost use Rattle.script_reader.specs.Commands.{commands_at, defined_at};
+
+use crate::command::Command;
+use crate::edits::edit;
+use crate::lines::{Line, first_line, next_line};
+use crate::words::{are_only, is_all_shown, is_comment, words};
+use std::alloc::{AllocError, Global};
+
+// The command of these words, on a line of this number; no words are none.
+fn words_command<'a>(
+    alloc: Global,
+    number: usize,
+    words: &[&'a [u8]],
+) -> Result<Option<Command<'a>>, AllocError>
+    requires { every (every is_shown) (map (λ word. word.now) words.now) ≡ true }
+    ensures { IfOk result (λ found. option_map said found ≡ command_of true number (map (λ word. word.now) words.now)) }
+{
+    if words.is_empty() {
+        return Ok(None);
+    }
+    if are_only(b"run", words) {
+        return Ok(Some(Command::Run));
+    }
+    match edit(alloc, words)? {
+        None => Ok(Some(Command::Unknown(number))),
+        Some(edit) => Ok(Some(edit)),
+    }
+}
+
+// The command of a line of this number, by its words; a comment and a line without words have none.
+fn line_command<'a>(
+    alloc: Global,
+    number: usize,
+    line: &[u8],
+    words: &[&'a [u8]],
+) -> Result<Option<Command<'a>>, AllocError>
+    requires { map (λ word. word.now) words.now ≡ words_of line.now }
+    ensures { IfOk result (λ found. option_map said found ≡ command_in true number line.now) }
+{
+    if is_comment(line) {
+        return Ok(None);
+    }
+    if !is_all_shown(line) {
+        return Ok(Some(Command::Unknown(number)));
+    }
+    words_command(alloc, number, words)
+}
+
+// The line with the `end` of a define whose text begins at this line, if there is one.
+fn end_of_define(alloc: Global, script: &[u8], first: Line) -> Result<Option<Line>, AllocError>
+    requires { IsLine script.now first }
+    ensures line { IfOk result (λ end. IfSome end (IsLine script.now)) }
+    ensures further { IfOk result (λ end. IfSome end (λ line. first.begin ≤ line.begin)) }
+    ensures found { IfOk result (λ end. (begun : ℕ)
+        → define_from true begun [] first.number (lines (drop first.begin script.now)) ≡ defined_at script.now first.begin begun end) }
+{
+    let mut next = Some(first);
+    while let Some(line) = next {
+        let words = words(alloc, &script[line.begin..line.end])?;
+        if are_only(b"end", &words) {
+            return Ok(Some(line));
+        }
+        next = next_line(script, line);
+    }
+    Ok(None)
+}
+
+// The define that begins at this line, and the line behind it. Without an `end` its line is no command, and the script ends.
+fn define_at<'a>(
+    alloc: Global,
+    script: &'a [u8],
+    line: Line,
+) -> Result<(Command<'a>, Option<Line>), AllocError>
+    requires line { IsLine script.now line }
+    requires define { are_only (codes "define") (words_of (text_of script.now line)) ≡ true }
+    ensures line { IfOk result (λ found. IfSome found.1 (IsLine script.now)) }
+    ensures further { IfOk result (λ found. IfSome found.1 (λ next. line.begin < next.begin)) }
+    ensures found { IfOk result (λ found. commands_at script.now (Some line) ≡ said found.0 ∷ commands_at script.now found.1) }
+{
+    let Some(first) = next_line(script, line) else {
+        return Ok((Command::Unknown(line.number), None));
+    };
+    match end_of_define(alloc, script, first)? {
+        None => Ok((Command::Unknown(line.number), None)),
+        Some(end) => {
+            let text = &script[first.begin..end.begin];
+            Ok((Command::Define(text), next_line(script, end)))
+        }
+    }
+}
+
+// The command that begins at this line, if there is one, and the line behind it.
+fn command_at<'a>(
+    alloc: Global,
+    script: &'a [u8],
+    line: Line,
+) -> Result<(Option<Command<'a>>, Option<Line>), AllocError>
+    requires { IsLine script.now line }
+    ensures line { IfOk result (λ found. IfSome found.1 (IsLine script.now)) }
+    ensures further { IfOk result (λ found. IfSome found.1 (λ next. line.begin < next.begin)) }
+    ensures found { IfOk result (λ found. commands_at script.now (Some line) ≡ option_to_list (option_map said found.0) ++ commands_at script.now found.1) }
+{
+    let text = &script[line.begin..line.end];
+    let words = words(alloc, text)?;
+    if are_only(b"define", &words) {
+        let (command, next) = define_at(alloc, script, line)?;
+        return Ok((Some(command), next));
+    }
+    let command = line_command(alloc, line.number, text, &words)?;
+    Ok((command, next_line(script, line)))
+}
+
+// Puts a command at the end, if there is one.
+fn push_some<'a>(
+    found: &mut Vec<Command<'a>>,
+    command: Option<Command<'a>>,
+) -> Result<(), AllocError>
+    ensures { OnOk result (map said found.new.items ≡ map said found.old.items ++ option_to_list (option_map said command.entry)) }
+{
+    match command {
+        None => Ok(()),
+        Some(command) => Ok(found.push(command)?),
+    }
+}
+
+/// The commands of a script, in order. Want of memory is the only error.
+pub fn commands<'a>(alloc: Global, script: &'a [u8]) -> Result<Vec<Command<'a>>, AllocError>
+    ensures { IfOk result (λ found. map said found.items ≡ commands_of true script.now) }
+{
+    let mut found = Vec::new(alloc);
+    let mut next = Some(first_line(script));
+    while let Some(line) = next {
+        let (command, behind) = command_at(alloc, script, line)?;
+        push_some(&mut found, command)?;
+        next = behind;
+    }
+    Ok(found)
+}

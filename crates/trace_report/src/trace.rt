@@ -1,0 +1,185 @@
+// The text of a run's history and of what is counted of it.
+ghost use Rattle.std.specs.Prelude.{◌≡◌, OnOk, flat_map};
+ghost use Rattle.numbered_runs.specs.Named.{book_step, history as steps_of};
+ghost use Rattle.trace_report.specs.Outcomes.{Extends};
+ghost use Rattle.trace_report.specs.Traces.{dotted, place_text, laid_text, places_text, step_text, history_text, trace_text, splits_in, folds_in, instances_text, moves_text, kits_text, counts_text, no_counts_text};
+
+use crate::answers::push_run;
+use numbered_runs::step::BookStep;
+use std::alloc::AllocError;
+use std::fmt::Write;
+
+/// What is counted of a run that came to a result.
+#[derive(Clone, Copy, Debug)]
+pub struct RunCounts {
+    /// Instances with a record of their own that were executed.
+    pub executed: usize,
+    /// Instances that a record answered.
+    pub reused: usize,
+    /// Instances that would have had a record, had a kit been free.
+    pub unrecorded: usize,
+    /// Continuations that were stolen.
+    pub steals: usize,
+    /// Neighbours that were folded.
+    pub folds: usize,
+    /// Kits that are free, and those that there are.
+    pub free: usize,
+    pub kits: usize,
+}
+
+// Puts the numbers of a place behind the first at the end of the text.
+fn push_dotted(text: &mut String, numbers: &[usize]) -> Result<(), AllocError>
+    ensures { OnOk result (Extends text.old text.new (flat_map dotted numbers.now)) }
+{
+    for number in numbers {
+        write!(text, ".{number}")?;
+    }
+    Ok(())
+}
+
+// Puts a place at the end of the text.
+fn push_place(text: &mut String, place: &[usize]) -> Result<(), AllocError>
+    ensures { OnOk result (Extends text.old text.new (place_text place.now)) }
+{
+    match place {
+        [] => write!(text, "root"),
+        [first, rest @ ..] => {
+            write!(text, "{first}")?;
+            push_dotted(text, rest)
+        }
+    }
+}
+
+// Puts what was laid down, and where, at the end of the text.
+fn push_laid(text: &mut String, word: &str, place: &[usize]) -> Result<(), AllocError>
+    ensures { OnOk result (Extends text.old text.new (laid_text word.now place.now)) }
+{
+    write!(text, "{word} ")?;
+    push_place(text, place)?;
+    writeln!(text)
+}
+
+// Puts what a worker did with two places at the end of the text.
+fn push_places(
+    text: &mut String,
+    word: &str,
+    left: &[usize],
+    right: &[usize],
+    worker: usize,
+) -> Result<(), AllocError>
+    ensures { OnOk result (Extends text.old text.new (places_text word.now left.now right.now worker)) }
+{
+    write!(text, "{word} ")?;
+    push_place(text, left)?;
+    write!(text, " ")?;
+    push_place(text, right)?;
+    writeln!(text, " by {worker}")
+}
+
+// Puts the line of a step at the end of the text.
+fn push_step(text: &mut String, step: &BookStep) -> Result<(), AllocError>
+    ensures { OnOk result (Extends text.old text.new (step_text (book_step step.now))) }
+{
+    match step {
+        BookStep::Split(victim, new, thief) => push_places(text, "split", victim, new, *thief),
+        BookStep::End(place) => push_laid(text, "end", place),
+        BookStep::Stall(place) => push_laid(text, "stall", place),
+        BookStep::Fault(place) => push_laid(text, "fault", place),
+        BookStep::Finish(place) => push_laid(text, "finish", place),
+        BookStep::Fold(left, right, worker) => push_places(text, "fold", left, right, *worker),
+    }
+}
+
+/// Puts the lines of a history at the end of the text. Want of memory is the only error.
+pub fn push_history(text: &mut String, history: &[BookStep]) -> Result<(), AllocError>
+    ensures { OnOk result (Extends text.old text.new (history_text (steps_of history.now))) }
+{
+    for step in history {
+        push_step(text, step)?;
+    }
+    Ok(())
+}
+
+/// Puts a run's number, counted from 1, and its history at the end of the text. Want of memory is the only error.
+pub fn push_trace(text: &mut String, number: usize, history: &[BookStep]) -> Result<(), AllocError>
+    ensures { OnOk result (Extends text.old text.new (trace_text number (steps_of history.now))) }
+{
+    push_run(text, number)?;
+    push_history(text, history)
+}
+
+/// How many continuations were stolen.
+pub fn steals(history: &[BookStep]) -> usize
+    ensures { result ≡ splits_in (steps_of history.now) }
+{
+    let mut count = 0;
+    for step in history {
+        if let BookStep::Split(..) = step {
+            count += 1;
+        }
+    }
+    count
+}
+
+/// How many neighbours were folded.
+pub fn folds(history: &[BookStep]) -> usize
+    ensures { result ≡ folds_in (steps_of history.now) }
+{
+    let mut count = 0;
+    for step in history {
+        if let BookStep::Fold(..) = step {
+            count += 1;
+        }
+    }
+    count
+}
+
+// Puts the counts of memo instances at the end of the text.
+fn push_instances(text: &mut String, counts: RunCounts) -> Result<(), AllocError>
+    ensures { OnOk result (Extends text.old text.new (instances_text counts)) }
+{
+    let RunCounts {
+        executed,
+        reused,
+        unrecorded,
+        ..
+    } = counts;
+    write!(
+        text,
+        " executed {executed} reused {reused} unrecorded {unrecorded}"
+    )
+}
+
+// Puts the counts of what workers did with strands at the end of the text.
+fn push_moves(text: &mut String, counts: RunCounts) -> Result<(), AllocError>
+    ensures { OnOk result (Extends text.old text.new (moves_text counts)) }
+{
+    let RunCounts { steals, folds, .. } = counts;
+    write!(text, " steals {steals} folds {folds}")
+}
+
+// Puts the counts of kits at the end of the text.
+fn push_kits(text: &mut String, counts: RunCounts) -> Result<(), AllocError>
+    ensures { OnOk result (Extends text.old text.new (kits_text counts)) }
+{
+    let RunCounts { free, kits, .. } = counts;
+    write!(text, " kits {free} of {kits}")
+}
+
+/// Puts the line of a run's counts at the end of the text. Want of memory is the only error.
+pub fn push_counts(text: &mut String, number: usize, counts: RunCounts) -> Result<(), AllocError>
+    ensures { OnOk result (Extends text.old text.new (counts_text number counts)) }
+{
+    write!(text, "stats {number}")?;
+    push_instances(text, counts)?;
+    push_moves(text, counts)?;
+    push_kits(text, counts)?;
+    writeln!(text)
+}
+
+/// Puts the line of a run that came to a fault at the end of the text: it has no counts. Want of memory is the only error.
+pub fn push_no_counts(text: &mut String, number: usize) -> Result<(), AllocError>
+    ensures { OnOk result (Extends text.old text.new (no_counts_text number)) }
+{
+    writeln!(text, "stats {number} none")
+}
