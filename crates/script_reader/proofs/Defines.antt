@@ -1,25 +1,10 @@
 -- The lines of a define, one after another.
-use Rattle.std.proofs.Common.{◌≡◌, ℕ, ◌+◌, ◌-◌, ◌≤◌, ◌<◌, true, false, List, [], ◌∷◌, ◌++◌, take, drop, refl, sym, ap, ◌∙◌, arith, codes, Option, Some, None, IfSome, append_assoc}
-use Rattle.std.specs.Option.{option_to_list}
-use Rattle.meaning.specs.Script.{lines, words, are_only, line_command, commands_from, define_from}
+use Rattle.std.proofs.Common.{◌≡◌, ℕ, ◌+◌, ◌-◌, ◌≤◌, ◌<◌, true, false, List, [], ◌∷◌, ◌++◌, take, drop, refl, ap, ◌∙◌, arith, codes, Option, Some, None, IfSome, append_assoc}
+use Rattle.meaning.specs.Script.{lines, words, are_only, define_from}
 use Rattle.script_reader.specs.declared.lines.Line.{Line}
 use Rattle.script_reader.specs.Lines.{IsLine, text_of, lines_at}
-use Rattle.script_reader.specs.Commands.{commands_at, defined_at, define_going}
+use Rattle.script_reader.specs.Commands.{defined_at, define_going}
 use Rattle.script_reader.proofs.Places.{stretches, line_split}
-
--- the commands behind a line
-pub behind : (script : List ℕ) (line : Line) (next : Option Line) → IfSome next (λ m. m.number ≡ line.number + 1) → commands_from true (line.number + 1) (lines_at script next) ≡ commands_at script next
-behind script line None h = refl
-behind script line (Some m) h = ap (λ n. commands_from true n (lines (drop m.begin script))) (sym h)
-
-module _ (script : List ℕ) (line : Line) (next : Option Line) (rest : lines (drop line.begin script) ≡ text_of script line ∷ lines_at script next) where
-  -- a line that begins no define
-  pub no_define : IfSome next (λ m. m.number ≡ line.number + 1) → are_only (codes "define") (words (text_of script line)) ≡ false → commands_at script (Some line) ≡ option_to_list (line_command true line.number (text_of script line)) ++ commands_at script next
-  no_define number other = rw (← behind script line next number, rest, other) refl
-
-  -- a line that begins one
-  pub a_define : are_only (codes "define") (words (text_of script line)) ≡ true → commands_at script (Some line) ≡ define_from true line.number [] (line.number + 1) (lines_at script next)
-  a_define is = rw (rest, is) refl
 
 -- a line of the text, and not the last one
 pub going_on : (script : List ℕ) (begin begun : ℕ) (line : Line) (next : Option Line) → IsLine script line → begin ≤ line.begin

@@ -1,11 +1,11 @@
--- Digits from the left, and numbers from the left.
-use Rattle.std.proofs.Common.{◌≡◌, ℕ, ◌+◌, ◌*◌, ◌<◌, ◌≤◌, Bool, true, false, ◌&&◌, nat_le, ℤ, List, [], ◌∷◌, ◌++◌, length, refl, sym, ap, arith, append_assoc, inl, inr, ◌⊎◌, Option, Some, None, option_map}
+-- Digits from the left.
+use Rattle.std.proofs.Common.{◌≡◌, ℕ, ◌+◌, ◌*◌, ◌<◌, ◌≤◌, Bool, true, false, ◌&&◌, nat_le, List, [], ◌∷◌, length, refl, arith, inl, inr, ◌⊎◌, None}
 use Rattle.std.proofs.lemmas.Bool.{leb-true, leb-false}
 use Rattle.std.specs.Char.{digit_value}
 use Rattle.std.specs.Str.Parse.{digits_value_after}
 use Rattle.meaning.specs.Every.{every}
-use Rattle.meaning.specs.Script.{is_digit, digits_up_to, number_of, numbers_of, with_first}
-use Rattle.script_reader.specs.Digits.{with_digit, more_digits, more_numbers}
+use Rattle.meaning.specs.Script.{is_digit, digits_up_to}
+use Rattle.script_reader.specs.Digits.{with_digit, more_digits}
 
 -- a value only grows
 grows : (n : ℕ) (ds : List ℕ) → n ≤ digits_value_after 10 n ds
@@ -37,38 +37,6 @@ module _ (limit value b : ℕ) (bs : List ℕ) where
         ]
   ]
 
-  pub one_more : (more : ℕ) → with_digit limit value b ≡ Some more → more_digits limit value (b ∷ bs) ≡ more_digits limit more bs
-  one_more more h = elim (on_bool (is_digit b)) [
-    | inr other ↦ absurd (let e = rw other at h in cc)
-    | inl digit ↦
-        elim (on_bool (nat_le (value * 10 + digit_value b) limit)) [
-          | inl within ↦ let e : Some (value * 10 + digit_value b) ≡ Some more = rw (digit, within) at h in let q : value * 10 + digit_value b ≡ more = cc in rw (digit, q) refl
-          | inr above ↦ absurd (let e = rw (digit, above) at h in cc)
-        ]
-  ]
-
-  pub stays : (more : ℕ) → with_digit limit value b ≡ Some more → more ≤ limit
-  stays more h = elim (on_bool (is_digit b)) [
-    | inr other ↦ absurd (let e = rw other at h in cc)
-    | inl digit ↦
-        elim (on_bool (nat_le (value * 10 + digit_value b) limit)) [
-          | inl within ↦ let e : Some (value * 10 + digit_value b) ≡ Some more = rw (digit, within) at h in let q : value * 10 + digit_value b ≡ more = cc in omega (arith, leb-true _ _ within, q)
-          | inr above ↦ absurd (let e = rw (digit, above) at h in cc)
-        ]
-  ]
-
 pub filled : (limit : ℕ) (digits : List ℕ) (i : ℕ) → i < length digits → digits_up_to limit digits ≡ more_digits limit 0 digits
 filled limit [] i h = absurd (omega (arith, h))
 filled limit (b ∷ bs) i h = refl
-
--- ---- numbers
-
-pub no_number : (found : List ℤ) (w : List ℕ) (ws : List (List ℕ)) → number_of w ≡ None → more_numbers found (w ∷ ws) ≡ None
-no_number found w ws h = rw h refl
-
-pub one_number : (found : List ℤ) (v : ℤ) (w : List ℕ) (ws : List (List ℕ)) → number_of w ≡ Some v → more_numbers found (w ∷ ws) ≡ more_numbers (found ++ v ∷ []) ws
-one_number found v w ws h = rw h (joined (numbers_of ws))
-  where
-    joined : (o : Option (List ℤ)) → option_map (λ vs. found ++ vs) (with_first (Some v) o) ≡ option_map (λ vs. (found ++ v ∷ []) ++ vs) o
-    joined None = refl
-    joined (Some vs) = ap Some (sym (append_assoc found (v ∷ []) vs))

@@ -1,8 +1,8 @@
 // The edits of a script.
-ghost use Rattle.std.specs.Prelude.{◌≡◌, true, IfOk, IsUtf8, map, option_map};
+ghost use Rattle.std.specs.Prelude.{◌≡◌, true, IfOk, IsUtf8};
 ghost use Rattle.meaning.specs.Every.{every};
-ghost use Rattle.meaning.specs.Script.{Change, is_shown, number_of, numbers_of, put_of, delete_of, edit_of};
-ghost use Rattle.script_reader.specs.Said.{said};
+ghost use Rattle.meaning.specs.Script.{is_shown, number_of, numbers_of, put_of, delete_of, edit_of};
+ghost use Rattle.script_reader.specs.Said.{SaysEdit, bytes_of};
 
 use crate::command::Command;
 use crate::numbers::{number, numbers};
@@ -17,8 +17,8 @@ fn put<'a>(
     values: &[&[u8]],
 ) -> Result<Option<Command<'a>>, AllocError>
     requires { IsUtf8 table.now }
-    ensures { IfOk result (λ found. option_map said found
-        ≡ option_map Change (put_of table.now (number_of row.now) (numbers_of (map (λ word. word.now) values.now)))) }
+    ensures { IfOk result (λ found. SaysEdit found
+        (put_of table.now (number_of row.now) (numbers_of (bytes_of values.now)))) }
 {
     let numbers = numbers(alloc, values)?;
     match (number(row), numbers) {
@@ -34,8 +34,7 @@ fn put<'a>(
 // The delete of a row from a table, by the word of the row's number and what stands behind it.
 fn delete<'a>(table: &'a [u8], row: &[u8], rest: &[&[u8]]) -> Option<Command<'a>>
     requires { IsUtf8 table.now }
-    ensures { option_map said result
-        ≡ option_map Change (delete_of table.now (number_of row.now) (map (λ word. word.now) rest.now)) }
+    ensures { SaysEdit result (delete_of table.now (number_of row.now) (bytes_of rest.now)) }
 {
     let row = number(row)?;
     if !rest.is_empty() {
@@ -49,8 +48,8 @@ fn delete<'a>(table: &'a [u8], row: &[u8], rest: &[&[u8]]) -> Option<Command<'a>
 
 /// The edit that these words are, if they are one. Want of memory is the only error.
 pub(crate) fn edit<'a>(alloc: Global, words: &[&'a [u8]]) -> Result<Option<Command<'a>>, AllocError>
-    requires { every (every is_shown) (map (λ word. word.now) words.now) ≡ true }
-    ensures { IfOk result (λ found. option_map said found ≡ option_map Change (edit_of (map (λ word. word.now) words.now))) }
+    requires { every (every is_shown) (bytes_of words.now) ≡ true }
+    ensures { IfOk result (λ found. SaysEdit found (edit_of (bytes_of words.now))) }
 {
     if words.len() < 3 {
         return Ok(None);

@@ -1,6 +1,5 @@
 // The lines of a script, one after another.
-ghost use Rattle.std.specs.Prelude.{◌≡◌, ◌≤◌, ◌+◌, ◌-◌, ◌++◌, ◌∷◌, [], IfSome, length, take, drop};
-ghost use Rattle.meaning.specs.Script.{lines};
+ghost use Rattle.std.specs.Prelude.{◌≡◌, ◌≤◌, ◌+◌, ◌-◌, ◌++◌, ◌∷◌, [], Some, IfSome, length, take, drop};
 ghost use Rattle.script_reader.specs.Lines.{end_from, IsLine, text_of, lines_at};
 
 /// A line of a script: its number, counted from 1, where it begins and where it ends.
@@ -53,10 +52,12 @@ pub(crate) fn first_line(script: &[u8]) -> Line
 /// The line behind a line, if there is one.
 pub(crate) fn next_line(script: &[u8], line: Line) -> Option<Line>
     requires { IsLine script.now line }
-    ensures rest { lines (drop line.begin script.now) ≡ text_of script.now line ∷ lines_at script.now result }
+    ensures rest { lines_at script.now (Some line)
+        ≡ text_of script.now line ∷ lines_at script.now result }
     ensures number { IfSome result (λ next. next.number ≡ line.number + 1) }
     ensures begin { IfSome result (λ next. next.begin ≡ line.end + 1) }
-    ensures text { IfSome result (λ next. text_of script.now line ++ 10 ∷ [] ≡ take (next.begin - line.begin) (drop line.begin script.now)) }
+    ensures text { IfSome result (λ next. text_of script.now line ++ 10 ∷ []
+        ≡ take (next.begin - line.begin) (drop line.begin script.now)) }
     ensures line { IfSome result (IsLine script.now) }
 {
     if line.end == script.len() {

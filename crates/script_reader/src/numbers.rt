@@ -1,7 +1,8 @@
 // Numbers of a script: an optional `-` and decimal digits, of 64 bits.
-ghost use Rattle.std.specs.Prelude.{◌≡◌, ◌≤◌, IfOk, map, option_map, neg_ℤ, pos};
+ghost use Rattle.std.specs.Prelude.{◌≡◌, ◌≤◌, IfOk, option_map, neg_ℤ, pos};
 ghost use Rattle.meaning.specs.Script.{is_digit, digits_up_to, number_of, numbers_of};
 ghost use Rattle.script_reader.specs.Digits.{with_digit};
+ghost use Rattle.script_reader.specs.Said.{bytes_of};
 
 use std::alloc::{AllocError, Global};
 
@@ -77,7 +78,8 @@ pub(crate) fn number(word: &[u8]) -> Option<i64>
 
 /// The numbers that words are, if each is one. Want of memory is the only error.
 pub(crate) fn numbers(alloc: Global, words: &[&[u8]]) -> Result<Option<Vec<i64>>, AllocError>
-    ensures { IfOk result (λ found. option_map (λ v. v.items) found ≡ numbers_of (map (λ word. word.now) words.now)) }
+    ensures { IfOk result (λ found.
+        option_map (λ values. values.items) found ≡ numbers_of (bytes_of words.now)) }
 {
     let mut found = Vec::new(alloc);
     for word in words {

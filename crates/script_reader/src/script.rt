@@ -1,10 +1,10 @@
 // The commands of a script, line by line.
-ghost use Rattle.std.specs.Prelude.{◌≡◌, ◌<◌, ◌≤◌, ℕ, Some, [], ◌∷◌, ◌++◌, true, IfOk, IfSome, OnOk, drop, map, option_map, codes};
+ghost use Rattle.std.specs.Prelude.{◌≡◌, ◌<◌, ◌≤◌, ℕ, Some, [], ◌∷◌, ◌++◌, true, IfOk, IfSome, OnOk, map, codes};
 ghost use Rattle.std.specs.Option.{option_to_list};
 ghost use Rattle.meaning.specs.Every.{every};
-ghost use Rattle.meaning.specs.Script.{is_shown, lines, are_only, words as words_of, command_of, line_command as command_in, define_from, commands as commands_of};
-ghost use Rattle.script_reader.specs.Said.{said};
-ghost use Rattle.script_reader.specs.Lines.{IsLine, text_of};
+ghost use Rattle.meaning.specs.Script.{is_shown, are_only, words as words_of, command_of, line_command as command_in, define_from, commands as commands_of};
+ghost use Rattle.script_reader.specs.Said.{said, maybe_said, bytes_of};
+ghost use Rattle.script_reader.specs.Lines.{IsLine, text_of, lines_at};
 ghost use Rattle.script_reader.specs.Commands.{commands_at, defined_at};
 
 use crate::command::Command;
@@ -19,8 +19,9 @@ fn words_command<'a>(
     number: usize,
     words: &[&'a [u8]],
 ) -> Result<Option<Command<'a>>, AllocError>
-    requires { every (every is_shown) (map (λ word. word.now) words.now) ≡ true }
-    ensures { IfOk result (λ found. option_map said found ≡ command_of true number (map (λ word. word.now) words.now)) }
+    requires { every (every is_shown) (bytes_of words.now) ≡ true }
+    ensures { IfOk result (λ found.
+        maybe_said found ≡ command_of true number (bytes_of words.now)) }
 {
     if words.is_empty() {
         return Ok(None);
@@ -41,8 +42,8 @@ fn line_command<'a>(
     line: &[u8],
     words: &[&'a [u8]],
 ) -> Result<Option<Command<'a>>, AllocError>
-    requires { map (λ word. word.now) words.now ≡ words_of line.now }
-    ensures { IfOk result (λ found. option_map said found ≡ command_in true number line.now) }
+    requires { bytes_of words.now ≡ words_of line.now }
+    ensures { IfOk result (λ found. maybe_said found ≡ command_in true number line.now) }
 {
     if is_comment(line) {
         return Ok(None);
@@ -59,7 +60,8 @@ fn end_of_define(alloc: Global, script: &[u8], first: Line) -> Result<Option<Lin
     ensures line { IfOk result (λ end. IfSome end (IsLine script.now)) }
     ensures further { IfOk result (λ end. IfSome end (λ line. first.begin ≤ line.begin)) }
     ensures found { IfOk result (λ end. (begun : ℕ)
-        → define_from true begun [] first.number (lines (drop first.begin script.now)) ≡ defined_at script.now first.begin begun end) }
+        → define_from true begun [] first.number (lines_at script.now (Some first))
+        ≡ defined_at script.now first.begin begun end) }
 {
     let mut next = Some(first);
     while let Some(line) = next {
@@ -72,7 +74,8 @@ fn end_of_define(alloc: Global, script: &[u8], first: Line) -> Result<Option<Lin
     Ok(None)
 }
 
-// The define that begins at this line, and the line behind it. Without an `end` its line is no command, and the script ends.
+// The define that begins at this line, and the line behind it. Without an `end` its line is no command,
+// and the script ends.
 fn define_at<'a>(
     alloc: Global,
     script: &'a [u8],
@@ -82,7 +85,8 @@ fn define_at<'a>(
     requires define { are_only (codes "define") (words_of (text_of script.now line)) ≡ true }
     ensures line { IfOk result (λ found. IfSome found.1 (IsLine script.now)) }
     ensures further { IfOk result (λ found. IfSome found.1 (λ next. line.begin < next.begin)) }
-    ensures found { IfOk result (λ found. commands_at script.now (Some line) ≡ said found.0 ∷ commands_at script.now found.1) }
+    ensures found { IfOk result (λ found.
+        commands_at script.now (Some line) ≡ said found.0 ∷ commands_at script.now found.1) }
 {
     let Some(first) = next_line(script, line) else {
         return Ok((Command::Unknown(line.number), None));
@@ -105,7 +109,8 @@ fn command_at<'a>(
     requires { IsLine script.now line }
     ensures line { IfOk result (λ found. IfSome found.1 (IsLine script.now)) }
     ensures further { IfOk result (λ found. IfSome found.1 (λ next. line.begin < next.begin)) }
-    ensures found { IfOk result (λ found. commands_at script.now (Some line) ≡ option_to_list (option_map said found.0) ++ commands_at script.now found.1) }
+    ensures found { IfOk result (λ found. commands_at script.now (Some line)
+        ≡ option_to_list (maybe_said found.0) ++ commands_at script.now found.1) }
 {
     let text = &script[line.begin..line.end];
     let words = words(alloc, text)?;
@@ -122,7 +127,8 @@ fn push_some<'a>(
     found: &mut Vec<Command<'a>>,
     command: Option<Command<'a>>,
 ) -> Result<(), AllocError>
-    ensures { OnOk result (map said found.new.items ≡ map said found.old.items ++ option_to_list (option_map said command.entry)) }
+    ensures { OnOk result (map said found.new.items
+        ≡ map said found.old.items ++ option_to_list (maybe_said command.entry)) }
 {
     match command {
         None => Ok(()),

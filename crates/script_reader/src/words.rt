@@ -1,7 +1,8 @@
 // The words of a line, and what the bytes of a line may be.
-ghost use Rattle.std.specs.Prelude.{◌≡◌, true, IfOk, IsUtf8, map};
+ghost use Rattle.std.specs.Prelude.{◌≡◌, true, IfOk, IsUtf8};
 ghost use Rattle.meaning.specs.Every.{every};
 ghost use Rattle.meaning.specs.Script.{is_shown, is_comment, are_only, words as words_of};
+ghost use Rattle.script_reader.specs.Said.{bytes_of};
 
 use std::alloc::{AllocError, Global};
 
@@ -32,7 +33,7 @@ pub(crate) fn is_comment(line: &[u8]) -> bool
 
 /// The words of a line. Want of memory is the only error.
 pub(crate) fn words(alloc: Global, line: &[u8]) -> Result<Vec<&[u8]>, AllocError>
-    ensures { IfOk result (λ found. map (λ word. word.now) found.items ≡ words_of line.now) }
+    ensures { IfOk result (λ found. bytes_of found.items ≡ words_of line.now) }
 {
     line.split(|byte| *byte == b' ' || *byte == b'\t')
         .filter(|word| !word.is_empty())
@@ -41,7 +42,7 @@ pub(crate) fn words(alloc: Global, line: &[u8]) -> Result<Vec<&[u8]>, AllocError
 
 /// Whether these words are this one and no other.
 pub(crate) fn are_only(word: &[u8], words: &[&[u8]]) -> bool
-    ensures { result ≡ are_only word.now (map (λ w. w.now) words.now) }
+    ensures { result ≡ are_only word.now (bytes_of words.now) }
 {
     words.len() == 1 && words[0] == word
 }
