@@ -87,5 +87,8 @@ module _ (program : Revised) (tables : Tables) (memory : Memory) where
     pub runs_by_name : RunsBy program tables memory is_top
     runs_by_name = runs_by program tables memory is_top (λ kits es. every_of IsToldBoth (IsTold program tables memory is_top) (λ p h. is_told is_top p h.named h.one) (path program tables memory (first_state program.tree kits) es).pieces (told kits es))
 
+    pub told_by_length : (kits : ℕ) (es : List RunStep) → Every (IsTold program tables memory is_top_by_length) (path program tables memory (first_state program.tree kits) es).pieces
+    told_by_length kits es = every_of IsToldBoth (IsTold program tables memory is_top_by_length) (λ p h. is_told is_top_by_length p h.long h.one) (path program tables memory (first_state program.tree kits) es).pieces (told kits es)
+
     pub runs_by_length : RunsBy program tables memory is_top_by_length
-    runs_by_length = runs_by program tables memory is_top_by_length (λ kits es. every_of IsToldBoth (IsTold program tables memory is_top_by_length) (λ p h. is_told is_top_by_length p h.long h.one) (path program tables memory (first_state program.tree kits) es).pieces (told kits es))
+    runs_by_length = runs_by program tables memory is_top_by_length told_by_length

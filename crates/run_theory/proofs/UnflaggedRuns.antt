@@ -13,10 +13,10 @@ use Rattle.meaning.specs.Schedules.{Memory, Piece, RunState, RunStep, Change, wo
 use Rattle.trail_theory.specs.Order.{Every}
 use Rattle.trail_theory.specs.Right.{Sees}
 use Rattle.trail_theory.specs.OwnLayers.{TopTest, is_top, frame_by}
-use Rattle.trail_theory.specs.Unflagged.{unflagged_under, unflagged, unflagged_continuation}
+use Rattle.trail_theory.specs.Unflagged.{unflagged_under, unflagged, unflagged_continuation, unflagged_step}
 use Rattle.trail_theory.proofs.ReadPoints.{sees_when}
 use Rattle.trail_theory.proofs.Unflagged.{no_matter}
-use Rattle.run_theory.specs.UnflaggedRuns.{unflagged_step, unflagged_piece, unflagged_run, unflagged_after, worked_with, step_by, path_by, RunsBy}
+use Rattle.run_theory.specs.UnflaggedRuns.{unflagged_piece, unflagged_run, unflagged_after, worked_with, step_by, path_by, RunsBy}
 use Rattle.run_theory.proofs.Steps.{L}
 use Rattle.run_theory.proofs.UnflaggedSteps.{micro_alike, tallied_alike}
 
@@ -80,7 +80,7 @@ module _ (program : Revised) (tables : Tables) (memory : Memory) where
       unflagged_worked kits p (step_of program tables memory kits s)
       ∙ ap (worked_by program tables memory kits (unflagged_piece p)) (sym (micro_alike program.tree tables (L program tables memory) (memory.recording && nat_lt 0 kits) (bottom s.layers) (total program.tree s.layers).worth test p.tally.opened s.start s.frame s.phase s.under told.flag told.reads))
 
-  pauses_quiet : (kits : ℕ) (q : Piece) (st : Step) → stalled_by program tables memory kits q (unflagged_step st) ≡ stalled_by program tables memory kits q st
+  pub pauses_quiet : (kits : ℕ) (q : Piece) (st : Step) → stalled_by program tables memory kits q (unflagged_step st) ≡ stalled_by program tables memory kits q st
   pauses_quiet kits q (moved l evs fr ph t) = refl
   pauses_quiet kits q (taken evs k fr ph t) = refl
   pauses_quiet kits q (paused at_sync) = refl
@@ -88,7 +88,7 @@ module _ (program : Revised) (tables : Tables) (memory : Memory) where
   pauses_quiet kits q (paused returned) = refl
   pauses_quiet kits q (paused faulted) = refl
 
-  returns_quiet : (kits : ℕ) (q : Piece) (b : Bool) (l l' : Layers) (evs : Log) (fr : Frame) (ph : Phase) (t t' : List Parent)
+  pub returns_quiet : (kits : ℕ) (q : Piece) (b : Bool) (l l' : Layers) (evs : Log) (fr : Frame) (ph : Phase) (t t' : List Parent)
       → stalled_by program tables memory kits q (unless b (moved l evs fr ph t)) ≡ stalled_by program tables memory kits q (unless b (moved l' evs fr ph t'))
   returns_quiet kits q true l l' evs fr ph t t' = refl
   returns_quiet kits q false l l' evs fr ph t t' = refl
@@ -226,7 +226,7 @@ module _ (program : Revised) (tables : Tables) (memory : Memory) where
   unflagged_strand None = None
   unflagged_strand (Some s) = Some (unflagged s)
 
-  abbrev unflagged_one : Option Piece → Option Piece
+  abbrev pub unflagged_one : Option Piece → Option Piece
   unflagged_one None = None
   unflagged_one (Some p) = Some (unflagged_piece p)
 
@@ -263,7 +263,7 @@ module _ (program : Revised) (tables : Tables) (memory : Memory) where
   pair_quiet l r (spawning d x child todo) q = refl
   pair_quiet l r (returning w) q = refl
 
-  folded_quiet : (w : ℕ) (l r : Piece) → unflagged_one (folded program tables memory w l r) ≡ folded program tables memory w (unflagged_piece l) (unflagged_piece r)
+  pub folded_quiet : (w : ℕ) (l r : Piece) → unflagged_one (folded program tables memory w l r) ≡ folded program tables memory w (unflagged_piece l) (unflagged_piece r)
   folded_quiet w l r = if_quiet (strands.done l.state && strands.waits r.state) (joined_pair program tables memory l.strand l.strand.phase r.strand r.strand.phase) ∙ ap (λ o. cond (strands.done l.state && strands.waits r.state) (folded_by program tables memory w (unflagged_piece l) (unflagged_piece r) o) None) (pair_quiet l.strand r.strand l.strand.phase r.strand.phase)
     where
       by_quiet : (o : Option LayeredStrand) → unflagged_one (folded_by program tables memory w l r o) ≡ folded_by program tables memory w (unflagged_piece l) (unflagged_piece r) (unflagged_strand o)
@@ -299,11 +299,11 @@ module _ (program : Revised) (tables : Tables) (memory : Memory) where
   idle_quiet true false o o' e h = absurd cc
   idle_quiet false true o o' e h = absurd cc
 
-  lines_same : (ps : List Piece) → map line_of (map unflagged_piece ps) ≡ map line_of ps
+  pub lines_same : (ps : List Piece) → map line_of (map unflagged_piece ps) ≡ map line_of ps
   lines_same [] = refl
   lines_same (p ∷ ps) = ap (λ l. line_of p ∷ l) (lines_same ps)
 
-  idle_same : (w : ℕ) (ps : List Piece) → is_idle w (map unflagged_piece ps) ≡ is_idle w ps
+  pub idle_same : (w : ℕ) (ps : List Piece) → is_idle w (map unflagged_piece ps) ≡ is_idle w ps
   idle_same w ps = ap (λ l. strands.is_free l w) (lines_same ps)
 
   any_of : (Q : Piece → Type 0) → ((p : Piece) → Q p) → (ps : List Piece) → Every Q ps

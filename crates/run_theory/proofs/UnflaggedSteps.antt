@@ -16,8 +16,7 @@ use Rattle.meaning.specs.Layers.{Notes}
 use Rattle.meaning.specs.Tallies.{Opened, Tally, executions, opened_all, tallied}
 use Rattle.trail_theory.specs.Right.{Sees}
 use Rattle.trail_theory.specs.OwnLayers.{TopTest, frame_by}
-use Rattle.trail_theory.specs.Unflagged.{unflagged_parent, unflagged_under}
-use Rattle.run_theory.specs.UnflaggedRuns.{unflagged_step}
+use Rattle.trail_theory.specs.Unflagged.{unflagged_parent, unflagged_under, unflagged_step}
 
 unflagged_twice : (t : List Parent) → unflagged_under (unflagged_under t) ≡ unflagged_under t
 unflagged_twice [] = refl

@@ -3,7 +3,7 @@ use Rattle.std.specs.Prelude.{◌≡◌, ℕ, nat_lt, ◌&&◌, false, List, [],
 use Rattle.program_tree.specs.Plain.{Name, read, Body, step}
 use Rattle.meaning.specs.Tables.{Tables}
 use Rattle.meaning.specs.Records.{Revised}
-use Rattle.meaning.specs.SmallStep.{is_entry, blocks, running, with_layer, Step, moved, taken, paused, micro}
+use Rattle.meaning.specs.SmallStep.{is_entry, blocks, running, Step, micro}
 use Rattle.meaning.specs.Layers.{bottom}
 use Rattle.meaning.specs.LayeredStrand.{LayeredStrand}
 use Rattle.meaning.specs.Tallies.{Tally, valid_record}
@@ -11,14 +11,9 @@ use Rattle.meaning.specs.Schedules.{Memory, Piece, RunState, RunStep, Change, wo
 use Rattle.trail_theory.specs.Order.{Every}
 use Rattle.trail_theory.specs.Right.{IsOneLayer}
 use Rattle.trail_theory.specs.OwnLayers.{TopTest, frame_by, by_name}
-use Rattle.trail_theory.specs.Unflagged.{unflagged_under, unflagged, unflagged_continuation}
+use Rattle.trail_theory.specs.Unflagged.{unflagged, unflagged_continuation, unflagged_step}
 
 -- ---- without flags
-
-abbrev pub unflagged_step : Step → Step
-unflagged_step (moved l evs fr ph t) = moved l evs (with_layer false fr) ph (unflagged_under t)
-unflagged_step (taken evs k fr ph t) = taken evs k (with_layer false fr) ph (unflagged_under t)
-unflagged_step (paused p) = paused p
 
 abbrev pub unflagged_piece : Piece → Piece
 unflagged_piece p = record { strand = unflagged p.strand; deque = map unflagged_continuation p.deque; state = p.state; tally = p.tally }
