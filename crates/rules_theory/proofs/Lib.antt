@@ -5,3 +5,4 @@ pub mod Monoids
 pub mod Moments
 pub mod Known
 pub mod Waits
+pub mod EditedTables

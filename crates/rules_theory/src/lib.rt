@@ -1,11 +1,13 @@
 //! What the rules of the language give the theory of the trail, each as the contract of a function that does nothing.
 #![tactic(auto)]
 
-ghost use Rattle.std.specs.Prelude.{List, All};
+ghost use Rattle.std.specs.Prelude.{◌≡◌, ℤ, List, All, Ok};
 ghost use Rattle.monoid_laws.specs.Kinds.{IsMonoid};
+ghost use Rattle.program_tree.specs.Plain.{Name};
 ghost use Rattle.program_tree.specs.declared.Program.{Program};
+ghost use Rattle.meaning.specs.Edits.{Standing, after_put, after_delete};
 ghost use Rattle.program_tree.specs.View.{tree};
-ghost use Rattle.linked_program.specs.TableNames.{Columned};
+ghost use Rattle.linked_program.specs.TableNames.{Columned, columned_of};
 ghost use Rattle.linked_program.specs.Declarations.{IsClean};
 ghost use Rattle.linked_program.specs.Checked.{PlainChecked, IsChecked, revised_of};
 ghost use Rattle.trail_theory.specs.Defines.{IsComplete};
@@ -57,4 +59,12 @@ pub fn clean_programs_are_complete()
 pub fn checked_programs_are_numbered()
     ensures numbered { (checked : PlainChecked) → IsChecked checked
         → IsNumbered (revised_of checked) }
+{}
+
+/// An accepted edit of a table changes no name of a table or column.
+pub fn edits_keep_columns()
+    ensures put { (old new : Standing) (table : Name) (row : ℤ) (values : List ℤ)
+        → after_put old table row values ≡ Ok new → columned_of new.tables ≡ columned_of old.tables }
+    ensures delete { (old new : Standing) (table : Name) (row : ℤ)
+        → after_delete old table row ≡ Ok new → columned_of new.tables ≡ columned_of old.tables }
 {}
