@@ -8,12 +8,11 @@ use Rattle.std.proofs.lemmas.Bool.Decides.{Decides-eqb}
 use Rattle.std.proofs.lemmas.Cmp.{int_eq_equiv}
 use Rattle.std.proofs.lemmas.Slice.Eq.{bytes_eq-Decides}
 use Rattle.program_tree.specs.Plain.{Name, Proc, reducer, procedure, Tree}
-use Rattle.program_tree.specs.View.{tree}
 use Rattle.meaning.specs.Outcome.{Reading, CellHeld, HasHeld, LimitHeld}
 use Rattle.meaning.specs.Records.{agrees, is_current, same_number, same_bool, same_args}
 use Rattle.meaning.specs.Statements.{procedure_of}
 use Rattle.meaning.specs.Tables.{Tables, index_of, is_there, row_of, above_all}
-use Rattle.linked_program.specs.Checked.{PlainChecked, names_in}
+use Rattle.linked_program.specs.Checked.{names_in}
 use Rattle.linked_program.specs.Linked.{procedure_number}
 use Rattle.linked_program.specs.Procedures.{procedures}
 use Rattle.linked_program.specs.TableNames.{columned_of}
@@ -21,7 +20,7 @@ use Rattle.linked_program.proofs.Numbers.{procedure_is}
 use Rattle.evaluation.specs.Numbers.{numbered}
 use Rattle.evaluation.proofs.Meant.{rows_found, cell_found}
 use Rattle.rerun_records.specs.Validity.{note_agrees, has_revision, is_revision}
-use Rattle.rerun_records.specs.Named.{numbered_entry, IsListed}
+use Rattle.rerun_records.specs.Named.{numbered_entry, IsInOrder}
 
 -- ---- names of procedures
 
@@ -67,10 +66,10 @@ current_at (e ∷ es) f n =
       | false ↦ current_at es f n
     ]
 
-pub current_is : (program : PlainChecked) → IsListed program → (e : Name × ℕ) → is_current program.revisions e ≡ has_revision program.revisions (numbered_entry program e)
-current_is program listed e =
-    current_at program.revisions e.0 e.1
-    ∙ ap (λ (n : ℕ). has_revision program.revisions (n, e.1)) (ap (λ (ns : List Name). index_of ns e.0) listed ∙ sym (number_is_place e.0 (procedures (tree program.program))))
+pub current_is : (t : Tree) (revisions : List (Name × ℕ)) → IsInOrder t revisions → (e : Name × ℕ) → is_current revisions e ≡ has_revision revisions (numbered_entry t e)
+current_is t revisions listed e =
+    current_at revisions e.0 e.1
+    ∙ ap (λ (n : ℕ). has_revision revisions (n, e.1)) (ap (λ (ns : List Name). index_of ns e.0) listed ∙ sym (number_is_place e.0 (procedures t)))
 
 -- ---- readings
 

@@ -1,5 +1,6 @@
 -- A record that takes the place of another in a set.
-use Rattle.std.proofs.Common.{◌≡◌, ℕ, suc, ◌+◌, ◌≤◌, ◌<◌, Bool, true, false, cond, ◌||◌, List, [], ◌∷◌, ◌++◌, length, if◌then◌else◌, refl, sym, ap, ◌∙◌, arith}
+use Rattle.std.proofs.Common.{◌≡◌, All, ℕ, suc, ◌+◌, ◌≤◌, ◌<◌, Bool, true, false, cond, ◌||◌, List, [], ◌∷◌, ◌++◌, length, if◌then◌else◌, refl, sym, ap, ◌∙◌, arith}
+use Rattle.std.proofs.lemmas.List.Elements.{All-cons, All-head, All-tail}
 use Rattle.std.specs.List.{list_any}
 use Rattle.indexmap.specs.IndexSet.{replace_key, swap_key}
 use Rattle.rerun_records.specs.Record.{PlainRecord, same_instance}
@@ -28,3 +29,16 @@ room_before rest all r spare l s = let e : length all ≡ suc (length rest) = ap
 
 pub room_after : (rest all : List PlainRecord) (r : PlainRecord) (spare less : ℕ) → length all ≤ spare → all ≡ r ∷ rest → spare ≤ less + 1 → length rest ≤ less
 room_after rest all r spare less l s m = let e : length all ≡ suc (length rest) = ap length s in omega (arith, l, e, m)
+
+-- what is true of records that are there and of one that is put in, is true of them together
+all_put : (P : PlainRecord → Type 0) (rs : List PlainRecord) (r : PlainRecord) → All P rs → P r → All P (put_record rs r)
+all_put P [] r a p = All-cons P r [] p a
+all_put P (s ∷ ss) r a p =
+    elim (same_instance r s) as (λ b. All P (cond b (r ∷ ss) (s ∷ put_record ss r))) [
+      | true ↦ All-cons P r ss p (All-tail P s ss a)
+      | false ↦ All-cons P s (put_record ss r) (All-head P s ss a) (all_put P ss r (All-tail P s ss a) p)
+    ]
+
+pub all_put_in : (P : PlainRecord → Type 0) (rs ss : List PlainRecord) → All P rs → All P ss → All P (put_records rs ss)
+all_put_in P rs [] a b = a
+all_put_in P rs (s ∷ ss) a b = all_put_in P (put_record rs s) ss (all_put P rs s a (All-head P s ss b)) (All-tail P s ss b)

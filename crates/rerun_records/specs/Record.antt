@@ -46,6 +46,6 @@ abbrev pub same_instance : PlainRecord → PlainRecord → Bool
 same_instance r s = is_of r.procedure r.arguments s
 
 -- the record of these parts
-abbrev pub made_of : ℕ → List ℤ → ℤ → List (ℕ × Val) → List Note → List (ℕ × ℕ) → ℕ → PlainRecord
+abbrev pub made_of : ℕ → List ℤ → ℤ → List (ℕ × Val) → List Reading → List (ℕ × ℕ) → ℕ → PlainRecord
 made_of procedure arguments value contribution reads entered height =
-    record { procedure = procedure; arguments = arguments; value = value; contribution = map touched contribution; reads = reads; entered = entered; height = height }
+    record { procedure = procedure; arguments = arguments; value = value; contribution = map touched contribution; reads = map note_of reads; entered = entered; height = height }

@@ -3,6 +3,6 @@
 
 pub mod key;
 pub mod laws;
-mod reading;
+pub mod reading;
 pub mod record;
 pub mod records;

@@ -1,5 +1,5 @@
 //! The record of a memo instance that is over.
-ghost use Rattle.std.specs.Prelude.{◌≡◌, ◌+◌, ◌<◌, suc, length, slice_get, Some, IfOk, map, nat_eq, nat_le, ◌++◌};
+ghost use Rattle.std.specs.Prelude.{◌≡◌, ◌+◌, ◌<◌, suc, length, slice_get, Some, map, nat_eq, nat_le, ◌++◌};
 ghost use Rattle.std.specs.Cmp.Lexicographic.{pointwise};
 ghost use Rattle.std.specs.Cmp.Rules.{comparing, hashing};
 ghost use Rattle.std.specs.Hash as fed;
@@ -10,12 +10,11 @@ ghost use Rattle.meaning.specs.Every.{every};
 ghost use Rattle.rerun_records.specs.Record.{note_of, touched, made_of};
 ghost use Rattle.rerun_records.specs.Validity.{note_agrees, has_revision, record_holds, record_valid};
 
-use crate::reading::{Reading, readings};
+use crate::reading::Reading;
 use evaluation::note::Note;
 use input_tables::Tables;
 use linked_program::checked::Checked;
 use monoid_laws::Val;
-use std::alloc::{AllocError, Global};
 use std::hash::{Hash, Hasher};
 use std::marker::Model;
 
@@ -47,32 +46,32 @@ impl Model for Record {
 impl Record {
     /// The record of an instance of that procedure with these arguments: its value, the value that it gave to each reducer that it
     /// touched, each reading once, each procedure entered once with its revision number, and how many instances were nested in
-    /// it at most, itself counted. Reducers and procedures go by their numbers. It keeps no spare room; an error is want of
-    /// memory, or the number of a table or column that is past what two bytes hold.
+    /// it at most, itself counted. Reducers and procedures go by their numbers. It takes no memory, and keeps no spare room.
     pub fn new(
-        alloc: Global,
         procedure: usize,
-        arguments: &[i64],
+        mut arguments: Vec<i64>,
         value: i64,
-        contribution: Vec<(usize, Val)>,
-        reads: &[Note],
-        entered: &[(usize, u64)],
+        mut contribution: Vec<(usize, Val)>,
+        mut reads: Vec<Reading>,
+        mut entered: Vec<(usize, u64)>,
         height: u32,
-    ) -> Result<Record, AllocError>
-        ensures made { IfOk result (λ r.
-            r ≡ made_of procedure arguments.now value contribution.items reads.now entered.now height) }
+    ) -> Record
+        ensures made { result
+            ≡ made_of procedure arguments.items value contribution.items reads.items entered.items height }
     {
-        let mut contribution = contribution;
+        arguments.shrink_to_fit();
         contribution.shrink_to_fit();
-        Ok(Record {
+        reads.shrink_to_fit();
+        entered.shrink_to_fit();
+        Record {
             procedure,
-            arguments: Vec::from_slice(alloc, arguments)?,
+            arguments,
             value,
             contribution,
-            reads: readings(alloc, reads)?,
-            entered: Vec::from_slice(alloc, entered)?,
+            reads,
+            entered,
             height,
-        })
+        }
     }
 
     /// The number of the procedure.

@@ -1,12 +1,13 @@
 //! The records of a session.
-ghost use Rattle.std.specs.Prelude.{◌≡◌, ◌↔◌, IsTrue, [], length, ◌<◌, ◌≤◌, ◌+◌, OnOk, OnErr, option_copied};
+ghost use Rattle.std.specs.Prelude.{◌≡◌, ◌↔◌, IsTrue, List, [], length, ◌<◌, ◌≤◌, ◌+◌, OnOk, OnErr, option_copied};
 ghost use Rattle.std.specs.Cmp.Rules.{comparing, hashing};
 ghost use Rattle.indexmap.specs.IndexSet.{spare, replace_key};
 ghost use Rattle.std.proofs.Common.{rules};
 ghost use Rattle.rerun_records.specs.Record.{is_of, same_instance};
 ghost use Rattle.rerun_records.specs.Validity.{valid_at};
 ghost use Rattle.rerun_records.specs.Commits.{put_records, AreSingle};
-ghost use Rattle.rerun_records.specs.Named.{looked_up, FindsNamed, CommitsNamed};
+ghost use Rattle.rerun_records.specs.Named.{looked_up, FindsNamed, CommitsNamed, HaveValues};
+ghost use Rattle.monoid_laws.specs.declared.Kind.{Kind};
 
 use crate::key::Key;
 use crate::record::Record;
@@ -143,6 +144,8 @@ impl Records {
     ) -> Result<(), AllocError>
         ensures committed { OnOk result (self.new ≡ put_records self.old records.items) }
         ensures named { OnOk result (CommitsNamed program.now self.old records.items self.new) }
+        ensures values { OnOk result ((kinds : List Kind) → HaveValues kinds self.old
+            → HaveValues kinds records.items → HaveValues kinds self.new) }
         ensures same { OnErr result (self.new ≡ self.old) }
     {
         self.by_instance.reserve(records.len())?;

@@ -5,6 +5,7 @@ use linked_program::checked::Checked;
 use monoid_laws::Val;
 use procedure_parser::parse;
 use rerun_records::key::Key;
+use rerun_records::reading::readings;
 use rerun_records::record::Record;
 use rerun_records::records::Records;
 use spawn_checker::check;
@@ -46,20 +47,19 @@ pub fn record(
     reads: &[Note],
     height: u32,
 ) -> Record {
-    let touched = [(0, Val::Int(value))];
-    let touched = Vec::from_array(alloc, touched).expect(rt, "memory");
-    let entered = [procedure];
-    let made = Record::new(
-        alloc,
+    let arguments = Vec::from_array(alloc, [argument]).expect(rt, "memory");
+    let touched = Vec::from_array(alloc, [(0, Val::Int(value))]).expect(rt, "memory");
+    let reads = readings(alloc, reads).expect(rt, "memory");
+    let entered = Vec::from_array(alloc, [procedure]).expect(rt, "memory");
+    Record::new(
         procedure.0,
-        &[argument],
+        arguments,
         value,
         touched,
         reads,
-        &entered,
+        entered,
         height,
-    );
-    made.expect(rt, "memory")
+    )
 }
 
 /// The record of `line` at row 2, which holds 3 and 7.
