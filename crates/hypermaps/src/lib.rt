@@ -124,7 +124,7 @@ fn absorb_at<V: View>(
     ensures absorbed { (c : Kind) (x : Worth) → IsAt (map V.kind_of views.old.items) r c → IsAt (map V.worth_of views.old.items) r x → OnOk result (map V.worth_of views.new.items ≡ slice_set (map V.worth_of views.old.items) r (operate c x (meaning value))) }
     ensures refused { OnErr result (map V.worth_of views.new.items ≡ map V.worth_of views.old.items) }
 {
-    if used.insert(r).is_err() {
+    if note_use(used, r).is_err() {
         return Err(value);
     }
     let view = &mut views[r];
@@ -182,6 +182,39 @@ impl<V: View> Hypermap<V> {
         }
         let view = &mut self.views[reducer];
         view.update(numbers)
+    }
+
+    /// Combines a copy of a value on the right of one reducer's value; where memory is refused all values stay.
+    pub fn absorb_one(
+        &mut self,
+        alloc: Global,
+        reducer: usize,
+        value: &Val,
+    ) -> Result<(), AllocError>
+        requires reducer_is { reducer < length self.old.kinds }
+        requires of_kind { (c : Kind) → IsAt self.old.kinds reducer c → IsWorth c (meaning value.now) }
+        ensures kinds { self.new.kinds ≡ self.old.kinds }
+        ensures absorbed { (c : Kind) (x : Worth) → IsAt self.old.kinds reducer c → IsAt self.old.worths reducer x → OnOk result (self.new.worths ≡ slice_set self.old.worths reducer (operate c x (meaning value.now))) }
+        ensures refused { OnErr result (self.new.worths ≡ self.old.worths) }
+    {
+        let copy = copy_of(alloc, value)?;
+        match absorb_at(&mut self.views, &mut self.used, reducer, copy) {
+            Ok(()) => Ok(()),
+            Err(_) => Err(AllocError),
+        }
+    }
+
+    /// A copy of the value of a reducer that was used; none where it wasn't, and stands at its identity. Want of memory is the
+    /// only error.
+    pub fn used_value(&self, reducer: usize) -> Result<Option<Val>, AllocError>
+        requires reducer_is { reducer < length self.now.kinds }
+        ensures used { IfOk result (λ v. IfSome v (λ v. IsAt self.now.worths reducer (meaning v))) }
+        ensures unused { IfOk result (λ v. IsNone v → (c : Kind) (w : Worth) → IsAt self.now.kinds reducer c → IsAt self.now.worths reducer w → w ≡ identity_of c) }
+    {
+        if !self.used.contains(&reducer) {
+            return Ok(None);
+        }
+        Ok(Some(self.views[reducer].export()?))
     }
 
     /// Combines a record's values, one for each reducer, on the right of the reducers' values.

@@ -17,6 +17,9 @@ pub trait KitSource<K> {
     /// How many kits there are in all, free or not.
     ghost total: { Self → ℕ };
 
+    /// It may have no kit to give.
+    ghost lacks: { Self → Type 0 };
+
     /// A free kit, if there is one.
     fn take(&mut self) -> Option<K>
         ensures given { IfSome result (λ k. gives k self.old) }
@@ -24,6 +27,7 @@ pub trait KitSource<K> {
         ensures kept { (k : K) → gives k self.new → gives k self.old }
         ensures taken { IfSome result (λ k. free self.old ≡ suc (free self.new)) }
         ensures untaken { IsNone result → free self.new ≡ free self.old }
+        ensures none { IsNone result → lacks self.old }
         ensures total { total self.new ≡ total self.old };
 
     /// Takes a kit home; hands it back only where all are there already.
@@ -112,6 +116,8 @@ impl<K> KitSource<K> for Pool<K> {
     ghost free = { λ s. length s.kits };
 
     ghost total = { λ s. s.total };
+
+    ghost lacks = { λ s. s.kits ≡ [] };
 
     fn take(&mut self) -> Option<K>
         ensures given { IfSome result (λ k. Contains self.old.kits k) }

@@ -21,7 +21,7 @@ returns-clause-layer g c =
     let right : IsWorth (g.V.View.kind_of c.index_mut-view.result.now) (g.V.View.worth_of c.absorb.new.self) =
     IsWorth-combined c.absorb.result _ _ _ _ c.absorb.ensures.done (OnOk-always c.absorb.result _ given) c.absorb.ensures.refused
     (IsWorth-old kind worth c.args.views.now.items c.args.r old new c.requires.reducer_is c.index_mut-view.ensures.value c.absorb.ensures.same_kind c.args.used.now.keys c.requires.layer) in
-    rw (was_ok c.insert.result (c.insert.new.self.keys ≡ insert_key nat_eq c.args.used.now.keys c.args.r) (sym (c.is_err.ensures.value) ∙ c.if-is_err.false) c.insert.ensures.keys)
+    rw (was_ok c.note_use.result (c.note_use.new.used.keys ≡ insert_key nat_eq c.args.used.now.keys c.args.r) (sym (c.is_err.ensures.value) ∙ c.if-is_err.false) c.note_use.ensures.keys)
     (IsLayer-written kind worth c.args.views.now.items c.args.r old new c.requires.reducer_is c.index_mut-view.ensures.value c.absorb.ensures.same_kind c.args.used.now.keys c.requires.layer right)
 
 pub returns-clause-absorbed : goal.returns-clause-absorbed
