@@ -1,11 +1,14 @@
 -- An evaluation at a statement, and then the rest, by numbers and by names.
-use Rattle.std.proofs.Common.{◌≡◌, ℕ, List, ◌∷◌, ◌++◌, map, Result, Ok, Err, refl, sym, ap, subst, append_assoc, append-nil}
-use Rattle.program_tree.specs.Plain.{Tree}
+use Rattle.std.proofs.Common.{◌≡◌, ℕ, List, ◌∷◌, ◌++◌, map, Result, Ok, Err, refl, sym, ap, subst, append_assoc}
 use Rattle.meaning.specs.declared.FaultKind.{FaultKind}
-use Rattle.meaning.specs.Outcome.{Out, Log, Site, onward}
+use Rattle.std.specs.Prelude.{[], ◌-◌, false}
+use Rattle.meaning.specs.Elision.{depth_limit}
+use Rattle.meaning.specs.Outcome.{Out, Log, Reads, Reading, Site, onward}
 use Rattle.meaning.specs.Trail.{fault_at}
-use Rattle.meaning.specs.SmallStep.{Start as NamedStart, Frame, Phase as NamedPhase, broken, Parent, noting, opening_one, closing_one, Step, moved, taken, paused, led_step, settling, on_value}
-use Rattle.meaning.specs.Layers.{Notes, noted_top}
+use Rattle.meaning.specs.SmallStep.{Start as NamedStart, Frame, Phase as NamedPhase, broken, Parent, noting, opening_one, closing_one, Step, moved, taken, paused, led_step, settling, on_value, with_layer}
+use Rattle.meaning.specs.Layers.{Notes, notes, noted_top, closed_top, take_top, notes_of, ahead_of_entry, from_entry}
+use Rattle.meaning.specs.Tallies.{Tally, executions, opened_all, passed_all, answered_one, closed_by, tallied}
+use Rattle.trail_theory.specs.Unflagged.{unflagged_under, unflagged_step}
 use Rattle.meaning.specs.LayeredStrand.{LayeredStrand, advanced}
 use Rattle.evaluation.specs.Values.{NumberedOut, mapped, changed}
 use Rattle.evaluation.specs.Numbers.{numbered, readings, by_number, OnlyReads}
@@ -15,41 +18,63 @@ use Rattle.positions.specs.Layers as plain
 use Rattle.positions.specs.Layers.{PlainLayer}
 use Rattle.positions.specs.Strands.{PlainStrand}
 use Rattle.positions.specs.Advance.{noted, faulted, answered, evaluated}
-use Rattle.positions.specs.Stands.{procedure_at, AreNotes, IsStart, StandsFor}
-use Rattle.positions.proofs.Layering.{top_append, top_read}
+use Rattle.positions.specs.Stands.{procedure_at, AreNotes, IsTally, IsStart, StandsFor}
+use Rattle.positions.specs.Simulation.{IsTaken}
+use Rattle.positions.proofs.Layering.{top_none, top_append, top_read}
 use Rattle.positions.proofs.Starts.{start_moved}
 
 -- a strand of the definitions by its parts
 abbrev pub strand_at : NamedStart → List Notes → Frame → NamedPhase → List Parent → LayeredStrand
 strand_at m ls fr ph under = record { start = m; layers = ls; frame = fr; phase = ph; under = under }
 
--- a step that is taken and opens or closes no layer
-abbrev pub IsNoting : Step → Type 0
-IsNoting (moved noting es fr ph t) = Unit {0}
-IsNoting (moved opening_one es fr ph t) = ⊥
-IsNoting (moved closing_one es fr ph t) = ⊥
-IsNoting (taken es k fr ph t) = ⊥
-IsNoting (paused p) = ⊥
-
 -- with that layer on top
 abbrev pub layered : PlainLayer → PlainStrand → PlainStrand
 layered l s = record s { layer = l }
 
--- what was noted before a step stands in the layer
-pub led_is : (t : Tree) (m : NamedStart) (ls : List Notes) (fr : Frame) (ph : NamedPhase) (under : List Parent) (es : Log) (st : Step) → IsNoting st
-    → advanced t (strand_at m ls fr ph under) (led_step es st) ≡ advanced t (strand_at m (noted_top ls es) fr ph under) st
-led_is t m ls fr ph under es (moved noting fs g qh us) h = ap (λ ks. strand_at m ks g qh us) (top_append ls es fs)
-led_is t m ls fr ph under es (moved opening_one fs g qh us) h = absurd h
-led_is t m ls fr ph under es (moved closing_one fs g qh us) h = absurd h
-led_is t m ls fr ph under es (taken fs k g qh us) h = absurd h
-led_is t m ls fr ph under es (paused p) h = absurd h
+-- ---- readings before a step
 
-pub led_noting : (es : Log) (st : Step) → IsNoting st → IsNoting (led_step es st)
-led_noting es (moved noting fs g qh us) h = tt
-led_noting es (moved opening_one fs g qh us) h = absurd h
-led_noting es (moved closing_one fs g qh us) h = absurd h
-led_noting es (taken fs k g qh us) h = absurd h
-led_noting es (paused p) h = absurd h
+ahead_of_reads : (rs : List Reading) (fs : Log) → ahead_of_entry (map Reads rs ++ fs) ≡ map Reads rs ++ ahead_of_entry fs
+ahead_of_reads [] fs = refl
+ahead_of_reads (r ∷ rs) fs = ap (λ es. Reads r ∷ es) (ahead_of_reads rs fs)
+
+from_reads : (rs : List Reading) (fs : Log) → from_entry (map Reads rs ++ fs) ≡ from_entry fs
+from_reads [] fs = refl
+from_reads (r ∷ rs) fs = from_reads rs fs
+
+executed_reads : (rs : List Reading) (fs : Log) → executions (map Reads rs ++ fs) ≡ executions fs
+executed_reads [] fs = refl
+executed_reads (r ∷ rs) fs = executed_reads rs fs
+
+-- ---- what a step comes to
+
+module _ (setting : Setting) where
+  -- a strand of numbers stands for what a strand comes to by that step, without flags
+  abbrev pub Comes : PlainStrand → LayeredStrand → Tally → Step → Type 0
+  Comes s x t st = StandsFor setting s (advanced setting.program.tree x (unflagged_step st)) (tallied setting.program x.layers (unflagged_step st) t)
+
+  module _ (s : PlainStrand) (m : NamedStart) (ls : List Notes) (fr : Frame) (ph : NamedPhase) (under : List Parent) (t : Tally) where
+    abbrev after_layers : List Notes → Frame → NamedPhase → List Parent → Tally → Type 0
+    after_layers ks g qh us u = StandsFor setting s (strand_at m ks (with_layer false g) qh (unflagged_under us)) u
+
+    -- what was read before a step stands in the layer
+    led_reads : (rs : List Reading) (st : Step) → IsTaken st → Comes s (strand_at m (noted_top ls (map Reads rs)) fr ph under) t st → Comes s (strand_at m ls fr ph under) t (led_step (map Reads rs) st)
+    led_reads rs (moved noting fs g qh us) k h =
+        subst (λ ks. after_layers ks g qh us (passed_all (executions (map Reads rs ++ fs)) t)) (sym (top_append ls (map Reads rs) fs))
+        (subst (λ es. after_layers (noted_top (noted_top ls (map Reads rs)) fs) g qh us (passed_all es t)) (sym (executed_reads rs fs)) h)
+    led_reads rs (moved opening_one fs g qh us) k h =
+        subst (λ es. after_layers (notes setting.program.tree es ∷ noted_top ls (ahead_of_entry (map Reads rs ++ fs))) g qh us (opened_all (with_layer false g) (executions (map Reads rs ++ fs)) t)) (sym (from_reads rs fs))
+        (subst (λ es. after_layers (notes setting.program.tree (from_entry fs) ∷ noted_top ls es) g qh us (opened_all (with_layer false g) (executions (map Reads rs ++ fs)) t)) (sym (ahead_of_reads rs fs))
+        (subst (λ ks. after_layers (notes setting.program.tree (from_entry fs) ∷ ks) g qh us (opened_all (with_layer false g) (executions (map Reads rs ++ fs)) t)) (sym (top_append ls (map Reads rs) (ahead_of_entry fs)))
+        (subst (λ es. after_layers (notes setting.program.tree (from_entry fs) ∷ noted_top (noted_top ls (map Reads rs)) (ahead_of_entry fs)) g qh us (opened_all (with_layer false g) es t)) (sym (executed_reads rs fs)) h)))
+    led_reads rs (moved closing_one fs g qh us) k h =
+        subst (λ ks. after_layers (closed_top setting.program.tree ks) g qh us (closed_by setting.program t.opened ks qh t)) (sym (top_append ls (map Reads rs) fs)) h
+    led_reads rs (taken fs j g qh us) k h =
+        subst (λ ks. after_layers (take_top setting.program.tree (notes_of j (depth_limit - g.left)) ks) g qh us (answered_one t)) (sym (top_append ls (map Reads rs) fs)) h
+    led_reads rs (paused p) k h = absurd k
+
+    pub led_comes : (log : Log) → OnlyReads log → (st : Step) → IsTaken st → Comes s (strand_at m (noted_top ls log) fr ph under) t st → Comes s (strand_at m ls fr ph under) t (led_step log st)
+    led_comes log only st k =
+        subst (λ es. Comes s (strand_at m (noted_top ls es) fr ph under) t st → Comes s (strand_at m ls fr ph under) t (led_step es st)) (sym only) (led_reads (readings log) st k)
 
 led_led : (es fs : Log) (st : Step) → led_step (es ++ fs) st ≡ led_step es (led_step fs st)
 led_led es fs (moved l gs g qh us) = ap (λ hs. moved l hs g qh us) (append_assoc es fs gs)
@@ -75,31 +100,32 @@ pub mapped_is : {A B : Type 0} (n : ℕ) (f : A → B) (o : NumberedOut A) (next
     → evaluated n (mapped f o) next s ≡ evaluated n o (λ a. next (f a)) s
 mapped_is n f o next s = changed_is n f o.answer next (noted o.notes s)
 
-module _ (setting : Setting) (m : NamedStart) (fr : Frame) (ph : NamedPhase) (under : List Parent) (s : PlainStrand) (n : ℕ) (site : Site)
-    (at_site : site ≡ record { procedure = (procedure_at setting s.top.procedure).called; statement = n }) (begins : IsStart s.start Running s.path m) where
+module _ (setting : Setting) (m : NamedStart) (fr : Frame) (ph : NamedPhase) (under : List Parent) (t : Tally) (s : PlainStrand) (n : ℕ) (site : Site)
+    (at_site : site ≡ record { procedure = (procedure_at setting s.top.procedure).called; statement = n }) (begins : IsStart s.start Running s.path m) (counts : IsTally setting s.tally t) where
   -- a fault at the statement
   pub faulted_is : (k : FaultKind) (l : PlainLayer) (ls : List Notes) → AreNotes setting (l ∷ s.lower) ls
-      → StandsFor setting (faulted n k (layered l s)) (strand_at m ls fr (broken (fault_at site k)) under)
+      → Comes setting (faulted n k (layered l s)) (strand_at m ls fr ph under) t (moved noting [] fr (broken (fault_at site k)) under)
   faulted_is k l ls h = record {
     start = start_moved s.start Running (Broken (record { kind = k; procedure = s.top.procedure; statement = n })) s.path s.path m (λ d w. (refl, w)) begins;
-    layers = h;
+    layers = subst (AreNotes setting (l ∷ s.lower)) (sym (top_none ls)) h;
+    tally = counts;
     now = ap (λ at. broken (fault_at at k)) at_site;
   }
 
   stops_or_goes : {A : Type 0} (log : Log) (r : Result A FaultKind) (next : A → PlainStrand → PlainStrand) (step : A → Step) (ls : List Notes)
-      → OnlyReads log → AreNotes setting (s.layer ∷ s.lower) ls → ((v : A) → IsNoting (step v))
-      → ((v : A) (l : PlainLayer) (ks : List Notes) → AreNotes setting (l ∷ s.lower) ks → StandsFor setting (next v (layered l s)) (advanced setting.program.tree (strand_at m ks fr ph under) (step v)))
-      → StandsFor setting (answered n r next (noted (map (numbered setting.names) (readings log)) s)) (advanced setting.program.tree (strand_at m ls fr ph under) (led_step log (settling fr under site r step)))
-  stops_or_goes log (Ok v) next step ls only h quiet goes =
-      subst (StandsFor setting (next v (noted (map (numbered setting.names) (readings log)) s))) (sym (led_is setting.program.tree m ls fr ph under log (step v) (quiet v)))
+      → OnlyReads log → AreNotes setting (s.layer ∷ s.lower) ls → ((v : A) → IsTaken (step v))
+      → ((v : A) (l : PlainLayer) (ks : List Notes) → AreNotes setting (l ∷ s.lower) ks → Comes setting (next v (layered l s)) (strand_at m ks fr ph under) t (step v))
+      → Comes setting (answered n r next (noted (map (numbered setting.names) (readings log)) s)) (strand_at m ls fr ph under) t (led_step log (settling fr under site r step))
+  stops_or_goes log (Ok v) next step ls only h is_taken goes =
+      led_comes setting (next v (noted (map (numbered setting.names) (readings log)) s)) m ls fr ph under t log only (step v) (is_taken v)
       (goes v (plain.noting (map (numbered setting.names) (readings log)) s.layer) (noted_top ls log) (top_read setting s.layer s.lower ls log only h))
-  stops_or_goes log (Err k) next step ls only h quiet goes =
-      subst (λ es. StandsFor setting (faulted n k (noted (map (numbered setting.names) (readings log)) s)) (strand_at m (noted_top ls es) fr (broken (fault_at site k)) under)) (sym (append-nil log))
+  stops_or_goes log (Err k) next step ls only h is_taken goes =
+      led_comes setting (faulted n k (noted (map (numbered setting.names) (readings log)) s)) m ls fr ph under t log only (moved noting [] fr (broken (fault_at site k)) under) tt
       (faulted_is k (plain.noting (map (numbered setting.names) (readings log)) s.layer) (noted_top ls log) (top_read setting s.layer s.lower ls log only h))
 
   -- an evaluation, and then the rest
   pub evaluated_is : {A : Type 0} (o : Out FaultKind A) (next : A → PlainStrand → PlainStrand) (step : A → Step) (ls : List Notes)
-      → OnlyReads o.log → AreNotes setting (s.layer ∷ s.lower) ls → ((v : A) → IsNoting (step v))
-      → ((v : A) (l : PlainLayer) (ks : List Notes) → AreNotes setting (l ∷ s.lower) ks → StandsFor setting (next v (layered l s)) (advanced setting.program.tree (strand_at m ks fr ph under) (step v)))
-      → StandsFor setting (evaluated n (by_number setting.names o) next s) (advanced setting.program.tree (strand_at m ls fr ph under) (on_value fr under site o step))
-  evaluated_is o next step ls only h quiet goes = stops_or_goes o.log o.answer next step ls only h quiet goes
+      → OnlyReads o.log → AreNotes setting (s.layer ∷ s.lower) ls → ((v : A) → IsTaken (step v))
+      → ((v : A) (l : PlainLayer) (ks : List Notes) → AreNotes setting (l ∷ s.lower) ks → Comes setting (next v (layered l s)) (strand_at m ks fr ph under) t (step v))
+      → Comes setting (evaluated n (by_number setting.names o) next s) (strand_at m ls fr ph under) t (on_value fr under site o step)
+  evaluated_is o next step ls only h is_taken goes = stops_or_goes o.log o.answer next step ls only h is_taken goes

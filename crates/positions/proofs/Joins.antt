@@ -1,29 +1,20 @@
 -- Two neighbours that become one strand, by numbers and by names.
-use Rattle.std.proofs.Common.{◌≡◌, ℕ, zero, suc, ◌+◌, ◌-◌, ◌≤◌, ◌==◌, Bool, true, false, ◌&&◌, ◌||◌, cond, if◌then◌else◌, List, [], ◌∷◌, ◌++◌, map, max, length, take, replicate, Option, Some, None, refl, sym, ◌∙◌, ap, subst, arith}
-use Rattle.std.specs.Prelude.{ℤ, nat_eq, slice_set}
+use Rattle.std.proofs.Common.{◌≡◌, ℕ, zero, suc, ◌+◌, ◌-◌, ◌≤◌, ◌==◌, Bool, true, false, ◌&&◌, cond, if◌then◌else◌, List, [], ◌∷◌, ◌++◌, map, length, take, Option, Some, None, refl, sym, ◌∙◌, ap, ap₂, subst, arith}
+use Rattle.std.specs.Prelude.{ℤ, nat_eq}
 use Rattle.std.proofs.lemmas.Bool.{eq-eqb, eqb-true}
-use Rattle.std.proofs.lemmas.List.{take_all, take-take, take-append-le, map-append, length-set, length-map, length-take-le, length-append, length-replicate}
+use Rattle.std.proofs.lemmas.List.{take_all, take-take, take-append-le, length-take-le, length-append}
 use Rattle.std.proofs.Math.Dec.{eqb-suc-zero}
-use Rattle.monoid_laws.specs.declared.Kind.{Kind}
-use Rattle.monoid_laws.specs.Worth.{Worth}
-use Rattle.monoid_laws.specs.Kinds.{operate, operate_all}
-use Rattle.program_tree.specs.Plain.{Red}
-use Rattle.meaning.specs.Records.{with_kinds}
-use Rattle.meaning.specs.Outcome.{Place, combined}
-use Rattle.meaning.specs.Statements.{reducers}
+use Rattle.meaning.specs.Outcome.{Place}
 use Rattle.meaning.specs.Trail.{child_of}
 use Rattle.meaning.specs.SmallStep.{slot, unset, has, waits, Slot as NamedSlot, root, behind, Start as NamedStart, Frame, Todo, blocks, halves, second, turns, Child, instance, half, Phase as NamedPhase, entering, running, returning, leaving, Parent, same_name, with_env}
-use Rattle.meaning.specs.Layers as definitions
-use Rattle.meaning.specs.Layers.{Notes, take_top}
+use Rattle.meaning.specs.Layers.{Notes}
+use Rattle.meaning.specs.Tallies.{Tally, tallies_joined}
 use Rattle.meaning.specs.LayeredStrand as strands
 use Rattle.meaning.specs.LayeredStrand.{LayeredStrand, settle_slot, settled_frame, settled_under, joined_layers}
 use Rattle.meaning.specs.Schedules.{place_of_start, broken_pair, joined_pair}
-use Rattle.linked_program.specs.Procedures.{procedures}
-use Rattle.linked_program.specs.Linked.{procedure_number}
 use Rattle.evaluation.specs.declared.slot.Slot.{Slot}
 use Rattle.evaluation.specs.declared.slot.Slot.TheVariants.{Unset, Waits, Has}
 use Rattle.evaluation.specs.Slots.{meant}
-use Rattle.evaluation.specs.Numbers.{numbered}
 use Rattle.positions.specs.declared.work.Work.{Work}
 use Rattle.positions.specs.declared.work.Work.TheVariants.{Block, Over, Halves, Second, Turns}
 use Rattle.positions.specs.declared.phase.Fault.{Fault}
@@ -33,86 +24,15 @@ use Rattle.positions.specs.declared.start.Start.{Start}
 use Rattle.positions.specs.declared.start.Start.TheVariants.{Root, Behind}
 use Rattle.positions.specs.Setting.{Setting}
 use Rattle.positions.specs.Activations.{PlainActivation}
-use Rattle.positions.specs.Layers.{PlainLayer, either, multiplied}
+use Rattle.positions.specs.Layers.{PlainLayer, multiplied}
+use Rattle.positions.specs.Tallies.{PlainTally, tallies_joined as plain_tallies_joined}
 use Rattle.positions.specs.Strands.{PlainStrand, shorter}
 use Rattle.positions.specs.Moves.{settled_slot, settled_slots, settled, settled_below, settled_at, settled_by, joined_ended, joined_broken, joined_after, joined_at, joined}
-use Rattle.positions.specs.Stands.{flagged, IsWithin, IsStart, IsNotes, AreNotes, named_fault, frame_of, slots_by, IsTodoAt, IsTodo, IsParent, AreParents, IsNew, StandsAt, StandsFor}
+use Rattle.positions.specs.Stands.{IsWithin, IsStart, AreNotes, IsTally, named_fault, frame_of, slots_by, IsTodoAt, IsTodo, IsParent, AreParents, IsNewInstance, IsNew, StandsAt, StandsFor}
 use Rattle.positions.specs.Simulation.{IsNotAtSpawn, IsJoined}
+use Rattle.positions.proofs.Recorded.{records_append}
+use Rattle.positions.proofs.Products.{notes_multiplied}
 use Rattle.positions.proofs.Starts.{start_moved}
-
--- ---- layers
-
-either_none : (xs : List Bool) (n : ℕ) → length xs ≡ n → either xs (replicate n false) ≡ xs
-either_none [] zero e = refl
-either_none [] (suc n) e = refl
-either_none (x ∷ xs) zero e = absurd (omega arith)
-either_none (true ∷ xs) (suc n) e = ap (λ l. true ∷ l) (either_none xs n (omega arith))
-either_none (false ∷ xs) (suc n) e = ap (λ l. false ∷ l) (either_none xs n (omega arith))
-
-either_true : (b : Bool) → (b || true) ≡ true
-either_true true = refl
-either_true false = refl
-
-either_set : (xs ys : List Bool) (p : ℕ) → length xs ≡ length ys → either xs (slice_set ys p true) ≡ slice_set (either xs ys) p true
-either_set [] ys p e = refl
-either_set (x ∷ xs) [] p e = absurd (omega arith)
-either_set (x ∷ xs) (y ∷ ys) zero e = ap (λ b. b ∷ either xs ys) (either_true x)
-either_set (x ∷ xs) (y ∷ ys) (suc p) e = ap (λ l. (x || y) ∷ l) (either_set xs ys p (omega arith))
-
-flagged_more : (flags : List Bool) (ps qs : List ℕ) → flagged flags (ps ++ qs) ≡ flagged (flagged flags ps) qs
-flagged_more flags [] qs = refl
-flagged_more flags (p ∷ ps) qs = flagged_more (slice_set flags p true) ps qs
-
-length_flagged : (flags : List Bool) (ps : List ℕ) → length (flagged flags ps) ≡ length flags
-length_flagged flags [] = refl
-length_flagged flags (p ∷ ps) = length_flagged (slice_set flags p true) ps ∙ length-set flags p true
-
-either_flagged : (xs ys : List Bool) (ps : List ℕ) → length xs ≡ length ys → either xs (flagged ys ps) ≡ flagged (either xs ys) ps
-either_flagged xs ys [] e = refl
-either_flagged xs ys (p ∷ ps) e =
-    either_flagged xs (slice_set ys p true) ps (e ∙ sym (length-set ys p true)) ∙ ap (λ l. flagged l ps) (either_set xs ys p e)
-
-entered_both : (n : ℕ) (ps qs : List ℕ) → either (flagged (replicate n false) ps) (flagged (replicate n false) qs) ≡ flagged (replicate n false) (ps ++ qs)
-entered_both n ps qs =
-    let long : length (flagged (replicate n false) ps) ≡ n = length_flagged (replicate n false) ps ∙ length-replicate n false in
-    either_flagged (flagged (replicate n false) ps) (replicate n false) qs (long ∙ sym (length-replicate n false))
-    ∙ ap (λ l. flagged l qs) (either_none (flagged (replicate n false) ps) n long)
-    ∙ sym (flagged_more (replicate n false) ps qs)
-
-combined_both : (reds : List Red) (xs ys : List Worth) → length xs ≡ length reds → length ys ≡ length reds → combined xs (with_kinds reds ys) ≡ operate_all (map (λ r. r.kind) reds) xs ys
-combined_both [] [] ys e f = refl
-combined_both [] (x ∷ xs) ys e f = absurd (omega arith)
-combined_both (r ∷ reds) [] ys e f = absurd (omega arith)
-combined_both (r ∷ reds) (x ∷ xs) [] e f = absurd (omega arith)
-combined_both (r ∷ reds) (x ∷ xs) (y ∷ ys) e f = ap (λ l. operate r.kind x y ∷ l) (combined_both reds xs ys (omega arith) (omega arith))
-
-length_operated : (kinds : List Kind) (xs ys : List Worth) → length xs ≡ length kinds → length ys ≡ length kinds → length (operate_all kinds xs ys) ≡ length kinds
-length_operated [] xs ys e f = refl
-length_operated (c ∷ cs) [] ys e f = absurd (omega arith)
-length_operated (c ∷ cs) (x ∷ xs) [] e f = absurd (omega arith)
-length_operated (c ∷ cs) (x ∷ xs) (y ∷ ys) e f = ap suc (length_operated cs xs ys (omega arith) (omega arith))
-
-module _ (setting : Setting) where
-  pub notes_multiplied : (l r : PlainLayer) (a b : Notes) → IsNotes setting l a → IsNotes setting r b → IsNotes setting (multiplied l r) (definitions.multiplied setting.program.tree a b)
-  notes_multiplied l r a b h i =
-      let first : length l.worths ≡ length (reducers setting.program.tree) = h.each ∙ ap length h.kinds ∙ length-map (reducers setting.program.tree) (λ x. x.kind) in
-      let second : length r.worths ≡ length (reducers setting.program.tree) = i.each ∙ ap length i.kinds ∙ length-map (reducers setting.program.tree) (λ x. x.kind) in
-      record {
-        kinds = h.kinds;
-        worths =
-            ap (λ ws. combined ws (with_kinds (reducers setting.program.tree) b.worth)) h.worths
-            ∙ ap (λ ws. combined l.worths (with_kinds (reducers setting.program.tree) ws)) i.worths
-            ∙ combined_both (reducers setting.program.tree) l.worths r.worths first second
-            ∙ ap (λ ks. operate_all ks l.worths r.worths) (sym h.kinds);
-        each = length_operated l.kinds l.worths r.worths h.each (i.each ∙ ap length (i.kinds ∙ sym h.kinds));
-        notes = ap (λ ns. ns ++ r.notes) h.notes ∙ ap (λ ns. map (numbered setting.names) a.read ++ ns) i.notes ∙ sym (map-append (numbered setting.names) a.read b.read);
-        entered =
-            ap (λ fs. either fs r.entered) h.entered
-            ∙ ap (either (flagged (replicate (length (procedures setting.program.tree)) false) (map (procedure_number (procedures setting.program.tree)) a.entered))) i.entered
-            ∙ entered_both (length (procedures setting.program.tree)) (map (procedure_number (procedures setting.program.tree)) a.entered) (map (procedure_number (procedures setting.program.tree)) b.entered)
-            ∙ ap (flagged (replicate (length (procedures setting.program.tree)) false)) (sym (map-append (procedure_number (procedures setting.program.tree)) a.entered b.entered));
-        deepest = ap (λ d. max d b.deepest) h.deepest ∙ ap (max l.deepest) i.deepest;
-      }
 
 -- ---- settled slots
 
@@ -212,8 +132,8 @@ module _ (setting : Setting) where
   no_waits k v (Waits j ∷ slots) (Some w ∷ env) h = absurd cc
   no_waits k v (Has w ∷ slots) (o ∷ env) h = ap (λ l. Has w ∷ l) (no_waits k v slots env cc)
 
-  new_settled : (k : ℕ) (v : ℤ) (a : PlainActivation) (child : Child) → IsNew setting a child → IsNew setting (settled k v a) child
-  new_settled k v a (instance f vs) h = record {
+  instance_settled : (k : ℕ) (v : ℤ) (a : PlainActivation) (f : List ℕ) (vs : List ℤ) → IsNewInstance setting a f vs → IsNewInstance setting (settled k v a) f vs
+  instance_settled k v a f vs h = record {
     procedure = h.procedure;
     children = h.children;
     work = h.work;
@@ -223,7 +143,10 @@ module _ (setting : Setting) where
         ∙ ap (map meant) (no_waits k v a.slots _ h.slots)
         ∙ h.slots;
   }
-  new_settled k v a (half n job count i) h = (h.0, todo_settled k v a (halves n job count i) h.1)
+
+  new_settled : (k : ℕ) (v : ℤ) (args : List ℤ) (a : PlainActivation) (child : Child) → IsNew setting args a child → IsNew setting args (settled k v a) child
+  new_settled k v args a (instance f vs) h = (instance_settled k v a f vs h.0, h.1)
+  new_settled k v args a (half n job count i) h = (h.0, todo_settled k v a (halves n job count i) h.1)
 
   -- ---- the instances below
 
@@ -286,7 +209,7 @@ module _ (setting : Setting) where
     pub frame : settled_frame e v (frame_of setting path top) ≡ frame_of setting path s.top
     pub under : (us : List Parent) → AreParents setting path below us → AreParents setting path s.below (settled_under e v us)
     pub todo : (todo : Todo) → IsTodo setting top todo → IsTodo setting s.top todo
-    pub new : (child : Child) → IsNew setting top child → IsNew setting s.top child
+    pub new : (args : List ℤ) (child : Child) → IsNew setting args top child → IsNew setting args s.top child
 
   -- no instance is the child's parent
   settles_none : (r : PlainStrand) (e : Place) (v : ℤ) → e ≡ [] → Settles r.path r.top r.below e v r
@@ -296,7 +219,7 @@ module _ (setting : Setting) where
         frame = apart_frame e v (frame_of setting r.path r.top) (λ same. (omega arith));
         under = λ us. apart_parents e v r.path r.below us (λ n le same. (omega arith));
         todo = λ todo h. h;
-        new = λ child h. h;
+        new = λ args child h. h;
       }
 
   settles_at : (d k : ℕ) (v : ℤ) (m : Place) (r : PlainStrand) (i : ℕ) → length m ≡ d → length r.path ≡ d + i → take d r.path ≡ m → Settles r.path r.top r.below (m ++ k ∷ []) v (settled_at i k v r)
@@ -306,7 +229,7 @@ module _ (setting : Setting) where
         frame = subst (λ n. settled_frame (n ++ k ∷ []) v (frame_of setting r.path r.top) ≡ frame_of setting r.path (settled k v r.top)) here (here_frame r.path k v r.top);
         under = λ us. apart_parents (m ++ k ∷ []) v r.path r.below us (λ n le same. let long : length (m ++ k ∷ []) ≡ length m + 1 = length-append m (k ∷ []) in omega arith);
         todo = todo_settled k v r.top;
-        new = new_settled k v r.top;
+        new = λ args. new_settled k v args r.top;
       }
   settles_at d k v m r (suc i) lm lp front =
       subst (λ b. Settles r.path r.top r.below (m ++ k ∷ []) v (if b then record r { top = settled k v r.top } else record r { below = settled_below (suc i - 1) k v r.below })) (sym (eqb-suc-zero i))
@@ -315,7 +238,7 @@ module _ (setting : Setting) where
         under = λ us h. subst (λ j. AreParents setting r.path (settled_below j k v r.below) (settled_under (m ++ k ∷ []) v us)) (let e : i ≡ suc i - 1 = omega arith in e)
             (settled_in d k v m i r.path r.below us lm (omega arith) front h);
         todo = λ todo h. h;
-        new = λ child h. h;
+        new = λ args child h. h;
       })
 
   -- the right strand's beginning, and the place behind which it begins
@@ -366,23 +289,32 @@ module _ (setting : Setting) where
       → AreNotes setting (multiplied l r ∷ lower) (joined_layers setting.program.tree ls ns)
   top_multiplied l r lower below [] ns e h i = absurd h
   top_multiplied l r lower below (a ∷ ls) [] e h i = absurd i
-  top_multiplied l r lower below (a ∷ ls) (b ∷ ns) e h i = (notes_multiplied setting l r a b h.0 i.0, h.1)
+  top_multiplied l r lower below (a ∷ ls) (b ∷ ns) e h i = (notes_multiplied setting l a h.0 r b i.0, h.1)
 
-  module _ (l r : PlainStrand) (x y : LayeredStrand) (v : ℤ) (lower : r.lower ≡ []) (begins : IsStart l.start (phase.Leaving v) l.path x.start) (hl : AreNotes setting (l.layer ∷ l.lower) x.layers) (hr : AreNotes setting (r.layer ∷ r.lower) y.layers)
-      (named : x.frame.instance ≡ l.path) where
+  both_counted : (a b : PlainTally) (t u : Tally) → IsTally setting a t → IsTally setting b u → IsTally setting (plain_tallies_joined a b) (tallies_joined t u)
+  both_counted a b t u h i = record {
+    opened = h.opened;
+    made = records_append setting t.made u.made a.made b.made h.made i.made;
+    executed = ap₂ (λ m n. m + n) h.executed i.executed;
+    reused = ap₂ (λ m n. m + n) h.reused i.reused;
+    unrecorded = ap₂ (λ m n. m + n) h.unrecorded i.unrecorded;
+  }
+
+  module _ (l r : PlainStrand) (x y : LayeredStrand) (t u : Tally) (v : ℤ) (lower : r.lower ≡ []) (begins : IsStart l.start (phase.Leaving v) l.path x.start) (hl : AreNotes setting (l.layer ∷ l.lower) x.layers) (hr : AreNotes setting (r.layer ∷ r.lower) y.layers)
+      (counted : IsTally setting (plain_tallies_joined l.tally r.tally) (tallies_joined t u)) (named : x.frame.instance ≡ l.path) where
     abbrev right : Phase → PlainStrand
     right ph = record r { phase = ph }
 
     -- the right strand, settled
     abbrev after : Phase → PlainStrand
-    after ph = record r { start = l.start; layer = multiplied l.layer r.layer; lower = l.lower; top = (settled_by r.start v (right ph)).top; below = (settled_by r.start v (right ph)).below; phase = ph }
+    after ph = record r { start = l.start; layer = multiplied l.layer r.layer; lower = l.lower; top = (settled_by r.start v (right ph)).top; below = (settled_by r.start v (right ph)).below; phase = ph; tally = plain_tallies_joined l.tally r.tally }
 
     abbrev pair : LayeredStrand
     pair = strands.joined setting.program.tree x v y
 
     goes_on : (ph : Phase) → IsNotAtSpawn ph → ((f : Fault) → ph ≡ phase.Broken f → ⊥) → Settles r.path r.top r.below x.frame.instance v (settled_by r.start v (right ph)) → StandsAt setting ph r.below (right ph) y
         → StandsAt setting ph (after ph).below (after ph) pair
-    goes_on phase.Entering n b s h = record { child = h.child; new = s.new h.child h.new; phase = h.phase; frame = ap (settled_frame x.frame.instance v) h.frame ∙ s.frame; under = s.under y.under h.under }
+    goes_on phase.Entering n b s h = record { child = h.child; new = s.new r.arguments h.child h.new; phase = h.phase; frame = ap (settled_frame x.frame.instance v) h.frame ∙ s.frame; under = s.under y.under h.under }
     goes_on phase.Running n b s h = record { todo = h.todo; left = s.todo h.todo h.left; phase = h.phase; frame = ap (settled_frame x.frame.instance v) h.frame ∙ s.frame; under = s.under y.under h.under }
     goes_on phase.AtSpawn n b s h = absurd n
     goes_on (phase.Returning w) n b s h = record { phase = h.phase; frame = ap (settled_frame x.frame.instance v) h.frame ∙ s.frame; under = s.under y.under h.under }
@@ -391,13 +323,14 @@ module _ (setting : Setting) where
 
     ended_pair : (ph : Phase) → ((d c n : ℕ) → c ≤ d → IsWithin ph d n → IsWithin ph c n) → ((d n : ℕ) → IsWithin ph d n → d ≤ n) → IsNotAtSpawn ph → ((f : Fault) → ph ≡ phase.Broken f → ⊥)
         → IsStart r.start ph r.path y.start → StandsAt setting ph r.below (right ph) y → same_name x.frame.instance (place_of_start y.start) ≡ true
-        → StandsFor setting (joined_ended l v (right ph)) pair
+        → StandsFor setting (joined_ended l v (right ph)) pair (tallies_joined t u)
     ended_pair ph closed within n b i h same =
         let there : x.frame.instance ≡ place_of_start y.start = same_is x.frame.instance (place_of_start y.start) same in
-        subst (λ s. StandsFor setting (record s { start = l.start; layer = multiplied l.layer r.layer; lower = l.lower }) pair) (sym (shape_is r.start v (right ph)))
+        subst (λ s. StandsFor setting (record s { start = l.start; layer = multiplied l.layer r.layer; lower = l.lower; tally = plain_tallies_joined l.tally r.tally }) pair (tallies_joined t u)) (sym (shape_is r.start v (right ph)))
         (record {
           start = start_joined l.start r.start v ph r.path l.path x.start y.start closed within (sym named ∙ there) begins i;
           layers = top_multiplied l.layer r.layer l.lower r.lower x.layers y.layers lower hl hr;
+          tally = counted;
           now = goes_on ph n b (subst (λ e. Settles r.path r.top r.below e v (settled_by r.start v (right ph))) (sym there) (settles_by r.start ph (right ph) y.start v within i)) h;
         })
 
@@ -407,15 +340,15 @@ module _ (setting : Setting) where
 
       ended_by : (ph : Phase) (q : NamedPhase) (c : Bool) → ((d c n : ℕ) → c ≤ d → IsWithin ph d n → IsWithin ph c n) → ((d n : ℕ) → IsWithin ph d n → d ≤ n) → IsNotAtSpawn ph → ((f : Fault) → ph ≡ phase.Broken f → ⊥)
           → IsStart r.start ph r.path y.start → StandsAt setting ph r.below (right ph) y → cond (same_name x.frame.instance (place_of_start y.start) && c) (Some (strands.joined setting.program.tree x v y)) None ≡ Some z
-          → StandsFor setting (joined_ended l v (right ph)) z
+          → StandsFor setting (joined_ended l v (right ph)) z (tallies_joined t u)
       ended_by ph q c closed within n b i h e =
           let both = from_cond (same_name x.frame.instance (place_of_start y.start) && c) (strands.joined setting.program.tree x v y) z e in
-          subst (StandsFor setting (joined_ended l v (right ph))) both.1
+          subst (λ w. StandsFor setting (joined_ended l v (right ph)) w (tallies_joined t u)) both.1
           (ended_pair ph closed within n b i h (left_true (same_name x.frame.instance (place_of_start y.start)) c both.0))
 
-      by_right : (ph : Phase) → IsNotAtSpawn ph → IsStart r.start ph r.path y.start → StandsAt setting ph r.below (right ph) y → pair_by y.phase ≡ Some z → StandsFor setting (joined_after ph l v (right ph)) z
+      by_right : (ph : Phase) → IsNotAtSpawn ph → IsStart r.start ph r.path y.start → StandsAt setting ph r.below (right ph) y → pair_by y.phase ≡ Some z → StandsFor setting (joined_after ph l v (right ph)) z (tallies_joined t u)
       by_right phase.Entering n i h e =
-          ended_by phase.Entering (entering h.child) _ (λ d c n le w. omega arith) (λ d n w. w) n (λ f c. cc) i h (sym (ap pair_by h.phase) ∙ e)
+          ended_by phase.Entering (entering h.child) _ (λ d c n le w. omega arith) (λ d n w. omega arith) n (λ f c. cc) i h (sym (ap pair_by h.phase) ∙ e)
       by_right phase.Running n i h e =
           ended_by phase.Running (running h.todo) _ (λ d c n le w. omega arith) (λ d n w. w) n (λ f c. cc) i h (sym (ap pair_by h.phase) ∙ e)
       by_right phase.AtSpawn n i h e = absurd n
@@ -425,17 +358,17 @@ module _ (setting : Setting) where
           ended_by (phase.Leaving w) (leaving w) _ (λ d c n le w. omega arith) (λ d n w. omega arith) n (λ f c. cc) i h (sym (ap pair_by h.phase) ∙ e)
       by_right (phase.Broken f) n i h e =
           let both = from_cond (same_name x.frame.instance (place_of_start y.start)) (broken_pair setting.program setting.tables setting.memory x y (named_fault setting f)) z (sym (ap pair_by h) ∙ e) in
-          subst (StandsFor setting (joined_broken l f)) both.1
-          (record { start = start_moved l.start (phase.Leaving v) (phase.Broken f) l.path l.path x.start (λ d w. (refl, (omega arith))) begins; layers = hl; now = refl })
+          subst (λ w. StandsFor setting (joined_broken l (right (phase.Broken f)) f) w (tallies_joined t u)) both.1
+          (record { start = start_moved l.start (phase.Leaving v) (phase.Broken f) l.path l.path x.start (λ d w. (refl, (omega arith))) begins; layers = hl; tally = counted; now = refl })
 
-  module _ (l r : PlainStrand) (x y z : LayeredStrand) (n : IsNotAtSpawn r.phase) (lower : r.lower ≡ [])
-      (hl : StandsFor setting l x) (hr : StandsFor setting r y) where
-    by_left : (ph : Phase) (below : List PlainActivation) → IsStart l.start ph l.path x.start → StandsAt setting ph below l x → joined_pair setting.program setting.tables setting.memory x x.phase y y.phase ≡ Some z → StandsFor setting (joined_at ph l r) z
+  module _ (l r : PlainStrand) (x y z : LayeredStrand) (n : IsNotAtSpawn r.phase) (lower : r.lower ≡ []) (t u : Tally)
+      (hl : StandsFor setting l x t) (hr : StandsFor setting r y u) where
+    by_left : (ph : Phase) (below : List PlainActivation) → IsStart l.start ph l.path x.start → StandsAt setting ph below l x → joined_pair setting.program setting.tables setting.memory x x.phase y y.phase ≡ Some z → StandsFor setting (joined_at ph l r) z (tallies_joined t u)
     by_left (phase.Broken f) below i h e =
         let same : Some (broken_pair setting.program setting.tables setting.memory x y (named_fault setting f)) ≡ Some z = sym (ap (λ p. joined_pair setting.program setting.tables setting.memory x p y y.phase) h) ∙ e in
-        subst (StandsFor setting (joined_broken l f)) (let q : broken_pair setting.program setting.tables setting.memory x y (named_fault setting f) ≡ z = cc in q) (record { start = i; layers = hl.layers; now = refl })
+        subst (λ w. StandsFor setting (joined_broken l r f) w (tallies_joined t u)) (let q : broken_pair setting.program setting.tables setting.memory x y (named_fault setting f) ≡ z = cc in q) (record { start = i; layers = hl.layers; tally = both_counted l.tally r.tally t u hl.tally hr.tally; now = refl })
     by_left (phase.Leaving v) below i h e =
-        by_right l r x y v lower i hl.layers hr.layers (ap (λ fr. fr.instance) h.frame) z r.phase n hr.start hr.now (sym (ap (λ p. joined_pair setting.program setting.tables setting.memory x p y y.phase) h.phase) ∙ e)
+        by_right l r x y t u v lower i hl.layers hr.layers (both_counted l.tally r.tally t u hl.tally hr.tally) (ap (λ fr. fr.instance) h.frame) z r.phase n hr.start hr.now (sym (ap (λ p. joined_pair setting.program setting.tables setting.memory x p y y.phase) h.phase) ∙ e)
     by_left phase.Entering below i h e = let none : None ≡ Some z = sym (ap (λ p. joined_pair setting.program setting.tables setting.memory x p y y.phase) h.phase) ∙ e in absurd cc
     by_left phase.Running below i h e = let none : None ≡ Some z = sym (ap (λ p. joined_pair setting.program setting.tables setting.memory x p y y.phase) h.phase) ∙ e in absurd cc
     by_left phase.AtSpawn [] i h e = absurd h
@@ -443,4 +376,4 @@ module _ (setting : Setting) where
     by_left (phase.Returning w) below i h e = let none : None ≡ Some z = sym (ap (λ p. joined_pair setting.program setting.tables setting.memory x p y y.phase) h.phase) ∙ e in absurd cc
 
   pub joined_is : (l r : PlainStrand) → IsJoined setting l r (joined l r)
-  joined_is l r x y z n lower hl hr e = by_left l r x y z n lower hl hr l.phase l.below hl.start hl.now e
+  joined_is l r x y z t u n lower hl hr e = by_left l r x y z n lower t u hl hr l.phase l.below hl.start hl.now e

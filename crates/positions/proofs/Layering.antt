@@ -1,27 +1,35 @@
 -- What the layers of a strand note, by numbers and by names.
-use Rattle.std.proofs.Common.{◌≡◌, ℕ, Bool, true, false, List, [], ◌∷◌, ◌++◌, map, max, length, replicate, Option, Some, None, refl, sym, ◌∙◌, ap, subst, append_assoc, append-nil}
+use Rattle.std.proofs.Common.{◌≡◌, ℕ, suc, Bool, true, false, List, [], ◌∷◌, ◌++◌, map, max, length, replicate, Option, Some, None, refl, sym, ◌∙◌, ap, subst, append_assoc, append-nil}
 use Rattle.std.specs.Prelude.{ℤ, slice_get, slice_set}
-use Rattle.std.proofs.lemmas.List.{map-append, length-set}
+use Rattle.std.proofs.lemmas.List.{map-append, length-map, length-set}
 use Rattle.monoid_laws.specs.declared.Kind.{Kind}
 use Rattle.monoid_laws.specs.Worth.{Worth}
-use Rattle.monoid_laws.specs.Kinds.{operate, element_of}
-use Rattle.program_tree.specs.Plain.{Name}
+use Rattle.monoid_laws.specs.Kinds.{operate, element_of, identities, identity_of}
+use Rattle.program_tree.specs.Plain.{Name, Proc, Red}
 use Rattle.meaning.specs.Outcome.{Log, Reads, Enters, Updates, Reading, Accumulators, updated}
 use Rattle.meaning.specs.Statements.{reducers}
 use Rattle.meaning.specs.Layers as definitions
 use Rattle.meaning.specs.Layers.{Notes, noted_one, noted_top, bottom, take_top}
 use Rattle.linked_program.specs.Procedures.{procedures}
 use Rattle.linked_program.specs.Linked.{procedure_number}
+use Rattle.linked_program.specs.declared.code.Code.{Code}
+use Rattle.linked_program.specs.CodeView.{AreCodesOf}
 use Rattle.evaluation.specs.Numbers.{numbered, readings, OnlyReads}
-use Rattle.positions.specs.Setting.{Setting}
-use Rattle.positions.specs.Layers.{PlainLayer, noting, entering, updated_by, updating, lowest}
-use Rattle.positions.specs.Stands.{flagged, IsNotes, AreNotes}
+use Rattle.positions.specs.Setting.{Setting, IsLinked}
+use Rattle.rerun_records.specs.Named.{SameMembers}
+use Rattle.positions.specs.Layers.{PlainLayer, blank, flagged, noting, entering, updated_by, updating, lowest}
+use Rattle.positions.specs.Stands.{IsNotes, AreNotes}
+use Rattle.positions.proofs.Members.{members_same, members_append}
 
 -- ---- what is noted one behind the other
 
 pub noted_append : (n : Notes) (es fs : Log) → definitions.noted n (es ++ fs) ≡ definitions.noted (definitions.noted n es) fs
 noted_append n [] fs = refl
 noted_append n (e ∷ es) fs = noted_append (noted_one n e) es fs
+
+pub top_none : (ls : List Notes) → noted_top ls [] ≡ ls
+top_none [] = refl
+top_none (n ∷ ns) = refl
 
 pub top_append : (ls : List Notes) (es fs : Log) → noted_top ls (es ++ fs) ≡ noted_top (noted_top ls es) fs
 top_append [] es fs = refl
@@ -53,7 +61,9 @@ module _ (setting : Setting) where
         kinds = i.kinds;
         worths = i.worths;
         each = i.each;
-        notes = ap (λ ns. ns ++ map (numbered setting.names) (readings log)) i.notes ∙ sym (map-append (numbered setting.names) n.read (readings log));
+        notes =
+            subst (SameMembers (l.notes ++ map (numbered setting.names) (readings log))) (sym (map-append (numbered setting.names) n.read (readings log)))
+            (members_append l.notes (map (numbered setting.names) n.read) (map (numbered setting.names) (readings log)) (map (numbered setting.names) (readings log)) i.notes (members_same _ _ refl));
         entered = i.entered;
         deepest = i.deepest;
       })
@@ -116,3 +126,25 @@ module _ (setting : Setting) where
   bottom_is l (k ∷ lower) [] h = absurd h
   bottom_is l (k ∷ lower) (n ∷ []) h = absurd h.1
   bottom_is l (k ∷ lower) (n ∷ m ∷ ns) h = bottom_is k lower (m ∷ ns) h.1
+
+  -- ---- a layer that begins
+
+  as_many : (cs : List Code) (ps : List Proc) → AreCodesOf setting.names setting.program.tree cs ps → length cs ≡ length ps
+  as_many [] [] h = refl
+  as_many [] (p ∷ ps) h = absurd h
+  as_many (c ∷ cs) [] h = absurd h
+  as_many (c ∷ cs) (p ∷ ps) h = ap suc (as_many cs ps h.1)
+
+  same_identities : (reds : List Red) → map (λ r. identity_of r.kind) reds ≡ identities (map (λ r. r.kind) reds)
+  same_identities [] = refl
+  same_identities (r ∷ reds) = ap (λ ws. identity_of r.kind ∷ ws) (same_identities reds)
+
+  pub blank_is : IsLinked setting → IsNotes setting (blank setting.kinds (length setting.codes)) (definitions.blank setting.program.tree)
+  blank_is linked = record {
+    kinds = linked.kinds;
+    worths = same_identities (reducers setting.program.tree) ∙ ap identities (sym linked.kinds);
+    each = length-map setting.kinds identity_of;
+    notes = members_same [] [] refl;
+    entered = ap (λ n. replicate n false) (as_many setting.codes (procedures setting.program.tree) linked.codes);
+    deepest = refl;
+  }

@@ -1,21 +1,18 @@
 -- What is taken out of a strand and put back, and the strands that begin, by numbers and by names.
-use Rattle.std.proofs.Common.{◌≡◌, ℕ, suc, ◌+◌, ◌-◌, ◌≤◌, true, false, List, [], ◌∷◌, ◌++◌, map, length, replicate, Option, Some, refl, sym, ◌∙◌, ap, subst, arith}
+use Rattle.std.proofs.Common.{◌≡◌, ℕ, suc, ◌+◌, ◌-◌, ◌≤◌, true, false, List, [], ◌∷◌, ◌++◌, map, length, Option, Some, refl, sym, ◌∙◌, ap, subst, arith}
 use Rattle.std.specs.Prelude.{ℤ}
-use Rattle.std.proofs.lemmas.List.{take-take, length-map, length-take-le, length-append}
-use Rattle.monoid_laws.specs.Kinds.{identity_of, identities}
-use Rattle.program_tree.specs.Plain.{Proc, Red}
+use Rattle.std.proofs.lemmas.List.{take-take, length-take-le, length-append}
 use Rattle.meaning.specs.Elision.{main}
 use Rattle.meaning.specs.Outcome.{Place}
-use Rattle.meaning.specs.Statements.{reducers, proc_of, fresh, Job}
+use Rattle.meaning.specs.Statements.{proc_of, fresh, Job}
 use Rattle.meaning.specs.SmallStep.{slot, waits, set_into, Todo, halves, Child, instance, half, entering, running, spawning, returning, leaving, broken, Parent, opened, awaiting, stepped_past, child_name, with_env, with_value}
-use Rattle.meaning.specs.Layers as definitions
-use Rattle.meaning.specs.Layers.{Notes, noted_top}
+use Rattle.meaning.specs.Layers.{Notes}
+use Rattle.meaning.specs.Tallies.{no_tally}
 use Rattle.meaning.specs.LayeredStrand as strands
 use Rattle.meaning.specs.LayeredStrand.{LayeredStrand, first_layered, continuation}
 use Rattle.meaning.specs.Schedules.{bottom_alone}
-use Rattle.linked_program.specs.Procedures.{procedures}
 use Rattle.linked_program.specs.Linked.{main_number}
-use Rattle.linked_program.specs.CodeView.{AreCodesOf, slots_of}
+use Rattle.linked_program.specs.CodeView.{slots_of}
 use Rattle.evaluation.specs.declared.slot.Slot.TheVariants.{Waits, Has}
 use Rattle.evaluation.specs.Slots.{meant, slots_for}
 use Rattle.evaluation.proofs.Slots.{fresh_is}
@@ -23,15 +20,16 @@ use Rattle.positions.specs.declared.work.Work.{Work}
 use Rattle.positions.specs.declared.work.Work.TheVariants.{Block, Halves}
 use Rattle.positions.specs.declared.phase.Phase.{Phase}
 use Rattle.positions.specs.declared.phase.Phase.TheVariants as phase
-use Rattle.linked_program.specs.declared.code.Code.{Code}
 use Rattle.positions.specs.Setting.{Setting, IsLinked}
 use Rattle.positions.specs.Activations.{PlainActivation, bound, made, first_of}
-use Rattle.positions.specs.Layers.{PlainLayer, blank, lowest}
+use Rattle.positions.specs.Layers.{PlainLayer, lowest}
+use Rattle.positions.specs.Tallies.{no_tally as plain_no_tally}
 use Rattle.positions.specs.Strands.{PlainStrand, PlainTask, shorter}
 use Rattle.positions.specs.Moves.{inlined, detached, attached, returned_at, resumed_by, resumed, first_strand, stolen, lowest_alone}
-use Rattle.positions.specs.Stands.{IsStart, IsNotes, AreNotes, procedure_at, frame_of, frame_at, slots_by, IsTodoAt, IsTodo, IsParent, AreParents, IsNewInstance, IsNew, IsEntering, IsSpawning, StandsAt, StandsFor}
+use Rattle.positions.specs.Stands.{IsStart, AreNotes, IsTally, procedure_at, frame_of, frame_at, slots_by, IsTodoAt, IsTodo, IsParent, AreParents, IsNewInstance, IsNew, IsEntering, IsSpawning, StandsAt, StandsFor}
 use Rattle.positions.specs.Simulation.{IsFirst, IsInlined, IsDetached, IsAttached, IsResumed, IsStolen, IsAlone}
 use Rattle.positions.proofs.Places.{slots_at, found_at}
+use Rattle.positions.proofs.Layering.{blank_is}
 use Rattle.positions.proofs.Starts.{start_moved}
 use Rattle.positions.proofs.Stepping.{top_leaves, todo_bound, bound_frame, with_value_is, start_below}
 
@@ -44,12 +42,12 @@ module _ (setting : Setting) where
   half_opened a (Halves lp k p) n job count i h = (ap (λ s. s.procedure) h.0.site, refl)
   half_opened a w n job count i h = absurd h
 
-  pub opened_is : (name : Place) (a : PlainActivation) (child : Child) → IsNew setting a child → opened setting.program.tree a.left child name ≡ frame_of setting name a
-  opened_is name a (instance f vs) h =
-      ap (λ env. record { left = a.left; instance = name; next = 1; here = (proc_of setting.program.tree f).called; env = env; recorded = false }) (sym h.slots ∙ ap (λ w. slots_by setting w a.slots) (sym h.work))
-      ∙ ap (λ p. record { left = a.left; instance = name; next = 1; here = p.called; env = slots_by setting a.work a.slots; recorded = false }) (sym (found_at setting f a.procedure h.procedure))
-      ∙ ap (λ k. frame_at setting name (suc k) a) (sym h.children)
-  opened_is name a (half n job count i) h =
+  pub opened_is : (name : Place) (args : List ℤ) (a : PlainActivation) (child : Child) → IsNew setting args a child → opened setting.program.tree a.left child name ≡ frame_of setting name a
+  opened_is name args a (instance f vs) h =
+      ap (λ env. record { left = a.left; instance = name; next = 1; here = (proc_of setting.program.tree f).called; env = env; recorded = false }) (sym h.0.slots ∙ ap (λ w. slots_by setting w a.slots) (sym h.0.work))
+      ∙ ap (λ p. record { left = a.left; instance = name; next = 1; here = p.called; env = slots_by setting a.work a.slots; recorded = false }) (sym (found_at setting f a.procedure h.0.procedure))
+      ∙ ap (λ k. frame_at setting name (suc k) a) (sym h.0.children)
+  opened_is name args a (half n job count i) h =
       let o = half_opened a a.work n job count i h.1 in
       ap (λ env. record { left = a.left; instance = name; next = 1; here = job.site.procedure; env = env; recorded = false }) (sym o.1)
       ∙ ap (λ f. record { left = a.left; instance = name; next = 1; here = f; env = slots_by setting a.work a.slots; recorded = false }) o.0
@@ -61,7 +59,7 @@ module _ (setting : Setting) where
     pub rest : List PlainActivation
     pub phase : ph ≡ phase.AtSpawn
     pub below_is : below ≡ parent ∷ rest
-    pub is : IsSpawning setting s.path s.top parent rest x
+    pub is : IsSpawning setting s.path s.arguments s.top parent rest x
 
   pub at_spawn : (s : PlainStrand) (x : LayeredStrand) (d : ℕ) (into : Option ℕ) (child : Child) (todo : Todo) (ph : Phase) (below : List PlainActivation) → StandsAt setting ph below s x → x.phase ≡ spawning d into child todo → AtSpawn s ph below x
   at_spawn s x d into child todo phase.AtSpawn [] h e = absurd h
@@ -73,12 +71,12 @@ module _ (setting : Setting) where
   at_spawn s x d into child todo (phase.Broken f) below h e = let c : broken _ ≡ spawning d into child todo = sym h ∙ e in absurd cc
 
   module _ (s : PlainStrand) (x : LayeredStrand) (d : ℕ) (into : Option ℕ) (child : Child) (todo : Todo) (e : x.phase ≡ spawning d into child todo)
-      (p : PlainActivation) (rest : List PlainActivation) (h : IsSpawning setting s.path s.top p rest x) where
+      (p : PlainActivation) (rest : List PlainActivation) (h : IsSpawning setting s.path s.arguments s.top p rest x) where
     same : spawning d into child todo ≡ spawning s.top.left p.into h.child h.todo
     same = sym e ∙ h.phase
 
-    new_child : IsNew setting s.top child
-    new_child = let c : child ≡ h.child = let q = same in cc in subst (IsNew setting s.top) (sym c) h.new
+    new_child : IsNew setting s.arguments s.top child
+    new_child = let c : child ≡ h.child = let q = same in cc in subst (IsNew setting s.arguments s.top) (sym c) h.new
 
     child_frame : opened setting.program.tree d child (child_name x.frame) ≡ frame_of setting s.path s.top
     child_frame =
@@ -86,7 +84,7 @@ module _ (setting : Setting) where
         ap (λ n. opened setting.program.tree n child (child_name x.frame)) c
         ∙ ap (λ fr. opened setting.program.tree s.top.left child (child_name fr)) h.frame
         ∙ ap (opened setting.program.tree s.top.left child) (sym h.named)
-        ∙ opened_is s.path s.top child new_child
+        ∙ opened_is s.path s.arguments s.top child new_child
 
     waits_there : IsParent setting s.path p (awaiting x.frame true into todo)
     waits_there = record {
@@ -99,11 +97,12 @@ module _ (setting : Setting) where
     }
 
   pub inlined_is : (s : PlainStrand) → IsInlined setting s (inlined s)
-  inlined_is s x d into child todo h e =
+  inlined_is s x t d into child todo h e =
       let at = at_spawn s x d into child todo s.phase s.below h.now e in
       record {
         start = start_moved s.start phase.AtSpawn phase.Entering s.path s.path x.start (λ k w. (refl, w)) (subst (λ ph. IsStart s.start ph s.path x.start) at.phase h.start);
         layers = h.layers;
+        tally = h.tally;
         now = record {
           child = child;
           new = new_child s x d into child todo e at.parent at.rest at.is;
@@ -114,7 +113,7 @@ module _ (setting : Setting) where
       }
 
   pub detached_is : (s : PlainStrand) (task : PlainTask) → task.place ≡ s.path → s.below ≡ task.top ∷ task.below → IsDetached setting s (detached s) task
-  detached_is s task place below x d into child todo h e =
+  detached_is s task place below x t d into child todo h e =
       let at = at_spawn s x d into child todo s.phase s.below h.now e in
       let both : task.top ∷ task.below ≡ at.parent ∷ at.rest = sym below ∙ at.below_is in
       let top : at.parent ≡ task.top = let q = both in cc in
@@ -124,6 +123,7 @@ module _ (setting : Setting) where
         record {
           start = start_moved s.start phase.AtSpawn phase.Entering s.path s.path x.start (λ k w. (refl, w)) (subst (λ ph. IsStart s.start ph s.path x.start) at.phase h.start);
           layers = h.layers;
+          tally = h.tally;
           now = record {
             child = child;
             new = new_child s x d into child todo e at.parent at.rest at.is;
@@ -142,7 +142,7 @@ module _ (setting : Setting) where
   -- a strand that stands for one in which a child is to be entered enters it
   record EntersIt (s : PlainStrand) (ph : Phase) (below : List PlainActivation) (x : LayeredStrand) : Type 0 where
     phase : ph ≡ phase.Entering
-    is : IsEntering setting s.path s.top below x
+    is : IsEntering setting s.path s.arguments s.top below x
 
   enters_it : (s : PlainStrand) (x : LayeredStrand) (child : Child) (ph : Phase) (below : List PlainActivation) → StandsAt setting ph below s x → x.phase ≡ entering child → EntersIt s ph below x
   enters_it s x child phase.Entering below h e = record { phase = refl; is = h }
@@ -154,15 +154,16 @@ module _ (setting : Setting) where
   enters_it s x child (phase.Broken f) below h e = let c : broken _ ≡ entering child = sym h ∙ e in absurd cc
 
   pub attached_is : (task : PlainTask) (s : PlainStrand) → IsAttached setting task s (attached task s)
-  attached_is task s x d into child todo place h task_is =
+  attached_is task s x t d into child todo place h task_is =
       let enters = enters_it s (strands.detached setting.program.tree x d child) child s.phase s.below h.now refl in
       let waits : IsParent setting s.path task.top (awaiting x.frame true into todo) = subst (λ n. IsParent setting n task.top (awaiting x.frame true into todo)) (sym place) task_is.parent in
       let under : AreParents setting (shorter s.path) task.below x.under = subst (λ n. AreParents setting (shorter n) task.below x.under) (sym place) task_is.under in
-      let now : IsEntering setting s.path s.top (task.top ∷ task.below) (strands.inlined setting.program.tree x d into child todo) =
+      let now : IsEntering setting s.path s.arguments s.top (task.top ∷ task.below) (strands.inlined setting.program.tree x d into child todo) =
       record { child = enters.is.child; new = enters.is.new; phase = enters.is.phase; frame = enters.is.frame; under = (waits, under) } in
       record {
         start = h.start;
         layers = h.layers;
+        tally = h.tally;
         now = subst (λ ph. StandsAt setting ph (task.top ∷ task.below) (attached task s) (strands.inlined setting.program.tree x d into child todo)) (sym enters.phase) now;
       }
 
@@ -195,15 +196,16 @@ module _ (setting : Setting) where
   named_child (a ∷ n) m k e v = refl
 
   pub resumed_is : (task : PlainTask) (s : PlainStrand) → IsResumed setting task s (resumed task s)
-  resumed_is task s x k v place h task_is e u =
+  resumed_is task s x t k v place h task_is e u =
       let left = has_left s x v s.phase s.below h.now e u in
       let value : returned_at s.phase s.below s.path ≡ Some v =
       ap (λ ph. returned_at ph s.below s.path) left.phase ∙ ap (λ below. returned_at (phase.Leaving v) below s.path) left.alone ∙ named_child s.path (shorter task.place) task.top.children (place ∙ task_is.parent.named) v in
-      subst (λ o. StandsFor setting (resumed_by o task s) (strands.resumed setting.program.tree x k v)) (sym value)
-      (subst (λ ks. StandsFor setting (resumed_by (Some v) task s) (record { start = x.start; layers = ks; frame = with_value k.parent v; phase = running k.parent.todo; under = k.under })) (sym (top_leaves x.layers x.frame.instance v))
+      subst (λ o. StandsFor setting (resumed_by o task s) (strands.resumed setting.program.tree x k v) t) (sym value)
+      (subst (λ ks. StandsFor setting (resumed_by (Some v) task s) (record { start = x.start; layers = ks; frame = with_value k.parent v; phase = running k.parent.todo; under = k.under }) t) (sym (top_leaves x.layers x.frame.instance v))
       (record {
         start = start_below setting s.start v s.path x.start (subst (λ ph. IsStart s.start ph s.path x.start) left.phase h.start);
         layers = h.layers;
+        tally = h.tally;
         now = record {
           todo = k.parent.todo;
           left = todo_bound setting task.top task.top.work task.top.into (Has v) k.parent.todo task_is.parent.unbound task_is.parent.todo;
@@ -215,31 +217,16 @@ module _ (setting : Setting) where
 
   -- ---- strands that begin
 
-  as_many : (cs : List Code) (ps : List Proc) → AreCodesOf setting.names setting.program.tree cs ps → length cs ≡ length ps
-  as_many [] [] h = refl
-  as_many [] (p ∷ ps) h = absurd h
-  as_many (c ∷ cs) [] h = absurd h
-  as_many (c ∷ cs) (p ∷ ps) h = ap suc (as_many cs ps h.1)
-
-  same_identities : (reds : List Red) → map (λ r. identity_of r.kind) reds ≡ identities (map (λ r. r.kind) reds)
-  same_identities [] = refl
-  same_identities (r ∷ reds) = ap (λ ws. identity_of r.kind ∷ ws) (same_identities reds)
+  -- a strand that begins has counted nothing
+  nothing_counted : IsTally setting plain_no_tally no_tally
+  nothing_counted = record { opened = tt; made = tt; executed = refl; reused = refl; unrecorded = refl }
 
   module _ (linked : IsLinked setting) where
-    pub blank_is : IsNotes setting (blank setting.kinds (length setting.codes)) (definitions.blank setting.program.tree)
-    blank_is = record {
-      kinds = linked.kinds;
-      worths = same_identities (reducers setting.program.tree) ∙ ap identities (sym linked.kinds);
-      each = length-map setting.kinds identity_of;
-      notes = refl;
-      entered = ap (λ n. replicate n false) (as_many setting.codes (procedures setting.program.tree) linked.codes);
-      deepest = refl;
-    }
-
     pub stolen_is : (task : PlainTask) → IsStolen setting task (stolen setting.codes setting.kinds task)
     stolen_is task k h = record {
       start = (ap (λ fr. fr.instance) h.parent.frame ∙ sym (take-take (length task.place - 1) (length task.place - 1) task.place (omega arith)), h.child, short);
-      layers = (blank_is, tt);
+      layers = (blank_is setting linked, tt);
+      tally = nothing_counted;
       now = record {
         todo = k.parent.todo;
         left = todo_bound setting task.top task.top.work task.top.into (Waits task.top.children) k.parent.todo h.parent.unbound h.parent.todo;
@@ -258,12 +245,13 @@ module _ (setting : Setting) where
     pub first_is : (entry : ℕ) → entry ≡ main_number setting.program.tree → IsFirst setting (first_strand setting.codes setting.kinds entry)
     first_is entry e = record {
       start = tt;
-      layers = (blank_is, tt);
+      layers = (blank_is setting linked, tt);
+      tally = nothing_counted;
       now = record {
         child = instance main [];
-        new = new_main;
+        new = new_child;
         phase = refl;
-        frame = opened_is [] (made entry (slots_for (slots_of setting.codes entry) []) (Block (first_of 0)) 63) (instance main []) new_main;
+        frame = opened_is [] [] (made entry (slots_for (slots_of setting.codes entry) []) (Block (first_of 0)) 63) (instance main []) new_child;
         under = tt;
       };
     } where
@@ -278,6 +266,9 @@ module _ (setting : Setting) where
             ∙ fresh_is (procedure_at setting entry).names []
             ∙ ap (λ p. map slot (fresh p.names [])) (found_at setting main entry (sym e));
       }
+
+      new_child : IsNew setting [] (made entry (slots_for (slots_of setting.codes entry) []) (Block (first_of 0)) 63) (instance main [])
+      new_child = (new_main, λ memo. refl)
 
   -- ---- the lowest layer alone
 
@@ -300,8 +291,9 @@ module _ (setting : Setting) where
   alone_at s x ls l (phase.Broken f) below h = h
 
   pub alone_is : (s : PlainStrand) → IsAlone setting s (lowest_alone s)
-  alone_is s x h = record {
+  alone_is s x t h = record {
     start = h.start;
     layers = bottom_notes s.layer s.lower x.layers h.layers;
+    tally = h.tally;
     now = alone_at s x (bottom_alone setting.program setting.tables setting.memory x.layers) (lowest s.layer s.lower) s.phase s.below h.now;
   }

@@ -1,11 +1,13 @@
 -- Where a strand of numbers has no step, the one that it stands for has none.
 use Rattle.std.proofs.Common.{◌≡◌, ℕ, suc, Bool, true, false, ◌&&◌, List, [], ◌∷◌, length, Option, Some, None, refl, sym, ◌∙◌, ap}
-use Rattle.std.specs.Prelude.{ℤ}
 use Rattle.program_tree.specs.Plain.{Deed, bind, enter, read, sync, update, choose, loop, give, Body, step}
 use Rattle.meaning.specs.Outcome.{Place}
-use Rattle.meaning.specs.SmallStep.{Todo, blocks, halves, second, turns, running, returning, leaving, Parent, Step, paused as paused_step, at_sync, returned, unless, is_entry, micro, todo_step, nothing_kept}
+use Rattle.meaning.specs.SmallStep.{Todo, blocks, halves, second, turns, Phase as NamedPhase, running, leaving, Parent, Pause, at_spawn, at_sync, returned, faulted, Step, paused as paused_step, unless, is_entry, micro, todo_step}
 use Rattle.meaning.specs.Layers.{bottom}
 use Rattle.meaning.specs.LayeredStrand.{LayeredStrand}
+use Rattle.meaning.specs.Tallies.{Tally}
+use Rattle.trail_theory.specs.OwnLayers.{frame_by, is_top_by_length}
+use Rattle.trail_theory.specs.Unflagged.{unflagged_step}
 use Rattle.linked_program.specs.declared.code.Instruction.{Instruction}
 use Rattle.linked_program.specs.declared.code.Operation.{Operation}
 use Rattle.linked_program.specs.declared.code.Operation.TheVariants as o
@@ -16,6 +18,7 @@ use Rattle.positions.specs.declared.work.Work.{Work}
 use Rattle.positions.specs.declared.work.Work.TheVariants.{Block, Over, Halves, Second, Turns}
 use Rattle.positions.specs.declared.phase.Phase.{Phase}
 use Rattle.positions.specs.declared.phase.Phase.TheVariants as phase
+use Rattle.positions.specs.declared.phase.Paused.{Paused}
 use Rattle.positions.specs.Setting.{Setting}
 use Rattle.positions.specs.Activations.{PlainActivation, next_of, first_of}
 use Rattle.positions.specs.Code.{instruction_inside}
@@ -24,6 +27,7 @@ use Rattle.positions.specs.Advance.{statement_by, next_statement, sync_pause, is
 use Rattle.positions.specs.Moves.{is_update, is_update_there, update_at, at_update}
 use Rattle.positions.specs.Stands.{IsStart, acts_at, IsTodoAt, AreParents, StandsAt}
 use Rattle.positions.specs.Simulation.{named_pause, updates_body, updates, IsPauseBy, IsPause, IsUpdateNext}
+use Rattle.positions.proofs.Beginning.{lookup_of}
 use Rattle.positions.proofs.Places.{AtPlace, at_place}
 use Rattle.positions.proofs.Starts.{start_moved, entry_is}
 
@@ -68,51 +72,58 @@ module _ (setting : Setting) where
   at_sync_is a (Turns lp p) todo h e = absurd cc
   at_sync_is a w todo h e = absurd h
 
-  module _ (s : PlainStrand) (x : LayeredStrand) where
-    where_both : (b c : Bool) → (b ≡ true → c ≡ true → micro setting.program.tree setting.tables nothing_kept false (bottom x.layers) x.start x.frame x.phase x.under ≡ paused_step at_sync)
-        → IsPauseBy setting (named_pause (sync_pause (b && c))) x
-    where_both true true f = f refl refl
+  module _ (kit : Bool) (s : PlainStrand) (x : LayeredStrand) (t : Tally) where
+    -- the small step, where that is what its instance does next
+    abbrev step_in : NamedPhase → Step
+    step_in ph = micro setting.program.tree setting.tables (lookup_of setting) kit (bottom x.layers) x.start (frame_by is_top_by_length ph t.opened x.frame) ph x.under
+
+    abbrev PausesAs : Paused → Type 0
+    PausesAs p = IsPauseBy setting (named_pause p) kit x t
+
+    stays : (p : Pause) → step_in x.phase ≡ paused_step p → unflagged_step (step_in x.phase) ≡ paused_step p
+    stays p e = ap unflagged_step e
+
+    where_both : (b c : Bool) → (b ≡ true → c ≡ true → step_in x.phase ≡ paused_step at_sync) → PausesAs (sync_pause (b && c))
+    where_both true true f = stays at_sync (f refl refl)
     where_both true false f = tt
     where_both false c f = tt
 
-    where_one : (b : Bool) → (b ≡ true → micro setting.program.tree setting.tables nothing_kept false (bottom x.layers) x.start x.frame x.phase x.under ≡ paused_step at_sync)
-        → IsPauseBy setting (named_pause (sync_pause b)) x
-    where_one true f = f refl
+    where_one : (b : Bool) → (b ≡ true → step_in x.phase ≡ paused_step at_sync) → PausesAs (sync_pause b)
+    where_one true f = stays at_sync (f refl)
     where_one false f = tt
 
-    at_bottom : (v : ℤ) (path : List ℕ) → micro setting.program.tree setting.tables nothing_kept false (bottom x.layers) x.start x.frame x.phase x.under ≡ paused_step returned → IsPauseBy setting (named_pause (bottom_pause path)) x
-    at_bottom v [] e = e
-    at_bottom v (k ∷ n) e = e
+    at_bottom : (path : List ℕ) → step_in x.phase ≡ paused_step returned → PausesAs (bottom_pause path)
+    at_bottom [] e = stays returned e
+    at_bottom (k ∷ n) e = stays returned e
 
     no_parents : (path : Place) (under : List Parent) → AreParents setting path [] under → under ≡ []
     no_parents path [] h = refl
     no_parents path (p ∷ under) h = absurd h
 
-    paused_at : (ph : Phase) (below : List PlainActivation) → IsStart s.start ph s.path x.start → StandsAt setting ph below s x
-        → IsPauseBy setting (named_pause (pause_at setting.codes ph (record s { below = below }))) x
+    paused_at : (ph : Phase) (below : List PlainActivation) → IsStart s.start ph s.path x.start → StandsAt setting ph below s x → PausesAs (pause_at setting.codes ph (record s { below = below }))
     paused_at phase.Entering below begins h = tt
     paused_at phase.Running below begins h =
         where_both (entry_by s.start s.path) (is_sync (next_statement setting.codes s)) (λ e f.
         let there : AtSync h.todo = at_sync_is s.top s.top.work h.todo h.left f in
-        ap (λ ph. micro setting.program.tree setting.tables nothing_kept false (bottom x.layers) x.start x.frame ph x.under) (h.phase ∙ ap running there.is_sync)
-        ∙ ap (λ fr. todo_step setting.program.tree setting.tables nothing_kept false (bottom x.layers) x.start fr (blocks (step there.number sync there.rest ∷ there.bs)) x.under) h.frame
+        ap step_in (h.phase ∙ ap running there.is_sync)
+        ∙ ap (λ fr. todo_step setting.program.tree setting.tables (lookup_of setting) kit (bottom x.layers) x.start fr (blocks (step there.number sync there.rest ∷ there.bs)) x.under) h.frame
         ∙ not_passed (is_entry x.start s.path) _ (entry_is s.start s.path x.start begins ∙ e))
     paused_at phase.AtSpawn [] begins h = absurd h
-    paused_at phase.AtSpawn (p ∷ below) begins h = ap (λ ph. micro setting.program.tree setting.tables nothing_kept false (bottom x.layers) x.start x.frame ph x.under) h.phase
+    paused_at phase.AtSpawn (p ∷ below) begins h = stays at_spawn (ap step_in h.phase)
     paused_at (phase.Returning v) below begins h =
         where_one (entry_by s.start s.path) (λ e.
-        ap (λ ph. micro setting.program.tree setting.tables nothing_kept false (bottom x.layers) x.start x.frame ph x.under) h.phase
-        ∙ ap (λ fr. micro setting.program.tree setting.tables nothing_kept false (bottom x.layers) x.start fr (returning v) x.under) h.frame
-        ∙ not_passed (is_entry x.start s.path) _ (entry_is s.start s.path x.start (start_moved s.start (phase.Returning v) phase.Running s.path s.path x.start (λ d w. (refl, w)) begins) ∙ e))
+        ap step_in h.phase
+        ∙ not_passed (is_entry x.start x.frame.instance) _
+        (ap (λ fr. is_entry x.start fr.instance) h.frame ∙ entry_is s.start s.path x.start (start_moved s.start (phase.Returning v) phase.Running s.path s.path x.start (λ d w. (refl, w)) begins) ∙ e))
     paused_at (phase.Leaving v) [] begins h =
-        at_bottom v s.path (ap (λ ph. micro setting.program.tree setting.tables nothing_kept false (bottom x.layers) x.start x.frame ph x.under) h.phase
-        ∙ ap (λ us. micro setting.program.tree setting.tables nothing_kept false (bottom x.layers) x.start x.frame (leaving v) us) (no_parents s.path x.under h.under))
+        at_bottom s.path (ap step_in h.phase
+        ∙ ap (λ us. micro setting.program.tree setting.tables (lookup_of setting) kit (bottom x.layers) x.start x.frame (leaving v) us) (no_parents s.path x.under h.under))
     paused_at (phase.Leaving v) (p ∷ below) begins h = tt
-    paused_at (phase.Broken f) below begins h = ap (λ ph. micro setting.program.tree setting.tables nothing_kept false (bottom x.layers) x.start x.frame ph x.under) h
+    paused_at (phase.Broken f) below begins h = stays faulted (ap step_in h)
 
   -- at the point at which the strand is, what it stands for has no small step
   pub pause_is : (s : PlainStrand) → IsPause setting (pause_of setting.codes s) s
-  pause_is s x h = paused_at s x s.phase s.below h.start h.now
+  pause_is s kit x t h = paused_at kit s x t s.phase s.below h.start h.now
 
   -- ---- updates
 
@@ -152,4 +163,4 @@ module _ (setting : Setting) where
   update_in s x (phase.Broken f) below h = ap updates (sym h)
 
   pub update_next_is : (s : PlainStrand) → IsUpdateNext setting s (at_update setting.codes s)
-  update_next_is s x h = update_in s x s.phase s.below h.now
+  update_next_is s x t h = update_in s x s.phase s.below h.now

@@ -1,18 +1,14 @@
 -- Where a strand of numbers is said to go on, the one that it stands for has a small step.
-use Rattle.std.proofs.Common.{◌≡◌, ℕ, zero, suc, ◌/◌, ◌-◌, ◌+◌, Bool, true, false, ◌&&◌, cond, List, [], ◌∷◌, length, map, Option, Some, None, Result, Ok, Err, refl, sym, ◌∙◌, ap, subst}
-use Rattle.std.specs.Prelude.{ℤ, pos, nat_le, slice_set}
-use Rattle.std.specs.Ordering.{int_eq}
-use Rattle.program_tree.specs.Plain.{bind, enter, read, sync, update, choose, loop, give, Body, end, step, Tree}
-use Rattle.program_tree.specs.declared.Way.TheVariants.{Call, Spawn}
-use Rattle.meaning.specs.declared.FaultKind.{FaultKind}
-use Rattle.meaning.specs.Tables.{Tables}
-use Rattle.meaning.specs.Outcome.{Out, Log, Site, Accumulators, Syncs}
-use Rattle.meaning.specs.Values.{value, values}
-use Rattle.meaning.specs.Trail.{halvings}
-use Rattle.meaning.specs.Statements.{job_of, reducers, update_of, bounds, turn_values}
-use Rattle.meaning.specs.SmallStep.{seen, has, with_env, on_depth, enter_child, leaving_layer, with_layer, Start as NamedStart, Frame, Todo, blocks, halves, second, turns, Child, instance, half, Phase as NamedPhase, running, spawning, returning, leaving, Parent, Step, moved, taken, paused as paused_step, noting, opening_one, closing_one, unless, is_entry, led_step, settling, on_value, todo_step, enter_step, micro, nothing_kept}
+use Rattle.std.proofs.Common.{◌≡◌, ℕ, suc, Bool, true, false, ◌&&◌, List, [], ◌∷◌, length, Option, Some, None, refl, sym, ◌∙◌, ap, subst}
+use Rattle.std.specs.Prelude.{ℤ}
+use Rattle.program_tree.specs.Plain.{sync, Body, step}
+use Rattle.meaning.specs.Outcome.{Syncs}
+use Rattle.meaning.specs.SmallStep.{leaving_layer, with_layer, Frame, blocks, Phase as NamedPhase, leaving, Parent, Step, moved, taken, paused as paused_step, unless, is_entry, micro}
 use Rattle.meaning.specs.Layers.{bottom}
 use Rattle.meaning.specs.LayeredStrand.{LayeredStrand}
+use Rattle.meaning.specs.Tallies.{Tally}
+use Rattle.trail_theory.specs.OwnLayers.{frame_by, is_top_by_length}
+use Rattle.trail_theory.specs.Unflagged.{unflagged_step}
 use Rattle.linked_program.specs.declared.code.Instruction.{Instruction}
 use Rattle.linked_program.specs.declared.code.Operation.{Operation}
 use Rattle.linked_program.specs.declared.code.Operation.TheVariants as o
@@ -31,69 +27,20 @@ use Rattle.positions.specs.Strands.{PlainStrand, entry_by}
 use Rattle.positions.specs.Advance.{statement_by, next_statement, sync_pause, is_sync_as, is_sync, bottom_pause, pause_at, pause_of}
 use Rattle.positions.specs.Stands.{IsStart, acts_at, IsTodoAt, AreParents, StandsAt}
 use Rattle.positions.specs.Simulation.{IsTaken, IsStepTaken}
-use Rattle.positions.proofs.Entering.{enter_is, deep_call_quiet, deep_spawn_quiet}
-use Rattle.positions.proofs.Evaluations.{IsNoting}
+use Rattle.positions.proofs.Beginning.{lookup_of}
+use Rattle.positions.proofs.Claims.{enter_has, todo_has, is_taken}
 use Rattle.positions.proofs.Places.{AtPlace, at_place}
 use Rattle.positions.proofs.Starts.{start_moved, entry_is}
-
-noting_taken : (st : Step) → IsNoting st → IsTaken st
-noting_taken (moved noting es fr ph t) h = tt
-noting_taken (moved opening_one es fr ph t) h = h
-noting_taken (moved closing_one es fr ph t) h = h
-noting_taken (taken es k fr ph t) h = h
-noting_taken (paused_step p) h = h
-
-led_taken : (es : Log) (st : Step) → IsTaken st → IsTaken (led_step es st)
-led_taken es (moved noting fs fr ph t) h = tt
-led_taken es (moved opening_one fs fr ph t) h = h
-led_taken es (moved closing_one fs fr ph t) h = h
-led_taken es (taken fs k fr ph t) h = h
-led_taken es (paused_step p) h = h
-
-settled_taken : {A : Type 0} (fr : Frame) (under : List Parent) (site : Site) (r : Result A FaultKind) (next : A → Step) → ((v : A) → IsTaken (next v)) → IsTaken (settling fr under site r next)
-settled_taken fr under site (Ok v) next h = h v
-settled_taken fr under site (Err k) next h = tt
-
-value_taken : {A : Type 0} (fr : Frame) (under : List Parent) (site : Site) (out : Out FaultKind A) (next : A → Step) → ((v : A) → IsTaken (next v)) → IsTaken (on_value fr under site out next)
-value_taken fr under site out next h = led_taken out.log (settling fr under site out.answer next) (settled_taken fr under site out.answer next h)
-
-either_taken : (b : Bool) (s u : Step) → IsTaken s → IsTaken u → IsTaken (cond b s u)
-either_taken true s u h i = h
-either_taken false s u h i = i
 
 passed_taken : (b : Bool) (s : Step) → b ≡ false → IsTaken s → IsTaken (unless b s)
 passed_taken true s e h = absurd cc
 passed_taken false s e h = h
 
-module _ (t : Tree) (tables : Tables) (acc : Accumulators) (m : NamedStart) (fr : Frame) (under : List Parent) where
-  -- a sync that isn't passed
-  abbrev Blocked : Todo → Type 0
-  Blocked todo = (n : ℕ) (rest : Body) (bs : List Body) → todo ≡ blocks (step n sync rest ∷ bs) → is_entry m fr.instance ≡ false
-
-  abbrev at : ℕ → Site
-  at n = record { procedure = fr.here; statement = n }
-
-  todo_taken : (todo : Todo) → Blocked todo → IsTaken (todo_step t tables nothing_kept false acc m fr todo under)
-  todo_taken (blocks []) h = tt
-  todo_taken (blocks (end ∷ bs)) h = tt
-  todo_taken (blocks (step n sync b ∷ bs)) h = passed_taken (is_entry m fr.instance) (moved noting (Syncs fr.instance ∷ []) fr (running (blocks (b ∷ bs))) under) (h n b bs refl) tt
-  todo_taken (blocks (step n (bind x e) b ∷ bs)) h = value_taken {A = ℤ} fr under (at n) (value tables (map seen fr.env) e) (λ v. moved noting [] (with_env fr (slice_set fr.env x (has v))) (running (blocks (b ∷ bs))) under) (λ v. tt)
-  todo_taken (blocks (step n (enter x Call f es) b ∷ bs)) h = value_taken {A = List ℤ} fr under (at n) (values tables (map seen fr.env) es) (λ vs. on_depth fr under (at n) fr.left (λ d. enter_child t tables nothing_kept false acc fr d false x (instance f vs) (blocks (b ∷ bs)) under)) (λ vs. noting_taken (on_depth fr under (at n) fr.left (λ d. enter_child t tables nothing_kept false acc fr d false x (instance f vs) (blocks (b ∷ bs)) under)) (deep_call_quiet t tables acc fr under (at n) x f vs (blocks (b ∷ bs)) fr.left))
-  todo_taken (blocks (step n (enter x Spawn f es) b ∷ bs)) h = value_taken {A = List ℤ} fr under (at n) (values tables (map seen fr.env) es) (λ vs. on_depth fr under (at n) fr.left (λ d. moved noting [] fr (spawning d x (instance f vs) (blocks (b ∷ bs))) under)) (λ vs. noting_taken (on_depth fr under (at n) fr.left (λ d. moved noting [] fr (spawning d x (instance f vs) (blocks (b ∷ bs))) under)) (deep_spawn_quiet t tables acc fr under (at n) x f vs (blocks (b ∷ bs)) fr.left))
-  todo_taken (blocks (step n (read x r) b ∷ bs)) h = tt
-  todo_taken (blocks (step n (update r es) b ∷ bs)) h = value_taken {A = Unit {0}} fr under (at n) (update_of tables (reducers t) (map seen fr.env) r es) (λ u. moved noting [] fr (running (blocks (b ∷ bs))) under) (λ u. tt)
-  todo_taken (blocks (step n (choose e a c) b ∷ bs)) h = value_taken {A = ℤ} fr under (at n) (value tables (map seen fr.env) e) (λ v. moved noting [] fr (running (blocks (cond (int_eq v (pos 0)) c a ∷ (b ∷ bs)))) under) (λ v. tt)
-  todo_taken (blocks (step n (loop x e f grain g es) b ∷ bs)) h = value_taken {A = ℤ × ℕ} fr under (at n) (bounds tables (map seen fr.env) e f) (λ range. enter_child t tables nothing_kept false acc fr fr.left false None (half halvings (job_of (at n) (map seen fr.env) x g es grain range.0) range.1 0) (blocks (b ∷ bs)) under) (λ range. tt)
-  todo_taken (blocks (step n (give e) b ∷ bs)) h = value_taken {A = ℤ} fr under (at n) (value tables (map seen fr.env) e) (λ v. moved noting [] fr (returning v) under) (λ v. tt)
-  todo_taken (halves zero job count i) h = tt
-  todo_taken (halves (suc k) job count i) h = either_taken (nat_le count job.grain) (moved noting [] fr (running (turns job count i)) under) (moved noting [] fr (spawning fr.left None (half k job (count / 2) i) (second k job (count - count / 2) (i + count / 2))) under) tt tt
-  todo_taken (second k job count i) h = tt
-  todo_taken (turns job zero i) h = tt
-  todo_taken (turns job (suc count) i) h = value_taken {A = List ℤ} fr under job.site (turn_values tables job i) (λ vs. on_depth fr under job.site fr.left (λ d. enter_child t tables nothing_kept false acc fr d false None (instance job.callee vs) (turns job count (suc i)) under)) (λ vs. noting_taken (on_depth fr under job.site fr.left (λ d. enter_child t tables nothing_kept false acc fr d false None (instance job.callee vs) (turns job count (suc i)) under)) (deep_call_quiet t tables acc fr under job.site None job.callee vs (turns job count (suc i)) fr.left))
-
-  entering_taken : (child : Child) → IsTaken (enter_step t tables nothing_kept false acc fr child under)
-  entering_taken (instance f vs) = subst IsTaken (sym (enter_is t tables acc fr f vs under)) tt
-  entering_taken (half k job count i) = tt
+-- flags are of no matter
+unflagged_taken : (st : Step) → IsTaken st → IsTaken (unflagged_step st)
+unflagged_taken (moved l es fr ph t) h = tt
+unflagged_taken (taken es k fr ph t) h = tt
+unflagged_taken (paused_step p) h = h
 
 module _ (setting : Setting) where
   op_of_sync : (inner : ℕ → Acts) (op : Operation) → syncs ≡ act inner op → is_sync_as op ≡ true
@@ -127,38 +74,46 @@ module _ (setting : Setting) where
   at_bottom [] e = cc
   at_bottom (k ∷ n) e = cc
 
-  module _ (s : PlainStrand) (x : LayeredStrand) where
+  module _ (kit : Bool) (s : PlainStrand) (x : LayeredStrand) (t : Tally) where
     abbrev Steps : NamedPhase → Frame → List Parent → Type 0
-    Steps ph fr under = IsTaken (micro setting.program.tree setting.tables nothing_kept false (bottom x.layers) x.start fr ph under)
+    Steps ph fr under = IsTaken (micro setting.program.tree setting.tables (lookup_of setting) kit (bottom x.layers) x.start fr ph under)
 
-    -- an instance that has no layer closes none
-    closes_none : (v : ℤ) (b : Bool) → b ≡ false → IsTaken (moved (leaving_layer setting.program.tree setting.tables nothing_kept false (bottom x.layers) b) (Syncs x.frame.instance ∷ []) (with_layer false x.frame) (leaving v) x.under)
-    closes_none v true e = absurd cc
-    closes_none v false e = tt
+    abbrev frame_then : NamedPhase → Frame
+    frame_then ph = frame_by is_top_by_length ph t.opened x.frame
+
+    abbrev StepsIn : NamedPhase → Type 0
+    StepsIn ph = Steps ph (frame_then ph) x.under
 
     parents_there : (path : List ℕ) (v : ℤ) (a : PlainActivation) (below : List PlainActivation) (under : List Parent) → AreParents setting path (a ∷ below) under → Steps (leaving v) x.frame under
     parents_there path v a below [] h = absurd h
     parents_there path v a below (p ∷ under) h = tt
 
-    taken_at : (ph : Phase) (below : List PlainActivation) → IsStart s.start ph s.path x.start → StandsAt setting ph below s x → pause_at setting.codes ph (record s { below = below }) ≡ paused.Working → Steps x.phase x.frame x.under
-    taken_at phase.Entering below begins h e = subst (λ ph. Steps ph x.frame x.under) (sym h.phase) (entering_taken setting.program.tree setting.tables (bottom x.layers) x.start x.frame x.under h.child)
+    -- an instance leaves, and may close a layer
+    leaves_taken : (b : Bool) (v : ℤ) → b ≡ false
+        → IsTaken (unless b (moved (leaving_layer setting.program.tree setting.tables (lookup_of setting) kit (bottom x.layers) (is_top_by_length t.opened x.frame.instance)) (Syncs x.frame.instance ∷ []) (with_layer false x.frame) (leaving v) x.under))
+    leaves_taken b v e = passed_taken b _ e tt
+
+    taken_at : (ph : Phase) (below : List PlainActivation) → IsStart s.start ph s.path x.start → StandsAt setting ph below s x → pause_at setting.codes ph (record s { below = below }) ≡ paused.Working → StepsIn x.phase
+    taken_at phase.Entering below begins h e =
+        subst StepsIn (sym h.phase) (enter_has IsTaken is_taken setting.program.tree setting.tables (lookup_of setting) kit (bottom x.layers) x.frame h.child x.under)
     taken_at phase.Running below begins h e =
-        subst (λ ph. Steps ph x.frame x.under) (sym h.phase)
-        (todo_taken setting.program.tree setting.tables (bottom x.layers) x.start x.frame x.under h.todo (λ n rest bs is.
-        ap (λ fr. is_entry x.start fr.instance) h.frame
+        subst StepsIn (sym h.phase)
+        (todo_has IsTaken is_taken setting.program.tree setting.tables (lookup_of setting) kit (bottom x.layers) x.start x.frame x.under h.todo (λ n rest bs is. passed_taken (is_entry x.start x.frame.instance) _
+        (ap (λ fr. is_entry x.start fr.instance) h.frame
         ∙ entry_is s.start s.path x.start begins
-        ∙ first_false (entry_by s.start s.path) (is_sync (next_statement setting.codes s)) e (sync_back s.top s.top.work n rest bs (subst (IsTodoAt setting s.top s.top.work) is h.left))))
+        ∙ first_false (entry_by s.start s.path) (is_sync (next_statement setting.codes s)) e (sync_back s.top s.top.work n rest bs (subst (IsTodoAt setting s.top s.top.work) is h.left))) tt))
     taken_at phase.AtSpawn below begins h e = absurd cc
     taken_at (phase.Returning v) below begins h e =
-        subst (λ ph. Steps ph x.frame x.under) (sym h.phase)
-        (passed_taken (is_entry x.start x.frame.instance) (moved (leaving_layer setting.program.tree setting.tables nothing_kept false (bottom x.layers) x.frame.recorded) (Syncs x.frame.instance ∷ []) (with_layer false x.frame) (leaving v) x.under) (ap (λ fr. is_entry x.start fr.instance) h.frame
+        subst StepsIn (sym h.phase)
+        (leaves_taken (is_entry x.start x.frame.instance) v
+        (ap (λ fr. is_entry x.start fr.instance) h.frame
         ∙ entry_is s.start s.path x.start (start_moved s.start (phase.Returning v) phase.Running s.path s.path x.start (λ d w. (refl, w)) begins)
-        ∙ only_false (entry_by s.start s.path) e)
-        (closes_none v x.frame.recorded (ap (λ fr. fr.recorded) h.frame)))
+        ∙ only_false (entry_by s.start s.path) e))
     taken_at (phase.Leaving v) [] begins h e = absurd (at_bottom s.path e)
-    taken_at (phase.Leaving v) (a ∷ below) begins h e = subst (λ ph. Steps ph x.frame x.under) (sym h.phase) (parents_there s.path v a below x.under h.under)
+    taken_at (phase.Leaving v) (a ∷ below) begins h e = subst StepsIn (sym h.phase) (parents_there s.path v a below x.under h.under)
     taken_at (phase.Broken f) below begins h e = absurd cc
 
   -- where the strand is said to go on there is a small step
   pub working_is : (s : PlainStrand) → pause_of setting.codes s ≡ paused.Working → IsStepTaken setting s
-  working_is s e x h = taken_at s x s.phase s.below h.start h.now e
+  working_is s e kit x t h =
+      unflagged_taken (micro setting.program.tree setting.tables (lookup_of setting) kit (bottom x.layers) x.start (frame_by is_top_by_length x.phase t.opened x.frame) x.phase x.under) (taken_at kit s x t s.phase s.below h.start h.now e)

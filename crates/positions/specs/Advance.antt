@@ -1,5 +1,5 @@
 -- One small step of a strand, by numbers.
-use Rattle.std.specs.Prelude.{ℕ, ◌+◌, ◌-◌, ◌/◌, nat_le, ℤ, pos, ◌+ℤ◌, Bool, true, false, ◌||◌, ◌&&◌, if◌then◌else◌, ◌==◌, List, [], ◌∷◌, ◌++◌, map, length, Option, Some, None, Result, Ok, Err, slice_get, slice_set}
+use Rattle.std.specs.Prelude.{ℕ, zero, suc, ◌+◌, ◌-◌, ◌/◌, nat_le, ℤ, pos, ◌+ℤ◌, Bool, true, false, ◌||◌, ◌&&◌, if◌then◌else◌, ◌==◌, List, [], ◌∷◌, ◌++◌, map, length, Option, Some, None, Result, Ok, Err, slice_get, slice_set}
 use Rattle.std.specs.Ordering.{int_eq}
 use Rattle.program_tree.specs.declared.Way.{Way}
 use Rattle.program_tree.specs.declared.Way.TheVariants.{Call, Spawn}
@@ -14,11 +14,15 @@ use Rattle.linked_program.specs.declared.code.Operation.{Operation}
 use Rattle.linked_program.specs.declared.code.Operation.TheVariants as o
 use Rattle.linked_program.specs.declared.code.Instruction.{Instruction}
 use Rattle.linked_program.specs.declared.code.Code.{Code}
-use Rattle.linked_program.specs.CodeView.{expression, slots_of}
+use Rattle.linked_program.specs.Linked.{Linked}
+use Rattle.linked_program.specs.CodeView.{expression, slots_of, memo_of}
 use Rattle.evaluation.specs.declared.note.Note.{Note}
 use Rattle.evaluation.specs.declared.slot.Slot.{Slot}
 use Rattle.evaluation.specs.declared.slot.Slot.TheVariants.{Has}
+use Rattle.evaluation.specs.Slots.{slots_for}
 use Rattle.evaluation.specs.Values.{NumberedOut, value_at, values_at, entry_at, bounds_at}
+use Rattle.rerun_records.specs.Record.{PlainRecord}
+use Rattle.rerun_records.specs.Validity.{valid_at}
 use Rattle.positions.specs.declared.work.Position.{Position}
 use Rattle.positions.specs.declared.work.Loop.{Loop}
 use Rattle.positions.specs.declared.work.Share.{Share}
@@ -31,7 +35,9 @@ use Rattle.positions.specs.declared.phase.Paused.TheVariants as paused
 use Rattle.positions.specs.Setting.{Setting}
 use Rattle.positions.specs.Activations.{PlainActivation, bound, at, next_of, waiting, made, first_of, inside, outside}
 use Rattle.positions.specs.Code.{instruction_inside, PlainLoop, loop_at}
-use Rattle.positions.specs.Layers.{noting, entering, updating, lowest}
+use Rattle.positions.specs.Layers.{PlainLayer, noting, entering, updating, lowest, blank, absorbing, closed_onto, below_top}
+use Rattle.positions.specs.Tallies.{PlainOpened, is_own, closing}
+use Rattle.positions.specs.Tallies as tallies
 use Rattle.positions.specs.Strands.{PlainStrand, shorter, is_entry}
 
 -- ---- pieces of steps
@@ -58,13 +64,62 @@ answered n (Err k) next s = faulted n k s
 abbrev pub evaluated : {A : Type 0} → ℕ → NumberedOut A → (A → PlainStrand → PlainStrand) → PlainStrand → PlainStrand
 evaluated n o next s = answered n o.answer next (noted o.notes s)
 
--- the topmost instance is entered: one of a procedure is noted
-abbrev pub started_by : Work → PlainStrand → PlainStrand
-started_by (Block p) s = record s { layer = entering s.top.procedure (depth_limit - s.top.left) s.layer; phase = Running }
-started_by _ s = record s { phase = Running }
+-- ---- entering
 
-abbrev pub started : PlainStrand → PlainStrand
-started s = started_by s.top.work s
+-- how many instances the topmost one is nested in, itself counted
+abbrev pub depth_of : PlainStrand → ℕ
+depth_of s = depth_limit - s.top.left
+
+-- the topmost instance is entered, and its procedure noted in the topmost layer
+abbrev pub begun : PlainStrand → PlainStrand
+begun s = record s { layer = entering s.top.procedure (depth_of s) s.layer; phase = Running }
+
+-- a record answers the topmost instance: it is over, and what the record has is taken over
+abbrev pub reused : PlainRecord → PlainStrand → PlainStrand
+reused r s = record s { layer = absorbing r (depth_of s) s.layer; phase = Leaving r.value; tally = tallies.answering s.tally }
+
+-- the topmost instance without a layer of its own
+abbrev pub passed : PlainStrand → PlainStrand
+passed s = record (begun s) { tally = tallies.passing s.tally }
+
+-- what is kept of an instance whose layer is opened
+abbrev pub opened_of : PlainStrand → PlainOpened
+opened_of s = record { procedure = s.top.procedure; arguments = s.arguments; left = s.top.left; depth = length s.path }
+
+module _ (setting : Setting) where
+  -- the topmost instance with a layer of its own
+  abbrev pub opened : PlainStrand → PlainStrand
+  opened s =
+      begun (record s { layer = blank setting.kinds (length setting.codes); lower = s.layer ∷ s.lower; tally = tallies.opening (opened_of s) s.tally })
+
+  -- the record of a procedure and arguments that is valid at a depth; main's is 1
+  abbrev pub record_for : ℕ → ℕ → List ℤ → Option PlainRecord
+  record_for zero procedure arguments = None
+  record_for (suc d) procedure arguments = valid_at setting.program.revisions setting.tables (suc d) setting.records procedure arguments
+
+  -- the record that answers the topmost instance
+  abbrev pub answer_for : PlainStrand → Option PlainRecord
+  answer_for s = record_for (depth_of s) s.top.procedure s.arguments
+
+  -- a memo instance, and whether a kit is free
+  abbrev pub recalled : Bool → Option PlainRecord → PlainStrand → PlainStrand
+  recalled kit (Some r) s = reused r s
+  recalled true None s = opened s
+  recalled false None s = passed s
+
+  abbrev pub started_as : Bool → Bool → PlainStrand → PlainStrand
+  started_as kit true s = recalled kit (answer_for s) s
+  started_as kit false s = begun s
+
+  abbrev pub started_by : Bool → Work → PlainStrand → PlainStrand
+  started_by kit (Block p) s = started_as kit (memo_of setting.codes s.top.procedure) s
+  started_by kit _ s = record s { phase = Running }
+
+  -- the topmost instance is entered, where it is said whether a kit is free
+  abbrev pub started : Bool → PlainStrand → PlainStrand
+  started kit s = started_by kit s.top.work s
+
+-- ---- children
 
 -- the child on top of its parent, which has that left to do
 abbrev pub pushed : PlainActivation → Bool → Option ℕ → Work → Phase → PlainStrand → PlainStrand
@@ -79,14 +134,30 @@ pushed child spawned into w ph s = record s {
 abbrev pub child_of : ℕ → List Slot → PlainStrand → PlainActivation
 child_of f slots s = made f slots (Block (first_of 0)) (s.top.left - 1)
 
--- a child of that procedure is called or spawned
-abbrev pub entered : Way → Option ℕ → Work → ℕ → List Slot → PlainStrand → PlainStrand
-entered Call into w f slots s = started (pushed (child_of f slots s) false into w Entering s)
-entered Spawn into w f slots s = pushed (child_of f slots s) true into w AtSpawn s
+abbrev pub with_arguments : List ℤ → PlainStrand → PlainStrand
+with_arguments vs s = record s { arguments = vs }
 
--- where the depth allows it
-abbrev pub nested : ℕ → Way → Option ℕ → Work → ℕ → List Slot → PlainStrand → PlainStrand
-nested n way into w f slots s = (if s.top.left == 0 then faulted n TooDeep s else entered way into w f slots s)
+module _ (setting : Setting) (kit : Bool) where
+  -- a child of that procedure is called or spawned
+  abbrev pub entered : Way → Option ℕ → Work → ℕ → List Slot → PlainStrand → PlainStrand
+  entered Call into w f slots s = started setting kit (pushed (child_of f slots s) false into w Entering s)
+  entered Spawn into w f slots s = pushed (child_of f slots s) true into w AtSpawn s
+
+  -- where the depth allows it
+  abbrev pub nested : ℕ → Way → Option ℕ → Work → ℕ → List Slot → PlainStrand → PlainStrand
+  nested n way into w f slots s = (if s.top.left == 0 then faulted n TooDeep s else entered way into w f slots s)
+
+  -- a memo instance keeps its arguments, by which records are looked up
+  abbrev pub nested_memo : ℕ → Way → Option ℕ → Work → ℕ → List ℤ → PlainStrand → PlainStrand
+  nested_memo n way into w f vs s = nested n way into w f (slots_for (slots_of setting.codes f) vs) (with_arguments vs s)
+
+  -- a child whose arguments are evaluated over those slots
+  abbrev pub called_as : Bool → ℕ → Way → Option ℕ → Work → ℕ → List Linked → List Slot → PlainStrand → PlainStrand
+  called_as true n way into w f es slots s = evaluated n (values_at setting.tables slots es) (nested_memo n way into w f) s
+  called_as false n way into w f es slots s = evaluated n (entry_at setting.tables slots (slots_of setting.codes f) es) (nested n way into w f) s
+
+  abbrev pub called : ℕ → Way → Option ℕ → Work → ℕ → List Linked → List Slot → PlainStrand → PlainStrand
+  called n way into w f es slots s = called_as (memo_of setting.codes f) n way into w f es slots s
 
 -- ---- statements
 
@@ -148,13 +219,12 @@ halved codes l k h s = (if k == 0 || nat_le h.count (loop_at codes s.top.procedu
 abbrev pub turn_slots : PlainLoop → Loop → Share → PlainStrand → List Slot
 turn_slots j l h s = slice_set s.top.slots j.variable (Has (l.low +ℤ pos h.first))
 
-abbrev pub turn_by : Setting → PlainLoop → Loop → Share → PlainStrand → PlainStrand
-turn_by setting j l h s =
-    evaluated j.number (entry_at setting.tables (turn_slots j l h s) (slots_of setting.codes j.callee) (map expression j.arguments)) (nested j.number Call None (Turns l (rest_of h)) j.callee) s
+abbrev pub turn_by : Setting → Bool → PlainLoop → Loop → Share → PlainStrand → PlainStrand
+turn_by setting kit j l h s = called setting kit j.number Call None (Turns l (rest_of h)) j.callee (map expression j.arguments) (turn_slots j l h s) s
 
 -- the next iteration, or the end
-abbrev pub turned : Setting → Loop → Share → PlainStrand → PlainStrand
-turned setting l h s = (if h.count == 0 then giving (pos 0) s else turn_by setting (loop_at setting.codes s.top.procedure l) l h s)
+abbrev pub turned : Setting → Bool → Loop → Share → PlainStrand → PlainStrand
+turned setting kit l h s = (if h.count == 0 then giving (pos 0) s else turn_by setting kit (loop_at setting.codes s.top.procedure l) l h s)
 
 -- ---- the ends of instances
 
@@ -163,9 +233,17 @@ abbrev pub left_to : List PlainActivation → ℤ → PlainStrand → PlainStran
 left_to [] v s = s
 left_to (p ∷ rest) v s = record s { path = shorter s.path; top = bound p.into (Has v) p; below = rest; phase = Running }
 
--- the implicit sync, which isn't passed in the instance in which the strand begins
-abbrev pub synced : ℤ → PlainStrand → PlainStrand
-synced v s = (if is_entry s then s else in_phase (Leaving v) s)
+-- the topmost layer becomes a record and goes into the one below it
+abbrev pub closed : Setting → ℤ → PlainStrand → PlainStrand
+closed setting v s = record s { layer = closed_onto s.layer s.lower; lower = below_top s.lower; phase = Leaving v; tally = closing setting.program.revisions s.layer v s.tally }
+
+-- the topmost layer is the topmost instance's
+abbrev pub owns_top : PlainStrand → Bool
+owns_top s = is_own s.tally.opened (length s.path)
+
+-- the implicit sync, which isn't passed in the instance in which the strand begins; its own layer is closed there
+abbrev pub synced : Setting → ℤ → PlainStrand → PlainStrand
+synced setting v s = (if is_entry s then s else if owns_top s then closed setting v s else in_phase (Leaving v) s)
 
 -- the topmost instance's next statement; none where a block ends, or in a loop
 abbrev pub statement_by : List Code → Work → PlainActivation → Option Instruction
@@ -177,10 +255,10 @@ next_statement codes s = statement_by codes s.top.work s.top
 
 -- ---- the step
 
-module _ (setting : Setting) where
+module _ (setting : Setting) (kit : Bool) where
   abbrev pub performed : Position → ℕ → Operation → PlainStrand → PlainStrand
   performed p n (o.Bind x e) s = evaluated n (value_at setting.tables s.top.slots (expression e)) (binding p x) s
-  performed p n (o.Enter x way f es) s = evaluated n (entry_at setting.tables s.top.slots (slots_of setting.codes f) (map expression es.items)) (nested n way x (Block (next_of p)) f) s
+  performed p n (o.Enter x way f es) s = called setting kit n way x (Block (next_of p)) f (map expression es.items) s.top.slots s
   performed p n (o.Read x r) s = binding p x (reading r s) s
   performed p n o.Sync s = (if is_entry s then s else moved_on p s)
   performed p n (o.Update r es) s = evaluated n (values_at setting.tables s.top.slots (map expression es.items)) (combining (slice_get setting.kinds r) n p r) s
@@ -201,17 +279,17 @@ module _ (setting : Setting) where
   worked Over s = giving (pos 0) s
   worked (Halves l k h) s = halved setting.codes l k h s
   worked (Second l k h) s = second_half l k h s
-  worked (Turns l h) s = turned setting l h s
+  worked (Turns l h) s = turned setting kit l h s
 
   abbrev pub advanced_at : Phase → PlainStrand → PlainStrand
-  advanced_at Entering s = started s
+  advanced_at Entering s = started setting kit s
   advanced_at Running s = worked s.top.work s
   advanced_at AtSpawn s = s
-  advanced_at (Returning v) s = synced v s
+  advanced_at (Returning v) s = synced setting v s
   advanced_at (Leaving v) s = left_to s.below v s
   advanced_at (Broken f) s = s
 
-  -- one small step, where there is one
+  -- one small step, where there is one and where it is said whether a kit is free
   abbrev pub advanced : PlainStrand → PlainStrand
   advanced s = advanced_at s.phase s
 
@@ -249,3 +327,9 @@ pause_at codes (Broken f) s = paused.Faulted
 -- the point at which a strand is, or that it can go on
 abbrev pub pause_of : List Code → PlainStrand → Paused
 pause_of codes s = pause_at codes s.phase s
+
+-- ---- kits
+
+-- so many free kits after a step: a layer that opens takes one, one that closes gives it back
+abbrev pub kits_then : List PlainLayer → List PlainLayer → ℕ → ℕ
+kits_then old new kits = kits + length old - length new

@@ -1,9 +1,11 @@
 -- The layers of a strand as plain values: the reducers' values, and what was read and entered, by numbers.
-use Rattle.std.specs.Prelude.{ℕ, max, ℤ, Bool, true, false, ◌||◌, List, [], ◌∷◌, ◌++◌, Option, Some, None, replicate, slice_get, slice_set}
+use Rattle.std.specs.Prelude.{ℕ, ◌+◌, ◌-◌, max, ℤ, Bool, true, false, ◌||◌, List, [], ◌∷◌, ◌++◌, map, Option, Some, None, replicate, slice_get, slice_set}
 use Rattle.monoid_laws.specs.declared.Kind.{Kind}
 use Rattle.monoid_laws.specs.Worth.{Worth}
 use Rattle.monoid_laws.specs.Kinds.{operate, operate_all, identities, element_of}
 use Rattle.evaluation.specs.declared.note.Note.{Note}
+use Rattle.rerun_records.specs.Record.{PlainRecord}
+use Rattle.rerun_records.specs.Named.{filled}
 
 -- the reducers' kinds and values, what was read, for each procedure whether it was entered, and the greatest depth of an instance
 pub record PlainLayer : Type 0 where
@@ -40,6 +42,29 @@ either (x ∷ xs) (y ∷ ys) = (x || y) ∷ either xs ys
 -- a layer, and one behind it
 abbrev pub multiplied : PlainLayer → PlainLayer → PlainLayer
 multiplied l r = record l { worths = operate_all l.kinds l.worths r.worths; notes = l.notes ++ r.notes; entered = either l.entered r.entered; deepest = max l.deepest r.deepest }
+
+-- the flags of these numbers are put up
+abbrev pub flagged : List Bool → List ℕ → List Bool
+flagged flags [] = flags
+flagged flags (p ∷ ps) = flagged (slice_set flags p true) ps
+
+-- a layer, and behind it what a record has of an instance at that depth
+abbrev pub absorbing : PlainRecord → ℕ → PlainLayer → PlainLayer
+absorbing r depth l = record l {
+  worths = operate_all l.kinds l.worths (filled (identities l.kinds) r.contribution);
+  notes = l.notes ++ r.reads;
+  entered = flagged l.entered (map (λ e. e.0) r.entered);
+  deepest = max l.deepest (depth + r.height - 1);
+}
+
+-- the layers, topmost first, after the topmost was put behind the one below it
+abbrev pub closed_onto : PlainLayer → List PlainLayer → PlainLayer
+closed_onto l [] = l
+closed_onto l (m ∷ ls) = multiplied m l
+
+abbrev pub below_top : List PlainLayer → List PlainLayer
+below_top [] = []
+below_top (m ∷ ls) = ls
 
 -- the lowest layer of a strand whose topmost is that
 abbrev pub lowest : PlainLayer → List PlainLayer → PlainLayer

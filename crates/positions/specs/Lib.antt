@@ -2,6 +2,8 @@ pub mod Activations
 pub mod Code
 pub mod Setting
 pub mod Layers
+pub mod Values
+pub mod Tallies
 pub mod Strands
 pub mod Advance
 pub mod Moves

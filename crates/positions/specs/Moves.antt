@@ -20,6 +20,7 @@ use Rattle.positions.specs.declared.start.Start.TheVariants.{Root, Behind}
 use Rattle.positions.specs.Activations.{PlainActivation, bound, made, first_of}
 use Rattle.positions.specs.Advance.{next_statement}
 use Rattle.positions.specs.Layers.{PlainLayer, blank, lowest, multiplied}
+use Rattle.positions.specs.Tallies.{no_tally, tallies_joined}
 use Rattle.positions.specs.Strands.{PlainStrand, PlainTask, shorter}
 
 -- ---- at a spawn
@@ -66,6 +67,8 @@ first_strand codes kinds main = record {
   top = made main (slots_for (slots_of codes main) []) (Block (first_of 0)) (depth_limit - 1);
   below = [];
   phase = Entering;
+  arguments = [];
+  tally = no_tally;
 }
 
 -- the instance at the spawn, in which a slot waits for the child
@@ -82,6 +85,8 @@ stolen_with layer task = record {
   top = marked task;
   below = task.below;
   phase = Running;
+  arguments = [];
+  tally = no_tally;
 }
 
 abbrev pub stolen : List Code → List Kind → PlainTask → PlainStrand
@@ -118,18 +123,18 @@ settled_by (Behind depth child) v s = settled_at (length s.path - depth) child v
 
 -- the left strand has ended, and the right one goes on
 abbrev pub joined_ended : PlainStrand → ℤ → PlainStrand → PlainStrand
-joined_ended l v r = record (settled_by r.start v r) { start = l.start; layer = multiplied l.layer r.layer; lower = l.lower }
+joined_ended l v r = record (settled_by r.start v r) { start = l.start; layer = multiplied l.layer r.layer; lower = l.lower; tally = tallies_joined l.tally r.tally }
 
 -- one of them has a fault, and no view is folded: the left's place and layers stay, and the right's instances go
-abbrev pub joined_broken : PlainStrand → Fault → PlainStrand
-joined_broken l f = record l { phase = Broken f }
+abbrev pub joined_broken : PlainStrand → PlainStrand → Fault → PlainStrand
+joined_broken l r f = record l { phase = Broken f; tally = tallies_joined l.tally r.tally }
 
 abbrev pub joined_after : Phase → PlainStrand → ℤ → PlainStrand → PlainStrand
-joined_after (Broken f) l v r = joined_broken l f
+joined_after (Broken f) l v r = joined_broken l r f
 joined_after _ l v r = joined_ended l v r
 
 abbrev pub joined_at : Phase → PlainStrand → PlainStrand → PlainStrand
-joined_at (Broken f) l r = joined_broken l f
+joined_at (Broken f) l r = joined_broken l r f
 joined_at (Leaving v) l r = joined_after r.phase l v r
 joined_at _ l r = l
 

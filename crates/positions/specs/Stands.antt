@@ -1,15 +1,18 @@
 -- What a strand of numbers stands for: a strand of the definitions, whose instances and procedures go by name.
-use Rattle.std.specs.Prelude.{◌≡◌, ℕ, zero, suc, ◌-◌, ◌<◌, ◌≤◌, ℤ, Bool, true, false, List, [], ◌∷◌, map, length, replicate, take, Option, None, slice_get, slice_set}
+use Rattle.std.specs.Prelude.{◌≡◌, ℕ, zero, suc, ◌-◌, ◌<◌, ◌≤◌, ℤ, true, false, List, [], ◌∷◌, map, length, replicate, take, Option, None, slice_get}
 use Rattle.program_tree.specs.Plain.{Body, Proc, Tree}
 use Rattle.meaning.specs.Outcome.{Place, Fault as NamedFault}
 use Rattle.meaning.specs.Trail.{child_of}
 use Rattle.meaning.specs.Statements.{reducers, found, proc_of, fresh, Job}
 use Rattle.meaning.specs.SmallStep.{slot, root, behind, Start as NamedStart, Frame, Todo, blocks, halves, second, turns, Child, instance, half, Phase as NamedPhase, entering, running, spawning, returning, leaving, broken, Parent, Continuation, Slot as NamedSlot}
 use Rattle.meaning.specs.Layers.{Notes}
+use Rattle.meaning.specs.Statements.{procedure_of}
+use Rattle.meaning.specs.Tables.{is_there}
+use Rattle.meaning.specs.Tallies.{Opened, Tally}
 use Rattle.meaning.specs.LayeredStrand.{LayeredStrand}
 use Rattle.linked_program.specs.Procedures.{procedures}
 use Rattle.linked_program.specs.Linked.{Acts, ends, steps, procedure_number, linked_term, linked_body}
-use Rattle.linked_program.specs.CodeView.{expression, code_block}
+use Rattle.linked_program.specs.CodeView.{expression, code_block, memo_of}
 use Rattle.evaluation.specs.declared.slot.Slot.{Slot}
 use Rattle.evaluation.specs.Slots.{meant, env_of}
 use Rattle.evaluation.specs.Numbers.{numbered}
@@ -25,7 +28,9 @@ use Rattle.positions.specs.declared.start.Start.TheVariants.{Root, Behind}
 use Rattle.positions.specs.Setting.{Setting}
 use Rattle.positions.specs.Activations.{PlainActivation, first_of}
 use Rattle.positions.specs.Code.{blocks_at, loop_at}
-use Rattle.positions.specs.Layers.{PlainLayer}
+use Rattle.positions.specs.Layers.{PlainLayer, flagged}
+use Rattle.rerun_records.specs.Named.{number_of, SameMembers, AreRecords}
+use Rattle.positions.specs.Tallies.{PlainOpened, PlainTally}
 use Rattle.positions.specs.Strands.{PlainStrand, PlainTask, shorter}
 
 -- a block from the n-th statement on
@@ -34,13 +39,10 @@ acts_from zero b = b
 acts_from (suc n) ends = ends
 acts_from (suc n) (steps k d b) = acts_from n b
 
--- the flags of these numbers are put up
-abbrev pub flagged : List Bool → List ℕ → List Bool
-flagged flags [] = flags
-flagged flags (p ∷ ps) = flagged (slice_set flags p true) ps
-
--- where a strand begins; an instance that leaves is not that in which the strand begins
+-- where a strand begins; an instance that is to be entered, or leaves, is not that in which the strand begins
 abbrev pub IsWithin : Phase → ℕ → ℕ → Type 0
+IsWithin Entering depth n = depth < n
+IsWithin AtSpawn depth n = depth < n
 IsWithin (Leaving v) depth n = depth < n
 IsWithin _ depth n = depth ≤ n
 
@@ -72,7 +74,7 @@ module _ (setting : Setting) where
     pub kinds : l.kinds ≡ map (λ r. r.kind) (reducers setting.program.tree)
     pub worths : n.worth ≡ l.worths
     pub each : length l.worths ≡ length l.kinds
-    pub notes : l.notes ≡ map (numbered setting.names) n.read
+    pub notes : SameMembers l.notes (map (numbered setting.names) n.read)
     pub entered : l.entered ≡ flagged (replicate (length (procedures setting.program.tree)) false) (map (procedure_number (procedures setting.program.tree)) n.entered)
     pub deepest : n.deepest ≡ l.deepest
 
@@ -80,6 +82,28 @@ module _ (setting : Setting) where
   AreNotes [] [] = Unit {0}
   AreNotes (l ∷ ls) (n ∷ ns) = IsNotes l n × AreNotes ls ns
   AreNotes _ _ = ⊥
+
+  -- ---- what was counted and recorded
+
+  -- a memo instance whose layer is open
+  pub record IsOpened (o : PlainOpened) (k : Opened) : Type 0 where
+    pub known : is_there (procedure_of setting.program.tree k.of) ≡ true
+    pub procedure : o.procedure ≡ number_of setting.program.tree k.of
+    pub arguments : o.arguments ≡ k.args
+    pub left : o.left ≡ k.left
+    pub depth : o.depth ≡ length k.instance
+
+  abbrev pub AreOpened : List PlainOpened → List Opened → Type 0
+  AreOpened [] [] = Unit {0}
+  AreOpened (o ∷ os) (k ∷ ks) = IsOpened o k × AreOpened os ks
+  AreOpened _ _ = ⊥
+
+  pub record IsTally (t : PlainTally) (u : Tally) : Type 0 where
+    pub opened : AreOpened t.opened u.opened
+    pub made : AreRecords setting.program.tree setting.names setting.kinds u.made t.made
+    pub executed : u.executed ≡ t.executed
+    pub reused : u.reused ≡ t.reused
+    pub unrecorded : u.unrecorded ≡ t.unrecorded
 
   -- ---- what an instance has left
 
@@ -166,16 +190,20 @@ module _ (setting : Setting) where
     pub outer : a.outer ≡ []
     pub slots : map meant a.slots ≡ map slot (fresh (proc_of setting.program.tree f).names vs)
 
+  -- a memo instance has those arguments
+  abbrev pub HasArguments : List ℤ → PlainActivation → List ℤ → Type 0
+  HasArguments args a vs = memo_of setting.codes a.procedure ≡ true → args ≡ vs
+
   -- an instance is that of the child that is to be entered
-  abbrev pub IsNew : PlainActivation → Child → Type 0
-  IsNew a (instance f vs) = IsNewInstance a f vs
-  IsNew a (half k job count i) = (a.children ≡ 0) × IsTodo a (halves k job count i)
+  abbrev pub IsNew : List ℤ → PlainActivation → Child → Type 0
+  IsNew args a (instance f vs) = IsNewInstance a f vs × HasArguments args a vs
+  IsNew args a (half k job count i) = (a.children ≡ 0) × IsTodo a (halves k job count i)
 
   -- ---- strands, by what comes next
 
-  pub record IsEntering (path : Place) (top : PlainActivation) (below : List PlainActivation) (x : LayeredStrand) : Type 0 where
+  pub record IsEntering (path : Place) (args : List ℤ) (top : PlainActivation) (below : List PlainActivation) (x : LayeredStrand) : Type 0 where
     pub child : Child
-    pub new : IsNew top child
+    pub new : IsNew args top child
     pub phase : x.phase ≡ entering child
     pub frame : x.frame ≡ frame_of path top
     pub under : AreParents path below x.under
@@ -188,9 +216,9 @@ module _ (setting : Setting) where
     pub under : AreParents path below x.under
 
   -- the child's instance is already made, over the one that spawns
-  pub record IsSpawning (path : Place) (top parent : PlainActivation) (below : List PlainActivation) (x : LayeredStrand) : Type 0 where
+  pub record IsSpawning (path : Place) (args : List ℤ) (top parent : PlainActivation) (below : List PlainActivation) (x : LayeredStrand) : Type 0 where
     pub child : Child
-    pub new : IsNew top child
+    pub new : IsNew args top child
     pub todo : Todo
     pub left : IsTodo parent todo
     pub spawned : parent.spawned ≡ true
@@ -207,18 +235,19 @@ module _ (setting : Setting) where
 
   -- a strand with a fault does nothing more, and what its instances are doesn't matter
   abbrev pub StandsAt : Phase → List PlainActivation → PlainStrand → LayeredStrand → Type 0
-  StandsAt Entering below s x = IsEntering s.path s.top below x
+  StandsAt Entering below s x = IsEntering s.path s.arguments s.top below x
   StandsAt Running below s x = IsRunning s.path s.top below x
   StandsAt AtSpawn [] s x = ⊥
-  StandsAt AtSpawn (parent ∷ below) s x = IsSpawning s.path s.top parent below x
+  StandsAt AtSpawn (parent ∷ below) s x = IsSpawning s.path s.arguments s.top parent below x
   StandsAt (Returning v) below s x = IsAt (returning v) s.path s.top below x
   StandsAt (Leaving v) below s x = IsAt (leaving v) s.path s.top below x
   StandsAt (Broken f) below s x = x.phase ≡ broken (named_fault f)
 
-  -- the strand of numbers stands for that strand of the definitions
-  pub record StandsFor (s : PlainStrand) (x : LayeredStrand) : Type 0 where
+  -- the strand of numbers stands for that strand of the definitions, whose instances have no flags, with that tally
+  pub record StandsFor (s : PlainStrand) (x : LayeredStrand) (t : Tally) : Type 0 where
     pub start : IsStart s.start s.phase s.path x.start
     pub layers : AreNotes (s.layer ∷ s.lower) x.layers
+    pub tally : IsTally s.tally t
     pub now : StandsAt s.phase s.below s x
 
   -- the continuation of numbers stands for that continuation; since when its strand is there it doesn't know

@@ -1,26 +1,35 @@
 //! What the definitions of this crate are for those of `meaning`, each as the contract of a function that does nothing.
-ghost use Rattle.std.specs.Prelude.{◌≡◌, ◌∷◌, ℕ};
+ghost use Rattle.std.specs.Prelude.{◌≡◌, ◌∷◌, ℕ, Bool};
 ghost use Rattle.linked_program.specs.Linked.{main_number};
-ghost use Rattle.positions.specs.Setting.{Setting, IsLinked, HasItsTables};
+ghost use Rattle.positions.specs.Setting.{Setting, IsLinked, HasItsTables, HasItsRecords};
 ghost use Rattle.positions.specs.Strands.{PlainStrand, PlainTask};
 ghost use Rattle.positions.specs.Advance.{advanced, pause_of};
 ghost use Rattle.positions.specs.Moves.{inlined, detached, attached, resumed, first_strand, stolen, joined, lowest_alone, at_update};
-ghost use Rattle.positions.specs.Simulation.{IsSmallStep, IsPause, IsStepTaken, IsFirst, IsInlined, IsDetached, IsAttached, IsResumed, IsStolen, IsJoined, IsAlone, IsUpdateNext};
+ghost use Rattle.positions.specs.Simulation.{IsSmallStep, KitsFollow, KeepsLayers, IsPause, IsStepTaken, IsFirst, IsInlined, IsDetached, IsAttached, IsResumed, IsStolen, IsJoined, IsAlone, IsUpdateNext};
 
 use crate::phase::Paused;
 
-/// A small step by numbers is that of the definitions, where the codes and kinds are those of the program and the tables have
-/// the names that it was linked by. At the point at which a strand is said to be there is no small step, and where it is said to go on there is one. The next step is
-/// said to be an update where it is one.
+/// A small step by numbers is that of the definitions, where the codes and kinds are those of the program, the tables have
+/// the names that it was linked by, the records stand for those kept by name, and those made by then hold now; and it takes and
+/// gives back as many kits. At the point at which a strand is said to be there is no small step, and where it is said to go on
+/// there is one. The next step is said to be an update where it is one.
 pub fn steps_are_the_definitions()
-    ensures step { (setting : Setting) → HasItsTables setting → IsLinked setting
-        → (s : PlainStrand) → IsSmallStep setting s (advanced setting s) }
+    ensures step { (setting : Setting) → HasItsTables setting → IsLinked setting → HasItsRecords setting
+        → (kit : Bool) (s : PlainStrand) → IsSmallStep setting kit s (advanced setting kit s) }
+    ensures kits { (setting : Setting) → HasItsTables setting → IsLinked setting → HasItsRecords setting
+        → (kit : Bool) (s : PlainStrand) → KitsFollow setting kit s (advanced setting kit s) }
     ensures pause { (setting : Setting) (s : PlainStrand)
         → IsPause setting (pause_of setting.codes s) s }
     ensures working { (setting : Setting) (s : PlainStrand)
         → pause_of setting.codes s ≡ Paused.Working → IsStepTaken setting s }
     ensures update { (setting : Setting) (s : PlainStrand)
         → IsUpdateNext setting s (at_update setting.codes s) }
+{}
+
+/// Each small step keeps one layer more than there are open memo instances, as long as there is no fault.
+pub fn steps_keep_layers()
+    ensures layers { (setting : Setting) (kit : Bool) (s : PlainStrand)
+        → KeepsLayers s (advanced setting kit s) }
 {}
 
 /// The strands that begin are those of the definitions: main's, and that of a continuation which was stolen.

@@ -1,0 +1,35 @@
+-- Values and readings that are the same, decided by their parts.
+use Rattle.std.specs.Prelude.{nat_eq, ℤ, Bool, true, false, ◌&&◌, Option, Some, None}
+use Rattle.std.specs.Ordering.{int_eq}
+use Rattle.std.specs.Cmp.Lexicographic.{pointwise}
+use Rattle.monoid_laws.specs.Worth.{Worth, number, items, best, line, amounts, element}
+use Rattle.evaluation.specs.declared.note.Note.{Note}
+use Rattle.evaluation.specs.declared.note.Note.TheVariants.{Cell, Has, Limit}
+
+abbrev pub same_pair : ℤ × ℤ → ℤ × ℤ → Bool
+same_pair a b = int_eq a.0 b.0 && int_eq a.1 b.1
+
+abbrev pub same_best : Option (ℤ × ℤ) → Option (ℤ × ℤ) → Bool
+same_best None None = true
+same_best (Some a) (Some b) = same_pair a b
+same_best _ _ = false
+
+abbrev pub same_worth : Worth → Worth → Bool
+same_worth (number a) (number b) = int_eq a b
+same_worth (items xs) (items ys) = pointwise int_eq xs ys
+same_worth (best a) (best b) = same_best a b
+same_worth (line a b) (line c d) = int_eq a c && int_eq b d
+same_worth (amounts xs) (amounts ys) = pointwise same_pair xs ys
+same_worth (element a) (element b) = nat_eq a b
+same_worth _ _ = false
+
+abbrev pub same_flag : Bool → Bool → Bool
+same_flag true b = b
+same_flag false true = false
+same_flag false false = true
+
+abbrev pub same_note : Note → Note → Bool
+same_note (Cell t row c v) (Cell u s d w) = nat_eq t u && (int_eq row s && (nat_eq c d && int_eq v w))
+same_note (Has t row b) (Has u s d) = nat_eq t u && (int_eq row s && same_flag b d)
+same_note (Limit t v) (Limit u w) = nat_eq t u && int_eq v w
+same_note _ _ = false
