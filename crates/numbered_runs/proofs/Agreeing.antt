@@ -12,6 +12,7 @@ use Rattle.positions.specs.Setting.{Setting}
 use Rattle.positions.specs.declared.phase.Phase.{Phase}
 use Rattle.positions.specs.declared.start.Start.{Start}
 use Rattle.positions.specs.declared.start.Start.TheVariants.{Root, Behind}
+use Rattle.positions.specs.Strands.{PlainStrand}
 use Rattle.positions.specs.Stands.{IsStart}
 use Rattle.positions.specs.Simulation.{place_of as place_behind}
 use Rattle.numbered_runs.specs.declared.refusal.Refusal.{Refusal}
@@ -31,12 +32,12 @@ place_at Root ph path (behind m j) h = absurd h
 place_at (Behind d c) ph path root h = absurd h
 place_at (Behind d c) ph path (behind m j) h = ap (λ n. child_of n j) h.0 ∙ ap (child_of (take d path)) h.1
 
-pub held_any : (w : ℕ) (st : State) (ph : Phase) → holds_by w st ≡ true → IsLaidAs st ph
-held_any w (Held v) ph e = tt
-held_any w Ended ph e = absurd cc
-held_any w Stalled ph e = absurd cc
-held_any w strands.Faulted ph e = absurd cc
-held_any w strands.Finished ph e = absurd cc
+pub held_any : (w : ℕ) (st : State) (ph : Phase) (s : PlainStrand) → holds_by w st ≡ true → IsLaidAs st ph s
+held_any w (Held v) ph s e = tt
+held_any w Ended ph s e = absurd cc
+held_any w Stalled ph s e = absurd cc
+held_any w strands.Faulted ph s e = absurd cc
+held_any w strands.Finished ph s e = absurd cc
 
 module _ (setting : Setting) where
   pub piece_place : (p : PlainPiece) (x : Piece) → StandsForPiece setting p x → schedules.place_of x ≡ place_of p

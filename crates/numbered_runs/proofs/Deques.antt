@@ -1,22 +1,24 @@
 -- A pop and a steal, in runs of numbers and in those of the definitions.
-use Rattle.std.proofs.Common.{◌≡◌, inl, inr, ℕ, zero, suc, ◌+◌, Bool, true, false, List, [], ◌∷◌, ◌++◌, length, Option, Some, None, refl, sym, ◌∙◌, ap, subst, arith}
+use Rattle.std.proofs.Common.{◌≡◌, inl, inr, ℕ, zero, suc, ◌+◌, Bool, true, false, List, [], ◌∷◌, ◌++◌, length, map, Option, Some, None, refl, sym, ◌∙◌, ap, subst, arith}
 use Rattle.std.specs.Prelude.{ℤ}
 use Rattle.std.proofs.lemmas.List.{length-append}
 use Rattle.program_tree.specs.Plain.{Tree}
 use Rattle.meaning.specs.Outcome.{Place, Fault}
 use Rattle.meaning.specs.Trail.{child_of, sight_of}
 use Rattle.meaning.specs.Tallies.{valid_record}
-use Rattle.meaning.specs.SmallStep.{Phase as NamedPhase, leaving, broken, Parent, Continuation, place_of_continuation}
+use Rattle.meaning.specs.SmallStep.{Phase as NamedPhase, leaving, broken, Frame, Parent, with_layer, Continuation, place_of_continuation}
 use Rattle.meaning.specs.Strands as strands
 use Rattle.meaning.specs.RestOfRun.{lowest}
-use Rattle.meaning.specs.Schedules.{Piece, without_memo}
+use Rattle.meaning.specs.Schedules.{Piece}
 use Rattle.meaning.specs.Schedules as schedules
+use Rattle.trail_theory.specs.Unflagged.{unflagged_under, unflagged_continuation}
 use Rattle.run_theory.specs.RightRuns.{front, Links, PiecesFit}
+use Rattle.run_theory.specs.UnflaggedRuns.{unflagged_piece}
 use Rattle.positions.specs.Setting.{Setting, IsLinked}
 use Rattle.positions.specs.declared.phase.Phase.{Phase}
 use Rattle.positions.specs.declared.phase.Phase.TheVariants as phase
 use Rattle.positions.specs.Activations.{PlainActivation}
-use Rattle.positions.specs.Strands.{PlainStrand, PlainTask, shorter}
+use Rattle.positions.specs.Strands.{PlainStrand, PlainTask, shorter, IsLayeredAt, IsLayered}
 use Rattle.positions.specs.Moves.{returned_at, returned_of, resumed_by}
 use Rattle.positions.specs.Stands.{AreParents, StandsAt, StandsForTask}
 use Rattle.positions.proofs.Moves.{resumed_is, stolen_is}
@@ -28,14 +30,28 @@ use Rattle.numbered_runs.proofs.Agreeing.{Each, held_any, piece_place, Agrees}
 abbrev pub Linked : Piece → Type 0
 Linked x = (e : Place) × (((k : Fault) → x.strand.phase ≡ broken k → ⊥) → Links (lowest x.strand.frame x.strand.under) x.deque e)
 
-pub each_linked : (setting : Setting) (first : Bool) (xs : List Piece) (found : List Bool) → PiecesFit setting.program.tree setting.tables (sight_of setting.program.tree setting.tables) (valid_record setting.program setting.tables setting.memory.records) first xs found → Each Linked xs
+-- without flags they end there too
+lowest_same : (fr : Frame) (under : List Parent) → lowest (with_layer false fr) (unflagged_under under) ≡ lowest fr under
+lowest_same fr [] = refl
+lowest_same fr (p ∷ under) = lowest_same p.frame under
+
+links_same : (n : Place) (ks : List Continuation) (e : Place) → Links n ks e → Links n (map unflagged_continuation ks) e
+links_same n [] e h = h
+links_same n (k ∷ ks) e h = (h.0, subst (λ m. Links m (map unflagged_continuation ks) e) (sym (lowest_same k.parent.frame k.under)) (links_same (lowest k.parent.frame k.under) ks e h.1))
+
+linked_piece : (x : Piece) (e : Place) → (((k : Fault) → x.strand.phase ≡ broken k → ⊥) → Links (lowest x.strand.frame x.strand.under) x.deque e) → Linked (unflagged_piece x)
+linked_piece x e h =
+    (e, λ s. subst (λ m. Links m (map unflagged_continuation x.deque) e) (sym (lowest_same x.strand.frame x.strand.under)) (links_same (lowest x.strand.frame x.strand.under) x.deque e (h s)))
+
+pub each_linked : (setting : Setting) (first : Bool) (xs : List Piece) (found : List Bool) → PiecesFit setting.program.tree setting.tables (sight_of setting.program.tree setting.tables) (valid_record setting.program setting.tables setting.memory.records) first xs found
+    → Each Linked (map unflagged_piece xs)
 each_linked setting first [] found h = tt
 each_linked setting first (x ∷ xs) found h =
-    ((front xs, λ s. elim h.1.fits [ inl w ↦ w.links | inr c ↦ absurd (s c.fault c.phase) ]), each_linked setting false xs h.0 h.2)
+    (linked_piece x (front xs) (λ s. elim h.1.fits [ inl w ↦ w.links | inr c ↦ absurd (s c.fault c.phase) ]), each_linked setting false xs h.0 h.2)
 
-resumed_lower : (o : Option ℤ) (task : PlainTask) (s : PlainStrand) → (resumed_by o task s).lower ≡ s.lower
-resumed_lower None task s = refl
-resumed_lower (Some v) task s = refl
+resumed_layered : (o : Option ℤ) (task : PlainTask) (s : PlainStrand) → IsLayered s → length s.tally.opened ≡ length s.lower → IsLayered (resumed_by o task s)
+resumed_layered None task s h l = h
+resumed_layered (Some v) task s h l = l
 
 no_child : (m : Place) (k : ℕ) → [] ≡ m ++ k ∷ [] → ⊥
 no_child m k e = let c : 0 ≡ length m + 1 = ap length e ∙ length-append m (k ∷ []) in omega arith
@@ -54,25 +70,34 @@ module _ (setting : Setting) where
       ap (λ fr. child_of fr.instance k.child) h.parent.frame ∙ ap (child_of (shorter task.place)) h.child ∙ sym h.parent.named
 
   module _ (kits kits' : ℕ) (same : kits' ≡ kits) (p : PlainPiece) (x : Piece) (w : ℕ) (held : is_held_by w p ≡ true) (h : StandsForPiece setting p x) where
-    resumes : (v : ℤ) (task : PlainTask) (tasks : List PlainTask) (k : Continuation) (ks : List Continuation) → p.strand.path ≡ task.place → StandsForTask setting task k → StandForTasks setting tasks ks → x.strand.phase ≡ leaving v → x.strand.under ≡ []
+    abbrev AsManyLayers : Type 0
+    AsManyLayers = length p.strand.tally.opened ≡ length p.strand.lower
+
+    resumes : AsManyLayers → (v : ℤ) (task : PlainTask) (tasks : List PlainTask) (k : Continuation) (ks : List Continuation) → p.strand.path ≡ task.place → StandsForTask setting task k → StandForTasks setting tasks ks → x.strand.phase ≡ leaving v → x.strand.under ≡ []
         → Agrees setting (popped_of (task ∷ tasks) kits p) (schedules.popped_at setting.program setting.tables setting.memory kits' x (leaving v) [] (k ∷ ks))
-    resumes v task tasks k ks at task_is tasks_are ph under = record {
-      pieces = record { strand = resumed_is setting task p.strand x.strand k v at h.strand task_is ph under; one_layer = resumed_lower (returned_of p.strand) task p.strand ∙ h.one_layer; tasks = tasks_are; state = h.state; laid = held_any w p.state _ held };
+    resumes as_many v task tasks k ks at task_is tasks_are ph under = record {
+      pieces = record {
+        strand = resumed_is setting task p.strand x.strand x.tally k v at h.strand task_is ph under;
+        layered = resumed_layered (returned_of p.strand) task p.strand h.layered as_many;
+        tasks = tasks_are;
+        state = h.state;
+        laid = held_any w p.state _ _ held;
+      };
       kits = same;
       noted = refl;
     }
 
-    popped_leaving : (v : ℤ) (path : Place) (tasks : List PlainTask) (ks : List Continuation) → p.strand.path ≡ path → p.deque ≡ tasks → x.deque ≡ ks → StandForTasks setting tasks ks → x.strand.phase ≡ leaving v → x.strand.under ≡ [] → x.strand.frame.instance ≡ p.strand.path → Linked x
+    popped_leaving : AsManyLayers → (v : ℤ) (path : Place) (tasks : List PlainTask) (ks : List Continuation) → p.strand.path ≡ path → p.deque ≡ tasks → x.deque ≡ ks → StandForTasks setting tasks ks → x.strand.phase ≡ leaving v → x.strand.under ≡ [] → x.strand.frame.instance ≡ p.strand.path → Linked x
         → Agrees setting (popped_by (returned_at (phase.Leaving v) [] path) kits p) (schedules.popped_at setting.program setting.tables setting.memory kits' x (leaving v) [] ks)
-    popped_leaving v [] [] [] a b c r ph u n l = tt
-    popped_leaving v (i ∷ path) [] [] a b c r ph u n l = subst (λ ds. Agrees setting (popped_of ds kits p) (schedules.popped_at setting.program setting.tables setting.memory kits' x (leaving v) [] [])) (sym b) tt
-    popped_leaving v path [] (k ∷ ks) a b c r ph u n l = absurd r
-    popped_leaving v path (task ∷ tasks) [] a b c r ph u n l = absurd r
-    popped_leaving v [] (task ∷ tasks) (k ∷ ks) a b c r ph u n l = absurd (no_child (shorter task.place) task.top.children (sym a ∙ at ∙ r.0.parent.named)) where
+    popped_leaving as_many v [] [] [] a b c r ph u n l = tt
+    popped_leaving as_many v (i ∷ path) [] [] a b c r ph u n l = subst (λ ds. Agrees setting (popped_of ds kits p) (schedules.popped_at setting.program setting.tables setting.memory kits' x (leaving v) [] [])) (sym b) tt
+    popped_leaving as_many v path [] (k ∷ ks) a b c r ph u n l = absurd r
+    popped_leaving as_many v path (task ∷ tasks) [] a b c r ph u n l = absurd r
+    popped_leaving as_many v [] (task ∷ tasks) (k ∷ ks) a b c r ph u n l = absurd (no_child (shorter task.place) task.top.children (sym a ∙ at ∙ r.0.parent.named)) where
       at : p.strand.path ≡ task.place
       at = sym n ∙ (subst (λ ds. Links x.strand.frame.instance ds l.0) c (subst (λ us. Links (lowest x.strand.frame us) x.deque l.0) u (l.1 (λ f e. let z : leaving v ≡ broken f = sym ph ∙ e in absurd cc)))).0 ∙ task_place task k r.0
-    popped_leaving v (i ∷ path) (task ∷ tasks) (k ∷ ks) a b c r ph u n l =
-        subst (λ ds. Agrees setting (popped_of ds kits p) (schedules.popped_at setting.program setting.tables setting.memory kits' x (leaving v) [] (k ∷ ks))) (sym b) (resumes v task tasks k ks at r.0 r.1 ph u) where
+    popped_leaving as_many v (i ∷ path) (task ∷ tasks) (k ∷ ks) a b c r ph u n l =
+        subst (λ ds. Agrees setting (popped_of ds kits p) (schedules.popped_at setting.program setting.tables setting.memory kits' x (leaving v) [] (k ∷ ks))) (sym b) (resumes as_many v task tasks k ks at r.0 r.1 ph u) where
           at : p.strand.path ≡ task.place
           at = sym n ∙ (subst (λ ds. Links x.strand.frame.instance ds l.0) c (subst (λ us. Links (lowest x.strand.frame us) x.deque l.0) u (l.1 (λ f e. let z : leaving v ≡ broken f = sym ph ∙ e in absurd cc)))).0 ∙ task_place task k r.0
 
@@ -83,22 +108,22 @@ module _ (setting : Setting) where
     parents_stay v a below [] i = absurd i
     parents_stay v a below (q ∷ under) i = tt
 
-    popped_where : (ph : Phase) (below : List PlainActivation) → StandsAt setting ph below p.strand x.strand → Linked x → Pops x.strand.phase x.strand.under ph below
-    popped_where (phase.Leaving v) [] i l =
+    popped_where : (ph : Phase) (below : List PlainActivation) → IsLayeredAt ph p.strand → StandsAt setting ph below p.strand x.strand → Linked x → Pops x.strand.phase x.strand.under ph below
+    popped_where (phase.Leaving v) [] as_many i l =
         let u = no_parents p.strand.path x.strand.under i.under in
         subst (λ nph. Pops nph x.strand.under (phase.Leaving v) []) (sym i.phase)
         (subst (λ under. Pops (leaving v) under (phase.Leaving v) []) (sym u)
-        (popped_leaving v p.strand.path p.deque x.deque refl refl refl h.tasks i.phase u (ap (λ fr. fr.instance) i.frame) l))
-    popped_where (phase.Leaving v) (a ∷ below) i l = subst (λ nph. Pops nph x.strand.under (phase.Leaving v) (a ∷ below)) (sym i.phase) (parents_stay v a below x.strand.under i.under)
-    popped_where phase.AtSpawn [] i l = absurd i
-    popped_where phase.AtSpawn (a ∷ below) i l = subst (λ nph. Pops nph x.strand.under phase.AtSpawn (a ∷ below)) (sym i.phase) tt
-    popped_where phase.Entering below i l = subst (λ nph. Pops nph x.strand.under phase.Entering below) (sym i.phase) tt
-    popped_where phase.Running below i l = subst (λ nph. Pops nph x.strand.under phase.Running below) (sym i.phase) tt
-    popped_where (phase.Returning v) below i l = subst (λ nph. Pops nph x.strand.under (phase.Returning v) below) (sym i.phase) tt
-    popped_where (phase.Broken f) below i l = subst (λ nph. Pops nph x.strand.under (phase.Broken f) below) (sym i) tt
+        (popped_leaving as_many v p.strand.path p.deque x.deque refl refl refl h.tasks i.phase u (ap (λ fr. fr.instance) i.frame) l))
+    popped_where (phase.Leaving v) (a ∷ below) as_many i l = subst (λ nph. Pops nph x.strand.under (phase.Leaving v) (a ∷ below)) (sym i.phase) (parents_stay v a below x.strand.under i.under)
+    popped_where phase.AtSpawn [] as_many i l = absurd i
+    popped_where phase.AtSpawn (a ∷ below) as_many i l = subst (λ nph. Pops nph x.strand.under phase.AtSpawn (a ∷ below)) (sym i.phase) tt
+    popped_where phase.Entering below as_many i l = subst (λ nph. Pops nph x.strand.under phase.Entering below) (sym i.phase) tt
+    popped_where phase.Running below as_many i l = subst (λ nph. Pops nph x.strand.under phase.Running below) (sym i.phase) tt
+    popped_where (phase.Returning v) below as_many i l = subst (λ nph. Pops nph x.strand.under (phase.Returning v) below) (sym i.phase) tt
+    popped_where (phase.Broken f) below as_many i l = subst (λ nph. Pops nph x.strand.under (phase.Broken f) below) (sym i) tt
 
     pub popped_agrees : Linked x → Agrees setting (popped kits p) (schedules.popped setting.program setting.tables setting.memory kits' x)
-    popped_agrees l = popped_where p.strand.phase p.strand.below h.strand.now l
+    popped_agrees l = popped_where p.strand.phase p.strand.below h.layered h.strand.now l
 
   -- ---- steal
 
@@ -113,8 +138,8 @@ module _ (setting : Setting) where
         → Agrees setting (robbed setting thief kits p (oldest us k ks)) (schedules.robbed_of setting.program setting.tables setting.memory thief kits x cs (c ∷ ds))
     robs kits us cs k c [] [] a b r = record {
       pieces = inl (
-        record { strand = h.strand; one_layer = h.one_layer; tasks = a; state = h.state; laid = h.laid },
-        record { strand = stolen_is setting linked k c b; one_layer = refl; tasks = tt; state = refl; laid = tt },
+        record { strand = h.strand; layered = h.layered; tasks = a; state = h.state; laid = h.laid },
+        record { strand = stolen_is setting linked k c b; layered = refl; tasks = tt; state = refl; laid = tt },
       );
       kits = refl;
       noted = ap (λ v. strands.Split v (place_of_continuation c) thief ∷ []) (piece_place setting p x h) ∙ ap (λ n. strands.Split (place_of p) n thief ∷ []) (task_place k c b);

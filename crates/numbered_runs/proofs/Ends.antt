@@ -6,12 +6,14 @@ use Rattle.meaning.specs.SmallStep.{leaving}
 use Rattle.meaning.specs.Layers.{Notes}
 use Rattle.meaning.specs.Strands.{State, Held, Ended, Stalled, replayed}
 use Rattle.meaning.specs.Strands as strands
-use Rattle.meaning.specs.Schedules.{Piece, RunState, without_memo, answer_by, answer_of_pieces, end_of}
+use Rattle.meaning.specs.Schedules.{Piece, RunState, answer_by, answer_of_pieces, end_of}
 use Rattle.meaning.specs.Schedules as schedules
 use Rattle.run_theory.specs.Theorems.{IsReady}
 use Rattle.run_theory.specs.Theorems as theorems
+use Rattle.run_theory.specs.UnflaggedRuns.{unflagged_piece}
 use Rattle.run_theory.proofs.Paths.{paths_answer}
 use Rattle.run_theory.proofs.Legal.{paths_history}
+use Rattle.run_theory.proofs.UnflaggedRuns.{lines_same}
 use Rattle.positions.specs.Setting.{Setting}
 use Rattle.positions.specs.declared.phase.Phase.{Phase}
 use Rattle.positions.specs.declared.phase.Phase.TheVariants as phase
@@ -20,10 +22,12 @@ use Rattle.positions.specs.Layers.{PlainLayer}
 use Rattle.positions.specs.Stands.{AreNotes, StandsAt}
 use Rattle.numbered_runs.specs.Pieces.{PlainPiece, place_of}
 use Rattle.numbered_runs.specs.Runs.{PlainRun, line_of}
-use Rattle.numbered_runs.specs.Stands.{valued, IsLaidAs, StandsForPiece, StandForPieces, StandsForRun}
+use Rattle.numbered_runs.specs.Stands.{valued, IsLaidAs, StandsForPiece, StandForPieces, StandsForUnflagged}
+use Rattle.numbered_runs.specs.Layered.{HasOneLayerAs, HasOneLayer}
 use Rattle.numbered_runs.specs.Ends.{answer_at, answer_in, HistoryGives}
-use Rattle.numbered_runs.specs.Simulation.{IsReached}
-use Rattle.numbered_runs.proofs.Agreeing.{piece_place, none_there}
+use Rattle.numbered_runs.specs.Simulation.{IsPrepared, IsReached}
+use Rattle.numbered_runs.proofs.Agreeing.{Each, piece_place, none_there}
+use Rattle.numbered_runs.proofs.Layered.{layered_there}
 
 module _ (setting : Setting) where
   -- ---- the answer
@@ -34,42 +38,42 @@ module _ (setting : Setting) where
   one_note l [] (n ∷ k ∷ ns) e h = absurd h.1
   one_note l (m ∷ ls) ns e h = absurd cc
 
-  module _ (p : PlainPiece) (x : Piece) (n : Notes) (one : x.strand.layers ≡ n ∷ []) (worth : n.worth ≡ p.strand.layer.worths) where
-    answer_there : (st : State) (ph : Phase) (below : List PlainActivation) → IsLaidAs st ph → StandsAt setting ph below p.strand x.strand
+  module _ (p : PlainPiece) (x : Piece) (notes : AreNotes setting (p.strand.layer ∷ p.strand.lower) x.strand.layers) where
+    answer_there : (st : State) (ph : Phase) (below : List PlainActivation) → IsLaidAs st ph p.strand → HasOneLayerAs st p.strand.lower → StandsAt setting ph below p.strand x.strand
         → answer_by st x.strand.phase x.strand.layers ≡ answer_at setting st ph p.strand.layer.worths
-    answer_there strands.Finished (phase.Leaving v) below l i =
-        ap (λ q. answer_by strands.Finished q x.strand.layers) i.phase ∙ ap (answer_by strands.Finished (leaving v)) one ∙ ap (λ ws. Some (elision.Finished v ws)) worth
-    answer_there strands.Faulted (phase.Broken f) below l i = ap (λ q. answer_by strands.Faulted q x.strand.layers) i
-    answer_there (Held w) ph below l i = refl
-    answer_there Ended ph below l i = refl
-    answer_there Stalled ph below l i = refl
-    answer_there strands.Finished phase.Entering below l i = absurd l
-    answer_there strands.Finished phase.Running below l i = absurd l
-    answer_there strands.Finished phase.AtSpawn below l i = absurd l
-    answer_there strands.Finished (phase.Returning v) below l i = absurd l
-    answer_there strands.Finished (phase.Broken f) below l i = absurd l
-    answer_there strands.Faulted phase.Entering below l i = absurd l
-    answer_there strands.Faulted phase.Running below l i = absurd l
-    answer_there strands.Faulted phase.AtSpawn below l i = absurd l
-    answer_there strands.Faulted (phase.Returning v) below l i = absurd l
-    answer_there strands.Faulted (phase.Leaving v) below l i = absurd l
+    answer_there strands.Finished (phase.Leaving v) below l o i =
+        let n = one_note p.strand.layer p.strand.lower x.strand.layers o notes in
+        ap (λ q. answer_by strands.Finished q x.strand.layers) i.phase ∙ ap (answer_by strands.Finished (leaving v)) n.1 ∙ ap (λ ws. Some (elision.Finished v ws)) n.2
+    answer_there strands.Faulted (phase.Broken f) below l o i = ap (λ q. answer_by strands.Faulted q x.strand.layers) i
+    answer_there (Held w) ph below l o i = refl
+    answer_there Ended ph below l o i = refl
+    answer_there Stalled ph below l o i = refl
+    answer_there strands.Finished phase.Entering below l o i = absurd l
+    answer_there strands.Finished phase.Running below l o i = absurd l
+    answer_there strands.Finished phase.AtSpawn below l o i = absurd l
+    answer_there strands.Finished (phase.Returning v) below l o i = absurd l
+    answer_there strands.Finished (phase.Broken f) below l o i = absurd l
+    answer_there strands.Faulted phase.Entering below l o i = absurd l
+    answer_there strands.Faulted phase.Running below l o i = absurd l
+    answer_there strands.Faulted phase.AtSpawn below l o i = absurd l
+    answer_there strands.Faulted (phase.Returning v) below l o i = absurd l
+    answer_there strands.Faulted (phase.Leaving v) below l o i = absurd l
 
-  one_answer : (p : PlainPiece) (x : Piece) → StandsForPiece setting p x → answer_by x.state x.strand.phase x.strand.layers ≡ answer_at setting p.state p.strand.phase p.strand.layer.worths
-  one_answer p x h =
-      let n = one_note p.strand.layer p.strand.lower x.strand.layers h.one_layer h.strand.layers in
-      ap (λ st. answer_by st x.strand.phase x.strand.layers) h.state ∙ answer_there p x n.0 n.1 n.2 p.state p.strand.phase p.strand.below h.laid h.strand.now
+  one_answer : (p : PlainPiece) (x : Piece) → StandsForPiece setting p x → HasOneLayer p → answer_by x.state x.strand.phase x.strand.layers ≡ answer_at setting p.state p.strand.phase p.strand.layer.worths
+  one_answer p x h o =
+      ap (λ st. answer_by st x.strand.phase x.strand.layers) h.state ∙ answer_there p x h.strand.layers p.state p.strand.phase p.strand.below h.laid o h.strand.now
 
-  answers : (ps : List PlainPiece) (xs : List Piece) → StandForPieces setting ps xs → answer_of_pieces xs ≡ answer_in setting ps
-  answers [] [] h = refl
-  answers [] (x ∷ xs) h = absurd h
-  answers (p ∷ ps) [] h = absurd (none_there setting p ps h)
-  answers (p ∷ []) (x ∷ []) h = one_answer p x h
-  answers (p ∷ []) (x ∷ y ∷ xs) h = absurd h
-  answers (p ∷ q ∷ ps) (x ∷ []) h = absurd h
-  answers (p ∷ q ∷ ps) (x ∷ y ∷ xs) h = refl
+  answers : (ps : List PlainPiece) (xs : List Piece) → StandForPieces setting ps (map unflagged_piece xs) → Each HasOneLayer ps → answer_of_pieces xs ≡ answer_in setting ps
+  answers [] [] h o = refl
+  answers [] (x ∷ xs) h o = absurd h
+  answers (p ∷ ps) [] h o = absurd (none_there setting p ps h)
+  answers (p ∷ []) (x ∷ []) h o = one_answer p (unflagged_piece x) h o.0
+  answers (p ∷ []) (x ∷ y ∷ xs) h o = absurd h
+  answers (p ∷ q ∷ ps) (x ∷ []) h o = absurd h
+  answers (p ∷ q ∷ ps) (x ∷ y ∷ xs) h o = refl
 
-  pub same_answer : (s : PlainRun) (x : RunState) → StandsForRun setting s x → end_of x ≡ answer_in setting s.pieces
-  same_answer s x h = answers s.pieces x.pieces h.pieces
+  pub same_answer : IsPrepared setting → (s : PlainRun) (x : RunState) → IsReached setting x → StandsForUnflagged setting s x → end_of x ≡ answer_in setting s.pieces
+  same_answer prepared s x r h = answers s.pieces x.pieces h.pieces (layered_there setting prepared s x r h)
 
   -- ---- the list of strands
 
@@ -91,11 +95,13 @@ module _ (setting : Setting) where
 
 -- ---- of runs that the steps lead to
 
-module _ (setting : Setting) (ready : IsReady setting.program setting.tables setting.memory) where
-  pub answers_elision : (s : PlainRun) (x : RunState) (a : Answer) → IsReached setting x → StandsForRun setting s x → answer_in setting s.pieces ≡ Some a → a ≡ from_scratch setting.program.tree setting.tables
-  answers_elision s x a r h e = paths_answer setting.program setting.tables setting.memory ready r.kits r.steps a (ap end_of r.is ∙ same_answer setting s x h ∙ e)
+module _ (setting : Setting) where
+  pub answers_elision : IsPrepared setting → (s : PlainRun) (x : RunState) (a : Answer) → IsReached setting x → StandsForUnflagged setting s x → answer_in setting s.pieces ≡ Some a → a ≡ from_scratch setting.program.tree setting.tables
+  answers_elision prepared s x a r h e =
+      paths_answer setting.program setting.tables setting.memory prepared.ready r.kits r.steps a (ap end_of r.is ∙ same_answer setting prepared s x r h ∙ e)
 
-  pub keeps_history : (s : PlainRun) (x : RunState) → IsReached setting x → StandsForRun setting s x → HistoryGives s
-  keeps_history s x r h =
+  pub keeps_history : IsReady setting.program setting.tables setting.memory → (s : PlainRun) (x : RunState) → IsReached setting x → StandsForUnflagged setting s x → HistoryGives s
+  keeps_history ready s x r h =
       let k = subst theorems.HistoryGives r.is (paths_history setting.program setting.tables setting.memory ready r.kits r.steps) in
-      (k.0, ap replayed (sym h.history) ∙ k.1, k.2 ∙ same_lines setting s.pieces x.pieces h.pieces)
+      let lines = lines_same setting.program setting.tables setting.memory x.pieces in
+      (k.0, ap replayed (sym h.history) ∙ k.1, k.2 ∙ sym lines ∙ same_lines setting s.pieces (map unflagged_piece x.pieces) h.pieces)

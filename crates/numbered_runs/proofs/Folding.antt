@@ -10,7 +10,7 @@ use Rattle.meaning.specs.LayeredStrand.{LayeredStrand}
 use Rattle.meaning.specs.Strands.{State, Held, Ended, Stalled, BookStep, Fold, done, waits}
 use Rattle.meaning.specs.Strands as strands
 use Rattle.meaning.specs.Tallies.{tallies_joined}
-use Rattle.meaning.specs.Schedules.{Piece, RunState, without_memo, joined_pair}
+use Rattle.meaning.specs.Schedules.{Piece, RunState, joined_pair}
 use Rattle.meaning.specs.Schedules as schedules
 use Rattle.positions.specs.Setting.{Setting}
 use Rattle.positions.specs.declared.phase.Phase.{Phase}
@@ -18,7 +18,8 @@ use Rattle.positions.specs.declared.phase.Phase.TheVariants as phase
 use Rattle.positions.specs.declared.start.Start.{Start}
 use Rattle.positions.specs.declared.start.Start.TheVariants.{Root, Behind}
 use Rattle.positions.specs.Activations.{PlainActivation}
-use Rattle.positions.specs.Strands.{PlainStrand}
+use Rattle.positions.specs.Strands.{PlainStrand, IsLayeredAt, IsLayered}
+use Rattle.positions.specs.Tallies as tallies
 use Rattle.positions.specs.Layers.{multiplied}
 use Rattle.positions.specs.Moves.{settled_by, joined, joined_at, joined_after, joined_ended}
 use Rattle.positions.specs.Stands.{StandsAt}
@@ -28,36 +29,46 @@ use Rattle.numbered_runs.specs.declared.refusal.Refusal.TheVariants.{NotThere}
 use Rattle.numbered_runs.specs.Pieces.{PlainPiece, place_of, may_join_at, may_fold, folded}
 use Rattle.numbered_runs.specs.Runs.{folded_if, folded_at}
 use Rattle.numbered_runs.specs.Stands.{with_worths, valued, IsLaidAs, StandsForPiece, StandFolding, StandForPieces}
+use Rattle.numbered_runs.proofs.Layered.{none_lower}
 use Rattle.numbered_runs.proofs.Agreeing.{piece_place, none_there, waiting_first, with_first, in_front, either_agrees, RunAgrees}
 
 -- a strand that waits isn't at a spawn
-waiting_point : (st : State) (ph : Phase) → waits st ≡ true → IsLaidAs st ph → IsNotAtSpawn ph
-waiting_point (Held w) phase.AtSpawn e l = absurd cc
-waiting_point Ended phase.AtSpawn e l = absurd l
-waiting_point Stalled phase.AtSpawn e l = absurd l
-waiting_point strands.Faulted phase.AtSpawn e l = absurd l
-waiting_point strands.Finished phase.AtSpawn e l = absurd l
-waiting_point st phase.Entering e l = tt
-waiting_point st phase.Running e l = tt
-waiting_point st (phase.Returning v) e l = tt
-waiting_point st (phase.Leaving v) e l = tt
-waiting_point st (phase.Broken f) e l = tt
+waiting_point : (st : State) (ph : Phase) (s : PlainStrand) → waits st ≡ true → IsLaidAs st ph s → IsNotAtSpawn ph
+waiting_point (Held w) phase.AtSpawn s e l = absurd cc
+waiting_point Ended phase.AtSpawn s e l = absurd l
+waiting_point Stalled phase.AtSpawn s e l = absurd l
+waiting_point strands.Faulted phase.AtSpawn s e l = absurd l
+waiting_point strands.Finished phase.AtSpawn s e l = absurd l
+waiting_point st phase.Entering s e l = tt
+waiting_point st phase.Running s e l = tt
+waiting_point st (phase.Returning v) s e l = tt
+waiting_point st (phase.Leaving v) s e l = tt
+waiting_point st (phase.Broken f) s e l = tt
 
-after_lower : (ph : Phase) (l r : PlainStrand) (v : ℤ) → (joined_after ph l v r).lower ≡ l.lower
-after_lower phase.Entering l r v = refl
-after_lower phase.Running l r v = refl
-after_lower phase.AtSpawn l r v = refl
-after_lower (phase.Returning u) l r v = refl
-after_lower (phase.Leaving u) l r v = refl
-after_lower (phase.Broken f) l r v = refl
+-- the left strand's layers stay, and only it has open ones
+layered_any : (ph : Phase) (s : PlainStrand) → length s.tally.opened ≡ length s.lower → IsLayeredAt ph s
+layered_any phase.Entering s h = h
+layered_any phase.Running s h = h
+layered_any phase.AtSpawn s h = h
+layered_any (phase.Returning u) s h = h
+layered_any (phase.Leaving u) s h = h
+layered_any (phase.Broken f) s h = tt
 
-joined_lower : (ph : Phase) (l r : PlainStrand) → (joined_at ph l r).lower ≡ l.lower
-joined_lower phase.Entering l r = refl
-joined_lower phase.Running l r = refl
-joined_lower phase.AtSpawn l r = refl
-joined_lower (phase.Returning u) l r = refl
-joined_lower (phase.Leaving u) l r = after_lower r.phase l r u
-joined_lower (phase.Broken f) l r = refl
+after_layered : (ph : Phase) (l r : PlainStrand) (v : ℤ) → length l.tally.opened ≡ length l.lower → IsLayered (joined_after ph l v r)
+after_layered phase.Entering l r v h = layered_any _ (joined_ended l v r) h
+after_layered phase.Running l r v h = layered_any _ (joined_ended l v r) h
+after_layered phase.AtSpawn l r v h = layered_any _ (joined_ended l v r) h
+after_layered (phase.Returning u) l r v h = layered_any _ (joined_ended l v r) h
+after_layered (phase.Leaving u) l r v h = layered_any _ (joined_ended l v r) h
+after_layered (phase.Broken f) l r v h = tt
+
+joined_layered : (ph : Phase) (l r : PlainStrand) → IsLayeredAt ph l → IsLayered l → IsLayered (joined_at ph l r)
+joined_layered phase.Entering l r h k = k
+joined_layered phase.Running l r h k = k
+joined_layered phase.AtSpawn l r h k = k
+joined_layered (phase.Returning u) l r h k = k
+joined_layered (phase.Leaving u) l r h k = after_layered r.phase l r u h
+joined_layered (phase.Broken f) l r h k = tt
 
 left_true : (a b : Bool) → a && b ≡ true → a ≡ true
 left_true true b e = refl
@@ -104,19 +115,26 @@ module _ (setting : Setting) where
     from_folded x y p true None e = absurd cc
     from_folded x y p false o e = absurd cc
 
+    -- the definitions fold the two, of which the right one has one layer
+    pub record Foldable (x y : Piece) : Type 0 where
+      pub whole : Piece
+      pub is : schedules.folded setting.program setting.tables setting.memory w x y ≡ Some whole
+      pub one_layer : length y.strand.layers ≡ 1
+
     -- what the definitions' fold gives is stood for
     record Folds (l r : PlainPiece) (p : Piece) : Type 0 where
       pub may : may_join_at l.strand.phase l r ≡ true
       pub one : StandsForPiece setting (folded w l r) p
 
-    folds_exact : (l r : PlainPiece) (x y p : Piece) → StandsForPiece setting l x → StandsForPiece setting r y → waits r.state ≡ true → schedules.folded setting.program setting.tables setting.memory w x y ≡ Some p → Folds l r p
-    folds_exact l r x y p hl hr wt e =
+    folds_exact : (l r : PlainPiece) (x y p : Piece) → StandsForPiece setting l x → StandsForPiece setting r y → waits r.state ≡ true → length y.strand.layers ≡ 1 → schedules.folded setting.program setting.tables setting.memory w x y ≡ Some p → Folds l r p
+    folds_exact l r x y p hl hr wt one e =
         let f = from_folded x y p (schedules.may_fold setting.program setting.tables setting.memory x.state y.state) (pair_of x.strand x.strand.phase y.strand y.strand.phase) e in
         record {
           may = joins_by l r x y f.0 l.strand.phase l.strand.below hl.strand.now (piece_place setting r y hr) f.1;
           one = subst (StandsForPiece setting (folded w l r)) f.2 (record {
-            strand = joined_is setting l.strand r.strand x.strand y.strand f.0 (waiting_point r.state r.strand.phase wt hr.laid) hr.one_layer hl.strand hr.strand f.1;
-            one_layer = joined_lower l.strand.phase l.strand r.strand ∙ hl.one_layer;
+            strand = joined_is setting l.strand r.strand x.strand y.strand f.0 x.tally y.tally (waiting_point r.state r.strand.phase r.strand wt hr.laid)
+                (none_lower setting r.strand.layer r.strand.lower y.strand.layers hr.strand.layers one) hl.strand hr.strand f.1;
+            layered = joined_layered l.strand.phase l.strand r.strand hl.layered hl.layered;
             tasks = tt;
             state = refl;
             laid = tt;
@@ -135,7 +153,7 @@ module _ (setting : Setting) where
 
     module _ (l r : PlainStrand) (us vs : List Worth) (product : operate_all l.layer.kinds l.layer.worths r.layer.worths ≡ operate_all l.layer.kinds us vs) (v : ℤ) where
       abbrev put : List Worth → PlainStrand → PlainStrand
-      put ws s = record s { start = l.start; layer = record (multiplied l.layer r.layer) { worths = ws }; lower = l.lower }
+      put ws s = record s { start = l.start; layer = record (multiplied l.layer r.layer) { worths = ws }; lower = l.lower; tally = tallies.tallies_joined l.tally r.tally }
 
       put_if : (ws : List Worth) (b : Bool) (a a' c c' : PlainStrand) → put ws a ≡ put ws a' → put ws c ≡ put ws c' → put ws (if b then a else c) ≡ put ws (if b then a' else c')
       put_if ws true a a' c c' h k = h
@@ -148,27 +166,28 @@ module _ (setting : Setting) where
       ended_same : joined_ended (with_worths us l) v (with_worths vs r) ≡ joined_ended l v r
       ended_same = put_settled (operate_all l.layer.kinds us vs) r.start ∙ ap (λ ws. put ws (settled_by r.start v r)) (sym product)
 
-      after_same : (ph : Phase) → IsLaidAs Stalled ph → joined_after ph (with_worths us l) v (with_worths vs r) ≡ joined_after ph l v r
-      after_same phase.Running h = ended_same
-      after_same (phase.Returning u) h = ended_same
-      after_same phase.Entering h = absurd h
-      after_same phase.AtSpawn h = absurd h
-      after_same (phase.Leaving u) h = absurd h
-      after_same (phase.Broken f) h = absurd h
+      after_same : (ph : Phase) (s : PlainStrand) → IsLaidAs Stalled ph s → joined_after ph (with_worths us l) v (with_worths vs r) ≡ joined_after ph l v r
+      after_same phase.Running s h = ended_same
+      after_same (phase.Returning u) s h = ended_same
+      after_same phase.Entering s h = absurd h
+      after_same phase.AtSpawn s h = absurd h
+      after_same (phase.Leaving u) s h = absurd h
+      after_same (phase.Broken f) s h = absurd h
 
-    at_same : (ph : Phase) (l r : PlainStrand) (us vs : List Worth) → operate_all l.layer.kinds l.layer.worths r.layer.worths ≡ operate_all l.layer.kinds us vs → IsLaidAs Ended ph → IsLaidAs Stalled r.phase → joined_at ph (with_worths us l) (with_worths vs r) ≡ joined_at ph l r
-    at_same (phase.Leaving v) l r us vs e h k = after_same l r us vs e v r.phase k
-    at_same phase.Entering l r us vs e h k = absurd h
-    at_same phase.Running l r us vs e h k = absurd h
-    at_same phase.AtSpawn l r us vs e h k = absurd h
-    at_same (phase.Returning u) l r us vs e h k = absurd h
-    at_same (phase.Broken f) l r us vs e h k = absurd h
+    at_same : (ph : Phase) (l r a b : PlainStrand) (us vs : List Worth) → operate_all l.layer.kinds l.layer.worths r.layer.worths ≡ operate_all l.layer.kinds us vs → IsLaidAs Ended ph a → IsLaidAs Stalled r.phase b → joined_at ph (with_worths us l) (with_worths vs r) ≡ joined_at ph l r
+    at_same (phase.Leaving v) l r a b us vs e h k = after_same l r us vs e v r.phase b k
+    at_same phase.Entering l r a b us vs e h k = absurd h
+    at_same phase.Running l r a b us vs e h k = absurd h
+    at_same phase.AtSpawn l r a b us vs e h k = absurd h
+    at_same (phase.Returning u) l r a b us vs e h k = absurd h
+    at_same (phase.Broken f) l r a b us vs e h k = absurd h
 
-    folds_pair : (l r : PlainPiece) (x y p : Piece) → StandFolding setting l r x y → schedules.folded setting.program setting.tables setting.memory w x y ≡ Some p → Folds l r p
-    folds_pair l r x y p h e =
-        let f = folds_exact (valued h.to_left l) (valued h.to_right r) x y p h.left h.right (ap waits h.stalled) e in
+    folds_pair : (l r : PlainPiece) (x y p : Piece) → StandFolding setting l r x y → length y.strand.layers ≡ 1 → schedules.folded setting.program setting.tables setting.memory w x y ≡ Some p → Folds l r p
+    folds_pair l r x y p h one e =
+        let f = folds_exact (valued h.to_left l) (valued h.to_right r) x y p h.left h.right (ap waits h.stalled) one e in
         let same : joined (with_worths h.to_left l.strand) (with_worths h.to_right r.strand) ≡ joined l.strand r.strand =
-        at_same l.strand.phase l.strand r.strand h.to_left h.to_right h.product (subst (λ st. IsLaidAs st l.strand.phase) h.ended h.left.laid) (subst (λ st. IsLaidAs st r.strand.phase) h.stalled h.right.laid) in
+        at_same l.strand.phase l.strand r.strand _ _ h.to_left h.to_right h.product (subst (λ st. IsLaidAs st l.strand.phase (with_worths h.to_left l.strand)) h.ended h.left.laid)
+        (subst (λ st. IsLaidAs st r.strand.phase (with_worths h.to_right r.strand)) h.stalled h.right.laid) in
         record {
           may = sym (may_valued l.strand.phase l r h.to_left h.to_right) ∙ f.may;
           one = subst (λ s. StandsForPiece setting (record { strand = s; deque = []; state = Held w }) p) same f.one;
@@ -225,7 +244,7 @@ module _ (setting : Setting) where
           }))
 
       module _ (q : Place) (all : List Piece)
-          (joins : (us xs : List Piece) (x y : Piece) → all ≡ us ++ x ∷ y ∷ xs → done x.state ≡ true → waits y.state ≡ true → (p : Piece) × (schedules.folded setting.program setting.tables setting.memory w x y ≡ Some p)) where
+          (joins : (us xs : List Piece) (x y : Piece) → all ≡ us ++ x ∷ y ∷ xs → done x.state ≡ true → waits y.state ≡ true → Foldable x y) where
         -- the left one has its own values
         fold_at : (l r : PlainPiece) (x y : Piece) (before later : List PlainPiece) (us xs : List Piece) → StandForPieces setting before us → StandsForPiece setting l x → StandForPieces setting (r ∷ later) (y ∷ xs) → all ≡ us ++ x ∷ y ∷ xs
             → (m : Bool) → done l.state && waits r.state ≡ m → FoldAgrees l r x y before later us xs
@@ -234,7 +253,7 @@ module _ (setting : Setting) where
             let both = both_are (done l.state) (waits r.state) e in
             let k = waiting_first setting r later y xs both.1 hr in
             let j = joins us xs x y a (ap done hl.state ∙ both.0) (ap waits k.0.state ∙ both.1) in
-            fold_taken l r x y j.0 before later us xs (piece_place setting l x hl) (piece_place setting r y k.0) both.0 both.1 hb k.1 j.1 (folds_exact l r x y j.0 hl k.0 both.1 j.1)
+            fold_taken l r x y j.whole before later us xs (piece_place setting l x hl) (piece_place setting r y k.0) both.0 both.1 hb k.1 j.is (folds_exact l r x y j.whole hl k.0 both.1 j.one_layer j.is)
 
         pub folded_agrees : (before ps : List PlainPiece) (us xs : List Piece) → StandForPieces setting before us → StandForPieces setting ps xs → all ≡ us ++ xs
             → RunAgrees setting (folded_at w q kits before ps history) (schedules.folded_at setting.program setting.tables setting.memory w q kits' us xs history')
@@ -251,7 +270,7 @@ module _ (setting : Setting) where
         folded_agrees before (l ∷ r ∷ ps) us (x ∷ y ∷ xs) hb (inr h) a =
             either_agrees setting (same_name (place_of r) q) (same_name (schedules.place_of y) q) _ _ _ _ (ap (λ n. same_name n q) (piece_place setting (valued h.0.to_right r) y h.0.right))
             (λ b. let j = joins us xs x y a (ap done (h.0.left.state ∙ h.0.ended)) (ap waits (h.0.right.state ∙ h.0.stalled)) in
-            fold_taken l r x y j.0 before ps us xs (piece_place setting (valued h.0.to_left l) x h.0.left) (piece_place setting (valued h.0.to_right r) y h.0.right) (ap done h.0.ended) (ap waits h.0.stalled) hb h.1 j.1 (folds_pair l r x y j.0 h.0 j.1))
+            fold_taken l r x y j.whole before ps us xs (piece_place setting (valued h.0.to_left l) x h.0.left) (piece_place setting (valued h.0.to_right r) y h.0.right) (ap done h.0.ended) (ap waits h.0.stalled) hb h.1 j.is (folds_pair l r x y j.whole h.0 j.one_layer j.is))
             (past ps xs h.1 a (λ e. folded_agrees ((before ++ l ∷ []) ++ r ∷ []) ps ((us ++ x ∷ []) ++ y ∷ []) xs
             (subst (λ bs. StandForPieces setting bs ((us ++ x ∷ []) ++ y ∷ [])) (sym (append_assoc before (l ∷ []) (r ∷ [])))
             (subst (λ zs. StandForPieces setting (before ++ l ∷ r ∷ []) zs) (sym (append_assoc us (x ∷ []) (y ∷ [])))

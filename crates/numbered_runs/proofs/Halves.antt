@@ -7,6 +7,7 @@ use Rattle.meaning.specs.Schedules.{Piece, RunState}
 use Rattle.positions.specs.Setting.{Setting}
 use Rattle.positions.specs.declared.phase.Phase.{Phase}
 use Rattle.positions.specs.declared.phase.Phase.TheVariants as phase
+use Rattle.positions.specs.Strands.{PlainStrand}
 use Rattle.positions.specs.Moves.{FoldsViews}
 use Rattle.numbered_runs.specs.Pieces.{PlainPiece, may_join_at, may_fold}
 use Rattle.numbered_runs.specs.Runs.{PlainRun}
@@ -20,17 +21,17 @@ first_two true false c e = absurd cc
 first_two false b c e = absurd cc
 
 -- where views are folded the left one has no fault
-left_ended : (st : State) (ph qh : Phase) → done st ≡ true → IsLaidAs st ph → FoldsViews ph qh → st ≡ Ended
-left_ended Ended ph qh d l f = refl
-left_ended (Held w) ph qh d l f = absurd cc
-left_ended Stalled ph qh d l f = absurd cc
-left_ended strands.Finished ph qh d l f = absurd cc
-left_ended strands.Faulted phase.Entering qh d l f = absurd l
-left_ended strands.Faulted phase.Running qh d l f = absurd l
-left_ended strands.Faulted phase.AtSpawn qh d l f = absurd l
-left_ended strands.Faulted (phase.Returning v) qh d l f = absurd l
-left_ended strands.Faulted (phase.Leaving v) qh d l f = absurd l
-left_ended strands.Faulted (phase.Broken k) qh d l f = absurd f
+left_ended : (st : State) (ph qh : Phase) (s : PlainStrand) → done st ≡ true → IsLaidAs st ph s → FoldsViews ph qh → st ≡ Ended
+left_ended Ended ph qh s d l f = refl
+left_ended (Held w) ph qh s d l f = absurd cc
+left_ended Stalled ph qh s d l f = absurd cc
+left_ended strands.Finished ph qh s d l f = absurd cc
+left_ended strands.Faulted phase.Entering qh s d l f = absurd l
+left_ended strands.Faulted phase.Running qh s d l f = absurd l
+left_ended strands.Faulted phase.AtSpawn qh s d l f = absurd l
+left_ended strands.Faulted (phase.Returning v) qh s d l f = absurd l
+left_ended strands.Faulted (phase.Leaving v) qh s d l f = absurd l
+left_ended strands.Faulted (phase.Broken k) qh s d l f = absurd f
 
 no_views : (ph : Phase) (k : _) → FoldsViews ph (phase.Broken k) → ⊥
 no_views phase.Entering k f = f
@@ -41,17 +42,17 @@ no_views (phase.Leaving v) k f = f
 no_views (phase.Broken j) k f = f
 
 -- nor has the right one
-right_stalled : (st : State) (ph qh : Phase) → waits st ≡ true → IsLaidAs st qh → FoldsViews ph qh → st ≡ Stalled
-right_stalled Stalled ph qh w l f = refl
-right_stalled (Held v) ph qh w l f = absurd cc
-right_stalled Ended ph qh w l f = absurd cc
-right_stalled strands.Finished ph qh w l f = absurd cc
-right_stalled strands.Faulted ph phase.Entering w l f = absurd l
-right_stalled strands.Faulted ph phase.Running w l f = absurd l
-right_stalled strands.Faulted ph phase.AtSpawn w l f = absurd l
-right_stalled strands.Faulted ph (phase.Returning v) w l f = absurd l
-right_stalled strands.Faulted ph (phase.Leaving v) w l f = absurd l
-right_stalled strands.Faulted ph (phase.Broken k) w l f = absurd (no_views ph k f)
+right_stalled : (st : State) (ph qh : Phase) (s : PlainStrand) → waits st ≡ true → IsLaidAs st qh s → FoldsViews ph qh → st ≡ Stalled
+right_stalled Stalled ph qh s w l f = refl
+right_stalled (Held v) ph qh s w l f = absurd cc
+right_stalled Ended ph qh s w l f = absurd cc
+right_stalled strands.Finished ph qh s w l f = absurd cc
+right_stalled strands.Faulted ph phase.Entering s w l f = absurd l
+right_stalled strands.Faulted ph phase.Running s w l f = absurd l
+right_stalled strands.Faulted ph phase.AtSpawn s w l f = absurd l
+right_stalled strands.Faulted ph (phase.Returning v) s w l f = absurd l
+right_stalled strands.Faulted ph (phase.Leaving v) s w l f = absurd l
+right_stalled strands.Faulted ph (phase.Broken k) s w l f = absurd (no_views ph k f)
 
 module _ (setting : Setting) where
   module _ (l r m n : PlainPiece) (may : may_fold l r ≡ true) (views : FoldsViews l.strand.phase r.strand.phase) (h : IsHalfFolded l r m n) where
@@ -64,8 +65,8 @@ module _ (setting : Setting) where
     -- two that stood each for itself
     first_time : (x y : Piece) → StandsForPiece setting l x → StandsForPiece setting r y → StandFolding setting m n x y
     first_time x y hl hr = record {
-      ended = ap (λ p. p.state) h.left ∙ left_ended l.state l.strand.phase r.strand.phase both.0 hl.laid views;
-      stalled = ap (λ p. p.state) h.right ∙ right_stalled r.state l.strand.phase r.strand.phase both.1 hr.laid views;
+      ended = ap (λ p. p.state) h.left ∙ left_ended l.state l.strand.phase r.strand.phase l.strand both.0 hl.laid views;
+      stalled = ap (λ p. p.state) h.right ∙ right_stalled r.state l.strand.phase r.strand.phase r.strand both.1 hr.laid views;
       to_left = l.strand.layer.worths;
       to_right = r.strand.layer.worths;
       left = subst (λ p. StandsForPiece setting (valued l.strand.layer.worths p) x) (sym h.left) hl;

@@ -1,5 +1,7 @@
 pub mod Agreeing
+pub mod Made
 pub mod Small
+pub mod Layered
 pub mod Deques
 pub mod Laying
 pub mod Folding
@@ -8,3 +10,5 @@ pub mod Halves
 pub mod Ends
 pub mod Workers
 pub mod Progress
+pub mod News
+pub mod Nexts

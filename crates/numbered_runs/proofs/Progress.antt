@@ -1,15 +1,17 @@
 -- Where the definitions have a step, a run of numbers has it.
-use Rattle.std.proofs.Common.{◌≡◌, ◌⊎◌, inl, inr, ℕ, ◌<◌, Bool, true, false, not, ◌&&◌, List, [], ◌∷◌, Some, None, Result, Ok, Err, refl, sym, ◌∙◌, ap, subst, lt-ltb, eqb-true}
+use Rattle.std.proofs.Common.{◌≡◌, ◌⊎◌, inl, inr, ℕ, ◌<◌, Bool, true, false, not, ◌&&◌, List, [], ◌∷◌, map, Some, None, Result, Ok, Err, refl, sym, ◌∙◌, ap, subst, lt-ltb, eqb-true}
 use Rattle.meaning.specs.Strands.{State, Held, Ended, Stalled, holds_by}
 use Rattle.meaning.specs.Strands as strands
 use Rattle.meaning.specs.Schedules.{RunState, RunStep, fold}
 use Rattle.run_theory.specs.Progress.{IsOwnStep, HasEnded, IsTaken, SomeHolderGoesOn, Folds}
+use Rattle.run_theory.specs.UnflaggedRuns.{unflagged_piece}
 use Rattle.run_theory.proofs.Progress.{some_step_is_there}
+use Rattle.run_theory.proofs.UnflaggedRuns.{idle_same}
 use Rattle.positions.specs.Setting.{Setting}
 use Rattle.numbered_runs.specs.declared.refusal.Refusal.{Refusal}
 use Rattle.numbered_runs.specs.Pieces.{PlainPiece}
 use Rattle.numbered_runs.specs.Runs.{PlainRun, is_idle, stepped, are_workers}
-use Rattle.numbered_runs.specs.Stands.{StandsForRun}
+use Rattle.numbered_runs.specs.Stands.{StandsForUnflagged}
 use Rattle.numbered_runs.specs.Simulation.{IsPrepared, IsReached}
 use Rattle.numbered_runs.specs.Progress.{IsByWorker, AreByWorkers, HasAnswer, HasStep}
 use Rattle.numbered_runs.proofs.Steps.{idle_is, refusals_agree}
@@ -39,7 +41,7 @@ own_by n v e l (inr (inr (inl q))) = ap (are_workers n) q ∙ lt-ltb v n l
 own_by n v e l (inr (inr (inr q))) = ap (are_workers n) q ∙ lt-ltb v n l
 
 module _ (setting : Setting) (prepared : IsPrepared setting) where
-  module _ (n : ℕ) (some : 0 < n) (s : PlainRun) (x : RunState) (r : IsReached setting x) (h : StandsForRun setting s x) (by_workers : AreByWorkers n s.pieces) where
+  module _ (n : ℕ) (some : 0 < n) (s : PlainRun) (x : RunState) (r : IsReached setting x) (h : StandsForUnflagged setting s x) (by_workers : AreByWorkers n s.pieces) where
     taken_by : (e : RunStep) → are_workers n e ≡ true → IsTaken setting.program setting.tables setting.memory x e → (o : Result PlainRun Refusal) → stepped setting s e ≡ o → HasStep setting n s
     taken_by e a t (Ok next) is = record { step = e; workers = a; next = next; taken = is }
     taken_by e a t (Err f) is =
@@ -51,9 +53,10 @@ module _ (setting : Setting) (prepared : IsPrepared setting) where
     takes e a t = taken_by e a t (stepped setting s e) refl
 
     goes : HasEnded x ⊎ SomeHolderGoesOn setting.program setting.tables setting.memory x ⊎ Folds setting.program setting.tables setting.memory 0 x → HasAnswer setting s ⊎ HasStep setting n s
-    goes (inl a) = inl (a.0, sym (same_answer setting s x h) ∙ a.1)
+    goes (inl a) = inl (a.0, sym (same_answer setting prepared s x r h) ∙ a.1)
     goes (inr (inl g)) =
-        let busy : is_idle g.0 s.pieces ≡ false = sym (idle_is setting g.0 s.pieces x.pieces h.pieces) ∙ g.1 in
+        let same = idle_same setting.program setting.tables setting.memory g.0 x.pieces in
+        let busy : is_idle g.0 s.pieces ≡ false = sym (idle_is setting g.0 s.pieces (map unflagged_piece x.pieces) h.pieces) ∙ same ∙ g.1 in
         inr (takes g.2.step (own_by n g.0 g.2.step (busy_is n g.0 s.pieces by_workers busy) g.2.own) g.2.taken)
     goes (inr (inr f)) = inr (takes (fold 0 f.place) (lt-ltb 0 n some) f.taken)
 

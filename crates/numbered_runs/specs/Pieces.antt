@@ -1,5 +1,5 @@
 -- The steps of a strand with its deque, by numbers.
-use Rattle.std.specs.Prelude.{ℕ, zero, suc, ◌+◌, ℤ, Bool, true, false, ◌&&◌, List, [], ◌∷◌, ◌++◌, length, Option, Some, None, Result, Ok, Err}
+use Rattle.std.specs.Prelude.{ℕ, zero, suc, ◌+◌, nat_lt, ℤ, Bool, true, false, ◌&&◌, List, [], ◌∷◌, ◌++◌, length, Option, Some, None, Result, Ok, Err}
 use Rattle.meaning.specs.Outcome.{Place}
 use Rattle.meaning.specs.SmallStep.{same_name}
 use Rattle.meaning.specs.Strands.{State, Held, Ended, Stalled, BookStep, Split, End, Stall, Finish}
@@ -11,7 +11,7 @@ use Rattle.positions.specs.declared.phase.Paused.{Paused}
 use Rattle.positions.specs.declared.phase.Paused.TheVariants as paused
 use Rattle.positions.specs.Activations.{PlainActivation}
 use Rattle.positions.specs.Strands.{PlainStrand, PlainTask}
-use Rattle.positions.specs.Advance.{advanced, pause_of}
+use Rattle.positions.specs.Advance.{advanced, pause_of, kits_then}
 use Rattle.positions.specs.Moves.{detached, inlined as inlined_strand, returned_of, resumed, stolen as stolen_strand, joined, lowest_alone}
 use Rattle.positions.specs.Simulation.{place_of as place_behind}
 use Rattle.numbered_runs.specs.declared.refusal.Refusal.{Refusal}
@@ -39,11 +39,19 @@ pub record Change : Type 0 where
 abbrev pub alone : ℕ → PlainPiece → Result Change Refusal
 alone kits p = Ok (record { pieces = p ∷ []; kits = kits; noted = [] })
 
+-- the strand after a small step; the kits of the layers that it opened or closed are taken or given back
+abbrev pub worked_to : PlainStrand → ℕ → PlainPiece → Result Change Refusal
+worked_to s kits p = alone (kits_then p.strand.lower s.lower kits) (record p { strand = s })
+
 -- ---- push, inline, pop
 
 abbrev pub pushed_over : List PlainActivation → ℕ → PlainPiece → Result Change Refusal
 pushed_over [] kits p = Err NotThere
-pushed_over (parent ∷ below) kits p = alone kits (record p { strand = detached p.strand; deque = record { place = p.strand.path; top = parent; below = below } ∷ p.deque })
+pushed_over (parent ∷ below) kits p =
+    alone kits (record p {
+      strand = detached p.strand;
+      deque = record { place = p.strand.path; top = parent; below = below } ∷ p.deque;
+    })
 
 abbrev pub pushed_at : Phase → ℕ → PlainPiece → Result Change Refusal
 pushed_at AtSpawn kits p = pushed_over p.strand.below kits p
@@ -63,7 +71,8 @@ inlined kits p = inlined_at p.strand.phase kits p
 
 abbrev pub popped_of : List PlainTask → ℕ → PlainPiece → Result Change Refusal
 popped_of [] kits p = Err Nothing
-popped_of (task ∷ tasks) kits p = alone kits (record p { strand = resumed task p.strand; deque = tasks })
+popped_of (task ∷ tasks) kits p =
+    alone kits (record p { strand = resumed task p.strand; deque = tasks })
 
 abbrev pub popped_by : Option ℤ → ℕ → PlainPiece → Result Change Refusal
 popped_by None kits p = Err NotThere
@@ -76,11 +85,17 @@ popped kits p = popped_by (returned_of p.strand) kits p
 -- ---- laying down
 
 abbrev pub laid : ℕ → PlainPiece → PlainStrand → State → (Place → BookStep) → Result Change Refusal
-laid kits p s state step = Ok (record { pieces = record { strand = s; deque = []; state = state } ∷ []; kits = kits; noted = step (place_of p) ∷ [] })
+laid kits p s state step =
+    Ok (record {
+      pieces = record { strand = s; deque = []; state = state } ∷ [];
+      kits = kits;
+      noted = step (place_of p) ∷ [];
+    })
 
 -- a strand is laid down where its holder has nothing to do with it; a faulted one gives up its deque and keeps its lowest layer alone
 abbrev pub stalled_at : Paused → List PlainTask → ℕ → PlainPiece → Result Change Refusal
-stalled_at paused.Faulted ks kits p = laid (kits + length p.strand.lower) p (lowest_alone p.strand) strands.Faulted strands.Fault
+stalled_at paused.Faulted ks kits p =
+    laid (kits + length p.strand.lower) p (lowest_alone p.strand) strands.Faulted strands.Fault
 stalled_at paused.AtSync [] kits p = laid kits p p.strand Stalled Stall
 stalled_at paused.Returned [] kits p = laid kits p p.strand Ended End
 stalled_at paused.Finished [] kits p = laid kits p p.strand strands.Finished Finish
@@ -110,7 +125,7 @@ folded w l r = record { strand = joined l.strand r.strand; deque = []; state = H
 
 module _ (setting : Setting) where
   abbrev pub worked_at : Paused → ℕ → PlainPiece → Result Change Refusal
-  worked_at paused.Working kits p = alone kits (record p { strand = advanced setting p.strand })
+  worked_at paused.Working kits p = worked_to (advanced setting (nat_lt 0 kits) p.strand) kits p
   worked_at _ kits p = Err NotThere
 
   -- one small step
@@ -120,11 +135,19 @@ module _ (setting : Setting) where
   abbrev pub stalled : ℕ → PlainPiece → Result Change Refusal
   stalled kits p = stalled_at (pause_of setting.codes p.strand) p.deque kits p
 
+  -- the strand of a continuation, held by the thief
+  abbrev pub begun_by : ℕ → PlainTask → PlainPiece
+  begun_by thief task = record {
+    strand = stolen_strand setting.codes setting.kinds task;
+    deque = [];
+    state = Held thief;
+  }
+
   -- a thief's strand stands directly after its victim's
   abbrev pub robbed : ℕ → ℕ → PlainPiece → List PlainTask × PlainTask → Result Change Refusal
   robbed thief kits p taken =
       Ok (record {
-        pieces = record p { deque = taken.0 } ∷ record { strand = stolen_strand setting.codes setting.kinds taken.1; deque = []; state = Held thief } ∷ [];
+        pieces = record p { deque = taken.0 } ∷ begun_by thief taken.1 ∷ [];
         kits = kits;
         noted = Split (place_of p) taken.1.place thief ∷ [];
       })
