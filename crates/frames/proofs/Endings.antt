@@ -1,17 +1,19 @@
 -- The answer of a strand is that of what it stands for.
-use Rattle.std.proofs.Common.{◌≡◌, List, [], ◌∷◌, refl, sym, ◌∙◌, ap, subst}
+use Rattle.std.proofs.Common.{◌≡◌, ℤ, List, [], ◌∷◌, refl, sym, ◌∙◌, ap, subst}
 use Rattle.monoid_laws.specs.Worth.{Worth}
-use Rattle.meaning.specs.Outcome.{Place}
+use Rattle.meaning.specs.Outcome.{Place, Fault as NamedFault}
 use Rattle.meaning.specs.SmallStep.{entering, running, spawning, returning, leaving, broken, Parent}
 use Rattle.meaning.specs.Layers.{Notes, bottom}
+use Rattle.meaning.specs.Tallies.{Tally}
 use Rattle.meaning.specs.LayeredStrand.{LayeredStrand}
 use Rattle.positions.specs.declared.phase.Phase.{Phase}
 use Rattle.positions.specs.declared.phase.Phase.TheVariants as phase
 use Rattle.positions.specs.Setting.{Setting}
 use Rattle.positions.specs.Activations.{PlainActivation}
 use Rattle.positions.specs.Layers.{PlainLayer, lowest}
+use Rattle.positions.specs.Tallies.{PlainTally}
 use Rattle.positions.specs.Strands.{PlainStrand}
-use Rattle.positions.specs.Stands.{AreNotes, AreParents, StandsAt, named_fault}
+use Rattle.positions.specs.Stands.{AreNotes, IsTally, AreParents, StandsAt, named_fault}
 use Rattle.frames.specs.declared.answer.RunAnswer.{RunAnswer}
 use Rattle.frames.specs.declared.answer.RunAnswer.TheVariants as answer
 use Rattle.frames.specs.Answers.{Ending, over, stopped, underway, ending_at, ending_of, IsAnswer, HasLeft, Answers, IsAnswerOf}
@@ -21,7 +23,7 @@ module _ (setting : Setting) where
   abbrev EndsAs : Ending → LayeredStrand → Type 0
   EndsAs (over v) x = HasLeft setting x v
   EndsAs (stopped f) x = x.phase ≡ broken (named_fault setting f)
-  EndsAs underway x = Answers setting answer.Unfinished x
+  EndsAs underway x = ((k : NamedFault) → x.phase ≡ broken k → ⊥) × ((v : ℤ) → HasLeft setting x v → ⊥)
 
   none_under : (path : Place) (under : List Parent) → AreParents setting path [] under → under ≡ []
   none_under path [] h = refl
@@ -52,19 +54,20 @@ module _ (setting : Setting) where
   lowest_worths l (k ∷ lower) (n ∷ []) h = absurd h.1
   lowest_worths l (k ∷ lower) (n ∷ m ∷ ns) h = lowest_worths k lower (m ∷ ns) h.1
 
-  answers_by : (e : Ending) (a : RunAnswer) (x : LayeredStrand) (worths : List Worth) → EndsAs e x → worths ≡ bottom x.layers → IsAnswer e worths a → Answers setting a x
-  answers_by (over v) (answer.Finished w values) x worths h e a = ((h.0 ∙ ap leaving (sym a.0), h.1, h.2), a.1 ∙ e)
-  answers_by (over v) answer.NoMemory x worths h e a = tt
-  answers_by (over v) (answer.Fault f) x worths h e a = absurd a
-  answers_by (over v) answer.Unfinished x worths h e a = absurd a
-  answers_by (stopped f) (answer.Fault k) x worths h e a = h ∙ ap (λ d. broken (named_fault setting d)) (sym a)
-  answers_by (stopped f) (answer.Finished w values) x worths h e a = absurd a
-  answers_by (stopped f) answer.NoMemory x worths h e a = absurd a
-  answers_by (stopped f) answer.Unfinished x worths h e a = absurd a
-  answers_by underway answer.Unfinished x worths h e a = h
-  answers_by underway (answer.Finished w values) x worths h e a = absurd a
-  answers_by underway (answer.Fault k) x worths h e a = absurd a
-  answers_by underway answer.NoMemory x worths h e a = absurd a
+  answers_by : (e : Ending) (a : RunAnswer) (x : LayeredStrand) (t : Tally) (worths : List Worth) (tally : PlainTally) → EndsAs e x → worths ≡ bottom x.layers → IsTally setting tally t → IsAnswer e worths tally a → Answers setting a x t
+  answers_by (over v) (answer.Finished w values n m k) x t worths tally h e i a =
+      ((h.0 ∙ ap leaving (sym a.0), h.1, h.2), a.1 ∙ e, a.2.executed_is ∙ sym i.executed, a.2.reused_is ∙ sym i.reused, a.2.unrecorded_is ∙ sym i.unrecorded)
+  answers_by (over v) answer.NoMemory x t worths tally h e i a = tt
+  answers_by (over v) (answer.Fault f) x t worths tally h e i a = absurd a
+  answers_by (over v) answer.Unfinished x t worths tally h e i a = absurd a
+  answers_by (stopped f) (answer.Fault k) x t worths tally h e i a = h ∙ ap (λ d. broken (named_fault setting d)) (sym a)
+  answers_by (stopped f) (answer.Finished w values n m k) x t worths tally h e i a = absurd a
+  answers_by (stopped f) answer.NoMemory x t worths tally h e i a = absurd a
+  answers_by (stopped f) answer.Unfinished x t worths tally h e i a = absurd a
+  answers_by underway answer.Unfinished x t worths tally h e i a = h
+  answers_by underway (answer.Finished w values n m k) x t worths tally h e i a = absurd a
+  answers_by underway (answer.Fault k) x t worths tally h e i a = absurd a
+  answers_by underway answer.NoMemory x t worths tally h e i a = absurd a
 
-  pub answer_is : (s : PlainStrand) (a : RunAnswer) → IsAnswer (ending_of s) (lowest s.layer s.lower).worths a → IsAnswerOf setting s a
-  answer_is s a is x h = answers_by (ending_of s) a x (lowest s.layer s.lower).worths (ends_at s x s.phase s.below s.path refl h.now) (lowest_worths s.layer s.lower x.layers h.layers) is
+  pub answer_is : (s : PlainStrand) (a : RunAnswer) → IsAnswer (ending_of s) (lowest s.layer s.lower).worths s.tally a → IsAnswerOf setting s a
+  answer_is s a is x t h = answers_by (ending_of s) a x t (lowest s.layer s.lower).worths s.tally (ends_at s x s.phase s.below s.path refl h.now) (lowest_worths s.layer s.lower x.layers h.layers) h.tally is

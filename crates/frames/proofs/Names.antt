@@ -7,7 +7,7 @@ use Rattle.meaning.specs.SmallStep.{same_name}
 use Rattle.meaning.specs.Trail.{child_of}
 use Rattle.positions.specs.declared.phase.Phase.{Phase}
 use Rattle.positions.specs.declared.phase.Phase.TheVariants.{AtSpawn}
-use Rattle.frames.specs.Ready.{IsReady}
+use Rattle.frames.specs.Ready.{LiesReady}
 
 pub pointwise_same : (xs ys : List ℕ) → pointwise nat_eq xs ys ≡ same_name xs ys
 pointwise_same [] [] = refl
@@ -59,8 +59,8 @@ pub child_else : (name parent front : List ℕ) (child last : ℕ) → name ≡ 
 child_else name parent front child last h e = e ∙ sym (ap (λ c. c && same_name parent front) e) ∙ child_is name parent front child last h
 
 -- at a spawn an instance waits below the child
-pub parent_waits : {A : Type 0} (ph : Phase) (below : List A) (place path : List ℕ) → IsReady ph below place path → ph ≡ AtSpawn → 0 < length (reverse below)
+pub parent_waits : {A : Type 0} (ph : Phase) (below : List A) (place path : List ℕ) → LiesReady ph below place path → ph ≡ AtSpawn → 0 < length (reverse below)
 parent_waits ph below place path h e =
-    let less : 0 < length below = (subst (λ q. IsReady q below place path) e h).0 in
+    let less : 0 < length below = (subst (λ q. LiesReady q below place path) e h).0 in
     let same : length (reverse below) ≡ length below = length-reverse below in
     omega arith

@@ -14,6 +14,10 @@ IsDone (Returning v) = ⊥
 IsDone (Leaving v) = Unit {0}
 IsDone (Broken f) = Unit {0}
 
+abbrev pub HasFault : Phase → Type 0
+HasFault (Broken f) = Unit {0}
+HasFault _ = ⊥
+
 -- the strand with those values of the reducers
 abbrev pub with_worths : List Worth → PlainStrand → PlainStrand
 with_worths ws s = record s { layer = record s.layer { worths = ws } }

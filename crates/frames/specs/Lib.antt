@@ -3,4 +3,8 @@ pub mod Ends
 pub mod Ready
 pub mod Updates
 pub mod Joins
+pub mod Steps
 pub mod Answers
+pub mod Recordings
+pub mod Identities
+pub mod Folds

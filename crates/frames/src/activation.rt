@@ -1,5 +1,5 @@
 //! An instance of a procedure or of a loop, by numbers.
-ghost use Rattle.std.specs.Prelude.{◌≡◌, ◌+◌, ◌<◌, ◌^◌, length, OnErr, OnOk, None, IfOk, map, [], slice_get, slice_set};
+ghost use Rattle.std.specs.Prelude.{◌≡◌, ◌+◌, ◌-◌, ◌<◌, ◌^◌, length, OnErr, OnOk, None, IfOk, map, [], slice_get, slice_set};
 ghost use Rattle.evaluation.specs.declared.slot.Slot.TheVariants.{Has, Waits};
 ghost use Rattle.positions.specs.Activations.{WorkFits, bound, at, waiting, made, inside, outside, next_of};
 ghost use Rattle.frames.specs.Ready.{restored_slots};
@@ -9,6 +9,14 @@ use evaluation::slot::Slot;
 use positions::work::{Position, Work};
 use std::alloc::{AllocError, Global};
 use std::marker::Model;
+
+/// Of the instance that one entered last whether that was spawned, and the slot for its value; and what the one has left.
+#[derive(Clone, Copy)]
+pub(crate) struct Waiting {
+    pub(crate) spawned: bool,
+    pub(crate) into: Option<usize>,
+    pub(crate) work: Work,
+}
 
 /// One instance: how many may be nested in it, how many it has entered, its procedure, its slots, the places behind its
 /// innermost block, what it has left; and of the one that it entered last whether that was spawned, and the slot for its value.
@@ -183,6 +191,31 @@ impl Activation {
         self.spawned = spawned;
         self.into = into;
         self.work = work;
+    }
+
+    /// What it waits for, and what it has left.
+    pub(crate) fn waiting(&self) -> Waiting
+        ensures spawned { result.spawned ≡ self.now.spawned }
+        ensures into { result.into ≡ self.now.into }
+        ensures work { result.work ≡ self.now.work }
+        ensures fits { WorkFits result.work }
+    {
+        Waiting {
+            spawned: self.spawned,
+            into: self.into,
+            work: self.work,
+        }
+    }
+
+    /// Has not entered the last of its instances, and waits again as before it.
+    pub(crate) fn wait_again(&mut self, before: Waiting)
+        requires fits { WorkFits before.work }
+        ensures back { self.new ≡ record self.old { children = self.old.children - 1; work = before.work; spawned = before.spawned; into = before.into } }
+    {
+        self.children = self.children.saturating_sub(1);
+        self.spawned = before.spawned;
+        self.into = before.into;
+        self.work = before.work;
     }
 
     /// Goes into a block of the statement at that place; refused for want of memory alone.

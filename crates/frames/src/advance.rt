@@ -1,12 +1,18 @@
 // One small step of a strand, and the points at which there is none.
-ghost use Rattle.std.specs.Prelude.{◌≡◌, ◌+◌, ◌<◌, ◌^◌, OnErr, OnOk, IfOk, OnSome, option_copied};
-ghost use Rattle.positions.specs.Setting.{HasItsTables};
+ghost use Rattle.std.specs.Prelude.{◌≡◌, ◌+◌, ◌<◌, ◌≤◌, ◌^◌, suc, length, List, All, OnErr, OnOk, OnSome, IfOk, option_copied};
+ghost use Rattle.monoid_laws.specs.declared.Kind.{Kind};
+ghost use Rattle.monoid_laws.specs.Kinds.{IsMonoid};
+ghost use Rattle.meaning.specs.Records.{Kept};
+ghost use Rattle.rerun_records.specs.Named.{AreKept, HaveValues};
+ghost use Rattle.positions.specs.Setting.{HasItsTables, setting_with};
+ghost use Rattle.positions.specs.Strands.{IsLayered};
+ghost use Rattle.positions.specs.Simulation.{IsPause, IsStepTaken};
+ghost use Rattle.positions.specs.Advance.{performed, gone, worked, left_to, advanced, pause_of, next_statement, is_sync};
 ghost use Rattle.frames.specs.Given.{given, lent};
-ghost use Rattle.positions.specs.Simulation.{IsSmallStep, IsPause, IsStepTaken};
-ghost use Rattle.positions.specs.Advance.{performed, gone, worked, left_to, synced, advanced, pause_of, next_statement, is_sync};
+ghost use Rattle.frames.specs.Steps.{GivesNone, HoldsBy, IsStepOf, IsSupplied, IsValued, KeepsKits};
 
 use crate::code::instruction;
-use crate::records::Records;
+use crate::machine::Machine;
 use crate::setting::Setting;
 use crate::strand::Strand;
 use input_tables::Tables;
@@ -14,44 +20,69 @@ use linked_program::checked::Checked;
 use linked_program::code::{Instruction, Operation};
 use positions::phase::{Paused, Phase};
 use positions::work::{Position, Work};
+use rerun_records::records::Records;
 use std::alloc::{AllocError, Global};
 use view_pool::{Kit, KitSource, View};
 
 impl<V: View> Strand<V> {
-    /// Does one small step and answers Working, or changes nothing and answers the point at which the strand is. Where memory
-    /// is refused nothing has changed.
+    /// Does one small step and answers Working, or changes nothing and answers the point at which the strand is. A memo instance
+    /// is answered by a valid record, or begins in a layer of its own where a kit is free. Where memory is refused nothing has
+    /// changed but the values of the two topmost layers.
     pub fn advance<K: KitSource<Kit<V>>>(
         &mut self,
         alloc: Global,
         program: &Checked,
         tables: &Tables,
-        _records: &Records,
-        _kits: &mut K,
+        records: &Records,
+        kits: &mut K,
     ) -> Result<Paused, AllocError>
         requires kinds { self.old.layer.kinds ≡ program.now.kinds }
+        requires monoids { All IsMonoid program.now.kinds }
+        requires values { HaveValues program.now.kinds records.now }
+        requires given_kinds { (k : List Kind) → K.gives k kits.old → k ≡ program.now.kinds }
+        requires fits { K.fits program.now.kinds kits.old }
+        requires room { suc (length self.old.lower) + K.free kits.old ≤ K.total kits.old }
         ensures pause { IfOk result (λ paused. paused ≡ pause_of program.now.codes self.old) }
-        ensures advanced { OnOk result
-            (self.new ≡ advanced (given program.now tables.now) self.old) }
+        ensures advanced { OnOk result (HoldsBy (K.lacks kits.old) (GivesNone K.gives kits.old)
+            (λ kit. self.new ≡ advanced (given program.now tables.now records.now) kit self.old)) }
+        ensures small_step { OnOk result (HoldsBy (K.lacks kits.old) (GivesNone K.gives kits.old)
+            (λ kit. (kept : List Kept) → AreKept program.now kept records.now
+            → HasItsTables (setting_with program.now tables.now.tables kept records.now)
+            → IsStepOf (setting_with program.now tables.now.tables kept records.now) kit self.old self.new)) }
+        ensures no_step { IfOk result (λ paused. (kept : List Kept)
+            → IsPause (setting_with program.now tables.now.tables kept records.now) paused self.old) }
+        ensures goes_on { IfOk result (λ paused. paused ≡ Paused.Working → (kept : List Kept)
+            → IsStepTaken (setting_with program.now tables.now.tables kept records.now) self.old) }
         ensures kinds { self.new.layer.kinds ≡ self.old.layer.kinds }
-        ensures lower { self.new.lower ≡ self.old.lower }
-        ensures small_step { OnOk result
-            (HasItsTables (given program.now tables.now)
-            → IsSmallStep (given program.now tables.now) self.old self.new) }
-        ensures no_step { IfOk result
-            (λ paused. IsPause (given program.now tables.now) paused self.old) }
-        ensures goes_on { IfOk result
-            (λ paused. paused ≡ Paused.Working
-            → IsStepTaken (given program.now tables.now) self.old) }
-        ensures unchanged { OnErr result (self.new ≡ self.old) }
+        ensures kits { length self.new.lower + K.free kits.new ≡ length self.old.lower + K.free kits.old }
+        ensures total { K.total kits.new ≡ K.total kits.old }
+        ensures fitting { (k : List Kind) → K.fits k kits.old → K.fits k kits.new }
+        ensures given_kinds { (k : List Kind) → K.gives k kits.new → k ≡ program.now.kinds }
+        ensures refused { OnErr result (IsValued self.old self.new) }
     {
         program.linked();
-        let paused = self.pause(program);
-        self.go_on(alloc, Setting { program, tables })?;
+        program.revised();
+        let paused = self.machine.pause(program);
+        let setting = Setting {
+            program,
+            tables,
+            records,
+        };
+        self.machine.go_on(alloc, setting, kits)?;
         Ok(paused)
     }
 
     /// The point at which the strand is, or Working where it can go on.
     pub fn pause(&self, program: &Checked) -> Paused
+        ensures pause { result ≡ pause_of program.now.codes self.now }
+    {
+        self.machine.pause(program)
+    }
+}
+
+impl<V: View> Machine<V> {
+    /// The point at which the strand is, or Working where it can go on.
+    fn pause(&self, program: &Checked) -> Paused
         ensures pause { result ≡ pause_of program.now.codes self.now }
     {
         match self.phase {
@@ -113,30 +144,48 @@ impl<V: View> Strand<V> {
     }
 
     /// What the phase says.
-    fn go_on(&mut self, alloc: Global, setting: Setting<'_>) -> Result<(), AllocError>
-        requires kinds { self.old.layer.kinds ≡ setting.program.now.kinds }
-        ensures advanced { OnOk result (self.new ≡ advanced (lent setting.entry) self.old) }
-        ensures unchanged { OnErr result (self.new ≡ self.old) }
+    fn go_on<K: KitSource<Kit<V>>>(
+        &mut self,
+        alloc: Global,
+        setting: Setting<'_>,
+        kits: &mut K,
+    ) -> Result<(), AllocError>
+        requires layered { IsLayered self.old }
+        requires supplied { IsSupplied K.fits K.gives K.free K.total setting.program.now.kinds kits.old setting.records.now self.old.layer.kinds self.old.lower }
+        ensures advanced { OnOk result (HoldsBy (K.lacks kits.old) (GivesNone K.gives kits.old)
+            (λ kit. self.new ≡ advanced (lent setting.entry) kit self.old)) }
+        ensures made { HaveValues self.old.layer.kinds self.old.tally.made → HaveValues self.old.layer.kinds self.new.tally.made }
+        ensures refused { OnErr result (IsValued self.old self.new) }
+        ensures kits { KeepsKits K.fits K.gives K.free K.total setting.entry.program.now.kinds kits.old kits.new self.old.lower self.new.lower }
     {
         match self.phase {
-            Phase::Entering => self.start(),
-            Phase::Running => self.work(alloc, setting)?,
-            Phase::Returning(value) => self.last_sync(value),
-            Phase::Leaving(value) => self.leave(value),
-            Phase::AtSpawn | Phase::Broken(_) => {}
+            Phase::Entering => self.start(alloc, setting, kits),
+            Phase::Running => self.work(alloc, setting, kits),
+            Phase::Returning(value) => self.last_sync(alloc, setting, value, kits),
+            Phase::Leaving(value) => {
+                self.leave(value);
+                Ok(())
+            }
+            Phase::AtSpawn | Phase::Broken(_) => Ok(()),
         }
-        Ok(())
     }
 
     /// What the topmost instance has left.
-    fn work(&mut self, alloc: Global, setting: Setting<'_>) -> Result<(), AllocError>
-        requires kinds { self.old.layer.kinds ≡ setting.program.now.kinds }
+    fn work<K: KitSource<Kit<V>>>(
+        &mut self,
+        alloc: Global,
+        setting: Setting<'_>,
+        kits: &mut K,
+    ) -> Result<(), AllocError>
         requires running { self.old.phase ≡ Phase.Running }
-        ensures worked { OnOk result (self.new ≡ worked (lent setting.entry) self.old.top.work self.old) }
-        ensures unchanged { OnErr result (self.new ≡ self.old) }
+        requires supplied { IsSupplied K.fits K.gives K.free K.total setting.program.now.kinds kits.old setting.records.now self.old.layer.kinds self.old.lower }
+        ensures worked { OnOk result (HoldsBy (K.lacks kits.old) (GivesNone K.gives kits.old)
+            (λ kit. self.new ≡ worked (lent setting.entry) kit self.old.top.work self.old)) }
+        ensures refused { OnErr result (IsValued self.old self.new) }
+        ensures kits { KeepsKits K.fits K.gives K.free K.total setting.entry.program.now.kinds kits.old kits.new self.old.lower self.new.lower }
     {
         match self.top.work() {
-            Work::Block(place) => self.go(alloc, setting, place),
+            Work::Block(place) => self.go(alloc, setting, place, kits),
             Work::Over => {
                 self.phase = Phase::Returning(0);
                 Ok(())
@@ -149,16 +198,24 @@ impl<V: View> Strand<V> {
                 share,
             ),
             Work::Second(site, halvings, share) => self.second_half(alloc, site, halvings, share),
-            Work::Turns(site, share) => self.turn(alloc, setting, site, share),
+            Work::Turns(site, share) => self.turn(alloc, setting, site, share, kits),
         }
     }
 
     /// The statement at that place, or the block's end.
-    fn go(&mut self, alloc: Global, setting: Setting<'_>, place: Position) -> Result<(), AllocError>
-        requires kinds { self.old.layer.kinds ≡ setting.program.now.kinds }
+    fn go<K: KitSource<Kit<V>>>(
+        &mut self,
+        alloc: Global,
+        setting: Setting<'_>,
+        place: Position,
+        kits: &mut K,
+    ) -> Result<(), AllocError>
         requires running { self.old.phase ≡ Phase.Running }
-        ensures gone { OnOk result (self.new ≡ gone (lent setting.entry) place self.old) }
-        ensures unchanged { OnErr result (self.new ≡ self.old) }
+        requires supplied { IsSupplied K.fits K.gives K.free K.total setting.program.now.kinds kits.old setting.records.now self.old.layer.kinds self.old.lower }
+        ensures gone { OnOk result (HoldsBy (K.lacks kits.old) (GivesNone K.gives kits.old)
+            (λ kit. self.new ≡ gone (lent setting.entry) kit place self.old)) }
+        ensures refused { OnErr result (IsValued self.old self.new) }
+        ensures kits { KeepsKits K.fits K.gives K.free K.total setting.entry.program.now.kinds kits.old kits.new self.old.lower self.new.lower }
     {
         match instruction(
             setting.program,
@@ -170,23 +227,26 @@ impl<V: View> Strand<V> {
                 self.top.go_outside();
                 Ok(())
             }
-            Some(instruction) => self.perform(alloc, setting, place, instruction),
+            Some(instruction) => self.perform(alloc, setting, place, instruction, kits),
         }
     }
 
     /// One statement of the topmost instance.
-    fn perform(
+    fn perform<K: KitSource<Kit<V>>>(
         &mut self,
         alloc: Global,
         setting: Setting<'_>,
         place: Position,
         instruction: &Instruction,
+        kits: &mut K,
     ) -> Result<(), AllocError>
         requires room { place.index + 1 < 2 ^ 64 }
-        requires kinds { self.old.layer.kinds ≡ setting.program.now.kinds }
         requires running { self.old.phase ≡ Phase.Running }
-        ensures performed { OnOk result (self.new ≡ performed (lent setting.entry) place instruction.now.number instruction.now.operation self.old) }
-        ensures unchanged { OnErr result (self.new ≡ self.old) }
+        requires supplied { IsSupplied K.fits K.gives K.free K.total setting.program.now.kinds kits.old setting.records.now self.old.layer.kinds self.old.lower }
+        ensures performed { OnOk result (HoldsBy (K.lacks kits.old) (GivesNone K.gives kits.old)
+            (λ kit. self.new ≡ performed (lent setting.entry) kit place instruction.now.number instruction.now.operation self.old)) }
+        ensures refused { OnErr result (IsValued self.old self.new) }
+        ensures kits { KeepsKits K.fits K.gives K.free K.total setting.entry.program.now.kinds kits.old kits.new self.old.lower self.new.lower }
     {
         let number = instruction.number;
         match &instruction.operation {
@@ -194,7 +254,7 @@ impl<V: View> Strand<V> {
             Operation::Enter(into, way, callee, arguments) => {
                 let arguments = arguments.as_slice();
                 self.enter(
-                    alloc, setting, number, place, *way, *into, *callee, arguments,
+                    alloc, setting, number, place, *way, *into, *callee, arguments, kits,
                 )
             }
             Operation::Read(name, reducer) => self.read(place, *name, *reducer),
@@ -213,16 +273,6 @@ impl<V: View> Strand<V> {
                 self.repeat(alloc, setting.tables, number, place, low, high)
             }
             Operation::Return(value) => self.give(setting.tables, number, value),
-        }
-    }
-
-    /// Passes the implicit sync, but not in the instance in which the strand begins.
-    fn last_sync(&mut self, value: i64)
-        requires returning { self.old.phase ≡ Phase.Returning value }
-        ensures synced { self.new ≡ synced value self.old }
-    {
-        if !self.is_entry() {
-            self.phase = Phase::Leaving(value);
         }
     }
 

@@ -2,10 +2,17 @@
 use monoid_laws::Val;
 use positions::phase::Fault;
 
-/// How a run ends: with its result and the reducers' values, by a fault, or not yet; or there was no memory for the values.
+/// How a run ends: with its result, the reducers' values, and how many memo instances were executed, answered by a record, and
+/// executed without a record of their own; by a fault, or not yet; or there was no memory for the values.
 #[derive(Drop)]
 pub enum RunAnswer {
-    Finished { result: i64, values: Vec<Val> },
+    Finished {
+        result: i64,
+        values: Vec<Val>,
+        executed: u64,
+        reused: u64,
+        unrecorded: u64,
+    },
     Fault(Fault),
     Unfinished,
     NoMemory,

@@ -4,7 +4,7 @@ ghost use Rattle.linked_program.specs.CodeView.{expression as plain};
 ghost use Rattle.evaluation.specs.Values.{value_at, values_at, entry_at, bounds_at};
 ghost use Rattle.frames.specs.Ends.{Evaluates};
 
-use crate::strand::Strand;
+use crate::machine::Machine;
 use evaluation::ranges::LoopRange;
 use evaluation::slot::Slot;
 use evaluation::stop::Stop;
@@ -13,7 +13,7 @@ use linked_program::code::Expression;
 use std::alloc::{AllocError, Global};
 use view_pool::View;
 
-impl<V: View> Strand<V> {
+impl<V: View> Machine<V> {
     /// The value of an expression at that statement; none where the strand is faulted by it.
     pub(crate) fn value(
         &mut self,

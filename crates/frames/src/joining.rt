@@ -1,15 +1,18 @@
 // Two strands become one.
-ghost use Rattle.std.specs.Prelude.{◌≡◌, ◌||◌, [], List, All, IfOk, IfErr, OnOk, OnErr};
+ghost use Rattle.std.specs.Prelude.{◌≡◌, ◌||◌, ◌⊎◌, [], List, All, IfOk, IfErr, OnOk, OnErr};
+ghost use Rattle.monoid_laws.specs.declared.Kind.{Kind};
 ghost use Rattle.monoid_laws.specs.Kinds.{IsMonoid, operate_all};
+ghost use Rattle.rerun_records.specs.Named.{HaveValues};
 ghost use Rattle.positions.specs.Setting.{Setting};
 ghost use Rattle.positions.specs.Layers.{either, multiplied};
-ghost use Rattle.positions.specs.Moves.{joined, joined_ended, settled_by, FoldsViews};
+ghost use Rattle.positions.specs.Moves.{joined, joined_broken, joined_ended, settled_by, FoldsViews};
 ghost use Rattle.positions.specs.Simulation.{IsJoined};
 ghost use Rattle.frames.specs.Joins.{IsDone, with_worths, flag_at};
 
 use crate::layer::Layer;
+use crate::machine::Machine;
 use crate::strand::Strand;
-use positions::phase::Phase;
+use positions::phase::{Fault, Phase};
 use positions::start::Start;
 use std::alloc::AllocError;
 use view_pool::{Kit, View};
@@ -62,6 +65,39 @@ fn is_raised(flags: &[bool], number: usize) -> bool
 }
 
 impl<V: View> Strand<V> {
+    /// Puts the right neighbour behind this strand, which has ended or has a fault; the left's fault comes first. Gives the kit
+    /// of the right one. Where memory is refused the right one is handed back: some reducers may have moved to the left and the
+    /// others not, and nothing else has changed.
+    pub fn join(&mut self, right: Strand<V>) -> Result<Kit<V>, (AllocError, Strand<V>)>
+        requires done { IsDone self.old.phase }
+        requires one_layer { right.lower ≡ [] }
+        requires kinds { self.old.layer.kinds ≡ right.layer.kinds }
+        requires monoids { All IsMonoid self.old.layer.kinds }
+        ensures joined { OnOk result (self.new ≡ joined self.old right) }
+        ensures definition { (setting : Setting) → OnOk result (IsJoined setting self.old right self.new) }
+        ensures kit { IfOk result (λ kit. kit ≡ right.layer.kinds) }
+        ensures left_kept { OnErr result (self.new ≡ with_worths self.new.layer.worths self.old) }
+        ensures right_kept { IfErr result (λ e. e.1 ≡ with_worths e.1.layer.worths right) }
+        ensures product { IfErr result (λ e. operate_all self.old.layer.kinds self.new.layer.worths e.1.layer.worths ≡ operate_all self.old.layer.kinds self.old.layer.worths right.layer.worths) }
+        ensures views { IfErr result (λ e. FoldsViews self.old.phase right.phase ⊎ ((self.new ≡ self.old) × (e.1 ≡ right))) }
+    {
+        let Strand { machine } = right;
+        match self.machine.join(machine) {
+            Ok(kit) => Ok(kit),
+            Err((error, machine)) => Err((error, Strand { machine })),
+        }
+    }
+
+    /// The kit of a strand with one layer that is let go. It takes no memory.
+    pub fn close(self) -> Kit<V>
+        ensures kit { result ≡ self.layer.kinds }
+    {
+        let Strand { machine } = self;
+        machine.close()
+    }
+}
+
+impl<V: View> Machine<V> {
     /// Gives the value of the child behind which the strand begins to the slots that wait for it.
     fn settle(&mut self, value: i64)
         ensures settled { self.new ≡ settled_by self.old.start value self.old }
@@ -77,73 +113,78 @@ impl<V: View> Strand<V> {
         }
     }
 
-    /// Puts the right neighbour behind this strand, which has ended or has a fault; the left's fault comes first. Gives the kit
-    /// of the right one. Memory is refused only where views are folded; then the right one is handed back, some reducers have
-    /// moved to the left and the others have not, and nothing else has changed.
-    pub fn join(&mut self, right: Strand<V>) -> Result<Kit<V>, (AllocError, Strand<V>)>
-        requires done { IsDone self.old.phase }
-        requires one_layer { right.lower ≡ [] }
-        requires kinds { self.old.layer.kinds ≡ right.layer.kinds }
-        requires monoids { All IsMonoid self.old.layer.kinds }
-        ensures joined { OnOk result (self.new ≡ joined self.old right) }
-        ensures definition { (setting : Setting) → OnOk result (IsJoined setting self.old right self.new) }
-        ensures kit { IfOk result (λ kit. kit ≡ right.layer.kinds) }
-        ensures left_kept { OnErr result (self.new ≡ with_worths self.new.layer.worths self.old) }
-        ensures right_kept { IfErr result (λ e. e.1 ≡ with_worths e.1.layer.worths right) }
-        ensures product { IfErr result (λ e. operate_all self.old.layer.kinds self.new.layer.worths e.1.layer.worths ≡ operate_all self.old.layer.kinds self.old.layer.worths right.layer.worths) }
-        ensures views { OnErr result (FoldsViews self.old.phase right.phase) }
-    {
-        self.join_neighbour(right)
-    }
-
-    /// The same, by numbers.
-    fn join_neighbour(&mut self, right: Strand<V>) -> Result<Kit<V>, (AllocError, Strand<V>)>
+    /// Puts the right neighbour behind this, by numbers.
+    fn join(&mut self, right: Machine<V>) -> Result<Kit<V>, (AllocError, Machine<V>)>
         requires done { IsDone self.old.phase }
         requires one_layer { right.lower ≡ [] }
         requires kinds { self.old.layer.kinds ≡ right.layer.kinds }
         requires monoids { All IsMonoid self.old.layer.kinds }
         ensures joined { OnOk result (self.new ≡ joined self.old right) }
         ensures kit { IfOk result (λ kit. kit ≡ right.layer.kinds) }
+        ensures made { (kinds : List Kind) → HaveValues kinds self.old.tally.made → HaveValues kinds right.tally.made → HaveValues kinds self.new.tally.made }
         ensures left_kept { OnErr result (self.new ≡ with_worths self.new.layer.worths self.old) }
         ensures right_kept { IfErr result (λ e. e.1 ≡ with_worths e.1.layer.worths right) }
         ensures product { IfErr result (λ e. operate_all self.old.layer.kinds self.new.layer.worths e.1.layer.worths ≡ operate_all self.old.layer.kinds self.old.layer.worths right.layer.worths) }
-        ensures views { OnErr result (FoldsViews self.old.phase right.phase) }
+        ensures views { IfErr result (λ e. FoldsViews self.old.phase right.phase ⊎ ((self.new ≡ self.old) × (e.1 ≡ right))) }
     {
         match self.phase {
             Phase::Leaving(value) => match right.phase {
-                Phase::Broken(fault) => {
-                    self.phase = Phase::Broken(fault);
-                    Ok(right.close())
-                }
+                Phase::Broken(fault) => self.join_broken(fault, right),
                 _ => self.join_ended(value, right),
             },
+            Phase::Broken(first) => self.join_broken(first, right),
             _ => Ok(right.close()),
         }
     }
 
-    /// The kit of a strand with one layer that is let go. It takes no memory.
-    pub fn close(self) -> Kit<V>
+    /// The kit of one with one layer that is let go.
+    fn close(self) -> Kit<V>
         ensures kit { result ≡ self.layer.kinds }
     {
         self.layer.close()
+    }
+
+    /// Is faulted, and takes over what the right neighbour has counted and recorded alone.
+    fn join_broken(
+        &mut self,
+        fault: Fault,
+        mut right: Machine<V>,
+    ) -> Result<Kit<V>, (AllocError, Machine<V>)>
+        ensures joined { OnOk result (self.new ≡ joined_broken self.old right fault) }
+        ensures kit { IfOk result (λ kit. kit ≡ right.layer.kinds) }
+        ensures made { (kinds : List Kind) → HaveValues kinds self.old.tally.made → HaveValues kinds right.tally.made → HaveValues kinds self.new.tally.made }
+        ensures left_kept { OnErr result (self.new ≡ self.old) }
+        ensures right_kept { IfErr result (λ e. e.1 ≡ right) }
+    {
+        match self.tally.take_over(&mut right.tally) {
+            Ok(()) => {
+                self.phase = Phase::Broken(fault);
+                Ok(right.close())
+            }
+            Err(error) => Err((error, right)),
+        }
     }
 
     /// Goes on as the right neighbour, behind what this strand has done.
     fn join_ended(
         &mut self,
         value: i64,
-        mut right: Strand<V>,
-    ) -> Result<Kit<V>, (AllocError, Strand<V>)>
+        mut right: Machine<V>,
+    ) -> Result<Kit<V>, (AllocError, Machine<V>)>
         requires one_layer { right.lower ≡ [] }
         requires kinds { self.old.layer.kinds ≡ right.layer.kinds }
         requires monoids { All IsMonoid self.old.layer.kinds }
         ensures joined { OnOk result (self.new ≡ joined_ended self.old value right) }
         ensures kit { IfOk result (λ kit. kit ≡ right.layer.kinds) }
+        ensures made { (kinds : List Kind) → HaveValues kinds self.old.tally.made → HaveValues kinds right.tally.made → HaveValues kinds self.new.tally.made }
         ensures left_kept { OnErr result (self.new ≡ with_worths self.new.layer.worths self.old) }
         ensures right_kept { IfErr result (λ e. e.1 ≡ with_worths e.1.layer.worths right) }
         ensures product { IfErr result (λ e. operate_all self.old.layer.kinds self.new.layer.worths e.1.layer.worths ≡ operate_all self.old.layer.kinds self.old.layer.worths right.layer.worths) }
     {
-        match self.layer.multiply(&mut right.layer) {
+        match self
+            .tally
+            .join(&mut right.tally, &mut self.layer, &mut right.layer)
+        {
             Ok(()) => {
                 right.settle(value);
                 Ok(self.go_on_as(right))
@@ -153,11 +194,11 @@ impl<V: View> Strand<V> {
     }
 
     /// Goes on with the instances of a strand that is let go, whose kit it gives.
-    fn go_on_as(&mut self, right: Strand<V>) -> Kit<V>
-        ensures goes_on { self.new ≡ record right { start = self.old.start; layer = self.old.layer; lower = self.old.lower } }
+    fn go_on_as(&mut self, right: Machine<V>) -> Kit<V>
+        ensures goes_on { self.new ≡ record right { start = self.old.start; layer = self.old.layer; lower = self.old.lower; tally = self.old.tally } }
         ensures kit { result ≡ right.layer.kinds }
     {
-        let Strand {
+        let Machine {
             start: _,
             layer,
             lower: _,
@@ -166,6 +207,8 @@ impl<V: View> Strand<V> {
             top,
             below,
             phase,
+            arguments,
+            tally: _,
             numbers: _,
         } = right;
         self.path = path;
@@ -173,6 +216,7 @@ impl<V: View> Strand<V> {
         self.top = top;
         self.below = below;
         self.phase = phase;
+        self.arguments = arguments;
         layer.close()
     }
 }

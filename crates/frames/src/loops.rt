@@ -1,19 +1,21 @@
 // Loops: the loop's instance, its halves, and its iterations.
-ghost use Rattle.std.specs.Prelude.{◌≡◌, ◌+◌, ◌+ℤ◌, pos, ◌<◌, ◌^◌, FitsSigned, OnErr, OnOk, IfOk, map, slice_get, slice_set};
+ghost use Rattle.std.specs.Prelude.{◌≡◌, ◌+◌, ◌+ℤ◌, pos, true, ◌<◌, ◌^◌, FitsSigned, OnErr, OnOk, IfOk, map, slice_get, slice_set};
 ghost use Rattle.std.specs.Int.Width.{w64};
-ghost use Rattle.linked_program.specs.CodeView.{expression as plain, slots_of};
-ghost use Rattle.evaluation.specs.Values.{bounds_at, entry_at};
+ghost use Rattle.linked_program.specs.CodeView.{expression as plain, slots_of, memo_of};
+ghost use Rattle.evaluation.specs.Values.{bounds_at, entry_at, values_at};
 ghost use Rattle.evaluation.specs.declared.slot.Slot.TheVariants.{Has};
 ghost use Rattle.positions.specs.Activations.{ShareFits};
 ghost use Rattle.positions.specs.Code.{loop_at, PlainLoop};
-ghost use Rattle.positions.specs.Advance.{evaluated, looping, split, halved, second_half, turned, turn_by, turn_slots, left_of as first_half_of, right_of as second_half_of, rest_of as later_of};
+ghost use Rattle.positions.specs.Advance.{evaluated, looping, split, halved, second_half, nested_memo, turned, turn_by, turn_slots, left_of as first_half_of, right_of as second_half_of, rest_of as later_of};
 ghost use Rattle.frames.specs.Given.{lent};
 ghost use Rattle.frames.specs.Ends.{Evaluates, Notes};
+ghost use Rattle.frames.specs.Steps.{GivesNone, HoldsBy, IsSupplied, IsValued, KeepsKits, nested_plain};
 
 use crate::activation::{Activation, next_of};
 use crate::code::{LoopCode, loop_code};
+use crate::machine::Machine;
+use crate::remembering::Entrance;
 use crate::setting::Setting;
-use crate::strand::Strand;
 use evaluation::ranges::LoopRange;
 use evaluation::slot::Slot;
 use evaluation::stop::Stop;
@@ -25,7 +27,7 @@ use positions::work::{Loop, Position, Share, Work};
 use program_tree::Way;
 use std::alloc::{AllocError, Global};
 use std::mem;
-use view_pool::View;
+use view_pool::{Kit, KitSource, View};
 
 /// How many times a loop may be halved.
 const HALVINGS: u32 = meaning::HALVINGS;
@@ -75,7 +77,7 @@ fn number_of(loop_place: Loop, share: Share) -> i64
     loop_place.low + i64::from(share.first)
 }
 
-impl<V: View> Strand<V> {
+impl<V: View> Machine<V> {
     /// Enters a loop's instance over the numbers between two values.
     pub(crate) fn repeat(
         &mut self,
@@ -202,28 +204,58 @@ impl<V: View> Strand<V> {
     }
 
     /// Enters the next iteration, or ends the loop.
-    pub(crate) fn turn(
+    pub(crate) fn turn<K: KitSource<Kit<V>>>(
         &mut self,
         alloc: Global,
         setting: Setting<'_>,
         site: Loop,
         share: Share,
+        kits: &mut K,
     ) -> Result<(), AllocError>
         requires fits { ShareFits site share }
         requires running { self.old.phase ≡ Phase.Running }
-        ensures turned { OnOk result (self.new ≡ turned (lent setting.entry) site share self.old) }
-        ensures unchanged { OnErr result (self.new ≡ self.old) }
+        requires supplied { IsSupplied K.fits K.gives K.free K.total setting.program.now.kinds kits.old setting.records.now self.old.layer.kinds self.old.lower }
+        ensures turned { OnOk result (HoldsBy (K.lacks kits.old) (GivesNone K.gives kits.old)
+            (λ kit. self.new ≡ turned (lent setting.entry) kit site share self.old)) }
+        ensures refused { OnErr result (IsValued self.old self.new) }
+        ensures kits { KeepsKits K.fits K.gives K.free K.total setting.entry.program.now.kinds kits.old kits.new self.old.lower self.new.lower }
     {
         if share.count == 0 {
             self.phase = Phase::Returning(0);
             return Ok(());
         }
         let code = loop_code(setting.program, self.top.procedure(), site);
-        self.iterate(alloc, setting, code, site, share)
+        self.iterate(alloc, setting, code, site, share, kits)
     }
 
     /// Enters the next iteration of a loop that has more.
-    fn iterate(
+    fn iterate<K: KitSource<Kit<V>>>(
+        &mut self,
+        alloc: Global,
+        setting: Setting<'_>,
+        code: LoopCode,
+        site: Loop,
+        share: Share,
+        kits: &mut K,
+    ) -> Result<(), AllocError>
+        requires fits { ShareFits site share }
+        requires more { 0 < share.count }
+        requires running { self.old.phase ≡ Phase.Running }
+        requires supplied { IsSupplied K.fits K.gives K.free K.total setting.program.now.kinds kits.old setting.records.now self.old.layer.kinds self.old.lower }
+        ensures turned { OnOk result (HoldsBy (K.lacks kits.old) (GivesNone K.gives kits.old)
+            (λ kit. self.new ≡ turn_by (lent setting.entry) kit (record { number = code.entry.number; variable = code.entry.variable; grain = code.entry.grain; callee = code.entry.callee; arguments = code.entry.arguments.now }) site share self.old)) }
+        ensures refused { OnErr result (IsValued self.old self.new) }
+        ensures kits { KeepsKits K.fits K.gives K.free K.total setting.entry.program.now.kinds kits.old kits.new self.old.lower self.new.lower }
+    {
+        if setting.program.is_memo(code.callee) {
+            self.iterate_memo(alloc, setting, code, site, share, kits)
+        } else {
+            self.iterate_plain(alloc, setting, code, site, share)
+        }
+    }
+
+    /// Enters the next iteration, of a procedure that isn't marked memo.
+    fn iterate_plain(
         &mut self,
         alloc: Global,
         setting: Setting<'_>,
@@ -234,7 +266,7 @@ impl<V: View> Strand<V> {
         requires fits { ShareFits site share }
         requires more { 0 < share.count }
         requires running { self.old.phase ≡ Phase.Running }
-        ensures turned { OnOk result (self.new ≡ turn_by (lent setting.entry) (record { number = code.entry.number; variable = code.entry.variable; grain = code.entry.grain; callee = code.entry.callee; arguments = code.entry.arguments.now }) site share self.old) }
+        ensures turned { OnOk result (self.new ≡ evaluated code.entry.number (entry_at setting.entry.tables.now.tables (turn_slots (record { number = code.entry.number; variable = code.entry.variable; grain = code.entry.grain; callee = code.entry.callee; arguments = code.entry.arguments.now }) site share self.old) (slots_of setting.entry.program.now.codes code.entry.callee) (map plain code.entry.arguments.now)) (nested_plain code.entry.number Way.Call None (Work.Turns site (later_of share)) code.entry.callee) self.old) }
         ensures unchanged { OnErr result (self.new ≡ self.old) }
     {
         let before = self.layer.readings();
@@ -260,6 +292,120 @@ impl<V: View> Strand<V> {
             }
             None => Ok(()),
         }
+    }
+
+    /// Enters the next iteration, of a memo procedure.
+    fn iterate_memo<K: KitSource<Kit<V>>>(
+        &mut self,
+        alloc: Global,
+        setting: Setting<'_>,
+        code: LoopCode,
+        site: Loop,
+        share: Share,
+        kits: &mut K,
+    ) -> Result<(), AllocError>
+        requires fits { ShareFits site share }
+        requires more { 0 < share.count }
+        requires running { self.old.phase ≡ Phase.Running }
+        requires memo { memo_of setting.program.now.codes code.callee ≡ true }
+        requires supplied { IsSupplied K.fits K.gives K.free K.total setting.program.now.kinds kits.old setting.records.now self.old.layer.kinds self.old.lower }
+        ensures turned { OnOk result (HoldsBy (K.lacks kits.old) (GivesNone K.gives kits.old)
+            (λ kit. self.new ≡ evaluated code.entry.number (values_at setting.entry.tables.now.tables (turn_slots (record { number = code.entry.number; variable = code.entry.variable; grain = code.entry.grain; callee = code.entry.callee; arguments = code.entry.arguments.now }) site share self.old) (map plain code.entry.arguments.now)) (nested_memo (lent setting.entry) kit code.entry.number Way.Call None (Work.Turns site (later_of share)) code.entry.callee) self.old)) }
+        ensures refused { OnErr result (IsValued self.old self.new) }
+        ensures kits { KeepsKits K.fits K.gives K.free K.total setting.entry.program.now.kinds kits.old kits.new self.old.lower self.new.lower }
+    {
+        let mut numbers = mem::replace(&mut self.numbers, Vec::new(alloc));
+        let outcome = self.iterate_memo_by(alloc, setting, code, site, share, &mut numbers, kits);
+        self.numbers = numbers;
+        outcome
+    }
+
+    /// The same, by the arguments that are put into `numbers`.
+    fn iterate_memo_by<K: KitSource<Kit<V>>>(
+        &mut self,
+        alloc: Global,
+        setting: Setting<'_>,
+        code: LoopCode,
+        site: Loop,
+        share: Share,
+        numbers: &mut Vec<i64>,
+        kits: &mut K,
+    ) -> Result<(), AllocError>
+        requires fits { ShareFits site share }
+        requires more { 0 < share.count }
+        requires running { self.old.phase ≡ Phase.Running }
+        requires memo { memo_of setting.program.now.codes code.callee ≡ true }
+        requires supplied { IsSupplied K.fits K.gives K.free K.total setting.program.now.kinds kits.old setting.records.now self.old.layer.kinds self.old.lower }
+        ensures turned { OnOk result (HoldsBy (K.lacks kits.old) (GivesNone K.gives kits.old)
+            (λ kit. self.new ≡ evaluated code.entry.number (values_at setting.entry.tables.now.tables (turn_slots (record { number = code.entry.number; variable = code.entry.variable; grain = code.entry.grain; callee = code.entry.callee; arguments = code.entry.arguments.now }) site share self.old) (map plain code.entry.arguments.now)) (nested_memo (lent setting.entry) kit code.entry.number Way.Call None (Work.Turns site (later_of share)) code.entry.callee) self.old)) }
+        ensures refused { OnErr result (IsValued self.old self.new) }
+        ensures kits { KeepsKits K.fits K.gives K.free K.total setting.entry.program.now.kinds kits.old kits.new self.old.lower self.new.lower }
+    {
+        let before = self.layer.readings();
+        match self.turn_values(setting.tables, code, site, share, numbers)? {
+            Some(()) => {
+                let entrance = Entrance {
+                    statement: code.number,
+                    way: Way::Call,
+                    into: None,
+                    work: Work::Turns(site, rest_of(site, share)),
+                    callee: code.callee,
+                };
+                match self.nest_memo(alloc, setting, entrance, numbers, kits) {
+                    Ok(()) => Ok(()),
+                    Err(AllocError) => {
+                        self.forget(before);
+                        Err(AllocError)
+                    }
+                }
+            }
+            None => Ok(()),
+        }
+    }
+
+    /// The arguments of the next iteration, in place of what `numbers` held; none where the strand is faulted by one.
+    fn turn_values(
+        &mut self,
+        tables: &Tables,
+        code: LoopCode,
+        site: Loop,
+        share: Share,
+        numbers: &mut Vec<i64>,
+    ) -> Result<Option<()>, AllocError>
+        requires fits { ShareFits site share }
+        ensures evaluated { IfOk result (Evaluates (λ u. numbers.new.items) code.entry.number (values_at tables.now.tables (turn_slots (record { number = code.entry.number; variable = code.entry.variable; grain = code.entry.grain; callee = code.entry.callee; arguments = code.entry.arguments.now }) site share self.old) (map plain code.entry.arguments.now)) self.old self.new) }
+        ensures unchanged { OnErr result (self.new ≡ self.old) }
+    {
+        let number = Slot::Has(number_of(site, share));
+        match self.values_with(tables, code.arguments, code.variable, number, numbers) {
+            Ok(()) => Ok(Some(())),
+            Err(Stop::Fault(kind)) => {
+                self.fault(code.number, kind);
+                Ok(None)
+            }
+            Err(Stop::NoMemory) => Err(AllocError),
+        }
+    }
+
+    /// The values of expressions, with that in a slot meanwhile.
+    #[tactic(auto, using(crate::proofs::Slots::put_back))]
+    fn values_with(
+        &mut self,
+        tables: &Tables,
+        arguments: &[Expression],
+        variable: usize,
+        number: Slot,
+        numbers: &mut Vec<i64>,
+    ) -> Result<(), Stop>
+        ensures notes { Notes (λ u. numbers.new.items) (values_at tables.now.tables (slice_set self.old.top.slots variable number) (map plain arguments.now)) self.old.layer self.new.layer result }
+        ensures rest { self.new ≡ record self.old { layer = self.new.layer } }
+    {
+        let held = self.top.exchange(variable, number);
+        let outcome = self
+            .layer
+            .values(arguments, self.top.slots(), tables, numbers);
+        self.top.restore(variable, held);
+        outcome
     }
 
     /// The slots of the next iteration; none where the strand is faulted by an argument.

@@ -2,14 +2,18 @@
 ghost use Rattle.std.specs.Prelude.{◌≡◌, ◌∷◌, [], List, IfOk, IfErr, length};
 ghost use Rattle.evaluation.specs.Slots.{slots_for};
 ghost use Rattle.meaning.specs.Tables.{Tables};
-ghost use Rattle.positions.specs.Setting.{Setting, setting_of};
+ghost use Rattle.meaning.specs.Records.{Kept};
+ghost use Rattle.rerun_records.specs.Record.{PlainRecord};
+ghost use Rattle.positions.specs.Setting.{Setting, setting_with};
 ghost use Rattle.positions.specs.Simulation.{IsFirst, IsStolen, IsInlined, IsDetached, IsAttached, IsResumed, IsUpdateNext};
 ghost use Rattle.positions.specs.Advance.{next_statement};
 ghost use Rattle.positions.specs.Moves.{first_strand, stolen, stolen_with, inlined, detached, attached, returned_of, resumed, is_update_there, at_update};
 
 use crate::activation::Activation;
 use crate::layer::Layer;
-use crate::strand::{DEEPEST, Strand};
+use crate::machine::{DEEPEST, Machine};
+use crate::strand::Strand;
+use crate::tally::Tally;
 use crate::task::Task;
 use evaluation::slot::Slot;
 use linked_program::checked::Checked;
@@ -41,22 +45,105 @@ impl<V: View> Strand<V> {
         program: &Checked,
         kit: Kit<V>,
     ) -> Result<Strand<V>, (AllocError, Kit<V>)>
+        requires kinds { kit ≡ program.now.kinds }
         ensures first { IfOk result (λ strand. strand ≡ first_strand program.now.codes kit program.now.main) }
-        ensures beginning { kit ≡ program.now.kinds → (tables : Tables)
-            → IfOk result (λ strand. IsFirst (setting_of program.now tables) strand) }
+        ensures beginning { (tables : Tables) (kept : List Kept) (records : List PlainRecord)
+            → IfOk result (λ strand. IsFirst (setting_with program.now tables kept records) strand) }
         ensures handed_back { IfErr result (λ e. e.1 ≡ kit) }
     {
         program.linked();
-        Strand::begin(alloc, program, kit)
+        match Machine::first(alloc, program, kit) {
+            Ok(machine) => Ok(Strand { machine }),
+            Err(refused) => Err(refused),
+        }
     }
 
+    /// The strand of a stolen continuation, which begins behind the spawned child. Want of memory is the only error; it hands
+    /// the continuation and the kit back.
+    pub fn stolen(
+        alloc: Global,
+        program: &Checked,
+        task: Task,
+        kit: Kit<V>,
+    ) -> Result<Strand<V>, (AllocError, Task, Kit<V>)>
+        requires kinds { kit ≡ program.now.kinds }
+        ensures stolen { IfOk result (λ strand. strand ≡ stolen program.now.codes kit task) }
+        ensures definition { (tables : Tables) (kept : List Kept) (records : List PlainRecord)
+            → IfOk result (λ strand. IsStolen (setting_with program.now tables kept records) task strand) }
+        ensures task_back { IfErr result (λ e. e.1 ≡ task) }
+        ensures kit_back { IfErr result (λ e. e.2 ≡ kit) }
+    {
+        program.linked();
+        match Machine::stolen(alloc, program, task, kit) {
+            Ok(machine) => Ok(Strand { machine }),
+            Err(refused) => Err(refused),
+        }
+    }
+
+    /// At a spawn: takes out the parent and what waits below it, and goes on with the child alone, which is to be entered. It
+    /// takes no memory.
+    pub fn detach(&mut self, alloc: Global) -> Task
+        requires at_spawn { self.old.phase ≡ Phase.AtSpawn }
+        ensures task { self.old.below ≡ result.top ∷ result.below }
+        ensures place { result.place ≡ self.old.path }
+        ensures child { self.new ≡ detached self.old }
+        ensures definition { (setting : Setting) → IsDetached setting self.old self.new result }
+    {
+        self.machine.take_out(alloc)
+    }
+
+    /// Puts a continuation back, so that the child is a call. It takes no memory.
+    pub fn attach(&mut self, task: Task)
+        requires bare { self.old.below ≡ [] }
+        requires entering { self.old.phase ≡ Phase.Entering }
+        ensures called { self.new ≡ attached task self.old }
+        ensures definition { (setting : Setting) → IsAttached setting task self.old self.new }
+    {
+        self.machine.put_back(task);
+    }
+
+    /// At a spawn: makes the child a call, which is to be entered. It takes no memory.
+    pub fn inline(&mut self)
+        requires at_spawn { self.old.phase ≡ Phase.AtSpawn }
+        ensures called { self.new ≡ inlined self.old }
+        ensures definition { (setting : Setting) → IsInlined setting self.old self.new }
+    {
+        self.machine.call_child();
+    }
+
+    /// The value of the spawned child, where it has returned.
+    pub fn returned(&self) -> Option<i64>
+        ensures returned { result ≡ returned_of self.now }
+    {
+        self.machine.returned()
+    }
+
+    /// Where the spawned child has returned: goes on with a continuation; elsewhere nothing changes. It takes no memory.
+    pub fn resume(&mut self, task: Task)
+        ensures resumed { self.new ≡ resumed task self.old }
+        ensures definition { (setting : Setting) → IsResumed setting task self.old self.new }
+    {
+        self.machine.go_on_with(task);
+    }
+
+    /// Whether the next small step is that of an update.
+    pub fn at_update(&self, program: &Checked) -> bool
+        ensures update { result ≡ at_update program.now.codes self.now }
+        ensures next { (tables : Tables) (kept : List Kept) (records : List PlainRecord)
+            → IsUpdateNext (setting_with program.now tables kept records) self.now result }
+    {
+        self.machine.updates_next(program)
+    }
+}
+
+impl<V: View> Machine<V> {
     /// The same, by numbers.
-    fn begin(
+    fn first(
         alloc: Global,
         program: &Checked,
         kit: Kit<V>,
-    ) -> Result<Strand<V>, (AllocError, Kit<V>)>
-        ensures first { IfOk result (λ strand. strand ≡ first_strand program.now.codes kit program.now.main) }
+    ) -> Result<Machine<V>, (AllocError, Kit<V>)>
+        ensures first { IfOk result (λ machine. machine ≡ first_strand program.now.codes kit program.now.main) }
         ensures handed_back { IfErr result (λ e. e.1 ≡ kit) }
     {
         let main = program.main();
@@ -69,7 +156,7 @@ impl<V: View> Strand<V> {
             Err(refused) => return Err(refused),
         };
         let work = Work::Block(Position { block: 0, index: 0 });
-        Ok(Strand {
+        Ok(Machine {
             start: Start::Root,
             layer,
             lower: Vec::new(alloc),
@@ -78,36 +165,20 @@ impl<V: View> Strand<V> {
             top: Activation::new(alloc, main, slots, work, LEVELS_BELOW_MAIN),
             below: Vec::new(alloc),
             phase: Phase::Entering,
+            arguments: Vec::new(alloc),
+            tally: Tally::new(alloc),
             numbers: Vec::new(alloc),
         })
     }
 
-    /// The strand of a stolen continuation, which begins behind the spawned child. Want of memory is the only error; it hands
-    /// the continuation and the kit back.
-    pub fn stolen(
-        alloc: Global,
-        program: &Checked,
-        task: Task,
-        kit: Kit<V>,
-    ) -> Result<Strand<V>, (AllocError, Task, Kit<V>)>
-        ensures stolen { IfOk result (λ strand. strand ≡ stolen program.now.codes kit task) }
-        ensures definition { kit ≡ program.now.kinds → (tables : Tables)
-            → IfOk result (λ strand. IsStolen (setting_of program.now tables) task strand) }
-        ensures task_back { IfErr result (λ e. e.1 ≡ task) }
-        ensures kit_back { IfErr result (λ e. e.2 ≡ kit) }
-    {
-        program.linked();
-        Strand::begin_behind(alloc, program, task, kit)
-    }
-
     /// The same, by numbers.
-    fn begin_behind(
+    fn stolen(
         alloc: Global,
         program: &Checked,
         task: Task,
         kit: Kit<V>,
-    ) -> Result<Strand<V>, (AllocError, Task, Kit<V>)>
-        ensures stolen { IfOk result (λ strand. strand ≡ stolen program.now.codes kit task) }
+    ) -> Result<Machine<V>, (AllocError, Task, Kit<V>)>
+        ensures stolen { IfOk result (λ machine. machine ≡ stolen program.now.codes kit task) }
         ensures task_back { IfErr result (λ e. e.1 ≡ task) }
         ensures kit_back { IfErr result (λ e. e.2 ≡ kit) }
     {
@@ -115,11 +186,11 @@ impl<V: View> Strand<V> {
             Ok(layer) => layer,
             Err((error, kit)) => return Err((error, task, kit)),
         };
-        Ok(Strand::behind(alloc, task, layer))
+        Ok(Machine::behind(alloc, task, layer))
     }
 
     /// The strand of a continuation with that layer.
-    fn behind(alloc: Global, task: Task, layer: Layer<V>) -> Strand<V>
+    fn behind(alloc: Global, task: Task, layer: Layer<V>) -> Machine<V>
         ensures stolen { result ≡ stolen_with layer task }
     {
         let Task {
@@ -133,7 +204,7 @@ impl<V: View> Strand<V> {
             child: top.children(),
         };
         top.mark();
-        Strand {
+        Machine {
             start,
             layer,
             lower: Vec::new(alloc),
@@ -142,20 +213,10 @@ impl<V: View> Strand<V> {
             top,
             below,
             phase: Phase::Running,
+            arguments: Vec::new(alloc),
+            tally: Tally::new(alloc),
             numbers: Vec::new(alloc),
         }
-    }
-
-    /// At a spawn: takes out the parent and what waits below it, and goes on with the child alone, which is to be entered. It
-    /// takes no memory.
-    pub fn detach(&mut self, alloc: Global) -> Task
-        requires at_spawn { self.old.phase ≡ Phase.AtSpawn }
-        ensures task { self.old.below ≡ result.top ∷ result.below }
-        ensures place { result.place ≡ self.old.path }
-        ensures child { self.new ≡ detached self.old }
-        ensures definition { (setting : Setting) → IsDetached setting self.old self.new result }
-    {
-        self.take_out(alloc)
     }
 
     /// The same, by numbers.
@@ -174,16 +235,6 @@ impl<V: View> Strand<V> {
         }
     }
 
-    /// Puts a continuation back, so that the child is a call. It takes no memory.
-    pub fn attach(&mut self, task: Task)
-        requires bare { self.old.below ≡ [] }
-        requires entering { self.old.phase ≡ Phase.Entering }
-        ensures called { self.new ≡ attached task self.old }
-        ensures definition { (setting : Setting) → IsAttached setting task self.old self.new }
-    {
-        self.put_back(task);
-    }
-
     /// The same, by numbers.
     fn put_back(&mut self, task: Task)
         requires bare { self.old.below ≡ [] }
@@ -199,32 +250,22 @@ impl<V: View> Strand<V> {
         self.place = place;
     }
 
-    /// At a spawn: makes the child a call, which is to be entered. It takes no memory.
-    pub fn inline(&mut self)
-        requires at_spawn { self.old.phase ≡ Phase.AtSpawn }
+    /// The same, by numbers.
+    fn call_child(&mut self)
         ensures called { self.new ≡ inlined self.old }
-        ensures definition { (setting : Setting) → IsInlined setting self.old self.new }
     {
         let called = Phase::Entering;
         self.phase = called;
     }
 
     /// The value of the spawned child, where it has returned.
-    pub fn returned(&self) -> Option<i64>
+    fn returned(&self) -> Option<i64>
         ensures returned { result ≡ returned_of self.now }
     {
         match self.phase {
             Phase::Leaving(value) if self.below.is_empty() && !self.path.is_empty() => Some(value),
             _ => None,
         }
-    }
-
-    /// Where the spawned child has returned: goes on with a continuation; elsewhere nothing changes. It takes no memory.
-    pub fn resume(&mut self, task: Task)
-        ensures resumed { self.new ≡ resumed task self.old }
-        ensures definition { (setting : Setting) → IsResumed setting task self.old self.new }
-    {
-        self.go_on_with(task);
     }
 
     /// The same, by numbers.
@@ -244,15 +285,6 @@ impl<V: View> Strand<V> {
             self.place = place;
             self.phase = Phase::Running;
         }
-    }
-
-    /// Whether the next small step is that of an update.
-    pub fn at_update(&self, program: &Checked) -> bool
-        ensures update { result ≡ at_update program.now.codes self.now }
-        ensures next { (tables : Tables)
-            → IsUpdateNext (setting_of program.now tables) self.now result }
-    {
-        self.updates_next(program)
     }
 
     fn updates_next(&self, program: &Checked) -> bool

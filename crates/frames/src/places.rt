@@ -4,6 +4,7 @@ ghost use Rattle.meaning.specs.SmallStep.{same_name};
 ghost use Rattle.meaning.specs.Trail.{child_of};
 ghost use Rattle.positions.specs.Simulation.{place_of};
 
+use crate::machine::Machine;
 use crate::strand::Strand;
 use positions::phase::Phase;
 use positions::start::Start;
@@ -29,19 +30,28 @@ fn is_child(name: &[usize], parent: &[usize], child: usize) -> bool
     }
 }
 
+impl<V: View> Machine<V> {
+    /// What the type keeps: at a spawn an instance waits below the child.
+    fn ready(&self)
+        ensures parent { self.now.phase ≡ Phase.AtSpawn → 0 < length self.now.below }
+    {
+        let _ = &self.phase;
+    }
+}
+
 impl<V: View> Strand<V> {
     /// What the type keeps: at a spawn an instance waits below the child.
     pub fn ready(&self)
         ensures parent { self.now.phase ≡ Phase.AtSpawn → 0 < length self.now.below }
     {
-        let _ = &self.phase;
+        self.machine.ready();
     }
 
     /// The whole name of the topmost instance.
     pub fn name(&self) -> &[usize]
         ensures name { result.now ≡ self.now.path }
     {
-        &self.path
+        &self.machine.path
     }
 
     /// The name of the child behind which the strand begins; that of the first strand is empty. Want of memory is the only
@@ -51,10 +61,10 @@ impl<V: View> Strand<V> {
         ensures place { IfOk result (λ place. place.items ≡ place_of self.now.start self.now.path) }
     {
         let mut place = Vec::new(alloc);
-        if let Start::Behind { depth, child } = self.start {
-            let depth = depth.min(self.path.len());
+        if let Start::Behind { depth, child } = self.machine.start {
+            let depth = depth.min(self.machine.path.len());
             place.reserve(depth)?;
-            place.extend_from_slice(&self.path[..depth])?;
+            place.extend_from_slice(&self.machine.path[..depth])?;
             place.push(child)?;
         }
         Ok(place)
@@ -65,11 +75,11 @@ impl<V: View> Strand<V> {
     pub fn is_behind(&self, name: &[usize]) -> bool
         ensures behind { result ≡ same_name (place_of self.now.start self.now.path) name.now }
     {
-        match self.start {
+        match self.machine.start {
             Start::Root => name.is_empty(),
             Start::Behind { depth, child } => {
-                let depth = depth.min(self.path.len());
-                is_child(name, &self.path[..depth], child)
+                let depth = depth.min(self.machine.path.len());
+                is_child(name, &self.machine.path[..depth], child)
             }
         }
     }

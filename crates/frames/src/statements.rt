@@ -5,12 +5,12 @@ ghost use Rattle.evaluation.specs.Values.{value_at, values_at, entry_at};
 ghost use Rattle.positions.specs.Activations.{WorkFits, next_of as place_after};
 ghost use Rattle.positions.specs.Layers.{lowest as lowest_of};
 ghost use Rattle.positions.specs.Strands.{is_entry};
-ghost use Rattle.positions.specs.Advance.{evaluated, moved_on, binding, reading, combining, choosing, giving, nested, performed};
+ghost use Rattle.positions.specs.Advance.{evaluated, moved_on, binding, reading, combining, choosing, giving, performed};
 
-use crate::activation::{Activation, next_of};
+use crate::activation::next_of;
 use crate::layer::Layer;
+use crate::machine::Machine;
 use crate::setting::Setting;
-use crate::strand::Strand;
 use evaluation::slot::Slot;
 use input_tables::Tables;
 use linked_program::code::Expression;
@@ -21,7 +21,7 @@ use program_tree::Way;
 use std::alloc::{AllocError, Global};
 use view_pool::View;
 
-impl<V: View> Strand<V> {
+impl<V: View> Machine<V> {
     /// Goes on behind the instruction at that place.
     pub(crate) fn pass(&mut self, place: Position)
         requires room { place.index + 1 < 2 ^ 64 }
@@ -140,73 +140,5 @@ impl<V: View> Strand<V> {
             None => {}
         }
         Ok(())
-    }
-
-    /// Enters an instance of that procedure, with those slots, at that statement, which is then left as `work` says; or too deep.
-    #[inline(always)]
-    pub(crate) fn nest(
-        &mut self,
-        alloc: Global,
-        statement: u32,
-        way: Way,
-        into: Option<usize>,
-        work: Work,
-        callee: usize,
-        slots: Vec<Slot>,
-    ) -> Result<(), AllocError>
-        requires fits { WorkFits work }
-        requires running { self.old.phase ≡ Phase.Running }
-        ensures nested { OnOk result (self.new ≡ nested statement way into work callee slots.items self.old) }
-        ensures unchanged { OnErr result (self.new ≡ self.old) }
-    {
-        let left = self.top.left();
-        if left == 0 {
-            self.fault(statement, FaultKind::TooDeep);
-            return Ok(());
-        }
-        let first = Work::Block(Position { block: 0, index: 0 });
-        let child = Activation::new(alloc, callee, slots, first, left - 1);
-        match way {
-            Way::Call => {
-                self.push_called(child, work, into, Phase::Entering)?;
-                self.start();
-                Ok(())
-            }
-            Way::Spawn => self.push_spawned(child, work, into),
-        }
-    }
-
-    /// Calls or spawns an instance of a procedure, or is faulted at that statement.
-    pub(crate) fn enter(
-        &mut self,
-        alloc: Global,
-        setting: Setting<'_>,
-        statement: u32,
-        place: Position,
-        way: Way,
-        into: Option<usize>,
-        callee: usize,
-        arguments: &[Expression],
-    ) -> Result<(), AllocError>
-        requires room { place.index + 1 < 2 ^ 64 }
-        requires running { self.old.phase ≡ Phase.Running }
-        ensures entered { OnOk result (self.new ≡ evaluated statement (entry_at setting.entry.tables.now.tables self.old.top.slots (slots_of setting.entry.program.now.codes callee) (map plain arguments.now)) (nested statement way into (Work.Block (place_after place)) callee) self.old) }
-        ensures unchanged { OnErr result (self.new ≡ self.old) }
-    {
-        let before = self.layer.readings();
-        let size = setting.program.slots(callee);
-        match self.entry(alloc, setting.tables, statement, size, arguments)? {
-            Some(slots) => {
-                let work = Work::Block(next_of(place));
-                match self.nest(alloc, statement, way, into, work, callee, slots) {
-                    Ok(()) => Ok(()),
-                    Err(AllocError) => {
-                        self.forget(before);
-                        Err(AllocError)
-                    }
-                }
-            }
-            None => Ok(()),
-        }
     }
 }

@@ -1,50 +1,29 @@
 //! A strand: a stack of instances, run by small steps, with the layers of its reducers' views.
-ghost use Rattle.std.specs.Prelude.{◌≡◌, true, false, ◌+◌, ◌<◌, ◌^◌, OnOk, OnErr, IfOk, length, take, map, reverse};
-ghost use Rattle.positions.specs.Activations.{WorkFits};
-ghost use Rattle.positions.specs.Layers.{lowest};
-ghost use Rattle.positions.specs.Strands.{is_entry};
-ghost use Rattle.frames.specs.Ready.{IsNotSpawned};
-ghost use Rattle.positions.specs.Advance.{with_top, faulted, noted, started, pushed};
+ghost use Rattle.std.specs.Prelude.{◌≡◌, All};
+ghost use Rattle.positions.specs.Strands.{IsLayered};
+ghost use Rattle.rerun_records.specs.Named.{HaveValues};
 
-use crate::activation::Activation;
-use crate::layer::Layer;
-use meaning::FaultKind;
-use positions::phase::{Fault, Phase};
-use positions::start::Start;
-use positions::work::Work;
-use std::alloc::{AllocError, Global};
+use crate::machine::Machine;
+use positions::phase::Phase;
 use std::marker::Model;
-use std::mem;
 use view_pool::View;
 
-/// The greatest depth of an instance.
-pub(crate) const DEEPEST: u32 = meaning::DEPTH_LIMIT;
-
-/// A strand: where it begins, its layers, its topmost instance with its whole name and those that wait below it, and what the
-/// topmost does next. At a spawn the child stands on top already, and its name lies ready for the continuation.
+/// A strand: where it begins, its layers, its topmost instance with its whole name and those that wait below it, what the
+/// topmost does next, and what was counted and recorded of memo instances. At a spawn the child stands on top already.
 #[derive(Drop)]
 pub struct Strand<V: View = Box<dyn View>> {
-    pub(crate) start: Start,
-    pub(crate) layer: Layer<V>,
-    pub(crate) lower: Vec<Layer<V>>,
-    pub(crate) path: Vec<usize>,
-    pub(crate) place: Vec<usize>,
-    pub(crate) top: Activation,
-    pub(crate) below: Vec<Activation>,
-    pub(crate) phase: Phase,
-    pub(crate) numbers: Vec<i64>,
+    pub(crate) machine: Machine<V>,
 }
 
 impl<V: View> Model for Strand<V> {
-    ghost use Rattle.std.specs.Prelude.{reverse};
     ghost use Rattle.positions.specs.Strands.{PlainStrand};
-    ghost use Rattle.frames.specs.Ready.{IsReady};
+    ghost use Rattle.frames.specs.Steps.{IsWhole};
 
     ghost Value = { PlainStrand };
 
-    ghost view = { λ s. record { start = s.start; layer = s.layer; lower = reverse s.lower.items; path = s.path.items; top = s.top; below = reverse s.below.items; phase = s.phase } };
+    ghost view = { λ s. s.machine };
 
-    ghost invariant = { λ s. IsReady s.phase s.below.items s.place.items s.path.items };
+    ghost invariant = { λ s. IsWhole s.machine };
 }
 
 impl<V: View> Strand<V> {
@@ -52,102 +31,16 @@ impl<V: View> Strand<V> {
     pub fn phase(&self) -> Phase
         ensures phase { result ≡ self.now.phase }
     {
-        self.phase
+        self.machine.phase
     }
 
-    /// Whether the strand begins in its topmost instance.
-    pub(crate) fn is_entry(&self) -> bool
-        ensures entry { result ≡ is_entry self.now }
+    /// What the type keeps: one layer more than there are open memo instances, as long as there is no fault; all layers of the
+    /// topmost one's kinds; and records whose values are of these kinds.
+    pub fn layered(&self)
+        ensures layered { IsLayered self.now }
+        ensures kinds { All (λ l. l.kinds ≡ self.now.layer.kinds) self.now.lower }
+        ensures made { HaveValues self.now.layer.kinds self.now.tally.made }
     {
-        match self.start {
-            Start::Root => false,
-            Start::Behind { depth, child: _ } => self.path.len() == depth,
-        }
-    }
-
-    /// A fault at that statement of the topmost instance.
-    pub(crate) fn fault(&mut self, statement: u32, kind: FaultKind)
-        ensures faulted { self.new ≡ faulted statement kind self.old }
-    {
-        self.phase = Phase::Broken(Fault {
-            kind,
-            procedure: self.top.procedure(),
-            statement,
-        });
-    }
-
-    /// Forgets all readings of the topmost layer but so many first ones.
-    pub(crate) fn forget(&mut self, readings: usize)
-        ensures forgotten { self.new ≡ record self.old { layer = record self.old.layer { notes = take readings self.old.layer.notes } } }
-    {
-        self.layer.forget(readings);
-    }
-
-    /// Enters the topmost instance: one of a procedure is noted.
-    pub(crate) fn start(&mut self)
-        ensures started { self.new ≡ started self.old }
-    {
-        if let Work::Block(_) = self.top.work() {
-            let depth = DEEPEST.saturating_sub(self.top.left());
-            self.layer.enter(self.top.procedure(), depth);
-        }
-        self.phase = Phase::Running;
-    }
-
-    /// Puts a called child on top, which has that to do next; the topmost instance waits with that left. Refused for want of
-    /// memory, or where there are no more numbers for children.
-    #[inline(always)]
-    pub(crate) fn push_called(
-        &mut self,
-        child: Activation,
-        work: Work,
-        into: Option<usize>,
-        phase: Phase,
-    ) -> Result<(), AllocError>
-        requires fits { WorkFits work }
-        requires not_spawned { IsNotSpawned phase }
-        ensures pushed { OnOk result (self.new ≡ pushed child false into work phase self.old) }
-        ensures unchanged { OnErr result (self.new ≡ self.old) }
-    {
-        let Some(number) = self.top.children().checked_add(1) else {
-            return Err(AllocError);
-        };
-        self.path.reserve(1)?;
-        self.below.reserve(1)?;
-        self.path.push_reserved(number);
-        let mut parent = mem::replace(&mut self.top, child);
-        parent.wait(false, into, work);
-        self.below.push_reserved(parent);
-        self.phase = phase;
-        Ok(())
-    }
-
-    /// Puts a spawned child on top, and its name ready for the continuation; the topmost instance waits with that left. Refused
-    /// for want of memory, or where there are no more numbers for children.
-    pub(crate) fn push_spawned(
-        &mut self,
-        child: Activation,
-        work: Work,
-        into: Option<usize>,
-    ) -> Result<(), AllocError>
-        requires fits { WorkFits work }
-        requires running { self.old.phase ≡ Phase.Running }
-        ensures pushed { OnOk result (self.new ≡ pushed child true into work Phase.AtSpawn self.old) }
-        ensures unchanged { OnErr result (self.new ≡ self.old) }
-    {
-        let Some(number) = self.top.children().checked_add(1) else {
-            return Err(AllocError);
-        };
-        self.path.reserve(1)?;
-        self.below.reserve(1)?;
-        self.place.clear();
-        self.place.extend_from_slice(&self.path)?;
-        self.place.push(number)?;
-        self.path.push_reserved(number);
-        let mut parent = mem::replace(&mut self.top, child);
-        parent.wait(true, into, work);
-        self.below.push_reserved(parent);
-        self.phase = Phase::AtSpawn;
-        Ok(())
+        let _ = &self.machine;
     }
 }

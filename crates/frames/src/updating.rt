@@ -9,8 +9,8 @@ ghost use Rattle.positions.specs.Advance.{evaluated, combining};
 ghost use Rattle.frames.specs.Updates.{is_list as is_list_kind, IsIdentity};
 
 use crate::layer::Layer;
+use crate::machine::Machine;
 use crate::setting::Setting;
-use crate::strand::Strand;
 use linked_program::checked::Checked;
 use linked_program::code::Expression;
 use meaning::FaultKind;
@@ -30,7 +30,7 @@ fn arity(kind: &Kind) -> usize
     }
 }
 
-impl<V: View> Strand<V> {
+impl<V: View> Machine<V> {
     /// Combines what the expressions' values name with a reducer's value, or is faulted at that statement.
     pub(crate) fn update(
         &mut self,

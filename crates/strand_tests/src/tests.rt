@@ -4,5 +4,6 @@ mod answers;
 mod driving;
 mod faults;
 mod names;
+mod records;
 mod statements;
 mod thefts;

@@ -53,7 +53,7 @@ fn are(wanted: &[Wanted], values: &[Val]) -> bool {
 /// Whether a run ended with that result and these values of the reducers.
 pub fn is_finished(answer: &RunAnswer, wanted: i64, reducers: &[Wanted]) -> bool {
     match answer {
-        RunAnswer::Finished { result, values } => *result == wanted && are(reducers, values),
+        RunAnswer::Finished { result, values, .. } => *result == wanted && are(reducers, values),
         _ => false,
     }
 }
@@ -116,7 +116,7 @@ pub fn is_slow_answer(alloc: Global, program: &Checked, answer: &RunAnswer) -> R
     let tables = vec![in alloc; sales(alloc)?]?;
     match from_scratch(alloc, program.program(), &tables)? {
         Answer::Finished(wanted, reducers) => Ok(match answer {
-            RunAnswer::Finished { result, values } => *result == wanted && *values == reducers,
+            RunAnswer::Finished { result, values, .. } => *result == wanted && *values == reducers,
             _ => false,
         }),
         Answer::Faulted(fault) => Ok(is_faulted(

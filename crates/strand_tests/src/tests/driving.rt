@@ -1,8 +1,8 @@
 //! How a program is read and run: on one strand, whose spawned children go different ways.
-ghost use Rattle.std.specs.Prelude.{◌≡◌, [], IfOk};
+ghost use Rattle.std.specs.Prelude.{◌≡◌, [], IfOk, All};
+ghost use Rattle.monoid_laws.specs.Kinds.{IsMonoid};
 
 use frames::answer::RunAnswer;
-use frames::records::Records;
 use frames::strand::Strand;
 use frames::task::Task;
 use input_tables::Tables;
@@ -10,13 +10,15 @@ use linked_program::checked::Checked;
 use monoid_laws::Kind;
 use positions::phase::{Paused, Phase};
 use procedure_parser::parse;
+use rerun_records::records::Records;
+use rules_theory::checked_programs_keep_the_rules;
 use spawn_checker::check;
 use std::alloc::{AllocError, Global};
 use std::test::Fail;
 use view_pool::{Kit, PlainView, Pool};
 
 /// More small steps than any of the programs takes.
-const STEPS: usize = 2000;
+pub const STEPS: usize = 2000;
 
 /// The program of a text, checked against these tables.
 pub fn checked(alloc: Global, text: &str, tables: &Tables) -> Result<Checked, Fail> {
@@ -33,6 +35,26 @@ pub fn kit(alloc: Global, kinds: &[Kind]) -> Result<Kit<PlainView>, AllocError>
         views.push(PlainView::new(alloc, kinds[i]))?;
     }
     Ok(Kit::reset(views))
+}
+
+/// The kits of a strand that has its own: none is free.
+pub fn no_kits(alloc: Global) -> Result<Pool<Kit<PlainView>>, AllocError>
+    ensures none { IfOk result (λ pool. pool.kits ≡ []) }
+    ensures total { IfOk result (λ pool. pool.total ≡ 1) }
+{
+    let mut pool = Pool::new(vec![in alloc; kit(alloc, &[])?]?);
+    let _ = pool.take();
+    Ok(pool)
+}
+
+/// What the rules of the language give: the reducers of a checked program are monoids.
+pub fn are_monoids(program: &Checked)
+    ensures monoids { All IsMonoid program.now.kinds }
+{
+    program.clean();
+    program.linked();
+    program.revised();
+    checked_programs_keep_the_rules();
 }
 
 /// The strand of a program's beginning.
@@ -103,6 +125,29 @@ fn go_back(strand: &mut Strand<PlainView>, parents: &mut Vec<Task>)
     }
 }
 
+/// One small step, where there are no records and no free kits.
+pub fn advance(
+    alloc: Global,
+    program: &Checked,
+    tables: &Tables,
+    strand: &mut Strand<PlainView>,
+    pool: &mut Pool<Kit<PlainView>>,
+) -> Result<(), AllocError>
+    requires kinds { strand.old.layer.kinds ≡ program.now.kinds }
+    requires lower { strand.old.lower ≡ [] }
+    requires none { pool.old.kits ≡ [] }
+    requires total { pool.old.total ≡ 1 }
+    ensures kinds { strand.new.layer.kinds ≡ strand.old.layer.kinds }
+    ensures lower { strand.new.lower ≡ [] }
+    ensures none { pool.new.kits ≡ [] }
+    ensures total { pool.new.total ≡ 1 }
+{
+    are_monoids(program);
+    let records = Records::new(alloc);
+    let _ = strand.advance(alloc, program, tables, &records, pool)?;
+    Ok(())
+}
+
 /// One small step, and what is to be done where it comes to a spawn or a return.
 pub fn step(
     alloc: Global,
@@ -114,11 +159,15 @@ pub fn step(
     parents: &mut Vec<Task>,
 ) -> Result<(), AllocError>
     requires kinds { strand.old.layer.kinds ≡ program.now.kinds }
+    requires lower { strand.old.lower ≡ [] }
+    requires none { pool.old.kits ≡ [] }
+    requires total { pool.old.total ≡ 1 }
     ensures kinds { strand.new.layer.kinds ≡ strand.old.layer.kinds }
-    ensures lower { strand.new.lower ≡ strand.old.lower }
+    ensures lower { strand.new.lower ≡ [] }
+    ensures none { pool.new.kits ≡ [] }
+    ensures total { pool.new.total ≡ 1 }
 {
-    let records = Records::new();
-    let _ = strand.advance(alloc, program, tables, &records, pool)?;
+    advance(alloc, program, tables, strand, pool)?;
     spawn(alloc, strand, child, parents)?;
     go_back(strand, parents);
     Ok(())
@@ -132,16 +181,16 @@ pub fn to_pause(
     strand: &mut Strand<PlainView>,
 ) -> Result<(), AllocError>
     requires kinds { strand.old.layer.kinds ≡ program.now.kinds }
+    requires lower { strand.old.lower ≡ [] }
     ensures kinds { strand.new.layer.kinds ≡ strand.old.layer.kinds }
-    ensures lower { strand.new.lower ≡ strand.old.lower }
+    ensures lower { strand.new.lower ≡ [] }
 {
-    let records = Records::new();
-    let mut pool = Pool::new(Vec::new(alloc));
+    let mut pool = no_kits(alloc)?;
     for i in 0..STEPS {
         if strand.pause(program) != Paused::Working {
             break;
         }
-        let _ = strand.advance(alloc, program, tables, &records, &mut pool)?;
+        advance(alloc, program, tables, strand, &mut pool)?;
     }
     Ok(())
 }
@@ -155,10 +204,11 @@ pub fn go_on(
     child: Child,
 ) -> Result<(), AllocError>
     requires kinds { strand.old.layer.kinds ≡ program.now.kinds }
+    requires lower { strand.old.lower ≡ [] }
     ensures kinds { strand.new.layer.kinds ≡ strand.old.layer.kinds }
-    ensures lower { strand.new.lower ≡ strand.old.lower }
+    ensures lower { strand.new.lower ≡ [] }
 {
-    let mut pool = Pool::new(Vec::new(alloc));
+    let mut pool = no_kits(alloc)?;
     let mut parents = Vec::new(alloc);
     for i in 0..STEPS {
         step(
@@ -181,10 +231,9 @@ pub fn run(
     tables: &Tables,
     child: Child,
 ) -> Result<(RunAnswer, usize), AllocError> {
-    let mut pool = Pool::new(vec![in alloc; kit(alloc, &[])?]?);
-    let _ = pool.take();
+    let mut pool = no_kits(alloc)?;
     let mut strand = begin(alloc, program)?;
     go_on(alloc, program, tables, &mut strand, child)?;
-    let answer = strand.end(alloc, &mut pool);
+    let (answer, _) = strand.end(alloc, &mut pool);
     Ok((answer, pool.free()))
 }

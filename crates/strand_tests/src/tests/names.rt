@@ -1,9 +1,8 @@
 //! By which names strands are known, and at which points they are.
-ghost use Rattle.std.specs.Prelude.{◌≡◌, IfOk};
+ghost use Rattle.std.specs.Prelude.{◌≡◌, [], IfOk};
 
-use super::driving::{begin, checked, kit, parent, to_pause};
+use super::driving::{advance, begin, checked, kit, no_kits, parent, to_pause};
 use frames::answer::RunAnswer;
-use frames::records::Records;
 use frames::strand::Strand;
 use frames::task::Task;
 use input_tables::Tables;
@@ -11,7 +10,7 @@ use linked_program::checked::Checked;
 use positions::phase::Phase;
 use std::alloc::{AllocError, Global};
 use std::test::Fail;
-use view_pool::{PlainView, Pool};
+use view_pool::PlainView;
 
 const LEAVES: &str =
     "reducer total : add; proc leaf(v) { update total v; return v; } proc main() { x = spawn leaf(1); y = spawn leaf(2); update total 9; sync; return x + y; }";
@@ -23,7 +22,9 @@ fn paused(
     strand: &mut Strand<PlainView>,
 ) -> Result<Phase, AllocError>
     requires kinds { strand.old.layer.kinds ≡ program.now.kinds }
+    requires lower { strand.old.lower ≡ [] }
     ensures kinds { strand.new.layer.kinds ≡ strand.old.layer.kinds }
+    ensures lower { strand.new.lower ≡ [] }
 {
     let tables = Tables::new(alloc);
     to_pause(alloc, program, &tables, strand)?;
@@ -41,6 +42,7 @@ fn thief(alloc: Global, program: &Checked, parent: Task) -> Result<Strand<PlainV
 // The program, and its strand at its first spawn.
 fn at_spawn(alloc: Global) -> Result<(Checked, Strand<PlainView>), Fail>
     ensures kinds { IfOk result (λ found. found.1.layer.kinds ≡ found.0.kinds) }
+    ensures lower { IfOk result (λ found. found.1.lower ≡ []) }
 {
     let program = checked(alloc, LEAVES, &Tables::new(alloc))?;
     let mut strand = begin(alloc, &program)?;
@@ -88,14 +90,15 @@ fn passes_its_update(
     strand: &mut Strand<PlainView>,
 ) -> Result<bool, AllocError>
     requires kinds { strand.old.layer.kinds ≡ program.now.kinds }
+    requires lower { strand.old.lower ≡ [] }
     ensures kinds { strand.new.layer.kinds ≡ strand.old.layer.kinds }
+    ensures lower { strand.new.lower ≡ [] }
 {
     let tables = Tables::new(alloc);
-    let records = Records::new();
-    let mut pool = Pool::new(Vec::new(alloc));
-    let _ = strand.advance(alloc, program, &tables, &records, &mut pool)?;
+    let mut pool = no_kits(alloc)?;
+    advance(alloc, program, &tables, strand, &mut pool)?;
     let before = strand.at_update(program);
-    let _ = strand.advance(alloc, program, &tables, &records, &mut pool)?;
+    advance(alloc, program, &tables, strand, &mut pool)?;
     Ok(before && !strand.at_update(program))
 }
 
@@ -106,6 +109,7 @@ fn child_alone(
     strand: &mut Strand<PlainView>,
 ) -> Result<bool, AllocError>
     requires kinds { strand.old.layer.kinds ≡ program.now.kinds }
+    requires lower { strand.old.lower ≡ [] }
 {
     let is_named = strand.name() == [1].as_slice();
     let parent = parent(alloc, strand)?;

@@ -1,15 +1,14 @@
 //! Continuations that are stolen: each strand has a kit of its own, and neighbours become one strand again.
-ghost use Rattle.std.specs.Prelude.{◌≡◌, [], All, IfOk, true};
+ghost use Rattle.std.specs.Prelude.{◌≡◌, [], All, IfOk};
 ghost use Rattle.monoid_laws.specs.Kinds.{IsMonoid};
 
 use super::answers::{SALES, Wanted, is_faulted, is_finished, is_slow_answer};
-use super::driving::{Child, checked, go_on, kit, parent, to_pause};
+use super::driving::{Child, are_monoids, checked, go_on, kit, parent, to_pause};
 use frames::answer::RunAnswer;
 use frames::strand::Strand;
 use input_tables::Tables;
 use linked_program::checked::Checked;
 use meaning::FaultKind;
-use monoid_laws::{Kind, laws_of};
 use positions::phase::{Paused, Phase};
 use std::alloc::{AllocError, Global};
 use std::test::Fail;
@@ -95,34 +94,15 @@ fn rob(
 ) -> Result<Strand<PlainView>, AllocError>
     requires kits { All (λ k. k ≡ program.now.kinds) pool.old.kits }
     requires kinds { victim.old.layer.kinds ≡ program.now.kinds }
+    requires lower { victim.old.lower ≡ [] }
     ensures kits { All (λ k. k ≡ program.now.kinds) pool.new.kits }
     ensures kinds { IfOk result (λ thief. thief.layer.kinds ≡ program.now.kinds) }
     ensures lower { IfOk result (λ thief. thief.lower ≡ []) }
     ensures victim_kinds { victim.new.layer.kinds ≡ victim.old.layer.kinds }
-    ensures victim_lower { victim.new.lower ≡ victim.old.lower }
+    ensures victim_lower { victim.new.lower ≡ [] }
 {
     to_pause(alloc, program, tables, victim)?;
     steal(alloc, program, victim, pool)
-}
-
-// Whether a kind's values are lists.
-fn is_list(kind: Kind) -> bool
-    ensures monoid { result ≡ true → IsMonoid kind }
-{
-    laws_of(kind);
-    matches!(kind, Kind::List | Kind::First(_) | Kind::Last(_))
-}
-
-// Whether each kind's values are lists.
-fn are_lists(kinds: &[Kind]) -> bool
-    ensures monoids { result ≡ true → All IsMonoid kinds.now }
-{
-    for i in 0..kinds.len() {
-        if !is_list(kinds[i]) {
-            return false;
-        }
-    }
-    true
 }
 
 // Whether the left strand is through, and the right one waits for it.
@@ -162,9 +142,10 @@ fn fold(
 {
     give_up(left, pool);
     give_up(&mut right, pool);
-    if !are_lists(program.kinds()) || !are_neighbours(program, left, &right) {
+    if !are_neighbours(program, left, &right) {
         return Err(AllocError);
     }
+    are_monoids(program);
     join(left, right, pool)
 }
 
@@ -207,7 +188,7 @@ fn put_behind(
     requires right_kinds { right.layer.kinds ≡ program.now.kinds }
     requires right_lower { right.lower ≡ [] }
     ensures kinds { left.new.layer.kinds ≡ left.old.layer.kinds }
-    ensures lower { left.new.lower ≡ left.old.lower }
+    ensures lower { left.new.lower ≡ [] }
 {
     go_on(alloc, program, tables, &mut right, child)?;
     go_on(alloc, program, tables, left, child)?;
@@ -229,7 +210,7 @@ fn play(
     requires kinds { victim.old.layer.kinds ≡ program.now.kinds }
     requires lower { victim.old.lower ≡ [] }
     ensures kinds { victim.new.layer.kinds ≡ victim.old.layer.kinds }
-    ensures lower { victim.new.lower ≡ victim.old.lower }
+    ensures lower { victim.new.lower ≡ [] }
 {
     if thefts == 0 {
         return Ok(());
@@ -259,7 +240,7 @@ fn run(
         child,
     )?;
     go_on(alloc, program, tables, &mut strand, child)?;
-    let answer = strand.end(alloc, &mut pool);
+    let (answer, _) = strand.end(alloc, &mut pool);
     Ok((answer, pool.free()))
 }
 

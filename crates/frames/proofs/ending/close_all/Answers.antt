@@ -1,7 +1,9 @@
-use Rattle.std.proofs.Common.{arith, ◌≡◌, ◌+◌, ◌<◌, suc, ◌++◌, ◌∷◌, [], All, length, reverse, subst, sym, ◌∙◌, ap}
+use Rattle.std.proofs.Common.{rules, arith, List, ◌⊎◌, ◌≡◌, ◌+◌, ◌<◌, suc, ◌++◌, ◌∷◌, [], All, length, reverse, subst, sym, ◌∙◌, ap}
 use Rattle.std.proofs.lemmas.List.{length-append}
+use Rattle.monoid_laws.specs.declared.Kind.{Kind}
 use Rattle.positions.specs.Layers.{PlainLayer, lowest}
 use Rattle.frames.proofs.Lowest.{all_but_last, last_of_all, lowest_popped}
+use Rattle.frames.proofs.Supplies.{either_kept}
 use Rattle.frames.proofs.ending.close_all.Goals as goal
 
 pub loop-next-preserved : goal.loop-next-preserved
@@ -9,6 +11,9 @@ loop-next-preserved g c =
     let all : All (λ (m : PlainLayer). m.kinds ≡ c.args.layer.now.kinds) (c.pop.new.self.items ++ c.in-Some.next ∷ []) =
     subst (All (λ (m : PlainLayer). m.kinds ≡ c.args.layer.now.kinds)) c.in-Some.ensures.items c.loop-next.invariant.kinds in
     let same : c.in-Some.next.kinds ≡ c.args.layer.now.kinds = last_of_all (λ (m : PlainLayer). m.kinds ≡ c.args.layer.now.kinds) c.pop.new.self.items c.in-Some.next all in
+    let closed : c.close.result ≡ c.args.layer.now.kinds = search rules in
+    let kept_or : (k : List Kind) → g.K.KitSource.gives k c.loop-next.kits ⊎ c.close.result ≡ k → g.K.KitSource.gives k c.args.kits.now ⊎ c.args.layer.now.kinds ≡ k =
+    λ k h. either_kept (g.K.KitSource.gives k c.loop-next.kits) (g.K.KitSource.gives k c.args.kits.now) c.close.result c.args.layer.now.kinds k closed (c.loop-next.invariant.kept k) h in
     let more : length c.loop-next.lower.items ≡ length c.pop.new.self.items + 1 = ap length c.in-Some.ensures.items ∙ length-append c.pop.new.self.items (c.in-Some.next ∷ []) in
     record {
       lowest = ap (λ m. lowest m (reverse c.pop.new.self.items)) c.replace-upper.ensures.after
@@ -19,6 +24,7 @@ loop-next-preserved g c =
       same = ap (λ (m : PlainLayer). m.kinds) c.replace-upper.ensures.after ∙ same;
       fits = c.send_home.ensures.fitting c.args.layer.now.kinds c.loop-next.invariant.fits;
       fitting = λ k h. c.send_home.ensures.fitting k (c.loop-next.invariant.fitting k h);
+      kept = λ k h. kept_or k (c.send_home.ensures.kept k h);
       given = λ enough.
           let before : length c.loop-next.lower.items + g.K.KitSource.free c.loop-next.kits ≡ length c.args.lower.now.items + g.K.KitSource.free c.args.kits.now = c.loop-next.invariant.given enough in
           let all_kits : g.K.KitSource.total c.loop-next.kits ≡ g.K.KitSource.total c.args.kits.now = c.loop-next.invariant.total in

@@ -1,4 +1,4 @@
-use Rattle.std.proofs.Common.{◌≡◌, ◌+◌, ◌≤◌, List, All, reverse, length}
+use Rattle.std.proofs.Common.{◌≡◌, ◌⊎◌, ◌+◌, ◌≤◌, List, All, reverse, length}
 use Rattle.monoid_laws.specs.declared.Kind.{Kind}
 use Rattle.positions.specs.Layers.{PlainLayer, lowest}
 use Rattle.frames.proofs.ending.close_all.Given as goal
@@ -10,6 +10,7 @@ invariant-loop-next g l = record {
   same : l.layer.kinds ≡ l.fn.layer.kinds;
   fits : g.K.KitSource.fits l.fn.layer.kinds l.kits;
   fitting : (k : List Kind) → g.K.KitSource.fits k l.fn.kits → g.K.KitSource.fits k l.kits;
+  kept : (k : List Kind) → g.K.KitSource.gives k l.kits → g.K.KitSource.gives k l.fn.kits ⊎ l.fn.layer.kinds ≡ k;
   given : length l.fn.lower.items + g.K.KitSource.free l.fn.kits ≤ g.K.KitSource.total l.fn.kits → length l.lower.items + g.K.KitSource.free l.kits ≡ length l.fn.lower.items + g.K.KitSource.free l.fn.kits;
   total : g.K.KitSource.total l.kits ≡ g.K.KitSource.total l.fn.kits;
 }

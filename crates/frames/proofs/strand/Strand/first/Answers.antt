@@ -1,16 +1,14 @@
-use Rattle.std.proofs.Common.{◌≡◌, sym, ap, subst, ◌∙◌}
-use Rattle.positions.specs.Setting.{setting_of}
+use Rattle.std.proofs.Common.{sym, ap, subst, ◌∙◌}
+use Rattle.positions.specs.Setting.{setting_with}
 use Rattle.positions.specs.Strands.{PlainStrand}
 use Rattle.positions.specs.Moves.{first_strand}
 use Rattle.positions.specs.Simulation.{IsFirst}
 use Rattle.positions.proofs.Moves.{first_is}
-use Rattle.frames.proofs.Results.{if_ok}
 use Rattle.frames.proofs.strand.Strand.first.Goals as goal
 
-pub returns-clause-beginning : goal.returns-clause-beginning
-returns-clause-beginning g c same tables =
+pub returns-in-Ok-clause-beginning : goal.returns-in-Ok-clause-beginning
+returns-in-Ok-clause-beginning g c tables kept records =
     let p = c.args.program.now in
-    if_ok (λ (s : PlainStrand). s ≡ first_strand p.codes c.args.kit p.main) (λ (s : PlainStrand). IsFirst (setting_of p tables) s)
-    (λ s e. subst (λ (z : PlainStrand). IsFirst (setting_of p tables) z) (sym (e ∙ ap (λ ks. first_strand p.codes ks p.main) same))
-    (first_is (setting_of p tables) (record { codes = c.linked.ensures.codes; kinds = c.linked.ensures.kinds }) p.main c.linked.ensures.main))
-    c.begin.result c.begin.ensures.first
+    let setting = setting_with p tables kept records in
+    subst (λ (z : PlainStrand). IsFirst setting z) (sym (c.in-Ok.ensures.first ∙ ap (λ ks. first_strand p.codes ks p.main) c.requires.kinds))
+    (first_is setting (record { codes = c.linked.ensures.codes; kinds = c.linked.ensures.kinds }) p.main c.linked.ensures.main)

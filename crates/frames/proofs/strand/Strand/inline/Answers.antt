@@ -1,4 +1,4 @@
-use Rattle.std.proofs.Common.{reverse, subst}
+use Rattle.std.proofs.Common.{sym, subst, ◌∙◌, ap}
 use Rattle.positions.specs.Strands.{PlainStrand}
 use Rattle.positions.specs.Moves.{inlined}
 use Rattle.positions.specs.Simulation.{IsInlined}
@@ -7,5 +7,4 @@ use Rattle.frames.proofs.strand.Strand.inline.Goals as goal
 
 pub returns-clause-definition : goal.returns-clause-definition
 returns-clause-definition g c setting =
-    let s : PlainStrand = record { start = c.self.inside.start; layer = c.self.inside.layer; lower = reverse c.self.inside.lower.items; path = c.self.inside.path.items; top = c.self.inside.top; below = reverse c.self.inside.below.items; phase = c.self.inside.phase } in
-    subst (λ (z : PlainStrand). IsInlined setting z (inlined s)) c.self.view_is (inlined_is setting s)
+    subst (λ (z : PlainStrand). IsInlined setting c.args.self.now z) (sym (c.call_child.ensures.called ∙ ap inlined c.self.view_is)) (inlined_is setting c.args.self.now)

@@ -1,0 +1,45 @@
+-- Readings that are put in once.
+use Rattle.std.proofs.Common.{◌≡◌, ℕ, ◌+◌, ◌<◌, Bool, true, false, cond, if◌then◌else◌, ◌||◌, List, [], ◌∷◌, ◌++◌, length, drop, refl, sym, ap, ◌∙◌, get_or}
+use Rattle.std.specs.List.{list_any}
+use Rattle.std.proofs.lemmas.List.{drop_more}
+use Rattle.indexmap.specs.IndexSet.{insert_key}
+use Rattle.evaluation.specs.declared.note.Note.{Note}
+use Rattle.evaluation.specs.declared.note.Note.TheVariants as n
+use Rattle.evaluation.specs.contracts.note.NotePartialEq.TheImpl as notes
+use Rattle.positions.specs.Values.{same_note}
+use Rattle.positions.specs.Tallies.{once, once_behind, put_note}
+
+module _ (eq : Note → Note → Bool) (same : (a b : Note) → eq a b ≡ same_note a b) where
+  any_same : (n : Note) (seen : List Note) → list_any (eq n) seen ≡ list_any (same_note n) seen
+  any_same n [] = refl
+  any_same n (m ∷ seen) = ap (λ b. b || list_any (eq n) seen) (same n m) ∙ ap (λ b. same_note n m || b) (any_same n seen)
+
+  put_by : (b : Bool) (seen more : List Note) → (if b then seen else more) ≡ cond b seen more
+  put_by true seen more = refl
+  put_by false seen more = refl
+
+  pub put_as_key : (seen : List Note) (n : Note) → insert_key eq seen n ≡ put_note seen n
+  put_as_key seen n = put_by (list_any (eq n) seen) seen (seen ++ n ∷ []) ∙ ap (λ b. cond b seen (seen ++ n ∷ [])) (any_same n seen)
+
+-- readings are compared part by part
+derived_same : (a b : Note) → (notes.ghosts).eq a b ≡ same_note a b
+derived_same (n.Cell t row c v) (n.Cell u s d w) = refl
+derived_same (n.Cell t row c v) (n.Has u s d) = refl
+derived_same (n.Cell t row c v) (n.Limit u w) = refl
+derived_same (n.Has t row true) (n.Has u s true) = refl
+derived_same (n.Has t row true) (n.Has u s false) = refl
+derived_same (n.Has t row false) (n.Has u s true) = refl
+derived_same (n.Has t row false) (n.Has u s false) = refl
+derived_same (n.Has t row b) (n.Cell u s d w) = refl
+derived_same (n.Has t row b) (n.Limit u w) = refl
+derived_same (n.Limit t v) (n.Limit u w) = refl
+derived_same (n.Limit t v) (n.Cell u s d w) = refl
+derived_same (n.Limit t v) (n.Has u s d) = refl
+
+pub inserted_is : (seen : List Note) (n : Note) → insert_key (notes.ghosts).eq seen n ≡ put_note seen n
+inserted_is seen n = put_as_key (notes.ghosts).eq derived_same seen n
+
+pub still_once : (seen more : List Note) (ns : List Note) (i : ℕ) (n : Note) → i < length ns → more ≡ put_note seen (get_or ns i n)
+    → once_behind seen (drop i ns) ≡ once ns → once_behind more (drop (i + 1) ns) ≡ once ns
+still_once seen more ns i n l put so_far =
+    ap (λ s. once_behind s (drop (i + 1) ns)) put ∙ ap (once_behind seen) (sym (drop_more ns i n l)) ∙ so_far

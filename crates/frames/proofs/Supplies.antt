@@ -1,0 +1,36 @@
+-- Steps with a free kit and without, and the kits that they take and give back.
+use Rattle.std.proofs.Common.{◌≡◌, ℕ, Bool, true, false, List, length, Result, Ok, Err, OnOk, refl, ap, sym, ◌∙◌, ◌+◌, ◌⊎◌, inl, inr}
+use Rattle.monoid_laws.specs.declared.Kind.{Kind}
+use Rattle.rerun_records.specs.Record.{PlainRecord}
+use Rattle.positions.specs.Layers.{PlainLayer}
+use Rattle.frames.specs.Steps.{HoldsBy, IsSupplied, KeepsKits}
+
+module _ (lacks none : Type 0) where
+  -- a step that asks for no kit
+  pub either_way : (P : Bool → Type 0) → ((kit : Bool) → P kit) → HoldsBy lacks none P
+  either_way P h = record { kit = true; done = h true; with_kit = λ l. h true; without_kit = λ n. h false }
+
+  pub holds_as : (P Q : Bool → Type 0) → ((kit : Bool) → P kit → Q kit) → HoldsBy lacks none P → HoldsBy lacks none Q
+  holds_as P Q f h = record { kit = h.kit; done = f h.kit h.done; with_kit = λ l. f true (h.with_kit l); without_kit = λ n. f false (h.without_kit n) }
+
+  pub holds_on : {A E : Type 0} (P Q : Bool → Type 0) → ((kit : Bool) → P kit → Q kit) → (r : Result A E) → OnOk r (HoldsBy lacks none P) → OnOk r (HoldsBy lacks none Q)
+  holds_on P Q f (Ok a) h = holds_as P Q f h
+  holds_on P Q f (Err e) h = h
+
+  pub either_on : {A E : Type 0} (P : Type 0) (Q : Bool → Type 0) → (P → (kit : Bool) → Q kit) → (r : Result A E) → OnOk r P → OnOk r (HoldsBy lacks none Q)
+  either_on P Q f (Ok a) h = either_way Q (f h)
+  either_on P Q f (Err e) h = h
+
+module _ {S : Type 0} (fits gives : List Kind → S → Type 0) (free total : S → ℕ) (kinds : List Kind) (kits : S) where
+  -- no kit was taken or given back
+  pub kits_stay : (before after : List PlainLayer) → ((k : List Kind) → gives k kits → k ≡ kinds) → after ≡ before → KeepsKits fits gives free total kinds kits kits before after
+  kits_stay before after given e = record { count = ap (λ ls. length ls + free kits) e; all = refl; fitting = λ k h. h; given = given }
+
+  pub supplied_as : (records : List PlainRecord) (topmost topmost' : List Kind) (lower lower' : List PlainLayer) → topmost' ≡ topmost → lower' ≡ lower
+      → IsSupplied fits gives free total kinds kits records topmost lower → IsSupplied fits gives free total kinds kits records topmost' lower'
+  supplied_as records topmost topmost' lower lower' e f h = rw e (rw f h)
+
+-- a kit that may be given may have been given before, or is one of those that came home
+pub either_kept : (Now Before : Type 0) (home kinds k : List Kind) → home ≡ kinds → (Now → Before ⊎ kinds ≡ k) → Now ⊎ home ≡ k → Before ⊎ kinds ≡ k
+either_kept Now Before home kinds k e f (inl h) = f h
+either_kept Now Before home kinds k e f (inr h) = inr (sym e ∙ h)

@@ -1,0 +1,174 @@
+-- What a strand keeps: one layer more than there are open instances, the same kinds in all layers, and records of these kinds.
+use Rattle.std.proofs.Common.{◌≡◌, ℕ, ℤ, Bool, List, [], ◌∷◌, length, All, Option, Some, None, Result, Ok, Err, OnOk, OnErr, refl, sym, ap, ◌∙◌, subst, arith}
+use Rattle.std.proofs.lemmas.List.Elements.{All-cons, All-tail, All-nil}
+use Rattle.monoid_laws.specs.declared.Kind.{Kind}
+use Rattle.rerun_records.specs.Record.{PlainRecord}
+use Rattle.rerun_records.specs.Named.{AreValuesFrom, HaveValues}
+use Rattle.positions.specs.declared.phase.Fault.{Fault}
+use Rattle.positions.specs.declared.phase.Phase.{Phase}
+use Rattle.positions.specs.declared.phase.Phase.TheVariants.{Entering, Running, AtSpawn, Returning, Leaving, Broken}
+use Rattle.positions.specs.Setting.{Setting}
+use Rattle.positions.specs.Activations.{PlainActivation}
+use Rattle.positions.specs.Layers.{PlainLayer}
+use Rattle.positions.specs.Tallies.{PlainTally}
+use Rattle.positions.specs.Strands.{PlainStrand, PlainTask, IsLayered, IsLayeredAt}
+use Rattle.positions.specs.Advance.{advanced}
+use Rattle.positions.specs.Moves.{resumed, resumed_by, returned_at, joined_at, joined_after, joined_ended, joined, lowest_alone, FoldsViews}
+use Rattle.positions.proofs.Layered.{layers_kept}
+use Rattle.frames.specs.Joins.{IsDone, HasFault, with_worths}
+use Rattle.frames.specs.Steps.{IsWhole, IsValued, revalued, revalued_first}
+use Rattle.frames.proofs.Keeping.{kinds_kept}
+use Rattle.frames.proofs.Refusals.{top_valued}
+
+abbrev pub Counts : PlainStrand → Type 0
+Counts s = length s.tally.opened ≡ length s.lower
+
+layered_at : (ph : Phase) (s : PlainStrand) → Counts s → IsLayeredAt ph s
+layered_at Entering s h = h
+layered_at Running s h = h
+layered_at AtSpawn s h = h
+layered_at (Returning v) s h = h
+layered_at (Leaving v) s h = h
+layered_at (Broken f) s h = tt
+
+pub at_phase : (s : PlainStrand) (ph : Phase) → s.phase ≡ ph → IsWhole s → IsLayeredAt ph s
+at_phase s ph e h = subst (λ p. IsLayeredAt p s) e h.layered
+
+kinds_as : (ks cs : List Kind) (lower : List PlainLayer) → ks ≡ cs → All (λ (l : PlainLayer). l.kinds ≡ ks) lower → All (λ (l : PlainLayer). l.kinds ≡ cs) lower
+kinds_as ks cs lower e h = subst (λ zs. All (λ (l : PlainLayer). l.kinds ≡ zs) lower) e h
+
+made_as : (ks cs : List Kind) (made : List PlainRecord) → ks ≡ cs → HaveValues ks made → HaveValues cs made
+made_as ks cs made e h = subst (λ zs. HaveValues zs made) e h
+
+-- another phase of the same layers
+pub whole_as : (s t : PlainStrand) → Counts s → t.layer.kinds ≡ s.layer.kinds → t.lower ≡ s.lower → t.tally ≡ s.tally → IsWhole s → IsWhole t
+whole_as s t n e f k h = record {
+  layered = layered_at t.phase t (ap (λ (x : PlainTally). length x.opened) k ∙ n ∙ sym (ap length f));
+  kinds = subst (λ ls. All (λ (l : PlainLayer). l.kinds ≡ t.layer.kinds) ls) (sym f) (kinds_as s.layer.kinds t.layer.kinds s.lower (sym e) h.kinds);
+  made = made_as s.layer.kinds t.layer.kinds t.tally.made (sym e) (subst (λ (x : PlainTally). HaveValues s.layer.kinds x.made) (sym k) h.made);
+}
+
+-- ---- steps
+
+pub advanced_whole : (setting : Setting) (kit : Bool) (s t : PlainStrand) → s.layer.kinds ≡ setting.kinds → t ≡ advanced setting kit s → HaveValues s.layer.kinds t.tally.made → IsWhole s → IsWhole t
+advanced_whole setting kit s t e is made h =
+    let after = advanced setting kit s in
+    let kept = kinds_kept setting kit s e (kinds_as s.layer.kinds setting.kinds s.lower e h.kinds) in
+    let same : t.layer.kinds ≡ setting.kinds = ap (λ (u : PlainStrand). u.layer.kinds) is ∙ kept.0 in
+    record {
+      layered = subst IsLayered (sym is) (layers_kept setting kit s h.layered);
+      kinds = subst (λ (u : PlainStrand). All (λ (l : PlainLayer). l.kinds ≡ t.layer.kinds) u.lower) (sym is) (kinds_as setting.kinds t.layer.kinds after.lower (sym same) kept.1);
+      made = made_as s.layer.kinds t.layer.kinds t.tally.made (e ∙ sym same) made;
+    }
+
+revalued_length : (ls ms : List PlainLayer) → length (revalued_first ls ms) ≡ length ls
+revalued_length [] ms = refl
+revalued_length (l ∷ ls) [] = refl
+revalued_length (l ∷ ls) (m ∷ ms) = refl
+
+revalued_kinds : (ks : List Kind) (ls ms : List PlainLayer) → All (λ (l : PlainLayer). l.kinds ≡ ks) ls → All (λ (l : PlainLayer). l.kinds ≡ ks) (revalued_first ls ms)
+revalued_kinds ks [] ms h = h
+revalued_kinds ks (l ∷ ls) [] h = h
+revalued_kinds ks (l ∷ ls) (m ∷ ms) h = All-cons (λ (k : PlainLayer). k.kinds ≡ ks) (revalued l m) ls (h 0 l (omega arith)) (All-tail (λ (k : PlainLayer). k.kinds ≡ ks) l ls h)
+
+layered_as : (ph : Phase) (s t : PlainStrand) → length t.tally.opened ≡ length s.tally.opened → length t.lower ≡ length s.lower → IsLayeredAt ph s → IsLayeredAt ph t
+layered_as Entering s t e f h = e ∙ h ∙ sym f
+layered_as Running s t e f h = e ∙ h ∙ sym f
+layered_as AtSpawn s t e f h = e ∙ h ∙ sym f
+layered_as (Returning v) s t e f h = e ∙ h ∙ sym f
+layered_as (Leaving v) s t e f h = e ∙ h ∙ sym f
+layered_as (Broken b) s t e f h = tt
+
+pub valued_whole : (s t : PlainStrand) → IsValued s t → IsWhole s → IsWhole t
+valued_whole s t is h =
+    let u : PlainStrand = record s { layer = revalued s.layer t.layer; lower = revalued_first s.lower t.lower } in
+    let whole : IsWhole u = record { layered = layered_as s.phase s u refl (revalued_length s.lower t.lower) h.layered; kinds = revalued_kinds s.layer.kinds s.lower t.lower h.kinds; made = h.made } in
+    subst IsWhole (sym is) whole
+
+-- ---- moves
+
+resumed_counts : (ph : Phase) (below : List PlainActivation) (path : List ℕ) (s : PlainStrand) (v : ℤ) → returned_at ph below path ≡ Some v → IsLayeredAt ph s → Counts s
+resumed_counts (Leaving w) [] (k ∷ n) s v e h = h
+resumed_counts (Leaving w) [] [] s v e h = absurd cc
+resumed_counts (Leaving w) (a ∷ below) path s v e h = absurd cc
+resumed_counts Entering below path s v e h = absurd cc
+resumed_counts Running below path s v e h = absurd cc
+resumed_counts AtSpawn below path s v e h = absurd cc
+resumed_counts (Returning w) below path s v e h = absurd cc
+resumed_counts (Broken f) below path s v e h = absurd cc
+
+resumed_by_whole : (r : Option ℤ) (task : PlainTask) (s : PlainStrand) → ((v : ℤ) → r ≡ Some v → Counts s) → IsWhole s → IsWhole (resumed_by r task s)
+resumed_by_whole None task s n h = h
+resumed_by_whole (Some v) task s n h = whole_as s (resumed_by (Some v) task s) (n v refl) refl refl refl h
+
+pub resumed_whole : (task : PlainTask) (s : PlainStrand) → IsWhole s → IsWhole (resumed task s)
+resumed_whole task s h = resumed_by_whole (returned_at s.phase s.below s.path) task s (λ v e. resumed_counts s.phase s.below s.path s v e h.layered) h
+
+-- ---- joins
+
+joined_ended_whole : (l r : PlainStrand) (v : ℤ) → Counts l → IsWhole l → HaveValues l.layer.kinds (joined_ended l v r).tally.made → IsWhole (joined_ended l v r)
+joined_ended_whole l r v n h made = record { layered = layered_at (joined_ended l v r).phase (joined_ended l v r) n; kinds = h.kinds; made = made }
+
+joined_after_whole : (ph : Phase) (l r : PlainStrand) (v : ℤ) → Counts l → IsWhole l → HaveValues l.layer.kinds (joined_after ph l v r).tally.made → IsWhole (joined_after ph l v r)
+joined_after_whole (Broken f) l r v n h made = record { layered = tt; kinds = h.kinds; made = made }
+joined_after_whole Entering l r v n h made = joined_ended_whole l r v n h made
+joined_after_whole Running l r v n h made = joined_ended_whole l r v n h made
+joined_after_whole AtSpawn l r v n h made = joined_ended_whole l r v n h made
+joined_after_whole (Returning w) l r v n h made = joined_ended_whole l r v n h made
+joined_after_whole (Leaving w) l r v n h made = joined_ended_whole l r v n h made
+
+joined_at_whole : (ph : Phase) (l r : PlainStrand) → IsDone ph → IsLayeredAt ph l → IsWhole l → HaveValues l.layer.kinds (joined_at ph l r).tally.made → IsWhole (joined_at ph l r)
+joined_at_whole (Broken f) l r d n h made = record { layered = tt; kinds = h.kinds; made = made }
+joined_at_whole (Leaving v) l r d n h made = joined_after_whole r.phase l r v n h made
+joined_at_whole Entering l r d n h made = absurd d
+joined_at_whole Running l r d n h made = absurd d
+joined_at_whole AtSpawn l r d n h made = absurd d
+joined_at_whole (Returning v) l r d n h made = absurd d
+
+pub joined_whole : (l r new : PlainStrand) → IsDone l.phase → new ≡ joined l r → HaveValues l.layer.kinds new.tally.made → IsWhole l → IsWhole new
+joined_whole l r new d is made h =
+    subst IsWhole (sym is) (joined_at_whole l.phase l r d h.layered h (subst (λ (z : PlainStrand). HaveValues l.layer.kinds z.tally.made) is made))
+
+-- a faulted strand with its lowest layer alone
+alone_layered : (ph : Phase) (s : PlainStrand) → HasFault ph → IsLayeredAt ph s
+alone_layered (Broken f) s h = tt
+alone_layered Entering s h = absurd h
+alone_layered Running s h = absurd h
+alone_layered AtSpawn s h = absurd h
+alone_layered (Returning v) s h = absurd h
+alone_layered (Leaving v) s h = absurd h
+
+pub alone_whole : (s new : PlainStrand) → HasFault s.phase → new ≡ lowest_alone s → new.layer.kinds ≡ s.layer.kinds → IsWhole s → IsWhole new
+alone_whole s new f is same h =
+    let u = lowest_alone s in
+    let e : u.layer.kinds ≡ s.layer.kinds = sym (ap (λ (z : PlainStrand). z.layer.kinds) is) ∙ same in
+    let whole : IsWhole u = record { layered = alone_layered s.phase u f; kinds = All-nil (λ (l : PlainLayer). l.kinds ≡ u.layer.kinds); made = made_as s.layer.kinds u.layer.kinds s.tally.made (sym e) h.made } in
+    subst IsWhole (sym is) whole
+
+-- a strand that begins has one layer
+pub begun_whole : (s : PlainStrand) → s.lower ≡ [] → s.tally.opened ≡ [] → s.tally.made ≡ [] → IsWhole s
+begun_whole s e f k = record {
+  layered = layered_at s.phase s (ap length f ∙ sym (ap length e));
+  kinds = subst (λ ls. All (λ (l : PlainLayer). l.kinds ≡ s.layer.kinds) ls) (sym e) (All-nil (λ (l : PlainLayer). l.kinds ≡ s.layer.kinds));
+  made = subst (λ rs. HaveValues s.layer.kinds rs) (sym k) (All-nil (λ (r : PlainRecord). AreValuesFrom 0 s.layer.kinds r.contribution));
+}
+
+-- ---- a right neighbour that isn't broken
+
+pub folds : (ph right : Phase) (v : ℤ) → ph ≡ Leaving v → ((f : Fault) → right ≡ Broken f → ⊥) → FoldsViews ph right
+folds ph right v e n = subst (λ p. FoldsViews p right) (sym e) (folds_by right n) where
+  folds_by : (right : Phase) → ((f : Fault) → right ≡ Broken f → ⊥) → FoldsViews (Leaving v) right
+  folds_by (Broken f) n = n f refl
+  folds_by Entering n = tt
+  folds_by Running n = tt
+  folds_by AtSpawn n = tt
+  folds_by (Returning w) n = tt
+  folds_by (Leaving w) n = tt
+
+pub worths_whole : (s t : PlainStrand) → t ≡ with_worths t.layer.worths s → IsWhole s → IsWhole t
+worths_whole s t e h = valued_whole s t (top_valued s t e) h
+
+pub joined_or : {A E : Type 0} (l r new : PlainStrand) (res : Result A E) → IsDone l.phase → OnOk res (new ≡ joined l r) → OnErr res (new ≡ with_worths new.layer.worths l)
+    → ((kinds : List Kind) → HaveValues kinds l.tally.made → HaveValues kinds r.tally.made → HaveValues kinds new.tally.made) → l.layer.kinds ≡ r.layer.kinds → IsWhole l → IsWhole r → IsWhole new
+joined_or l r new (Ok a) d is kept made same h k = joined_whole l r new d is (made l.layer.kinds h.made (made_as r.layer.kinds l.layer.kinds r.tally.made (sym same) k.made)) h
+joined_or l r new (Err e) d is kept made same h k = worths_whole l new kept h

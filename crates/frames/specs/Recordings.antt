@@ -1,0 +1,48 @@
+-- What a record keeps of a layer, before it is known which instance's record it is.
+use Rattle.std.specs.Prelude.{ℕ, suc, ◌-◌, ℤ, cond, List, [], ◌∷◌, Option, Some, None}
+use Rattle.program_tree.specs.Plain.{Name}
+use Rattle.monoid_laws.specs.Worth.{Worth}
+use Rattle.monoid_laws.specs.declared.Kind.{Kind}
+use Rattle.monoid_laws.specs.Kinds.{identity_of}
+use Rattle.meaning.specs.Elision.{depth_limit}
+use Rattle.evaluation.specs.declared.note.Note.{Note}
+use Rattle.rerun_records.specs.Record.{PlainRecord}
+use Rattle.positions.specs.Layers.{PlainLayer}
+use Rattle.positions.specs.Values.{same_worth}
+use Rattle.positions.specs.Tallies.{PlainOpened, touched_from, once, entries_from}
+
+-- the values of the reducers that were touched, each reading once, the procedures entered, and how many instances were nested at most, main counted
+pub record PlainRecording : Type 0 where
+  pub contribution : List (ℕ × Worth)
+  pub reads : List Note
+  pub entered : List (ℕ × ℕ)
+  pub levels : ℕ
+
+abbrev pub recording_of : List (Name × ℕ) → PlainLayer → PlainRecording
+recording_of revisions l = record {
+  contribution = touched_from 0 l.kinds l.worths;
+  reads = once l.notes;
+  entered = entries_from 0 revisions l.entered;
+  levels = suc l.deepest;
+}
+
+-- the record of an instance that is over with that value
+abbrev pub recorded : PlainRecording → PlainOpened → ℤ → PlainRecord
+recorded r o v = record {
+  procedure = o.procedure;
+  arguments = o.arguments;
+  value = v;
+  contribution = r.contribution;
+  reads = r.reads;
+  entered = r.entered;
+  height = r.levels - (depth_limit - o.left);
+}
+
+-- a reducer's value with its number, unless it is the kind's identity
+abbrev pub touched_at : ℕ → Kind → Worth → List (ℕ × Worth)
+touched_at i k w = cond (same_worth w (identity_of k)) [] ((i, w) ∷ [])
+
+-- a procedure's number with its revision number, where there is such a procedure
+abbrev pub entry_of : ℕ → Option (Name × ℕ) → List (ℕ × ℕ)
+entry_of i None = []
+entry_of i (Some e) = (i, e.1) ∷ []

@@ -1,0 +1,259 @@
+//! What is kept of a memo instance whose layer is open, and what a record keeps of the layer once it is over.
+ghost use Rattle.std.specs.Prelude.{◌≡◌, ◌<◌, ◌++◌, IfOk, OnOk, length, map, slice_get};
+ghost use Rattle.monoid_laws.specs.Worth.{Worth};
+ghost use Rattle.monoid_laws.specs.Kinds.{meaning};
+ghost use Rattle.hypermaps.specs.Layer.{IsAt};
+ghost use Rattle.rerun_records.specs.Record.{touched, note_of};
+ghost use Rattle.rerun_records.specs.Named.{AreValuesFrom};
+ghost use Rattle.positions.specs.Tallies.{touched_from, once, put_note, entries_from};
+ghost use Rattle.frames.specs.Recordings.{recording_of, recorded, touched_at, entry_of};
+
+use crate::identities::is_identity;
+use crate::layer::Layer;
+use crate::machine::DEEPEST;
+use evaluation::note::Note;
+use hypermaps::Hypermap;
+use indexmap::IndexSet;
+use linked_program::checked::Checked;
+use monoid_laws::{Kind, Val};
+use rerun_records::reading::{Reading, readings};
+use rerun_records::record::Record;
+use std::alloc::{AllocError, Global};
+use std::marker::Model;
+use view_pool::View;
+
+/// A memo instance with a layer of its own: its procedure, its arguments, how many levels there are below it, and how long its
+/// name is.
+#[derive(Drop)]
+pub(crate) struct Opened {
+    procedure: usize,
+    arguments: Vec<i64>,
+    left: u32,
+    depth: usize,
+}
+
+impl Model for Opened {
+    ghost use Rattle.positions.specs.Tallies.{PlainOpened};
+
+    ghost Value = { PlainOpened };
+
+    ghost view = { λ o. record { procedure = o.procedure; arguments = o.arguments.items; left = o.left; depth = o.depth } };
+}
+
+impl Opened {
+    /// An instance of that procedure with these arguments, which are copied; refused for want of memory alone.
+    pub(crate) fn new(
+        alloc: Global,
+        procedure: usize,
+        arguments: &[i64],
+        left: u32,
+        depth: usize,
+    ) -> Result<Opened, AllocError>
+        ensures opened { IfOk result (λ o.
+            o ≡ record { procedure = procedure; arguments = arguments.now; left = left; depth = depth }) }
+    {
+        Ok(Opened {
+            procedure,
+            arguments: Vec::from_slice(alloc, arguments)?,
+            left,
+            depth,
+        })
+    }
+
+    /// How long its name is.
+    pub(crate) fn depth(&self) -> usize
+        ensures depth { result ≡ self.now.depth }
+    {
+        self.depth
+    }
+}
+
+/// The values of the reducers that a layer touched, each reading once, the procedures entered, and how many instances were
+/// nested at most, main counted.
+#[derive(Drop)]
+pub(crate) struct Recording {
+    contribution: Vec<(usize, Val)>,
+    reads: Vec<Reading>,
+    entered: Vec<(usize, u64)>,
+    levels: u32,
+}
+
+impl Model for Recording {
+    ghost use Rattle.std.specs.Prelude.{map};
+    ghost use Rattle.rerun_records.specs.Record.{note_of, touched};
+    ghost use Rattle.frames.specs.Recordings.{PlainRecording};
+
+    ghost Value = { PlainRecording };
+
+    ghost view = { λ r. record { contribution = map touched r.contribution.items; reads = map note_of r.reads.items; entered = r.entered.items; levels = r.levels } };
+}
+
+impl Recording {
+    /// The record of an instance that is over with that value. It takes no memory.
+    pub(crate) fn record(self, opened: Opened, value: i64) -> Record
+        ensures record { result ≡ recorded self opened value }
+    {
+        let Opened {
+            procedure,
+            arguments,
+            left,
+            depth: _,
+        } = opened;
+        let Recording {
+            contribution,
+            reads,
+            entered,
+            levels,
+        } = self;
+        let height = levels.saturating_sub(DEEPEST.saturating_sub(left));
+        Record::new(
+            procedure,
+            arguments,
+            value,
+            contribution,
+            reads,
+            entered,
+            height,
+        )
+    }
+}
+
+impl<V: View> Layer<V> {
+    /// What a record keeps of the layer. It is refused for want of memory, or where a number is past what its form holds.
+    pub(crate) fn recording(
+        &self,
+        alloc: Global,
+        program: &Checked,
+    ) -> Result<Recording, AllocError>
+        requires kinds { self.now.kinds ≡ program.now.kinds }
+        ensures recording { IfOk result (λ r. r ≡ recording_of program.now.revisions self.now) }
+        ensures values { IfOk result (λ r. AreValuesFrom 0 self.now.kinds r.contribution) }
+    {
+        let Some(levels) = self.deepest.checked_add(1) else {
+            return Err(AllocError);
+        };
+        Ok(Recording {
+            contribution: contribution(alloc, &self.hypermap, program.kinds())?,
+            reads: distinct_readings(alloc, &self.notes)?,
+            entered: entries(alloc, &self.entered, program)?,
+            levels,
+        })
+    }
+}
+
+/// Copies of the values that are not the identities, each with its reducer's number.
+fn contribution<V: View>(
+    alloc: Global,
+    hypermap: &Hypermap<V>,
+    kinds: &[Kind],
+) -> Result<Vec<(usize, Val)>, AllocError>
+    requires kinds { hypermap.now.kinds ≡ kinds.now }
+    ensures touched { IfOk result (λ c.
+        map touched c.items ≡ touched_from 0 hypermap.now.kinds hypermap.now.worths) }
+    ensures values { IfOk result (λ c.
+        AreValuesFrom 0 hypermap.now.kinds (map touched c.items)) }
+{
+    let _ = hypermap.len();
+    let mut values = Vec::new(alloc);
+    for reducer in 0..kinds.len() {
+        push_touched(&mut values, hypermap, reducer, &kinds[reducer])?;
+    }
+    Ok(values)
+}
+
+/// Puts a copy of a reducer's value behind the others, unless it is the identity.
+fn push_touched<V: View>(
+    values: &mut Vec<(usize, Val)>,
+    hypermap: &Hypermap<V>,
+    reducer: usize,
+    kind: &Kind,
+) -> Result<(), AllocError>
+    requires there { reducer < length hypermap.now.kinds }
+    requires kind { IsAt hypermap.now.kinds reducer kind.now }
+    ensures pushed { (w : Worth) → IsAt hypermap.now.worths reducer w → OnOk result
+        (map touched values.new.items ≡ map touched values.old.items ++ touched_at reducer kind.now w) }
+{
+    let _ = hypermap.len();
+    match hypermap.used_value(reducer)? {
+        Some(value) => push_value(values, reducer, kind, value),
+        None => Ok(()),
+    }
+}
+
+/// Puts a value behind the others, unless it is the identity.
+fn push_value(
+    values: &mut Vec<(usize, Val)>,
+    reducer: usize,
+    kind: &Kind,
+    value: Val,
+) -> Result<(), AllocError>
+    ensures pushed { OnOk result (map touched values.new.items
+        ≡ map touched values.old.items ++ touched_at reducer kind.now (meaning value)) }
+{
+    if !is_identity(kind, &value) {
+        values.push((reducer, value))?;
+    }
+    Ok(())
+}
+
+/// Each reading once, in the order in which they were first made.
+fn distinct_readings(alloc: Global, notes: &[Note]) -> Result<Vec<Reading>, AllocError>
+    ensures once { IfOk result (λ rs. map note_of rs.items ≡ once notes.now) }
+{
+    let seen = distinct(alloc, notes)?;
+    readings(alloc, seen.as_slice())
+}
+
+/// The notes, each once.
+fn distinct(alloc: Global, notes: &[Note]) -> Result<IndexSet<Note>, AllocError>
+    ensures once { IfOk result (λ seen. seen.keys ≡ once notes.now) }
+{
+    let mut seen = IndexSet::new(alloc);
+    for note in notes {
+        mark(&mut seen, note)?;
+    }
+    Ok(seen)
+}
+
+/// Puts in a note, unless it is there.
+fn mark(seen: &mut IndexSet<Note>, note: &Note) -> Result<(), AllocError>
+    ensures put { OnOk result (seen.new.keys ≡ put_note seen.old.keys note.now) }
+{
+    match seen.insert(*note) {
+        Ok(_) => Ok(()),
+        Err(_) => Err(AllocError),
+    }
+}
+
+/// The numbers of the procedures whose flags are up, each with its revision number.
+fn entries(
+    alloc: Global,
+    flags: &[bool],
+    program: &Checked,
+) -> Result<Vec<(usize, u64)>, AllocError>
+    ensures entries { IfOk result (λ es.
+        es.items ≡ entries_from 0 program.now.revisions flags.now) }
+{
+    let mut entries = Vec::new(alloc);
+    for procedure in 0..flags.len() {
+        if flags[procedure] {
+            push_entry(&mut entries, procedure, program)?;
+        }
+    }
+    Ok(entries)
+}
+
+/// Puts the number of a procedure, where there is one, with its revision number behind the others.
+fn push_entry(
+    entries: &mut Vec<(usize, u64)>,
+    procedure: usize,
+    program: &Checked,
+) -> Result<(), AllocError>
+    ensures pushed { OnOk result (entries.new.items
+        ≡ entries.old.items ++ entry_of procedure (slice_get program.now.revisions procedure)) }
+{
+    if let Some(revision) = program.revision_at(procedure) {
+        entries.push((procedure, revision))?;
+    }
+    Ok(())
+}
