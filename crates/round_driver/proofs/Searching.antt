@@ -40,11 +40,11 @@ where_idle : (b : Bool) (x : Result PlainRun Refusal) (r : PlainRun) → if_idle
 where_idle true x r e = e
 where_idle false x r e = absurd cc
 
-pub no_folds : (c : PlainCore) (w : ℕ) (lines : List StrandLine) → map line lines ≡ map line_of c.standing.pieces → All (λ (l : StrandLine). IsRefused c (fold w l.place.items)) lines → RefusesFolds c w
+pub no_folds : (c : PlainCore) (w : ℕ) (lines : List StrandLine) → map line lines ≡ map line_of c.strands.pieces → All (λ (l : StrandLine). IsRefused c (fold w l.place.items)) lines → RefusesFolds c w
 no_folds c w lines is all q going by r e =
-    at_a_line (λ n. IsRefused c (fold w n)) w (length c.standing.kits) q r [] c.standing.pieces c.standing.history
+    at_a_line (λ n. IsRefused c (fold w n)) w (length c.strands.kits) q r [] c.strands.pieces c.strands.history
     (subst (All (λ (x : Line). IsRefused c (fold w x.0))) is (All-map (λ (x : Line). IsRefused c (fold w x.0)) line lines all))
-    (where_idle (is_idle w c.standing.pieces) (folded_at w q (length c.standing.kits) [] c.standing.pieces c.standing.history) r e) going by r e
+    (where_idle (is_idle w c.strands.pieces) (folded_at w q (length c.strands.kits) [] c.strands.pieces c.strands.history) r e) going by r e
 
 -- ---- all steps of a worker
 

@@ -10,17 +10,18 @@ use Rattle.frames.specs.declared.answer.RunAnswer.{RunAnswer}
 use Rattle.frames.specs.declared.answer.RunAnswer.TheVariants as answer
 use Rattle.numbered_runs.specs.declared.step.StrandLine.{StrandLine}
 use Rattle.numbered_runs.specs.Runs.{PlainRun, stepped, are_workers}
-use Rattle.worker_core.specs.Standing.{run_of, kits_in}
+use Rattle.worker_core.specs.Strands.{run_of, kits_in}
 use Rattle.worker_core.specs.Cores.{PlainCore, setting_in}
 use Rattle.worker_core.specs.Keeps.{IsElision}
 
--- another state of the same run: its program, its tables, its workers, and as many kits
+-- another state of the same run: its program, its tables and records, its workers, and as many kits
 pub record IsSameRun (c d : PlainCore) : Type 0 where
   pub program : d.program ≡ c.program
   pub tables : d.tables ≡ c.tables
+  pub records : d.records ≡ c.records
   pub workers : d.workers ≡ c.workers
-  pub kits : kits_in d.standing ≡ kits_in c.standing
-  pub total : d.standing.total ≡ c.standing.total
+  pub kits : kits_in d.strands ≡ kits_in c.strands
+  pub total : d.strands.total ≡ c.strands.total
 
 -- the answer of the elision, done from scratch
 abbrev pub IsFromScratch : PlainChecked → Tables → RunAnswer → Type 0
@@ -28,7 +29,7 @@ IsFromScratch program tables = IsElision program (from_scratch (tree program.pro
 
 -- a run ended with its result or by a fault
 abbrev pub HasEnded : RunAnswer → Type 0
-HasEnded (answer.Finished result values) = Unit {0}
+HasEnded (answer.Finished result values executed reused unrecorded) = Unit {0}
 HasEnded (answer.Fault fault) = Unit {0}
 HasEnded answer.Unfinished = ⊥
 HasEnded answer.NoMemory = ⊥
@@ -37,7 +38,7 @@ HasEnded answer.NoMemory = ⊥
 abbrev pub IsRefused : PlainCore → RunStep → Type 0
 IsRefused c s =
     c.failed ≡ false → are_workers c.workers s ≡ true → (r : PlainRun)
-    → ¬ (stepped (setting_in c) (run_of c.standing) s ≡ Ok r)
+    → ¬ (stepped (setting_in c) (run_of c.strands) s ≡ Ok r)
 
 -- the worker whose step it is
 abbrev pub worker_of : RunStep → ℕ

@@ -4,7 +4,9 @@ ghost use Rattle.meaning.specs.Schedules.{RunStep};
 ghost use Rattle.linked_program.specs.TableNames.{columned_of};
 ghost use Rattle.numbered_runs.specs.Named.{run_step};
 ghost use Rattle.worker_core.specs.Cores.{is_no_memory, is_over};
-ghost use Rattle.worker_core.specs.Keeps.{IsGiven};
+ghost use Rattle.rerun_records.specs.Named.{HaveValues};
+ghost use Rattle.rerun_records.specs.Commits.{put_records};
+ghost use Rattle.worker_core.specs.Keeps.{AreSoundFor, HasRecordedBy, IsGiven};
 ghost use Rattle.round_driver.specs.Runs.{IsSameRun, IsFromScratch, HasEnded, IsRefused, RefusesOwn, RefusesFolds, RefusesFoldsAt, RefusesSteals, RefusesAll};
 
 use input_tables::Tables;
@@ -15,7 +17,7 @@ use std::sync::Wait;
 use thiserror::Error;
 use view_pool::{Kit, Pool, View};
 use worker_core::run::Core;
-use worker_core::{Records, Refusal, RunAnswer, StartError, Step, StrandLine};
+use worker_core::{Record, Records, Refusal, RunAnswer, StartError, Step, StrandLine};
 
 // So many small steps a worker does at most before the others have their turns.
 const SMALL_STEPS: usize = 256;
@@ -37,28 +39,34 @@ enum Found {
     NoMemory,
 }
 
-/// A run of a checked program on tables, by so many workers; refused where no kit is free, or for want of memory.
+/// A run of a checked program on tables, by so many workers: its answer, and the new records of one that has finished. Its memo
+/// instances are answered by the records that hold now. Refused where no kit is free, or for want of memory.
 pub fn run<V: View>(
     rt: &impl Wait,
     alloc: Global,
     checked: &Checked,
     tables: &Tables,
+    records: &Records,
     kits: &mut Pool<Kit<V>>,
     workers: usize,
-) -> Result<RunAnswer, RunError>
+) -> Result<(RunAnswer, Vec<Record>), RunError>
     requires kits { All (λ k. k ≡ checked.now.kinds) kits.old.kits }
     requires tables { checked.now.tables ≡ columned_of tables.now.tables }
+    requires sound { AreSoundFor checked.now records.now }
+    requires values { HaveValues checked.now.kinds records.now }
     requires workers { 0 < workers }
-    ensures answer { IfOk result (IsFromScratch checked.now tables.now.tables) }
-    ensures ended { IfOk result HasEnded }
+    ensures answer { IfOk result (λ r. IsFromScratch checked.now tables.now.tables r.0) }
+    ensures ended { IfOk result (λ r. HasEnded r.0) }
+    ensures recorded { IfOk result (λ r. HasRecordedBy checked.now tables.now records.now r.0 r.1.items) }
+    ensures sound { IfOk result (λ r. AreSoundFor checked.now (put_records records.now r.1.items)) }
+    ensures values { IfOk result (λ r. HaveValues checked.now.kinds r.1.items) }
     ensures no_kit { result ≡ Err RunError.NoKit → kits.old.kits ≡ [] }
     ensures free { length kits.new.kits ≡ length kits.old.kits }
     ensures kinds { All (λ k. k ≡ checked.now.kinds) kits.new.kits }
     ensures total { kits.new.total ≡ kits.old.total }
 {
     let pool = mem::replace(kits, Pool::new(Vec::new(alloc)));
-    let records = Records::new();
-    let mut core = match Core::start(alloc, checked, tables, &records, pool, workers) {
+    let mut core = match Core::start(alloc, checked, tables, records, pool, workers) {
         Ok(core) => core,
         Err((error, pool)) => {
             *kits = pool;
@@ -66,9 +74,9 @@ pub fn run<V: View>(
         }
     };
     let driven = drive(rt, alloc, &mut core, workers);
-    let (answer, pool) = core.finish(alloc);
+    let (answer, pool, made) = core.finish(alloc);
     *kits = pool;
-    ended(driven, answer)
+    ended(driven, answer, made)
 }
 
 // The refusal of a run that was not begun.
@@ -81,31 +89,50 @@ fn refusal_of(error: StartError) -> RunError
     }
 }
 
-// The answer of a run that was driven to its end.
-fn ended(driven: Result<(), AllocError>, answer: RunAnswer) -> Result<RunAnswer, RunError>
+// The answer of a run that was driven to its end, with its new records.
+fn ended(
+    driven: Result<(), AllocError>,
+    answer: RunAnswer,
+    made: Vec<Record>,
+) -> Result<(RunAnswer, Vec<Record>), RunError>
     requires given { OnOk driven (IsGiven answer) }
-    ensures same { IfOk result (λ a. a ≡ answer) }
-    ensures ended { IfOk result HasEnded }
+    ensures same { IfOk result (λ r. (r.0 ≡ answer) × (r.1 ≡ made)) }
+    ensures ended { IfOk result (λ r. HasEnded r.0) }
     ensures refused { IfErr result (λ e. e ≡ RunError.NoMemory) }
 {
     match driven {
-        Ok(()) => answered(answer),
+        Ok(()) => answered(answer, made),
         Err(_) => Err(RunError::NoMemory),
     }
 }
 
-// The answer of a run that is over; one that has failed is one without memory.
-fn answered(answer: RunAnswer) -> Result<RunAnswer, RunError>
+// The answer of a run that is over, with its new records; one that has failed is one without memory.
+fn answered(answer: RunAnswer, made: Vec<Record>) -> Result<(RunAnswer, Vec<Record>), RunError>
     requires given { IsGiven answer }
-    ensures same { IfOk result (λ a. a ≡ answer) }
-    ensures ended { IfOk result HasEnded }
+    ensures same { IfOk result (λ r. (r.0 ≡ answer) × (r.1 ≡ made)) }
+    ensures ended { IfOk result (λ r. HasEnded r.0) }
     ensures refused { IfErr result (λ e. e ≡ RunError.NoMemory) }
 {
     match answer {
         RunAnswer::Unfinished => unreachable!(),
         RunAnswer::NoMemory => Err(RunError::NoMemory),
-        RunAnswer::Finished { result, values } => Ok(RunAnswer::Finished { result, values }),
-        RunAnswer::Fault(fault) => Ok(RunAnswer::Fault(fault)),
+        RunAnswer::Finished {
+            result,
+            values,
+            executed,
+            reused,
+            unrecorded,
+        } => {
+            let answer = RunAnswer::Finished {
+                result,
+                values,
+                executed,
+                reused,
+                unrecorded,
+            };
+            Ok((answer, made))
+        }
+        RunAnswer::Fault(fault) => Ok((RunAnswer::Fault(fault), made)),
     }
 }
 

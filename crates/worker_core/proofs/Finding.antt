@@ -8,7 +8,7 @@ use Rattle.numbered_runs.specs.Pieces.{PlainPiece, Change, alone, is_held_by}
 use Rattle.numbered_runs.specs.Runs.{among, changed, is_idle}
 use Rattle.numbered_runs.specs.declared.refusal.Refusal.{Refusal}
 use Rattle.worker_core.specs.Moves.{RefusedAs}
-use Rattle.worker_core.specs.Standing.{held_from, held_at}
+use Rattle.worker_core.specs.Strands.{held_from, held_at}
 
 -- the first strand that the worker holds, of those from the k-th on, and what a change on it is
 pub record Found (w k i : ℕ) (ps : List PlainPiece) : Type 0 where
@@ -117,16 +117,16 @@ none_refused lacks w ps f change h e = subst (λ r. RefusedAs lacks r f) (sym (n
 -- ---- what a worker does with its strand
 
 module _ {A : Type 0} (r : Result A Refusal) (w i : ℕ) (ps : List PlainPiece) (change : ℕ → PlainPiece → Result Change Refusal) (p q : PlainPiece) (found : held_at w ps ≡ Some i) (at : p ≡ get_or ps i p) where
-  pub moves_taken : (f : Refusal) (kits : ℕ) (h : List BookStep) → OnOk r ((n : ℕ) → change n p ≡ alone n q) → OnOk r (changed f w (change kits) [] ps h ≡ Ok (record { pieces = set ps i q; kits = kits; history = h }))
+  pub moves_taken : (f : Refusal) (kits left : ℕ) (h : List BookStep) → OnOk r (change kits p ≡ alone left q) → OnOk r (changed f w (change kits) [] ps h ≡ Ok (record { pieces = set ps i q; kits = left; history = h }))
   moves_taken = taken_by r
     where
-      taken_by : (o : Result A Refusal) (f : Refusal) (kits : ℕ) (h : List BookStep) → OnOk o ((n : ℕ) → change n p ≡ alone n q) → OnOk o (changed f w (change kits) [] ps h ≡ Ok (record { pieces = set ps i q; kits = kits; history = h }))
-      taken_by (Ok a) f kits h t = alone_taken w i kits ps f (change kits) h p q found (ap (change kits) (sym at) ∙ t kits)
-      taken_by (Err e) f kits h t = tt
+      taken_by : (o : Result A Refusal) (f : Refusal) (kits left : ℕ) (h : List BookStep) → OnOk o (change kits p ≡ alone left q) → OnOk o (changed f w (change kits) [] ps h ≡ Ok (record { pieces = set ps i q; kits = left; history = h }))
+      taken_by (Ok a) f kits left h t = alone_taken w i left ps f (change kits) h p q found (ap (change kits) (sym at) ∙ t)
+      taken_by (Err e) f kits left h t = tt
 
-  pub moves_refused : (lacks : Bool) (f : Refusal) (kits : ℕ) (h : List BookStep) → IfErr r (λ e. (n : ℕ) → RefusedAs lacks (change n p) e) → IfErr r (RefusedAs lacks (changed f w (change kits) [] ps h))
+  pub moves_refused : (lacks : Bool) (f : Refusal) (kits : ℕ) (h : List BookStep) → IfErr r (RefusedAs lacks (change kits p)) → IfErr r (RefusedAs lacks (changed f w (change kits) [] ps h))
   moves_refused = refused_by r
     where
-      refused_by : (o : Result A Refusal) (lacks : Bool) (f : Refusal) (kits : ℕ) (h : List BookStep) → IfErr o (λ e. (n : ℕ) → RefusedAs lacks (change n p) e) → IfErr o (RefusedAs lacks (changed f w (change kits) [] ps h))
+      refused_by : (o : Result A Refusal) (lacks : Bool) (f : Refusal) (kits : ℕ) (h : List BookStep) → IfErr o (RefusedAs lacks (change kits p)) → IfErr o (RefusedAs lacks (changed f w (change kits) [] ps h))
       refused_by (Ok a) lacks f kits h t = tt
-      refused_by (Err e) lacks f kits h t = held_refused lacks w i ps f (change kits) h p e found (subst (λ x. RefusedAs lacks (change kits x) e) at (t kits))
+      refused_by (Err e) lacks f kits h t = held_refused lacks w i ps f (change kits) h p e found (subst (λ x. RefusedAs lacks (change kits x) e) at t)

@@ -1,16 +1,19 @@
 -- Two strands that may become one.
-use Rattle.std.proofs.Common.{◌≡◌, ℕ, ℤ, Bool, true, false, ◌&&◌, List, refl, sym, subst, ◌∙◌}
+use Rattle.std.proofs.Common.{◌≡◌, ℕ, suc, ℤ, Bool, true, false, ◌&&◌, List, [], length, refl, sym, ap, subst, ◌∙◌}
 use Rattle.monoid_laws.specs.declared.Kind.{Kind}
 use Rattle.monoid_laws.specs.Worth.{Worth}
-use Rattle.meaning.specs.Strands.{done, waits}
+use Rattle.meaning.specs.Strands.{State, Held, Ended, Stalled, Faulted, Finished, done, waits}
 use Rattle.positions.specs.declared.phase.Phase.{Phase}
 use Rattle.positions.specs.declared.phase.Phase.TheVariants as phase
+use Rattle.positions.specs.Layers.{PlainLayer}
 use Rattle.positions.specs.Strands.{PlainStrand}
-use Rattle.positions.specs.Moves.{joined, joined_at, joined_after}
+use Rattle.positions.specs.Moves.{joined_at, joined_after}
 use Rattle.frames.specs.Joins.{IsDone}
 use Rattle.numbered_runs.specs.Pieces.{PlainPiece, may_join_at, may_fold, folded}
 use Rattle.numbered_runs.specs.Stands.{valued}
+use Rattle.numbered_runs.specs.Layered.{HasOneLayer, HasOneLayerAs}
 use Rattle.worker_core.specs.Moves.{IsFit}
+use Rattle.worker_core.specs.Strands.{layers_of}
 
 may_done : (ph : Phase) (l r : PlainPiece) → may_join_at ph l r ≡ true → IsDone ph
 may_done phase.Entering l r e = absurd cc
@@ -51,10 +54,32 @@ joined_layers (phase.Broken f) l r = (refl, refl)
 
 -- the one that they become is fit
 pub folded_fit : (kinds : List Kind) (w : ℕ) (l r : PlainPiece) → IsFit kinds l → IsFit kinds (folded w l r)
-folded_fit kinds w l r h =
-    let same : SameLayers l.strand (joined l.strand r.strand) = joined_layers l.strand.phase l.strand r.strand in
-    record { views = same.0 ∙ h.views; one_layer = same.1 ∙ h.one_layer }
+folded_fit kinds w l r h = (joined_layers l.strand.phase l.strand r.strand).0 ∙ h
+
+-- and has the left one's layers
+pub folded_layers : (w : ℕ) (l r : PlainPiece) → layers_of (folded w l r) ≡ layers_of l
+folded_layers w l r = ap (λ ls. suc (length ls)) (joined_layers l.strand.phase l.strand r.strand).1
 
 -- with other values of its reducers it is fit
 pub valued_fit : (kinds : List Kind) (ws : List Worth) (p q : PlainPiece) → q ≡ valued ws p → IsFit kinds p → IsFit kinds q
-valued_fit kinds ws p q e h = subst (IsFit kinds) (sym e) (let same : IsFit kinds (valued ws p) = record { views = h.views; one_layer = h.one_layer } in same)
+valued_fit kinds ws p q e h = subst (IsFit kinds) (sym e) h
+
+pub valued_layers : (ws : List Worth) (p q : PlainPiece) → q ≡ valued ws p → layers_of q ≡ layers_of p
+valued_layers ws p q e = ap layers_of e
+
+-- the right one has one layer
+waits_one : (st : State) (ls : List PlainLayer) → waits st ≡ true → HasOneLayerAs st ls → ls ≡ []
+waits_one (Held w) ls e h = absurd cc
+waits_one Ended ls e h = absurd cc
+waits_one Stalled ls e h = h
+waits_one Faulted ls e h = h
+waits_one Finished ls e h = h
+
+middle_true : (a b c : Bool) → (a && b && c) ≡ true → b ≡ true
+middle_true true true c e = refl
+middle_true true false c e = absurd cc
+middle_true false true c e = absurd cc
+middle_true false false c e = absurd cc
+
+pub right_one : (l r : PlainPiece) → may_fold l r ≡ true → HasOneLayer r → r.strand.lower ≡ []
+right_one l r e h = waits_one r.state r.strand.lower (middle_true (done l.state) (waits r.state) (may_join_at l.strand.phase l r) e) h

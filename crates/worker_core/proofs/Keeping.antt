@@ -1,105 +1,161 @@
--- A run that stands for one of the definitions goes on to do so after each step, taken or refused.
-use Rattle.std.proofs.Common.{All, ◌≡◌, inl, inr, ℕ, length, Option, Some, None, Result, Ok, Err, refl, sym, ap, subst}
-use Rattle.std.specs.Prelude.{OnOk, IfErr}
+-- A run that stands for one of the definitions goes on to do so after each step, taken or refused, until it has failed.
+use Rattle.std.proofs.Common.{All, ◌≡◌, inl, inr, ℕ, Bool, true, false, length, map, List, Option, Some, None, Ok, Err, refl, sym, ap, subst, ◌∙◌}
 use Rattle.monoid_laws.specs.Kinds.{IsMonoid}
 use Rattle.program_tree.specs.View.{tree}
-use Rattle.meaning.specs.Schedules.{RunState, RunStep, first_state, after_step, without_memo}
+use Rattle.meaning.specs.Records.{Kept, IsSound}
+use Rattle.meaning.specs.Strands.{replayed}
+use Rattle.meaning.specs.Schedules.{RunState, RunStep, first_state, after_step, recording_from}
+use Rattle.trail_theory.specs.Order.{Every}
+use Rattle.trail_theory.specs.OpenLayers.{IsNumbered}
 use Rattle.run_theory.specs.Theorems.{IsReady}
 use Rattle.linked_program.specs.TableNames.{columned_of}
 use Rattle.linked_program.specs.Checked.{PlainChecked, IsChecked, revised_of}
 use Rattle.input_tables.specs.Edited.{Edited}
+use Rattle.rerun_records.specs.Record.{PlainRecord}
+use Rattle.rerun_records.specs.Named.{HaveValues}
 use Rattle.frames.specs.Given.{given}
 use Rattle.numbered_runs.specs.Named.{run_step}
-use Rattle.numbered_runs.specs.Runs.{first_run, stepped}
+use Rattle.numbered_runs.specs.Runs.{first_run, stepped, are_workers, line_of}
 use Rattle.numbered_runs.specs.Ends.{HistoryGives}
+use Rattle.numbered_runs.specs.Layered.{HasOneLayer}
 use Rattle.numbered_runs.specs.Simulation.{LeadsTo, IsStepOf, IsNoStepOf, IsFirstOf}
 use Rattle.numbered_runs.specs.declared.step.Step.{Step}
 use Rattle.numbered_runs.specs.declared.step.Step.TheVariants as step
 use Rattle.numbered_runs.specs.declared.refusal.Refusal.{Refusal}
 use Rattle.numbered_runs.specs.declared.refusal.Refusal.TheVariants as refusal
+use Rattle.run_theory.specs.UnflaggedRuns.{unflagged_run}
 use Rattle.numbered_runs.proofs.Steps.{steps_agree, refusals_agree, first_agrees}
 use Rattle.numbered_runs.proofs.Halves.{refused_kept}
+use Rattle.numbered_runs.proofs.Layered.{strands_layered}
 use Rattle.numbered_runs.proofs.Ends.{keeps_history}
-use Rattle.worker_core.specs.Standing.{Standing, run_of}
+use Rattle.numbered_runs.proofs.Workers.{steps_by}
+use Rattle.worker_core.specs.Strands.{PlainStrands, run_of}
 use Rattle.worker_core.specs.Folds.{KeepsProducts}
-use Rattle.worker_core.specs.Cores.{StandsAfter}
-use Rattle.worker_core.specs.Keeps.{IsOnPath, KeepsRun}
+use Rattle.worker_core.specs.Cores.{StandsAfter, is_failure}
+use Rattle.worker_core.specs.Going.{AreHeldBy}
+use Rattle.worker_core.specs.Keeps.{AreSoundFor, setting_by, IsOnPath, KeepsRun, StaysRun}
+use Rattle.worker_core.proofs.Going.{held_products}
 
-module _ (program : PlainChecked) (tables : Edited) where
+module _ (program : PlainChecked) (tables : Edited) (records : List PlainRecord) where
   -- ---- the beginning
 
-  pub begins : (s : Standing) (kits : ℕ) → IsChecked program → run_of s ≡ first_run program.codes program.kinds program.main kits
-      → IsFirstOf (given program tables) kits (run_of s)
-  begins s kits checked is =
-      subst (IsFirstOf (given program tables) kits) (sym is)
-      (first_agrees (given program tables) (record { codes = checked.linked; kinds = checked.kinds_are }) program.main kits checked.main_is)
+  pub begins : (s : PlainStrands) (kits : ℕ) → IsChecked program → run_of s ≡ first_run program.codes program.kinds program.main kits
+      → (k : AreSoundFor program records) → IsFirstOf (setting_by program tables records k) kits (run_of s)
+  begins s kits checked is k =
+      subst (IsFirstOf (setting_by program tables records k) kits) (sym is)
+      (first_agrees (setting_by program tables records k) (record { codes = checked.linked; kinds = checked.kinds_are }) program.main kits checked.main_is)
 
-  pub keeps_first : (s : Standing) (kits : ℕ) → IsReady (revised_of program) tables.tables without_memo → program.tables ≡ columned_of tables.tables → IsChecked program → All IsMonoid program.kinds
-      → run_of s ≡ first_run program.codes program.kinds program.main kits → KeepsRun program tables s
-  keeps_first s kits ready are checked monoids is =
-      let first : IsFirstOf (given program tables) kits (run_of s) = begins s kits checked is in
-      record { prepared = record { ready = ready; tables = are; linked = record { codes = checked.linked; kinds = checked.kinds_are }; no_memo = refl }; checked = checked; monoids = monoids; path = record { run = first_state (tree program.program) kits; reached = first.0; stands = first.1 } }
+  pub keeps_first : (s : PlainStrands) (kits : ℕ) → ((kept : List Kept) → Every (IsSound (revised_of program)) kept → IsReady (revised_of program) tables.tables (recording_from kept)) → IsNumbered (revised_of program)
+      → program.tables ≡ columned_of tables.tables → IsChecked program → All IsMonoid program.kinds → AreSoundFor program records → HaveValues program.kinds records
+      → run_of s ≡ first_run program.codes program.kinds program.main kits → KeepsRun program tables records s
+  keeps_first s kits ready numbered are checked monoids sound values is = record {
+    sound = sound;
+    values = values;
+    checked = checked;
+    monoids = monoids;
+    prepared = λ k. record {
+      ready = ready k.kept k.sound;
+      numbered = numbered;
+      tables = are;
+      linked = record { codes = checked.linked; kinds = checked.kinds_are };
+      records = record { records = k.stand; recording = refl; in_order = checked.each };
+    };
+    path = λ k.
+        let first : IsFirstOf (setting_by program tables records k) kits (run_of s) = begins s kits checked is k in
+        record { run = first_state (tree program.program) kits; reached = first.0; stands = first.1 };
+  }
 
   -- ---- a step that is taken
 
-  pub step_is : (s t : Standing) (e : RunStep) → KeepsRun program tables s → stepped (given program tables) (run_of s) e ≡ Ok (run_of t)
-      → IsStepOf (given program tables) e (run_of s) (run_of t)
-  step_is s t e k is = steps_agree (given program tables) k.prepared (run_of s) (run_of t) e is
+  pub step_is : (s t : PlainStrands) (e : RunStep) → KeepsRun program tables records s → stepped (given program tables records) (run_of s) e ≡ Ok (run_of t)
+      → (k : AreSoundFor program records) → IsStepOf (setting_by program tables records k) e (run_of s) (run_of t)
+  step_is s t e h is k = steps_agree (setting_by program tables records k) (h.prepared k) (run_of s) (run_of t) e is
 
-  path_to : (o : Option RunState) (t : Standing) → LeadsTo (given program tables) o (run_of t) → IsOnPath (given program tables) t
-  path_to None t h = absurd h
-  path_to (Some y) t h = record { run = y; reached = h.0; stands = h.1 }
+  path_to : (k : AreSoundFor program records) (o : Option RunState) (t : PlainStrands) → LeadsTo (setting_by program tables records k) o (run_of t) → IsOnPath (setting_by program tables records k) t
+  path_to k None t h = absurd h
+  path_to k (Some y) t h = record { run = y; reached = h.0; stands = h.1 }
 
-  pub keeps_step : (s t : Standing) (e : RunStep) → KeepsRun program tables s → stepped (given program tables) (run_of s) e ≡ Ok (run_of t) → KeepsRun program tables t
-  keeps_step s t e k is = record {
-    prepared = k.prepared;
-    checked = k.checked;
-    monoids = k.monoids;
-    path = path_to (after_step (revised_of program) tables.tables without_memo k.path.run e) t (step_is s t e k is k.path.run k.path.reached k.path.stands);
+  pub keeps_step : (s t : PlainStrands) (e : RunStep) → KeepsRun program tables records s → stepped (given program tables records) (run_of s) e ≡ Ok (run_of t) → KeepsRun program tables records t
+  keeps_step s t e h is = record {
+    sound = h.sound;
+    values = h.values;
+    checked = h.checked;
+    monoids = h.monoids;
+    prepared = h.prepared;
+    path = λ k. path_to k (after_step (revised_of program) tables.tables (recording_from k.kept) (h.path k).run e) t (step_is s t e h is k (h.path k).run (h.path k).reached (h.path k).stands);
   }
 
   -- ---- a step that is refused
 
-  pub no_step_is : (s : Standing) (e : RunStep) (f : Refusal) → KeepsRun program tables s → stepped (given program tables) (run_of s) e ≡ Err f
-      → IsNoStepOf (given program tables) e (run_of s)
-  no_step_is s e f k is = refusals_agree (given program tables) k.prepared (run_of s) e f is
+  pub no_step_is : (s : PlainStrands) (e : RunStep) (f : Refusal) → KeepsRun program tables records s → stepped (given program tables records) (run_of s) e ≡ Err f
+      → (k : AreSoundFor program records) → IsNoStepOf (setting_by program tables records k) e (run_of s)
+  no_step_is s e f h is k = refusals_agree (setting_by program tables records k) (h.prepared k) (run_of s) e f is
 
-  keeps_same : (s t : Standing) → KeepsRun program tables s → t ≡ s → KeepsRun program tables t
-  keeps_same s t k e = subst (KeepsRun program tables) (sym e) k
+  keeps_same : (s t : PlainStrands) → KeepsRun program tables records s → t ≡ s → KeepsRun program tables records t
+  keeps_same s t h e = subst (KeepsRun program tables records) (sym e) h
 
-  keeps_products : (s t : Standing) → KeepsRun program tables s → KeepsProducts s t → KeepsRun program tables t
-  keeps_products s t k (inl e) = keeps_same s t k e
-  keeps_products s t k (inr h) = record {
-    prepared = k.prepared;
-    checked = k.checked;
-    monoids = k.monoids;
-    path = record {
-      run = k.path.run;
-      reached = k.path.reached;
-      stands = refused_kept (given program tables) (run_of s) (run_of t) (record { pieces = h.1; kits = ap (λ (x : Standing). length x.kits) h.0; history = ap (λ (x : Standing). x.history) h.0 }) k.path.run k.path.stands;
+  keeps_products : (s t : PlainStrands) → KeepsRun program tables records s → KeepsProducts s t → KeepsRun program tables records t
+  keeps_products s t h (inl e) = keeps_same s t h e
+  keeps_products s t h (inr u) = record {
+    sound = h.sound;
+    values = h.values;
+    checked = h.checked;
+    monoids = h.monoids;
+    prepared = h.prepared;
+    path = λ k. record {
+      run = (h.path k).run;
+      reached = (h.path k).reached;
+      stands = refused_kept (setting_by program tables records k) (run_of s) (run_of t)
+          (record { pieces = u.1; kits = ap (λ (x : PlainStrands). length x.kits) u.0; history = ap (λ (x : PlainStrands). x.history) u.0 })
+          (unflagged_run (h.path k).run) (h.path k).stands;
     };
   }
 
-  keeps_stands : (e : Step) (f : Refusal) (s t : Standing) → KeepsRun program tables s → StandsAfter e f s t → KeepsRun program tables t
-  keeps_stands (step.Fold w q) refusal.NoMemory s t k h = keeps_products s t k h
-  keeps_stands (step.Fold w q) refusal.Busy s t k h = keeps_same s t k h
-  keeps_stands (step.Fold w q) refusal.Nothing s t k h = keeps_same s t k h
-  keeps_stands (step.Fold w q) refusal.NoKit s t k h = keeps_same s t k h
-  keeps_stands (step.Fold w q) refusal.NotThere s t k h = keeps_same s t k h
-  keeps_stands (step.Work w) f s t k h = keeps_same s t k h
-  keeps_stands (step.Push w) f s t k h = keeps_same s t k h
-  keeps_stands (step.Inline w) f s t k h = keeps_same s t k h
-  keeps_stands (step.Pop w) f s t k h = keeps_same s t k h
-  keeps_stands (step.Stall w) f s t k h = keeps_same s t k h
-  keeps_stands (step.Steal w v) f s t k h = keeps_same s t k h
+  -- ---- whatever came of a step by the workers
 
-  -- whatever came of the step
-  pub keeps_on : {A : Type 0} → (e : Step) (r : Result A Refusal) (s t : Standing) → KeepsRun program tables s
-      → OnOk r (stepped (given program tables) (run_of s) (run_step e) ≡ Ok (run_of t)) → IfErr r (λ f. StandsAfter e f s t) → KeepsRun program tables t
-  keeps_on e (Ok a) s t k h u = keeps_step s t (run_step e) k h
-  keeps_on e (Err f) s t k h u = keeps_stands e f s t k u
+  module _ (n : ℕ) (s t : PlainStrands) (h : KeepsRun program tables records s) (held : AreHeldBy n s) where
+    stays_same : (failed : Bool) → t ≡ s → StaysRun failed program tables records n t
+    stays_same false e = (keeps_same s t h e, subst (AreHeldBy n) (sym e) held)
+    stays_same true e = (s, h, record { lines = ap (λ (x : PlainStrands). map line_of x.pieces) e; kits = ap (λ (x : PlainStrands). length x.kits) e; total = ap (λ (x : PlainStrands). x.total) e; history = ap (λ (x : PlainStrands). x.history) e })
 
-  -- ---- the history
+    pub stays_taken : (e : Step) → are_workers n (run_step e) ≡ true → stepped (given program tables records) (run_of s) (run_step e) ≡ Ok (run_of t) → StaysRun false program tables records n t
+    stays_taken e by is = (keeps_step s t (run_step e) h is, λ some. steps_by n (given program tables records) (run_of s) (run_of t) (run_step e) by is (held some))
 
-  pub keeps_legal : (s : Standing) → KeepsRun program tables s → HistoryGives (run_of s)
-  keeps_legal s k = keeps_history (given program tables) k.prepared.ready (run_of s) k.path.run k.path.reached k.path.stands
+    refused_by : (e : Step) (f : Refusal) → StandsAfter e f s t → StaysRun (is_failure e f) program tables records n t
+    refused_by (step.Fold w q) refusal.NoMemory u = (keeps_products s t h u, held_products n s t held u)
+    refused_by (step.Fold w q) refusal.Busy u = stays_same false u
+    refused_by (step.Fold w q) refusal.Nothing u = stays_same false u
+    refused_by (step.Fold w q) refusal.NoKit u = stays_same false u
+    refused_by (step.Fold w q) refusal.NotThere u = stays_same false u
+    refused_by (step.Work w) refusal.NoMemory u = (s, h, u)
+    refused_by (step.Work w) refusal.Busy u = stays_same false u
+    refused_by (step.Work w) refusal.Nothing u = stays_same false u
+    refused_by (step.Work w) refusal.NoKit u = stays_same false u
+    refused_by (step.Work w) refusal.NotThere u = stays_same false u
+    refused_by (step.Push w) f u = stays_same (is_failure (step.Push w) f) u
+    refused_by (step.Inline w) f u = stays_same (is_failure (step.Inline w) f) u
+    refused_by (step.Pop w) f u = stays_same (is_failure (step.Pop w) f) u
+    refused_by (step.Stall w) f u = stays_same (is_failure (step.Stall w) f) u
+    refused_by (step.Steal w v) f u = stays_same (is_failure (step.Steal w v) f) u
+
+    pub stays_refused : (e : Step) (f : Refusal) (failed : Bool) → failed ≡ is_failure e f → StandsAfter e f s t → StaysRun failed program tables records n t
+    stays_refused e f failed is u = subst (λ b. StaysRun b program tables records n t) (sym is) (refused_by e f u)
+
+  -- ---- layers and the history
+
+  pub keeps_layers : (s : PlainStrands) → KeepsRun program tables records s → All HasOneLayer s.pieces
+  keeps_layers s h = strands_layered (setting_by program tables records h.sound) (h.prepared h.sound) (run_of s) (h.path h.sound).run (h.path h.sound).reached (h.path h.sound).stands
+
+  keeps_legal : (s : PlainStrands) → KeepsRun program tables records s → HistoryGives (run_of s)
+  keeps_legal s h = keeps_history (setting_by program tables records h.sound) (h.prepared h.sound).ready (run_of s) (h.path h.sound).run (h.path h.sound).reached (h.path h.sound).stands
+
+  pub stays_legal : (failed : Bool) (n : ℕ) (s : PlainStrands) → StaysRun failed program tables records n s → HistoryGives (run_of s)
+  stays_legal false n s h = keeps_legal s h.0
+  stays_legal true n s h =
+      let legal : HistoryGives (run_of h.0) = keeps_legal h.0 h.1 in
+      (legal.0, ap replayed h.2.history ∙ legal.1, legal.2 ∙ sym h.2.lines)
+
+  -- until it has failed
+  pub stays_kept : (failed : Bool) (n : ℕ) (s : PlainStrands) → StaysRun failed program tables records n s → failed ≡ false → KeepsRun program tables records s × AreHeldBy n s
+  stays_kept false n s h e = h
+  stays_kept true n s h e = absurd cc

@@ -10,15 +10,15 @@ use Rattle.numbered_runs.specs.declared.refusal.Refusal.{Refusal}
 use Rattle.numbered_runs.specs.declared.refusal.Refusal.TheVariants.{NotThere, NoMemory, Busy}
 use Rattle.worker_core.specs.Moves.{RefusedAs}
 use Rattle.worker_core.specs.Folds.{MayFoldAt, IsFoldedAt}
-use Rattle.worker_core.specs.Standing.{Standing, run_of, held_at, neighbour_at}
+use Rattle.worker_core.specs.Strands.{PlainStrands, run_of, held_at, neighbour_at}
 use Rattle.worker_core.proofs.Finding.{held_busy, none_idle}
 use Rattle.worker_core.proofs.Neighbours.{neighbour_within, neighbour_folds, no_neighbour}
 
 -- what a fold by a worker is
-abbrev pub folding : ℕ → Place → Standing → Result PlainRun Refusal
+abbrev pub folding : ℕ → Place → PlainStrands → Result PlainRun Refusal
 folding w q s = if_idle (is_idle w s.pieces) (folded_at w q (length s.kits) [] s.pieces s.history)
 
-pub busy_refused : (w : ℕ) (q : Place) (s : Standing) (o : Option ℕ) → o ≡ held_at w s.pieces → is_some o ≡ true → RefusedAs true (folding w q s) Busy
+pub busy_refused : (w : ℕ) (q : Place) (s : PlainStrands) (o : Option ℕ) → o ≡ held_at w s.pieces → is_some o ≡ true → RefusedAs true (folding w q s) Busy
 busy_refused w q s None e h = absurd cc
 busy_refused w q s (Some i) e h =
     subst (λ b. RefusedAs true (if_idle b (folded_at w q (length s.kits) [] s.pieces s.history)) Busy) (sym (held_busy w i s.pieces (sym e))) (let same : Busy ≡ Busy = refl in same)
@@ -31,7 +31,7 @@ some_piece : (q : Place) (i : ℕ) (ps : List PlainPiece) → neighbour_at q ps 
 some_piece q i [] e = absurd cc
 some_piece q i (p ∷ ps) e = p
 
-module _ (w : ℕ) (q : Place) (s : Standing) (idle : is_idle w s.pieces ≡ true) where
+module _ (w : ℕ) (q : Place) (s : PlainStrands) (idle : is_idle w s.pieces ≡ true) where
   not_there : folded_at w q (length s.kits) [] s.pieces s.history ≡ Err NotThere → RefusedAs true (folding w q s) NotThere
   not_there e =
       subst (λ r. RefusedAs true r NotThere) (sym (ap (λ b. if_idle b (folded_at w q (length s.kits) [] s.pieces s.history)) idle ∙ e)) (let same : NotThere ≡ NotThere = refl in same)
@@ -70,7 +70,7 @@ module _ (w : ℕ) (q : Place) (s : Standing) (idle : is_idle w s.pieces ≡ tru
         ap (λ b. if_idle b (folded_at w q (length s.kits) [] s.pieces s.history)) idle ∙ folds_if d
         ∙ ap (λ b. folded_if b w (length s.kits) (take i s.pieces) (get_or s.pieces i d) (get_or s.pieces (i + 1) d) (drop (suc (suc i)) s.pieces) s.history) (may d)
 
-    pub fold_taken : {A : Type 0} (r : Result A Refusal) (t : Standing) → MayFoldAt i s.pieces → OnOk r (IsFoldedAt w i (run_of s) (run_of t)) → OnOk r (folding w q s ≡ Ok (run_of t))
+    pub fold_taken : {A : Type 0} (r : Result A Refusal) (t : PlainStrands) → MayFoldAt i s.pieces → OnOk r (IsFoldedAt w i (run_of s) (run_of t)) → OnOk r (folding w q s ≡ Ok (run_of t))
     fold_taken (Ok a) t may h = let d : PlainPiece = some_piece q i s.pieces found in folds d may ∙ ap Ok (sym (h d))
     fold_taken (Err e) t may h = tt
 

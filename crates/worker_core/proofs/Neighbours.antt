@@ -7,7 +7,7 @@ use Rattle.numbered_runs.specs.Pieces.{PlainPiece, place_of, may_fold}
 use Rattle.numbered_runs.specs.Runs.{PlainRun, folded_if, folded_at}
 use Rattle.numbered_runs.specs.declared.refusal.Refusal.{Refusal}
 use Rattle.numbered_runs.specs.declared.refusal.Refusal.TheVariants.{NotThere}
-use Rattle.worker_core.specs.Standing.{behind_from, neighbour_at}
+use Rattle.worker_core.specs.Strands.{behind_from, neighbour_at}
 
 -- the fold of the strand of that number and the next
 abbrev fold_in : ℕ → ℕ → List PlainPiece → List BookStep → PlainPiece → List PlainPiece → ℕ → Result PlainRun Refusal

@@ -1,56 +1,44 @@
 -- A strand is laid down.
-use Rattle.std.proofs.Common.{arith, ◌≡◌, ℕ, suc, ◌+◌, true, List, [], ◌∷◌, ◌++◌, length, take, drop, get_or, Some, None, Ok, Err, refl, sym, ap, subst, ◌∙◌}
+use Rattle.std.proofs.Common.{arith, ◌≡◌, ℕ, suc, ◌+◌, true, List, [], ◌∷◌, ◌++◌, take, drop, get_or, Some, None, Result, Ok, Err, refl, sym, ap, subst, ◌∙◌}
 use Rattle.std.specs.Prelude.{slice_set as set}
 use Rattle.std.proofs.lemmas.List.{set_split}
 use Rattle.meaning.specs.Strands.{BookStep}
-use Rattle.meaning.specs.Strands as strands
 use Rattle.positions.specs.Setting.{Setting}
 use Rattle.positions.specs.declared.phase.Paused.{Paused}
 use Rattle.positions.specs.declared.phase.Paused.TheVariants as paused
-use Rattle.positions.specs.Layers.{lowest}
-use Rattle.positions.specs.Strands.{PlainStrand, PlainTask}
+use Rattle.positions.specs.Strands.{PlainTask}
 use Rattle.positions.specs.Advance.{pause_of}
-use Rattle.positions.specs.Moves.{lowest_alone}
-use Rattle.numbered_runs.specs.Named.{named_state}
 use Rattle.numbered_runs.specs.Pieces.{PlainPiece, Change, place_of, stalled_at, stalled}
 use Rattle.numbered_runs.specs.Runs.{among, changed}
 use Rattle.numbered_runs.specs.declared.step.State.{State}
 use Rattle.numbered_runs.specs.declared.step.State.TheVariants as state
+use Rattle.numbered_runs.specs.declared.refusal.Refusal.{Refusal}
 use Rattle.numbered_runs.specs.declared.refusal.Refusal.TheVariants.{NotThere, NoMemory}
 use Rattle.worker_core.specs.Moves.{RefusedAs, rest_at, rest_noted}
-use Rattle.worker_core.specs.Standing.{held_at}
+use Rattle.worker_core.specs.Strands.{held_at, rested, freed}
 use Rattle.worker_core.proofs.Finding.{held_changes, held_within, held_refused}
-
--- a strand with one layer has its lowest layer alone
-lowest_is : (s : PlainStrand) → s.lower ≡ [] → lowest_alone s ≡ s
-lowest_is s h = subst (λ ls. record s { layer = lowest s.layer ls; lower = [] } ≡ record s { lower = ls }) (sym h) refl
-
--- the strand laid down so
-abbrev pub laid_as : State → PlainPiece → PlainPiece
-laid_as s p = record { strand = p.strand; deque = []; state = named_state s }
 
 -- what laying it down is
 abbrev pub laying : State → ℕ → PlainPiece → Change
-laying s kits p = record { pieces = laid_as s p ∷ []; kits = kits; noted = rest_noted s (place_of p) ∷ [] }
+laying s kits p = record { pieces = rested s p ∷ []; kits = kits + freed s p; noted = rest_noted s (place_of p) ∷ [] }
 
-no_more : (kits : ℕ) (s : PlainStrand) → s.lower ≡ [] → kits + length s.lower ≡ kits
-no_more kits s h = let e : length s.lower ≡ 0 = ap length h in omega arith
+abbrev allowed : Change → Result Change Refusal
+allowed c = Ok c
 
-faulted_rests : (ks : List PlainTask) (kits : ℕ) (p : PlainPiece) → p.strand.lower ≡ [] → stalled_at paused.Faulted ks kits p ≡ Ok (laying state.Faulted kits p)
-faulted_rests ks kits p h =
-    ap (λ (s : PlainStrand). Ok (record { pieces = record { strand = s; deque = []; state = strands.Faulted } ∷ []; kits = kits + length p.strand.lower; noted = strands.Fault (place_of p) ∷ [] })) (lowest_is p.strand h)
-    ∙ ap (λ n. Ok (record { pieces = laid_as state.Faulted p ∷ []; kits = n; noted = strands.Fault (place_of p) ∷ [] })) (no_more kits p.strand h)
+-- where no kit comes home
+same_kits : (s : State) (kits : ℕ) (p : PlainPiece) → freed s p ≡ 0 → allowed (record { pieces = rested s p ∷ []; kits = kits; noted = rest_noted s (place_of p) ∷ [] }) ≡ allowed (laying s kits p)
+same_kits s kits p e = ap (λ n. allowed (record { pieces = rested s p ∷ []; kits = n; noted = rest_noted s (place_of p) ∷ [] })) (let k : kits ≡ kits + freed s p = omega arith in k)
 
-rests_at : (pa : Paused) (ks : List PlainTask) (s : State) (kits : ℕ) (p : PlainPiece) → p.strand.lower ≡ [] → rest_at pa ks ≡ Some s → stalled_at pa ks kits p ≡ Ok (laying s kits p)
-rests_at paused.Faulted ks s kits p h e = let q : state.Faulted ≡ s = cc in subst (λ r. stalled_at paused.Faulted ks kits p ≡ Ok (laying r kits p)) q (faulted_rests ks kits p h)
-rests_at paused.AtSync [] s kits p h e = let q : state.Stalled ≡ s = cc in subst (λ r. stalled_at paused.AtSync [] kits p ≡ Ok (laying r kits p)) q refl
-rests_at paused.Returned [] s kits p h e = let q : state.Ended ≡ s = cc in subst (λ r. stalled_at paused.Returned [] kits p ≡ Ok (laying r kits p)) q refl
-rests_at paused.Finished [] s kits p h e = let q : state.Finished ≡ s = cc in subst (λ r. stalled_at paused.Finished [] kits p ≡ Ok (laying r kits p)) q refl
-rests_at paused.AtSync (k ∷ ks) s kits p h e = absurd cc
-rests_at paused.Returned (k ∷ ks) s kits p h e = absurd cc
-rests_at paused.Finished (k ∷ ks) s kits p h e = absurd cc
-rests_at paused.Working ks s kits p h e = absurd cc
-rests_at paused.AtSpawn ks s kits p h e = absurd cc
+rests_at : (pa : Paused) (ks : List PlainTask) (s : State) (kits : ℕ) (p : PlainPiece) → rest_at pa ks ≡ Some s → stalled_at pa ks kits p ≡ Ok (laying s kits p)
+rests_at paused.Faulted ks s kits p e = let q : state.Faulted ≡ s = cc in subst (λ r. stalled_at paused.Faulted ks kits p ≡ Ok (laying r kits p)) q refl
+rests_at paused.AtSync [] s kits p e = let q : state.Stalled ≡ s = cc in subst (λ r. stalled_at paused.AtSync [] kits p ≡ Ok (laying r kits p)) q (same_kits state.Stalled kits p refl)
+rests_at paused.Returned [] s kits p e = let q : state.Ended ≡ s = cc in subst (λ r. stalled_at paused.Returned [] kits p ≡ Ok (laying r kits p)) q (same_kits state.Ended kits p refl)
+rests_at paused.Finished [] s kits p e = let q : state.Finished ≡ s = cc in subst (λ r. stalled_at paused.Finished [] kits p ≡ Ok (laying r kits p)) q (same_kits state.Finished kits p refl)
+rests_at paused.AtSync (k ∷ ks) s kits p e = absurd cc
+rests_at paused.Returned (k ∷ ks) s kits p e = absurd cc
+rests_at paused.Finished (k ∷ ks) s kits p e = absurd cc
+rests_at paused.Working ks s kits p e = absurd cc
+rests_at paused.AtSpawn ks s kits p e = absurd cc
 
 no_rest_at : (pa : Paused) (ks : List PlainTask) (kits : ℕ) (p : PlainPiece) → rest_at pa ks ≡ None → stalled_at pa ks kits p ≡ Err NotThere
 no_rest_at paused.Faulted ks kits p e = absurd cc
@@ -65,12 +53,12 @@ no_rest_at paused.AtSpawn ks kits p e = refl
 
 module _ (setting : Setting) (w i : ℕ) (ps : List PlainPiece) (d : PlainPiece) (found : held_at w ps ≡ Some i) where
   -- a worker's strand is laid down
-  pub rest_taken : (s : State) (kits : ℕ) (h : List BookStep) → (get_or ps i d).strand.lower ≡ [] → rest_at (pause_of setting.codes (get_or ps i d).strand) (get_or ps i d).deque ≡ Some s
-      → changed NotThere w (stalled setting kits) [] ps h ≡ Ok (record { pieces = set ps i (laid_as s (get_or ps i d)); kits = kits; history = h ++ rest_noted s (place_of (get_or ps i d)) ∷ [] })
-  rest_taken s kits h one e =
+  pub rest_taken : (s : State) (kits : ℕ) (h : List BookStep) → rest_at (pause_of setting.codes (get_or ps i d).strand) (get_or ps i d).deque ≡ Some s
+      → changed NotThere w (stalled setting kits) [] ps h ≡ Ok (record { pieces = set ps i (rested s (get_or ps i d)); kits = kits + freed s (get_or ps i d); history = h ++ rest_noted s (place_of (get_or ps i d)) ∷ [] })
+  rest_taken s kits h e =
       held_changes w i ps NotThere (stalled setting kits) h d found
-      ∙ ap (among (take i ps) (drop (suc i) ps) h) (rests_at (pause_of setting.codes (get_or ps i d).strand) (get_or ps i d).deque s kits (get_or ps i d) one e)
-      ∙ ap (λ xs. Ok (record { pieces = xs; kits = kits; history = h ++ rest_noted s (place_of (get_or ps i d)) ∷ [] })) (sym (set_split ps i (laid_as s (get_or ps i d)) (held_within w i ps found)))
+      ∙ ap (among (take i ps) (drop (suc i) ps) h) (rests_at (pause_of setting.codes (get_or ps i d).strand) (get_or ps i d).deque s kits (get_or ps i d) e)
+      ∙ ap (λ xs. Ok (record { pieces = xs; kits = kits + freed s (get_or ps i d); history = h ++ rest_noted s (place_of (get_or ps i d)) ∷ [] })) (sym (set_split ps i (rested s (get_or ps i d)) (held_within w i ps found)))
 
   -- its holder has something to do with it
   pub rest_refused : (kits : ℕ) (h : List BookStep) → rest_at (pause_of setting.codes (get_or ps i d).strand) (get_or ps i d).deque ≡ None → RefusedAs true (changed NotThere w (stalled setting kits) [] ps h) NotThere
@@ -79,6 +67,6 @@ module _ (setting : Setting) (w i : ℕ) (ps : List PlainPiece) (d : PlainPiece)
       (subst (λ r. RefusedAs true r NotThere) (sym (no_rest_at (pause_of setting.codes (get_or ps i d).strand) (get_or ps i d).deque kits (get_or ps i d) e)) (let same : NotThere ≡ NotThere = refl in same))
 
   -- memory is refused for it
-  pub rest_lacks : (s : State) (kits : ℕ) (h : List BookStep) → (get_or ps i d).strand.lower ≡ [] → rest_at (pause_of setting.codes (get_or ps i d).strand) (get_or ps i d).deque ≡ Some s
+  pub rest_lacks : (s : State) (kits : ℕ) (h : List BookStep) → rest_at (pause_of setting.codes (get_or ps i d).strand) (get_or ps i d).deque ≡ Some s
       → RefusedAs true (changed NotThere w (stalled setting kits) [] ps h) NoMemory
-  rest_lacks s kits h one e = subst (λ r. RefusedAs true r NoMemory) (sym (rest_taken s kits h one e)) (let same : NoMemory ≡ NoMemory = refl in same)
+  rest_lacks s kits h e = subst (λ r. RefusedAs true r NoMemory) (sym (rest_taken s kits h e)) (let same : NoMemory ≡ NoMemory = refl in same)

@@ -1,10 +1,9 @@
 -- The oldest continuation is stolen.
-use Rattle.std.proofs.Common.{arith, add-one, ◌≡◌, ℕ, suc, zero, ◌+◌, ◌<◌, true, false, List, [], ◌∷◌, ◌++◌, All, length, take, drop, get_or, Option, Some, None, Result, Ok, refl, sym, ap, subst, ◌∙◌, append_assoc, length-append, length-set}
+use Rattle.std.proofs.Common.{arith, add-one, ◌≡◌, ℕ, suc, zero, ◌+◌, ◌<◌, true, false, List, [], ◌∷◌, ◌++◌, All, length, take, drop, get_or, Option, Some, None, Result, Ok, refl, sym, ap, subst, ◌∙◌, append_assoc, length-append}
 use Rattle.std.specs.Prelude.{reverse, slice_set as set}
 use Rattle.std.specs.List.{insert}
 use Rattle.std.specs.Option.{is_some}
 use Rattle.std.proofs.lemmas.List.{reverse-append, get_or_read}
-use Rattle.std.proofs.lemmas.List.Edits.{length-insert}
 use Rattle.std.proofs.lemmas.List.Elements.{All-take, All-drop, All-append, All-cons, All-get_or}
 use Rattle.monoid_laws.specs.declared.Kind.{Kind}
 use Rattle.meaning.specs.Outcome.{Place}
@@ -17,7 +16,8 @@ use Rattle.numbered_runs.specs.Runs.{PlainRun, among, changed, is_idle, if_idle}
 use Rattle.numbered_runs.specs.declared.refusal.Refusal.{Refusal}
 use Rattle.numbered_runs.specs.declared.refusal.Refusal.TheVariants.{NoMemory, Busy, Nothing, NoKit}
 use Rattle.worker_core.specs.Moves.{IsFit, RefusedAs, has_tasks}
-use Rattle.worker_core.specs.Standing.{Standing, run_of, AreFit, held_at, IsRobbed}
+use Rattle.worker_core.specs.Strands.{PlainStrands, run_of, layers_of, layers_in, AreFit, held_at, IsRobbed}
+use Rattle.worker_core.proofs.Kits.{layers_append, layers_around}
 use Rattle.worker_core.proofs.Finding.{held_changes, held_refused, held_busy, none_idle, none_refused}
 
 -- the continuation behind all younger ones
@@ -48,12 +48,12 @@ put_behind [] i p q less = absurd (omega arith)
 put_behind (x ∷ ps) zero p q less = refl
 put_behind (x ∷ ps) (suc i) p q less = ap (λ ys. x ∷ ys) (put_behind ps i p q (omega arith))
 
-module _ (kinds : List Kind) (i : ℕ) (s : Standing) (p l r : PlainPiece) (less : i < length s.pieces) (at : p ≡ get_or s.pieces i p) where
+module _ (kinds : List Kind) (i : ℕ) (s : PlainStrands) (p l r : PlainPiece) (less : i < length s.pieces) (at : p ≡ get_or s.pieces i p) where
   -- the list of strands then
   abbrev pub parted : List PlainPiece
   parted = insert (set s.pieces i l) (suc i) r
 
-  pub parted_taken : (setting : Setting) (thief : ℕ) (place : Place) (t : Standing)
+  pub parted_taken : (setting : Setting) (thief : ℕ) (place : Place) (t : PlainStrands)
       → ((kits : ℕ) → stolen_of setting thief (suc kits) p p.deque ≡ Ok (record { pieces = l ∷ r ∷ []; kits = kits; noted = Split (place_of p) place thief ∷ [] }))
       → t.pieces ≡ parted → t.history ≡ s.history ++ Split (place_of p) place thief ∷ [] → IsRobbed setting thief i s t
   parted_taken setting thief place t robbed ps hs d kits =
@@ -65,18 +65,25 @@ module _ (kinds : List Kind) (i : ℕ) (s : Standing) (p l r : PlainPiece) (less
   pub parted_fit : AreFit kinds s → l.strand ≡ p.strand → IsFit kinds r → All (IsFit kinds) parted
   parted_fit fit same h =
       let old : IsFit kinds p = subst (IsFit kinds) (sym at) (All-get_or (IsFit kinds) s.pieces i p less fit.pieces) in
-      let left : IsFit kinds l = record { views = ap (λ (x : PlainStrand). x.layer.kinds) same ∙ old.views; one_layer = ap (λ (x : PlainStrand). x.lower) same ∙ old.one_layer } in
+      let left : IsFit kinds l = ap (λ (x : PlainStrand). x.layer.kinds) same ∙ old in
       let rest : All (IsFit kinds) (drop (suc i) s.pieces) = All-drop (IsFit kinds) (suc i) s.pieces fit.pieces in
       subst (All (IsFit kinds)) (sym (put_behind s.pieces i l r less))
       (All-append (IsFit kinds) (take i s.pieces) (l ∷ r ∷ drop (suc i) s.pieces) (All-take (IsFit kinds) i s.pieces fit.pieces)
       (All-cons (IsFit kinds) l (r ∷ drop (suc i) s.pieces) left (All-cons (IsFit kinds) r (drop (suc i) s.pieces) h rest)))
 
-  pub parted_more : length parted ≡ length s.pieces + 1
-  parted_more = length-insert (set s.pieces i l) (suc i) r (let e : length (set s.pieces i l) ≡ length s.pieces = length-set s.pieces i l in omega arith) ∙ ap (λ n. n + 1) (length-set s.pieces i l)
+  -- the thief's strand has one kit
+  pub parted_layers : l.strand ≡ p.strand → r.strand.lower ≡ [] → layers_in parted ≡ layers_in s.pieces + 1
+  parted_layers same bare =
+      let there : layers_in s.pieces ≡ layers_in (take i s.pieces) + (layers_of (get_or s.pieces i p) + layers_in (drop (suc i) s.pieces)) = layers_around s.pieces i p less in
+      let old : layers_of (get_or s.pieces i p) ≡ layers_of p = sym (ap layers_of at) in
+      let left : layers_of l ≡ layers_of p = ap (λ (x : PlainStrand). suc (length x.lower)) same in
+      let new : length r.strand.lower ≡ 0 = ap length bare in
+      let then : layers_in parted ≡ layers_in (take i s.pieces) + layers_in (l ∷ r ∷ drop (suc i) s.pieces) = ap layers_in (put_behind s.pieces i l r less) ∙ layers_append (take i s.pieces) (l ∷ r ∷ drop (suc i) s.pieces) in
+      omega arith
 
 -- ---- what a thief takes, or why nothing
 
-module _ (setting : Setting) (thief victim : ℕ) (s : Standing) where
+module _ (setting : Setting) (thief victim : ℕ) (s : PlainStrands) where
   abbrev theft : Result PlainRun Refusal
   theft = changed Nothing victim (stolen_from setting thief (length s.kits)) [] s.pieces s.history
 
@@ -128,7 +135,7 @@ module _ (setting : Setting) (thief victim : ℕ) (s : Standing) where
       (subst (λ x. RefusedAs true (stolen_of setting thief (length s.kits) x x.deque) NoMemory) at
       (subst (λ n. RefusedAs true (stolen_of setting thief n p p.deque) NoMemory) (sym (one_more ks k is)) (lacks_there (length ks) p p.deque h))))
 
-  pub theft_taken : (i : ℕ) (d : PlainPiece) (ks : List (List Kind)) (k : List Kind) (t : Standing) → held_at thief s.pieces ≡ None → held_at victim s.pieces ≡ Some i → s.kits ≡ ks ++ k ∷ []
+  pub theft_taken : (i : ℕ) (d : PlainPiece) (ks : List (List Kind)) (k : List Kind) (t : PlainStrands) → held_at thief s.pieces ≡ None → held_at victim s.pieces ≡ Some i → s.kits ≡ ks ++ k ∷ []
       → IsRobbed setting thief i (record s { kits = ks }) t → t.kits ≡ ks
       → if_idle (is_idle thief s.pieces) theft ≡ Ok (run_of t)
   theft_taken i d ks k t idle here is robbed free =

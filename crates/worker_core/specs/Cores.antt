@@ -1,13 +1,14 @@
 -- A run by steps: why one is refused, and how the run ends.
 use Rattle.std.specs.Prelude.{◌≡◌, ℕ, ◌<◌, length, Bool, true, false, not, ◌&&◌, ◌||◌, List, [], ◌∷◌, Result, Err}
 use Rattle.monoid_laws.specs.declared.Kind.{Kind}
-use Rattle.monoid_laws.specs.Worth.{Worth}
 use Rattle.view_pool.specs.Stock.{Stock}
 use Rattle.meaning.specs.Strands.{State, Finished, Faulted}
 use Rattle.input_tables.specs.Edited.{Edited}
 use Rattle.linked_program.specs.Checked.{PlainChecked}
+use Rattle.rerun_records.specs.Record.{PlainRecord}
 use Rattle.frames.specs.Given.{given}
 use Rattle.positions.specs.Setting.{Setting}
+use Rattle.positions.specs.Layers.{lowest}
 use Rattle.frames.specs.Answers.{Ending, underway, ending_of, IsAnswer}
 use Rattle.frames.specs.declared.answer.RunAnswer.{RunAnswer}
 use Rattle.frames.specs.declared.answer.RunAnswer.TheVariants as answer
@@ -20,14 +21,16 @@ use Rattle.numbered_runs.specs.declared.refusal.Refusal.{Refusal}
 use Rattle.numbered_runs.specs.declared.refusal.Refusal.TheVariants as refusal
 use Rattle.numbered_runs.specs.declared.refusal.StartError.{StartError}
 use Rattle.numbered_runs.specs.declared.refusal.StartError.TheVariants as start
-use Rattle.worker_core.specs.Standing.{Standing, run_of}
-use Rattle.worker_core.specs.Folds.{KeepsProducts}
+use Rattle.worker_core.specs.Strands.{PlainStrands, run_of}
+use Rattle.worker_core.specs.declared.piece.Move.TheVariants.{Work}
+use Rattle.worker_core.specs.Folds.{LeavesFolded, LeavesMoved}
 
--- a run: its program and tables, its strands with the pool and the history, its workers, and whether memory was refused in the middle of a step
+-- a run: its program, tables and records, its strands with the pool and the history, its workers, and whether memory was refused in the middle of a step
 pub record PlainCore : Type 0 where
   pub program : PlainChecked
   pub tables : Edited
-  pub standing : Standing
+  pub records : List PlainRecord
+  pub strands : PlainStrands
   pub workers : ℕ
   pub failed : Bool
 
@@ -37,13 +40,13 @@ takes_memory (step.Inline w) = false
 takes_memory (step.Pop w) = false
 takes_memory _ = true
 
--- its program and tables
+-- its program, tables and records
 abbrev pub setting_in : PlainCore → Setting
-setting_in c = given c.program c.tables
+setting_in c = given c.program c.tables c.records
 
 -- the step on the run of numbers
 abbrev pub stepped_on : PlainCore → Step → Result PlainRun Refusal
-stepped_on c s = stepped (setting_in c) (run_of c.standing) (run_step s)
+stepped_on c s = stepped (setting_in c) (run_of c.strands) (run_step s)
 
 -- whether there are such workers, in a run that has not failed
 abbrev pub is_open_to : PlainCore → Step → Bool
@@ -69,9 +72,10 @@ is_failure s e = is_no_memory e && not (may_be_tried_again (run_step s))
 abbrev pub failed_by : Step → Refusal → PlainCore → PlainCore
 failed_by s e c = record c { failed = is_failure s e || c.failed }
 
--- a fold that memory was refused for keeps the product of the two neighbours, and nothing else changes the strands
-abbrev pub StandsAfter : Step → Refusal → Standing → Standing → Type 0
-StandsAfter (step.Fold w q) refusal.NoMemory s t = KeepsProducts s t
+-- a fold that memory was refused for keeps the product of the two neighbours, and a small step the places and states of the strands; nothing else changes the strands
+abbrev pub StandsAfter : Step → Refusal → PlainStrands → PlainStrands → Type 0
+StandsAfter (step.Fold w q) e s t = LeavesFolded e s t
+StandsAfter (step.Work w) e s t = LeavesMoved Work e s t
 StandsAfter _ _ s t = t ≡ s
 
 -- how a run with those strands ends
@@ -80,24 +84,32 @@ ending_at Finished p = ending_of p.strand
 ending_at Faulted p = ending_of p.strand
 ending_at _ p = underway
 
-abbrev pub ending_in : List PlainPiece → Ending
-ending_in (p ∷ []) = ending_at p.state p
-ending_in _ = underway
-
-abbrev pub worths_in : List PlainPiece → List Worth
-worths_in (p ∷ []) = p.strand.layer.worths
-worths_in _ = []
+-- how a run ends whose one strand is laid down so
+abbrev pub IsEndOf : State → PlainPiece → RunAnswer → Type 0
+IsEndOf st p given = IsAnswer (ending_at st p) (lowest p.strand.layer p.strand.lower).worths p.strand.tally given
 
 abbrev pub IsEnd : Bool → List PlainPiece → RunAnswer → Type 0
 IsEnd true ps given = given ≡ answer.NoMemory
-IsEnd false ps given = IsAnswer (ending_in ps) (worths_in ps) given
+IsEnd false (p ∷ []) given = IsEndOf p.state p given
+IsEnd false _ given = given ≡ answer.Unfinished
+
+-- the records that one strand has made
+abbrev pub made_in : List PlainPiece → List PlainRecord
+made_in (p ∷ []) = p.strand.tally.made
+made_in _ = []
+
+-- those that are kept of a run with that answer
+abbrev pub kept_of : RunAnswer → List PlainRecord → List PlainRecord
+kept_of (answer.Finished v values n m k) made = made
+kept_of _ made = []
 
 -- the beginning of a run: main's strand, held by worker 0, with one kit of the pool
-pub record IsFirstCore (program : PlainChecked) (tables : Edited) (pool : Stock (List Kind)) (workers : ℕ) (core : PlainCore) : Type 0 where
+pub record IsFirstCore (program : PlainChecked) (tables : Edited) (records : List PlainRecord) (pool : Stock (List Kind)) (workers : ℕ) (core : PlainCore) : Type 0 where
   pub program_is : core.program ≡ program
   pub tables_are : core.tables ≡ tables
-  pub run : run_of core.standing ≡ first_run program.codes program.kinds program.main (length pool.kits)
-  pub total : core.standing.total ≡ pool.total
+  pub records_are : core.records ≡ records
+  pub run : run_of core.strands ≡ first_run program.codes program.kinds program.main (length pool.kits)
+  pub total : core.strands.total ≡ pool.total
   pub workers_are : core.workers ≡ workers
   pub going : core.failed ≡ false
 
@@ -117,4 +129,4 @@ are_over _ = false
 
 -- there is no more to do: the run has come to its end, or has failed
 abbrev pub is_over : PlainCore → Bool
-is_over c = c.failed || are_over c.standing.pieces
+is_over c = c.failed || are_over c.strands.pieces

@@ -1,21 +1,35 @@
--- Two neighbours that become one, or of which a fold was refused for memory.
-use Rattle.std.specs.Prelude.{◌≡◌, ◌⊎◌, ℕ, suc, ◌+◌, true, List, [], ◌++◌, ◌∷◌, take, drop, slice_index_or}
+-- Two neighbours that become one, and what a step leaves that memory was refused for.
+use Rattle.std.specs.Prelude.{◌≡◌, ◌⊎◌, ℕ, suc, ◌+◌, true, List, [], ◌++◌, ◌∷◌, take, drop, map, length, slice_index_or}
 use Rattle.meaning.specs.Strands.{Fold}
 use Rattle.numbered_runs.specs.Pieces.{PlainPiece, place_of, may_fold, folded}
-use Rattle.numbered_runs.specs.Runs.{PlainRun}
+use Rattle.numbered_runs.specs.Runs.{PlainRun, line_of}
 use Rattle.numbered_runs.specs.Halves.{AreHalfFolded}
 use Rattle.numbered_runs.specs.declared.refusal.Refusal.{Refusal}
 use Rattle.numbered_runs.specs.declared.refusal.Refusal.TheVariants.{NoMemory}
-use Rattle.worker_core.specs.Standing.{Standing}
+use Rattle.worker_core.specs.declared.piece.Move.{Move}
+use Rattle.worker_core.specs.declared.piece.Move.TheVariants.{Work}
+use Rattle.worker_core.specs.Strands.{PlainStrands}
 
 -- nothing has changed but the values of two neighbours, whose product is the same; nothing at all where no view was folded
-abbrev pub KeepsProducts : Standing → Standing → Type 0
+abbrev pub KeepsProducts : PlainStrands → PlainStrands → Type 0
 KeepsProducts s t = (t ≡ s) ⊎ ((t ≡ record s { pieces = t.pieces }) × AreHalfFolded s.pieces t.pieces)
 
+-- the strands begin where they began, and are held and laid down as they were; so many kits are free, and nothing was noted
+pub record KeepsLines (s t : PlainStrands) : Type 0 where
+  pub lines : map line_of t.pieces ≡ map line_of s.pieces
+  pub kits : length t.kits ≡ length s.kits
+  pub total : t.total ≡ s.total
+  pub history : t.history ≡ s.history
+
 -- what a refused fold leaves
-abbrev pub LeavesStrands : Refusal → Standing → Standing → Type 0
-LeavesStrands NoMemory s t = KeepsProducts s t
-LeavesStrands _ s t = t ≡ s
+abbrev pub LeavesFolded : Refusal → PlainStrands → PlainStrands → Type 0
+LeavesFolded NoMemory s t = KeepsProducts s t
+LeavesFolded _ s t = t ≡ s
+
+-- what a refused move leaves
+abbrev pub LeavesMoved : Move → Refusal → PlainStrands → PlainStrands → Type 0
+LeavesMoved Work NoMemory s t = KeepsLines s t
+LeavesMoved _ _ s t = t ≡ s
 
 -- the strand of that number and its right neighbour may become one
 abbrev pub MayFoldAt : ℕ → List PlainPiece → Type 0

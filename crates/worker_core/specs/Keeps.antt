@@ -1,60 +1,89 @@
 -- What a run on several workers is for the definitions: it stands for a run that their steps lead to, and its answer is the elision's.
-use Rattle.std.specs.Prelude.{◌≡◌, ℕ, true, map, All}
+use Rattle.std.specs.Prelude.{◌≡◌, ℕ, Bool, true, false, List, [], map, All}
 use Rattle.monoid_laws.specs.Kinds.{meaning, IsMonoid}
 use Rattle.program_tree.specs.View.{tree}
 use Rattle.meaning.specs.Elision.{Answer, Finished, Faulted, from_scratch}
 use Rattle.meaning.specs.Schedules.{RunState}
-use Rattle.linked_program.specs.Checked.{PlainChecked, IsChecked}
+use Rattle.linked_program.specs.Checked.{PlainChecked, IsChecked, revised_of}
 use Rattle.input_tables.specs.Edited.{Edited}
-use Rattle.frames.specs.Given.{given}
-use Rattle.positions.specs.Setting.{Setting}
+use Rattle.rerun_records.specs.Record.{PlainRecord}
+use Rattle.rerun_records.specs.Named.{HaveValues}
+use Rattle.rerun_records.specs.Commits.{put_records}
+use Rattle.positions.specs.Setting.{Setting, setting_with}
+use Rattle.positions.specs.Tallies.{PlainTally}
 use Rattle.positions.specs.Stands.{fault_in}
 use Rattle.frames.specs.declared.answer.RunAnswer.{RunAnswer}
 use Rattle.frames.specs.declared.answer.RunAnswer.TheVariants as answer
 use Rattle.numbered_runs.specs.Named.{run_step}
-use Rattle.numbered_runs.specs.Stands.{StandsForRun}
+use Rattle.numbered_runs.specs.Stands.{StandsForUnflagged}
 use Rattle.numbered_runs.specs.Ends.{HistoryGives}
+use Rattle.numbered_runs.specs.News.{AreSound, HasCounted, HaveNews}
 use Rattle.numbered_runs.specs.Simulation.{IsPrepared, IsReached, IsStepOf, IsNoStepOf, IsFirstOf}
 use Rattle.numbered_runs.specs.declared.step.Step.{Step}
-use Rattle.worker_core.specs.Standing.{Standing, run_of}
-use Rattle.worker_core.specs.Cores.{PlainCore, is_open_to, setting_in}
+use Rattle.worker_core.specs.Strands.{PlainStrands, run_of}
+use Rattle.worker_core.specs.Folds.{KeepsLines}
+use Rattle.worker_core.specs.Cores.{PlainCore, is_open_to}
+use Rattle.worker_core.specs.Going.{AreHeldBy}
 
 -- it stands for a run of the definitions that some steps lead to
-pub record IsOnPath (setting : Setting) (s : Standing) : Type 0 where
+pub record IsOnPath (setting : Setting) (s : PlainStrands) : Type 0 where
   pub run : RunState
   pub reached : IsReached setting run
-  pub stands : StandsForRun setting (run_of s) run
+  pub stands : StandsForUnflagged setting (run_of s) run
 
--- the program was checked against the tables, both keep what the theory asks for, and the run is one of the definitions
-pub record KeepsRun (program : PlainChecked) (tables : Edited) (s : Standing) : Type 0 where
-  pub prepared : IsPrepared (given program tables)
+-- records of a program that stand for sound ones
+abbrev pub AreSoundFor : PlainChecked → List PlainRecord → Type 0
+AreSoundFor program records = AreSound (revised_of program) program.tables program.kinds records
+
+-- a program on tables, with those sound records by name
+abbrev pub setting_by : (program : PlainChecked) → Edited → (records : List PlainRecord) → AreSoundFor program records → Setting
+setting_by program tables records sound = setting_with program tables.tables sound.kept records
+
+-- the program was checked against the tables, both keep what the theory asks for, and the records are sound; and whichever sound records they stand for, the run is one of the definitions
+pub record KeepsRun (program : PlainChecked) (tables : Edited) (records : List PlainRecord) (s : PlainStrands) : Type 0 where
+  pub sound : AreSoundFor program records
+  pub values : HaveValues program.kinds records
   pub checked : IsChecked program
   pub monoids : All IsMonoid program.kinds
-  pub path : IsOnPath (given program tables) s
+  pub prepared : (k : AreSoundFor program records) → IsPrepared (setting_by program tables records k)
+  pub path : (k : AreSoundFor program records) → IsOnPath (setting_by program tables records k) s
+
+-- a run that has failed has the places, states and history of one that is kept
+abbrev pub StaysRun : Bool → PlainChecked → Edited → List PlainRecord → ℕ → PlainStrands → Type 0
+StaysRun false program tables records n s = KeepsRun program tables records s × AreHeldBy n s
+StaysRun true program tables records n s = (r : PlainStrands) × KeepsRun program tables records r × KeepsLines r s
+
+-- the records of a run are sound
+abbrev pub HasSound : PlainCore → Type 0
+HasSound c = AreSoundFor c.program c.records
+
+-- its program on its tables, with those sound records by name
+abbrev pub recalling : (c : PlainCore) → HasSound c → Setting
+recalling c sound = setting_by c.program c.tables c.records sound
 
 -- the run stands for the beginning of one, with so many kits
 abbrev pub IsBeginning : ℕ → PlainCore → Type 0
-IsBeginning kits c = IsFirstOf (setting_in c) kits (run_of c.standing)
+IsBeginning kits c = (k : HasSound c) → IsFirstOf (recalling c k) kits (run_of c.strands)
 
 -- the run after the step stands for the definitions' step of the run before it
 abbrev pub IsStep : Step → PlainCore → PlainCore → Type 0
-IsStep step c d = IsStepOf (setting_in c) (run_step step) (run_of c.standing) (run_of d.standing)
+IsStep step c d = (k : HasSound c) → IsStepOf (recalling c k) (run_step step) (run_of c.strands) (run_of d.strands)
 
 -- there is no such worker, the run has failed, or there is no such step by the definitions
 abbrev pub IsNoStep : Step → PlainCore → Type 0
-IsNoStep step c = is_open_to c step ≡ true → IsNoStepOf (setting_in c) (run_step step) (run_of c.standing)
+IsNoStep step c = is_open_to c step ≡ true → (k : HasSound c) → IsNoStepOf (recalling c k) (run_step step) (run_of c.strands)
 
 -- the history is legal, and gives the list of the strands
 abbrev pub IsLegal : PlainCore → Type 0
-IsLegal c = HistoryGives (run_of c.standing)
+IsLegal c = HistoryGives (run_of c.strands)
 
 -- the answer that the elision gives, unless the run has not come to its end or has failed
 abbrev pub IsElision : PlainChecked → Answer → RunAnswer → Type 0
 IsElision program a answer.Unfinished = Unit {0}
 IsElision program a answer.NoMemory = Unit {0}
-IsElision program (Finished v worths) (answer.Finished w got) = (w ≡ v) × (map meaning got.items ≡ worths)
+IsElision program (Finished v worths) (answer.Finished w got n m k) = (w ≡ v) × (map meaning got.items ≡ worths)
 IsElision program (Finished v worths) (answer.Fault f) = ⊥
-IsElision program (Faulted k) (answer.Finished w got) = ⊥
+IsElision program (Faulted k) (answer.Finished w got n m j) = ⊥
 IsElision program (Faulted k) (answer.Fault f) = fault_in (tree program.program) f ≡ k
 
 -- the answer of the elision of its program on its tables, done from scratch
@@ -65,3 +94,22 @@ AnswersElision c given = IsElision c.program (from_scratch (tree c.program.progr
 abbrev pub IsGiven : RunAnswer → Type 0
 IsGiven answer.Unfinished = ⊥
 IsGiven _ = Unit {0}
+
+-- ---- counts and new records
+
+-- those counts, and those new records
+abbrev pub tally_of : ℕ → ℕ → ℕ → List PlainRecord → PlainTally
+tally_of executed reused unrecorded made = record { opened = []; made = made; executed = executed; reused = reused; unrecorded = unrecorded }
+
+-- where the run has finished, it has counted the needed instances, whichever sound records its records stand for, and its new records are sound and hold now; else it leaves none
+abbrev pub HasRecordedBy : PlainChecked → Edited → List PlainRecord → RunAnswer → List PlainRecord → Type 0
+HasRecordedBy program tables records (answer.Finished v values n m k) made =
+    (s : AreSoundFor program records) → HasCounted (setting_by program tables records s) (tally_of n m k made) × HaveNews (setting_by program tables records s) (tally_of n m k made)
+HasRecordedBy program tables records _ made = made ≡ []
+
+abbrev pub HasRecorded : PlainCore → RunAnswer → List PlainRecord → Type 0
+HasRecorded c = HasRecordedBy c.program c.tables c.records
+
+-- the records of the run with new ones put in are sound
+abbrev pub StaySound : PlainCore → List PlainRecord → Type 0
+StaySound c made = AreSoundFor c.program (put_records c.records made)

@@ -1,5 +1,5 @@
 pub mod Moves
-pub mod Standing
+pub mod Strands
 pub mod Folds
 pub mod Cores
 pub mod Keeps

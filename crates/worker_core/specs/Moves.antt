@@ -1,12 +1,16 @@
 -- What a worker does with the strand that it holds, and how it is laid down.
-use Rattle.std.specs.Prelude.{◌≡◌, ℕ, Bool, true, false, List, [], ◌∷◌, Option, Some, None, Result, Ok, Err}
+use Rattle.std.specs.Prelude.{◌≡◌, ℕ, Bool, true, false, List, [], ◌∷◌, length, Option, Some, None, Result, Ok, Err}
 use Rattle.monoid_laws.specs.declared.Kind.{Kind}
+use Rattle.view_pool.specs.Stock.{Stock}
 use Rattle.meaning.specs.Outcome.{Place}
 use Rattle.meaning.specs.Strands as strands
 use Rattle.positions.specs.Setting.{Setting}
+use Rattle.positions.specs.declared.phase.Phase.{Phase}
 use Rattle.positions.specs.declared.phase.Paused.{Paused}
 use Rattle.positions.specs.declared.phase.Paused.TheVariants as paused
 use Rattle.positions.specs.Strands.{PlainTask}
+use Rattle.frames.specs.Joins.{HasFault}
+use Rattle.frames.specs.Steps.{IsValued}
 use Rattle.numbered_runs.specs.Pieces.{PlainPiece, Change, worked, pushed, inlined, popped}
 use Rattle.numbered_runs.specs.declared.refusal.Refusal.{Refusal}
 use Rattle.numbered_runs.specs.declared.refusal.Refusal.TheVariants.{NoMemory}
@@ -35,10 +39,19 @@ RefusedAs lacks (Err f) e = e ≡ f
 RefusedAs true (Ok p) e = e ≡ NoMemory
 RefusedAs false (Ok p) e = ⊥
 
--- a strand with one layer, which has views of those kinds
-pub record IsFit (kinds : List Kind) (p : PlainPiece) : Type 0 where
-  pub views : p.strand.layer.kinds ≡ kinds
-  pub one_layer : p.strand.lower ≡ []
+-- a strand that has views of those kinds
+abbrev pub IsFit : List Kind → PlainPiece → Type 0
+IsFit kinds p = p.strand.layer.kinds ≡ kinds
+
+-- what a refused move leaves of the strand: where memory is refused in a small step its two topmost layers may have other values
+abbrev pub LeavesPiece : Move → Refusal → PlainPiece → PlainPiece → Type 0
+LeavesPiece Work NoMemory p q = (q ≡ record p { strand = q.strand }) × IsValued p.strand q.strand
+LeavesPiece _ _ p q = q ≡ p
+
+-- and of the pool: where memory is refused in a small step there are as many free kits
+abbrev pub LeavesPool : Move → Refusal → Stock (List Kind) → Stock (List Kind) → Type 0
+LeavesPool Work NoMemory k l = length l.kits ≡ length k.kits
+LeavesPool _ _ k l = l ≡ k
 
 -- as what a strand is laid down at a point, with those continuations on the deque
 abbrev pub rest_at : Paused → List PlainTask → Option State
@@ -47,6 +60,11 @@ rest_at paused.AtSync [] = Some state.Stalled
 rest_at paused.Returned [] = Some state.Ended
 rest_at paused.Finished [] = Some state.Finished
 rest_at _ ks = None
+
+-- only a strand with a fault is laid down as faulted
+abbrev pub MayRest : State → Phase → Type 0
+MayRest state.Faulted ph = HasFault ph
+MayRest _ ph = Unit {0}
 
 -- what the history notes where a strand is laid down so
 abbrev pub rest_noted : State → Place → strands.BookStep

@@ -1,5 +1,5 @@
 // Two neighbours become one strand.
-ghost use Rattle.std.specs.Prelude.{◌≡◌, true, ◌+◌, ◌<◌, All, IfOk, IfErr, OnErr, OnOk, Ok, [], length};
+ghost use Rattle.std.specs.Prelude.{◌≡◌, ◌⊎◌, true, ◌+◌, ◌<◌, All, IfOk, IfErr, OnErr, OnOk, Ok, [], length};
 ghost use Rattle.monoid_laws.specs.Kinds.{IsMonoid};
 ghost use Rattle.meaning.specs.Strands.{done, waits};
 ghost use Rattle.numbered_runs.specs.Named.{named_state};
@@ -8,8 +8,9 @@ ghost use Rattle.numbered_runs.specs.Runs.{is_idle, if_idle, folded_at};
 ghost use Rattle.worker_core.specs.Moves.{RefusedAs};
 ghost use Rattle.positions.specs.Moves.{FoldsViews};
 ghost use Rattle.numbered_runs.specs.Halves.{IsHalfFolded};
-ghost use Rattle.worker_core.specs.Folds.{KeepsProducts, LeavesStrands, MayFoldAt, IsFoldedAt};
-ghost use Rattle.worker_core.specs.Standing.{neighbour_at, run_of, kits_in, AreFit};
+ghost use Rattle.worker_core.specs.Folds.{KeepsProducts, LeavesFolded, MayFoldAt, IsFoldedAt};
+ghost use Rattle.numbered_runs.specs.Layered.{HasOneLayer};
+ghost use Rattle.worker_core.specs.Strands.{neighbour_at, run_of, kits_in, AreFit};
 
 use crate::ending::give_back;
 use crate::piece::Piece;
@@ -82,7 +83,7 @@ impl<V: View> Piece<V> {
         ensures folded { OnOk result (self.new ≡ folded worker self.old right) }
         ensures kit { IfOk result (λ kit. kit ≡ right.strand.layer.kinds) }
         ensures half { IfErr result (IsHalfFolded self.old right self.new) }
-        ensures views { OnErr result (FoldsViews self.old.strand.phase right.strand.phase) }
+        ensures views { IfErr result (λ back. FoldsViews self.old.strand.phase right.strand.phase ⊎ ((self.new ≡ self.old) × (back ≡ right))) }
     {
         let Piece {
             strand,
@@ -116,10 +117,11 @@ impl<V: View> Strands<V> {
         place: &[usize],
     ) -> Result<(), Refusal>
         requires fit { AreFit program.now.kinds self.old }
+        requires layered { All HasOneLayer self.old.pieces }
         requires monoids { All IsMonoid program.now.kinds }
         ensures taken { OnOk result (if_idle (is_idle worker self.old.pieces) (folded_at worker place.now (length self.old.kits) [] self.old.pieces self.old.history) ≡ Ok (run_of self.new)) }
         ensures refused { IfErr result (RefusedAs true (if_idle (is_idle worker self.old.pieces) (folded_at worker place.now (length self.old.kits) [] self.old.pieces self.old.history))) }
-        ensures kept { IfErr result (λ e. LeavesStrands e self.old self.new) }
+        ensures kept { IfErr result (λ e. LeavesFolded e self.old self.new) }
         ensures fit { AreFit program.now.kinds self.new }
         ensures total { self.new.total ≡ self.old.total }
         ensures kits { kits_in self.new ≡ kits_in self.old }
@@ -149,6 +151,7 @@ impl<V: View> Strands<V> {
         requires number { number + 1 < length self.old.pieces }
         requires may { MayFoldAt number self.old.pieces }
         requires fit { AreFit program.now.kinds self.old }
+        requires layered { All HasOneLayer self.old.pieces }
         requires monoids { All IsMonoid program.now.kinds }
         ensures folded { OnOk result (IsFoldedAt worker number (run_of self.old) (run_of self.new)) }
         ensures cause { IfErr result (λ e. e ≡ Refusal.NoMemory) }

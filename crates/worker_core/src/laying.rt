@@ -1,13 +1,15 @@
 // A strand is laid down.
-ghost use Rattle.std.specs.Prelude.{◌≡◌, slice_index_or, ◌<◌, true, IfOk, IfErr, OnErr, OnOk, Ok, [], length};
-ghost use Rattle.meaning.specs.Tables.{Tables};
-ghost use Rattle.positions.specs.Setting.{setting_of};
+ghost use Rattle.std.specs.Prelude.{◌≡◌, ◌+◌, ◌≤◌, List, All, slice_index_or, ◌<◌, true, IfOk, IfSome, IfErr, OnErr, OnOk, Ok, [], length};
+ghost use Rattle.monoid_laws.specs.declared.Kind.{Kind};
+ghost use Rattle.rerun_records.specs.Record.{PlainRecord};
+ghost use Rattle.input_tables.specs.Edited.{Edited};
+ghost use Rattle.frames.specs.Given.{given};
 ghost use Rattle.positions.specs.Advance.{pause_of};
 ghost use Rattle.numbered_runs.specs.Named.{named_state, book_step};
 ghost use Rattle.numbered_runs.specs.Pieces.{PlainPiece, stalled};
 ghost use Rattle.numbered_runs.specs.Runs.{changed};
-ghost use Rattle.worker_core.specs.Moves.{RefusedAs, rest_at, rest_noted};
-ghost use Rattle.worker_core.specs.Standing.{run_of, kits_in, AreFit, laid_down, IsLaid, IsLayingRefused};
+ghost use Rattle.worker_core.specs.Moves.{RefusedAs, MayRest, rest_at, rest_noted};
+ghost use Rattle.worker_core.specs.Strands.{run_of, kits_in, AreFit, rested, freed, layers_of, IsLaidDown, IsLaid, IsLayingRefused};
 
 use crate::piece::Piece;
 use crate::strands::{Strands, held_at};
@@ -16,7 +18,7 @@ use numbered_runs::refusal::Refusal;
 use numbered_runs::step::{BookStep, Place, State};
 use positions::phase::Paused;
 use std::alloc::Global;
-use view_pool::View;
+use view_pool::{Kit, Pool, View};
 
 /// What the history notes where the strand of that place is laid down so.
 fn noted(state: State, place: Place) -> BookStep
@@ -34,6 +36,7 @@ impl<V: View> Piece<V> {
     /// As what the strand is laid down; none where its holder has something to do with it.
     fn rest(&self, program: &Checked) -> Option<State>
         ensures rest { result ≡ rest_at (pause_of program.now.codes self.now.strand) self.now.deque }
+        ensures phase { IfSome result (λ state. MayRest state self.now.strand.phase) }
     {
         match self.strand.pause(program) {
             Paused::Faulted => Some(State::Faulted),
@@ -44,12 +47,21 @@ impl<V: View> Piece<V> {
         }
     }
 
-    /// Lays the strand down, and gives up its deque. It takes no memory.
-    fn lay(&mut self, state: State)
-        ensures laid { self.new ≡ record self.old { deque = []; state = named_state state } }
+    /// Lays the strand down, and gives up its deque; the kits of a faulted one's upper layers go home. It takes no memory.
+    fn lay(&mut self, state: State, pool: &mut Pool<Kit<V>>)
+        requires faulted { MayRest state self.old.strand.phase }
+        requires room { length pool.old.kits + layers_of self.old ≤ pool.old.total }
+        ensures laid { self.new ≡ rested state self.old }
+        ensures kinds { self.new.strand.layer.kinds ≡ self.old.strand.layer.kinds }
+        ensures free { (kinds : List Kind) → self.old.strand.layer.kinds ≡ kinds → All (λ k. k ≡ kinds) pool.old.kits → All (λ k. k ≡ kinds) pool.new.kits }
+        ensures home { length pool.new.kits ≡ length pool.old.kits + freed state self.old }
+        ensures total { pool.new.total ≡ pool.old.total }
     {
         self.deque.clear();
         self.state = state;
+        if let State::Faulted = state {
+            self.strand.close_upper(pool);
+        }
     }
 }
 
@@ -62,8 +74,8 @@ impl<V: View> Strands<V> {
         worker: usize,
     ) -> Result<(), Refusal>
         requires fit { AreFit program.now.kinds self.old }
-        ensures taken { OnOk result ((tables : Tables) → changed Refusal.NotThere worker (stalled (setting_of program.now tables) (length self.old.kits)) [] self.old.pieces self.old.history ≡ Ok (run_of self.new)) }
-        ensures refused { IfErr result (λ e. (tables : Tables) → RefusedAs true (changed Refusal.NotThere worker (stalled (setting_of program.now tables) (length self.old.kits)) [] self.old.pieces self.old.history) e) }
+        ensures taken { OnOk result ((tables : Edited) (records : List PlainRecord) → changed Refusal.NotThere worker (stalled (given program.now tables records) (length self.old.kits)) [] self.old.pieces self.old.history ≡ Ok (run_of self.new)) }
+        ensures refused { IfErr result (λ e. (tables : Edited) (records : List PlainRecord) → RefusedAs true (changed Refusal.NotThere worker (stalled (given program.now tables records) (length self.old.kits)) [] self.old.pieces self.old.history) e) }
         ensures unchanged { OnErr result (self.new ≡ self.old) }
         ensures fit { AreFit program.now.kinds self.new }
         ensures total { self.new.total ≡ self.old.total }
@@ -81,6 +93,9 @@ impl<V: View> Strands<V> {
         ensures taken { OnOk result (IsLaid program.now.codes number self.old self.new) }
         ensures refused { IfErr result (λ e. (d : PlainPiece) → IsLayingRefused (rest_at (pause_of program.now.codes (slice_index_or self.old.pieces number d).strand) (slice_index_or self.old.pieces number d).deque) e) }
         ensures unchanged { OnErr result (self.new ≡ self.old) }
+        ensures fit { (kinds : List Kind) → AreFit kinds self.old → AreFit kinds self.new }
+        ensures total { self.new.total ≡ self.old.total }
+        ensures kits { kits_in self.new ≡ kits_in self.old }
     {
         match self.pieces[number].rest(program) {
             None => Err(Refusal::NotThere),
@@ -91,9 +106,13 @@ impl<V: View> Strands<V> {
     /// Lays the strand of that number down so; refused for want of memory alone, and then nothing has changed.
     fn lay_at(&mut self, alloc: Global, number: usize, state: State) -> Result<(), Refusal>
         requires number { number < length self.old.pieces }
-        ensures laid { OnOk result ((d : PlainPiece) → self.new ≡ laid_down number state (slice_index_or self.old.pieces number d) self.old) }
+        requires faulted { (d : PlainPiece) → MayRest state (slice_index_or self.old.pieces number d).strand.phase }
+        ensures laid { OnOk result ((d : PlainPiece) → IsLaidDown number state (slice_index_or self.old.pieces number d) self.old self.new) }
         ensures cause { IfErr result (λ e. e ≡ Refusal.NoMemory) }
         ensures unchanged { OnErr result (self.new ≡ self.old) }
+        ensures fit { (kinds : List Kind) → AreFit kinds self.old → AreFit kinds self.new }
+        ensures total { self.new.total ≡ self.old.total }
+        ensures kits { kits_in self.new ≡ kits_in self.old }
     {
         let Ok(place) = self.pieces[number].place(alloc) else {
             return Err(Refusal::NoMemory);
@@ -101,7 +120,7 @@ impl<V: View> Strands<V> {
         if self.history.reserve(1).is_err() {
             return Err(Refusal::NoMemory);
         }
-        self.pieces[number].lay(state);
+        self.pieces[number].lay(state, &mut self.pool);
         self.history.push_reserved(noted(state, place));
         Ok(())
     }

@@ -5,6 +5,7 @@ mod ending;
 mod folding;
 mod laying;
 mod piece;
+pub mod records;
 pub mod run;
 mod stealing;
 mod stepping;
@@ -12,7 +13,8 @@ mod strands;
 
 // What callers of a run name.
 pub use frames::answer::RunAnswer;
-pub use frames::records::Records;
 pub use numbered_runs::refusal::{Refusal, StartError};
 pub use numbered_runs::step::{BookStep, Place, State, Step, StrandLine};
 pub use positions::phase::Fault;
+pub use rerun_records::record::Record;
+pub use rerun_records::records::Records;

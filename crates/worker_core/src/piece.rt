@@ -1,15 +1,14 @@
 // A strand with its holder's deque.
-ghost use Rattle.std.specs.Prelude.{◌≡◌, ℕ, List, IfErr, IfOk, OnErr, OnOk, [], true, false};
+ghost use Rattle.std.specs.Prelude.{◌≡◌, ◌+◌, ◌≤◌, ℕ, List, All, IfErr, IfOk, OnErr, OnOk, [], true, false, length};
+ghost use Rattle.monoid_laws.specs.Kinds.{IsMonoid};
+ghost use Rattle.rerun_records.specs.Named.{HaveValues};
 ghost use Rattle.frames.specs.Given.{lent};
-ghost use Rattle.frames.specs.Answers.{IsAnswer};
 ghost use Rattle.numbered_runs.specs.Named.{named_state, line};
 ghost use Rattle.numbered_runs.specs.Runs.{line_of};
-ghost use Rattle.worker_core.specs.Cores.{ending_at};
 ghost use Rattle.numbered_runs.specs.Pieces.{worked, pushed, inlined, popped, alone, place_of, is_held_by};
-ghost use Rattle.worker_core.specs.Moves.{moved, takes_memory, RefusedAs, IsFit};
+ghost use Rattle.worker_core.specs.Moves.{moved, takes_memory, RefusedAs, LeavesPiece, LeavesPool};
+ghost use Rattle.worker_core.specs.Strands.{layers_of};
 
-use frames::answer::RunAnswer;
-use frames::records::Records;
 use frames::setting::Setting;
 use frames::strand::Strand;
 use frames::task::Task;
@@ -77,25 +76,35 @@ impl<V: View> Piece<V> {
         self.strand.begins_behind(alloc)
     }
 
-    /// Does one small step.
+    /// Does one small step. A layer that it opens takes a kit of the pool, and one that it closes gives it back.
     fn work(
         &mut self,
         alloc: Global,
         setting: Setting<'_>,
-        records: &Records,
+        pool: &mut Pool<Kit<V>>,
     ) -> Result<(), Refusal>
+        requires values { HaveValues setting.program.now.kinds setting.records.now }
+        requires monoids { All IsMonoid setting.program.now.kinds }
         requires kinds { self.old.strand.layer.kinds ≡ setting.program.now.kinds }
-        ensures taken { OnOk result ((kits : ℕ) → worked (lent setting.entry) kits self.old ≡ alone kits self.new) }
-        ensures refused { IfErr result (λ e. (kits : ℕ) → RefusedAs true (worked (lent setting.entry) kits self.old) e) }
-        ensures unchanged { OnErr result (self.new ≡ self.old) }
+        requires free { All (λ k. k ≡ setting.program.now.kinds) pool.old.kits }
+        requires room { length pool.old.kits + layers_of self.old ≤ pool.old.total }
+        ensures taken { OnOk result (worked (lent setting.entry) (length pool.old.kits) self.old ≡ alone (length pool.new.kits) self.new) }
+        ensures refused { IfErr result (RefusedAs true (worked (lent setting.entry) (length pool.old.kits) self.old)) }
+        ensures left { IfErr result (λ e. LeavesPiece Move.Work e self.old self.new) }
+        ensures pool_left { IfErr result (λ e. LeavesPool Move.Work e pool.old pool.new) }
+        ensures kinds { self.new.strand.layer.kinds ≡ self.old.strand.layer.kinds }
+        ensures free { All (λ k. k ≡ setting.entry.program.now.kinds) pool.new.kits }
+        ensures kits { length pool.new.kits + layers_of self.new ≡ length pool.old.kits + layers_of self.old }
+        ensures total { pool.new.total ≡ pool.old.total }
     {
-        // No instance is recorded yet, so the step asks for no kit.
-        let mut none: Pool<Kit<V>> = Pool::new(Vec::new(alloc));
         match self.strand.pause(setting.program) {
-            Paused::Working => match self
-                .strand
-                .advance(alloc, setting.program, setting.tables, records, &mut none)
-            {
+            Paused::Working => match self.strand.advance(
+                alloc,
+                setting.program,
+                setting.tables,
+                setting.records,
+                pool,
+            ) {
                 Err(_) => Err(Refusal::NoMemory),
                 Ok(_) => Ok(()),
             },
@@ -108,6 +117,8 @@ impl<V: View> Piece<V> {
         ensures taken { OnOk result ((kits : ℕ) → pushed kits self.old ≡ alone kits self.new) }
         ensures refused { IfErr result (λ e. (kits : ℕ) → RefusedAs true (pushed kits self.old) e) }
         ensures unchanged { OnErr result (self.new ≡ self.old) }
+        ensures kinds { self.new.strand.layer.kinds ≡ self.old.strand.layer.kinds }
+        ensures lower { self.new.strand.lower ≡ self.old.strand.lower }
     {
         match self.strand.phase() {
             Phase::AtSpawn => {
@@ -128,6 +139,8 @@ impl<V: View> Piece<V> {
         ensures taken { OnOk result ((kits : ℕ) → inlined kits self.old ≡ alone kits self.new) }
         ensures refused { IfErr result (λ e. (kits : ℕ) → RefusedAs false (inlined kits self.old) e) }
         ensures unchanged { OnErr result (self.new ≡ self.old) }
+        ensures kinds { self.new.strand.layer.kinds ≡ self.old.strand.layer.kinds }
+        ensures lower { self.new.strand.lower ≡ self.old.strand.lower }
     {
         match self.strand.phase() {
             Phase::AtSpawn => {
@@ -143,6 +156,8 @@ impl<V: View> Piece<V> {
         ensures taken { OnOk result ((kits : ℕ) → popped kits self.old ≡ alone kits self.new) }
         ensures refused { IfErr result (λ e. (kits : ℕ) → RefusedAs false (popped kits self.old) e) }
         ensures unchanged { OnErr result (self.new ≡ self.old) }
+        ensures kinds { self.new.strand.layer.kinds ≡ self.old.strand.layer.kinds }
+        ensures lower { self.new.strand.lower ≡ self.old.strand.lower }
     {
         match self.strand.returned() {
             Some(_) => match self.deque.pop_back() {
@@ -156,21 +171,31 @@ impl<V: View> Piece<V> {
         }
     }
 
-    /// Does what its holder does, or refuses it and changes nothing.
+    /// Does what its holder does, or refuses it. A refusal changes nothing, but where memory is refused for a small step the
+    /// strand's topmost layers may have other values.
     pub(crate) fn go(
         &mut self,
         alloc: Global,
         setting: Setting<'_>,
-        records: &Records,
         step: Move,
+        pool: &mut Pool<Kit<V>>,
     ) -> Result<(), Refusal>
+        requires values { HaveValues setting.program.now.kinds setting.records.now }
+        requires monoids { All IsMonoid setting.program.now.kinds }
         requires kinds { self.old.strand.layer.kinds ≡ setting.program.now.kinds }
-        ensures taken { OnOk result ((kits : ℕ) → moved (lent setting.entry) step kits self.old ≡ alone kits self.new) }
-        ensures refused { IfErr result (λ e. (kits : ℕ) → RefusedAs (takes_memory step) (moved (lent setting.entry) step kits self.old) e) }
-        ensures unchanged { OnErr result (self.new ≡ self.old) }
+        requires free { All (λ k. k ≡ setting.program.now.kinds) pool.old.kits }
+        requires room { length pool.old.kits + layers_of self.old ≤ pool.old.total }
+        ensures taken { OnOk result (moved (lent setting.entry) step (length pool.old.kits) self.old ≡ alone (length pool.new.kits) self.new) }
+        ensures refused { IfErr result (RefusedAs (takes_memory step) (moved (lent setting.entry) step (length pool.old.kits) self.old)) }
+        ensures left { IfErr result (λ e. LeavesPiece step e self.old self.new) }
+        ensures pool_left { IfErr result (λ e. LeavesPool step e pool.old pool.new) }
+        ensures kinds { self.new.strand.layer.kinds ≡ self.old.strand.layer.kinds }
+        ensures free { All (λ k. k ≡ setting.entry.program.now.kinds) pool.new.kits }
+        ensures kits { length pool.new.kits + layers_of self.new ≡ length pool.old.kits + layers_of self.old }
+        ensures total { pool.new.total ≡ pool.old.total }
     {
         match step {
-            Move::Work => self.work(alloc, setting, records),
+            Move::Work => self.work(alloc, setting, pool),
             Move::Push => self.push(alloc),
             Move::Inline => self.inline(),
             Move::Pop => self.pop(),
@@ -187,27 +212,5 @@ impl<V: View> Piece<V> {
             place: self.place(alloc)?,
             state: self.state,
         })
-    }
-
-    /// The answer where the strand is laid down as finished or faulted, else Unfinished.
-    pub(crate) fn answer(&self, alloc: Global) -> RunAnswer
-        ensures answer { IsAnswer (ending_at self.now.state self.now) self.now.strand.layer.worths result }
-    {
-        match self.state {
-            State::Finished | State::Faulted => self.strand.answer(alloc),
-            _ => RunAnswer::Unfinished,
-        }
-    }
-
-    /// The kit of a strand with one layer that is let go.
-    pub(crate) fn close(self) -> Kit<V>
-        ensures kit { result ≡ self.strand.layer.kinds }
-    {
-        let Piece {
-            strand,
-            deque: _,
-            state: _,
-        } = self;
-        strand.close()
     }
 }

@@ -1,33 +1,39 @@
 // A run by steps.
-ghost use Rattle.std.specs.Prelude.{◌≡◌, ◌⊎◌, true, All, Ok, IfOk, IfErr, OnOk, map, length};
+ghost use Rattle.std.specs.Prelude.{◌≡◌, ◌⊎◌, true, false, List, All, Ok, IfOk, IfErr, OnOk, map, length};
 ghost use Rattle.numbered_runs.specs.Named.{run_step, book_step, line};
 ghost use Rattle.numbered_runs.specs.Runs.{are_workers, line_of};
 ghost use Rattle.worker_core.specs.Moves.{RefusedAs};
-ghost use Rattle.worker_core.specs.Standing.{run_of, kits_in};
+ghost use Rattle.worker_core.specs.Strands.{run_of, kits_in};
 ghost use Rattle.monoid_laws.specs.Kinds.{IsMonoid};
-ghost use Rattle.meaning.specs.Schedules.{without_memo};
+ghost use Rattle.meaning.specs.Records.{Kept, IsSound};
+ghost use Rattle.meaning.specs.Schedules.{recording_from};
+ghost use Rattle.trail_theory.specs.Order.{Every};
+ghost use Rattle.trail_theory.specs.OpenLayers.{IsNumbered};
 ghost use Rattle.run_theory.specs.Theorems.{IsReady};
+ghost use Rattle.rerun_records.specs.Named.{HaveValues};
 ghost use Rattle.linked_program.specs.Checked.{IsChecked, revised_of};
 ghost use Rattle.linked_program.specs.TableNames.{columned_of};
 ghost use Rattle.worker_core.specs.Going.{GoesOn};
 ghost use Rattle.worker_core.specs.Leaving.{LeavesElision};
-ghost use Rattle.worker_core.specs.Keeps.{IsBeginning, IsStep, IsNoStep, IsLegal, AnswersElision, IsGiven};
+ghost use Rattle.worker_core.specs.Keeps.{AreSoundFor, IsBeginning, IsStep, IsNoStep, IsLegal, AnswersElision, IsGiven, HasRecorded, StaySound};
 ghost use Rattle.worker_core.specs.Cores.{IsFirstCore, CannotStart, is_failure, takes_memory, stepped_on, taken, failed_by, StandsAfter, IsEnd, is_over};
 
 use crate::strands::Strands;
 use frames::answer::RunAnswer;
-use frames::records::Records;
 use frames::setting::Setting;
 use input_tables::Tables;
 use linked_program::checked::Checked;
 use numbered_runs::refusal::{Refusal, StartError};
 use numbered_runs::step::{BookStep, Step, StrandLine};
-use rules_theory::checked_programs_keep_the_rules;
+use rerun_records::record::Record;
+use rerun_records::records::Records;
+use rules_theory::{checked_programs_are_numbered, checked_programs_keep_the_rules};
 use std::alloc::{AllocError, Global};
 use std::marker::Model;
 use view_pool::{Kit, Pool, View};
 
-/// A run of a checked program on tables, by steps of so many workers.
+/// A run of a checked program on tables, by steps of so many workers. Its memo instances are answered by the records that hold
+/// now, and it makes new ones.
 #[derive(Drop)]
 pub struct Core<'a, V: View = Box<dyn View>> {
     program: &'a Checked,
@@ -40,9 +46,8 @@ pub struct Core<'a, V: View = Box<dyn View>> {
 
 impl<'a, V: View> Model for Core<'a, V> {
     ghost use Rattle.worker_core.specs.Cores.{PlainCore};
-    ghost use Rattle.worker_core.specs.Standing.{AreFit};
-    ghost use Rattle.worker_core.specs.Keeps.{KeepsRun};
-    ghost use Rattle.worker_core.specs.Going.{AreHeldBy};
+    ghost use Rattle.worker_core.specs.Strands.{AreFit};
+    ghost use Rattle.worker_core.specs.Keeps.{StaysRun};
 
     ghost Value = { PlainCore };
 
@@ -52,9 +57,9 @@ impl<'a, V: View> Model for Core<'a, V> {
 
     ghost coded = { Prim.hlevel (codes, e.the_row.coded, t.the_row.coded) };
 
-    ghost view = { λ c. record { program = c.program.now; tables = c.tables.now; standing = c.strands; workers = c.workers; failed = c.failed } };
+    ghost view = { λ c. record { program = c.program.now; tables = c.tables.now; records = c.records.now; strands = c.strands; workers = c.workers; failed = c.failed } };
 
-    ghost invariant = { λ c. AreFit c.program.now.kinds c.strands × KeepsRun c.program.now c.tables.now c.strands × AreHeldBy c.workers c.strands };
+    ghost invariant = { λ c. AreFit c.program.now.kinds c.strands × StaysRun c.failed c.program.now c.tables.now c.records.now c.workers c.strands };
 }
 
 impl<'a, V: View> Core<'a, V> {
@@ -70,9 +75,11 @@ impl<'a, V: View> Core<'a, V> {
     ) -> Result<Core<'a, V>, (StartError, Pool<Kit<V>>)>
         requires kits { All (λ k. k ≡ program.now.kinds) pool.kits }
         requires tables { program.now.tables ≡ columned_of tables.now.tables }
-        ensures started { IfOk result (λ core. IsFirstCore program.now tables.now pool workers core) }
+        requires sound { AreSoundFor program.now records.now }
+        requires values { HaveValues program.now.kinds records.now }
+        ensures started { IfOk result (λ core. IsFirstCore program.now tables.now records.now pool workers core) }
         ensures beginning { IfOk result (IsBeginning (length pool.kits)) }
-        ensures kits { IfOk result (λ core. kits_in core.standing ≡ length pool.kits) }
+        ensures kits { IfOk result (λ core. kits_in core.strands ≡ length pool.kits) }
         ensures refused { IfErr result (λ e. CannotStart pool e.0) }
         ensures handed_back { IfErr result (λ e. e.1 ≡ pool) }
     {
@@ -93,59 +100,61 @@ impl<'a, V: View> Core<'a, V> {
     /// Takes one step, or refuses it: there is no such worker or the run has failed, then the worker holds a strand, then
     /// there is no such step, nothing to take, no kit, no memory. A refusal changes nothing, but where memory is refused: after
     /// a fold some reducers may have moved between the two strands, whose product is the same, and after a step that is no push
-    /// and no fold the run has failed.
+    /// and no fold the run has failed; then the topmost layers of the strand that was at work may have other values.
     pub fn step(&mut self, alloc: Global, step: Step) -> Result<(), Refusal>
-        ensures taken { OnOk result (taken self.old step ≡ Ok (run_of self.new.standing)) }
+        ensures taken { OnOk result (taken self.old step ≡ Ok (run_of self.new.strands)) }
         ensures step { OnOk result (IsStep step self.old self.new) }
         ensures refused { IfErr result (RefusedAs (takes_memory step) (taken self.old step)) }
         ensures no_step { IfErr result (λ e. (e ≡ Refusal.NoMemory) ⊎ IsNoStep step self.old) }
-        ensures stands { IfErr result (λ e. StandsAfter step e self.old.standing self.new.standing) }
-        ensures failed { IfErr result (λ e. self.new ≡ record (failed_by step e self.old) { standing = self.new.standing }) }
-        ensures going { OnOk result (self.new ≡ record self.old { standing = self.new.standing }) }
-        ensures total { self.new.standing.total ≡ self.old.standing.total }
-        ensures kits { kits_in self.new.standing ≡ kits_in self.old.standing }
+        ensures stands { IfErr result (λ e. StandsAfter step e self.old.strands self.new.strands) }
+        ensures failed { IfErr result (λ e. self.new ≡ record (failed_by step e self.old) { strands = self.new.strands }) }
+        ensures going { OnOk result (self.new ≡ record self.old { strands = self.new.strands }) }
+        ensures total { self.new.strands.total ≡ self.old.strands.total }
+        ensures kits { kits_in self.new.strands ≡ kits_in self.old.strands }
     {
         if self.failed || !are_workers(self.workers, &step) {
             return Err(Refusal::NotThere);
         }
-        match self.take(alloc, &step) {
-            Ok(()) => Ok(()),
-            Err(refusal) => {
-                if is_failure(&step, refusal) {
-                    self.failed = true;
-                }
-                Err(refusal)
-            }
-        }
+        self.take(alloc, &step)
     }
 
     /// The step by workers that there are, in a run that has not failed.
     fn take(&mut self, alloc: Global, step: &Step) -> Result<(), Refusal>
         requires workers { are_workers self.old.workers (run_step step.now) ≡ true }
-        ensures taken { OnOk result (stepped_on self.old step.now ≡ Ok (run_of self.new.standing)) }
+        requires going { self.old.failed ≡ false }
+        ensures taken { OnOk result (stepped_on self.old step.now ≡ Ok (run_of self.new.strands)) }
         ensures refused { IfErr result (RefusedAs (takes_memory step.now) (stepped_on self.old step.now)) }
-        ensures stands { IfErr result (λ e. StandsAfter step.now e self.old.standing self.new.standing) }
-        ensures same { self.new ≡ record self.old { standing = self.new.standing } }
-        ensures total { self.new.standing.total ≡ self.old.standing.total }
-        ensures kits { kits_in self.new.standing ≡ kits_in self.old.standing }
+        ensures stands { IfErr result (λ e. StandsAfter step.now e self.old.strands self.new.strands) }
+        ensures failed { IfErr result (λ e. self.new ≡ record (failed_by step.now e self.old) { strands = self.new.strands }) }
+        ensures going { OnOk result (self.new ≡ record self.old { strands = self.new.strands }) }
+        ensures total { self.new.strands.total ≡ self.old.strands.total }
+        ensures kits { kits_in self.new.strands ≡ kits_in self.old.strands }
     {
         let setting = Setting {
             program: self.program,
             tables: self.tables,
+            records: self.records,
         };
-        self.strands.take(alloc, setting, self.records, step)
+        match self.strands.take(alloc, setting, step) {
+            Ok(()) => Ok(()),
+            Err(refusal) => {
+                self.failed = is_failure(step, refusal);
+                Err(refusal)
+            }
+        }
     }
 
-    /// What the type keeps: the run stands for one of the definitions, of which the elision's answer from scratch is left to do.
+    /// What the type keeps: until the run has failed it stands for one of the definitions, of which the elision's answer from
+    /// scratch is left to do.
     pub fn kept(&self)
-        ensures rest { LeavesElision self.now }
+        ensures rest { self.now.failed ≡ false → LeavesElision self.now }
     {
         let _ = &self.strands;
     }
 
     /// What changed the list of strands so far.
     pub fn history(&self) -> &[BookStep]
-        ensures history { map book_step result.now ≡ self.now.standing.history }
+        ensures history { map book_step result.now ≡ self.now.strands.history }
         ensures legal { IsLegal self.now }
     {
         let strands = &self.strands;
@@ -154,7 +163,7 @@ impl<'a, V: View> Core<'a, V> {
 
     /// The strands in serial order; want of memory is the only error.
     pub fn strands(&self, alloc: Global) -> Result<Vec<StrandLine>, AllocError>
-        ensures strands { IfOk result (λ lines. map line lines.items ≡ map line_of self.now.standing.pieces) }
+        ensures strands { IfOk result (λ lines. map line lines.items ≡ map line_of self.now.strands.pieces) }
     {
         self.strands.lines(alloc)
     }
@@ -168,15 +177,19 @@ impl<'a, V: View> Core<'a, V> {
         self.failed || self.strands.are_over()
     }
 
-    /// The run's answer where it has come to its end, else Unfinished, NoMemory where it has failed; and the pool, with each
-    /// strand's kit given back.
-    pub fn finish(self, alloc: Global) -> (RunAnswer, Pool<Kit<V>>)
+    /// The run's answer where it has come to its end, else Unfinished, NoMemory where it has failed; the pool, with all kits
+    /// given back; and the new records of a run that has finished, which are sound, hold now, and leave nothing to be executed
+    /// where each execution was recorded.
+    pub fn finish(self, alloc: Global) -> (RunAnswer, Pool<Kit<V>>, Vec<Record>)
         ensures elision { AnswersElision self.entry result.0 }
         ensures over { is_over self.entry ≡ true → IsGiven result.0 }
-        ensures end { IsEnd self.entry.failed self.entry.standing.pieces result.0 }
-        ensures free { length result.1.kits ≡ kits_in self.entry.standing }
+        ensures end { IsEnd self.entry.failed self.entry.strands.pieces result.0 }
+        ensures free { length result.1.kits ≡ kits_in self.entry.strands }
         ensures kinds { All (λ k. k ≡ self.entry.program.kinds) result.1.kits }
-        ensures total { result.1.total ≡ self.entry.standing.total }
+        ensures total { result.1.total ≡ self.entry.strands.total }
+        ensures recorded { HasRecorded self.entry result.0 result.2.items }
+        ensures sound { StaySound self.entry result.2.items }
+        ensures values { HaveValues self.entry.program.kinds result.2.items }
     {
         let Core {
             strands,
@@ -189,7 +202,8 @@ impl<'a, V: View> Core<'a, V> {
 
 /// What the theory asks for of a checked program and its tables.
 fn are_ready(program: &Checked, tables: &Tables)
-    ensures ready { IsReady (revised_of program.now) tables.now.tables without_memo }
+    ensures ready { (kept : List Kept) → Every (IsSound (revised_of program.now)) kept → IsReady (revised_of program.now) tables.now.tables (recording_from kept) }
+    ensures numbered { IsNumbered (revised_of program.now) }
     ensures checked { IsChecked program.now }
     ensures monoids { All IsMonoid program.now.kinds }
 {
@@ -199,6 +213,7 @@ fn are_ready(program: &Checked, tables: &Tables)
     program.fitting();
     tables.cells_fit();
     checked_programs_keep_the_rules();
+    checked_programs_are_numbered();
 }
 
 /// Whether there are so many workers.

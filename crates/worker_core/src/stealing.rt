@@ -1,12 +1,13 @@
 // A thief takes the oldest continuation of its victim.
-ghost use Rattle.std.specs.Prelude.{◌≡◌, true, ℕ, suc, ◌+◌, ◌<◌, IfOk, IfErr, OnErr, OnOk, Ok, [], ◌∷◌, length};
-ghost use Rattle.meaning.specs.Tables.{Tables};
+ghost use Rattle.std.specs.Prelude.{◌≡◌, true, ℕ, List, suc, ◌+◌, ◌<◌, IfOk, IfErr, OnErr, OnOk, Ok, [], ◌∷◌, length};
 ghost use Rattle.meaning.specs.Strands.{Split};
-ghost use Rattle.positions.specs.Setting.{setting_of};
+ghost use Rattle.rerun_records.specs.Record.{PlainRecord};
+ghost use Rattle.input_tables.specs.Edited.{Edited};
+ghost use Rattle.frames.specs.Given.{given};
 ghost use Rattle.numbered_runs.specs.Pieces.{place_of as begins_at, stolen_of, stolen_from};
 ghost use Rattle.numbered_runs.specs.Runs.{changed, is_idle, if_idle};
 ghost use Rattle.worker_core.specs.Moves.{IsFit, RefusedAs, has_tasks};
-ghost use Rattle.worker_core.specs.Standing.{run_of, kits_in, AreFit, MayRob, IsRobbed};
+ghost use Rattle.worker_core.specs.Strands.{run_of, kits_in, AreFit, MayRob, IsRobbed};
 
 use crate::piece::Piece;
 use crate::strands::{Strands, held_at};
@@ -46,8 +47,9 @@ impl<V: View> Piece<V> {
     ) -> Result<(Place, Piece<V>), Kit<V>>
         requires tasks { has_tasks self.old.deque ≡ true }
         requires kinds { kit ≡ program.now.kinds }
-        ensures robbed { IfOk result (λ r. (tables : Tables) (kits : ℕ) → stolen_of (setting_of program.now tables) thief (suc kits) self.old self.old.deque ≡ Ok (record { pieces = self.new ∷ r.1 ∷ []; kits = kits; noted = Split (begins_at self.old) r.0.items thief ∷ [] })) }
+        ensures robbed { IfOk result (λ r. (tables : Edited) (records : List PlainRecord) (kits : ℕ) → stolen_of (given program.now tables records) thief (suc kits) self.old self.old.deque ≡ Ok (record { pieces = self.new ∷ r.1 ∷ []; kits = kits; noted = Split (begins_at self.old) r.0.items thief ∷ [] })) }
         ensures fit { IfOk result (λ r. IsFit program.now.kinds r.1) }
+        ensures one_layer { IfOk result (λ r. r.1.strand.lower ≡ []) }
         ensures strand { self.new.strand ≡ self.old.strand }
         ensures unchanged { OnErr result (self.new ≡ self.old) }
         ensures handed_back { IfErr result (λ k. k ≡ kit) }
@@ -85,7 +87,7 @@ impl<V: View> Strands<V> {
         requires fit { AreFit program.now.kinds self.old }
         requires tasks { MayRob number self.old.pieces }
         requires kinds { kit ≡ program.now.kinds }
-        ensures taken { OnOk result ((tables : Tables) → IsRobbed (setting_of program.now tables) thief number self.old self.new) }
+        ensures taken { OnOk result ((tables : Edited) (records : List PlainRecord) → IsRobbed (given program.now tables records) thief number self.old self.new) }
         ensures fit { AreFit program.now.kinds self.new }
         ensures total { self.new.total ≡ self.old.total }
         ensures free { self.new.kits ≡ self.old.kits }
@@ -120,8 +122,8 @@ impl<V: View> Strands<V> {
         victim: usize,
     ) -> Result<(), Refusal>
         requires fit { AreFit program.now.kinds self.old }
-        ensures taken { OnOk result ((tables : Tables) → if_idle (is_idle thief self.old.pieces) (changed Refusal.Nothing victim (stolen_from (setting_of program.now tables) thief (length self.old.kits)) [] self.old.pieces self.old.history) ≡ Ok (run_of self.new)) }
-        ensures refused { IfErr result (λ e. (tables : Tables) → RefusedAs true (if_idle (is_idle thief self.old.pieces) (changed Refusal.Nothing victim (stolen_from (setting_of program.now tables) thief (length self.old.kits)) [] self.old.pieces self.old.history)) e) }
+        ensures taken { OnOk result ((tables : Edited) (records : List PlainRecord) → if_idle (is_idle thief self.old.pieces) (changed Refusal.Nothing victim (stolen_from (given program.now tables records) thief (length self.old.kits)) [] self.old.pieces self.old.history) ≡ Ok (run_of self.new)) }
+        ensures refused { IfErr result (λ e. (tables : Edited) (records : List PlainRecord) → RefusedAs true (if_idle (is_idle thief self.old.pieces) (changed Refusal.Nothing victim (stolen_from (given program.now tables records) thief (length self.old.kits)) [] self.old.pieces self.old.history)) e) }
         ensures unchanged { OnErr result (self.new ≡ self.old) }
         ensures fit { AreFit program.now.kinds self.new }
         ensures total { self.new.total ≡ self.old.total }

@@ -1,14 +1,16 @@
 // The strands of a run, the pool of kits, and the history.
 ghost use Rattle.std.specs.Prelude.{◌≡◌, All, IfErr, IfOk, OnErr, OnOk, Ok, [], length, map};
+ghost use Rattle.monoid_laws.specs.Kinds.{IsMonoid};
+ghost use Rattle.rerun_records.specs.Named.{HaveValues};
 ghost use Rattle.frames.specs.Given.{lent};
 ghost use Rattle.numbered_runs.specs.Named.{line};
 ghost use Rattle.numbered_runs.specs.Runs.{changed, first_run, line_of};
 ghost use Rattle.worker_core.specs.Cores.{CannotStart};
 ghost use Rattle.worker_core.specs.Moves.{moved, takes_memory, RefusedAs};
-ghost use Rattle.worker_core.specs.Standing.{held_at, behind_from, run_of, kits_in, AreFit};
+ghost use Rattle.worker_core.specs.Folds.{LeavesMoved};
+ghost use Rattle.worker_core.specs.Strands.{held_at, behind_from, run_of, kits_in, AreFit};
 
 use crate::piece::{Move, Piece};
-use frames::records::Records;
 use frames::setting::Setting;
 use frames::strand::Strand;
 use linked_program::checked::Checked;
@@ -29,13 +31,13 @@ pub struct Strands<V: View = Box<dyn View>> {
 impl<V: View> Model for Strands<V> {
     ghost use Rattle.std.specs.Prelude.{◌+◌, ◌≤◌, length, map};
     ghost use Rattle.numbered_runs.specs.Named.{book_step};
-    ghost use Rattle.worker_core.specs.Standing.{Standing};
+    ghost use Rattle.worker_core.specs.Strands.{PlainStrands, layers_in};
 
-    ghost Value = { Standing };
+    ghost Value = { PlainStrands };
 
     ghost view = { λ s. record { pieces = s.pieces.items; kits = s.pool.kits; total = s.pool.total; history = map book_step s.history.items } };
 
-    ghost invariant = { λ s. length s.pool.kits + length s.pieces.items ≤ s.pool.total };
+    ghost invariant = { λ s. length s.pool.kits + layers_in s.pieces.items ≤ s.pool.total };
 }
 
 /// The number of the strand that a worker holds.
@@ -63,26 +65,28 @@ pub(crate) fn behind<V: View>(pieces: &[Piece<V>], name: &[usize]) -> Option<usi
 }
 
 impl<V: View> Strands<V> {
-    /// Does what a worker does with the strand that it holds, or refuses it and changes nothing.
+    /// Does what a worker does with the strand that it holds, or refuses it. A refusal changes nothing, but where memory is
+    /// refused for a small step the topmost layers of the worker's strand may have other values.
     pub(crate) fn go(
         &mut self,
         alloc: Global,
         setting: Setting<'_>,
-        records: &Records,
         step: Move,
         worker: usize,
     ) -> Result<(), Refusal>
+        requires values { HaveValues setting.program.now.kinds setting.records.now }
+        requires monoids { All IsMonoid setting.program.now.kinds }
         requires fit { AreFit setting.program.now.kinds self.old }
         ensures taken { OnOk result (changed Refusal.NotThere worker (moved (lent setting.entry) step (length self.old.kits)) [] self.old.pieces self.old.history ≡ Ok (run_of self.new)) }
         ensures refused { IfErr result (RefusedAs (takes_memory step) (changed Refusal.NotThere worker (moved (lent setting.entry) step (length self.old.kits)) [] self.old.pieces self.old.history)) }
-        ensures unchanged { OnErr result (self.new ≡ self.old) }
+        ensures left { IfErr result (λ e. LeavesMoved step e self.old self.new) }
         ensures fit { AreFit setting.entry.program.now.kinds self.new }
         ensures total { self.new.total ≡ self.old.total }
         ensures kits { kits_in self.new ≡ kits_in self.old }
     {
         match held_at(&self.pieces, worker) {
             None => Err(Refusal::NotThere),
-            Some(number) => self.pieces[number].go(alloc, setting, records, step),
+            Some(number) => self.pieces[number].go(alloc, setting, step, &mut self.pool),
         }
     }
 }

@@ -9,7 +9,7 @@ use std::sync::Arc;
 use std::sync::atomic::{AtomicUsize, Ordering};
 use std::test::Fail;
 use view_pool::View;
-use worker_core::Records;
+use worker_core::records::no_records;
 use worker_core::run::Core;
 
 const TO_THE_END: &str = "W0* P0 S10 W1* I1 W1* L1 W0* L0 F0@1 W0* L0";
@@ -160,7 +160,7 @@ fn let_go<V: View, F: Fn() -> Result<V, AllocError>>(
 {
     let tables = sales(rt, alloc);
     let program = checked(rt, alloc, FIRST_LIST, &tables);
-    let records = Records::new();
+    let records = no_records(alloc, &program);
     let pool = kits_of_lists(rt, alloc, program.kinds(), 2, make);
     let Ok(mut core) = Core::start(alloc, &program, &tables, &records, pool, 2) else {
         panic!(rt; "not started");

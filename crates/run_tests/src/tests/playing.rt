@@ -17,8 +17,9 @@ use std::alloc::{AllocError, Global};
 use std::fmt::Write;
 use std::process::Abort;
 use view_pool::{Kit, PlainView, Pool, View};
+use worker_core::records::no_records;
 use worker_core::run::Core;
-use worker_core::{Place, Records, Step};
+use worker_core::{Place, Step};
 
 /// What a line of steps led to.
 #[derive(Drop)]
@@ -170,7 +171,7 @@ pub fn play_checked<V: View>(
     requires tables { program.now.tables ≡ columned_of tables.now.tables }
     ensures kits { All (λ k. k ≡ program.now.kinds) result.1.kits }
 {
-    let records = Records::new();
+    let records = no_records(alloc, program);
     let Ok(mut core) = Core::start(alloc, program, tables, &records, pool, workers) else {
         panic!(rt; "not started");
     };
@@ -178,7 +179,7 @@ pub fn play_checked<V: View>(
     core.kept();
     let (strands, history) = standing(alloc, &core).expect(rt, "memory");
     let is_over = core.is_over();
-    let (answer, pool) = core.finish(alloc);
+    let (answer, pool, _) = core.finish(alloc);
     let answer = answer_text(alloc, program, &answer).expect(rt, "memory");
     let played = Played {
         refused,

@@ -155,7 +155,7 @@ pub fn answer_text(
     answer: &RunAnswer,
 ) -> Result<String, AllocError> {
     match answer {
-        RunAnswer::Finished { result, values } => finished_text(alloc, *result, values),
+        RunAnswer::Finished { result, values, .. } => finished_text(alloc, *result, values),
         RunAnswer::Fault(fault) => {
             let name = procedure_name(&program.program().declarations, fault.procedure);
             fault_text(alloc, fault.kind, name, fault.statement)

@@ -12,8 +12,9 @@ use serial_oracle::{Answer, Row, TableRows, from_scratch};
 use std::alloc::{AllocError, Global};
 use std::process::Abort;
 use view_pool::{Kit, Pool, View};
+use worker_core::records::no_records;
 use worker_core::run::Core;
-use worker_core::{BookStep, Place, Records, Step, StrandLine};
+use worker_core::{BookStep, Place, Step, StrandLine};
 
 fn row(alloc: Global, number: i64, qty: i64, price: i64) -> Result<Row, AllocError> {
     let values = vec![in alloc; qty, price]?;
@@ -49,12 +50,12 @@ fn serial_answer(rt: &impl Abort, alloc: Global, program: &Program) -> String {
 
 /// A source of numbers, the same in each run.
 #[derive(Drop)]
-struct Dice {
-    state: u64,
+pub struct Dice {
+    pub state: u64,
 }
 
 impl Dice {
-    fn below(&mut self, limit: usize) -> usize
+    pub fn below(&mut self, limit: usize) -> usize
         requires { 0 < limit }
         ensures { result < limit }
     {
@@ -102,7 +103,7 @@ fn any_step<V: View>(
 }
 
 /// Tries so many steps.
-fn go_anyhow<V: View>(
+pub fn go_anyhow<V: View>(
     rt: &impl Abort,
     alloc: Global,
     core: &mut Core<'_, V>,
@@ -138,7 +139,12 @@ fn go_on<V: View>(alloc: Global, core: &mut Core<'_, V>, worker: usize) {
 }
 
 /// All workers go on by turns, until the run is over.
-fn go_to_the_end<V: View>(rt: &impl Abort, alloc: Global, core: &mut Core<'_, V>, workers: usize) {
+pub fn go_to_the_end<V: View>(
+    rt: &impl Abort,
+    alloc: Global,
+    core: &mut Core<'_, V>,
+    workers: usize,
+) {
     for _ in 0..1000 {
         if core.is_over() {
             return;
@@ -172,7 +178,7 @@ fn any_run<V: View>(
     requires tables { program.now.tables ≡ columned_of tables.now.tables }
     requires workers { 0 < workers }
 {
-    let records = Records::new();
+    let records = no_records(alloc, program);
     let Ok(mut core) = Core::start(alloc, program, tables, &records, pool, workers) else {
         panic!(rt; "not started");
     };
@@ -187,7 +193,7 @@ fn any_run<V: View>(
         .history()
         .iter()
         .any(|step| matches!(step, BookStep::Fold(..)));
-    let (answer, pool) = core.finish(alloc);
+    let (answer, pool, _) = core.finish(alloc);
     assert_eq!(rt; pool.free(), pool.total());
     Run {
         answer: answer_text(alloc, program, &answer).expect(rt, "memory"),

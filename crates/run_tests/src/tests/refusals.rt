@@ -2,8 +2,9 @@
 
 use super::playing::{checked, kits, play, sales};
 use super::programs::FIRST_LIST;
+use worker_core::StartError;
+use worker_core::records::no_records;
 use worker_core::run::Core;
-use worker_core::{Records, StartError};
 
 /// Workers, kits, a line, and what of it is refused.
 const ROWS: [(usize, usize, &str, &str); 8] = [
@@ -67,7 +68,7 @@ fn the_only_kit(rt: HostRuntime) {
 fn no_kit_to_start_with(rt: HostRuntime) {
     let tables = sales(&rt, rt.alloc());
     let program = checked(&rt, rt.alloc(), FIRST_LIST, &tables);
-    let records = Records::new();
+    let records = no_records(rt.alloc(), &program);
     let pool = kits(&rt, rt.alloc(), program.kinds(), 0);
     match Core::start(rt.alloc(), &program, &tables, &records, pool, 1) {
         Err((error, pool)) => {

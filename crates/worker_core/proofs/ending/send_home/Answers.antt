@@ -1,19 +1,23 @@
-use Rattle.std.proofs.Common.{◌≡◌, All, length, Some, arith, ap, subst, sym, ◌∙◌}
-use Rattle.std.proofs.lemmas.List.{length_push}
-use Rattle.std.proofs.lemmas.List.Elements.{All-pop, All-push}
+use Rattle.std.proofs.Common.{arith, ◌≡◌, ◌+◌, [], ◌∷◌, Some, ap, ◌∙◌}
+use Rattle.std.proofs.lemmas.List.Elements.{All-pop}
 use Rattle.worker_core.specs.Moves.{IsFit}
+use Rattle.worker_core.specs.Strands.{layers_in}
+use Rattle.worker_core.proofs.Kits.{layers_append}
 use Rattle.worker_core.proofs.ending.send_home.Goals as goal
+
+pub end-requires-clause-room : goal.end-requires-clause-room
+end-requires-clause-room g c κs within =
+    let taken : layers_in c.loop-piece.pieces.items ≡ layers_in c.pop.new.self.items + layers_in (c.in-Some.piece ∷ []) = ap layers_in c.in-Some.ensures.items ∙ layers_append c.pop.new.self.items (c.in-Some.piece ∷ []) in
+    omega (arith, taken, c.loop-piece.invariant.free, c.loop-piece.invariant.total, c.requires.room)
 
 pub loop-piece-preserved : goal.loop-piece-preserved
 loop-piece-preserved g c =
-    let home = ap length c.give_back.ensures.given ∙ length_push c.loop-piece.pool.kits c.close.result in
-    let taken = ap length c.in-Some.ensures.items ∙ length_push c.pop.new.self.items c.in-Some.piece in
+    let taken : layers_in c.loop-piece.pieces.items ≡ layers_in c.pop.new.self.items + layers_in (c.in-Some.piece ∷ []) = ap layers_in c.in-Some.ensures.items ∙ layers_append c.pop.new.self.items (c.in-Some.piece ∷ []) in
     record {
-      free = omega (arith, home, taken, c.loop-piece.invariant.free);
-      total = c.give_back.ensures.total ∙ c.loop-piece.invariant.total;
+      free = omega (arith, taken, c.end.ensures.home, c.loop-piece.invariant.free);
+      total = c.end.ensures.total ∙ c.loop-piece.invariant.total;
       pieces = λ kinds fit. (All-pop (IsFit kinds) c.loop-piece.pieces.items c.pop.new.self.items (Some c.in-Some.piece) c.in-Some.ensures.items (c.loop-piece.invariant.pieces kinds fit)).0;
       kits = λ kinds fit all.
           let one : IsFit kinds c.in-Some.piece = (All-pop (IsFit kinds) c.loop-piece.pieces.items c.pop.new.self.items (Some c.in-Some.piece) c.in-Some.ensures.items (c.loop-piece.invariant.pieces kinds fit)).1 in
-          subst (All (λ k. k ≡ kinds)) (sym c.give_back.ensures.given)
-          (All-push (λ k. k ≡ kinds) c.loop-piece.pool.kits c.close.result (c.loop-piece.invariant.kits kinds fit all) (c.close.ensures.kit ∙ one.views));
+          c.end.ensures.kinds kinds one (c.loop-piece.invariant.kits kinds fit all);
     }

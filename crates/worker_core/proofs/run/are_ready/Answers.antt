@@ -2,7 +2,7 @@ use Rattle.linked_program.specs.Checked.{IsChecked}
 use Rattle.worker_core.proofs.run.are_ready.Goals as goal
 
 pub returns-clause-ready : goal.returns-clause-ready
-returns-clause-ready c =
+returns-clause-ready c kept sound =
     let checked : IsChecked c.args.program.now = record {
       clean = c.clean.ensures.clean;
       linked = c.linked.ensures.codes;
@@ -16,5 +16,5 @@ returns-clause-ready c =
       monoids = c.checked_programs_keep_the_rules.ensures.monoids c.args.program.now checked;
       numbers = c.fitting.ensures.numbers;
       cells = c.cells_fit.ensures.fit;
-      sound = tt;
+      sound = sound;
     }

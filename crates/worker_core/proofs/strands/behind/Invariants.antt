@@ -1,5 +1,5 @@
 use Rattle.std.proofs.Common.{◌≡◌, drop}
-use Rattle.worker_core.specs.Standing.{behind_from}
+use Rattle.worker_core.specs.Strands.{behind_from}
 use Rattle.worker_core.proofs.strands.behind.Given as goal
 
 abbrev pub invariant-loop-number : goal.invariant-loop-number

@@ -1,5 +1,5 @@
 use Rattle.std.proofs.Common.{◌≡◌, drop}
-use Rattle.worker_core.specs.Standing.{held_from}
+use Rattle.worker_core.specs.Strands.{held_from}
 use Rattle.worker_core.proofs.strands.held_at.Given as goal
 
 abbrev pub invariant-loop-number : goal.invariant-loop-number

@@ -8,10 +8,8 @@ use Rattle.worker_core.proofs.strands.Strands.first.Goals as goal
 pub returns-in-Ok-clause-fit : goal.returns-in-Ok-clause-fit
 returns-in-Ok-clause-fit g c =
     let kit : c.in-Some.kit ≡ c.args.program.now.kinds = taken_kit c.args.program.now.kinds c.args.pool.kits c.take.new.self.kits c.in-Some.kit c.in-Some.ensures.one c.requires.kits in
-    let fit : IsFit c.args.program.now.kinds c.held.result = record {
-      views = ap (λ (p : PlainPiece). p.strand.layer.kinds) c.held.ensures.held ∙ ap (λ (s : PlainStrand). s.layer.kinds) c.in-Ok.ensures.first ∙ kit;
-      one_layer = ap (λ (p : PlainPiece). p.strand.lower) c.held.ensures.held ∙ ap (λ (s : PlainStrand). s.lower) c.in-Ok.ensures.first;
-    } in
+    let fit : IsFit c.args.program.now.kinds c.held.result =
+    ap (λ (p : PlainPiece). p.strand.layer.kinds) c.held.ensures.held ∙ ap (λ (s : PlainStrand). s.layer.kinds) c.in-Ok.ensures.first ∙ kit in
     let one : c.push_reserved.new.self.items ≡ c.held.result ∷ [] =
     c.push_reserved.ensures.items ∙ ap (λ ps. ps ++ c.held.result ∷ []) (c.reserve.ensures.items ∙ c.new-pieces.ensures.items) in
     record {

@@ -1,0 +1,256 @@
+//! Runs one after another over tables that are edited in between: each is answered by the records that those before it left.
+ghost use Rattle.std.specs.Prelude.{◌≡◌, ◌<◌, All};
+ghost use Rattle.linked_program.specs.TableNames.{columned_of};
+ghost use Rattle.rerun_records.specs.Named.{HaveValues};
+ghost use Rattle.worker_core.specs.Keeps.{AreSoundFor};
+
+use super::memo_programs::{COUNTDOWN, LINES, MEMO, NESTED_READS};
+use super::playing::{checked, kits, sales};
+use super::printing::answer_text;
+use super::random::{Dice, go_anyhow, go_to_the_end};
+use input_tables::Tables;
+use linked_program::checked::Checked;
+use rerun_records::key::Key;
+use rerun_records::records::Records;
+use rules_theory::edits_keep_columns;
+use std::alloc::Global;
+use std::process::Abort;
+use view_pool::{Kit, Pool, View};
+use worker_core::RunAnswer;
+use worker_core::records::no_records;
+use worker_core::run::Core;
+
+/// How many memo instances a run executed, had answered by records, and left unrecorded.
+type Counts = (u64, u64, u64);
+
+/// The counts of a run that ended with a result; none of another.
+fn counts_of(answer: &RunAnswer) -> Counts {
+    match answer {
+        RunAnswer::Finished {
+            executed,
+            reused,
+            unrecorded,
+            ..
+        } => (*executed, *reused, *unrecorded),
+        _ => (0, 0, 0),
+    }
+}
+
+/// How a run goes: its workers, how many random steps they take before they go on by turns, and by which dice.
+#[derive(Clone, Copy)]
+struct Course {
+    workers: usize,
+    steps: usize,
+    seed: u64,
+    ghost some: { 0 < workers },
+}
+
+/// One worker that goes on from the beginning to the end.
+const ALONE: Course = Course {
+    workers: 1,
+    steps: 0,
+    seed: 0,
+};
+
+/// Runs a program, and puts the records that it made among the others.
+fn rerun<V: View>(
+    rt: &impl Abort,
+    alloc: Global,
+    program: &Checked,
+    tables: &Tables,
+    records: &mut Records,
+    pool: Pool<Kit<V>>,
+    course: Course,
+) -> (String, Counts)
+    requires kits { All (λ k. k ≡ program.now.kinds) pool.kits }
+    requires tables { program.now.tables ≡ columned_of tables.now.tables }
+    requires sound { AreSoundFor program.now records.old }
+    requires values { HaveValues program.now.kinds records.old }
+    ensures sound { AreSoundFor program.now records.new }
+    ensures values { HaveValues program.now.kinds records.new }
+{
+    let workers = course.workers;
+    let Ok(mut core) = Core::start(alloc, program, tables, records, pool, workers) else {
+        panic!(rt; "not started");
+    };
+    let mut dice = Dice { state: course.seed };
+    go_anyhow(rt, alloc, &mut core, &mut dice, workers, course.steps);
+    go_to_the_end(rt, alloc, &mut core, workers);
+    let (answer, pool, made) = core.finish(alloc);
+    assert_eq!(rt; pool.free(), pool.total());
+    records.commit(made, tables, program).expect(rt, "memory");
+    let text = answer_text(alloc, program, &answer).expect(rt, "memory");
+    (text, counts_of(&answer))
+}
+
+/// Puts a row among the sales.
+fn put(rt: &impl Abort, alloc: Global, tables: &mut Tables, row: i64, qty: i64, price: i64)
+    ensures columns { columned_of tables.new.tables ≡ columned_of tables.old.tables }
+{
+    edits_keep_columns();
+    if tables.put(alloc, "sales", row, &[qty, price]).is_err() {
+        panic!(rt; "no row");
+    }
+}
+
+/// A row to put before a run, and what the run comes to.
+type Step<'a> = (i64, i64, i64, &'a str, Counts);
+
+/// Runs a program by one worker over so many kits, after each of these rows was put.
+fn lead_to(rt: &impl Abort, alloc: Global, text: &str, count: usize, steps: &[Step]) {
+    let mut tables = sales(rt, alloc);
+    let program = checked(rt, alloc, text, &tables);
+    let mut records = no_records(alloc, &program);
+    for (row, qty, price, answer, counts) in steps {
+        put(rt, alloc, &mut tables, *row, *qty, *price);
+        let pool = kits(rt, alloc, program.kinds(), count);
+        let (text, came) = rerun(rt, alloc, &program, &tables, &mut records, pool, ALONE);
+        assert_eq!(rt; text.as_str(), *answer, "row {row}");
+        assert_eq!(rt; came, *counts, "row {row}");
+    }
+}
+
+#[test]
+fn records_answer_until_what_they_read_is_edited(rt: HostRuntime) {
+    let first = "result 131; 131; 100 3";
+    let edited = "result 138; 138; 100 3";
+    let steps = [
+        (2, 3, 7, first, (3, 0, 0)),
+        (2, 3, 7, first, (0, 3, 0)),
+        (2, 4, 7, edited, (1, 2, 0)),
+        (2, 3, 7, first, (1, 2, 0)),
+    ];
+    lead_to(&rt, rt.alloc(), LINES, 8, &steps);
+}
+
+#[test]
+fn with_one_kit_nothing_is_recorded(rt: HostRuntime) {
+    let answer = "result 131; 131; 100 3";
+    let steps = [(2, 3, 7, answer, (3, 0, 3)), (2, 3, 7, answer, (3, 0, 3))];
+    lead_to(&rt, rt.alloc(), LINES, 1, &steps);
+}
+
+/// The loop's instance has read which row is the last; each line has read its own row.
+#[test]
+fn nested_instances_read_for_those_around_them(rt: HostRuntime) {
+    let steps = [
+        (2, 3, 7, "result 131; 131", (4, 0, 0)),
+        (5, 1, 1, "result 132; 132", (3, 3, 0)),
+        (4, 2, 2, "result 136; 136", (2, 4, 0)),
+        (1, 2, 6, "result 138; 138", (2, 4, 0)),
+    ];
+    lead_to(&rt, rt.alloc(), NESTED_READS, 64, &steps);
+}
+
+/// A record fits where its height does: at depth 4 sixty-one instances reach the deepest level, at depth 5 they don't fit.
+#[test]
+fn records_fit_as_deep_as_they_are_high(rt: HostRuntime) {
+    let alloc = rt.alloc();
+    let tables = sales(&rt, alloc);
+    let program = checked(&rt, alloc, COUNTDOWN, &tables);
+    let mut records = no_records(alloc, &program);
+    let pool = kits(&rt, alloc, program.kinds(), 62);
+    let (text, counts) = rerun(&rt, alloc, &program, &tables, &mut records, pool, ALONE);
+    assert_eq!(rt; text.as_str(), "result 60; 61");
+    assert_eq!(rt; counts, (61, 0, 0));
+    let name = String::from_str(alloc, "down").expect(&rt, "memory");
+    let arguments = Vec::from_slice(alloc, &[60]).expect(&rt, "memory");
+    let key = Key::new(name, arguments);
+    match records.lookup(&key, 4, &tables, &program) {
+        Some(record) => assert_eq!(rt; record.height(), 61),
+        None => panic!(rt; "no record"),
+    }
+    assert!(rt; records.lookup(&key, 5, &tables, &program).is_none());
+}
+
+/// Runs a program by one worker over the records that there are, and then over none: the answer is the same. Gives its counts.
+fn counted(
+    rt: &impl Abort,
+    alloc: Global,
+    program: &Checked,
+    tables: &Tables,
+    records: &mut Records,
+    count: usize,
+    course: Course,
+) -> Counts
+    requires tables { program.now.tables ≡ columned_of tables.now.tables }
+    requires sound { AreSoundFor program.now records.old }
+    requires values { HaveValues program.now.kinds records.old }
+    ensures sound { AreSoundFor program.now records.new }
+    ensures values { HaveValues program.now.kinds records.new }
+{
+    let mut none = no_records(alloc, program);
+    let pool = kits(rt, alloc, program.kinds(), 1);
+    let (wanted, _) = rerun(rt, alloc, program, tables, &mut none, pool, ALONE);
+    let pool = kits(rt, alloc, program.kinds(), count);
+    let (text, counts) = rerun(rt, alloc, program, tables, records, pool, course);
+    assert_eq!(rt; text.as_str(), wanted.as_str(), "{count} kits");
+    counts
+}
+
+/// So many kits that no instance has to go without a layer.
+const MANY_KITS: usize = 64;
+
+/// Runs a program again and again by one worker and by so many, each over records of its own, with a row edited in between: the
+/// answers are those from scratch, and the counts are the same.
+fn any_reruns(rt: &impl Abort, alloc: Global, text: &str, course: Course) {
+    let mut tables = sales(rt, alloc);
+    let program = checked(rt, alloc, text, &tables);
+    let mut alone = no_records(alloc, &program);
+    let mut together = no_records(alloc, &program);
+    let mut dice = Dice { state: course.seed };
+    for _ in 0..4 {
+        let wanted = counted(rt, alloc, &program, &tables, &mut alone, MANY_KITS, ALONE);
+        let counts = counted(
+            rt,
+            alloc,
+            &program,
+            &tables,
+            &mut together,
+            MANY_KITS,
+            course,
+        );
+        assert_eq!(rt; counts, wanted, "{text}");
+        let row = dice.below(5) as i64;
+        put(rt, alloc, &mut tables, row, dice.below(3) as i64, 7);
+    }
+}
+
+#[test]
+fn any_steps_count_what_is_needed(rt: HostRuntime) {
+    for text in MEMO {
+        for seed in 0..2 {
+            let course = Course {
+                workers: 5,
+                steps: 300,
+                seed,
+            };
+            any_reruns(&rt, rt.alloc(), text, course);
+        }
+    }
+}
+
+/// Runs a program again and again over so few kits that instances go unrecorded: the answers are those from scratch.
+fn few_kits(rt: &impl Abort, alloc: Global, text: &str, count: usize, course: Course) {
+    let mut tables = sales(rt, alloc);
+    let program = checked(rt, alloc, text, &tables);
+    let mut records = no_records(alloc, &program);
+    for row in 0..4 {
+        let _counts = counted(rt, alloc, &program, &tables, &mut records, count, course);
+        put(rt, alloc, &mut tables, row, 2, row);
+    }
+}
+
+#[test]
+fn any_steps_over_few_kits_give_the_serial_answer(rt: HostRuntime) {
+    for text in MEMO {
+        for count in 1..7 {
+            let course = Course {
+                workers: 3,
+                steps: 200,
+                seed: count as u64,
+            };
+            few_kits(&rt, rt.alloc(), text, count, course);
+        }
+    }
+}

@@ -1,0 +1,18 @@
+//! The records of a session's first run.
+ghost use Rattle.std.specs.Prelude.{◌≡◌, []};
+ghost use Rattle.rerun_records.specs.Named.{HaveValues};
+ghost use Rattle.worker_core.specs.Keeps.{AreSoundFor};
+
+use linked_program::checked::Checked;
+use rerun_records::records::Records;
+use std::alloc::Global;
+
+/// No records, which are sound for every program. It takes no memory.
+pub fn no_records(alloc: Global, program: &Checked) -> Records
+    ensures none { result ≡ [] }
+    ensures sound { AreSoundFor program.now result }
+    ensures values { HaveValues program.now.kinds result }
+{
+    let _ = program;
+    Records::new(alloc)
+}
