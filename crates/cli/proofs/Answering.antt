@@ -25,12 +25,12 @@ use Rattle.cli.specs.Commands.{said}
 -- what a run came to is shown as the elision's answer
 pub shown_elision : (program : PlainChecked) (a : Answer) (came : RunAnswer) (old new : String Global) → IsElision program a came
     → Shows program came old new → Extends old new (outcome_text (reducers (tree program.program)) a)
-shown_elision program (Finished v worths) (given.Finished w got) old new is shows =
+shown_elision program (Finished v worths) (given.Finished w got executed reused unrecorded) old new is shows =
     let reds = reducers (tree program.program) in
     subst (λ x. Extends old new (result_text x ++ worths_text reds worths)) is.0
     (subst (λ ws. Extends old new (result_text w ++ worths_text reds ws)) is.1 shows)
 shown_elision program (Finished v worths) (given.Fault f) old new is shows = absurd is
-shown_elision program (Faulted k) (given.Finished w got) old new is shows = absurd is
+shown_elision program (Faulted k) (given.Finished w got executed reused unrecorded) old new is shows = absurd is
 shown_elision program (Faulted k) (given.Fault f) old new is shows = subst (λ x. Extends old new (fault_text x)) is shows
 shown_elision program a given.Unfinished old new is shows = absurd shows
 shown_elision program a given.NoMemory old new is shows = absurd shows

@@ -6,3 +6,4 @@ pub mod Preparing
 pub mod Reports
 pub mod Statuses
 pub mod Written
+pub mod Sessions

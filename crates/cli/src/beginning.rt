@@ -9,6 +9,7 @@ use crate::session::Session;
 use monoid_laws::Kind;
 use std::alloc::{AllocError, Global};
 use view_pool::View;
+use worker_core::records::no_records;
 
 /// The session of a program's text and tables' text, with so many kits of views that the caller makes; refused as by
 /// `prepare`, and for want of memory where a view is of another kind.
@@ -31,11 +32,15 @@ pub fn begin<V: View, M: Fn(Kind) -> Result<V, AllocError>>(
 {
     match prepare(alloc, program, tables) {
         Ok((checked, tables)) => match pool(alloc, checked.kinds(), kits, make) {
-            Ok(kits) => Ok(Session {
-                checked,
-                tables,
-                kits,
-            }),
+            Ok(kits) => {
+                let records = no_records(alloc, &checked);
+                Ok(Session {
+                    checked,
+                    tables,
+                    kits,
+                    records,
+                })
+            }
             Err(_) => Err(PrepareError::NoMemory),
         },
         Err(error) => Err(error),

@@ -1,9 +1,10 @@
-// Sessions: a checked program, its tables and its pool of kits, and the answers to a script.
+// Sessions: a checked program, its tables, its pool of kits and its records, and the answers to a script.
 ghost use Rattle.std.specs.Prelude.{◌≡◌, ◌≢◌, ◌+◌, ◌<◌, ◌^◌, [], true, Err, All, length, IfOk, IfErr, OnOk, OnErr};
 ghost use Rattle.std.specs.Io.KnownBytes.{Appends, Keeps, IsAtEnd};
 ghost use Rattle.linked_program.specs.TableNames.{columned_of};
 ghost use Rattle.meaning.specs.Text.{runs_after};
 ghost use Rattle.trace_report.specs.Outcomes.{Extends};
+ghost use Rattle.round_driver.specs.Runs.{IsFromScratch, HasEnded};
 ghost use Rattle.cli.specs.Answers.{answer_of, answers_of};
 ghost use Rattle.cli.specs.Commands.{said};
 ghost use Rattle.cli.specs.Endings.{IsRunError};
@@ -14,18 +15,80 @@ use crate::streams::{Failures, SessionError, flush, read_all, write_whole};
 use input_tables::Tables;
 use linked_program::checked::Checked;
 use round_driver::runs::{RunError, run};
-use std::alloc::Global;
+use std::alloc::{AllocError, Global};
 use std::io::{Read, Write};
+use std::marker::Model;
 use std::sync::Wait;
 use trace_report::answers::{push_outcome, push_run, push_unknown};
 use view_pool::{Kit, Pool, View};
+use worker_core::{Records, RunAnswer};
 
-/// A checked program, its tables and its pool of kits.
+/// A checked program, its tables, its pool of kits, and the records that its runs have left, each of which is sound for the
+/// program.
 #[derive(Drop)]
 pub struct Session<V: View = Box<dyn View>> {
     pub checked: Checked,
     pub tables: Tables,
     pub kits: Pool<Kit<V>>,
+    pub records: Records,
+}
+
+impl<V: View> Model for Session<V> {
+    ghost use Rattle.rerun_records.specs.Named.{HaveValues};
+    ghost use Rattle.worker_core.specs.Keeps.{AreSoundFor};
+    ghost use Rattle.cli.specs.Sessions.{PlainSession};
+    ghost use Rattle.linked_program.specs.contracts.code.Expression as e;
+    ghost use Rattle.program_tree.specs.contracts.Expr as t;
+    ghost use Rattle.std.specs.Coded.{codes};
+
+    ghost Value = { PlainSession };
+
+    ghost coded = { Prim.hlevel (codes, e.the_row.coded, t.the_row.coded) };
+
+    ghost view = { λ s. record { checked = s.checked; tables = s.tables; kits = s.kits; records = s.records } };
+
+    ghost invariant = { λ s. AreSoundFor s.checked s.records × HaveValues s.checked.kinds s.records };
+}
+
+impl<V: View> Session<V> {
+    /// Runs the program on the tables by so many workers; its memo instances are answered by the records that hold now, and
+    /// those that it makes are kept for the next run. Refused where no kit is free, or for want of memory; then the records
+    /// are as before.
+    pub fn run(
+        &mut self,
+        rt: &impl Wait,
+        alloc: Global,
+        workers: usize,
+    ) -> Result<RunAnswer, RunError>
+        requires kits { All (λ k. k ≡ self.old.checked.kinds) self.old.kits.kits }
+        requires tables { self.old.checked.tables ≡ columned_of self.old.tables.tables }
+        requires workers { 0 < workers }
+        ensures answer { IfOk result (IsFromScratch self.old.checked self.old.tables.tables) }
+        ensures ended { IfOk result HasEnded }
+        ensures same { self.new ≡ record self.old { kits = self.new.kits; records = self.new.records } }
+        ensures kept { OnErr result (self.new.records ≡ self.old.records) }
+        ensures no_kit { result ≡ Err RunError.NoKit → self.old.kits.kits ≡ [] }
+        ensures free { length self.new.kits.kits ≡ length self.old.kits.kits }
+        ensures kinds { All (λ k. k ≡ self.old.checked.kinds) self.new.kits.kits }
+        ensures total { self.new.kits.total ≡ self.old.kits.total }
+    {
+        let came = run(
+            rt,
+            alloc,
+            &self.checked,
+            &self.tables,
+            &self.records,
+            &mut self.kits,
+            workers,
+        );
+        match came {
+            Ok((answer, made)) => match self.records.commit(made, &self.tables, &self.checked) {
+                Ok(()) => Ok(answer),
+                Err(AllocError) => Err(RunError::NoMemory),
+            },
+            Err(error) => Err(error),
+        }
+    }
 }
 
 /// Answers the script that a reader has, all of it read before anything runs. It ends early where memory is refused,
@@ -125,7 +188,8 @@ fn answer<V: View>(
     ensures answered { OnOk result (Extends text.old text.new
         (answer_of session.old.checked session.old.tables runs (said command))) }
     ensures runs { IfOk result (λ n. n ≡ runs_after runs (said command)) }
-    ensures same { session.new ≡ record session.old { kits = session.new.kits } }
+    ensures same { session.new
+        ≡ record session.old { kits = session.new.kits; records = session.new.records } }
     ensures refused { IfErr result IsRunError }
     ensures no_kit { result ≡ Err SessionError.NoKit → session.old.kits.kits ≡ [] }
     ensures free { length session.new.kits.kits ≡ length session.old.kits.kits }
@@ -138,17 +202,12 @@ fn answer<V: View>(
             Ok(runs)
         }
         Command::Run => {
-            let Session {
-                checked,
-                tables,
-                kits,
-            } = session;
-            let outcome = match run(rt, alloc, checked, tables, kits, workers) {
+            let outcome = match session.run(rt, alloc, workers) {
                 Ok(outcome) => outcome,
                 Err(error) => return Err(refusal_of(error)),
             };
             push_run(text, runs + 1)?;
-            push_outcome(alloc, text, checked, &outcome)?;
+            push_outcome(alloc, text, &session.checked, &outcome)?;
             Ok(runs + 1)
         }
     }

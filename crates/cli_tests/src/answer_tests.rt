@@ -164,20 +164,15 @@ fn a_pool_of_kits(rt: HostRuntime) {
 
 #[test]
 fn a_run_gives_its_kit_back(rt: HostRuntime) {
-    let Session {
-        checked,
-        tables,
-        mut kits,
-    } = session(&rt, rt.alloc());
-    let answer = run(&rt, rt.alloc(), &checked, &tables, &mut kits, 1);
-    match answer {
-        Ok(RunAnswer::Finished { result, values }) => {
+    let mut session = session(&rt, rt.alloc());
+    match session.run(&rt, rt.alloc(), 1) {
+        Ok(RunAnswer::Finished { result, values, .. }) => {
             assert_eq!(&rt; result, -3);
             assert_eq!(&rt; values.len(), 2);
         }
         _ => assert!(&rt; false),
     }
-    assert_eq!(&rt; kits.free(), 1);
+    assert_eq!(&rt; session.kits.free(), 1);
 }
 
 #[test]

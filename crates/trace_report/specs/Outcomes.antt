@@ -28,7 +28,7 @@ named_fault_text program fault = fault_text (fault_in (tree program.program) fau
 -- what a run came to was put behind the old text: its result and the reducers' values, or its fault; a run that came to no
 -- end has no text
 abbrev pub Shows : PlainChecked → RunAnswer → String Global → String Global → Type 0
-Shows program (answer.Finished v values) old new =
+Shows program (answer.Finished v values executed reused unrecorded) old new =
     Extends old new (result_text v ++ worths_text (reducers (tree program.program)) (map meaning values.items))
 Shows program (answer.Fault fault) old new = Extends old new (named_fault_text program fault)
 Shows program answer.Unfinished old new = ⊥

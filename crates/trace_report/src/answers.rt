@@ -216,7 +216,7 @@ pub fn push_outcome(
     ensures { OnOk result (Shows checked.now answer.now text.old text.new) }
 {
     match answer {
-        RunAnswer::Finished { result, values } => {
+        RunAnswer::Finished { result, values, .. } => {
             push_result(text, *result)?;
             push_values(alloc, text, checked.program(), values.as_slice())
         }
