@@ -103,7 +103,7 @@ fn any_step<V: View>(
 }
 
 /// Tries so many steps.
-pub fn go_anyhow<V: View>(
+fn go_anyhow<V: View>(
     rt: &impl Abort,
     alloc: Global,
     core: &mut Core<'_, V>,
@@ -139,12 +139,7 @@ fn go_on<V: View>(alloc: Global, core: &mut Core<'_, V>, worker: usize) {
 }
 
 /// All workers go on by turns, until the run is over.
-pub fn go_to_the_end<V: View>(
-    rt: &impl Abort,
-    alloc: Global,
-    core: &mut Core<'_, V>,
-    workers: usize,
-) {
+fn go_to_the_end<V: View>(rt: &impl Abort, alloc: Global, core: &mut Core<'_, V>, workers: usize) {
     for _ in 0..1000 {
         if core.is_over() {
             return;

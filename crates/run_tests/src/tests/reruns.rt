@@ -7,18 +7,19 @@ ghost use Rattle.worker_core.specs.Keeps.{AreSoundFor};
 use super::memo_programs::{COUNTDOWN, LINES, MEMO, NESTED_READS};
 use super::playing::{checked, kits, sales};
 use super::printing::answer_text;
-use super::random::{Dice, go_anyhow, go_to_the_end};
+use super::random::Dice;
 use input_tables::Tables;
 use linked_program::checked::Checked;
 use rerun_records::key::Key;
 use rerun_records::records::Records;
+use round_driver::runs::run;
 use rules_theory::edits_keep_columns;
 use std::alloc::Global;
 use std::process::Abort;
+use std::sync::Wait;
 use view_pool::{Kit, Pool, View};
 use worker_core::RunAnswer;
 use worker_core::records::no_records;
-use worker_core::run::Core;
 
 /// How many memo instances a run executed, had answered by records, and left unrecorded.
 type Counts = (u64, u64, u64);
@@ -36,48 +37,27 @@ fn counts_of(answer: &RunAnswer) -> Counts {
     }
 }
 
-/// How a run goes: its workers, how many random steps they take before they go on by turns, and by which dice.
-#[derive(Clone, Copy)]
-struct Course {
-    workers: usize,
-    steps: usize,
-    seed: u64,
-    ghost some: { 0 < workers },
-}
-
-/// One worker that goes on from the beginning to the end.
-const ALONE: Course = Course {
-    workers: 1,
-    steps: 0,
-    seed: 0,
-};
-
-/// Runs a program, and puts the records that it made among the others.
-fn rerun<V: View>(
-    rt: &impl Abort,
+/// Runs a program by so many workers, and puts the records that it made among the others.
+fn rerun<R: Abort + Wait, V: View>(
+    rt: &R,
     alloc: Global,
     program: &Checked,
     tables: &Tables,
     records: &mut Records,
-    pool: Pool<Kit<V>>,
-    course: Course,
+    mut pool: Pool<Kit<V>>,
+    workers: usize,
 ) -> (String, Counts)
     requires kits { All (λ k. k ≡ program.now.kinds) pool.kits }
     requires tables { program.now.tables ≡ columned_of tables.now.tables }
+    requires workers { 0 < workers }
     requires sound { AreSoundFor program.now records.old }
     requires values { HaveValues program.now.kinds records.old }
     ensures sound { AreSoundFor program.now records.new }
     ensures values { HaveValues program.now.kinds records.new }
 {
-    let workers = course.workers;
-    let Ok(mut core) = Core::start(alloc, program, tables, records, pool, workers) else {
-        panic!(rt; "not started");
+    let Ok((answer, made)) = run(rt, alloc, program, tables, records, &mut pool, workers) else {
+        panic!(rt; "no answer");
     };
-    let mut dice = Dice { state: course.seed };
-    go_anyhow(rt, alloc, &mut core, &mut dice, workers, course.steps);
-    go_to_the_end(rt, alloc, &mut core, workers);
-    let (answer, pool, made) = core.finish(alloc);
-    assert_eq!(rt; pool.free(), pool.total());
     records.commit(made, tables, program).expect(rt, "memory");
     let text = answer_text(alloc, program, &answer).expect(rt, "memory");
     (text, counts_of(&answer))
@@ -97,14 +77,14 @@ fn put(rt: &impl Abort, alloc: Global, tables: &mut Tables, row: i64, qty: i64, 
 type Step<'a> = (i64, i64, i64, &'a str, Counts);
 
 /// Runs a program by one worker over so many kits, after each of these rows was put.
-fn lead_to(rt: &impl Abort, alloc: Global, text: &str, count: usize, steps: &[Step]) {
+fn lead_to<R: Abort + Wait>(rt: &R, alloc: Global, text: &str, count: usize, steps: &[Step]) {
     let mut tables = sales(rt, alloc);
     let program = checked(rt, alloc, text, &tables);
     let mut records = no_records(alloc, &program);
     for (row, qty, price, answer, counts) in steps {
         put(rt, alloc, &mut tables, *row, *qty, *price);
         let pool = kits(rt, alloc, program.kinds(), count);
-        let (text, came) = rerun(rt, alloc, &program, &tables, &mut records, pool, ALONE);
+        let (text, came) = rerun(rt, alloc, &program, &tables, &mut records, pool, 1);
         assert_eq!(rt; text.as_str(), *answer, "row {row}");
         assert_eq!(rt; came, *counts, "row {row}");
     }
@@ -150,7 +130,7 @@ fn records_fit_as_deep_as_they_are_high(rt: HostRuntime) {
     let program = checked(&rt, alloc, COUNTDOWN, &tables);
     let mut records = no_records(alloc, &program);
     let pool = kits(&rt, alloc, program.kinds(), 62);
-    let (text, counts) = rerun(&rt, alloc, &program, &tables, &mut records, pool, ALONE);
+    let (text, counts) = rerun(&rt, alloc, &program, &tables, &mut records, pool, 1);
     assert_eq!(rt; text.as_str(), "result 60; 61");
     assert_eq!(rt; counts, (61, 0, 0));
     let name = String::from_str(alloc, "down").expect(&rt, "memory");
@@ -163,17 +143,19 @@ fn records_fit_as_deep_as_they_are_high(rt: HostRuntime) {
     assert!(rt; records.lookup(&key, 5, &tables, &program).is_none());
 }
 
-/// Runs a program by one worker over the records that there are, and then over none: the answer is the same. Gives its counts.
-fn counted(
-    rt: &impl Abort,
+/// Runs a program by so many workers over the records that there are, and by one over none: the answer is the same. Gives the
+/// first run's counts.
+fn counted<R: Abort + Wait>(
+    rt: &R,
     alloc: Global,
     program: &Checked,
     tables: &Tables,
     records: &mut Records,
     count: usize,
-    course: Course,
+    workers: usize,
 ) -> Counts
     requires tables { program.now.tables ≡ columned_of tables.now.tables }
+    requires workers { 0 < workers }
     requires sound { AreSoundFor program.now records.old }
     requires values { HaveValues program.now.kinds records.old }
     ensures sound { AreSoundFor program.now records.new }
@@ -181,9 +163,9 @@ fn counted(
 {
     let mut none = no_records(alloc, program);
     let pool = kits(rt, alloc, program.kinds(), 1);
-    let (wanted, _) = rerun(rt, alloc, program, tables, &mut none, pool, ALONE);
+    let (wanted, _) = rerun(rt, alloc, program, tables, &mut none, pool, 1);
     let pool = kits(rt, alloc, program.kinds(), count);
-    let (text, counts) = rerun(rt, alloc, program, tables, records, pool, course);
+    let (text, counts) = rerun(rt, alloc, program, tables, records, pool, workers);
     assert_eq!(rt; text.as_str(), wanted.as_str(), "{count} kits");
     counts
 }
@@ -191,25 +173,17 @@ fn counted(
 /// So many kits that no instance has to go without a layer.
 const MANY_KITS: usize = 64;
 
-/// Runs a program again and again by one worker and by so many, each over records of its own, with a row edited in between: the
+/// Runs a program again and again by one worker and by five, each over records of its own, with a row edited in between: the
 /// answers are those from scratch, and the counts are the same.
-fn any_reruns(rt: &impl Abort, alloc: Global, text: &str, course: Course) {
+fn any_reruns<R: Abort + Wait>(rt: &R, alloc: Global, text: &str, seed: u64) {
     let mut tables = sales(rt, alloc);
     let program = checked(rt, alloc, text, &tables);
     let mut alone = no_records(alloc, &program);
     let mut together = no_records(alloc, &program);
-    let mut dice = Dice { state: course.seed };
+    let mut dice = Dice { state: seed };
     for _ in 0..4 {
-        let wanted = counted(rt, alloc, &program, &tables, &mut alone, MANY_KITS, ALONE);
-        let counts = counted(
-            rt,
-            alloc,
-            &program,
-            &tables,
-            &mut together,
-            MANY_KITS,
-            course,
-        );
+        let wanted = counted(rt, alloc, &program, &tables, &mut alone, MANY_KITS, 1);
+        let counts = counted(rt, alloc, &program, &tables, &mut together, MANY_KITS, 5);
         assert_eq!(rt; counts, wanted, "{text}");
         let row = dice.below(5) as i64;
         put(rt, alloc, &mut tables, row, dice.below(3) as i64, 7);
@@ -217,40 +191,30 @@ fn any_reruns(rt: &impl Abort, alloc: Global, text: &str, course: Course) {
 }
 
 #[test]
-fn any_steps_count_what_is_needed(rt: HostRuntime) {
+fn runs_count_what_is_needed(rt: HostRuntime) {
     for text in MEMO {
-        for seed in 0..2 {
-            let course = Course {
-                workers: 5,
-                steps: 300,
-                seed,
-            };
-            any_reruns(&rt, rt.alloc(), text, course);
+        for seed in 0..3 {
+            any_reruns(&rt, rt.alloc(), text, seed);
         }
     }
 }
 
 /// Runs a program again and again over so few kits that instances go unrecorded: the answers are those from scratch.
-fn few_kits(rt: &impl Abort, alloc: Global, text: &str, count: usize, course: Course) {
+fn few_kits<R: Abort + Wait>(rt: &R, alloc: Global, text: &str, count: usize) {
     let mut tables = sales(rt, alloc);
     let program = checked(rt, alloc, text, &tables);
     let mut records = no_records(alloc, &program);
     for row in 0..4 {
-        let _counts = counted(rt, alloc, &program, &tables, &mut records, count, course);
+        let _counts = counted(rt, alloc, &program, &tables, &mut records, count, 3);
         put(rt, alloc, &mut tables, row, 2, row);
     }
 }
 
 #[test]
-fn any_steps_over_few_kits_give_the_serial_answer(rt: HostRuntime) {
+fn over_few_kits_the_answer_is_the_serial_one(rt: HostRuntime) {
     for text in MEMO {
         for count in 1..7 {
-            let course = Course {
-                workers: 3,
-                steps: 200,
-                seed: count as u64,
-            };
-            few_kits(&rt, rt.alloc(), text, count, course);
+            few_kits(&rt, rt.alloc(), text, count);
         }
     }
 }
