@@ -4,10 +4,9 @@ ghost use Rattle.linked_program.specs.TableNames.{columned_of};
 ghost use Rattle.rerun_records.specs.Named.{HaveValues};
 ghost use Rattle.worker_core.specs.Keeps.{AreSoundFor};
 
-use super::memo_programs::{COUNTDOWN, LINES, MEMO, NESTED_READS};
+use super::memo_programs::{COUNTDOWN, LINES, NESTED_READS};
 use super::playing::{checked, kits, sales};
 use super::printing::answer_text;
-use super::random::Dice;
 use input_tables::Tables;
 use linked_program::checked::Checked;
 use rerun_records::key::Key;
@@ -76,38 +75,75 @@ fn put(rt: &impl Abort, alloc: Global, tables: &mut Tables, row: i64, qty: i64, 
 /// A row to put before a run, and what the run comes to.
 type Step<'a> = (i64, i64, i64, &'a str, Counts);
 
-/// Runs a program by one worker over so many kits, after each of these rows was put.
-fn lead_to<R: Abort + Wait>(rt: &R, alloc: Global, text: &str, count: usize, steps: &[Step]) {
+/// Puts a row, and runs a program by one worker over so many kits.
+fn lead_to<R: Abort + Wait>(
+    rt: &R,
+    alloc: Global,
+    program: &Checked,
+    tables: &mut Tables,
+    records: &mut Records,
+    count: usize,
+    step: Step,
+)
+    requires tables { program.now.tables ≡ columned_of tables.old.tables }
+    requires sound { AreSoundFor program.now records.old }
+    requires values { HaveValues program.now.kinds records.old }
+    ensures tables { program.now.tables ≡ columned_of tables.new.tables }
+    ensures sound { AreSoundFor program.now records.new }
+    ensures values { HaveValues program.now.kinds records.new }
+{
+    let (row, qty, price, answer, counts) = step;
+    put(rt, alloc, tables, row, qty, price);
+    let pool = kits(rt, alloc, program.kinds(), count);
+    let (text, came) = rerun(rt, alloc, program, tables, records, pool, 1);
+    assert_eq!(rt; text.as_str(), answer, "row {row}");
+    assert_eq!(rt; came, counts, "row {row}");
+}
+
+/// Four steps, one after another.
+fn lead_on<R: Abort + Wait>(rt: &R, alloc: Global, text: &str, count: usize, steps: [Step; 4]) {
     let mut tables = sales(rt, alloc);
     let program = checked(rt, alloc, text, &tables);
     let mut records = no_records(alloc, &program);
-    for (row, qty, price, answer, counts) in steps {
-        put(rt, alloc, &mut tables, *row, *qty, *price);
-        let pool = kits(rt, alloc, program.kinds(), count);
-        let (text, came) = rerun(rt, alloc, &program, &tables, &mut records, pool, 1);
-        assert_eq!(rt; text.as_str(), *answer, "row {row}");
-        assert_eq!(rt; came, *counts, "row {row}");
-    }
+    let [first, second, third, fourth] = steps;
+    lead_to(rt, alloc, &program, &mut tables, &mut records, count, first);
+    lead_to(
+        rt,
+        alloc,
+        &program,
+        &mut tables,
+        &mut records,
+        count,
+        second,
+    );
+    lead_to(rt, alloc, &program, &mut tables, &mut records, count, third);
+    lead_to(
+        rt,
+        alloc,
+        &program,
+        &mut tables,
+        &mut records,
+        count,
+        fourth,
+    );
 }
 
 #[test]
 fn records_answer_until_what_they_read_is_edited(rt: HostRuntime) {
     let first = "result 131; 131; 100 3";
-    let edited = "result 138; 138; 100 3";
     let steps = [
         (2, 3, 7, first, (3, 0, 0)),
         (2, 3, 7, first, (0, 3, 0)),
-        (2, 4, 7, edited, (1, 2, 0)),
+        (2, 4, 7, "result 138; 138; 100 3", (1, 2, 0)),
         (2, 3, 7, first, (1, 2, 0)),
     ];
-    lead_to(&rt, rt.alloc(), LINES, 8, &steps);
+    lead_on(&rt, rt.alloc(), LINES, 8, steps);
 }
 
 #[test]
 fn with_one_kit_nothing_is_recorded(rt: HostRuntime) {
-    let answer = "result 131; 131; 100 3";
-    let steps = [(2, 3, 7, answer, (3, 0, 3)), (2, 3, 7, answer, (3, 0, 3))];
-    lead_to(&rt, rt.alloc(), LINES, 1, &steps);
+    let step = (2, 3, 7, "result 131; 131; 100 3", (3, 0, 3));
+    lead_on(&rt, rt.alloc(), LINES, 1, [step, step, step, step]);
 }
 
 /// The loop's instance has read which row is the last; each line has read its own row.
@@ -119,7 +155,7 @@ fn nested_instances_read_for_those_around_them(rt: HostRuntime) {
         (4, 2, 2, "result 136; 136", (2, 4, 0)),
         (1, 2, 6, "result 138; 138", (2, 4, 0)),
     ];
-    lead_to(&rt, rt.alloc(), NESTED_READS, 64, &steps);
+    lead_on(&rt, rt.alloc(), NESTED_READS, 64, steps);
 }
 
 /// A record fits where its height does: at depth 4 sixty-one instances reach the deepest level, at depth 5 they don't fit.
@@ -141,80 +177,4 @@ fn records_fit_as_deep_as_they_are_high(rt: HostRuntime) {
         None => panic!(rt; "no record"),
     }
     assert!(rt; records.lookup(&key, 5, &tables, &program).is_none());
-}
-
-/// Runs a program by so many workers over the records that there are, and by one over none: the answer is the same. Gives the
-/// first run's counts.
-fn counted<R: Abort + Wait>(
-    rt: &R,
-    alloc: Global,
-    program: &Checked,
-    tables: &Tables,
-    records: &mut Records,
-    count: usize,
-    workers: usize,
-) -> Counts
-    requires tables { program.now.tables ≡ columned_of tables.now.tables }
-    requires workers { 0 < workers }
-    requires sound { AreSoundFor program.now records.old }
-    requires values { HaveValues program.now.kinds records.old }
-    ensures sound { AreSoundFor program.now records.new }
-    ensures values { HaveValues program.now.kinds records.new }
-{
-    let mut none = no_records(alloc, program);
-    let pool = kits(rt, alloc, program.kinds(), 1);
-    let (wanted, _) = rerun(rt, alloc, program, tables, &mut none, pool, 1);
-    let pool = kits(rt, alloc, program.kinds(), count);
-    let (text, counts) = rerun(rt, alloc, program, tables, records, pool, workers);
-    assert_eq!(rt; text.as_str(), wanted.as_str(), "{count} kits");
-    counts
-}
-
-/// So many kits that no instance has to go without a layer.
-const MANY_KITS: usize = 64;
-
-/// Runs a program again and again by one worker and by five, each over records of its own, with a row edited in between: the
-/// answers are those from scratch, and the counts are the same.
-fn any_reruns<R: Abort + Wait>(rt: &R, alloc: Global, text: &str, seed: u64) {
-    let mut tables = sales(rt, alloc);
-    let program = checked(rt, alloc, text, &tables);
-    let mut alone = no_records(alloc, &program);
-    let mut together = no_records(alloc, &program);
-    let mut dice = Dice { state: seed };
-    for _ in 0..4 {
-        let wanted = counted(rt, alloc, &program, &tables, &mut alone, MANY_KITS, 1);
-        let counts = counted(rt, alloc, &program, &tables, &mut together, MANY_KITS, 5);
-        assert_eq!(rt; counts, wanted, "{text}");
-        let row = dice.below(5) as i64;
-        put(rt, alloc, &mut tables, row, dice.below(3) as i64, 7);
-    }
-}
-
-#[test]
-fn runs_count_what_is_needed(rt: HostRuntime) {
-    for text in MEMO {
-        for seed in 0..3 {
-            any_reruns(&rt, rt.alloc(), text, seed);
-        }
-    }
-}
-
-/// Runs a program again and again over so few kits that instances go unrecorded: the answers are those from scratch.
-fn few_kits<R: Abort + Wait>(rt: &R, alloc: Global, text: &str, count: usize) {
-    let mut tables = sales(rt, alloc);
-    let program = checked(rt, alloc, text, &tables);
-    let mut records = no_records(alloc, &program);
-    for row in 0..4 {
-        let _counts = counted(rt, alloc, &program, &tables, &mut records, count, 3);
-        put(rt, alloc, &mut tables, row, 2, row);
-    }
-}
-
-#[test]
-fn over_few_kits_the_answer_is_the_serial_one(rt: HostRuntime) {
-    for text in MEMO {
-        for count in 1..7 {
-            few_kits(&rt, rt.alloc(), text, count);
-        }
-    }
 }
