@@ -2,11 +2,11 @@
 ghost use Rattle.std.specs.Prelude.{◌≡◌, true, IfOk, IsUtf8};
 ghost use Rattle.meaning.specs.Every.{every};
 ghost use Rattle.meaning.specs.Script.{is_shown, number_of, numbers_of, put_of, delete_of, edit_of};
-ghost use Rattle.script_reader.specs.Said.{SaysEdit, bytes_of};
+ghost use Rattle.script_reader.specs.Said.{said_edit, bytes_of};
 
-use crate::command::Command;
 use crate::numbers::{number, numbers};
 use crate::words::text_of;
+use edits::Edit;
 use std::alloc::{AllocError, Global};
 
 // The put of a row into a table, by the words of the row's number and of its values.
@@ -15,14 +15,14 @@ fn put<'a>(
     table: &'a [u8],
     row: &[u8],
     values: &[&[u8]],
-) -> Result<Option<Command<'a>>, AllocError>
+) -> Result<Option<Edit<'a>>, AllocError>
     requires { IsUtf8 table.now }
-    ensures { IfOk result (λ found. SaysEdit found
-        (put_of table.now (number_of row.now) (numbers_of (bytes_of values.now)))) }
+    ensures { IfOk result (λ found. said_edit found
+        ≡ put_of table.now (number_of row.now) (numbers_of (bytes_of values.now))) }
 {
     let numbers = numbers(alloc, values)?;
     match (number(row), numbers) {
-        (Some(row), Some(values)) if !values.is_empty() => Ok(Some(Command::Put {
+        (Some(row), Some(values)) if !values.is_empty() => Ok(Some(Edit::Put {
             table: text_of(table),
             row,
             values,
@@ -32,24 +32,24 @@ fn put<'a>(
 }
 
 // The delete of a row from a table, by the word of the row's number and what stands behind it.
-fn delete<'a>(table: &'a [u8], row: &[u8], rest: &[&[u8]]) -> Option<Command<'a>>
+fn delete<'a>(table: &'a [u8], row: &[u8], rest: &[&[u8]]) -> Option<Edit<'a>>
     requires { IsUtf8 table.now }
-    ensures { SaysEdit result (delete_of table.now (number_of row.now) (bytes_of rest.now)) }
+    ensures { said_edit result ≡ delete_of table.now (number_of row.now) (bytes_of rest.now) }
 {
     let row = number(row)?;
     if !rest.is_empty() {
         return None;
     }
-    Some(Command::Delete {
+    Some(Edit::Delete {
         table: text_of(table),
         row,
     })
 }
 
 /// The edit that these words are, if they are one. Want of memory is the only error.
-pub(crate) fn edit<'a>(alloc: Global, words: &[&'a [u8]]) -> Result<Option<Command<'a>>, AllocError>
+pub(crate) fn edit<'a>(alloc: Global, words: &[&'a [u8]]) -> Result<Option<Edit<'a>>, AllocError>
     requires { every (every is_shown) (bytes_of words.now) ≡ true }
-    ensures { IfOk result (λ found. SaysEdit found (edit_of (bytes_of words.now))) }
+    ensures { IfOk result (λ found. said_edit found ≡ edit_of (bytes_of words.now)) }
 {
     if words.len() < 3 {
         return Ok(None);

@@ -11,6 +11,7 @@ use crate::command::Command;
 use crate::edits::edit;
 use crate::lines::{Line, first_line, next_line};
 use crate::words::{are_only, is_all_shown, is_comment, words};
+use edits::Edit;
 use std::alloc::{AllocError, Global};
 
 // The command of these words, on a line of this number; no words are none.
@@ -31,7 +32,7 @@ fn words_command<'a>(
     }
     match edit(alloc, words)? {
         None => Ok(Some(Command::Unknown(number))),
-        Some(edit) => Ok(Some(edit)),
+        Some(edit) => Ok(Some(Command::Change(edit))),
     }
 }
 
@@ -95,7 +96,7 @@ fn define_at<'a>(
         None => Ok((Command::Unknown(line.number), None)),
         Some(end) => {
             let text = &script[first.begin..end.begin];
-            Ok((Command::Define(text), next_line(script, end)))
+            Ok((Command::Change(Edit::Define(text)), next_line(script, end)))
         }
     }
 }

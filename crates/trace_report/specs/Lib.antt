@@ -1,4 +1,3 @@
 pub mod Amounts
-pub mod EditTexts
 pub mod Outcomes
 pub mod Traces

@@ -1,5 +1,5 @@
--- The text of what a run came to.
-use Rattle.std.specs.Prelude.{◌≡◌, List, ◌++◌, map, ℕ, String, string_bytes}
+-- The text of what a run came to, and of an edit that was accepted.
+use Rattle.std.specs.Prelude.{◌≡◌, List, ◌++◌, map, codes, ℕ, String, string_bytes}
 use Rattle.std.specs.declared.alloc.Global.{Global}
 use Rattle.monoid_laws.specs.Kinds.{meaning}
 use Rattle.program_tree.specs.View.{tree}
@@ -33,3 +33,8 @@ Shows program (answer.Finished v values executed reused unrecorded) old new =
 Shows program (answer.Fault fault) old new = Extends old new (named_fault_text program fault)
 Shows program answer.Unfinished old new = ⊥
 Shows program answer.NoMemory old new = ⊥
+Shows program answer.NoKit old new = ⊥
+
+-- the answer to an edit that was accepted
+abbrev pub accepted_text : List ℕ
+accepted_text = codes "ok\n"

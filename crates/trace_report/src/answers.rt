@@ -221,6 +221,6 @@ pub fn push_outcome(
             push_values(alloc, text, checked.program(), values.as_slice())
         }
         RunAnswer::Fault(fault) => push_fault_of(text, checked, *fault),
-        RunAnswer::Unfinished | RunAnswer::NoMemory => Err(AllocError),
+        RunAnswer::Unfinished | RunAnswer::NoMemory | RunAnswer::NoKit => Err(AllocError),
     }
 }

@@ -2,37 +2,13 @@
 ghost use Rattle.std.specs.Prelude.{◌≡◌, OnOk, codes};
 ghost use Rattle.meaning.specs.Edits as edits;
 ghost use Rattle.meaning.specs.Text.{refusal_text, violation_text};
-ghost use Rattle.trace_report.specs.Outcomes.{Extends};
-ghost use Rattle.trace_report.specs.EditTexts.{accepted_text, violation, refusal};
+ghost use Rattle.trace_report.specs.Outcomes.{Extends, accepted_text};
+ghost use Rattle.edits.specs.Said.{violation, refusal};
 
+use edits::EditError;
 use linked_program::violation::Rule;
 use std::alloc::AllocError;
 use std::fmt::Write;
-
-/// Why an edit is refused.
-#[derive(Debug, Drop)]
-pub enum EditError {
-    /// There is no table of the name.
-    UnknownTable,
-    /// The row has another number of values than the table has columns.
-    WrongColumns,
-    /// The row's number isn't in 0 to 2147483647.
-    RowRange,
-    /// There is no row of the number.
-    NoRow,
-    /// The text isn't one of procedures: the line of its first fault.
-    BadText {
-        line: u32,
-    },
-    /// A rule would be broken: by which reducer or procedure, and on which line.
-    Broken {
-        rule: Rule,
-        holder: String,
-        line: u32,
-    },
-    /// No number is left for the edit, or for a procedure that it changes.
-    Exhausted,
-}
 
 /// Puts the answer to an edit that was accepted at the end of the text. Want of memory is the only error.
 pub fn push_accepted(text: &mut String) -> Result<(), AllocError>

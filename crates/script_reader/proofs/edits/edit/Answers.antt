@@ -1,5 +1,4 @@
-use Rattle.std.proofs.Common.{◌∙◌, ap, sym, arith, option_map}
-use Rattle.meaning.specs.Script.{Change}
+use Rattle.std.proofs.Common.{◌∙◌, sym, arith}
 use Rattle.script_reader.proofs.Shown.{text_at, delete_words}
 use Rattle.script_reader.proofs.edits.edit.Goals as goal
 
@@ -12,5 +11,4 @@ delete-requires c = text_at c.args.words.now 1 _ (omega (arith, c.if-words-lt3.f
 pub returns-then-eq-2 : goal.returns-then-eq-2
 returns-then-eq-2 c =
     c.delete.ensures
-    ∙ ap (option_map Change)
-    (sym (delete_words c.args.words.now _ (omega (arith, c.if-words-lt3.false)) (rw c.as_slice.ensures at (sym c.eq.ensures ∙ c.if-eq.false)) (rw c.as_slice-2.ensures at (sym c.eq-2.ensures ∙ c.if-eq-2.true))))
+    ∙ sym (delete_words c.args.words.now _ (omega (arith, c.if-words-lt3.false)) (rw c.as_slice.ensures at (sym c.eq.ensures ∙ c.if-eq.false)) (rw c.as_slice-2.ensures at (sym c.eq-2.ensures ∙ c.if-eq-2.true)))

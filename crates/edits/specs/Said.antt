@@ -1,14 +1,17 @@
--- Why an edit is refused, as the definitions have it.
-use Rattle.std.specs.Prelude.{ℕ, List, string_bytes, codes}
+-- What edits and their refusals are for the definitions.
+use Rattle.std.specs.Prelude.{ℕ, List, string_bytes}
 use Rattle.meaning.specs.Edits as e
 use Rattle.linked_program.specs.Violations.{number_of}
 use Rattle.linked_program.specs.declared.violation.Rule.{Rule}
-use Rattle.trace_report.specs.declared.edits.EditError.{EditError}
-use Rattle.trace_report.specs.declared.edits.EditError.TheVariants.{UnknownTable, WrongColumns, RowRange, NoRow, BadText, Broken, Exhausted}
+use Rattle.edits.specs.declared.edit.Edit.{Edit}
+use Rattle.edits.specs.declared.edit.Edit.TheVariants.{Put, Delete, Define}
+use Rattle.edits.specs.declared.refusal.EditError.{EditError}
+use Rattle.edits.specs.declared.refusal.EditError.TheVariants.{UnknownTable, WrongColumns, RowRange, NoRow, BadText, Broken, Exhausted}
 
--- the answer to each edit that is accepted
-abbrev pub accepted_text : List ℕ
-accepted_text = codes "ok\n"
+abbrev pub said : Edit → e.Edit
+said (Put table row values) = e.Put table.now row values.items
+said (Delete table row) = e.Delete table.now row
+said (Define text) = e.Define text.now
 
 -- a rule of the code broken by the declaration of that name, on that line
 abbrev pub violation : Rule → List ℕ → ℕ → e.Violation
