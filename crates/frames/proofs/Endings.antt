@@ -58,16 +58,19 @@ module _ (setting : Setting) where
   answers_by (over v) (answer.Finished w values n m k) x t worths tally h e i a =
       ((h.0 ∙ ap leaving (sym a.0), h.1, h.2), a.1 ∙ e, a.2.executed_is ∙ sym i.executed, a.2.reused_is ∙ sym i.reused, a.2.unrecorded_is ∙ sym i.unrecorded)
   answers_by (over v) answer.NoMemory x t worths tally h e i a = tt
+  answers_by (over v) answer.NoKit x t worths tally h e i a = absurd a
   answers_by (over v) (answer.Fault f) x t worths tally h e i a = absurd a
   answers_by (over v) answer.Unfinished x t worths tally h e i a = absurd a
   answers_by (stopped f) (answer.Fault k) x t worths tally h e i a = h ∙ ap (λ d. broken (named_fault setting d)) (sym a)
   answers_by (stopped f) (answer.Finished w values n m k) x t worths tally h e i a = absurd a
   answers_by (stopped f) answer.NoMemory x t worths tally h e i a = absurd a
+  answers_by (stopped f) answer.NoKit x t worths tally h e i a = absurd a
   answers_by (stopped f) answer.Unfinished x t worths tally h e i a = absurd a
   answers_by underway answer.Unfinished x t worths tally h e i a = h
   answers_by underway (answer.Finished w values n m k) x t worths tally h e i a = absurd a
   answers_by underway (answer.Fault k) x t worths tally h e i a = absurd a
   answers_by underway answer.NoMemory x t worths tally h e i a = absurd a
+  answers_by underway answer.NoKit x t worths tally h e i a = absurd a
 
   pub answer_is : (s : PlainStrand) (a : RunAnswer) → IsAnswer (ending_of s) (lowest s.layer s.lower).worths s.tally a → IsAnswerOf setting s a
   answer_is s a is x t h = answers_by (ending_of s) a x t (lowest s.layer s.lower).worths s.tally (ends_at s x s.phase s.below s.path refl h.now) (lowest_worths s.layer s.lower x.layers h.layers) h.tally is

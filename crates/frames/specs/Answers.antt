@@ -58,6 +58,7 @@ module _ (setting : Setting) where
   Answers (answer.Fault f) x t = x.phase ≡ broken (named_fault setting f)
   Answers answer.Unfinished x t = ((k : NamedFault) → x.phase ≡ broken k → ⊥) × ((v : ℤ) → HasLeft x v → ⊥)
   Answers answer.NoMemory x t = Unit {0}
+  Answers answer.NoKit x t = ⊥
 
   -- it is the answer of what the strand stands for, want of memory aside
   abbrev pub IsAnswerOf : PlainStrand → RunAnswer → Type 0

@@ -3,7 +3,7 @@ use monoid_laws::Val;
 use positions::phase::Fault;
 
 /// How a run ends: with its result, the reducers' values, and how many memo instances were executed, answered by a record, and
-/// executed without a record of their own; by a fault, or not yet; or there was no memory for the values.
+/// executed without a record of their own; by a fault, or not yet. Or there was no memory for it, or no kit to begin with.
 #[derive(Drop)]
 pub enum RunAnswer {
     Finished {
@@ -16,4 +16,5 @@ pub enum RunAnswer {
     Fault(Fault),
     Unfinished,
     NoMemory,
+    NoKit,
 }
