@@ -9,13 +9,14 @@ use Rattle.trail_theory.specs.OpenLayers.{IsNewRecord}
 use Rattle.trail_theory.specs.Counts.{CountsNeeded}
 use Rattle.run_theory.specs.UnflaggedRuns.{unflagged_piece}
 use Rattle.run_theory.proofs.News.{paths_news}
-use Rattle.run_theory.proofs.EndCounts.{counts_needed, leaves_nothing}
+use Rattle.run_theory.specs.Recorded.{AllRecordedBut}
+use Rattle.run_theory.proofs.EndCounts.{counts_needed, records_executed, leaves_nothing}
 use Rattle.positions.specs.Setting.{Setting}
 use Rattle.numbered_runs.specs.Pieces.{PlainPiece}
 use Rattle.numbered_runs.specs.Runs.{PlainRun}
 use Rattle.numbered_runs.specs.Stands.{StandsForPiece, StandForPieces, StandsForUnflagged}
 use Rattle.numbered_runs.specs.Ends.{answer_in}
-use Rattle.numbered_runs.specs.News.{HasCounted, HaveNews}
+use Rattle.numbered_runs.specs.News.{executed_with, HasCounted, HaveNews}
 use Rattle.numbered_runs.specs.Simulation.{IsPrepared, IsReached}
 use Rattle.numbered_runs.proofs.Ends.{same_answer}
 
@@ -58,5 +59,6 @@ module _ (setting : Setting) where
           kept = the_one.whole.tally.made;
           stand = t.made;
           news = news_there.0;
+          each = subst (λ n. AllRecordedBut n the_one.whole.tally.made (executed_with setting setting.memory.records)) t.unrecorded (records_executed setting.program setting.tables setting.memory prepared.ready prepared.numbered r.kits r.steps the_one.whole v worths alone_there (ap end_of r.is ∙ ends_there));
           complete = λ none. leaves_nothing setting.program setting.tables setting.memory prepared.ready prepared.numbered r.kits r.steps the_one.whole v worths alone_there (ap end_of r.is ∙ ends_there) (t.unrecorded ∙ none);
         }

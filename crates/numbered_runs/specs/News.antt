@@ -8,6 +8,7 @@ use Rattle.meaning.specs.Commits.{committed}
 use Rattle.meaning.specs.Schedules.{recording_from}
 use Rattle.trail_theory.specs.Order.{Every}
 use Rattle.trail_theory.specs.OpenLayers.{IsNewRecord}
+use Rattle.run_theory.specs.Recorded.{AllRecordedBut}
 use Rattle.linked_program.specs.TableNames.{Columned}
 use Rattle.rerun_records.specs.Record.{PlainRecord}
 use Rattle.rerun_records.specs.Commits.{put_records}
@@ -41,11 +42,12 @@ module _ (setting : Setting) where
     pub executed_are : t.executed ≡ length (executed_with setting.memory.records)
     pub reused_are : t.reused ≡ length (reused_with setting.memory.records)
 
-  -- the records that were made are sound and hold now; with them put in nothing is executed, unless an execution was left unrecorded
+  -- the records that were made are sound and hold now; they are of the executed instances, each as often, but for as many as were left unrecorded; and with them put in nothing is executed, unless one was
   pub record HaveNews (t : PlainTally) : Type 0 where
     pub kept : List Kept
     pub stand : StandForKept t.made kept
     pub news : Every (IsNewRecord setting.program setting.tables) kept
+    pub each : AllRecordedBut t.unrecorded kept (executed_with setting.memory.records)
     pub complete : t.unrecorded ≡ 0 → LeaveNothing kept
 
 -- what a session keeps between runs: records that stand for sound ones

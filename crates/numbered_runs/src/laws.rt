@@ -88,7 +88,8 @@ pub fn some_step_is_there()
 {}
 
 /// Where a run has come to its end without a fault, the one strand has counted the needed instances, and its new records are sound
-/// and hold now: with them put in nothing is executed, unless an execution was left unrecorded.
+/// and hold now. They are of the executed instances, each as often, but for as many as were left unrecorded: with them put in
+/// nothing is executed, unless one was.
 pub fn runs_count_and_record()
     ensures counted { (setting : Setting) → IsPrepared setting → (s : PlainRun) (x : RunState)
         → IsReached setting x → StandsForUnflagged setting s x

@@ -1,26 +1,36 @@
--- What a run that has come to its end without a fault has counted, and what its new records leave to execute.
-use Rattle.std.proofs.Common.{◌++◌, ℤ, List, [], ◌∷◌, Some, ◌≡◌, refl, sym, ap, ◌∙◌, subst, true}
+-- What a run that has come to its end without a fault has counted, which instances its new records are of, and what they leave to execute.
+use Rattle.std.proofs.Common.{◌++◌, ℤ, List, [], ◌∷◌, None, Ok, Some, ◌≡◌, refl, sym, ap, ◌∙◌, subst, append-nil, true}
 use Rattle.meaning.specs.Tables.{Tables}
-use Rattle.meaning.specs.Outcome.{Accumulators, Fault}
+use Rattle.meaning.specs.Outcome.{Log, Accumulators, Fault, Leaves}
 use Rattle.meaning.specs.Elision.{Answer, Finished}
-use Rattle.meaning.specs.Records.{Revised}
-use Rattle.meaning.specs.SmallStep.{root, Phase, entering, running, spawning, returning, leaving, broken}
+use Rattle.meaning.specs.Records.{Revised, needed, executed}
+use Rattle.meaning.specs.Trail.{sight_of, trail_at}
+use Rattle.meaning.specs.SmallStep.{root, Frame, Phase, entering, running, spawning, returning, leaving, broken, Lookup, look_of}
 use Rattle.meaning.specs.Layers.{Notes}
 use Rattle.meaning.specs.Strands.{State, Held, Ended, Stalled}
 use Rattle.meaning.specs.Strands as strands
-use Rattle.meaning.specs.Tallies.{Opened}
+use Rattle.meaning.specs.Tallies.{Opened, executions, valid_record}
 use Rattle.meaning.specs.Schedules.{Memory, Piece, RunState, first_state, path, answer_by, end_of}
+use Rattle.trail_theory.specs.Right.{stretch, RightAt}
+use Rattle.trail_theory.specs.ElisionBeside.{first_fault, before_fault}
 use Rattle.trail_theory.specs.OpenLayers.{IsNumbered, recorded_in}
 use Rattle.trail_theory.specs.OwedLayers.{opened_names, parents_behind, Unbroken, OwesLayers}
 use Rattle.trail_theory.proofs.AddingUp.{add_up}
-use Rattle.trail_theory.proofs.Counts.{end_counts}
+use Rattle.trail_theory.proofs.FirstFaults.{quiet_first, inside_none}
+use Rattle.trail_theory.proofs.Ends.{at_end}
+use Rattle.trail_theory.proofs.Keys.{executions_append}
+use Rattle.trail_theory.proofs.Needed.{quiet_before}
+use Rattle.trail_theory.proofs.Counts.{needed_marks, end_counts}
 use Rattle.trail_theory.proofs.NothingNeeded.{end_leaves_none}
 use Rattle.run_theory.specs.RightRuns.{IsFinished, IsLaid}
 use Rattle.run_theory.specs.Theorems.{IsReady, PathsCountNeeded, PathsLeaveNothing}
 use Rattle.run_theory.proofs.Pieces.{ForSome, some_is}
 use Rattle.run_theory.proofs.Steps.{FitAll}
 use Rattle.run_theory.proofs.Paths.{begins_root, paths_right, runs_answer}
-use Rattle.run_theory.proofs.News.{PieceTallied, TallyFit, now_of, adds_of, paths_tallied}
+use Rattle.run_theory.specs.Recorded.{PathsRecordExecutions}
+use Rattle.run_theory.proofs.Recorded.{recorded_end}
+use Rattle.run_theory.proofs.RecordedStrands.{at_parts}
+use Rattle.run_theory.proofs.News.{PieceTallied, TallyFit, now_of, adds_of, records_of, paths_tallied}
 
 abbrev EndsAs : State → Phase → Answer → Type 0
 EndsAs st ph a = (v : ℤ) (acc : Accumulators) → a ≡ Finished v acc → (st ≡ strands.Finished) × (ph ≡ leaving v)
@@ -49,6 +59,15 @@ no_names [] e = refl
 no_names (o ∷ os) e = absurd cc
 
 module _ (program : Revised) (tables : Tables) (memory : Memory) where
+  abbrev S : Accumulators
+  S = sight_of program.tree tables
+
+  abbrev L : Lookup
+  L = valid_record program tables memory.records
+
+  abbrev T : Log
+  T = trail_at program.tree tables S (look_of L)
+
   -- main's strand, alone and over
   record IsMain (p : Piece) (v : ℤ) : Type 0 where
     phase : p.strand.phase ≡ leaving v
@@ -93,3 +112,21 @@ module _ (program : Revised) (tables : Tables) (memory : Memory) where
         let m = main_of s p v acc r (paths_tallied program tables memory ready numbers kits es) q e in
         let as_many = (add_up program).ends p.tally (adds_of program tables memory [] [] p (good_of p v m) m.tallied) (none_open p v m) u in
         end_leaves_none program tables memory.records ready.rules.reads numbers ready.sound v acc (sym (runs_answer program tables memory ready s (Finished v acc) r e)) p.strand p.tally v m.begins m.phase m.laid.under m.laid.main (now_of program tables memory [] [] p (good_of p v m) m.tallied) as_many
+
+    -- the executions of main's whole stretch are the needed ones
+    whole_executed : (ls : List Notes) (fr : Frame) (v : ℤ) (h : RightAt program.tree tables S L root ls fr (leaving v) []) → fr.instance ≡ [] → executions (stretch h.segments) ≡ executed program.tree (needed program tables memory.records)
+    whole_executed ls fr v h d =
+        let here = stretch h.segments in
+        let last = Leaves [] (Ok v) ∷ [] in
+        let whole : here ++ last ≡ T = (at_end program.tree tables S L ls fr v h d).0 in
+        let quiet : first_fault T ≡ None = ap first_fault (sym whole) ∙ quiet_first here last (inside_none root here h.inside) in
+        let upto : before_fault T ≡ here ++ last = quiet_before program tables S memory.records T quiet ∙ sym whole in
+        let n = needed_marks program tables memory.records ready.rules.reads ready.sound S in
+        sym (append-nil (executions here)) ∙ sym (executions_append here last) ∙ ap executions (sym upto) ∙ sym n.executed_are
+
+    pub records_executed : PathsRecordExecutions program tables memory
+    records_executed kits es p v acc q e =
+        let s = path program tables memory (first_state program.tree kits) es in
+        let m = main_of s p v acc (paths_right program tables memory ready kits es) (paths_tallied program tables memory ready numbers kits es) q e in
+        let r = at_parts program tables S L p.strand p.tally root p.strand.layers (leaving v) [] m.begins refl m.phase m.laid.under (records_of program tables memory [] [] p (good_of p v m) m.tallied) in
+        recorded_end p.tally (stretch r.right.segments) (executed program.tree (needed program tables memory.records)) (none_open p v m) (whole_executed p.strand.layers p.strand.frame v r.right m.laid.main) r.recorded

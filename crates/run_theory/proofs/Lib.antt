@@ -31,6 +31,8 @@ pub mod MainLeft
 pub mod Anchored
 pub mod Remains
 pub mod Around
+pub mod Recorded
+pub mod RecordedStrands
 pub mod News
 pub mod EndCounts
 pub mod LaidDown

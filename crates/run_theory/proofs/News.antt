@@ -1,9 +1,9 @@
 -- The layers and the new records of a run's strands, after any steps.
 use Rattle.std.proofs.Common.{◌&&◌, ◌⊎◌, ◌++◌, append_assoc, zero, ℕ, suc, ℤ, List, [], ◌∷◌, length, Option, Some, None, ◌≡◌, inl, inr, refl, sym, ap, ◌∙◌, subst, true, false, Bool, cond, nat_lt}
 use Rattle.meaning.specs.Tables.{Tables}
-use Rattle.meaning.specs.Outcome.{Fault, Place}
+use Rattle.meaning.specs.Outcome.{Accumulators, Fault, Place}
 use Rattle.meaning.specs.Records.{Revised}
-use Rattle.meaning.specs.Trail.{child_of}
+use Rattle.meaning.specs.Trail.{child_of, sight_of}
 use Rattle.meaning.specs.SmallStep.{Start, root, behind, same_name, Phase, entering, running, spawning, returning, leaving, broken, Parent, at_spawn, at_sync, returned, faulted, Step, moved, taken, paused, Continuation, place_of_continuation}
 use Rattle.meaning.specs.Layers.{Notes}
 use Rattle.meaning.specs.LayeredStrand.{LayeredStrand, advanced, stolen, joined}
@@ -37,6 +37,7 @@ use Rattle.run_theory.proofs.Steals.{none_last, pushed_split}
 use Rattle.run_theory.proofs.Folds.{may_join_true, over_of, stalled_of}
 use Rattle.run_theory.proofs.Kits.{inner}
 use Rattle.run_theory.proofs.Paths.{idle, kept_or, law, sound, step_right, begins_right}
+use Rattle.run_theory.proofs.RecordedStrands.{RecordsNow, RecordsStay, stay_recorded, first_records, steal_records, inline_records, detach_records, pop_records}
 
 every_split : {A : Type 0} (P : A → Type 0) (a : List A) (x : A) → Every P (a ++ x ∷ []) → Every P a × P x
 every_split P [] x h = (tt, h.0)
@@ -71,8 +72,14 @@ module _ (program : Revised) (tables : Tables) (memory : Memory) where
   abbrev Now : LayeredStrand → Tally → Type 0
   Now = IsTalliedNow program tables (L program tables memory)
 
+  abbrev S : Accumulators
+  S = sight_of program.tree tables
+
   abbrev Own : LayeredStrand → Tally → Type 0
   Own = OwnsNow program tables (L program tables memory)
+
+  abbrev Recorded : LayeredStrand → Tally → Type 0
+  Recorded = RecordsNow program tables (L program tables memory)
 
   -- with the layers of `left` owed by the pieces to the left, it leaves those of `right` owed to the pieces to the right
   pub record PieceTallied (left right : List Place) (p : Piece) : Type 0 where
@@ -81,6 +88,7 @@ module _ (program : Revised) (tables : Tables) (memory : Memory) where
     pub shallow : Every IsShallowContinuation p.deque
     pub owns : Gone p ⊎ Own p.strand p.tally
     pub adds : Gone p ⊎ AddsUp p.tally
+    pub records : Gone p ⊎ Recorded p.strand p.tally
 
   abbrev pub TallyFit : List Place → List Piece → Type 0
   TallyFit left [] = left ≡ []
@@ -120,6 +128,9 @@ module _ (program : Revised) (tables : Tables) (memory : Memory) where
   pub adds_of : (left right : List Place) (p : Piece) → ((k : Fault) → p.strand.phase ≡ broken k → ⊥) → PieceTallied left right p → AddsUp p.tally
   adds_of left right p good h = elim h.adds [ inl g ↦ absurd (good g.1.0 g.1.1) | inr a ↦ a ]
 
+  pub records_of : (left right : List Place) (p : Piece) → ((k : Fault) → p.strand.phase ≡ broken k → ⊥) → PieceTallied left right p → Recorded p.strand p.tally
+  records_of left right p good h = elim h.records [ inl g ↦ absurd (good g.1.0 g.1.1) | inr r ↦ r ]
+
   over_right : (ps : List Piece) (right : List Place) (n : Place) (later : List Bool) → n ≡ front ps → FitAll program tables memory false ps later → TallyFit right ps → Every (IsOver n) right
   over_right [] right n later e f h = subst (Every (IsOver n)) (sym h) tt
   over_right (q ∷ ps) right n later e f h = over_start q.strand.start n right f.1.begins e h.1.owes.precede
@@ -143,7 +154,7 @@ module _ (program : Revised) (tables : Tables) (memory : Memory) where
       stack_around s.frame s.under (parents_behind p.deque) right w.right.task.stacked
       (deque_around (lowest s.frame s.under) (front ps) p.deque right w.links (pushed_stacked s.start p.deque i.deque) (owed_around ps right later f g))
 
-  module _ (stays : TalliedStays program tables (L program tables memory)) (owed : LayersStayOwed program tables (L program tables memory)) (own : LayersStayOwn program tables (L program tables memory)) where
+  module _ (stays : TalliedStays program tables (L program tables memory)) (owed : LayersStayOwed program tables (L program tables memory)) (own : LayersStayOwn program tables (L program tables memory)) (stay : RecordsStay program tables (L program tables memory)) where
     -- ---- work, push, inline, pop
 
     abbrev Worked : Piece → Step → Piece
@@ -160,7 +171,14 @@ module _ (program : Revised) (tables : Tables) (memory : Memory) where
         let t = own_of left right p good h in
         let top = (flags_names program tables (L program tables memory)).knows p.strand p.deque p.tally left right h.owes around in
         let more = own.advances_by_flag kit p.strand p.tally t top in
-        record { owes = owed.advances kit p.strand p.deque p.tally left right t.tallied h.owes; news = more.tallied.made; shallow = h.shallow; owns = inr more; adds = inr ((add_up program).advances p.strand.layers (step_of program tables memory kits p.strand) p.tally (adds_of left right p good h)) }
+        record {
+          owes = owed.advances kit p.strand p.deque p.tally left right t.tallied h.owes;
+          news = more.tallied.made;
+          shallow = h.shallow;
+          owns = inr more;
+          adds = inr ((add_up program).advances p.strand.layers (step_of program tables memory kits p.strand) p.tally (adds_of left right p good h));
+          records = inr (stay.advances kit p.strand p.tally t.tallied.shallow (records_of left right p good h));
+        }
 
     works : (kits : ℕ) → KeepsAll (worked program tables memory kits)
     works kits first found later p ps i rest =
@@ -180,6 +198,7 @@ module _ (program : Revised) (tables : Tables) (memory : Memory) where
             shallow = ((stays.continues p.strand p.tally d x child todo e t.tallied).1, h.1.shallow);
             owns = inr (own.detaches p.strand p.tally d x child todo e t);
             adds = inr (adds_of left h.0 p good h.1);
+            records = inr (detach_records program tables S (L program tables memory) p.strand p.tally d x child todo e (records_of left h.0 p good h.1));
           },
           h.2,
         )
@@ -200,6 +219,7 @@ module _ (program : Revised) (tables : Tables) (memory : Memory) where
             shallow = h.1.shallow;
             owns = inr (own.inlines p.strand p.tally d x child todo e t);
             adds = inr (adds_of left h.0 p good h.1);
+            records = inr (inline_records program tables S (L program tables memory) p.strand p.tally d x child todo e (records_of left h.0 p good h.1));
           },
           h.2,
         )
@@ -225,6 +245,7 @@ module _ (program : Revised) (tables : Tables) (memory : Memory) where
             shallow = low.1;
             owns = inr (own.pops p.strand p.tally k v a b (sym back.0.0) at_place t (back.0.1, low.0));
             adds = inr (adds_of left h.0 p good h.1);
+            records = inr (pop_records program tables S (L program tables memory) p.strand p.tally k v a b (sym back.0.0) at_place (records_of left h.0 p good h.1) back.0.1);
           },
           h.2,
         )
@@ -253,10 +274,11 @@ module _ (program : Revised) (tables : Tables) (memory : Memory) where
         let over = over_right ps h.0 (lowest k.parent.frame k.under) later (links_of first found later p (front ps) younger k i q) rest h.2 in
         let both = owed.steals p.strand younger k p.tally left h.0 cont.stacked over (subst (λ ds. OwesLayers p.strand ds p.tally left h.0) q h.1.owes) in
         let t : Own p.strand p.tally = elim h.1.owns [ inl g ↦ absurd (none_last younger k (sym q ∙ g.0)) | inr t ↦ t ] in
-        let a : AddsUp p.tally = elim h.1.adds [ inl g ↦ absurd (none_last younger k (sym q ∙ g.0)) | inr a ↦ a ] in (
+        let a : AddsUp p.tally = elim h.1.adds [ inl g ↦ absurd (none_last younger k (sym q ∙ g.0)) | inr a ↦ a ] in
+        let b : Recorded p.strand p.tally = elim h.1.records [ inl g ↦ absurd (none_last younger k (sym q ∙ g.0)) | inr b ↦ b ] in (
           recorded_of (stolen program.tree k) [] ++ h.0,
-          record { owes = both.0; news = h.1.news; shallow = low.0; owns = inr t; adds = inr a },
-          (h.0, record { owes = both.1; news = tt; shallow = tt; owns = inr (own.steals k (cont, low.1)); adds = inr refl }, h.2),
+          record { owes = both.0; news = h.1.news; shallow = low.0; owns = inr t; adds = inr a; records = inr b },
+          (h.0, record { owes = both.1; news = tt; shallow = tt; owns = inr (own.steals k (cont, low.1)); adds = inr refl; records = inr (steal_records program tables S (L program tables memory) k cont) }, h.2),
         )
     robs thief kits first found later p ps i rest younger (k ∷ j ∷ ks) q = robs thief kits first found later p ps i rest (younger ++ k ∷ []) (j ∷ ks) (q ∙ sym (append_assoc younger (k ∷ []) (j ∷ ks)))
 
@@ -274,6 +296,7 @@ module _ (program : Revised) (tables : Tables) (memory : Memory) where
           shallow = tt;
           owns = elim h.owns [ inl g ↦ inl (refl, g.1) | inr t ↦ inr t ];
           adds = elim h.adds [ inl g ↦ inl (refl, g.1) | inr a ↦ inr a ];
+          records = elim h.records [ inl g ↦ inl (refl, g.1) | inr r ↦ inr r ];
         }
 
     leaves : (kits : ℕ) (p : Piece) (ps : List Piece) (n : Place) → p.deque ≡ [] → ForSome (Keeps ps p) (left_by program tables memory kits p n)
@@ -289,7 +312,7 @@ module _ (program : Revised) (tables : Tables) (memory : Memory) where
     syncs kits p ps (taken evs k fr ph t) e = tt
 
     stalls : (kits : ℕ) (p : Piece) (ps : List Piece) (ph : Phase) (t : List Parent) (ks : List Continuation) → p.deque ≡ ks → ForSome (Keeps ps p) (stalled_at program tables memory kits p ph t ks)
-    stalls kits p ps (broken k) t ks e = λ left h. (h.0, record { owes = record { balance = tt; precede = h.1.owes.precede }; news = h.1.news; shallow = tt; owns = inl (refl, (k, refl)); adds = inl (refl, (k, refl)) }, h.2)
+    stalls kits p ps (broken k) t ks e = λ left h. (h.0, record { owes = record { balance = tt; precede = h.1.owes.precede }; news = h.1.news; shallow = tt; owns = inl (refl, (k, refl)); adds = inl (refl, (k, refl)); records = inl (refl, (k, refl)) }, h.2)
     stalls kits p ps (leaving v) [] [] e = leaves kits p ps p.strand.frame.instance e
     stalls kits p ps (leaving v) [] (k ∷ ks) e = tt
     stalls kits p ps (leaving v) (r ∷ t) [] e = syncs kits p ps (step_of program tables memory kits p.strand) e
@@ -317,6 +340,7 @@ module _ (program : Revised) (tables : Tables) (memory : Memory) where
         shallow = tt;
         owns = inl (refl, (k, refl));
         adds = inl (refl, (k, refl));
+        records = inl (refl, (k, refl));
       },
       h.2.2,
     )
@@ -362,7 +386,9 @@ module _ (program : Revised) (tables : Tables) (memory : Memory) where
         let low : lowest r.strand.frame r.strand.under ≡ front ps = subst (λ ds. Links (lowest r.strand.frame r.strand.under) ds (front ps)) s.deque right_whole.links in
         let above = over_right ps h.2.0 (lowest r.strand.frame r.strand.under) m.later low m.rest h.2.2 in
         let none = unbroken_of r.strand.phase ((r.tally.opened ≡ []) × IsOneLayer r.strand.layers) m.good (entry_has_one program tables (L program tables memory) r.strand r.tally h.0 h.2.0 s.entry above tr.tallied ow) in
-        let t = own.joins l.strand r.strand l.tally r.tally v b.0 b.1.0 one.0 m.phase over.0 b.1.1 (named ∙ ap place_of_start b.1.1) one.1 (may_join_true program tables memory l.strand (joined program.tree l.strand v r.strand) x.1) tl tr in (
+        let may = may_join_true program tables memory l.strand (joined program.tree l.strand v r.strand) x.1 in
+        let t = own.joins l.strand r.strand l.tally r.tally v b.0 b.1.0 one.0 m.phase over.0 b.1.1 (named ∙ ap place_of_start b.1.1) one.1 may tl tr in
+        let y = stay.joins l.strand r.strand l.tally r.tally v b.0 b.1.0 one.0 m.phase over.0 b.1.1 (named ∙ ap place_of_start b.1.1) one.1 may none.0 (records_of left h.0 l good h.1) (records_of h.0 h.2.0 r m.good h.2.1) in (
           h.2.0,
           record {
             owes = owed.joins l.strand r.strand l.tally r.tally v left h.0 h.2.0 m.phase over.0 none.0 ol ow;
@@ -370,6 +396,7 @@ module _ (program : Revised) (tables : Tables) (memory : Memory) where
             shallow = tt;
             owns = inr t;
             adds = inr ((add_up program).joins l.tally r.tally none.0 (adds_of left h.0 l good h.1) (adds_of h.0 h.2.0 r m.good h.2.1));
+            records = inr y;
           },
           h.2.2,
         )
@@ -444,8 +471,9 @@ module _ (program : Revised) (tables : Tables) (memory : Memory) where
       let stays = tallied_stay program tables (L program tables memory) (law program tables memory ready) ready.rules numbers (sound program tables memory ready) in
       let owed = layers_stay program tables (L program tables memory) ready.rules.reads in
       let own = stay_own program tables (L program tables memory) (law program tables memory ready) ready.rules numbers (sound program tables memory ready) in
-      let begun : TallyOf (first_state program.tree kits) = ([], record { owes = owed.begins; news = tt; shallow = tt; owns = inr own.begins; adds = inr refl }, refl) in
-      path_tallied stays owed own ready es (first_state program.tree kits) (begins_right program tables memory ready kits) begun
+      let stay = stay_recorded program tables (L program tables memory) (law program tables memory ready) ready.rules (sound program tables memory ready) in
+      let begun : TallyOf (first_state program.tree kits) = ([], record { owes = owed.begins; news = tt; shallow = tt; owns = inr own.begins; adds = inr refl; records = inr (first_records program tables S (L program tables memory)) }, refl) in
+      path_tallied stays owed own stay ready es (first_state program.tree kits) (begins_right program tables memory ready kits) begun
 
   pub paths_news : IsReady program tables memory → IsNumbered program → PathsMakeNews program tables memory
   paths_news ready numbers kits es = news_of (path program tables memory (first_state program.tree kits) es).pieces [] (paths_tallied ready numbers kits es)

@@ -6,6 +6,7 @@ ghost use Rattle.meaning.specs.Schedules.{Memory};
 ghost use Rattle.meaning.specs.Tables.{Tables};
 ghost use Rattle.run_theory.specs.Theorems.{IsReady, StepsStayRight, PathsAreRight, RightRunsAnswer, PathsAnswer, StepsKeepKits, PathsKeepKits, EndsFreeKits, PathsKeepHistory, NeighboursFold, PathsMakeNews, PathsOwnLayers, PathsCountNeeded, PathsLeaveNothing, RestBegins, PathsKeepRest, RestEnds, OverRunsAnswer, FrontRunsAnswer};
 ghost use Rattle.trail_theory.specs.OpenLayers.{IsNumbered};
+ghost use Rattle.run_theory.specs.Recorded.{PathsRecordExecutions};
 ghost use Rattle.run_theory.specs.Progress.{HoldersGoOn, LaidRunsGoOn, SomeStepIsThere};
 ghost use Rattle.run_theory.specs.UnflaggedRuns.{FlagsAreTold, PathsReadByOne, RunsBy};
 ghost use Rattle.trail_theory.specs.OwnLayers.{is_top, is_top_by_length};
@@ -82,6 +83,13 @@ pub fn paths_count_needed()
     ensures counted { (program : Revised) (tables : Tables) (memory : Memory)
         → IsReady program tables memory → IsNumbered program
         → PathsCountNeeded program tables memory }
+{}
+
+/// Where a run has come to its end without a fault, its new records have the names and arguments of the executed instances, each as often, but for as many as its tally counts as unrecorded.
+pub fn paths_record_executions()
+    ensures recorded { (program : Revised) (tables : Tables) (memory : Memory)
+        → IsReady program tables memory → IsNumbered program
+        → PathsRecordExecutions program tables memory }
 {}
 
 /// Where such a run left no execution unrecorded, the next one, with the new records put in and no edit between, has nothing to execute.
