@@ -25,11 +25,11 @@ use Rattle.numbered_runs.specs.Pieces.{PlainPiece}
 use Rattle.numbered_runs.specs.Stands.{IsLaidAs, StandForPieces}
 use Rattle.numbered_runs.specs.Layered.{HasOneLayer, HasOneLayerAs}
 use Rattle.numbered_runs.specs.Ends.{answer_at, answer_in}
-use Rattle.numbered_runs.proofs.Ends.{answers_elision}
+use Rattle.numbered_runs.proofs.Ends.{answers_elision, same_answer}
 use Rattle.worker_core.specs.Strands.{PlainStrands, run_of}
-use Rattle.worker_core.specs.Cores.{IsEnd, IsEndOf, is_last, are_over}
-use Rattle.worker_core.specs.Keeps.{AreSoundFor, setting_by, StaysRun, IsElision, IsGiven}
-use Rattle.worker_core.proofs.Keeping.{keeps_layers}
+use Rattle.worker_core.specs.Cores.{PlainCore, IsEnd, IsEndOf, is_last, are_over}
+use Rattle.worker_core.specs.Keeps.{AreSoundFor, setting_by, KeepsRun, StaysRun, IsElision, IsGiven, IsEndBy, ComesToEnd}
+use Rattle.worker_core.proofs.Keeping.{keeps_layers, stays_kept}
 
 -- the values that a strand with one layer has
 pub lowest_worths : (p : PlainPiece) → p.strand.lower ≡ [] → (lowest p.strand.layer p.strand.lower).worths ≡ p.strand.layer.worths
@@ -44,18 +44,21 @@ module _ (program : PlainChecked) (tables : Edited) (records : List PlainRecord)
   no_more a worths t (answer.Fault f) h = absurd h
   no_more a worths t answer.Unfinished h = tt
   no_more a worths t answer.NoMemory h = tt
+  no_more a worths t answer.NoKit h = tt
 
   finished : (v : ℤ) (worths : List Worth) (t : PlainTally) (given : RunAnswer) → IsAnswer (over v) worths t given → IsElision program (elision.Finished v worths) given
   finished v worths t (answer.Finished w got n m u) h = (h.0, h.1)
   finished v worths t (answer.Fault f) h = absurd h
   finished v worths t answer.Unfinished h = tt
   finished v worths t answer.NoMemory h = tt
+  finished v worths t answer.NoKit h = tt
 
   faulted : (f : Fault) (worths : List Worth) (t : PlainTally) (given : RunAnswer) → IsAnswer (stopped f) worths t given → IsElision program (elision.Faulted (fault_in (tree program.program) f)) given
   faulted f worths t (answer.Finished w got n m u) h = absurd h
   faulted f worths t (answer.Fault g) h = ap (fault_in (tree program.program)) h
   faulted f worths t answer.Unfinished h = tt
   faulted f worths t answer.NoMemory h = tt
+  faulted f worths t answer.NoKit h = tt
 
   -- the answer by numbers, where there is one
   abbrev Gives : State → Phase → List Worth → Answer → Type 0
@@ -123,12 +126,14 @@ over_given v worths t (answer.Finished w got n m u) h = tt
 over_given v worths t (answer.Fault f) h = tt
 over_given v worths t answer.Unfinished h = h
 over_given v worths t answer.NoMemory h = tt
+over_given v worths t answer.NoKit h = h
 
 stopped_given : (f : Fault) (worths : List Worth) (t : PlainTally) (given : RunAnswer) → IsAnswer (stopped f) worths t given → IsGiven given
 stopped_given f worths t (answer.Finished w got n m u) h = tt
 stopped_given f worths t (answer.Fault g) h = tt
 stopped_given f worths t answer.Unfinished h = h
 stopped_given f worths t answer.NoMemory h = tt
+stopped_given f worths t answer.NoKit h = h
 
 -- main has nothing under it
 main_given : (v : ℤ) (below : List PlainActivation) (path : List ℕ) (worths : List Worth) (t : PlainTally) (given : RunAnswer) → path ≡ [] → below ≡ [] → IsAnswer (ending_at (Leaving v) below path) worths t given → IsGiven given
@@ -171,3 +176,67 @@ module _ (program : PlainChecked) (tables : Edited) (records : List PlainRecord)
   IsGiven-over false n s given h end e =
       let k : AreSoundFor program records = h.0.sound in
       pieces_given k s.pieces (unflagged_run (h.0.path k).run).pieces given (h.0.path k).stands.pieces e end
+
+-- ---- whether a run has come to its end
+
+unfinished_underway : (worths : List Worth) (t : PlainTally) (given : RunAnswer) → IsAnswer underway worths t given → given ≡ answer.Unfinished
+unfinished_underway worths t answer.Unfinished h = refl
+unfinished_underway worths t (answer.Finished w got n m u) h = absurd h
+unfinished_underway worths t (answer.Fault f) h = absurd h
+unfinished_underway worths t answer.NoMemory h = absurd h
+unfinished_underway worths t answer.NoKit h = absurd h
+
+module _ (program : PlainChecked) (tables : Edited) (records : List PlainRecord) (k : AreSoundFor program records) where
+  -- the end by numbers of a strand that is alone, and the answer that is given
+  abbrev EndsAs : State → PlainPiece → RunAnswer → Type 0
+  EndsAs st p given = IsEndBy program (answer_at (setting_by program tables records k) st p.strand.phase p.strand.layer.worths) given
+
+  only : (a b : Answer) → Some a ≡ Some b → b ≡ a
+  only a b e = cc
+
+  finished_ends : (ph : Phase) (p : PlainPiece) (given : RunAnswer) → IsLaidAs Finished ph p.strand → HasOneLayerAs Finished p.strand.lower → ph ≡ p.strand.phase → IsEndOf Finished p given
+      → IsEndBy program (answer_at (setting_by program tables records k) Finished ph p.strand.layer.worths) given
+  finished_ends (Leaving v) p given l one e h = (
+    state_given Finished p given (subst (λ ph. IsLaidAs Finished ph p.strand) e l) refl h,
+    at_state program tables records k Finished p (elision.Finished v p.strand.layer.worths) given (subst (λ ph. IsLaidAs Finished ph p.strand) e l) one
+        (subst (λ ph. Gives program tables records k Finished ph p.strand.layer.worths (elision.Finished v p.strand.layer.worths)) e (λ b is. only (elision.Finished v p.strand.layer.worths) b is)) h,
+  )
+  finished_ends (Broken f) p given l one e h = absurd l
+  finished_ends Entering p given l one e h = absurd l
+  finished_ends Running p given l one e h = absurd l
+  finished_ends AtSpawn p given l one e h = absurd l
+  finished_ends (Returning v) p given l one e h = absurd l
+
+  faulted_ends : (ph : Phase) (p : PlainPiece) (given : RunAnswer) → IsLaidAs Faulted ph p.strand → HasOneLayerAs Faulted p.strand.lower → ph ≡ p.strand.phase → IsEndOf Faulted p given
+      → IsEndBy program (answer_at (setting_by program tables records k) Faulted ph p.strand.layer.worths) given
+  faulted_ends (Broken f) p given l one e h = (
+    state_given Faulted p given (subst (λ ph. IsLaidAs Faulted ph p.strand) e l) refl h,
+    at_state program tables records k Faulted p (elision.Faulted (fault_in (tree program.program) f)) given (subst (λ ph. IsLaidAs Faulted ph p.strand) e l) one
+        (subst (λ ph. Gives program tables records k Faulted ph p.strand.layer.worths (elision.Faulted (fault_in (tree program.program) f))) e (λ b is. only (elision.Faulted (fault_in (tree program.program) f)) b is)) h,
+  )
+  faulted_ends (Leaving v) p given l one e h = absurd l
+  faulted_ends Entering p given l one e h = absurd l
+  faulted_ends Running p given l one e h = absurd l
+  faulted_ends AtSpawn p given l one e h = absurd l
+  faulted_ends (Returning v) p given l one e h = absurd l
+
+  state_ends : (st : State) (p : PlainPiece) (given : RunAnswer) → IsLaidAs st p.strand.phase p.strand → HasOneLayerAs st p.strand.lower → IsEndOf st p given → EndsAs st p given
+  state_ends Finished p given l one h = finished_ends p.strand.phase p given l one refl h
+  state_ends Faulted p given l one h = faulted_ends p.strand.phase p given l one refl h
+  state_ends (Held w) p given l one h = unfinished_underway (lowest p.strand.layer p.strand.lower).worths p.strand.tally given h
+  state_ends Ended p given l one h = unfinished_underway (lowest p.strand.layer p.strand.lower).worths p.strand.tally given h
+  state_ends Stalled p given l one h = unfinished_underway (lowest p.strand.layer p.strand.lower).worths p.strand.tally given h
+
+  pieces_end : (ps : List PlainPiece) (xs : List Piece) (given : RunAnswer) → StandForPieces (setting_by program tables records k) ps xs → All HasOneLayer ps → IsEnd false ps given
+      → IsEndBy program (answer_in (setting_by program tables records k) ps) given
+  pieces_end [] xs given s one h = h
+  pieces_end (p ∷ []) xs given s one h = state_ends p.state p given (alone_is program tables records k p xs s) (alone_one p one) h
+  pieces_end (p ∷ q ∷ ps) xs given s one h = h
+
+-- the answer says whether what the run stands for has come to its end
+pub comes_to_end : (c : PlainCore) (given : RunAnswer) → StaysRun c.failed c.program c.tables c.records c.workers c.strands → IsEnd c.failed c.strands.pieces given → ComesToEnd c given
+comes_to_end c given h e going k x reached stands =
+    let kept : KeepsRun c.program c.tables c.records c.strands = (stays_kept c.program c.tables c.records c.failed c.workers c.strands h going).0 in
+    let end : IsEnd false c.strands.pieces given = subst (λ failed. IsEnd failed c.strands.pieces given) going e in
+    subst (λ a. IsEndBy c.program a given) (sym (same_answer (setting_by c.program c.tables c.records k) (kept.prepared k) (run_of c.strands) x reached stands))
+    (pieces_end c.program c.tables c.records k c.strands.pieces (unflagged_run x).pieces given stands.pieces (keeps_layers c.program c.tables c.records c.strands kept) end)

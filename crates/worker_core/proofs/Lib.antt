@@ -19,3 +19,4 @@ pub mod Folded
 pub mod Merging
 pub mod Going
 pub mod Leaving
+pub mod Unrecorded

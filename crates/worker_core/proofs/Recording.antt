@@ -22,7 +22,8 @@ use Rattle.frames.specs.declared.answer.RunAnswer.{RunAnswer}
 use Rattle.frames.specs.declared.answer.RunAnswer.TheVariants as answer
 use Rattle.numbered_runs.specs.Pieces.{PlainPiece}
 use Rattle.numbered_runs.specs.Ends.{answer_at, answer_in}
-use Rattle.numbered_runs.specs.News.{HasCounted, HaveNews, StandForKept}
+use Rattle.run_theory.specs.Recorded.{AllRecordedBut}
+use Rattle.numbered_runs.specs.News.{executed_with, HasCounted, HaveNews, StandForKept}
 use Rattle.numbered_runs.specs.Stands.{IsLaidAs, StandForPieces}
 use Rattle.numbered_runs.proofs.News.{run_counted, run_recorded}
 use Rattle.numbered_runs.proofs.Nexts.{put_sound}
@@ -94,6 +95,7 @@ module _ (c : PlainCore) (h : KeepsRun c.program c.tables c.records c.strands) w
         kept = news.kept;
         stand = subst (λ ms. StandForKept (recalling c k) ms news.kept) (sym (is ∙ ap made_in f.alone)) news.stand;
         news = news.news;
+        each = subst (λ r. AllRecordedBut r news.kept (executed_with (recalling c k) (recalling c k).memory.records)) (sym f.counts.unrecorded_is) news.each;
         complete = λ e. news.complete (sym f.counts.unrecorded_is ∙ e);
       }
 
@@ -104,6 +106,7 @@ module _ (c : PlainCore) (h : KeepsRun c.program c.tables c.records c.strands) w
   recorded_by (answer.Fault f) made e is = is
   recorded_by answer.Unfinished made e is = is
   recorded_by answer.NoMemory made e is = is
+  recorded_by answer.NoKit made e is = is
 
   none_new : (made : List PlainRecord) → made ≡ [] → StaySound c made
   none_new made e = subst (λ ms. AreSoundFor c.program (put_records c.records ms)) (sym e) h.sound
@@ -114,6 +117,7 @@ module _ (c : PlainCore) (h : KeepsRun c.program c.tables c.records c.strands) w
   sound_by (answer.Fault f) made e is = none_new made is
   sound_by answer.Unfinished made e is = none_new made is
   sound_by answer.NoMemory made e is = none_new made is
+  sound_by answer.NoKit made e is = none_new made is
 
 module _ (c : PlainCore) (given : RunAnswer) (made : List PlainRecord) where
   -- of a run that has failed nothing is kept

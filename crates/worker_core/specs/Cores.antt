@@ -1,5 +1,5 @@
 -- A run by steps: why one is refused, and how the run ends.
-use Rattle.std.specs.Prelude.{◌≡◌, ℕ, ◌<◌, length, Bool, true, false, not, ◌&&◌, ◌||◌, List, [], ◌∷◌, Result, Err}
+use Rattle.std.specs.Prelude.{◌≡◌, ℕ, ◌<◌, ◌+◌, length, Bool, true, false, not, ◌&&◌, ◌||◌, List, [], ◌∷◌, Result, Err}
 use Rattle.monoid_laws.specs.declared.Kind.{Kind}
 use Rattle.view_pool.specs.Stock.{Stock}
 use Rattle.meaning.specs.Strands.{State, Finished, Faulted}
@@ -92,6 +92,15 @@ abbrev pub IsEnd : Bool → List PlainPiece → RunAnswer → Type 0
 IsEnd true ps given = given ≡ answer.NoMemory
 IsEnd false (p ∷ []) given = IsEndOf p.state p given
 IsEnd false _ given = given ≡ answer.Unfinished
+
+-- how many executed instances of a run have no record
+abbrev pub unrecorded_in : List PlainPiece → ℕ
+unrecorded_in [] = 0
+unrecorded_in (p ∷ ps) = p.strand.tally.unrecorded + unrecorded_in ps
+
+-- an instance goes without a record only where no kit was free
+abbrev pub PassesWithoutKit : PlainStrands → PlainStrands → Type 0
+PassesWithoutKit s t = unrecorded_in s.pieces < unrecorded_in t.pieces → s.kits ≡ []
 
 -- the records that one strand has made
 abbrev pub made_in : List PlainPiece → List PlainRecord

@@ -1,9 +1,9 @@
 -- What a run on several workers is for the definitions: it stands for a run that their steps lead to, and its answer is the elision's.
-use Rattle.std.specs.Prelude.{◌≡◌, ℕ, Bool, true, false, List, [], map, All}
+use Rattle.std.specs.Prelude.{◌≡◌, ℕ, Bool, true, false, List, [], map, All, Option, Some, None}
 use Rattle.monoid_laws.specs.Kinds.{meaning, IsMonoid}
 use Rattle.program_tree.specs.View.{tree}
 use Rattle.meaning.specs.Elision.{Answer, Finished, Faulted, from_scratch}
-use Rattle.meaning.specs.Schedules.{RunState}
+use Rattle.meaning.specs.Schedules.{RunState, end_of}
 use Rattle.linked_program.specs.Checked.{PlainChecked, IsChecked, revised_of}
 use Rattle.input_tables.specs.Edited.{Edited}
 use Rattle.rerun_records.specs.Record.{PlainRecord}
@@ -81,6 +81,7 @@ IsLegal c = HistoryGives (run_of c.strands)
 abbrev pub IsElision : PlainChecked → Answer → RunAnswer → Type 0
 IsElision program a answer.Unfinished = Unit {0}
 IsElision program a answer.NoMemory = Unit {0}
+IsElision program a answer.NoKit = Unit {0}
 IsElision program (Finished v worths) (answer.Finished w got n m k) = (w ≡ v) × (map meaning got.items ≡ worths)
 IsElision program (Finished v worths) (answer.Fault f) = ⊥
 IsElision program (Faulted k) (answer.Finished w got n m j) = ⊥
@@ -93,7 +94,19 @@ AnswersElision c given = IsElision c.program (from_scratch (tree c.program.progr
 -- the run has come to its end, or memory was refused
 abbrev pub IsGiven : RunAnswer → Type 0
 IsGiven answer.Unfinished = ⊥
+IsGiven answer.NoKit = ⊥
 IsGiven _ = Unit {0}
+
+-- the answer to a run of the definitions that has not come to its end, or has come to this one
+abbrev pub IsEndBy : PlainChecked → Option Answer → RunAnswer → Type 0
+IsEndBy program None given = given ≡ answer.Unfinished
+IsEndBy program (Some a) given = IsGiven given × IsElision program a given
+
+-- the answer of a run that has not failed says whether what it stands for has come to its end, and to which
+abbrev pub ComesToEnd : PlainCore → RunAnswer → Type 0
+ComesToEnd c given =
+    c.failed ≡ false → (k : HasSound c) (x : RunState) → IsReached (recalling c k) x → StandsForUnflagged (recalling c k) (run_of c.strands) x
+    → IsEndBy c.program (end_of x) given
 
 -- ---- counts and new records
 

@@ -15,8 +15,8 @@ ghost use Rattle.linked_program.specs.Checked.{IsChecked, revised_of};
 ghost use Rattle.linked_program.specs.TableNames.{columned_of};
 ghost use Rattle.worker_core.specs.Going.{GoesOn};
 ghost use Rattle.worker_core.specs.Leaving.{LeavesElision};
-ghost use Rattle.worker_core.specs.Keeps.{AreSoundFor, IsBeginning, IsStep, IsNoStep, IsLegal, AnswersElision, IsGiven, HasRecorded, StaySound};
-ghost use Rattle.worker_core.specs.Cores.{IsFirstCore, CannotStart, is_failure, takes_memory, stepped_on, taken, failed_by, StandsAfter, IsEnd, is_over};
+ghost use Rattle.worker_core.specs.Keeps.{AreSoundFor, IsBeginning, IsStep, IsNoStep, IsLegal, AnswersElision, IsGiven, ComesToEnd, HasRecorded, StaySound};
+ghost use Rattle.worker_core.specs.Cores.{IsFirstCore, CannotStart, is_failure, takes_memory, stepped_on, taken, failed_by, StandsAfter, IsEnd, is_over, PassesWithoutKit};
 
 use crate::strands::Strands;
 use frames::answer::RunAnswer;
@@ -101,21 +101,23 @@ impl<'a, V: View> Core<'a, V> {
     /// there is no such step, nothing to take, no kit, no memory. A refusal changes nothing, but where memory is refused: after
     /// a fold some reducers may have moved between the two strands, whose product is the same, and after a step that is no push
     /// and no fold the run has failed; then the topmost layers of the strand that was at work may have other values.
-    pub fn step(&mut self, alloc: Global, step: Step) -> Result<(), Refusal>
-        ensures taken { OnOk result (taken self.old step ≡ Ok (run_of self.new.strands)) }
-        ensures step { OnOk result (IsStep step self.old self.new) }
-        ensures refused { IfErr result (RefusedAs (takes_memory step) (taken self.old step)) }
-        ensures no_step { IfErr result (λ e. (e ≡ Refusal.NoMemory) ⊎ IsNoStep step self.old) }
-        ensures stands { IfErr result (λ e. StandsAfter step e self.old.strands self.new.strands) }
-        ensures failed { IfErr result (λ e. self.new ≡ record (failed_by step e self.old) { strands = self.new.strands }) }
+    pub fn step(&mut self, alloc: Global, step: &Step) -> Result<(), Refusal>
+        ensures taken { OnOk result (taken self.old step.now ≡ Ok (run_of self.new.strands)) }
+        ensures step { OnOk result (IsStep step.now self.old self.new) }
+        ensures refused { IfErr result (RefusedAs (takes_memory step.now) (taken self.old step.now)) }
+        ensures no_step { IfErr result (λ e. (e ≡ Refusal.NoMemory) ⊎ IsNoStep step.now self.old) }
+        ensures stands { IfErr result (λ e. StandsAfter step.now e self.old.strands self.new.strands) }
+        ensures failed { IfErr result (λ e. self.new ≡ record (failed_by step.now e self.old) { strands = self.new.strands }) }
         ensures going { OnOk result (self.new ≡ record self.old { strands = self.new.strands }) }
+        // An instance goes without a record only where no kit was free.
+        ensures unrecorded { OnOk result (PassesWithoutKit self.old.strands self.new.strands) }
         ensures total { self.new.strands.total ≡ self.old.strands.total }
         ensures kits { kits_in self.new.strands ≡ kits_in self.old.strands }
     {
-        if self.failed || !are_workers(self.workers, &step) {
+        if self.failed || !are_workers(self.workers, step) {
             return Err(Refusal::NotThere);
         }
-        self.take(alloc, &step)
+        self.take(alloc, step)
     }
 
     /// The step by workers that there are, in a run that has not failed.
@@ -183,6 +185,7 @@ impl<'a, V: View> Core<'a, V> {
     pub fn finish(self, alloc: Global) -> (RunAnswer, Pool<Kit<V>>, Vec<Record>)
         ensures elision { AnswersElision self.entry result.0 }
         ensures over { is_over self.entry ≡ true → IsGiven result.0 }
+        ensures comes { ComesToEnd self.entry result.0 }
         ensures end { IsEnd self.entry.failed self.entry.strands.pieces result.0 }
         ensures free { length result.1.kits ≡ kits_in self.entry.strands }
         ensures kinds { All (λ k. k ≡ self.entry.program.kinds) result.1.kits }

@@ -1,7 +1,7 @@
 use Rattle.std.proofs.Common.{◌≡◌, true, All, subst}
 use Rattle.worker_core.specs.Cores.{PlainCore, is_over}
-use Rattle.worker_core.specs.Keeps.{AnswersElision, IsGiven, HasRecorded, StaySound}
-use Rattle.worker_core.proofs.Ends.{IsElision-end, IsGiven-over}
+use Rattle.worker_core.specs.Keeps.{AnswersElision, IsGiven, ComesToEnd, HasRecorded, StaySound}
+use Rattle.worker_core.proofs.Ends.{IsElision-end, IsGiven-over, comes_to_end}
 use Rattle.worker_core.proofs.Recording.{recorded, stay_sound}
 use Rattle.worker_core.proofs.run.Core.finish.Goals as goal
 
@@ -14,6 +14,11 @@ pub returns-clause-over : goal.returns-clause-over
 returns-clause-over g c =
     subst (λ (core : PlainCore). is_over core ≡ true → IsGiven c.end.result.0) c.self.view_is
     (IsGiven-over c.self.inside.program.now c.self.inside.tables.now c.self.inside.records.now c.self.inside.failed c.self.inside.workers c.self.inside.strands c.end.result.0 c.self.invariant.1 c.end.ensures.end)
+
+pub returns-clause-comes : goal.returns-clause-comes
+returns-clause-comes g c =
+    let core : PlainCore = record { program = c.self.inside.program.now; tables = c.self.inside.tables.now; records = c.self.inside.records.now; strands = c.self.inside.strands; workers = c.self.inside.workers; failed = c.self.inside.failed } in
+    subst (λ (x : PlainCore). ComesToEnd x c.end.result.0) c.self.view_is (comes_to_end core c.end.result.0 c.self.invariant.1 c.end.ensures.end)
 
 pub returns-clause-kinds : goal.returns-clause-kinds
 returns-clause-kinds g c =
