@@ -1,0 +1,6 @@
+pub mod Sessions
+pub mod Applied
+pub mod Steps
+pub mod Driven
+pub mod Runs
+pub mod Played
