@@ -33,6 +33,7 @@ HasEnded (answer.Finished result values executed reused unrecorded) = Unit {0}
 HasEnded (answer.Fault fault) = Unit {0}
 HasEnded answer.Unfinished = ⊥
 HasEnded answer.NoMemory = ⊥
+HasEnded answer.NoKit = ⊥
 
 -- there is no such step by the workers, unless the run has failed
 abbrev pub IsRefused : PlainCore → RunStep → Type 0

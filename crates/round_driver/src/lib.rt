@@ -1,4 +1,7 @@
-//! A run to its end: the workers take their steps in turn.
+//! Runs by several workers in turn, without threads.
 #![tactic(auto)]
 
 pub mod runs;
+mod sessions;
+
+pub use sessions::run;

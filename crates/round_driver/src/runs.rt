@@ -41,7 +41,7 @@ enum Found {
 
 /// A run of a checked program on tables, by so many workers: its answer, and the new records of one that has finished. Its memo
 /// instances are answered by the records that hold now. Refused where no kit is free, or for want of memory.
-pub fn run<V: View>(
+pub(crate) fn run_on<V: View>(
     rt: &impl Wait,
     alloc: Global,
     checked: &Checked,
@@ -114,7 +114,7 @@ fn answered(answer: RunAnswer, made: Vec<Record>) -> Result<(RunAnswer, Vec<Reco
     ensures refused { IfErr result (λ e. e ≡ RunError.NoMemory) }
 {
     match answer {
-        RunAnswer::Unfinished => unreachable!(),
+        RunAnswer::Unfinished | RunAnswer::NoKit => unreachable!(),
         RunAnswer::NoMemory => Err(RunError::NoMemory),
         RunAnswer::Finished {
             result,
@@ -272,7 +272,7 @@ fn attempt<V: View>(alloc: Global, core: &mut Core<'_, V>, step: Step) -> Result
     ensures unchanged { OnOk result (core.new ≡ core.old) }
     ensures none { OnOk result (IsRefused core.old (run_step step)) }
 {
-    match core.step(alloc, step) {
+    match core.step(alloc, &step) {
         Ok(()) => Err(Found::Taken),
         Err(refusal) => {
             if is_no_memory(refusal) {
@@ -420,5 +420,5 @@ fn is_taken<V: View>(alloc: Global, core: &mut Core<'_, V>, step: Step) -> bool
 fn tried<V: View>(alloc: Global, core: &mut Core<'_, V>, step: Step) -> Result<(), Refusal>
     ensures same { IsSameRun core.old core.new }
 {
-    core.step(alloc, step)
+    core.step(alloc, &step)
 }

@@ -6,7 +6,7 @@ use Rattle.rerun_records.specs.Named.{HaveValues}
 use Rattle.rerun_records.specs.Commits.{put_records}
 use Rattle.worker_core.specs.Keeps.{IsElision, AreSoundFor, HasRecordedBy}
 use Rattle.round_driver.proofs.Turns.{same_answer, of_first}
-use Rattle.round_driver.proofs.runs.run.Goals as goal
+use Rattle.round_driver.proofs.runs.run_on.Goals as goal
 
 pub returns-clause-answer : goal.returns-clause-answer
 returns-clause-answer g c =
