@@ -1,4 +1,3 @@
 pub mod Answering
-pub mod Commands
 pub mod SameKind
 pub mod Written

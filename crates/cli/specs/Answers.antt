@@ -1,41 +1,50 @@
--- The text of the answers to a script without edits.
-use Rattle.std.specs.Prelude.{ℕ, false, List, [], None, Err}
-use Rattle.program_tree.specs.Plain.{Tree}
+-- The text of the answers to a script.
+use Rattle.std.specs.Prelude.{ℕ, true, List}
 use Rattle.meaning.specs.Tables.{Tables}
-use Rattle.meaning.specs.Edits.{Standing, TextReader, Checker}
+use Rattle.meaning.specs.Statements.{reducers}
+use Rattle.meaning.specs.Elision.{from_scratch}
+use Rattle.meaning.specs.Edits.{Standing, Edit, after_edit}
 use Rattle.meaning.specs.Script.{Command}
 use Rattle.meaning.specs.Text as text
-use Rattle.program_tree.specs.View.{tree}
+use Rattle.meaning.specs.Text.{run_text}
 use Rattle.linked_program.specs.Checked.{PlainChecked}
 use Rattle.input_tables.specs.Edited.{Edited}
-
--- nothing is defined, so neither of these is asked
-abbrev pub reads_nothing : TextReader
-reads_nothing text before = Err 0
-
-abbrev pub checks_nothing : Checker
-checks_nothing tree lines tables = None
-
--- a program and tables that nothing was edited of
-abbrev pub unedited : Tree → Tables → Standing
-unedited program tables = record { program = record { tree = program; revisions = []; counter = 0 }; lines = []; tables = tables; edits = 0 }
+use Rattle.checked_defines.specs.Readers.{reads_text, checks_rules}
+use Rattle.checked_defines.specs.Standings.{standing}
+use Rattle.reuse_planner.specs.Sessions.{PlainSession, standing_of}
 
 -- the answer to a command, after so many runs
-abbrev pub answer_text : Tree → Tables → ℕ → Command → List ℕ
-answer_text program tables = text.answer_text reads_nothing checks_nothing (unedited program tables)
+abbrev pub answer_text : Standing → ℕ → Command → List ℕ
+answer_text = text.answer_text reads_text checks_rules
+
+-- what a command leaves
+abbrev pub standing_after : Standing → Command → Standing
+standing_after = text.standing_after reads_text checks_rules
+
+-- what an edit leaves: a refused one changes nothing
+abbrev pub left_by_edit : Standing → Edit → Standing
+left_by_edit = after_edit reads_text checks_rules
+
+-- the answer to a run of that number
+abbrev pub run_answer : Standing → ℕ → List ℕ
+run_answer s n = run_text n (reducers s.program.tree) (from_scratch s.program.tree s.tables)
 
 -- the answers to commands, after so many runs
-abbrev pub answers_from : Tree → Tables → ℕ → List Command → List ℕ
-answers_from program tables = text.answers_from reads_nothing checks_nothing (unedited program tables)
+abbrev pub answers_from : Standing → ℕ → List Command → List ℕ
+answers_from = text.answers_from reads_text checks_rules
 
 -- the answers to a script
-abbrev pub answers_text : Tree → Tables → List ℕ → List ℕ
-answers_text program tables = text.answers_text reads_nothing checks_nothing false (unedited program tables)
+abbrev pub answers_text : Standing → List ℕ → List ℕ
+answers_text = text.answers_text reads_text checks_rules true
 
--- the answer to a command after so many runs, and the answers to a script, of a checked program and its tables
+-- the answers to a session's script
+abbrev pub answers_of : PlainSession → List ℕ → List ℕ
+answers_of s = answers_text (standing_of s)
 
-abbrev pub answer_of : PlainChecked → Edited → ℕ → Command → List ℕ
-answer_of checked edited = answer_text (tree checked.program) edited.tables
+-- tables that nothing was edited of
+abbrev pub unedited : Tables → Edited
+unedited tables = record { tables = tables; edits = 0 }
 
-abbrev pub answers_of : PlainChecked → Edited → List ℕ → List ℕ
-answers_of checked edited = answers_text (tree checked.program) edited.tables
+-- the answers to the first script of a checked program and its tables
+abbrev pub first_answers : PlainChecked → Tables → List ℕ → List ℕ
+first_answers checked tables = answers_text (standing checked (unedited tables))

@@ -1,9 +1,8 @@
 pub mod Answers
-pub mod Commands
+pub mod Begun
 pub mod Endings
 pub mod Failed
 pub mod Preparing
 pub mod Reports
 pub mod Statuses
 pub mod Written
-pub mod Sessions

@@ -1,14 +1,13 @@
 -- What a session over two files, a script and a writer comes to, and why it is not begun.
 use Rattle.std.specs.Prelude.{◌≡◌, ◌⊎◌, ℕ, List, Option, Some, None, string_bytes, IsUtf8}
 use Rattle.std.specs.Io.KnownBytes.{Appends, Keeps}
-use Rattle.program_tree.specs.View.{tree}
 use Rattle.meaning.specs.Tables.{Tables}
 use Rattle.linked_program.specs.Checked.{PlainChecked}
 use Rattle.command_line.specs.declared.options.Options.{Options}
 use Rattle.cli.specs.declared.streams.SessionError.TheVariants as s
 use Rattle.cli.specs.declared.program.ProgramError.{ProgramError}
 use Rattle.cli.specs.declared.program.ProgramError.TheVariants.{Line, File, Prepare, Session}
-use Rattle.cli.specs.Answers.{answers_text}
+use Rattle.cli.specs.Answers.{first_answers}
 use Rattle.cli.specs.Written.{HasBeginning}
 use Rattle.cli.specs.Preparing.{IsPrepared, IsRefused}
 
@@ -23,7 +22,7 @@ abbrev pub IsNoText : Option (List ℕ) → Type 0
 IsNoText None = Unit {0}
 IsNoText (Some bytes) = IsUtf8 bytes → ⊥
 
--- why no session was begun: a file first, and a text only where the tables' file is text; of a session that was begun, nothing is said
+-- why no session was begun: a file first, and a text only where the tables' file is text; of a session that was begun, or was to have no kits, nothing is said
 abbrev pub IsUnopened : (List ℕ → Option (List ℕ)) → Options → ProgramError → Type 0
 IsUnopened held options (Line e) = ⊥
 IsUnopened held options (File path) =
@@ -45,14 +44,14 @@ IsFailed path (Session e) = e ≡ s.NoMemory
 abbrev pub IsReported : List ℕ → List ℕ → List ℕ → Option (List ℕ) → Option (List ℕ) → Type 0
 IsReported program tables_text script old new =
     IsUtf8 tables_text × (checked : PlainChecked) × (tables : Tables) × IsPrepared program tables_text checked tables
-    × Appends old new (answers_text (tree checked.program) tables script)
+    × Appends old new (first_answers checked tables script)
 
 -- nothing, or a beginning of such answers, was written
 abbrev pub IsBegun : List ℕ → List ℕ → List ℕ → Option (List ℕ) → Option (List ℕ) → Type 0
 IsBegun program tables_text script old new =
     Keeps old new
     ⊎ ((checked : PlainChecked) × (tables : Tables) × IsPrepared program tables_text checked tables
-    × HasBeginning old new (answers_text (tree checked.program) tables script))
+    × HasBeginning old new (first_answers checked tables script))
 
 -- as much was written over the files that the options name, where their bytes and the script are known
 

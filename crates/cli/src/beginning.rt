@@ -1,48 +1,51 @@
 // The beginning of a session: its program and tables, and its kits.
-ghost use Rattle.std.specs.Prelude.{◌≡◌, All, IfOk, IfErr, length};
-ghost use Rattle.linked_program.specs.TableNames.{columned_of};
-ghost use Rattle.cli.specs.Preparing.{IsPrepared, IsRefused};
+ghost use Rattle.std.specs.Prelude.{◌≡◌, IfOk, IfErr, length};
+ghost use Rattle.cli.specs.Preparing.{IsPrepared};
+ghost use Rattle.cli.specs.Begun.{IsUnbegun};
 
-use crate::kits::pool;
+use crate::kits::kits_for;
 use crate::prepare::{PrepareError, prepare};
-use crate::session::Session;
 use monoid_laws::Kind;
+use reuse_planner::Session;
 use std::alloc::{AllocError, Global};
+use thiserror::Error;
 use view_pool::View;
-use worker_core::records::no_records;
+
+/// Why a session isn't begun.
+#[derive(Debug, Drop, Error)]
+pub enum BeginError {
+    /// Its program or its tables are refused, or memory is.
+    #[error("{0}")]
+    Prepare(PrepareError),
+    /// There are no kits.
+    #[error("no kit")]
+    NoKit,
+}
 
 /// The session of a program's text and tables' text, with so many kits of views that the caller makes; refused as by
-/// `prepare`, and for want of memory where a view is of another kind.
+/// `prepare`, for want of memory where a view is of another kind, and where there are to be no kits.
 pub fn begin<V: View, M: Fn(Kind) -> Result<V, AllocError>>(
     alloc: Global,
     program: &[u8],
     tables: &str,
     kits: usize,
     make: &M,
-) -> Result<Session<V>, PrepareError>
+) -> Result<Session<V>, BeginError>
     requires callable { M.IsAlwaysCallable make.now }
     ensures prepared { IfOk result (λ session.
         IsPrepared program.now tables.now session.checked session.tables.tables) }
-    ensures kinds { IfOk result (λ session.
-        All (λ kit. kit ≡ session.checked.kinds) session.kits.kits) }
-    ensures tables { IfOk result (λ session.
-        session.checked.tables ≡ columned_of session.tables.tables) }
+    ensures unedited { IfOk result (λ session. session.tables.edits ≡ 0) }
     ensures count { IfOk result (λ session. length session.kits.kits ≡ kits) }
-    ensures refused { IfErr result (IsRefused program.now tables.now) }
+    ensures refused { IfErr result (IsUnbegun program.now tables.now kits) }
 {
     match prepare(alloc, program, tables) {
-        Ok((checked, tables)) => match pool(alloc, checked.kinds(), kits, make) {
-            Ok(kits) => {
-                let records = no_records(alloc, &checked);
-                Ok(Session {
-                    checked,
-                    tables,
-                    kits,
-                    records,
-                })
-            }
-            Err(_) => Err(PrepareError::NoMemory),
+        Ok((checked, tables)) => match kits_for(alloc, checked.kinds(), kits, make) {
+            Ok(kits) => match Session::new(alloc, checked, tables, kits) {
+                Ok(session) => Ok(session),
+                Err(_) => Err(BeginError::NoKit),
+            },
+            Err(_) => Err(BeginError::Prepare(PrepareError::NoMemory)),
         },
-        Err(error) => Err(error),
+        Err(error) => Err(BeginError::Prepare(error)),
     }
 }

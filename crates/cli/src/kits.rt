@@ -3,25 +3,25 @@ ghost use Rattle.std.specs.Prelude.{◌≡◌, All, IfOk, length};
 
 use monoid_laws::Kind;
 use std::alloc::{AllocError, Global};
-use view_pool::{Kit, Pool, View};
+use view_pool::{Kit, View};
 
-/// A pool of so many kits for these kinds, of views that the caller makes. Want of memory is the only error; a view of another kind counts as such.
-pub fn pool<V: View, M: Fn(Kind) -> Result<V, AllocError>>(
+/// So many kits for these kinds, of views that the caller makes. Want of memory is the only error; a view of another kind counts
+/// as such.
+pub fn kits_for<V: View, M: Fn(Kind) -> Result<V, AllocError>>(
     alloc: Global,
     kinds: &[Kind],
     count: usize,
     make: &M,
-) -> Result<Pool<Kit<V>>, AllocError>
+) -> Result<Vec<Kit<V>>, AllocError>
     requires { M.IsAlwaysCallable make.now }
-    ensures kinds { IfOk result (λ pool. All (λ kit. kit ≡ kinds.now) pool.kits) }
-    ensures free { IfOk result (λ pool. length pool.kits ≡ count) }
-    ensures total { IfOk result (λ pool. pool.total ≡ count) }
+    ensures kinds { IfOk result (λ kits. All (λ kit. kit ≡ kinds.now) kits.items) }
+    ensures count { IfOk result (λ kits. length kits.items ≡ count) }
 {
     let mut kits = Vec::with_capacity(alloc, count)?;
     for _ in 0..count {
         kits.push(kit(alloc, kinds, make)?)?;
     }
-    Ok(Pool::new(kits))
+    Ok(kits)
 }
 
 // A kit for these kinds.

@@ -6,6 +6,5 @@ pub mod files;
 pub mod kits;
 pub mod prepare;
 pub mod program;
-pub mod script;
 pub mod session;
 pub mod streams;

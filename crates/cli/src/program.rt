@@ -1,19 +1,19 @@
 // The program: its line, its files, its session on standard input and output.
-ghost use Rattle.std.specs.Prelude.{◌≡◌, ◌≢◌, ◌<◌, ◌⊎◌, Err, true, All, IfOk, IfErr, OnOk, OnErr, length, map, string_bytes};
+ghost use Rattle.std.specs.Prelude.{◌≡◌, ◌≢◌, ◌<◌, ◌⊎◌, Err, true, IfOk, IfErr, OnOk, OnErr, length, map, string_bytes};
 ghost use Rattle.std.specs.Io.KnownBytes.{Keeps, IsAtEnd};
 ghost use Rattle.std.specs.IoError.{error_kind};
-ghost use Rattle.linked_program.specs.TableNames.{columned_of};
 ghost use Rattle.cli.specs.Statuses.{status_of};
 ghost use Rattle.cli.specs.Reports.{IsOpened, IsUnopened, IsFailed, IsReportedOver, IsBegunOver, WritesNothing};
 
-use crate::beginning::begin;
+use crate::beginning::{BeginError, begin};
 use crate::files::{FileSource, SystemFiles};
 use crate::prepare::PrepareError;
-use crate::session::{Session, session_text};
+use crate::session::session_text;
 use crate::streams::{Failures, SessionError};
 use command_line::line::options;
 use command_line::options::{Options, OptionsError};
 use monoid_laws::Kind;
+use reuse_planner::Session;
 use std::alloc::{AllocError, Global};
 use std::io::{BufReader, BufWriter, ErrorKind, Read, Write};
 use std::rt::Runtime;
@@ -164,13 +164,11 @@ fn session_of<V: View, M: Fn(Kind) -> Result<V, AllocError>, F: FileSource>(
     requires callable { M.IsAlwaysCallable make.now }
     ensures opened { IfOk result (λ session.
         IsOpened (F.held files.now) options.entry session.checked session.tables.tables) }
-    ensures kinds { IfOk result (λ session.
-        All (λ kit. kit ≡ session.checked.kinds) session.kits.kits) }
-    ensures tables { IfOk result (λ session.
-        session.checked.tables ≡ columned_of session.tables.tables) }
+    ensures unedited { IfOk result (λ session. session.tables.edits ≡ 0) }
     ensures count { IfOk result (λ session. length session.kits.kits ≡ options.entry.kits) }
     ensures unopened { IfErr result (IsUnopened (F.held files.now) options.entry) }
-    ensures kits { result ≢ Err (ProgramError.Session SessionError.NoKit) }
+    ensures kits { 0 < options.entry.kits
+        → result ≢ Err (ProgramError.Session SessionError.NoKit) }
     ensures input { result ≢ Err (ProgramError.Session SessionError.Read) }
     ensures output { result ≢ Err (ProgramError.Session SessionError.Write) }
 {
@@ -187,7 +185,8 @@ fn session_of<V: View, M: Fn(Kind) -> Result<V, AllocError>, F: FileSource>(
     };
     match begin(alloc, program.as_slice(), text, options.kits, make) {
         Ok(session) => Ok(session),
-        Err(error) => Err(ProgramError::Prepare(error)),
+        Err(BeginError::Prepare(error)) => Err(ProgramError::Prepare(error)),
+        Err(BeginError::NoKit) => Err(ProgramError::Session(SessionError::NoKit)),
     }
 }
 
