@@ -1,0 +1,10 @@
+pub mod Starts
+pub mod Owned
+pub mod Steps
+pub mod Moves
+pub mod Points
+pub mod Cuts
+pub mod Ends
+pub mod Joins
+pub mod Waiting
+pub mod Pairs

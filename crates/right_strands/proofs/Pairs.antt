@@ -1,0 +1,77 @@
+-- Two pieces that may be joined are a pair.
+use Rattle.std.proofs.Common.{◌≡◌, ◌⊎◌, inl, inr, ℤ, true, [], refl, sym, ap, ◌∙◌, subst}
+use Rattle.positions.specs.declared.phase.Phase.TheVariants.{Leaving, Broken}
+use Rattle.positions.specs.declared.phase.Paused.TheVariants as paused
+use Rattle.positions.specs.declared.start.Start.{Start}
+use Rattle.positions.specs.Setting.{Setting}
+use Rattle.positions.specs.Advance.{pause_of}
+use Rattle.positions.specs.Strands.{PlainStrand}
+use Rattle.right_strands.specs.Rightness.{IsRightStrand}
+use Rattle.right_strands.specs.declared.laid.Rest.{Rest}
+use Rattle.right_strands.specs.declared.laid.Rest.TheVariants as rest
+use Rattle.right_strands.specs.Laid.{PlainPiece, IsAtRest}
+use Rattle.right_strands.specs.Pairs.{StopsBroken, IsPair, IsPairFrom, MayPair, is_over, is_waiting}
+use Rattle.right_strands.proofs.Points.{fault_is}
+use Rattle.right_strands.proofs.Waiting.{waiting_decided}
+use Rattle.right_strands.proofs.Joins.{stalled_alone}
+
+module _ (setting : Setting) where
+  left_over : (r : Rest) (s : PlainStrand) → is_over r ≡ true → IsAtRest setting.codes r s → (pause_of setting.codes s ≡ paused.Returned) ⊎ StopsBroken s
+  left_over rest.Ended s e h = inl h.at
+  left_over rest.Faulted s e h = inr (fault_is setting.codes s h.at)
+  left_over rest.Stalled s e h = absurd cc
+  left_over rest.Finished s e h = absurd cc
+
+  right_waits : (r : Rest) (s : PlainStrand) → is_waiting r ≡ true → IsAtRest setting.codes r s → (pause_of setting.codes s ≡ paused.AtSync) ⊎ StopsBroken s
+  right_waits rest.Stalled s e h = inl h.at
+  right_waits rest.Faulted s e h = inr (fault_is setting.codes s h.at)
+  right_waits rest.Ended s e h = absurd cc
+  right_waits rest.Finished s e h = absurd cc
+
+  right_alone : (r : Rest) (s : PlainStrand) → is_waiting r ≡ true → IsAtRest setting.codes r s → IsRightStrand setting s → s.lower ≡ []
+  right_alone rest.Stalled s e h k = stalled_alone setting s h.at k
+  right_alone rest.Faulted s e h k = h.layers
+  right_alone rest.Ended s e h k = absurd cc
+  right_alone rest.Finished s e h k = absurd cc
+
+  -- a left strand that leaves has ended
+  ends_when : (r : Rest) (s : PlainStrand) (v : ℤ) → is_over r ≡ true → IsAtRest setting.codes r s → s.phase ≡ Leaving v → r ≡ rest.Ended
+  ends_when rest.Ended s v e h q = refl
+  ends_when rest.Faulted s v e h q = let f = fault_is setting.codes s h.at in absurd (let c : Leaving v ≡ Broken f.0 = sym q ∙ f.1 in cc)
+  ends_when rest.Stalled s v e h q = absurd cc
+  ends_when rest.Finished s v e h q = absurd cc
+
+  -- a right strand at a sync is stalled
+  stalls_when : (r : Rest) (s : PlainStrand) → is_waiting r ≡ true → IsAtRest setting.codes r s → pause_of setting.codes s ≡ paused.AtSync → r ≡ rest.Stalled
+  stalls_when rest.Stalled s e h q = refl
+  stalls_when rest.Faulted s e h q = absurd (let c : paused.AtSync ≡ paused.Faulted = sym q ∙ h.at in cc)
+  stalls_when rest.Ended s e h q = absurd cc
+  stalls_when rest.Finished s e h q = absurd cc
+
+  -- a piece: what its type keeps
+  pub record Lies (p : PlainPiece) : Type 0 where
+    pub right : IsRightStrand setting p.strand
+    pub rests : IsAtRest setting.codes p.rest p.strand
+    pub kinds : p.strand.layer.kinds ≡ setting.kinds
+
+  pair_there : (l r : PlainPiece) → Lies l → Lies r → is_over l.rest ≡ true → is_waiting r.rest ≡ true → MayPair setting l r → IsPair setting l.strand r.strand
+  pair_there l r hl hr over waits may = record {
+    left_worths = l.strand.layer.worths;
+    right_worths = r.strand.layer.worths;
+    left = hl.right;
+    right = hr.right;
+    product = refl;
+    left_kinds = hl.kinds;
+    right_kinds = hr.kinds;
+    one_layer = right_alone r.rest r.strand waits hr.rests hr.right;
+    over = left_over l.rest l.strand over hl.rests;
+    waits = right_waits r.rest r.strand waits hr.rests;
+    behind = λ v e. may.behind (ends_when l.rest l.strand v over hl.rests e);
+    free = λ v e q x y t u w i k. waiting_decided setting l.strand r.strand v e q x y t u w i k ∙ may.free (ends_when l.rest l.strand v over hl.rests e) (stalls_when r.rest r.strand waits hr.rests q);
+  }
+
+  pub pair_of : (l r : PlainPiece) (s t : PlainStrand) (start : Start) → s ≡ l.strand → t ≡ r.strand → start ≡ l.strand.start → Lies l → Lies r → is_over l.rest ≡ true → is_waiting r.rest ≡ true → MayPair setting l r → IsPairFrom setting start s t
+  pair_of l r s t start a b c hl hr over waits may = record {
+    pair = subst (λ s. IsPair setting s t) (sym a) (subst (IsPair setting l.strand) (sym b) (pair_there l r hl hr over waits may));
+    begins = c ∙ ap (λ (s : PlainStrand). s.start) (sym a);
+  }

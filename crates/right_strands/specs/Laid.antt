@@ -1,0 +1,94 @@
+-- Strands that are laid down, and the answer of the last one.
+use Rattle.std.specs.Prelude.{◌≡◌, ℕ, Bool, true, false, List, [], map, length}
+use Rattle.monoid_laws.specs.Kinds.{meaning}
+use Rattle.meaning.specs.Elision.{Answer, Finished, Faulted, from_scratch}
+use Rattle.meaning.specs.Records.{Kept, needed, executed, reused}
+use Rattle.meaning.specs.SmallStep.{same_name}
+use Rattle.trail_theory.specs.Order.{Every}
+use Rattle.trail_theory.specs.OpenLayers.{IsNewRecord}
+use Rattle.linked_program.specs.declared.code.Code.{Code}
+use Rattle.rerun_records.specs.Record.{PlainRecord}
+use Rattle.rerun_records.specs.Named.{AreRecords}
+use Rattle.positions.specs.declared.phase.Paused.{Paused}
+use Rattle.positions.specs.declared.phase.Paused.TheVariants as paused
+use Rattle.positions.specs.Setting.{Setting}
+use Rattle.positions.specs.Advance.{pause_of}
+use Rattle.positions.specs.Simulation.{place_of}
+use Rattle.positions.specs.Strands.{PlainStrand}
+use Rattle.positions.specs.Stands.{named_fault}
+use Rattle.positions.specs.Moves.{lowest_alone}
+use Rattle.frames.specs.declared.answer.RunAnswer.{RunAnswer}
+use Rattle.frames.specs.declared.answer.RunAnswer.TheVariants as answer
+use Rattle.right_strands.specs.declared.laid.Rest.{Rest}
+use Rattle.right_strands.specs.declared.laid.Rest.TheVariants as rest
+
+-- a strand that is laid down, and as what
+pub record PlainPiece : Type 0 where
+  pub strand : PlainStrand
+  pub rest : Rest
+
+-- the point at which it is
+abbrev pub paused_as : Rest → Paused
+paused_as rest.Ended = paused.Returned
+paused_as rest.Stalled = paused.AtSync
+paused_as rest.Faulted = paused.Faulted
+paused_as rest.Finished = paused.Finished
+
+-- a strand with a fault keeps its lowest layer alone
+abbrev pub HasLayersOf : Rest → PlainStrand → Type 0
+HasLayersOf rest.Faulted s = s.lower ≡ []
+HasLayersOf _ s = Unit {0}
+
+pub record IsAtRest (codes : List Code) (r : Rest) (s : PlainStrand) : Type 0 where
+  pub at : pause_of codes s ≡ paused_as r
+  pub layers : HasLayersOf r s
+
+-- what is laid down of a strand
+abbrev pub laid_as : Rest → PlainStrand → PlainStrand
+laid_as rest.Faulted s = lowest_alone s
+laid_as _ s = s
+
+-- ---- the last piece
+
+abbrev pub ends_as : Rest → PlainStrand → Bool
+ends_as rest.Finished s = true
+ends_as rest.Faulted s = same_name (place_of s.start s.path) []
+ends_as _ s = false
+
+-- main is over, or the run's first fault is there
+abbrev pub ends_run : PlainPiece → Bool
+ends_run p = ends_as p.rest p.strand
+
+-- memory was refused, or it is the answer of a run that is over
+abbrev pub IsGiven : RunAnswer → Type 0
+IsGiven answer.Unfinished = ⊥
+IsGiven answer.NoKit = ⊥
+IsGiven _ = Unit {0}
+
+module _ (setting : Setting) where
+  -- the answer that the elision gives, want of memory aside
+  abbrev pub IsElision : Answer → RunAnswer → Type 0
+  IsElision a answer.Unfinished = Unit {0}
+  IsElision a answer.NoMemory = Unit {0}
+  IsElision a answer.NoKit = Unit {0}
+  IsElision (Finished v worths) (answer.Finished w got n m k) = (w ≡ v) × (map meaning got.items ≡ worths)
+  IsElision (Finished v worths) (answer.Fault f) = ⊥
+  IsElision (Faulted k) (answer.Finished w got n m j) = ⊥
+  IsElision (Faulted k) (answer.Fault f) = named_fault setting f ≡ k
+
+  -- the answer of the elision from scratch
+  abbrev pub AnswersElision : RunAnswer → Type 0
+  AnswersElision given = IsElision (from_scratch setting.program.tree setting.tables) given
+
+  -- the needed instances were counted: as executed those that no valid record answers, as reused the others; and the new records are sound and hold now
+  pub record HasCounted (executed_ones reused_ones : ℕ) (made : List PlainRecord) : Type 0 where
+    pub executed_are : executed_ones ≡ length (executed setting.program.tree (needed setting.program setting.tables setting.memory.records))
+    pub reused_are : reused_ones ≡ length (reused (needed setting.program setting.tables setting.memory.records))
+    pub kept : List Kept
+    pub stand : AreRecords setting.program.tree setting.names setting.kinds kept made
+    pub news : Every (IsNewRecord setting.program setting.tables) kept
+
+  -- where the run has finished
+  abbrev pub HasRecorded : RunAnswer → List PlainRecord → Type 0
+  HasRecorded (answer.Finished v values n m k) made = HasCounted n m made
+  HasRecorded _ made = Unit {0}

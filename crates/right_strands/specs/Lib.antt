@@ -1,0 +1,5 @@
+pub mod Picked
+pub mod Rightness
+pub mod Laid
+pub mod Pairs
+pub mod Waiting

@@ -1,0 +1,74 @@
+-- Two neighbours that may become one strand.
+use Rattle.std.specs.Prelude.{◌≡◌, ◌⊎◌, ℤ, Bool, true, false, List, []}
+use Rattle.monoid_laws.specs.Worth.{Worth}
+use Rattle.monoid_laws.specs.Kinds.{operate_all}
+use Rattle.meaning.specs.SmallStep.{same_name}
+use Rattle.meaning.specs.LayeredStrand as definitions
+use Rattle.meaning.specs.LayeredStrand.{LayeredStrand}
+use Rattle.meaning.specs.Tallies.{Tally}
+use Rattle.meaning.specs.Schedules.{may_join}
+use Rattle.positions.specs.declared.start.Start.{Start}
+use Rattle.positions.specs.declared.phase.Fault.{Fault}
+use Rattle.positions.specs.declared.phase.Paused.TheVariants as paused
+use Rattle.positions.specs.declared.phase.Phase.TheVariants.{Leaving, Broken}
+use Rattle.positions.specs.Setting.{Setting}
+use Rattle.positions.specs.Advance.{pause_of}
+use Rattle.positions.specs.Simulation.{place_of}
+use Rattle.positions.specs.Strands.{PlainStrand}
+use Rattle.positions.specs.Stands.{StandsFor}
+use Rattle.frames.specs.Joins.{with_worths}
+use Rattle.right_strands.specs.Rightness.{IsRightStrand}
+use Rattle.right_strands.specs.declared.laid.Rest.{Rest}
+use Rattle.right_strands.specs.declared.laid.Rest.TheVariants as rest
+use Rattle.right_strands.specs.Laid.{PlainPiece}
+use Rattle.right_strands.specs.Waiting.{leaves_none}
+
+-- two strands that may become one
+pub record PlainPair : Type 0 where
+  pub left : PlainStrand
+  pub right : PlainStrand
+
+abbrev pub is_over : Rest → Bool
+is_over rest.Ended = true
+is_over rest.Faulted = true
+is_over _ = false
+
+abbrev pub is_waiting : Rest → Bool
+is_waiting rest.Stalled = true
+is_waiting rest.Faulted = true
+is_waiting _ = false
+
+abbrev pub StopsBroken : PlainStrand → Type 0
+StopsBroken s = (f : Fault) × (s.phase ≡ Broken f)
+
+module _ (setting : Setting) where
+  -- joined, no name of the right one waits for a child that ends after the left one's place
+  abbrev pub LeavesNoneWaiting : PlainStrand → PlainStrand → Type 0
+  LeavesNoneWaiting l r =
+      (x y : LayeredStrand) (t u : Tally) (v : ℤ) → StandsFor setting l x t → StandsFor setting r y u
+      → may_join setting.program setting.tables setting.memory x (definitions.joined setting.program.tree x v y) ≡ true
+
+  -- where the left one has ended, it names the child behind which the right one begins, and leaves no name of it waiting
+  pub record MayPair (l r : PlainPiece) : Type 0 where
+    pub behind : l.rest ≡ rest.Ended → same_name (place_of r.strand.start r.strand.path) l.strand.path ≡ true
+    pub free : l.rest ≡ rest.Ended → r.rest ≡ rest.Stalled → leaves_none setting l.strand r.strand ≡ true
+
+  -- but for the reducers' values, of which only the products are claimed, both are right; the left one is over or has a fault, the right one waits at a sync or has a fault, with one layer; and where no fault is there, the left one is over with the child behind which the right one begins
+  pub record IsPair (l r : PlainStrand) : Type 0 where
+    pub left_worths : List Worth
+    pub right_worths : List Worth
+    pub left : IsRightStrand setting (with_worths left_worths l)
+    pub right : IsRightStrand setting (with_worths right_worths r)
+    pub product : operate_all setting.kinds l.layer.worths r.layer.worths ≡ operate_all setting.kinds left_worths right_worths
+    pub left_kinds : l.layer.kinds ≡ setting.kinds
+    pub right_kinds : r.layer.kinds ≡ setting.kinds
+    pub one_layer : r.lower ≡ []
+    pub over : (pause_of setting.codes l ≡ paused.Returned) ⊎ StopsBroken l
+    pub waits : (pause_of setting.codes r ≡ paused.AtSync) ⊎ StopsBroken r
+    pub behind : (v : ℤ) → l.phase ≡ Leaving v → same_name (place_of r.start r.path) l.path ≡ true
+    pub free : (v : ℤ) → l.phase ≡ Leaving v → pause_of setting.codes r ≡ paused.AtSync → LeavesNoneWaiting (with_worths left_worths l) (with_worths right_worths r)
+
+  -- what the type of a pair keeps
+  pub record IsPairFrom (start : Start) (l r : PlainStrand) : Type 0 where
+    pub pair : IsPair l r
+    pub begins : start ≡ l.start

@@ -1,0 +1,26 @@
+-- The run that strands are of, as it is picked.
+use Rattle.std.specs.Prelude.{◌≡◌, List, [], All}
+use Rattle.monoid_laws.specs.Kinds.{IsMonoid}
+use Rattle.meaning.specs.Schedules.{recording_from}
+use Rattle.trail_theory.specs.OpenLayers.{IsNumbered}
+use Rattle.run_theory.specs.Theorems.{IsReady}
+use Rattle.linked_program.specs.TableNames.{columned_of}
+use Rattle.linked_program.specs.Checked.{PlainChecked, nothing}
+use Rattle.input_tables.specs.Edited.{Edited}
+use Rattle.rerun_records.specs.Record.{PlainRecord}
+use Rattle.rerun_records.specs.Named.{AreKept, HaveValues}
+use Rattle.positions.specs.Setting.{Setting, setting_with}
+
+-- a run that no call has picked
+abbrev pub unpicked : Setting
+unpicked = record { names = []; program = nothing; codes = []; kinds = []; tables = []; records = []; memory = recording_from [] }
+
+-- the program, the tables and the records are the run's; program and tables were checked against each other, and all are what the theory asks for
+pub record IsSet (setting : Setting) (p : PlainChecked) (e : Edited) (r : List PlainRecord) : Type 0 where
+  pub same : setting_with p e.tables setting.memory.records r ≡ setting
+  pub names : p.tables ≡ columned_of e.tables
+  pub kept : AreKept p setting.memory.records r
+  pub values : HaveValues p.kinds r
+  pub ready : IsReady setting.program setting.tables setting.memory
+  pub numbered : IsNumbered setting.program
+  pub monoids : All IsMonoid setting.kinds

@@ -1,0 +1,194 @@
+//! Strands that are laid down.
+ghost use Rattle.std.specs.Prelude.{◌≡◌, ◌⊎◌, ◌+◌, ◌≤◌, true, false, suc, List, [], length, IfOk, IfErr, OnOk};
+ghost use Rattle.monoid_laws.specs.declared.Kind.{Kind};
+ghost use Rattle.meaning.specs.SmallStep.{same_name};
+ghost use Rattle.positions.specs.Advance.{pause_of};
+ghost use Rattle.positions.specs.Moves.{lowest_alone};
+ghost use Rattle.positions.specs.Simulation.{place_of};
+ghost use Rattle.right_strands.specs.Rightness.{IsRightStrand, PlainRight};
+ghost use Rattle.right_strands.specs.Laid.{IsAtRest, laid_as, AnswersElision, IsGiven, HasRecorded, ends_run};
+
+use crate::run::{Run, Scene};
+use crate::strand::RightStrand;
+use frames::answer::RunAnswer;
+use frames::strand::Strand;
+use positions::phase::Paused;
+use positions::start::Start;
+use rerun_records::record::Record;
+use std::alloc::{AllocError, Global};
+use std::marker::Model;
+use view_pool::{Kit, KitSource, View};
+
+/// As what a strand is laid down.
+#[derive(Clone, Copy, Debug, PartialEq, Eq)]
+pub enum Rest {
+    Ended,
+    Stalled,
+    Faulted,
+    Finished,
+}
+
+/// A strand that is right for the run J, and at the point as which it is laid down; one with a fault has one layer.
+#[derive(Drop)]
+pub struct Piece<J: Run, V: View = Box<dyn View>> {
+    pub(crate) strand: RightStrand<J, V>,
+    pub(crate) rest: Rest,
+}
+
+impl<J: Run, V: View> Model for Piece<J, V> {
+    ghost use Rattle.std.specs.Prelude.{◌≡◌, false};
+    ghost use Rattle.right_strands.specs.Laid.{PlainPiece, IsAtRest};
+
+    ghost Value = { PlainPiece };
+
+    ghost view = { λ p. record { strand = p.strand.strand; rest = p.rest } };
+
+    ghost invariant = { λ p. (p.strand.failed ≡ false) × IsAtRest J.setting.codes p.rest p.strand.strand };
+}
+
+impl<J: Run, V: View> Piece<J, V> {
+    /// A strand that its holder has nothing to do with; another is handed back, and one that has failed. The kits of the upper
+    /// layers of one with a fault go home.
+    pub fn lay<K: KitSource<Kit<V>>>(
+        scene: &Scene<'_, J>,
+        strand: RightStrand<J, V>,
+        kits: &mut K,
+    ) -> Result<Piece<J, V>, RightStrand<J, V>>
+        requires fits { K.fits J.setting.kinds kits.old }
+        ensures laid { IfOk result (λ p. p.strand ≡ laid_as p.rest strand.strand) }
+        ensures back { IfErr result (λ s. s ≡ strand) }
+        ensures fitting { (k : List Kind) → K.fits k kits.old → K.fits k kits.new }
+        ensures kept { (k : List Kind) → K.gives k kits.new → K.gives k kits.old ⊎ J.setting.kinds ≡ k }
+        ensures home { length strand.strand.lower + K.free kits.old ≤ K.total kits.old → IfOk result (λ p. K.free kits.new + length p.strand.lower ≡ length strand.strand.lower + K.free kits.old) }
+        ensures away { IfErr result (λ s. K.free kits.new ≡ K.free kits.old) }
+        ensures total { K.total kits.new ≡ K.total kits.old }
+    {
+        if strand.has_failed() {
+            return Err(strand);
+        }
+        match strand.pause(scene) {
+            Paused::Returned => Ok(Piece::at(strand, Rest::Ended)),
+            Paused::AtSync => Ok(Piece::at(strand, Rest::Stalled)),
+            Paused::Finished => Ok(Piece::at(strand, Rest::Finished)),
+            Paused::Faulted => Ok(Piece::faulted(strand, kits)),
+            _ => Err(strand),
+        }
+    }
+
+    /// The strand laid down at that point.
+    fn at(strand: RightStrand<J, V>, rest: Rest) -> Piece<J, V>
+        requires going { strand.failed ≡ false }
+        requires rests { IsAtRest J.setting.codes rest strand.strand }
+        ensures laid { result ≡ record { strand = strand.strand; rest = rest } }
+    {
+        Piece { strand, rest }
+    }
+
+    /// The strand with a fault, laid down with its lowest layer alone.
+    fn faulted<K: KitSource<Kit<V>>>(mut strand: RightStrand<J, V>, kits: &mut K) -> Piece<J, V>
+        requires going { strand.failed ≡ false }
+        requires faulted { pause_of J.setting.codes strand.strand ≡ Paused.Faulted }
+        requires fits { K.fits J.setting.kinds kits.old }
+        ensures laid { result ≡ record { strand = lowest_alone strand.strand; rest = Rest.Faulted } }
+        ensures fitting { (k : List Kind) → K.fits k kits.old → K.fits k kits.new }
+        ensures kept { (k : List Kind) → K.gives k kits.new → K.gives k kits.old ⊎ J.setting.kinds ≡ k }
+        ensures given { length strand.strand.lower + K.free kits.old ≤ K.total kits.old → K.free kits.new ≡ length strand.strand.lower + K.free kits.old }
+        ensures total { K.total kits.new ≡ K.total kits.old }
+    {
+        strand.close_upper(kits);
+        Piece {
+            strand,
+            rest: Rest::Faulted,
+        }
+    }
+
+    /// As what it is laid down.
+    pub fn rest(&self) -> Rest
+        ensures rest { result ≡ self.now.rest }
+    {
+        self.rest
+    }
+
+    /// What the type keeps.
+    pub fn kept(&self)
+        ensures right { IsRightStrand J.setting self.now.strand }
+        ensures rests { IsAtRest J.setting.codes self.now.rest self.now.strand }
+    {
+        self.strand.kept();
+    }
+
+    /// Where the strand begins.
+    pub fn start(&self) -> Start
+        ensures start { result ≡ self.now.strand.start }
+    {
+        self.strand.start()
+    }
+
+    /// The whole name of the topmost instance.
+    pub fn name(&self) -> &[usize]
+        ensures name { result.now ≡ self.now.strand.path }
+    {
+        self.strand.name()
+    }
+
+    /// Whether the strand begins behind the child of that name; the first one does behind the empty name.
+    pub fn is_behind(&self, name: &[usize]) -> bool
+        ensures behind { result ≡ same_name (place_of self.now.strand.start self.now.strand.path) name.now }
+    {
+        self.strand.is_behind(name)
+    }
+
+    /// The name of the child behind which the strand begins; that of the first strand is empty. Want of memory is the only
+    /// error.
+    pub fn begins_behind(&self, alloc: Global) -> Result<Vec<usize>, AllocError>
+        ensures place { IfOk result (λ place. place.items ≡ place_of self.now.strand.start self.now.strand.path) }
+    {
+        self.strand.begins_behind(alloc)
+    }
+
+    /// Whether the run has come to its end with this strand, where no other is left.
+    pub fn ends_run(&self) -> bool
+        ensures ends { result ≡ ends_run self.now }
+    {
+        match self.rest {
+            Rest::Finished => true,
+            Rest::Faulted => self.strand.is_behind(&[]),
+            Rest::Ended | Rest::Stalled => false,
+        }
+    }
+
+    /// The answer of the piece that ends the run, which is the elision's, and its new records; every kit goes home where there is
+    /// room for them all.
+    pub fn end<K: KitSource<Kit<V>>>(
+        self,
+        scene: &Scene<'_, J>,
+        alloc: Global,
+        kits: &mut K,
+    ) -> (RunAnswer, Vec<Record>)
+        requires ends { ends_run self ≡ true }
+        requires fits { K.fits J.setting.kinds kits.old }
+        ensures elision { AnswersElision J.setting result.0 }
+        ensures given { IsGiven result.0 }
+        ensures recorded { HasRecorded J.setting result.0 result.1.items }
+        ensures records { result.1.items ≡ self.strand.tally.made }
+        ensures fitting { (k : List Kind) → K.fits k kits.old → K.fits k kits.new }
+        ensures kept { (k : List Kind) → K.gives k kits.new → K.gives k kits.old ⊎ J.setting.kinds ≡ k }
+        ensures home { suc (length self.strand.lower) + K.free kits.old ≤ K.total kits.old → K.free kits.new ≡ suc (length self.strand.lower) + K.free kits.old }
+        ensures total { K.total kits.new ≡ K.total kits.old }
+    {
+        scene.kept();
+        let strand = self.into_strand();
+        strand.end(alloc, kits)
+    }
+
+    /// The strand by itself.
+    pub fn into_strand(self) -> Strand<V>
+        ensures strand { result ≡ self.strand }
+        ensures right { IsRightStrand J.setting self.strand }
+        ensures rests { IsAtRest J.setting.codes self.rest self.strand }
+        ensures kinds { self.strand.layer.kinds ≡ J.setting.kinds }
+    {
+        let Piece { strand, rest: _ } = self;
+        strand.into_strand()
+    }
+}

@@ -1,0 +1,107 @@
+//! Neighbours that become one strand.
+ghost use Rattle.std.specs.Prelude.{◌≡◌, true, false, IfOk, IfErr};
+ghost use Rattle.positions.specs.Moves.{joined};
+ghost use Rattle.right_strands.specs.Rightness.{PlainRight};
+ghost use Rattle.right_strands.specs.Pairs.{MayPair, is_over, is_waiting};
+
+use crate::laid::{Piece, Rest};
+use crate::run::{Run, Scene};
+use crate::strand::RightStrand;
+use frames::strand::Strand;
+use positions::start::Start;
+use std::alloc::AllocError;
+use std::marker::{Model, PhantomData};
+use view_pool::{Kit, View};
+
+/// Two neighbours that may become one, and where the left one begins. Where a joining was refused for memory some reducers have
+/// moved from the right one to the left.
+#[derive(Drop)]
+pub struct Pair<J: Run, V: View = Box<dyn View>> {
+    left: Strand<V>,
+    right: Strand<V>,
+    start: Start,
+    of: PhantomData<J>,
+}
+
+impl<J: Run, V: View> Model for Pair<J, V> {
+    ghost use Rattle.right_strands.specs.Pairs.{PlainPair, IsPairFrom};
+
+    ghost Value = { PlainPair };
+
+    ghost view = { λ p. record { left = p.left; right = p.right } };
+
+    ghost invariant = { λ p. IsPairFrom J.setting p.start p.left p.right };
+}
+
+impl<J: Run, V: View> Piece<J, V> {
+    /// Whether the strand may be the left one of two.
+    pub fn is_over(&self) -> bool
+        ensures over { result ≡ is_over self.now.rest }
+    {
+        matches!(self.rest, Rest::Ended | Rest::Faulted)
+    }
+
+    /// Whether the strand may be the right one of two.
+    pub fn is_waiting(&self) -> bool
+        ensures waits { result ≡ is_waiting self.now.rest }
+    {
+        matches!(self.rest, Rest::Stalled | Rest::Faulted)
+    }
+}
+
+impl<J: Run, V: View> Pair<J, V> {
+    /// Two pieces that may become one strand.
+    pub fn new(left: Piece<J, V>, right: Piece<J, V>) -> Pair<J, V>
+        requires over { is_over left.rest ≡ true }
+        requires waits { is_waiting right.rest ≡ true }
+        requires may { MayPair J.setting left right }
+        ensures pair { result ≡ record { left = left.strand; right = right.strand } }
+    {
+        let start = left.start();
+        let left = left.into_strand();
+        let right = right.into_strand();
+        Pair {
+            left,
+            right,
+            start,
+            of: PhantomData,
+        }
+    }
+
+    /// The right strand of both, and the kit of the right one; the pair is handed back where memory is refused.
+    pub fn join(
+        self,
+        scene: &Scene<'_, J>,
+    ) -> Result<(RightStrand<J, V>, Kit<V>), (AllocError, Pair<J, V>)>
+        ensures joined { IfOk result (λ r. r.0 ≡ record { strand = joined self.left self.right; failed = false }) }
+        ensures kit { IfOk result (λ r. r.1 ≡ J.setting.kinds) }
+    {
+        scene.kept();
+        let Pair {
+            mut left,
+            right,
+            start,
+            of: _,
+        } = self;
+        match left.join(right) {
+            Ok(kit) => Ok((
+                RightStrand {
+                    strand: left,
+                    start,
+                    failed: false,
+                    of: PhantomData,
+                },
+                kit,
+            )),
+            Err((error, right)) => Err((
+                error,
+                Pair {
+                    left,
+                    right,
+                    start,
+                    of: PhantomData,
+                },
+            )),
+        }
+    }
+}

@@ -1,0 +1,96 @@
+//! Which run strands are of: a type parameter stands for it.
+ghost use Rattle.std.specs.Prelude.{◌≡◌, List, All};
+ghost use Rattle.monoid_laws.specs.Kinds.{IsMonoid};
+ghost use Rattle.meaning.specs.Records.{IsSound};
+ghost use Rattle.trail_theory.specs.Order.{Every};
+ghost use Rattle.trail_theory.specs.OpenLayers.{IsNumbered};
+ghost use Rattle.run_theory.specs.Theorems.{IsReady};
+ghost use Rattle.linked_program.specs.Checked.{IsChecked, revised_of};
+ghost use Rattle.linked_program.specs.TableNames.{columned_of};
+ghost use Rattle.rerun_records.specs.Named.{AreKept, HaveValues};
+ghost use Rattle.positions.specs.Setting.{setting_with};
+ghost use Rattle.meaning.specs.Records.{Kept};
+ghost use Rattle.meaning.specs.Schedules.{recording_from};
+
+use input_tables::Tables;
+use linked_program::checked::Checked;
+use rerun_records::records::Records;
+use rules_theory::{checked_programs_are_numbered, checked_programs_keep_the_rules};
+use std::marker::{Brand, Model, PhantomData};
+
+/// Which program runs on which tables, with which records. Each call of a program picks it.
+pub trait Run {
+    ghost use Rattle.positions.specs.Setting.{Setting};
+
+    ghost setting: { Setting };
+}
+
+impl Run for Brand {
+    ghost use Rattle.right_strands.specs.Picked.{unpicked};
+
+    ghost setting = { unpicked };
+}
+
+/// The program, the tables and the records of the run. Contracts see nothing of it but that they are J's.
+#[derive(Drop)]
+pub struct Scene<'a, J: Run> {
+    pub(crate) program: &'a Checked,
+    pub(crate) tables: &'a Tables,
+    pub(crate) records: &'a Records,
+    pub(crate) of: PhantomData<J>,
+}
+
+impl<'a, J: Run> Model for Scene<'a, J> {
+    ghost use Rattle.std.specs.Prelude.{ℕ};
+    ghost use Rattle.right_strands.specs.Picked.{IsSet};
+
+    ghost Value = { ℕ };
+
+    ghost view = { λ s. 0 };
+
+    ghost invariant = { λ s. IsSet J.setting s.program.now s.tables.now s.records.now };
+}
+
+impl<'a, J: Run> Scene<'a, J> {
+    /// What the type keeps.
+    pub fn kept(&self)
+        ensures ready { IsReady J.setting.program J.setting.tables J.setting.memory }
+        ensures numbered { IsNumbered J.setting.program }
+        ensures monoids { All IsMonoid J.setting.kinds }
+    {
+        let _ = &self.program;
+    }
+
+    /// The scene of the run J, whose records by name are sound and are those that are there.
+    pub fn new(program: &'a Checked, tables: &'a Tables, records: &'a Records) -> Scene<'a, J>
+        requires same { setting_with program.now tables.now.tables J.setting.memory.records records.now ≡ J.setting }
+        requires names { program.now.tables ≡ columned_of tables.now.tables }
+        requires kept { AreKept program.now J.setting.memory.records records.now }
+        requires sound { Every (IsSound (revised_of program.now)) J.setting.memory.records }
+        requires values { HaveValues program.now.kinds records.now }
+    {
+        are_ready(program, tables);
+        Scene {
+            program,
+            tables,
+            records,
+            of: PhantomData,
+        }
+    }
+}
+
+/// What the theory asks for of a checked program and its tables.
+fn are_ready(program: &Checked, tables: &Tables)
+    ensures ready { (kept : List Kept) → Every (IsSound (revised_of program.now)) kept → IsReady (revised_of program.now) tables.now.tables (recording_from kept) }
+    ensures numbered { IsNumbered (revised_of program.now) }
+    ensures checked { IsChecked program.now }
+    ensures monoids { All IsMonoid program.now.kinds }
+{
+    program.clean();
+    program.linked();
+    program.revised();
+    program.fitting();
+    tables.cells_fit();
+    checked_programs_keep_the_rules();
+    checked_programs_are_numbered();
+}

@@ -1,0 +1,288 @@
+//! Strands that are right for a run.
+ghost use Rattle.std.specs.Prelude.{◌≡◌, ◌∷◌, ◌++◌, ◌+◌, ◌≤◌, ◌⊎◌, [], suc, false, true, ℕ, List, length, IfOk, IfErr, OnOk, OnErr};
+ghost use Rattle.monoid_laws.specs.declared.Kind.{Kind};
+ghost use Rattle.meaning.specs.SmallStep.{same_name};
+ghost use Rattle.positions.specs.Advance.{advanced, pause_of};
+ghost use Rattle.positions.specs.Moves.{inlined, detached, attached, resumed, stolen, lowest_alone};
+ghost use Rattle.positions.specs.Simulation.{place_of};
+ghost use Rattle.frames.specs.Joins.{HasFault};
+ghost use Rattle.frames.specs.Steps.{GivesNone, HoldsBy};
+ghost use Rattle.right_strands.specs.Rightness.{FitsHere, IsRightStrand, WasDetached};
+
+use crate::run::{Run, Scene};
+use crate::task::RightTask;
+use frames::strand::Strand;
+use positions::phase::{Paused, Phase};
+use positions::start::Start;
+use std::alloc::{AllocError, Global};
+use std::marker::{Model, PhantomData};
+use view_pool::{Kit, KitSource, View};
+
+/// A strand that is right for the run J, unless memory was refused within one of its small steps; and where it begins.
+#[derive(Drop)]
+pub struct RightStrand<J: Run, V: View = Box<dyn View>> {
+    pub(crate) strand: Strand<V>,
+    pub(crate) start: Start,
+    pub(crate) failed: bool,
+    pub(crate) of: PhantomData<J>,
+}
+
+impl<J: Run, V: View> Model for RightStrand<J, V> {
+    ghost use Rattle.right_strands.specs.Rightness.{PlainRight, IsHeld};
+
+    ghost Value = { PlainRight };
+
+    ghost view = { λ s. record { strand = s.strand; failed = s.failed } };
+
+    ghost invariant = { λ s. IsHeld J.setting s.start s.failed s.strand };
+}
+
+impl<J: Run, V: View> RightStrand<J, V> {
+    /// The strand of the run's beginning. Want of memory is the only error; it hands the kit back.
+    pub fn first(
+        alloc: Global,
+        scene: &Scene<'_, J>,
+        kit: Kit<V>,
+    ) -> Result<RightStrand<J, V>, (AllocError, Kit<V>)>
+        requires kit { kit ≡ J.setting.kinds }
+        ensures going { IfOk result (λ s. s.failed ≡ false) }
+        ensures handed_back { IfErr result (λ e. e.1 ≡ kit) }
+    {
+        match Strand::first(alloc, scene.program, kit) {
+            Ok(strand) => Ok(RightStrand {
+                strand,
+                start: Start::Root,
+                failed: false,
+                of: PhantomData,
+            }),
+            Err(refused) => Err(refused),
+        }
+    }
+
+    /// The strand of a stolen continuation. Want of memory is the only error; it hands the continuation and the kit back.
+    pub fn stolen(
+        alloc: Global,
+        scene: &Scene<'_, J>,
+        task: RightTask<J>,
+        kit: Kit<V>,
+    ) -> Result<RightStrand<J, V>, (AllocError, RightTask<J>, Kit<V>)>
+        requires kit { kit ≡ J.setting.kinds }
+        ensures stolen { IfOk result (λ s. s.strand ≡ stolen J.setting.codes kit task.task) }
+        ensures going { IfOk result (λ s. s.failed ≡ false) }
+        ensures task_back { IfErr result (λ e. e.1 ≡ task) }
+        ensures kit_back { IfErr result (λ e. e.2 ≡ kit) }
+    {
+        let RightTask { task, since, of: _ } = task;
+        let start = behind(task.place());
+        match Strand::stolen(alloc, scene.program, task, kit) {
+            Ok(strand) => Ok(RightStrand {
+                strand,
+                start,
+                failed: false,
+                of: PhantomData,
+            }),
+            Err((error, task, kit)) => Err((
+                error,
+                RightTask {
+                    task,
+                    since,
+                    of: PhantomData,
+                },
+                kit,
+            )),
+        }
+    }
+
+    /// Does one small step and answers Working, or changes nothing and answers the point at which the strand is. Where memory is
+    /// refused the strand has failed: nothing is claimed of it any more.
+    pub fn advance<K: KitSource<Kit<V>>>(
+        &mut self,
+        alloc: Global,
+        scene: &Scene<'_, J>,
+        kits: &mut K,
+    ) -> Result<Paused, AllocError>
+        requires given_kinds { (k : List Kind) → K.gives k kits.old → k ≡ J.setting.kinds }
+        requires fits { K.fits J.setting.kinds kits.old }
+        requires room { suc (length self.old.strand.lower) + K.free kits.old ≤ K.total kits.old }
+        ensures pause { IfOk result (λ paused. paused ≡ pause_of J.setting.codes self.old.strand) }
+        ensures advanced { OnOk result (HoldsBy (K.lacks kits.old) (GivesNone K.gives kits.old)
+            (λ kit. self.new.strand ≡ advanced J.setting kit self.old.strand)) }
+        ensures going { OnOk result (self.new.failed ≡ self.old.failed) }
+        ensures failed { OnErr result (self.new.failed ≡ true) }
+        ensures kits { length self.new.strand.lower + K.free kits.new ≡ length self.old.strand.lower + K.free kits.old }
+        ensures total { K.total kits.new ≡ K.total kits.old }
+        ensures fitting { (k : List Kind) → K.fits k kits.old → K.fits k kits.new }
+        ensures given_kinds { (k : List Kind) → K.gives k kits.new → k ≡ J.setting.kinds }
+    {
+        match self
+            .strand
+            .advance(alloc, scene.program, scene.tables, scene.records, kits)
+        {
+            Ok(paused) => Ok(paused),
+            Err(error) => {
+                self.failed = true;
+                Err(error)
+            }
+        }
+    }
+
+    /// The point at which the strand is, or Working where it can go on.
+    pub fn pause(&self, scene: &Scene<'_, J>) -> Paused
+        ensures pause { result ≡ pause_of J.setting.codes self.now.strand }
+    {
+        self.strand.pause(scene.program)
+    }
+
+    /// What the type keeps.
+    pub fn kept(&self)
+        ensures right { self.now.failed ≡ false → IsRightStrand J.setting self.now.strand }
+        ensures kinds { self.now.strand.layer.kinds ≡ J.setting.kinds }
+    {
+        let _ = &self.strand;
+    }
+
+    /// Whether memory was refused within one of its small steps.
+    pub fn has_failed(&self) -> bool
+        ensures failed { result ≡ self.now.failed }
+    {
+        self.failed
+    }
+
+    /// At a spawn: makes the child a call.
+    pub fn inline(&mut self)
+        requires at_spawn { self.old.strand.phase ≡ Phase.AtSpawn }
+        ensures called { self.new ≡ record self.old { strand = inlined self.old.strand } }
+    {
+        self.strand.inline();
+    }
+
+    /// At a spawn: takes out the continuation, and goes on with the child alone.
+    pub fn detach(&mut self, alloc: Global) -> RightTask<J>
+        requires going { self.old.failed ≡ false }
+        requires at_spawn { self.old.strand.phase ≡ Phase.AtSpawn }
+        ensures since { result.since ≡ self.old.strand.start }
+        ensures place { result.task.place ≡ self.old.strand.path }
+        ensures child { self.new ≡ record self.old { strand = detached self.old.strand } }
+        ensures was { WasDetached J.setting result self.new.strand }
+    {
+        let since = self.start;
+        let task = self.strand.detach(alloc);
+        RightTask {
+            task,
+            since,
+            of: PhantomData,
+        }
+    }
+
+    /// Puts a continuation back that was just taken out: the child is a call.
+    pub fn attach(&mut self, task: RightTask<J>)
+        requires was { WasDetached J.setting task self.old.strand }
+        ensures called { self.new ≡ record self.old { strand = attached task.task self.old.strand } }
+    {
+        let RightTask { task, .. } = task;
+        self.strand.attach(task);
+    }
+
+    /// Whether the continuation is the one that waits for this strand's child; a strand that has failed fits none.
+    pub fn fits(&self, task: &RightTask<J>) -> bool
+        ensures fits { result ≡ true → FitsHere self.now.strand task.now }
+    {
+        !self.failed && self.is_since(task) && is_same(self.strand.name(), task.place())
+    }
+
+    /// Whether the continuation was pushed by a strand that began where this one did.
+    fn is_since(&self, task: &RightTask<J>) -> bool
+        ensures since { result ≡ true → self.now.failed ≡ false → self.now.strand.start ≡ task.now.since }
+    {
+        self.start == task.since()
+    }
+
+    /// Where the spawned child has returned: goes on with the continuation that waits for it; elsewhere nothing changes.
+    pub fn resume(&mut self, task: RightTask<J>)
+        requires fits { FitsHere self.old.strand task }
+        ensures resumed { self.new ≡ record self.old { strand = resumed task.task self.old.strand } }
+    {
+        let RightTask { task, .. } = task;
+        self.strand.resume(task);
+    }
+
+    /// A strand with a fault: keeps its lowest layer alone, and sends the other kits home, each of them where there is room for
+    /// them all. It takes no memory.
+    pub fn close_upper<K: KitSource<Kit<V>>>(&mut self, kits: &mut K)
+        requires faulted { HasFault self.old.strand.phase }
+        requires fits { K.fits J.setting.kinds kits.old }
+        ensures alone { self.new ≡ record self.old { strand = lowest_alone self.old.strand } }
+        ensures fitting { (k : List Kind) → K.fits k kits.old → K.fits k kits.new }
+        ensures kept { (k : List Kind) → K.gives k kits.new → K.gives k kits.old ⊎ J.setting.kinds ≡ k }
+        ensures given { length self.old.strand.lower + K.free kits.old ≤ K.total kits.old → K.free kits.new ≡ length self.old.strand.lower + K.free kits.old }
+        ensures total { K.total kits.new ≡ K.total kits.old }
+    {
+        self.strand.close_upper(kits);
+    }
+
+    /// What the topmost instance does next.
+    pub fn phase(&self) -> Phase
+        ensures phase { result ≡ self.now.strand.phase }
+    {
+        self.strand.phase()
+    }
+
+    /// Where the strand begins.
+    pub fn start(&self) -> Start
+        ensures start { self.now.failed ≡ false → result ≡ self.now.strand.start }
+    {
+        self.start
+    }
+
+    /// The whole name of the topmost instance.
+    pub fn name(&self) -> &[usize]
+        ensures name { result.now ≡ self.now.strand.path }
+    {
+        self.strand.name()
+    }
+
+    /// Whether the strand begins behind the child of that name; the first one does behind the empty name.
+    pub fn is_behind(&self, name: &[usize]) -> bool
+        ensures behind { result ≡ same_name (place_of self.now.strand.start self.now.strand.path) name.now }
+    {
+        self.strand.is_behind(name)
+    }
+
+    /// The name of the child behind which the strand begins; that of the first strand is empty. Want of memory is the only
+    /// error.
+    pub fn begins_behind(&self, alloc: Global) -> Result<Vec<usize>, AllocError>
+        ensures place { IfOk result (λ place. place.items ≡ place_of self.now.strand.start self.now.strand.path) }
+    {
+        self.strand.begins_behind(alloc)
+    }
+
+    /// The strand by itself.
+    pub fn into_strand(self) -> Strand<V>
+        ensures strand { result ≡ self.strand }
+        ensures right { self.failed ≡ false → IsRightStrand J.setting self.strand }
+        ensures kinds { self.strand.layer.kinds ≡ J.setting.kinds }
+    {
+        let RightStrand { strand, .. } = self;
+        strand
+    }
+}
+
+/// Where a strand begins whose continuation waits for the child of that name.
+fn behind(place: &[usize]) -> Start
+    ensures behind { (front : List ℕ) (child : ℕ) → place.now ≡ front ++ child ∷ [] → result ≡ Start.Behind (length front) child }
+{
+    match place.split_last() {
+        None => Start::Root,
+        Some((child, front)) => Start::Behind {
+            depth: front.len(),
+            child: *child,
+        },
+    }
+}
+
+/// Whether two names are the same.
+fn is_same(left: &[usize], right: &[usize]) -> bool
+    ensures same { result ≡ true → left.now ≡ right.now }
+{
+    left == right
+}
