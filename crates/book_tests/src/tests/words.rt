@@ -1,0 +1,91 @@
+//! Histories as words of four letters at most, and lists of strands as text.
+
+use numbered_runs::step::{BookStep, Place, State, StrandLine};
+use std::alloc::{AllocError, Global};
+use std::fmt::Write;
+use std::process::Abort;
+use sync_fold::replay;
+
+/// The number of a digit.
+pub fn digit(byte: u8) -> usize {
+    usize::from(byte.wrapping_sub(b'0'))
+}
+
+/// A place of one number, or `r` for the first strand's.
+pub fn place(rt: &impl Abort, alloc: Global, byte: u8) -> Place {
+    let mut place = Vec::new(alloc);
+    if byte != b'r' {
+        place.push(digit(byte)).expect(rt, "memory");
+    }
+    place
+}
+
+/// The step that a word names; none where it names none.
+fn step(rt: &impl Abort, alloc: Global, word: &[u8]) -> Option<BookStep> {
+    match word {
+        [b'S', victim, new, thief] => {
+            let victim = place(rt, alloc, *victim);
+            let new = place(rt, alloc, *new);
+            Some(BookStep::Split(victim, new, digit(*thief)))
+        }
+        [b'E', at] => Some(BookStep::End(place(rt, alloc, *at))),
+        [b'L', at] => Some(BookStep::Stall(place(rt, alloc, *at))),
+        [b'X', at] => Some(BookStep::Fault(place(rt, alloc, *at))),
+        [b'Z', at] => Some(BookStep::Finish(place(rt, alloc, *at))),
+        [b'F', left, right, worker] => {
+            let left = place(rt, alloc, *left);
+            let right = place(rt, alloc, *right);
+            Some(BookStep::Fold(left, right, digit(*worker)))
+        }
+        _ => None,
+    }
+}
+
+fn steps(rt: &impl Abort, alloc: Global, line: &str) -> Vec<BookStep> {
+    let mut steps = Vec::new(alloc);
+    for word in line.split_ascii_whitespace() {
+        let step = step(rt, alloc, word.as_bytes()).expect(rt, "a step");
+        steps.push(step).expect(rt, "memory");
+    }
+    steps
+}
+
+fn push_state(text: &mut String, state: State) -> Result<(), AllocError> {
+    match state {
+        State::Held(worker) => write!(text, " held by {worker};"),
+        State::Ended => write!(text, " ended;"),
+        State::Stalled => write!(text, " stalled;"),
+        State::Faulted => write!(text, " faulted;"),
+        State::Finished => write!(text, " finished;"),
+    }
+}
+
+fn push_line(text: &mut String, line: &StrandLine) -> Result<(), AllocError> {
+    match line.place.as_slice() {
+        [] => write!(text, "r")?,
+        [number, ..] => write!(text, "{number}")?,
+    }
+    push_state(text, line.state)
+}
+
+/// A list as text.
+pub fn list_text(rt: &impl Abort, alloc: Global, lines: &[StrandLine]) -> String {
+    let mut text = String::new(alloc);
+    for line in lines.iter() {
+        push_line(&mut text, line).expect(rt, "memory");
+    }
+    text
+}
+
+/// The list that a history leaves, or why it leaves none.
+pub fn replayed_text(rt: &impl Abort, alloc: Global, steps: &[BookStep]) -> String {
+    match replay(alloc, steps) {
+        Ok(lines) => list_text(rt, alloc, &lines),
+        Err(error) => format!(in alloc; "{error}").expect(rt, "memory"),
+    }
+}
+
+/// The same of a history of words.
+pub fn replayed(rt: &impl Abort, alloc: Global, line: &str) -> String {
+    replayed_text(rt, alloc, &steps(rt, alloc, line))
+}

@@ -1,0 +1,4 @@
+mod Lists
+mod Apart
+mod Steps
+mod Replays

@@ -1,0 +1,5 @@
+pub mod Pages
+pub mod Laying
+pub mod Steps
+pub mod Replays
+pub mod Books

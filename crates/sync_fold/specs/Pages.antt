@@ -1,0 +1,58 @@
+-- Lists of strands in code, as the definitions have them.
+use Rattle.std.specs.Prelude.{ℕ, suc, Bool, false, cond, not, ◌&&◌, ◌||◌, List, [], ◌∷◌, map}
+use Rattle.std.specs.Global.{Vec}
+use Rattle.std.specs.Str.{bytes_eq}
+use Rattle.meaning.specs.Every.{every}
+use Rattle.meaning.specs.Outcome.{Place}
+use Rattle.meaning.specs.Strands.{Line, done, waits}
+use Rattle.run_theory.proofs.Books.{NoneAt}
+use Rattle.numbered_runs.specs.Named.{line}
+use Rattle.numbered_runs.specs.declared.step.StrandLine.{StrandLine}
+
+-- lines of code, as the definitions have them
+abbrev pub shown : List StrandLine → List Line
+shown lines = map line lines
+
+-- vectors of places, as lists
+abbrev pub items_of : List (Vec ℕ) → List Place
+items_of vs = map (λ v. v.items) vs
+
+abbrev pub is_unused : Place → List Place → Bool
+is_unused n used = every (λ p. not (bytes_eq p n)) used
+
+-- the number of the first line of a place; that of no line where there is none
+abbrev pub position : Place → List Line → ℕ
+position p [] = 0
+position p (l ∷ ls) = cond (bytes_eq l.0 p) 0 (suc (position p ls))
+
+-- the lines without the first one of a place
+abbrev pub removes : List Line → Place → List Line
+removes [] p = []
+removes (l ∷ ls) p = cond (bytes_eq l.0 p) ls (l ∷ removes ls p)
+
+-- no two lines are at one place
+abbrev pub Apart : List Line → Type 0
+Apart [] = Unit {0}
+Apart (l ∷ ls) = NoneAt l.0 ls × Apart ls
+
+-- two lines are at these places, and may be folded
+abbrev pub is_pair : Place → Place → Line → Line → Bool
+is_pair l r (p, s) (q, t) = bytes_eq p l && bytes_eq q r && done s && waits t
+
+abbrev pub begins_pair : Place → Place → List Line → Bool
+begins_pair l r (x ∷ y ∷ rest) = is_pair l r x y
+begins_pair l r _ = false
+
+-- the right place stands directly behind the left one
+abbrev pub begins_with : Place → Place → List Line → Bool
+begins_with l r (x ∷ y ∷ rest) = bytes_eq x.0 l && bytes_eq y.0 r
+begins_with l r _ = false
+
+abbrev pub are_neighbours : Place → Place → List Line → Bool
+are_neighbours l r [] = false
+are_neighbours l r (x ∷ rest) = begins_with l r (x ∷ rest) || are_neighbours l r rest
+
+-- a strand begins at that place
+abbrev pub stands : Place → List Line → Bool
+stands p [] = false
+stands p (l ∷ ls) = bytes_eq l.0 p || stands p ls

@@ -1,0 +1,22 @@
+-- What a history leaves, or the first of its steps that isn't allowed.
+use Rattle.std.specs.Prelude.{◌≡◌, ℕ, List, ◌∷◌, take, drop, Option, Some, None}
+use Rattle.meaning.specs.Strands.{Line, BookStep, Book, stepped, replayed}
+use Rattle.sync_fold.specs.declared.error.ReplayError.{ReplayError}
+use Rattle.sync_fold.specs.declared.error.ReplayError.TheVariants as error
+
+abbrev pub lines_of : Option Book → Option (List Line)
+lines_of None = None
+lines_of (Some b) = Some b.lines
+
+-- the step of that number isn't allowed in the list that the ones before leave
+pub record RefusedAt (steps : List BookStep) (n : ℕ) : Type 0 where
+  pub book : Book
+  pub step : BookStep
+  pub later : List BookStep
+  pub before : replayed (take n steps) ≡ Some book
+  pub there : drop n steps ≡ step ∷ later
+  pub refused : stepped book step ≡ None
+
+abbrev pub Refuses : List BookStep → ReplayError → Type 0
+Refuses steps (error.BadStep n) = RefusedAt steps n
+Refuses steps error.NoMemory = Unit {0}
