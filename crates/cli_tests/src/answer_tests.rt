@@ -1,17 +1,13 @@
 // Each line of an answer, and each part of a session on its own.
-ghost use Rattle.std.specs.Prelude.{◌≡◌, All};
-ghost use Rattle.linked_program.specs.TableNames.{columned_of};
-
 use cli::beginning::begin;
-use cli::kits::pool;
+use cli::kits::kits_for;
 use cli::prepare::prepare;
-use cli::script::{Command, commands};
-use cli::session::Session;
 use cli::streams::{Failures, flush, read_all, write_whole};
 use meaning::FaultKind;
 use monoid_laws::{Kind, Val};
 use program_tree::Reducer;
-use round_driver::runs::run;
+use reuse_planner::Session;
+use round_driver::run;
 use std::alloc::{AllocError, Global};
 use std::process::Abort;
 use trace_report::amounts::merged;
@@ -25,10 +21,7 @@ use worker_core::{Fault, RunAnswer};
 const TWO_REDUCERS: &str =
     "reducer a : add; proc main() { update b 5; update a 7; return 0 - 3; } reducer b : list;";
 
-fn session(rt: &impl Abort, alloc: Global) -> Session<PlainView>
-    ensures kinds { All (λ kit. kit ≡ result.checked.kinds) result.kits.kits }
-    ensures tables { result.checked.tables ≡ columned_of result.tables.tables }
-{
+fn session(rt: &impl Abort, alloc: Global) -> Session<PlainView> {
     let make = |kind: Kind| -> Result<PlainView, AllocError> { Ok(PlainView::new(alloc, kind)) };
     begin(alloc, TWO_REDUCERS.as_bytes(), "", 1, &make).expect(rt, "a session")
 }
@@ -112,7 +105,7 @@ fn lines_of_reducers(rt: HostRuntime) {
     let session = session(&rt, rt.alloc());
     let mut text = String::new(rt.alloc());
     let values = [Val::Int(7), Val::Int(5)];
-    push_values(rt.alloc(), &mut text, session.checked.program(), &values).expect(&rt, "memory");
+    push_values(rt.alloc(), &mut text, session.checked().program(), &values).expect(&rt, "memory");
     assert_eq!(&rt; text.as_str(), "a 7\nb 5\n");
 }
 
@@ -128,18 +121,11 @@ fn lines_of_an_outcome(rt: HostRuntime) {
     push_outcome(
         rt.alloc(),
         &mut text,
-        &session.checked,
+        session.checked(),
         &RunAnswer::Fault(fault),
     )
     .expect(&rt, "memory");
     assert_eq!(&rt; text.as_str(), "fault too deep in main at 2\n");
-}
-
-#[test]
-fn commands_of_a_script(rt: HostRuntime) {
-    let found = commands(rt.alloc(), b"run\n#run\nruns\n\nrun\t").expect(&rt, "memory");
-    let wanted = [Command::Run, Command::Unknown(3), Command::Run];
-    assert_eq!(&rt; found.as_slice(), wanted.as_slice());
 }
 
 #[test]
@@ -155,24 +141,24 @@ fn a_program_and_its_tables(rt: HostRuntime) {
 }
 
 #[test]
-fn a_pool_of_kits(rt: HostRuntime) {
+fn kits_of_a_session(rt: HostRuntime) {
     let alloc = rt.alloc();
     let make = |kind: Kind| -> Result<PlainView, AllocError> { Ok(PlainView::new(alloc, kind)) };
-    let kits = pool(alloc, &[Kind::Add, Kind::List], 3, &make).expect(&rt, "memory");
-    assert_eq!(&rt; kits.free(), 3);
+    let kits = kits_for(alloc, &[Kind::Add, Kind::List], 3, &make).expect(&rt, "memory");
+    assert_eq!(&rt; kits.len(), 3);
 }
 
 #[test]
 fn a_run_gives_its_kit_back(rt: HostRuntime) {
     let mut session = session(&rt, rt.alloc());
-    match session.run(&rt, rt.alloc(), 1) {
+    match run(&rt, rt.alloc(), &mut session, 1) {
         Ok(RunAnswer::Finished { result, values, .. }) => {
             assert_eq!(&rt; result, -3);
             assert_eq!(&rt; values.len(), 2);
         }
         _ => assert!(&rt; false),
     }
-    assert_eq!(&rt; session.kits.free(), 1);
+    assert_eq!(&rt; session.kits(), (1, 1));
 }
 
 #[test]

@@ -1,6 +1,7 @@
 // The answers to edits.
+use edits::EditError;
 use linked_program::violation::Rule;
-use trace_report::edits::{EditError, push_accepted, push_edit_refusal};
+use trace_report::edits::{push_accepted, push_edit_refusal};
 
 #[test]
 fn line_of_an_accepted_edit(rt: HostRuntime) {

@@ -56,7 +56,13 @@ impl Write for Page {
 }
 
 // Whether all of these answers are written, or a beginning of them and then memory was refused.
-fn is_written(rt: &(impl Abort + Wait), alloc: Global, text: &[u8], answers: &[u8]) -> bool {
+fn is_written(
+    rt: &(impl Abort + Wait),
+    alloc: Global,
+    text: &[u8],
+    script: &[u8],
+    answers: &[u8],
+) -> bool {
     let options = Options {
         program: "p",
         tables: "t",
@@ -64,7 +70,7 @@ fn is_written(rt: &(impl Abort + Wait), alloc: Global, text: &[u8], answers: &[u
         kits: 2,
     };
     let make = |kind: Kind| -> Result<PlainView, AllocError> { Ok(PlainView::new(alloc, kind)) };
-    let mut reader = b"run\nhere\n".as_slice();
+    let mut reader = script;
     let mut page = Page {
         bytes: [0; 64],
         len: 0,
@@ -89,13 +95,20 @@ fn is_written(rt: &(impl Abort + Wait), alloc: Global, text: &[u8], answers: &[u
 #[test]
 fn of_a_report(rt: HostRuntime) {
     let answers = b"run 1\nresult 3\ntotal 12\nrefused E19 2\n";
-    assert!(&rt; is_written(&rt, rt.alloc(), FIRST, answers.as_slice()));
+    assert!(&rt; is_written(&rt, rt.alloc(), FIRST, b"run\nhere\n", answers));
 }
 
 #[test]
 fn of_a_fault(rt: HostRuntime) {
     let answers = b"run 1\nfault too deep in f at 1\nrefused E19 2\n";
-    assert!(&rt; is_written(&rt, rt.alloc(), DEEP, answers.as_slice()));
+    assert!(&rt; is_written(&rt, rt.alloc(), DEEP, b"run\nhere\n", answers));
+}
+
+#[test]
+fn of_edits(rt: HostRuntime) {
+    let script = b"define\nproc leaf(v) { return v; }\nend\nrun\nput t 1 2\n";
+    let answers = b"ok\nrun 1\nresult 3\ntotal 9\nrefused E4\n";
+    assert!(&rt; is_written(&rt, rt.alloc(), FIRST, script, answers));
 }
 
 #[test]

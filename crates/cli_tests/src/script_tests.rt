@@ -1,4 +1,5 @@
 // The lines of scripts with edits, and what each says.
+use edits::Edit;
 use script_reader::command::Command;
 use script_reader::script::commands;
 use std::alloc::{AllocError, Global};
@@ -33,12 +34,18 @@ fn push_define(text: &mut String, bytes: &[u8]) -> Result<(), AllocError> {
     }
 }
 
+fn push_edit(text: &mut String, edit: &Edit<'_>) -> Result<(), AllocError> {
+    match edit {
+        Edit::Put { table, row, values } => push_put(text, table, *row, values),
+        Edit::Delete { table, row } => writeln!(text, "del {table} {row}"),
+        Edit::Define(bytes) => push_define(text, bytes),
+    }
+}
+
 fn push_command(text: &mut String, command: &Command<'_>) -> Result<(), AllocError> {
     match command {
         Command::Run => writeln!(text, "run"),
-        Command::Put { table, row, values } => push_put(text, table, *row, values),
-        Command::Delete { table, row } => writeln!(text, "del {table} {row}"),
-        Command::Define(bytes) => push_define(text, bytes),
+        Command::Change(edit) => push_edit(text, edit),
         Command::Unknown(line) => writeln!(text, "unknown {line}"),
     }
 }
@@ -62,6 +69,12 @@ fn edits_and_runs(rt: HostRuntime) {
     let script = b"run\nput sales 2 4 7\n#put\n\n \t\nrun\n\tdel  sales\t2\nrun";
     let wanted = "run\nput sales 2 4 7\nrun\ndel sales 2\nrun\n";
     says(&rt, rt.alloc(), script, wanted);
+    says(
+        &rt,
+        rt.alloc(),
+        b"run\n#run\nruns\n\nrun\t",
+        "run\nunknown 3\nrun\n",
+    );
 }
 
 #[test]

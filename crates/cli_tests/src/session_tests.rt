@@ -1,14 +1,14 @@
 // Programs, scripts and lines, with what is written for them.
-ghost use Rattle.std.specs.Prelude.{◌≡◌, ◌<◌, All};
-ghost use Rattle.linked_program.specs.TableNames.{columned_of};
+ghost use Rattle.std.specs.Prelude.{◌<◌};
 
-use cli::beginning::begin;
+use cli::beginning::{BeginError, begin};
 use cli::prepare::{PrepareError, prepare};
-use cli::session::{Session, session_text};
+use cli::session::session_text;
 use cli::streams::{Failures, SessionError};
 use command_line::line::options;
 use command_line::options::OptionsError;
 use monoid_laws::Kind;
+use reuse_planner::Session;
 use std::alloc::{AllocError, Global};
 use std::io;
 use std::io::{ErrorKind, Read, Write};
@@ -59,26 +59,23 @@ impl Read for Broken {
     }
 }
 
-// The session of a program without tables.
-fn session(rt: &impl Abort, alloc: Global, program: &str, kits: usize) -> Session<PlainView>
-    ensures kinds { All (λ kit. kit ≡ result.checked.kinds) result.kits.kits }
-    ensures tables { result.checked.tables ≡ columned_of result.tables.tables }
-{
+// The session of a program over these tables.
+fn session(rt: &impl Abort, alloc: Global, program: &str, tables: &str) -> Session<PlainView> {
     let make = |kind: Kind| -> Result<PlainView, AllocError> { Ok(PlainView::new(alloc, kind)) };
-    begin(alloc, program.as_bytes(), "", kits, &make).expect(rt, "a session")
+    begin(alloc, program.as_bytes(), tables, 64, &make).expect(rt, "a session")
 }
 
-fn answers(
+// What a script is answered.
+fn answers_over(
     rt: &(impl Abort + Wait),
     alloc: Global,
-    program: &str,
-    script: &str,
+    session: Session<PlainView>,
+    script: &[u8],
     workers: usize,
 ) -> Vec<u8>
     requires workers { 0 < workers }
 {
-    let session = session(rt, alloc, program, 64);
-    let mut reader = script.as_bytes();
+    let mut reader = script;
     let mut written = Vec::new(alloc);
     let mut failures = Failures::none();
     session_text(
@@ -94,15 +91,27 @@ fn answers(
     written
 }
 
-// What a session of FIRST by one worker ends by.
-fn ended<R: Read, W: Write>(
+fn answers(
     rt: &(impl Abort + Wait),
     alloc: Global,
-    kits: usize,
+    program: &str,
+    script: &str,
+    workers: usize,
+) -> Vec<u8>
+    requires workers { 0 < workers }
+{
+    let session = session(rt, alloc, program, "");
+    answers_over(rt, alloc, session, script.as_bytes(), workers)
+}
+
+// What a session by one worker ends by.
+fn ended<R: Read, W: Write>(
+    rt: &impl Wait,
+    alloc: Global,
+    session: Session<PlainView>,
     reader: &mut R,
     writer: &mut W,
 ) -> Result<(), SessionError> {
-    let session = session(rt, alloc, FIRST, kits);
     let mut failures = Failures::none();
     session_text(rt, alloc, session, 1, reader, writer, &mut failures)
 }
@@ -142,6 +151,66 @@ fn other_lines_are_refused_and_the_script_goes_on(rt: HostRuntime) {
     let wanted =
         b"refused E19 1\nrefused E19 3\nrun 1\nresult 3\ntotal 12\nrefused E19 6\nrun 2\nresult 3\ntotal 12\nrefused E19 8\n";
     assert_eq!(&rt; written.as_slice(), wanted.as_slice());
+}
+
+const LINES: &str = "reducer total : add;
+reducer top : argmax;
+memo proc line(r) { v = sales[r].qty * sales[r].price; update total v; update top v, r; return v; }
+proc main() { cilk_for r in 1 .. limit sales : line(r); t = read total; return t; }
+";
+
+const THREE_SALES: &str = "[sales]
+columns = [\"qty\", \"price\"]
+rows = [[1, 2, 5], [2, 3, 7], [3, 1, 100]]
+";
+
+const EDITED: &[u8] = b"# the first run, and then with another row
+run
+put sales 2 4 7
+ run
+
+define
+# half the price
+memo proc line(r) { v = sales[r].qty * sales[r].price / 2; update total v; return v; }
+end
+run
+del sales 2
+run\xFF
+run
+define
+memo proc line(r) { return 0; }
+run
+";
+
+const EDITED_ANSWERS: &str = "run 1
+result 131
+total 131
+top 100 3
+ok
+run 2
+result 138
+total 138
+top 100 3
+ok
+run 3
+result 69
+total 69
+top none
+ok
+refused E19 12
+run 4
+fault missing row in line at 1
+refused E19 14
+";
+
+// A `define` without its `end` ends the script.
+#[test]
+fn a_script_with_edits(rt: HostRuntime) {
+    for workers in 1..3 {
+        let session = session(&rt, rt.alloc(), LINES, THREE_SALES);
+        let written = answers_over(&rt, rt.alloc(), session, EDITED, workers);
+        assert_eq!(&rt; written.as_slice(), EDITED_ANSWERS.as_bytes());
+    }
 }
 
 #[test]
@@ -318,7 +387,15 @@ fn views_of_another_kind(rt: HostRuntime) {
         Ok(PlainView::new(alloc, Kind::Mul))
     };
     let refused = begin(alloc, FIRST.as_bytes(), "", 1, &make);
-    assert!(&rt; matches!(&refused, Err(PrepareError::NoMemory)));
+    assert!(&rt; matches!(&refused, Err(BeginError::Prepare(PrepareError::NoMemory))));
+}
+
+#[test]
+fn no_kits_to_begin_with(rt: HostRuntime) {
+    let alloc = rt.alloc();
+    let make = |kind: Kind| -> Result<PlainView, AllocError> { Ok(PlainView::new(alloc, kind)) };
+    let refused = begin(alloc, FIRST.as_bytes(), "", 0, &make);
+    assert!(&rt; matches!(&refused, Err(BeginError::NoKit)));
 }
 
 #[test]
@@ -329,16 +406,67 @@ fn a_failed_write(rt: HostRuntime) {
         room: 7,
         taken: Vec::new(alloc),
     };
-    let ended = ended(&rt, alloc, 64, &mut reader, &mut writer);
+    let session = session(&rt, alloc, FIRST, "");
+    let ended = ended(&rt, alloc, session, &mut reader, &mut writer);
     assert!(&rt; matches!(&ended, Err(SessionError::Write)));
     assert_eq!(&rt; writer.taken.as_slice(), b"run 1\nr".as_slice());
+}
+
+const REFUSED: &[u8] = b"put stock 1 2
+put sales 1 2
+put sales 2147483648 1 1
+del sales 9
+hello
+define
+proc main() { x = spawn line(1); return x; }
+end
+run
+";
+
+const REFUSED_ANSWERS: &[u8] = b"refused E4
+refused E5
+refused E6
+refused E7
+refused E19 5
+refused E9 C3 main 1
+run 1
+result 131
+total 131
+top 100 3
+";
+
+// The answers to the refused edits, to a writer that takes so many bytes; whether all of them were written, and what was.
+fn answers_into(rt: &(impl Abort + Wait), alloc: Global, room: usize) -> (bool, Vec<u8>) {
+    let mut reader = REFUSED;
+    let mut writer = Narrow {
+        room,
+        taken: Vec::new(alloc),
+    };
+    let session = session(rt, alloc, LINES, THREE_SALES);
+    let ended = ended(rt, alloc, session, &mut reader, &mut writer);
+    assert!(rt; matches!(&ended, Ok(()) | Err(SessionError::Write)));
+    (ended.is_ok(), writer.taken)
+}
+
+// A beginning of the answers is written, as long as there is room.
+#[test]
+fn each_failed_write(rt: HostRuntime) {
+    for room in 0..REFUSED_ANSWERS.len() {
+        let (is_done, taken) = answers_into(&rt, rt.alloc(), room);
+        assert!(&rt; !is_done);
+        assert_eq!(&rt; taken.as_slice(), &REFUSED_ANSWERS[..room]);
+    }
+    let (is_done, taken) = answers_into(&rt, rt.alloc(), REFUSED_ANSWERS.len());
+    assert!(&rt; is_done);
+    assert_eq!(&rt; taken.as_slice(), REFUSED_ANSWERS);
 }
 
 #[test]
 fn a_failed_read(rt: HostRuntime) {
     let alloc = rt.alloc();
     let mut written = Vec::new(alloc);
-    let ended = ended(&rt, alloc, 64, &mut Broken, &mut written);
+    let session = session(&rt, alloc, FIRST, "");
+    let ended = ended(&rt, alloc, session, &mut Broken, &mut written);
     assert!(&rt; matches!(&ended, Err(SessionError::Read)));
     assert_eq!(&rt; written.len(), 0);
 }
@@ -348,7 +476,9 @@ fn no_kit(rt: HostRuntime) {
     let alloc = rt.alloc();
     let mut reader = b"here\nrun\n".as_slice();
     let mut written = Vec::new(alloc);
-    let ended = ended(&rt, alloc, 0, &mut reader, &mut written);
+    let mut session = session(&rt, alloc, FIRST, "");
+    let _pool = session.take_pool(alloc);
+    let ended = ended(&rt, alloc, session, &mut reader, &mut written);
     assert!(&rt; matches!(&ended, Err(SessionError::NoKit)));
     assert_eq!(&rt; written.as_slice(), b"refused E19 1\n".as_slice());
 }

@@ -1,11 +1,9 @@
 // Readers and writers that fail in mid-stream, or only for a moment.
-ghost use Rattle.std.specs.Prelude.{◌≡◌, All};
-ghost use Rattle.linked_program.specs.TableNames.{columned_of};
-
 use cli::beginning::begin;
-use cli::session::{Session, session_text};
+use cli::session::session_text;
 use cli::streams::{Failures, SessionError, read_all, write_whole};
 use monoid_laws::Kind;
+use reuse_planner::Session;
 use std::alloc::{AllocError, Global};
 use std::io;
 use std::io::{ErrorKind, Read, Write};
@@ -82,10 +80,7 @@ fn halting_reader(error: ErrorKind, at: usize, times: usize) -> Halting {
     }
 }
 
-fn session(rt: &impl Abort, alloc: Global) -> Session<PlainView>
-    ensures kinds { All (λ kit. kit ≡ result.checked.kinds) result.kits.kits }
-    ensures tables { result.checked.tables ≡ columned_of result.tables.tables }
-{
+fn session(rt: &impl Abort, alloc: Global) -> Session<PlainView> {
     let make = |kind: Kind| -> Result<PlainView, AllocError> { Ok(PlainView::new(alloc, kind)) };
     begin(alloc, b"proc main() { return 4; }", "", 1, &make).expect(rt, "a session")
 }

@@ -2,11 +2,9 @@
 
 mod given_up;
 mod lists;
-mod memo_programs;
 mod playing;
 mod printing;
 mod programs;
 mod random;
 mod refusals;
-mod reruns;
 mod rows;

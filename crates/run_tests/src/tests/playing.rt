@@ -111,7 +111,7 @@ pub fn work<V: View>(alloc: Global, core: &mut Core<'_, V>, worker: usize)
     ensures program { core.new.program ≡ core.old.program }
 {
     for _ in 0..100 {
-        let _ = core.step(alloc, Step::Work(worker));
+        let _ = core.step(alloc, &Step::Work(worker));
     }
 }
 
@@ -129,7 +129,7 @@ fn take<V: View>(
         return work(alloc, core, digit(*worker));
     }
     let step = step(rt, alloc, word.as_bytes()).expect(rt, "a step");
-    if let Err(refusal) = core.step(alloc, step) {
+    if let Err(refusal) = core.step(alloc, &step) {
         write!(refused, "{word} {refusal};").expect(rt, "memory");
     }
 }

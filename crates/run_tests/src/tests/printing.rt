@@ -162,5 +162,6 @@ pub fn answer_text(
         }
         RunAnswer::Unfinished => String::from_str(alloc, "unfinished"),
         RunAnswer::NoMemory => String::from_str(alloc, "no memory"),
+        RunAnswer::NoKit => String::from_str(alloc, "no kit"),
     }
 }

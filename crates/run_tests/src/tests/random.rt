@@ -115,7 +115,7 @@ fn go_anyhow<V: View>(
 {
     for _ in 0..steps {
         let step = any_step(alloc, core, dice, workers).expect(rt, "memory");
-        let _ = core.step(alloc, step);
+        let _ = core.step(alloc, &step);
     }
 }
 
@@ -125,7 +125,7 @@ fn fold_all<V: View>(rt: &impl Abort, alloc: Global, core: &mut Core<'_, V>, wor
     for line in &lines {
         for worker in 0..workers {
             let place = line.place.clone().expect(rt, "memory");
-            let _ = core.step(alloc, Step::Fold(worker, place));
+            let _ = core.step(alloc, &Step::Fold(worker, place));
         }
     }
 }
@@ -133,9 +133,9 @@ fn fold_all<V: View>(rt: &impl Abort, alloc: Global, core: &mut Core<'_, V>, wor
 /// A worker goes on until it can't; a child that it spawns becomes a call.
 fn go_on<V: View>(alloc: Global, core: &mut Core<'_, V>, worker: usize) {
     work(alloc, core, worker);
-    let _ = core.step(alloc, Step::Inline(worker));
-    let _ = core.step(alloc, Step::Pop(worker));
-    let _ = core.step(alloc, Step::Stall(worker));
+    let _ = core.step(alloc, &Step::Inline(worker));
+    let _ = core.step(alloc, &Step::Pop(worker));
+    let _ = core.step(alloc, &Step::Stall(worker));
 }
 
 /// All workers go on by turns, until the run is over.

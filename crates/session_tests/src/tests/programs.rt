@@ -1,4 +1,18 @@
-//! Programs whose instances are recorded.
+//! Programs and tables as text.
+
+pub const SALES: &str =
+    "[sales]\ncolumns = [\"qty\", \"price\"]\nrows = [[1, 2, 5], [2, 3, 7], [3, 1, 100]]\n";
+
+pub const FIRST_LIST: &str = "reducer seen : list;
+proc leaf(v) { update seen v; return v; }
+proc main() { x = spawn leaf(1); y = spawn leaf(2); update seen 9; sync; return x + y; }
+";
+
+/// As the first one, with recorded leaves.
+pub const MEMO_LIST: &str = "reducer seen : list;
+memo proc leaf(v) { update seen v; return v; }
+proc main() { x = spawn leaf(1); y = spawn leaf(2); update seen 9; sync; return x + y; }
+";
 
 pub const LINES: &str = "reducer total : add;
 reducer top : argmax;

@@ -1,0 +1,13 @@
+//! Whole scripts and single calls. What is wanted was found by hand, or is the answer of the slow serial program.
+
+mod beginning;
+mod drawn;
+mod fitting;
+mod model;
+mod playing;
+mod programs;
+mod random;
+mod rows;
+mod scripts;
+mod sessions;
+mod slow;

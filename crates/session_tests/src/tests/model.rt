@@ -1,0 +1,245 @@
+//! What a session is compared with: the rows of its table, and the text that each of its procedures has, edited by themselves.
+ghost use Rattle.std.specs.Prelude.{◌≡◌, ◌<◌};
+
+use super::drawn::Dice;
+use procedure_parser::parse;
+use program_tree::Program;
+use serial_oracle::{Row, TableRows};
+use std::alloc::{AllocError, Global};
+use std::process::Abort;
+
+const REDUCERS: &str = "reducer total : add;
+reducer top : argmax;
+reducer order : affine;
+";
+
+const LINES: [&str; 3] = [
+    "memo proc line(r) {
+  if has sales[r] { v = sales[r].qty * sales[r].price; update total v; update top v, r; }
+  update order 3, r;
+  return r;
+}
+",
+    // A fault where there is a row of no quantity.
+    "memo proc line(r) {
+  if has sales[r] { update total 60 / sales[r].qty; update order 5, sales[r].price; }
+  return limit sales;
+}
+",
+    // A fault behind the fourth row.
+    "proc line(r) { update order 7, r; update total 12 / (r - 6); return 0 - r; }
+",
+];
+
+const PAIRS: [&str; 3] = [
+    "memo proc pair(r) {
+  x = spawn line(r);
+  y = spawn line(r + 1);
+  update order 9, r;
+  sync;
+  return x + y;
+}
+",
+    "memo proc pair(r) { x = call line(r); spawn line(r - 1); update order 11, x; return x; }
+",
+    // A fault where there is no second row.
+    "proc pair(r) {
+  cilk_for i in r .. r + 3 grain 2 : line(i);
+  update order 13, sales[2].qty;
+  return r;
+}
+",
+];
+
+const ALLS: [&str; 3] = [
+    "memo proc all(n) { cilk_for r in 0 .. limit sales : pair(r); return n; }
+",
+    "memo proc all(n) {
+  if n > 0 { spawn all(n - 1); update order 15, n; call pair(n); }
+  return n;
+}
+",
+    "proc all(n) { if n > 1 { call all(n - 1); } spawn pair(n); spawn pair(n + 1); return n; }
+",
+];
+
+const MAINS: [&str; 2] = [
+    "proc main() {
+  spawn all(2);
+  x = call all(3);
+  spawn pair(1);
+  sync;
+  t = read total;
+  return t + x;
+}
+",
+    "proc main() { cilk_for r in 1 .. limit sales : pair(r); x = call all(2); return x; }
+",
+];
+
+/// Edits that are refused wherever they stand.
+const REFUSED: [(&str, &str); 13] = [
+    ("put stock 1 2 3\n", "refused E4\n"),
+    ("put sales 1 2\n", "refused E5\n"),
+    ("put sales 1 2 3 4\n", "refused E5\n"),
+    ("put sales 2147483648 1 1\n", "refused E6\n"),
+    ("del sales -1\n", "refused E6\n"),
+    ("del sales 2147483647\n", "refused E7\n"),
+    ("put sales 1\n", "refused E19 1\n"),
+    ("define\nproc all(n) {\nend\n", "refused E8 2\n"),
+    (
+        "define\nproc line(r) { return y; }\nend\n",
+        "refused E9 C1 line 1\n",
+    ),
+    (
+        "define\n\nproc pair(r) { x = spawn line(r); return x; }\nend\n",
+        "refused E9 C3 pair 2\n",
+    ),
+    (
+        "define\nproc all(n) { call line(n, n); }\nend\n",
+        "refused E9 C4 all 1\n",
+    ),
+    (
+        "define\nproc all(n) { update top n; }\nend\n",
+        "refused E9 C6 all 1\n",
+    ),
+    (
+        "define\nproc all(n) { return stock[n].qty; }\nend\n",
+        "refused E9 C8 all 1\n",
+    ),
+];
+
+/// A script that edits, and what it is answered.
+#[derive(Drop)]
+pub struct DrawnEdit {
+    pub script: String,
+    pub answer: &'static str,
+}
+
+/// The rows of the table, and the texts of `line`, `pair`, `all` and `main`.
+#[derive(Drop)]
+pub struct Model {
+    pub rows: Vec<Row>,
+    texts: [&'static str; 4],
+}
+
+fn drawn(alloc: Global, script: &str, answer: &'static str) -> Result<DrawnEdit, AllocError> {
+    let script = String::from_str(alloc, script)?;
+    Ok(DrawnEdit { script, answer })
+}
+
+impl Model {
+    /// A model of the first texts, with the sales.
+    pub fn new(alloc: Global) -> Result<Model, AllocError> {
+        let mut model = Model {
+            rows: Vec::new(alloc),
+            texts: [LINES[0], PAIRS[0], ALLS[0], MAINS[0]],
+        };
+        for (number, qty, price) in [(1, 2, 5), (2, 3, 7), (3, 1, 100)] {
+            model.put_row(alloc, number, qty, price)?;
+        }
+        Ok(model)
+    }
+
+    fn put_row(
+        &mut self,
+        alloc: Global,
+        number: i64,
+        qty: i64,
+        price: i64,
+    ) -> Result<(), AllocError> {
+        let values = vec![in alloc; qty, price]?;
+        self.rows.retain(|row| row.number != number);
+        Ok(self.rows.push(Row { number, values })?)
+    }
+
+    /// Puts a row that is drawn.
+    fn put(&mut self, alloc: Global, dice: &mut Dice) -> Result<DrawnEdit, AllocError> {
+        let row = dice.below(6) as i64;
+        let qty = dice.below(4) as i64;
+        let price = dice.below(20) as i64;
+        self.put_row(alloc, row, qty, price)?;
+        let script = format!(in alloc; "put sales {row} {qty} {price}\n")?;
+        Ok(DrawnEdit {
+            script,
+            answer: "ok\n",
+        })
+    }
+
+    /// Deletes a row that is drawn, where there is one of its number.
+    fn delete(&mut self, alloc: Global, dice: &mut Dice) -> Result<DrawnEdit, AllocError> {
+        let number = dice.below(6) as i64;
+        let before = self.rows.len();
+        self.rows.retain(|row| row.number != number);
+        let answer = if self.rows.len() < before {
+            "ok\n"
+        } else {
+            "refused E7\n"
+        };
+        let script = format!(in alloc; "del sales {number}\n")?;
+        Ok(DrawnEdit { script, answer })
+    }
+
+    /// Gives a procedure a text that is drawn.
+    fn define(&mut self, alloc: Global, dice: &mut Dice) -> Result<DrawnEdit, AllocError> {
+        let (number, text) = match dice.below(4) {
+            0 => (0, LINES[dice.below(3)]),
+            1 => (1, PAIRS[dice.below(3)]),
+            2 => (2, ALLS[dice.below(3)]),
+            _ => (3, MAINS[dice.below(2)]),
+        };
+        self.texts[number] = text;
+        let script = format!(in alloc; "define\n{text}end\n")?;
+        Ok(DrawnEdit {
+            script,
+            answer: "ok\n",
+        })
+    }
+
+    /// An edit that is drawn.
+    pub fn edit(&mut self, alloc: Global, dice: &mut Dice) -> Result<DrawnEdit, AllocError> {
+        match dice.below(8) {
+            0..=2 => self.put(alloc, dice),
+            3 => self.delete(alloc, dice),
+            4 | 5 => self.define(alloc, dice),
+            _ => {
+                let (script, answer) = REFUSED[dice.below(13)];
+                drawn(alloc, script, answer)
+            }
+        }
+    }
+
+    /// The program's text.
+    pub fn text(&self, alloc: Global) -> Result<String, AllocError> {
+        let mut text = String::from_str(alloc, REDUCERS)?;
+        for procedure in &self.texts {
+            text.push_str(procedure)?;
+        }
+        Ok(text)
+    }
+
+    /// The program, read anew.
+    pub fn program(&self, rt: &impl Abort, alloc: Global) -> Program {
+        let text = self.text(alloc).expect(rt, "memory");
+        parse(alloc, text.as_bytes()).expect(rt, "a program")
+    }
+
+    /// The tables as the slow program has them.
+    pub fn tables(&self, alloc: Global) -> Result<TableRows, AllocError> {
+        let qty = String::from_str(alloc, "qty")?;
+        let price = String::from_str(alloc, "price")?;
+        let mut rows = Vec::new(alloc);
+        for row in &self.rows {
+            let values = row.values.clone()?;
+            rows.push(Row {
+                number: row.number,
+                values,
+            })?;
+        }
+        Ok(TableRows {
+            name: String::from_str(alloc, "sales")?,
+            columns: vec![in alloc; qty, price]?,
+            rows,
+        })
+    }
+}

@@ -1,0 +1,146 @@
+//! Scripts played in a session, and what is answered.
+ghost use Rattle.std.specs.Prelude.{◌<◌};
+
+use edits::Edit;
+use linked_program::checked::Checked;
+use reuse_planner::{ApplyError, Session};
+use round_driver::run;
+use script_reader::command::Command;
+use script_reader::script::commands;
+use std::alloc::{AllocError, Global};
+use std::fmt::Write;
+use std::sync::Wait;
+use trace_report::answers::{push_outcome, push_unknown};
+use trace_report::edits::{push_accepted, push_edit_refusal};
+use view_pool::View;
+use worker_core::RunAnswer;
+
+/// What a script was answered.
+#[derive(Drop)]
+pub struct Answers {
+    /// The lines of the answers, without the numbers of runs.
+    pub lines: String,
+    /// What each run that has finished executed, had answered by records, and left unrecorded.
+    pub counts: String,
+}
+
+/// Puts what a run came to at the end of the text.
+pub fn push_answer(
+    alloc: Global,
+    text: &mut String,
+    program: &Checked,
+    answer: &RunAnswer,
+) -> Result<(), AllocError> {
+    match answer {
+        RunAnswer::Unfinished => writeln!(text, "unfinished"),
+        RunAnswer::NoMemory => writeln!(text, "no memory"),
+        RunAnswer::NoKit => writeln!(text, "no kit"),
+        ended => push_outcome(alloc, text, program, ended),
+    }
+}
+
+/// Puts the counts of a run that has finished at the end of the text.
+fn push_counts(text: &mut String, answer: &RunAnswer) -> Result<(), AllocError> {
+    match answer {
+        RunAnswer::Finished {
+            executed,
+            reused,
+            unrecorded,
+            ..
+        } => write!(text, "{executed} {reused} {unrecorded}; "),
+        _ => Ok(()),
+    }
+}
+
+/// Puts the answer to an edit at the end of the text.
+pub fn push_edited(text: &mut String, edited: &Result<(), ApplyError>) -> Result<(), AllocError> {
+    match edited {
+        Ok(()) => push_accepted(text),
+        Err(ApplyError::Refused(error)) => push_edit_refusal(text, error),
+        Err(ApplyError::NoMemory) => writeln!(text, "no memory"),
+    }
+}
+
+impl Answers {
+    /// Edits the session.
+    fn edit<V: View>(
+        &mut self,
+        alloc: Global,
+        session: &mut Session<V>,
+        edit: &Edit<'_>,
+    ) -> Result<(), AllocError> {
+        let edited = session.apply(alloc, edit);
+        push_edited(&mut self.lines, &edited)
+    }
+
+    /// Notes what a run came to.
+    pub fn note(
+        &mut self,
+        alloc: Global,
+        program: &Checked,
+        answer: &RunAnswer,
+    ) -> Result<(), AllocError> {
+        push_answer(alloc, &mut self.lines, program, answer)?;
+        push_counts(&mut self.counts, answer)
+    }
+
+    /// Runs the session by so many workers in turn.
+    fn run<V: View>(
+        &mut self,
+        rt: &impl Wait,
+        alloc: Global,
+        session: &mut Session<V>,
+        workers: usize,
+    ) -> Result<(), AllocError>
+        requires workers { 0 < workers }
+    {
+        match run(rt, alloc, session, workers) {
+            Ok(answer) => self.note(alloc, session.checked(), &answer),
+            Err(error) => writeln!(&mut self.lines, "{error}"),
+        }
+    }
+
+    /// Does a command.
+    fn answer<V: View>(
+        &mut self,
+        rt: &impl Wait,
+        alloc: Global,
+        session: &mut Session<V>,
+        workers: usize,
+        command: &Command<'_>,
+    ) -> Result<(), AllocError>
+        requires workers { 0 < workers }
+    {
+        match command {
+            Command::Unknown(line) => push_unknown(&mut self.lines, *line),
+            Command::Change(edit) => self.edit(alloc, session, edit),
+            Command::Run => self.run(rt, alloc, session, workers),
+        }
+    }
+}
+
+/// No answers yet.
+pub fn no_answers(alloc: Global) -> Answers {
+    Answers {
+        lines: String::new(alloc),
+        counts: String::new(alloc),
+    }
+}
+
+/// Plays a script, with runs by so many workers in turn.
+pub fn play<V: View>(
+    rt: &impl Wait,
+    alloc: Global,
+    session: &mut Session<V>,
+    workers: usize,
+    script: &[u8],
+) -> Result<Answers, AllocError>
+    requires workers { 0 < workers }
+{
+    let mut answers = no_answers(alloc);
+    let commands = commands(alloc, script)?;
+    for command in commands.iter() {
+        answers.answer(rt, alloc, session, workers, command)?;
+    }
+    Ok(answers)
+}

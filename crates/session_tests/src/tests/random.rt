@@ -1,0 +1,127 @@
+//! Sessions by any edits and runs, of one to five workers with one to six kits or many: the answers are those of the slow serial
+//! program from scratch, and what a run executes and has answered by records is what that one needs by the session's records.
+ghost use Rattle.std.specs.Prelude.{◌≡◌, ◌<◌};
+
+use super::beginning::session;
+use super::drawn::{Dice, any_steps};
+use super::model::Model;
+use super::playing::{no_answers, play};
+use super::slow::{needs_of, scratch_text};
+use reuse_planner::Session;
+use round_driver::run;
+use std::alloc::Global;
+use std::process::Abort;
+use std::sync::Wait;
+use view_pool::View;
+use worker_core::RunAnswer;
+
+/// Runs a session by workers in turn, or by any steps.
+fn any_run<V: View>(
+    rt: &(impl Abort + Wait),
+    alloc: Global,
+    session: &mut Session<V>,
+    dice: &mut Dice,
+) -> RunAnswer {
+    let workers = dice.below(5) + 1;
+    if dice.below(2) == 0 {
+        return run(rt, alloc, session, workers).expect(rt, "an answer");
+    }
+    let steps = any_steps(rt, alloc, session, dice, workers);
+    session.run(alloc, workers, &steps)
+}
+
+/// Whether some instance was answered by a record, and whether some run ended by a fault.
+type Seen = (bool, bool);
+
+/// Edits a session once, and its model.
+fn edit<V: View>(
+    rt: &(impl Abort + Wait),
+    alloc: Global,
+    session: &mut Session<V>,
+    model: &mut Model,
+    dice: &mut Dice,
+) {
+    let drawn = model.edit(alloc, dice).expect(rt, "memory");
+    let found = play(rt, alloc, session, 1, drawn.script.as_bytes()).expect(rt, "memory");
+    assert_eq!(rt; found.lines.as_str(), drawn.answer, "{}", drawn.script);
+}
+
+/// Runs a session once, beside its model.
+fn run_beside<V: View>(
+    rt: &(impl Abort + Wait),
+    alloc: Global,
+    session: &mut Session<V>,
+    model: &Model,
+    dice: &mut Dice,
+) -> Seen {
+    let wanted = scratch_text(rt, alloc, model);
+    let needed = needs_of(rt, alloc, session, model);
+    assert_eq!(rt; needed.text.as_str(), wanted.as_str());
+    let answer = any_run(rt, alloc, session, dice);
+    let mut answers = no_answers(alloc);
+    answers
+        .note(alloc, session.checked(), &answer)
+        .expect(rt, "memory");
+    assert_eq!(rt; answers.lines.as_str(), wanted.as_str());
+    match &answer {
+        RunAnswer::Finished {
+            executed,
+            reused,
+            ..
+        } => {
+            assert_eq!(rt; *executed, needed.executed as u64);
+            assert_eq!(rt; *reused, needed.reused as u64);
+            (*reused > 0, false)
+        }
+        _ => (false, true),
+    }
+}
+
+/// Edits a session some times, and then runs it.
+fn go_on<V: View>(
+    rt: &(impl Abort + Wait),
+    alloc: Global,
+    session: &mut Session<V>,
+    model: &mut Model,
+    dice: &mut Dice,
+) -> Seen {
+    for _ in 0..dice.below(4) {
+        edit(rt, alloc, session, model, dice);
+    }
+    run_beside(rt, alloc, session, model, dice)
+}
+
+/// A session of a dozen runs with so many kits.
+fn any_session(rt: &(impl Abort + Wait), alloc: Global, count: usize, seed: u64) -> Seen {
+    let mut model = Model::new(alloc).expect(rt, "memory");
+    let text = model.text(alloc).expect(rt, "memory");
+    let mut session = session(rt, alloc, &text, count);
+    let mut dice = Dice { state: seed };
+    let mut seen = (false, false);
+    for _ in 0..12 {
+        let (reused, faulted) = go_on(rt, alloc, &mut session, &mut model, &mut dice);
+        seen = (seen.0 | reused, seen.1 | faulted);
+    }
+    assert_eq!(rt; session.kits(), (count, count));
+    seen
+}
+
+/// Sessions with so many kits.
+fn any_sessions(rt: &(impl Abort + Wait), alloc: Global, count: usize) -> Seen {
+    let mut seen = (false, false);
+    for seed in 0..6 {
+        let (reused, faulted) = any_session(rt, alloc, count, seed);
+        seen = (seen.0 | reused, seen.1 | faulted);
+    }
+    seen
+}
+
+/// With one kit nothing is recorded.
+#[test]
+fn any_edits_and_runs(rt: HostRuntime) {
+    for count in 1..7 {
+        let seen = any_sessions(&rt, rt.alloc(), count);
+        assert_eq!(&rt; seen, (count > 1, true), "{count} kits");
+    }
+    assert_eq!(&rt; any_sessions(&rt, rt.alloc(), 64), (true, true));
+}

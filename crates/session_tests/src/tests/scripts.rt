@@ -1,0 +1,93 @@
+//! Scripts whose answers were found by hand, in sessions with few kits and many, and by one worker and more.
+ghost use Rattle.std.specs.Prelude.{◌<◌};
+
+use super::beginning::session;
+use super::playing::{Answers, play};
+use super::programs::LINES;
+use super::rows::{ROWS, Row};
+use std::alloc::Global;
+use std::process::Abort;
+use std::sync::Wait;
+
+/// What a script is answered in a new session.
+fn answers(
+    rt: &(impl Abort + Wait),
+    alloc: Global,
+    text: &str,
+    count: usize,
+    workers: usize,
+    script: &str,
+) -> Answers
+    requires workers { 0 < workers }
+{
+    let mut session = session(rt, alloc, text, count);
+    let answers = play(rt, alloc, &mut session, workers, script.as_bytes()).expect(rt, "memory");
+    assert_eq!(rt; session.kits(), (count, count));
+    answers
+}
+
+/// Compares the answers of a row, and gives the counts.
+fn counts_of(
+    rt: &(impl Abort + Wait),
+    alloc: Global,
+    row: Row,
+    count: usize,
+    workers: usize,
+) -> String
+    requires workers { 0 < workers }
+{
+    let (text, script, lines, _) = row;
+    let found = answers(rt, alloc, text, count, workers, script);
+    assert_eq!(rt; found.lines.as_str(), lines, "{workers} workers: {script}");
+    found.counts
+}
+
+/// Compares the answers of a row and its counts.
+fn is_counted(rt: &(impl Abort + Wait), alloc: Global, row: Row) {
+    let (_, script, _, counts) = row;
+    let found = counts_of(rt, alloc, row, 64, 1);
+    assert_eq!(rt; found.as_str(), counts, "{script}");
+}
+
+#[test]
+fn answers_and_counts(rt: HostRuntime) {
+    for row in ROWS {
+        is_counted(&rt, rt.alloc(), row);
+    }
+}
+
+/// Compares the answers of all rows by so many workers with so many kits.
+fn all_answers(rt: &(impl Abort + Wait), alloc: Global, workers: usize, count: usize)
+    requires workers { 0 < workers }
+{
+    for row in ROWS {
+        counts_of(rt, alloc, row, count, workers);
+    }
+}
+
+#[test]
+fn by_four_workers(rt: HostRuntime) {
+    all_answers(&rt, rt.alloc(), 4, 64);
+}
+
+#[test]
+fn by_sixteen_workers_with_one_kit(rt: HostRuntime) {
+    all_answers(&rt, rt.alloc(), 16, 1);
+}
+
+const TWO_RUNS: &str = "result 131\ntotal 131\ntop 100 3\nresult 131\ntotal 131\ntop 100 3\n";
+
+#[test]
+fn few_kits(rt: HostRuntime) {
+    let row = (LINES, "run\nrun\n", TWO_RUNS, "");
+    let counts = counts_of(&rt, rt.alloc(), row, 8, 1);
+    assert_eq!(&rt; counts.as_str(), "3 0 0; 0 3 0; ");
+}
+
+/// With one kit nothing is recorded.
+#[test]
+fn one_kit(rt: HostRuntime) {
+    let row = (LINES, "run\nrun\n", TWO_RUNS, "");
+    let counts = counts_of(&rt, rt.alloc(), row, 1, 1);
+    assert_eq!(&rt; counts.as_str(), "3 0 3; 3 0 3; ");
+}
