@@ -2,7 +2,7 @@
 ghost use Rattle.std.specs.Prelude.{◌≡◌, ◌≢◌, ◌+◌, ◌<◌, ◌^◌, [], true, Err, length, IfOk, IfErr, OnOk, OnErr};
 ghost use Rattle.std.specs.Io.KnownBytes.{Appends, Keeps, IsAtEnd};
 ghost use Rattle.meaning.specs.Text.{edit_text, runs_after};
-ghost use Rattle.edits.specs.Said as edits;
+ghost use Rattle.session_edits.specs.Said as edits;
 ghost use Rattle.script_reader.specs.Said.{said};
 ghost use Rattle.reuse_planner.specs.Sessions.{standing_of};
 ghost use Rattle.reuse_planner.specs.Applied.{edited};
@@ -12,12 +12,12 @@ ghost use Rattle.cli.specs.Endings.{IsRunError};
 ghost use Rattle.cli.specs.Written.{HasBeginning, WritesAll, WritesBeginning};
 
 use crate::streams::{Failures, SessionError, flush, read_all, write_whole};
-use edits::Edit;
 use reuse_planner::{ApplyError, Session};
 use round_driver::run;
 use round_driver::runs::RunError;
 use script_reader::command::Command;
 use script_reader::script::commands;
+use session_edits::Edit;
 use std::alloc::Global;
 use std::io::{Read, Write};
 use std::sync::Wait;

@@ -1,6 +1,6 @@
 // The answers to edits.
-use edits::EditError;
 use linked_program::violation::Rule;
+use session_edits::EditError;
 use trace_report::edits::{push_accepted, push_edit_refusal};
 
 #[test]

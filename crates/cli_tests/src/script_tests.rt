@@ -1,7 +1,7 @@
 // The lines of scripts with edits, and what each says.
-use edits::Edit;
 use script_reader::command::Command;
 use script_reader::script::commands;
+use session_edits::Edit;
 use std::alloc::{AllocError, Global};
 use std::fmt::Write;
 use std::process::Abort;

@@ -3,8 +3,8 @@ use Rattle.std.proofs.Common.{◌≡◌, ◌<◌, ◌≤◌, ◌+◌, ℕ, lengt
 use Rattle.std.proofs.lemmas.List.{drop_more, drop_all, append_assoc, append-nil}
 use Rattle.meaning.specs.Edits.{Standing, or_same}
 use Rattle.checked_defines.specs.Readers.{reads_text, checks_rules}
-use Rattle.edits.specs.Said.{said}
-use Rattle.edits.specs.declared.edit.Edit.{Edit}
+use Rattle.session_edits.specs.Said.{said}
+use Rattle.session_edits.specs.declared.edit.Edit.{Edit}
 use Rattle.reuse_planner.specs.declared.commands.Command.{Command}
 use Rattle.reuse_planner.specs.declared.commands.Command.TheVariants as command
 use Rattle.reuse_planner.specs.declared.commands.Answer.{Answer}

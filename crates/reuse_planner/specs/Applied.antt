@@ -2,8 +2,8 @@
 use Rattle.std.specs.Prelude.{◌≡◌, Result, Ok, Err, IsOk, IfErr, OnOk, OnErr}
 use Rattle.meaning.specs.Edits.{Standing, Edit, EditRefusal, Put, Delete, Define, tried}
 use Rattle.checked_defines.specs.Readers.{reads_text, checks_rules}
-use Rattle.edits.specs.Said.{refusal}
-use Rattle.edits.specs.declared.refusal.EditError.TheVariants as edit
+use Rattle.session_edits.specs.Said.{refusal}
+use Rattle.session_edits.specs.declared.refusal.EditError.TheVariants as edit
 use Rattle.input_tables.specs.declared.refusal.EditError as tables
 use Rattle.input_tables.specs.declared.refusal.EditError.TheVariants as table
 use Rattle.checked_defines.specs.declared.refusal.DefineError.{DefineError}

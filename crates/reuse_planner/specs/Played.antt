@@ -2,7 +2,7 @@
 use Rattle.std.specs.Prelude.{◌≡◌, List, [], ◌∷◌, Result, Ok, Err}
 use Rattle.meaning.specs.Edits.{Standing, Edit, or_same}
 use Rattle.checked_defines.specs.Readers.{reads_text, checks_rules}
-use Rattle.edits.specs.Said.{said}
+use Rattle.session_edits.specs.Said.{said}
 use Rattle.reuse_planner.specs.declared.commands.Command.{Command}
 use Rattle.reuse_planner.specs.declared.commands.Command.TheVariants as command
 use Rattle.reuse_planner.specs.declared.commands.Answer.{Answer}

@@ -5,7 +5,7 @@ ghost use Rattle.reuse_planner.specs.Played.{IsDone, AreDone, AnswerElision};
 
 use crate::refusal::ApplyError;
 use crate::session::Session;
-use edits::Edit;
+use session_edits::Edit;
 use std::alloc::{AllocError, Global};
 use view_pool::View;
 use worker_core::{RunAnswer, Step};

@@ -3,8 +3,8 @@ ghost use Rattle.std.specs.Prelude.{◌≡◌};
 ghost use Rattle.reuse_planner.specs.Applied.{of_table, of_define};
 
 use checked_defines::DefineError;
-use edits::EditError;
 use input_tables::EditError as TableError;
+use session_edits::EditError;
 use thiserror::Error;
 
 /// Why an edit isn't accepted.

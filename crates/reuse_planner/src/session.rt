@@ -4,14 +4,14 @@ ghost use Rattle.linked_program.specs.TableNames.{columned_of};
 ghost use Rattle.rerun_records.specs.Commits.{put_records};
 ghost use Rattle.rerun_records.specs.Named.{HaveValues};
 ghost use Rattle.worker_core.specs.Keeps.{AreSoundFor};
-ghost use Rattle.edits.specs.Said.{said};
+ghost use Rattle.session_edits.specs.Said.{said};
 ghost use Rattle.reuse_planner.specs.Sessions.{AreNewFor, begun, stock_of, standing_of};
 ghost use Rattle.reuse_planner.specs.Applied.{edited, IsApplyCause};
 
 use crate::refusal::ApplyError;
-use edits::Edit;
 use input_tables::Tables;
 use linked_program::checked::Checked;
+use session_edits::Edit;
 use std::alloc::{AllocError, Global};
 use std::marker::Model;
 use std::mem;

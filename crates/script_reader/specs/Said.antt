@@ -3,8 +3,8 @@ use Rattle.std.specs.Prelude.{ℕ, List, Option, map, option_map}
 use Rattle.std.specs.Borrow.{Bor}
 use Rattle.meaning.specs.Edits as e
 use Rattle.meaning.specs.Script as s
-use Rattle.edits.specs.Said as edits
-use Rattle.edits.specs.declared.edit.Edit.{Edit}
+use Rattle.session_edits.specs.Said as edits
+use Rattle.session_edits.specs.declared.edit.Edit.{Edit}
 use Rattle.script_reader.specs.declared.command.Command.{Command}
 use Rattle.script_reader.specs.declared.command.Command.TheVariants.{Run, Change, Unknown}
 

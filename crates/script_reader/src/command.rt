@@ -1,5 +1,5 @@
 // What a script's line asks for.
-use edits::Edit;
+use session_edits::Edit;
 
 /// A command of a script.
 #[derive(Debug, Drop)]

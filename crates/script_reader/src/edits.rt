@@ -6,7 +6,7 @@ ghost use Rattle.script_reader.specs.Said.{said_edit, bytes_of};
 
 use crate::numbers::{number, numbers};
 use crate::words::text_of;
-use edits::Edit;
+use session_edits::Edit;
 use std::alloc::{AllocError, Global};
 
 // The put of a row into a table, by the words of the row's number and of its values.

@@ -11,7 +11,7 @@ use crate::command::Command;
 use crate::edits::edit;
 use crate::lines::{Line, first_line, next_line};
 use crate::words::{are_only, is_all_shown, is_comment, words};
-use edits::Edit;
+use session_edits::Edit;
 use std::alloc::{AllocError, Global};
 
 // The command of these words, on a line of this number; no words are none.

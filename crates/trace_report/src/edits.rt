@@ -3,10 +3,10 @@ ghost use Rattle.std.specs.Prelude.{◌≡◌, OnOk, codes};
 ghost use Rattle.meaning.specs.Edits as edits;
 ghost use Rattle.meaning.specs.Text.{refusal_text, violation_text};
 ghost use Rattle.trace_report.specs.Outcomes.{Extends, accepted_text};
-ghost use Rattle.edits.specs.Said.{violation, refusal};
+ghost use Rattle.session_edits.specs.Said.{violation, refusal};
 
-use edits::EditError;
 use linked_program::violation::Rule;
+use session_edits::EditError;
 use std::alloc::AllocError;
 use std::fmt::Write;
 

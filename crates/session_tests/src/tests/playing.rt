@@ -1,12 +1,12 @@
 //! Scripts played in a session, and what is answered.
 ghost use Rattle.std.specs.Prelude.{◌<◌};
 
-use edits::Edit;
 use linked_program::checked::Checked;
 use reuse_planner::{ApplyError, Session};
 use round_driver::run;
 use script_reader::command::Command;
 use script_reader::script::commands;
+use session_edits::Edit;
 use std::alloc::{AllocError, Global};
 use std::fmt::Write;
 use std::sync::Wait;

@@ -3,10 +3,10 @@ use Rattle.std.specs.Prelude.{ℕ, List, string_bytes}
 use Rattle.meaning.specs.Edits as e
 use Rattle.linked_program.specs.Violations.{number_of}
 use Rattle.linked_program.specs.declared.violation.Rule.{Rule}
-use Rattle.edits.specs.declared.edit.Edit.{Edit}
-use Rattle.edits.specs.declared.edit.Edit.TheVariants.{Put, Delete, Define}
-use Rattle.edits.specs.declared.refusal.EditError.{EditError}
-use Rattle.edits.specs.declared.refusal.EditError.TheVariants.{UnknownTable, WrongColumns, RowRange, NoRow, BadText, Broken, Exhausted}
+use Rattle.session_edits.specs.declared.edit.Edit.{Edit}
+use Rattle.session_edits.specs.declared.edit.Edit.TheVariants.{Put, Delete, Define}
+use Rattle.session_edits.specs.declared.refusal.EditError.{EditError}
+use Rattle.session_edits.specs.declared.refusal.EditError.TheVariants.{UnknownTable, WrongColumns, RowRange, NoRow, BadText, Broken, Exhausted}
 
 abbrev pub said : Edit → e.Edit
 said (Put table row values) = e.Put table.now row values.items
