@@ -14,6 +14,7 @@ pub mod Refusals
 pub mod Results
 pub mod Endings
 pub mod Names
+pub mod Orders
 pub mod Memos
 pub mod Nesting
 pub mod Whole

@@ -8,3 +8,4 @@ pub mod Answers
 pub mod Recordings
 pub mod Identities
 pub mod Folds
+pub mod Waiting

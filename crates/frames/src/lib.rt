@@ -25,3 +25,4 @@ pub mod strand;
 mod tally;
 pub mod task;
 mod updating;
+mod waiting;

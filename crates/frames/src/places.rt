@@ -21,7 +21,7 @@ fn is_same(left: &[usize], right: &[usize]) -> bool
 
 /// Whether a name is that of the child of that number of the instance of that name.
 #[tactic(auto, using(crate::proofs::Names::no_child, crate::proofs::Names::child_is))]
-fn is_child(name: &[usize], parent: &[usize], child: usize) -> bool
+pub(crate) fn is_child(name: &[usize], parent: &[usize], child: usize) -> bool
     ensures child { result ≡ same_name (child_of parent.now child) name.now }
 {
     match name.split_last() {
