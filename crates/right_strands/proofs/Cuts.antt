@@ -17,7 +17,8 @@ use Rattle.positions.specs.Moves.{lowest_alone}
 use Rattle.positions.specs.Simulation.{place_of}
 use Rattle.positions.specs.Stands.{IsStart, StandsAt, named_fault}
 use Rattle.frames.specs.Joins.{HasFault}
-use Rattle.right_strands.specs.Rightness.{sight, lookup, IsSound, IsRightStrand, IsHeld}
+use Rattle.right_strands.specs.Remembering.{recalling}
+use Rattle.right_strands.specs.Rightness.{sight, lookup, IsSound, IsRightBy, IsHeld}
 
 pub fault_there : (ph : Phase) → HasFault ph → (f : Fault) × (ph ≡ Broken f)
 fault_there (Broken f) h = (f, refl)
@@ -44,7 +45,7 @@ module _ (setting : Setting) where
     pub begins : IsStart s.start s.phase s.path start
     pub first : Breaks start f
 
-  pub cut_of : (s : PlainStrand) (f : Fault) → s.phase ≡ Broken f → IsRightStrand setting s → CutAt s f
+  pub cut_of : (s : PlainStrand) (f : Fault) → s.phase ≡ Broken f → IsRightBy setting s → CutAt s f
   cut_of s f e (inl w) =
       let x = w.named in
       let ph : x.phase ≡ broken (named_fault setting f) = subst (λ ph. StandsAt setting ph s.below s x) e w.stands.now in
@@ -58,21 +59,21 @@ module _ (setting : Setting) where
       let q : c.fault ≡ f = (let b : Broken c.fault ≡ Broken f = sym c.phase ∙ e in cc) in
       record { start = c.start; begins = c.begins; first = subst (λ f. Breaks c.start f) q c.first }
 
-  pub sound_of : (s : PlainStrand) → ((f : Fault) → s.phase ≡ Broken f → ⊥) → IsRightStrand setting s → IsSound setting s
+  pub sound_of : (s : PlainStrand) → ((f : Fault) → s.phase ≡ Broken f → ⊥) → IsRightBy setting s → IsSound setting s
   sound_of s n (inl w) = w
   sound_of s n (inr c) = absurd (n c.fault c.phase)
 
   -- ---- with its lowest layer alone
 
-  pub alone_right : (s : PlainStrand) → HasFault s.phase → IsRightStrand setting s → IsRightStrand setting (lowest_alone s)
+  pub alone_right : (s : PlainStrand) → HasFault s.phase → IsRightBy setting s → IsRightBy setting (lowest_alone s)
   alone_right s e h =
       let f = fault_there s.phase e in
       let c = cut_of s f.0 f.1 h in
       inr (record { fault = f.0; phase = f.1; start = c.start; begins = c.begins; first = c.first })
 
-  pub alone_kept : (start : Start) (failed : Bool) (now s s' : PlainStrand) → s ≡ now → HasFault now.phase → s' ≡ lowest_alone s → s'.layer.kinds ≡ s.layer.kinds → IsHeld setting start failed s → IsHeld setting start failed s'
-  alone_kept start failed now s s' same e is kinds h = record {
-    kinds = kinds ∙ h.kinds;
-    right = λ n. subst (IsRightStrand setting) (sym is) (alone_right s (subst (λ (s : PlainStrand). HasFault s.phase) (sym same) e) (h.right n));
-    begins = λ n. h.begins n ∙ ap (λ (s : PlainStrand). s.start) (sym is);
-  }
+pub alone_kept : (setting : Setting) (start : Start) (failed : Bool) (now s s' : PlainStrand) → s ≡ now → HasFault now.phase → s' ≡ lowest_alone s → s'.layer.kinds ≡ s.layer.kinds → IsHeld setting start failed s → IsHeld setting start failed s'
+alone_kept setting start failed now s s' same e is kinds h = record {
+  kinds = kinds ∙ h.kinds;
+  right = λ n k. subst (IsRightBy (recalling setting k)) (sym is) (alone_right (recalling setting k) s (subst (λ (s : PlainStrand). HasFault s.phase) (sym same) e) (h.right n k));
+  begins = λ n. h.begins n ∙ ap (λ (s : PlainStrand). s.start) (sym is);
+}

@@ -10,7 +10,7 @@ use Rattle.meaning.specs.Layers.{Notes}
 use Rattle.meaning.specs.LayeredStrand.{LayeredStrand}
 use Rattle.meaning.specs.LayeredStrand as definitions
 use Rattle.meaning.specs.Tallies.{tallies_joined as named_tallies_joined}
-use Rattle.meaning.specs.Schedules.{place_of_start, may_join, joined_pair}
+use Rattle.meaning.specs.Schedules.{place_of_start, may_join, joined_pair, recording_from}
 use Rattle.trail_theory.specs.OpenLayers.{IsNumbered}
 use Rattle.trail_theory.specs.OwedLayers.{Unbroken}
 use Rattle.trail_theory.specs.Right.{RightAt, IsOneLayer}
@@ -30,7 +30,7 @@ use Rattle.positions.specs.Activations.{PlainActivation}
 use Rattle.positions.specs.Layers.{PlainLayer, multiplied}
 use Rattle.positions.specs.Tallies.{tallies_joined}
 use Rattle.positions.specs.Setting.{Setting}
-use Rattle.positions.specs.Strands.{PlainStrand}
+use Rattle.positions.specs.Strands.{PlainStrand, is_entry}
 use Rattle.positions.specs.Advance.{pause_of, pause_at}
 use Rattle.positions.specs.Moves.{settled_by, joined, joined_at, joined_after, joined_ended, joined_broken}
 use Rattle.positions.specs.Simulation.{place_of, IsNotAtSpawn}
@@ -38,9 +38,11 @@ use Rattle.positions.specs.Stands.{AreNotes, AreParents, StandsAt, StandsFor, Is
 use Rattle.positions.proofs.Joins.{joined_is}
 use Rattle.positions.proofs.Starts.{entry_is}
 use Rattle.frames.specs.Joins.{with_worths, IsDone}
-use Rattle.right_strands.specs.Rightness.{sight, lookup, IsSound, IsRightStrand, IsHeld}
+use Rattle.right_strands.specs.Remembering.{Remembers, recalling}
+use Rattle.right_strands.specs.Rightness.{sight, lookup, IsSound, IsRightBy, IsHeld}
 use Rattle.right_strands.specs.Pairs.{StopsBroken, IsPair, IsPairFrom}
 use Rattle.right_strands.proofs.Points.{HasReturned, returned_is, AtSync, at_statement, at_end, sync_is, entry_there}
+use Rattle.right_strands.proofs.Recorded.{joined_recorded}
 use Rattle.right_strands.proofs.Cuts.{Breaks, place_named, cut_of, sound_of}
 
 pub start_loose : (st : Start) (v : ℤ) (f : Fault) (path : List ℕ) (m : NamedStart) → IsStart st (Leaving v) path m → IsStart st (Broken f) path m
@@ -128,21 +130,23 @@ module _ (setting : Setting) where
   not_broken r (at_statement e) f q = let c : Running ≡ Broken f = sym e ∙ q in cc
   not_broken r (at_end v e) f q = let c : Returning v ≡ Broken f = sym e ∙ q in cc
 
-  -- a right strand at its entry's sync has one layer
-  pub stalled_alone : (r : PlainStrand) → pause_of setting.codes r ≡ paused.AtSync → IsRightStrand setting r → r.lower ≡ []
+  -- a sound strand at its entry's sync has one layer
+  bare : (r : PlainStrand) → AtSync r → is_entry r ≡ true → (w : IsSound setting r) → (w.tally.opened ≡ []) × IsOneLayer w.named.layers
+  bare r s e w =
+      let y = w.named in
+      let n = sync_named r y s w.stands.now in
+      let entry : is_named_entry y.start y.frame.instance ≡ true = ap (is_named_entry y.start) n.1 ∙ entry_is r.start r.path y.start (as_running r r.phase y.start s w.stands.start) ∙ e in
+      n.0 ((w.tally.opened ≡ []) × IsOneLayer y.layers) (own_entry setting.program setting.tables (lookup setting) y w.tally entry w.owns)
+
+  pub stalled_alone : (r : PlainStrand) → pause_of setting.codes r ≡ paused.AtSync → IsRightBy setting r → r.lower ≡ []
   stalled_alone r at h =
       let s = sync_is setting.codes r at in
       let w = sound_of setting r (λ f e. not_broken r s f e) h in
-      let y = w.named in
-      let n = sync_named r y s w.stands.now in
-      let entry : is_named_entry y.start y.frame.instance ≡ true =
-      ap (is_named_entry y.start) n.1 ∙ entry_is r.start r.path y.start (as_running r r.phase y.start s w.stands.start) ∙ entry_there setting.codes r at in
-      let one = n.0 ((w.tally.opened ≡ []) × IsOneLayer y.layers) (own_entry setting.program setting.tables (lookup setting) y w.tally entry w.owns) in
-      one_numbered r.layer r.lower y.layers one.1 w.stands.layers
+      one_numbered r.layer r.lower w.named.layers (bare r s (entry_there setting.codes r at) w).1 w.stands.layers
 
   -- ---- one of them has a fault
 
-  joined_cut : (l r : PlainStrand) (f : Fault) (m : NamedStart) → IsStart l.start (Broken f) l.path m → Breaks setting m f → IsRightStrand setting (joined_broken l r f)
+  joined_cut : (l r : PlainStrand) (f : Fault) (m : NamedStart) → IsStart l.start (Broken f) l.path m → Breaks setting m f → IsRightBy setting (joined_broken l r f)
   joined_cut l r f m b h = inr (record { fault = f; phase = refl; start = m; begins = b; first = h })
 
   -- ---- the left one is over
@@ -179,7 +183,7 @@ module _ (setting : Setting) where
     there y i = sym (place_named r.start r.phase r.path y i) ∙ same_name_true (place_of r.start r.path) l.path (h.behind p.value p.phase)
 
     -- and the right one has a fault
-    by_fault : (f : Fault) → r.phase ≡ Broken f → IsRightStrand setting (joined_broken l r f)
+    by_fault : (f : Fault) → r.phase ≡ Broken f → IsRightBy setting (joined_broken l r f)
     by_fault f e =
         let c = cut_of setting r0 f e h.right in
         let b = begins_behind c.start l.path p.last p.front (there c.start c.begins) p.path in
@@ -209,7 +213,7 @@ module _ (setting : Setting) where
     joined_by0 (at_end v e) = ap (λ ph. joined_at ph l0 r0) p.phase ∙ ap (λ ph. joined_after ph l0 p.value r0) e
 
     -- and the right one waits at a sync
-    by_sync : IsReady setting.program setting.tables setting.memory → IsNumbered setting.program → pause_of setting.codes r ≡ paused.AtSync → IsRightStrand setting (joined_ended l p.value r)
+    by_sync : IsReady setting.program setting.tables setting.memory → IsNumbered setting.program → pause_of setting.codes r ≡ paused.AtSync → IsRightBy setting (joined_ended l p.value r)
     by_sync ready numbered at =
         let s = sync_is setting.codes r at in
         let x = left_sound.named in
@@ -227,50 +231,28 @@ module _ (setting : Setting) where
         let stands : StandsFor setting (joined l0 r0) z (named_tallies_joined left_sound.tally w.tally) = joined_is setting l0 r0 x y z left_sound.tally w.tally (not_at_spawn s) h.one_layer left_sound.stands w.stands pair in
         let product : operate_all l.layer.kinds l.layer.worths r.layer.worths ≡ operate_all l.layer.kinds h.left_worths h.right_worths =
         subst (λ ks. operate_all ks l.layer.worths r.layer.worths ≡ operate_all ks h.left_worths h.right_worths) (sym h.left_kinds) h.product in
+        let owns = (stay_own setting.program setting.tables (lookup setting) (law setting.program setting.tables setting.memory ready) ready.rules numbered (sound setting.program setting.tables setting.memory ready)).joins
+        x y left_sound.tally w.tally p.value b.over b.child one.note left_at.phase left_under b.start (left_instance ∙ b.place) one.is
+        (may_join_true setting.program setting.tables setting.memory x z may) left_sound.owns w.owns in
         inl (record {
           named = z;
           tally = named_tallies_joined left_sound.tally w.tally;
           stands = subst (λ s. StandsFor setting s z (named_tallies_joined left_sound.tally w.tally)) (joined_by0 s ∙ ended_same l r h.left_worths h.right_worths product p.value) stands;
-          owns = (stay_own setting.program setting.tables (lookup setting) (law setting.program setting.tables setting.memory ready) ready.rules numbered (sound setting.program setting.tables setting.memory ready)).joins
-              x y left_sound.tally w.tally p.value b.over b.child one.note left_at.phase left_under b.start (left_instance ∙ b.place) one.is
-              (may_join_true setting.program setting.tables setting.memory x z may) left_sound.owns w.owns;
+          owns = owns;
+          recorded = joined_recorded setting ready x y left_sound.tally w.tally p.value b.over b.child one.note left_at.phase left_under b.start (left_instance ∙ b.place) one.is
+              (may_join_true setting.program setting.tables setting.memory x z may) (bare r0 (valued_sync s) (entry_there setting.codes r at) w).0 left_sound.owns left_sound.recorded w.owns w.recorded owns;
         })
 
-    waits_joined : IsReady setting.program setting.tables setting.memory → IsNumbered setting.program → (pause_of setting.codes r ≡ paused.AtSync) ⊎ StopsBroken r → IsRightStrand setting (joined l r)
-    waits_joined ready numbered (inl at) = subst (IsRightStrand setting) (sym (joined_by (sync_is setting.codes r at))) (by_sync ready numbered at)
-    waits_joined ready numbered (inr f) = subst (IsRightStrand setting) (sym (ap (λ ph. joined_at ph l r) p.phase ∙ ap (λ ph. joined_after ph l p.value r) f.1)) (by_fault f.0 f.1)
+    waits_joined : IsReady setting.program setting.tables setting.memory → IsNumbered setting.program → (pause_of setting.codes r ≡ paused.AtSync) ⊎ StopsBroken r → IsRightBy setting (joined l r)
+    waits_joined ready numbered (inl at) = subst (IsRightBy setting) (sym (joined_by (sync_is setting.codes r at))) (by_sync ready numbered at)
+    waits_joined ready numbered (inr f) = subst (IsRightBy setting) (sym (ap (λ ph. joined_at ph l r) p.phase ∙ ap (λ ph. joined_after ph l p.value r) f.1)) (by_fault f.0 f.1)
 
-  over_joined : (l r : PlainStrand) → IsReady setting.program setting.tables setting.memory → IsNumbered setting.program → IsPair setting l r → (pause_of setting.codes l ≡ paused.Returned) ⊎ StopsBroken l → IsRightStrand setting (joined l r)
+  over_joined : (l r : PlainStrand) → IsReady setting.program setting.tables setting.memory → IsNumbered setting.program → IsPair setting l r → (pause_of setting.codes l ≡ paused.Returned) ⊎ StopsBroken l → IsRightBy setting (joined l r)
   over_joined l r ready numbered h (inl e) = waits_joined l r h (returned_is setting.codes l e) ready numbered h.waits
   over_joined l r ready numbered h (inr f) =
       let c = cut_of setting (with_worths h.left_worths l) f.0 f.1 h.left in
-      subst (IsRightStrand setting) (sym (ap (λ ph. joined_at ph l r) f.1))
+      subst (IsRightBy setting) (sym (ap (λ ph. joined_at ph l r) f.1))
       (joined_cut l r f.0 c.start (subst (λ ph. IsStart l.start ph l.path c.start) f.1 c.begins) c.first)
-
-  -- ---- the same, as the code has them
-
-  after_kept : (q : Phase) (l r : PlainStrand) (v : ℤ) → ((joined_after q l v r).layer.kinds ≡ l.layer.kinds) × ((joined_after q l v r).start ≡ l.start)
-  after_kept Entering l r v = (refl, refl)
-  after_kept Running l r v = (refl, refl)
-  after_kept AtSpawn l r v = (refl, refl)
-  after_kept (Returning w) l r v = (refl, refl)
-  after_kept (Leaving w) l r v = (refl, refl)
-  after_kept (Broken f) l r v = (refl, refl)
-
-  at_kept : (ph : Phase) (l r : PlainStrand) → ((joined_at ph l r).layer.kinds ≡ l.layer.kinds) × ((joined_at ph l r).start ≡ l.start)
-  at_kept Entering l r = (refl, refl)
-  at_kept Running l r = (refl, refl)
-  at_kept AtSpawn l r = (refl, refl)
-  at_kept (Returning v) l r = (refl, refl)
-  at_kept (Leaving v) l r = after_kept r.phase l r v
-  at_kept (Broken f) l r = (refl, refl)
-
-  pub joined_kept : (l r s : PlainStrand) (start : Start) → IsReady setting.program setting.tables setting.memory → IsNumbered setting.program → s ≡ joined l r → IsPairFrom setting start l r → IsHeld setting start false s
-  joined_kept l r s start ready numbered is h = record {
-    kinds = ap (λ (s : PlainStrand). s.layer.kinds) is ∙ (at_kept l.phase l r).0 ∙ h.pair.left_kinds;
-    right = λ n. subst (IsRightStrand setting) (sym is) (over_joined l r ready numbered h.pair h.pair.over);
-    begins = λ n. h.begins ∙ sym (at_kept l.phase l r).1 ∙ ap (λ (s : PlainStrand). s.start) (sym is);
-  }
 
   done_by : (l : PlainStrand) → (pause_of setting.codes l ≡ paused.Returned) ⊎ StopsBroken l → IsDone l.phase
   done_by l (inl e) = let p = returned_is setting.codes l e in subst IsDone (sym p.phase) tt
@@ -311,8 +293,34 @@ module _ (setting : Setting) where
     free = λ v a b. h.free v a (sym (pause_at_same zs r r.phase) ∙ b);
   }
 
+-- ---- the same, as the code has them
+
+after_kept : (q : Phase) (l r : PlainStrand) (v : ℤ) → ((joined_after q l v r).layer.kinds ≡ l.layer.kinds) × ((joined_after q l v r).start ≡ l.start)
+after_kept Entering l r v = (refl, refl)
+after_kept Running l r v = (refl, refl)
+after_kept AtSpawn l r v = (refl, refl)
+after_kept (Returning w) l r v = (refl, refl)
+after_kept (Leaving w) l r v = (refl, refl)
+after_kept (Broken f) l r v = (refl, refl)
+
+at_kept : (ph : Phase) (l r : PlainStrand) → ((joined_at ph l r).layer.kinds ≡ l.layer.kinds) × ((joined_at ph l r).start ≡ l.start)
+at_kept Entering l r = (refl, refl)
+at_kept Running l r = (refl, refl)
+at_kept AtSpawn l r = (refl, refl)
+at_kept (Returning v) l r = (refl, refl)
+at_kept (Leaving v) l r = after_kept r.phase l r v
+at_kept (Broken f) l r = (refl, refl)
+
+module _ (setting : Setting) where
+  pub joined_kept : (l r s : PlainStrand) (start : Start) → Remembers setting → ((k : Remembers setting) → IsReady setting.program setting.tables (recording_from k.kept)) → IsNumbered setting.program → s ≡ joined l r → IsPairFrom setting start l r → IsHeld setting start false s
+  joined_kept l r s start sound ready numbered is h = record {
+    kinds = ap (λ (s : PlainStrand). s.layer.kinds) is ∙ (at_kept l.phase l r).0 ∙ (h.pair sound).left_kinds;
+    right = λ n k. subst (IsRightBy (recalling setting k)) (sym is) (over_joined (recalling setting k) l r (ready k) numbered (h.pair k) (h.pair k).over);
+    begins = λ n. h.begins ∙ sym (at_kept l.phase l r).1 ∙ ap (λ (s : PlainStrand). s.start) (sym is);
+  }
+
   pub half_kept : (l r l' r' : PlainStrand) (start : Start) → l' ≡ with_worths l'.layer.worths l → r' ≡ with_worths r'.layer.worths r → operate_all l.layer.kinds l'.layer.worths r'.layer.worths ≡ operate_all l.layer.kinds l.layer.worths r.layer.worths → IsPairFrom setting start l r → IsPairFrom setting start l' r'
   half_kept l r l' r' start a b e h = record {
-    pair = subst (λ l. IsPair setting l r') (sym a) (subst (λ r. IsPair setting (with_worths l'.layer.worths l) r) (sym b) (half_pair l r l'.layer.worths r'.layer.worths e h.pair));
+    pair = λ k. subst (λ l. IsPair (recalling setting k) l r') (sym a) (subst (λ r. IsPair (recalling setting k) (with_worths l'.layer.worths l) r) (sym b) (half_pair (recalling setting k) l r l'.layer.worths r'.layer.worths e (h.pair k)));
     begins = h.begins ∙ ap (λ (s : PlainStrand). s.start) (sym a);
   }

@@ -1,5 +1,7 @@
 pub mod Starts
 pub mod Owned
+pub mod Recorded
+pub mod Settings
 pub mod Steps
 pub mod Moves
 pub mod Points

@@ -25,9 +25,12 @@ use Rattle.positions.specs.Stands.{AreParents, StandsAt, IsStart, IsAt}
 use Rattle.positions.specs.Simulation.{IsInlined, IsDetached, IsResumed, IsStolen}
 use Rattle.positions.proofs.Moves.{inlined_is}
 use Rattle.right_strands.specs.Picked.{IsSet}
-use Rattle.right_strands.specs.Rightness.{Pushed, FitsHere, IsSound, IsRightStrand, IsHeld, IsRightTask, WasDetached}
+use Rattle.right_strands.specs.Remembering.{recalling}
+use Rattle.right_strands.specs.Rightness.{Pushed, FitsHere, IsSound, IsRightBy, IsRightTaskBy, IsRightTask, IsHeld, WasDetached}
 use Rattle.right_strands.proofs.Starts.{start_same, start_tight}
 use Rattle.right_strands.proofs.Owned.{stolen_own, inlined_own, detached_own, continuation_own, popped_own}
+use Rattle.right_strands.proofs.Recorded.{inlined_recorded, detached_recorded, popped_recorded, stolen_recorded}
+use Rattle.right_strands.proofs.Settings.{set_with}
 
 module _ (setting : Setting) where
   -- ---- at a spawn
@@ -57,7 +60,7 @@ module _ (setting : Setting) where
         long = omega arith;
       }
 
-  spawns : (s : PlainStrand) → s.phase ≡ AtSpawn → IsRightStrand setting s → Spawns s
+  spawns : (s : PlainStrand) → s.phase ≡ AtSpawn → IsRightBy setting s → Spawns s
   spawns s e (inl w) = spawns_at s w s.below (subst (λ ph. StandsAt setting ph s.below s w.named) e w.stands.now)
   spawns s e (inr c) = absurd (let q : AtSpawn ≡ Broken c.fault = sym e ∙ c.phase in cc)
 
@@ -69,14 +72,14 @@ module _ (setting : Setting) where
   none_under path (a ∷ below) under e h = absurd cc
 
   -- the continuation waits for the child of its place
-  place_is : (k : Pushed) (h : IsRightTask setting k) → place_of_continuation h.named ≡ k.task.place
+  place_is : (k : Pushed) (h : IsRightTaskBy setting k) → place_of_continuation h.named ≡ k.task.place
   place_is k h =
       ap (λ (fr : Frame). child_of fr.instance h.named.child) h.stands.parent.frame
       ∙ ap (child_of (shorter k.task.place)) h.stands.child ∙ sym h.stands.parent.named
 
   -- ---- moves
 
-  pub inlined_right : (s : PlainStrand) → s.phase ≡ AtSpawn → IsInlined setting s (moves.inlined s) → IsRightStrand setting s → IsRightStrand setting (moves.inlined s)
+  pub inlined_right : (s : PlainStrand) → s.phase ≡ AtSpawn → IsInlined setting s (moves.inlined s) → IsRightBy setting s → IsRightBy setting (moves.inlined s)
   inlined_right s e f h =
       let p = spawns s e h in
       let w = p.sound in
@@ -85,9 +88,10 @@ module _ (setting : Setting) where
         tally = w.tally;
         stands = f w.named w.tally p.depth p.into p.child p.todo w.stands p.phase;
         owns = inlined_own setting w.named w.tally p.depth p.into p.child p.todo p.phase w.owns;
+        recorded = inlined_recorded setting w.named w.tally w.owns w.recorded p.depth p.into p.child p.todo p.phase (inlined_own setting w.named w.tally p.depth p.into p.child p.todo p.phase w.owns);
       })
 
-  pub detached_right : (s : PlainStrand) (task : PlainTask) → s.phase ≡ AtSpawn → IsDetached setting s (moves.detached s) task → IsRightStrand setting s → IsRightStrand setting (moves.detached s)
+  pub detached_right : (s : PlainStrand) (task : PlainTask) → s.phase ≡ AtSpawn → IsDetached setting s (moves.detached s) task → IsRightBy setting s → IsRightBy setting (moves.detached s)
   detached_right s task e f h =
       let p = spawns s e h in
       let w = p.sound in
@@ -96,9 +100,10 @@ module _ (setting : Setting) where
         tally = w.tally;
         stands = (f w.named w.tally p.depth p.into p.child p.todo w.stands p.phase).0;
         owns = detached_own setting w.named w.tally p.depth p.into p.child p.todo p.phase w.owns;
+        recorded = detached_recorded setting w.named w.tally w.owns w.recorded p.depth p.into p.child p.todo p.phase (detached_own setting w.named w.tally p.depth p.into p.child p.todo p.phase w.owns);
       })
 
-  pub task_right : (s : PlainStrand) (task : PlainTask) → s.phase ≡ AtSpawn → task.place ≡ s.path → IsDetached setting s (moves.detached s) task → IsRightStrand setting s → IsRightTask setting (record { task = task; since = s.start })
+  pub task_right : (s : PlainStrand) (task : PlainTask) → s.phase ≡ AtSpawn → task.place ≡ s.path → IsDetached setting s (moves.detached s) task → IsRightBy setting s → IsRightTaskBy setting (record { task = task; since = s.start })
   task_right s task e at f h =
       let p = spawns s e h in
       let w = p.sound in
@@ -115,29 +120,33 @@ module _ (setting : Setting) where
 
   -- ---- a strand of a stolen continuation
 
-  pub stolen_right : (k : Pushed) (s : PlainStrand) → IsStolen setting k.task s → IsRightTask setting k → IsRightStrand setting s
+  pub stolen_right : (k : Pushed) (s : PlainStrand) → IsStolen setting k.task s → IsRightTaskBy setting k → IsRightBy setting s
   stolen_right k s f h = inl (record {
     named = stolen setting.program.tree h.named;
     tally = no_tally;
     stands = f h.named h.stands;
     owns = stolen_own setting h.named h.right;
+    recorded = stolen_recorded setting h.named h.right (stolen_own setting h.named h.right);
   })
 
   -- ---- on with the continuation that waits
 
-  module _ (s : PlainStrand) (k : Pushed) (fits : FitsHere s k) (f : IsResumed setting k.task s (moves.resumed k.task s)) (task : IsRightTask setting k) where
+  module _ (s : PlainStrand) (k : Pushed) (fits : FitsHere s k) (f : IsResumed setting k.task s (moves.resumed k.task s)) (task : IsRightTaskBy setting k) where
     popped : (v : ℤ) (w : IsSound setting s) → IsAt setting (leaving v) s.path s.top s.below w.named → s.phase ≡ Leaving v → s.below ≡ [] → IsSound setting (moves.resumed k.task s)
     popped v w n ph none =
         let x = w.named in
         let under : x.under ≡ [] = none_under s.path s.below x.under none n.under in
         let began : IsStart k.since (Leaving v) k.task.place x.start =
         subst (λ path. IsStart k.since (Leaving v) path x.start) fits.1 (subst (λ st. IsStart st (Leaving v) s.path x.start) fits.0 (subst (λ p. IsStart s.start p s.path x.start) ph w.stands.start)) in
+        let since = start_same k.since (Leaving v) (Leaving (pos 0)) k.task.place x.start task.named.since began task.since in
+        let place = ap (λ (fr : Frame). fr.instance) n.frame ∙ fits.1 ∙ sym (place_is k task) in
+        let owns = popped_own setting x w.tally task.named v n.phase under since place w.owns task.right in
         record {
           named = resumed setting.program.tree x task.named v;
           tally = w.tally;
           stands = f x w.tally task.named v fits.1 w.stands task.stands n.phase under;
-          owns = popped_own setting x w.tally task.named v n.phase under (start_same k.since (Leaving v) (Leaving (pos 0)) k.task.place x.start task.named.since began task.since)
-              (ap (λ (fr : Frame). fr.instance) n.frame ∙ fits.1 ∙ sym (place_is k task)) w.owns task.right;
+          owns = owns;
+          recorded = popped_recorded setting x w.tally w.owns w.recorded task.named v n.phase under since place task.right owns;
         }
 
     -- what becomes of it by what it does next
@@ -151,13 +160,13 @@ module _ (setting : Setting) where
     resumed_by (Returning v) below path e b p = inl (ap (λ o. moves.resumed_by o k.task s) (ap (λ q. moves.returned_at q s.below s.path) e))
     resumed_by (Broken v) below path e b p = inl (ap (λ o. moves.resumed_by o k.task s) (ap (λ q. moves.returned_at q s.below s.path) e))
 
-    resumed_fits : (ph : Phase) → s.phase ≡ ph → (v : ℤ) → ph ≡ Leaving v → s.below ≡ [] → IsRightStrand setting s → IsRightStrand setting (moves.resumed k.task s)
+    resumed_fits : (ph : Phase) → s.phase ≡ ph → (v : ℤ) → ph ≡ Leaving v → s.below ≡ [] → IsRightBy setting s → IsRightBy setting (moves.resumed k.task s)
     resumed_fits ph e v p none (inl w) = inl (popped v w (subst (λ ph. StandsAt setting ph s.below s w.named) (e ∙ p) w.stands.now) (e ∙ p) none)
     resumed_fits ph e v p none (inr c) = absurd (let q : Leaving v ≡ Broken c.fault = sym (e ∙ p) ∙ c.phase in cc)
 
-    pub resumed_right : IsRightStrand setting s → IsRightStrand setting (moves.resumed k.task s)
+    pub resumed_right : IsRightBy setting s → IsRightBy setting (moves.resumed k.task s)
     resumed_right h = elim (resumed_by s.phase s.below s.path refl refl refl) [
-      | inl same ↦ subst (IsRightStrand setting) (sym same) h
+      | inl same ↦ subst (IsRightBy setting) (sym same) h
       | inr r ↦ resumed_fits s.phase refl r.0 r.1 r.2 h
     ]
 
@@ -172,28 +181,28 @@ module _ (task : PlainTask) (s : PlainStrand) where
   layer_resumed None = refl
   layer_resumed (Some v) = refl
 
+detached_as : (setting : Setting) (s s' : PlainStrand) (task : PlainTask) → s' ≡ moves.detached s → ((i : Setting) → IsDetached i s s' task) → IsDetached setting s (moves.detached s) task
+detached_as setting s s' task is f = subst (λ s'. IsDetached setting s s' task) is (f setting)
+
 module _ (setting : Setting) where
   pub inlined_kept : (start : Start) (failed : Bool) (s s' : PlainStrand) → s.phase ≡ AtSpawn → s' ≡ moves.inlined s → ((i : Setting) → IsInlined i s s') → IsHeld setting start failed s → IsHeld setting start failed s'
   inlined_kept start failed s s' e is f h = record {
     kinds = ap (λ (s : PlainStrand). s.layer.kinds) is ∙ h.kinds;
-    right = λ n. subst (IsRightStrand setting) (sym is) (inlined_right setting s e (subst (IsInlined setting s) is (f setting)) (h.right n));
+    right = λ n k. subst (IsRightBy (recalling setting k)) (sym is) (inlined_right (recalling setting k) s e (subst (IsInlined (recalling setting k) s) is (f (recalling setting k))) (h.right n k));
     begins = λ n. h.begins n ∙ ap (λ (s : PlainStrand). s.start) (sym is);
   }
-
-  detached_as : (s s' : PlainStrand) (task : PlainTask) → s' ≡ moves.detached s → ((i : Setting) → IsDetached i s s' task) → IsDetached setting s (moves.detached s) task
-  detached_as s s' task is f = subst (λ s'. IsDetached setting s s' task) is (f setting)
 
   pub detached_kept : (start : Start) (failed : Bool) (s s' : PlainStrand) (task : PlainTask) → s.phase ≡ AtSpawn → s' ≡ moves.detached s → ((i : Setting) → IsDetached i s s' task) → IsHeld setting start failed s → IsHeld setting start failed s'
   detached_kept start failed s s' task e is f h = record {
     kinds = ap (λ (s : PlainStrand). s.layer.kinds) is ∙ h.kinds;
-    right = λ n. subst (IsRightStrand setting) (sym is) (detached_right setting s task e (detached_as s s' task is f) (h.right n));
+    right = λ n k. subst (IsRightBy (recalling setting k)) (sym is) (detached_right (recalling setting k) s task e (detached_as (recalling setting k) s s' task is f) (h.right n k));
     begins = λ n. h.begins n ∙ ap (λ (s : PlainStrand). s.start) (sym is);
   }
 
   pub task_kept : (start : Start) (failed : Bool) (s s' : PlainStrand) (task : PlainTask) → failed ≡ false → s.phase ≡ AtSpawn → task.place ≡ s.path → s' ≡ moves.detached s → ((i : Setting) → IsDetached i s s' task) → IsHeld setting start failed s
       → IsRightTask setting (record { task = task; since = start })
-  task_kept start failed s s' task n e at is f h =
-      subst (λ since. IsRightTask setting (record { task = task; since = since })) (sym (h.begins n)) (task_right setting s task e at (detached_as s s' task is f) (h.right n))
+  task_kept start failed s s' task n e at is f h k =
+      subst (λ since. IsRightTaskBy (recalling setting k) (record { task = task; since = since })) (sym (h.begins n)) (task_right (recalling setting k) s task e at (detached_as (recalling setting k) s s' task is f) (h.right n k))
 
   pub was_detached : (start : Start) (failed : Bool) (s s' : PlainStrand) (task : PlainTask) → failed ≡ false → s.phase ≡ AtSpawn → s.below ≡ task.top ∷ task.below → s' ≡ moves.detached s → IsHeld setting start failed s → WasDetached setting (record { task = task; since = start }) s'
   was_detached start failed s s' task n e b is h = record { old = s; right = h.right n; phase = e; below = b; is = is }
@@ -205,7 +214,7 @@ module _ (setting : Setting) where
       is ∙ ap (λ task. moves.attached task s) i ∙ ap (moves.attached k.task) (same ∙ was.is) ∙ ap (λ below. record was.old { below = below; phase = Entering }) (sym was.below) in
       record {
         kinds = ap (λ (s : PlainStrand). s.layer.kinds) is ∙ h.kinds;
-        right = λ n. subst (IsRightStrand setting) (sym e) (inlined_right setting was.old was.phase (inlined_is setting was.old) was.right);
+        right = λ n m. subst (IsRightBy (recalling setting m)) (sym e) (inlined_right (recalling setting m) was.old was.phase (inlined_is (recalling setting m) was.old) (was.right m));
         begins = λ n. h.begins n ∙ ap (λ (s : PlainStrand). s.start) (sym is);
       }
 
@@ -215,18 +224,18 @@ module _ (setting : Setting) where
       let there : FitsHere s (record { task = task; since = since }) = subst (λ k. FitsHere s k) (sym t) (subst (λ (s : PlainStrand). FitsHere s k) (sym same) fits) in
       record {
         kinds = ap (λ (s : PlainStrand). s.layer.kinds) is ∙ ap (λ (l : PlainLayer). l.kinds) (layer_resumed task s (moves.returned_of s)) ∙ h.kinds;
-        right = λ n. subst (IsRightStrand setting) (sym is) (resumed_right setting s (record { task = task; since = since }) there (subst (IsResumed setting task s) is (f setting)) i (h.right n));
+        right = λ n m. subst (IsRightBy (recalling setting m)) (sym is) (resumed_right (recalling setting m) s (record { task = task; since = since }) there (subst (IsResumed (recalling setting m) task s) is (f (recalling setting m))) (i m) (h.right n m));
         begins = λ n. h.begins n ∙ sym (start_resumed task s (moves.returned_of s)) ∙ ap (λ (s : PlainStrand). s.start) (sym is);
       }
 
 pub stolen_kept : (setting : Setting) (p : PlainChecked) (e : Edited) (r : List PlainRecord) → IsSet setting p e r → (k : Pushed) (s : PlainStrand) (start : Start) (kit : List Kind) → kit ≡ setting.kinds → s ≡ moves.stolen p.codes kit k.task
     → ((tables : Tables) (kept : List Kept) (records : List PlainRecord) → IsStolen (setting_with p tables kept records) k.task s) → ((front : List ℕ) (child : ℕ) → k.task.place ≡ front ++ child ∷ [] → start ≡ Behind (length front) child) → IsRightTask setting k → IsHeld setting start false s
 stolen_kept setting p e r set k s start kit same is f starts h =
-    let named : start ≡ Behind (length (shorter k.task.place)) k.task.top.children = starts (shorter k.task.place) k.task.top.children h.stands.parent.named in
-    let long : length k.task.place ≡ length (shorter k.task.place) + 1 = ap length h.stands.parent.named ∙ length-append (shorter k.task.place) (k.task.top.children ∷ []) in
+    let named : start ≡ Behind (length (shorter k.task.place)) k.task.top.children = starts (shorter k.task.place) k.task.top.children (h set.sound).stands.parent.named in
+    let long : length k.task.place ≡ length (shorter k.task.place) + 1 = ap length (h set.sound).stands.parent.named ∙ length-append (shorter k.task.place) (k.task.top.children ∷ []) in
     let depth : length (shorter k.task.place) ≡ length k.task.place - 1 = omega arith in
     record {
       kinds = ap (λ (s : PlainStrand). s.layer.kinds) is ∙ same;
-      right = λ n. stolen_right setting k s (subst (λ (i : Setting). IsStolen i k.task s) set.same (f e.tables setting.memory.records r)) h;
+      right = λ n m. stolen_right (recalling setting m) k s (subst (λ (i : Setting). IsStolen i k.task s) (set_with setting p e r set m) (f e.tables m.kept r)) (h m);
       begins = λ n. named ∙ ap (λ d. Behind d k.task.top.children) depth ∙ ap (λ (s : PlainStrand). s.start) (sym is);
     }

@@ -61,7 +61,7 @@ now_of setting [] h = tt
 now_of setting (k ∷ ks) h = (h.0.now, now_of setting ks h.1)
 
 module _ (setting : Setting) where
-  abbrev Own : LayeredStrand → Tally → Type 0
+  abbrev pub Own : LayeredStrand → Tally → Type 0
   Own x t = OwnsNow setting.program setting.tables (lookup setting) x t
 
   -- the records made hold now
@@ -73,7 +73,7 @@ module _ (setting : Setting) where
   stands_at : (x : LayeredStrand) (t : Tally) (ph : Phase) → x.phase ≡ ph → Own x t → Stands x.frame.instance ph t.opened
   stands_at x t ph e h = subst (λ w. Stands x.frame.instance w t.opened) e h.stands
 
-  abbrev Pushes : Continuation → Type 0
+  abbrev pub Pushes : Continuation → Type 0
   Pushes k = IsContinuationNow setting.program setting.tables (lookup setting) k
 
   pub first_own : Own (first_layered setting.program.tree) no_tally
@@ -128,7 +128,7 @@ module _ (setting : Setting) where
       abbrev by_names : Step
       by_names = let w = by_name x t in micro setting.program.tree setting.tables (lookup setting) kit (total setting.program.tree x.layers).worth w.start w.frame w.phase w.under
 
-      step_is : small_step setting kit x t ≡ unflagged_step by_names
+      pub step_is : small_step setting kit x t ≡ unflagged_step by_names
       step_is =
           ap (λ (fr : Frame). unflagged_step (micro setting.program.tree setting.tables (lookup setting) kit (bottom x.layers) x.start fr x.phase x.under)) (told x.phase t.opened x.frame ((own_count setting.program setting.tables (lookup setting)).lengths x t h))
           ∙ read_alike kit (bottom x.layers) (total setting.program.tree x.layers).worth x.start (frame_by is_top x.phase t.opened x.frame) x.phase x.under

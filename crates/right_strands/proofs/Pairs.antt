@@ -1,19 +1,35 @@
 -- Two pieces that may be joined are a pair.
-use Rattle.std.proofs.Common.{◌≡◌, ◌⊎◌, inl, inr, ℤ, true, [], refl, sym, ap, ◌∙◌, subst}
+use Rattle.std.proofs.Common.{◌≡◌, ◌⊎◌, inl, inr, ◌&&◌, ℤ, true, [], refl, sym, ap, ◌∙◌, subst}
+use Rattle.meaning.specs.SmallStep.{same_name}
+use Rattle.run_theory.proofs.Names.{both_are}
 use Rattle.positions.specs.declared.phase.Phase.TheVariants.{Leaving, Broken}
 use Rattle.positions.specs.declared.phase.Paused.TheVariants as paused
 use Rattle.positions.specs.declared.start.Start.{Start}
 use Rattle.positions.specs.Setting.{Setting}
 use Rattle.positions.specs.Advance.{pause_of}
+use Rattle.positions.specs.Simulation.{place_of}
 use Rattle.positions.specs.Strands.{PlainStrand}
-use Rattle.right_strands.specs.Rightness.{IsRightStrand}
+use Rattle.frames.specs.Waiting.{leaves_none}
+use Rattle.right_strands.specs.Remembering.{Remembers, recalling}
+use Rattle.right_strands.specs.Rightness.{IsRightBy, IsRightStrand}
 use Rattle.right_strands.specs.declared.laid.Rest.{Rest}
 use Rattle.right_strands.specs.declared.laid.Rest.TheVariants as rest
 use Rattle.right_strands.specs.Laid.{PlainPiece, IsAtRest}
-use Rattle.right_strands.specs.Pairs.{StopsBroken, IsPair, IsPairFrom, MayPair, is_over, is_waiting}
+use Rattle.right_strands.specs.Pairs.{StopsBroken, IsPair, IsPairFrom, is_over, is_waiting, frees, may_follow, may_pair}
 use Rattle.right_strands.proofs.Points.{fault_is}
 use Rattle.right_strands.proofs.Waiting.{waiting_decided}
 use Rattle.right_strands.proofs.Joins.{stalled_alone}
+
+-- ---- what two pieces that may be joined by their names know of them
+
+both_of : (l r : PlainPiece) → may_pair l r ≡ true → l.rest ≡ rest.Ended → (same_name (place_of r.strand.start r.strand.path) l.strand.path && frees r.rest l.strand r.strand) ≡ true
+both_of l r h e = sym (ap (λ q. may_follow q l r) e) ∙ h
+
+named_by : (l r : PlainPiece) → may_pair l r ≡ true → l.rest ≡ rest.Ended → same_name (place_of r.strand.start r.strand.path) l.strand.path ≡ true
+named_by l r h e = (both_are (same_name (place_of r.strand.start r.strand.path) l.strand.path) (frees r.rest l.strand r.strand) (both_of l r h e)).0
+
+freed_by : (l r : PlainPiece) → may_pair l r ≡ true → l.rest ≡ rest.Ended → r.rest ≡ rest.Stalled → leaves_none l.strand r.strand ≡ true
+freed_by l r h e f = sym (ap (λ q. frees q l.strand r.strand) f) ∙ (both_are (same_name (place_of r.strand.start r.strand.path) l.strand.path) (frees r.rest l.strand r.strand) (both_of l r h e)).1
 
 module _ (setting : Setting) where
   left_over : (r : Rest) (s : PlainStrand) → is_over r ≡ true → IsAtRest setting.codes r s → (pause_of setting.codes s ≡ paused.Returned) ⊎ StopsBroken s
@@ -28,7 +44,7 @@ module _ (setting : Setting) where
   right_waits rest.Ended s e h = absurd cc
   right_waits rest.Finished s e h = absurd cc
 
-  right_alone : (r : Rest) (s : PlainStrand) → is_waiting r ≡ true → IsAtRest setting.codes r s → IsRightStrand setting s → s.lower ≡ []
+  right_alone : (r : Rest) (s : PlainStrand) → is_waiting r ≡ true → IsAtRest setting.codes r s → IsRightBy setting s → s.lower ≡ []
   right_alone rest.Stalled s e h k = stalled_alone setting s h.at k
   right_alone rest.Faulted s e h k = h.layers
   right_alone rest.Ended s e h k = absurd cc
@@ -50,11 +66,11 @@ module _ (setting : Setting) where
 
   -- a piece: what its type keeps
   pub record Lies (p : PlainPiece) : Type 0 where
-    pub right : IsRightStrand setting p.strand
+    pub right : IsRightBy setting p.strand
     pub rests : IsAtRest setting.codes p.rest p.strand
     pub kinds : p.strand.layer.kinds ≡ setting.kinds
 
-  pair_there : (l r : PlainPiece) → Lies l → Lies r → is_over l.rest ≡ true → is_waiting r.rest ≡ true → MayPair setting l r → IsPair setting l.strand r.strand
+  pair_there : (l r : PlainPiece) → Lies l → Lies r → is_over l.rest ≡ true → is_waiting r.rest ≡ true → may_pair l r ≡ true → IsPair setting l.strand r.strand
   pair_there l r hl hr over waits may = record {
     left_worths = l.strand.layer.worths;
     right_worths = r.strand.layer.worths;
@@ -66,12 +82,21 @@ module _ (setting : Setting) where
     one_layer = right_alone r.rest r.strand waits hr.rests hr.right;
     over = left_over l.rest l.strand over hl.rests;
     waits = right_waits r.rest r.strand waits hr.rests;
-    behind = λ v e. may.behind (ends_when l.rest l.strand v over hl.rests e);
-    free = λ v e q x y t u w i k. waiting_decided setting l.strand r.strand v e q x y t u w i k ∙ may.free (ends_when l.rest l.strand v over hl.rests e) (stalls_when r.rest r.strand waits hr.rests q);
+    behind = λ v e. named_by l r may (ends_when l.rest l.strand v over hl.rests e);
+    free = λ v e q x y t u w i k. waiting_decided setting l.strand r.strand v e q x y t u w i k ∙ freed_by l r may (ends_when l.rest l.strand v over hl.rests e) (stalls_when r.rest r.strand waits hr.rests q);
   }
 
-  pub pair_of : (l r : PlainPiece) (s t : PlainStrand) (start : Start) → s ≡ l.strand → t ≡ r.strand → start ≡ l.strand.start → Lies l → Lies r → is_over l.rest ≡ true → is_waiting r.rest ≡ true → MayPair setting l r → IsPairFrom setting start s t
-  pair_of l r s t start a b c hl hr over waits may = record {
-    pair = subst (λ s. IsPair setting s t) (sym a) (subst (IsPair setting l.strand) (sym b) (pair_there l r hl hr over waits may));
-    begins = c ∙ ap (λ (s : PlainStrand). s.start) (sym a);
-  }
+-- a piece: what its type keeps
+pub record LiesFor (setting : Setting) (p : PlainPiece) : Type 0 where
+  pub right : IsRightStrand setting p.strand
+  pub rests : IsAtRest setting.codes p.rest p.strand
+  pub kinds : p.strand.layer.kinds ≡ setting.kinds
+
+lies_at : (setting : Setting) (k : Remembers setting) (p : PlainPiece) → LiesFor setting p → Lies (recalling setting k) p
+lies_at setting k p h = record { right = h.right k; rests = h.rests; kinds = h.kinds }
+
+pub pair_of : (setting : Setting) (l r : PlainPiece) (s t : PlainStrand) (start : Start) → s ≡ l.strand → t ≡ r.strand → start ≡ l.strand.start → LiesFor setting l → LiesFor setting r → is_over l.rest ≡ true → is_waiting r.rest ≡ true → may_pair l r ≡ true → IsPairFrom setting start s t
+pair_of setting l r s t start a b c hl hr over waits may = record {
+  pair = λ k. subst (λ s. IsPair (recalling setting k) s t) (sym a) (subst (IsPair (recalling setting k) l.strand) (sym b) (pair_there (recalling setting k) l r (lies_at setting k l hl) (lies_at setting k r hr) over waits may));
+  begins = c ∙ ap (λ (s : PlainStrand). s.start) (sym a);
+}

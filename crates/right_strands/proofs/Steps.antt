@@ -1,10 +1,8 @@
 -- A small step of a right strand, and a run's beginning.
-use Rattle.std.proofs.Common.{◌≡◌, inl, inr, Bool, true, false, List, refl, sym, ap, ◌∙◌, subst}
+use Rattle.std.proofs.Common.{◌≡◌, inl, inr, Bool, true, false, List, sym, ap, ◌∙◌, subst}
 use Rattle.monoid_laws.specs.declared.Kind.{Kind}
 use Rattle.meaning.specs.Tables.{Tables}
 use Rattle.meaning.specs.Records.{Kept}
-use Rattle.program_tree.specs.Plain.{Tree}
-use Rattle.meaning.specs.SmallStep.{Step, moved, taken, paused}
 use Rattle.meaning.specs.LayeredStrand.{LayeredStrand, advanced as named_advanced, first_layered}
 use Rattle.meaning.specs.Tallies.{Tally, no_tally}
 use Rattle.trail_theory.specs.OpenLayers.{IsNumbered}
@@ -22,21 +20,18 @@ use Rattle.positions.specs.Moves.{first_strand}
 use Rattle.positions.specs.Simulation.{IsSmallStep, IsFirst, small_step, tally_after}
 use Rattle.frames.specs.Steps.{HoldsBy, IsStepOf}
 use Rattle.frames.specs.Given.{given}
-use Rattle.frames.proofs.Memories.{advanced_same}
 use Rattle.positions.specs.Stands.{IsStart}
 use Rattle.right_strands.specs.Picked.{IsSet}
-use Rattle.right_strands.specs.Rightness.{IsSound, IsCut, IsRightStrand, IsHeld}
+use Rattle.right_strands.specs.Remembering.{Remembers, recalling}
+use Rattle.right_strands.specs.Rightness.{IsSound, IsCut, IsRightBy, IsHeld}
 use Rattle.right_strands.proofs.Starts.{starts_same}
 use Rattle.right_strands.proofs.Owned.{first_own, made_hold, steps_own}
-
-start_kept : (program : Tree) (x : LayeredStrand) (st : Step) → (named_advanced program x st).start ≡ x.start
-start_kept program x (moved l evs fr ph t) = refl
-start_kept program x (taken evs k fr ph t) = refl
-start_kept program x (paused p) = refl
+use Rattle.right_strands.proofs.Recorded.{start_kept, first_recorded, stepped_recorded}
+use Rattle.right_strands.proofs.Settings.{advanced_with, advanced_is, set_with, kept_with}
 
 -- a right strand that begins at the same place
 pub record GoesOn (setting : Setting) (s s' : PlainStrand) : Type 0 where
-  pub right : IsRightStrand setting s'
+  pub right : IsRightBy setting s'
   pub begins : s.start ≡ s'.start
 
 module _ (setting : Setting) (ready : IsReady setting.program setting.tables setting.memory) (numbered : IsNumbered setting.program) where
@@ -47,7 +42,7 @@ module _ (setting : Setting) (ready : IsReady setting.program setting.tables set
       let owns = steps_own setting ready numbered kit h.named h.tally h.owns in
       let stands = step h.named h.tally h.stands (made_hold setting x t owns) in
       record {
-        right = inl (record { named = x; tally = t; stands = stands; owns = owns });
+        right = inl (record { named = x; tally = t; stands = stands; owns = owns; recorded = stepped_recorded setting h.named h.tally h.owns h.recorded ready numbered kit owns });
         begins = starts_same s.start s'.start s.phase s'.phase s.path s'.path h.named.start h.stands.start (subst (IsStart s'.start s'.phase s'.path) (start_kept setting.program.tree h.named (small_step setting kit h.named h.tally)) stands.start);
       }
 
@@ -56,14 +51,14 @@ module _ (setting : Setting) (ready : IsReady setting.program setting.tables set
       let same : s' ≡ s = e ∙ ap (λ ph. advanced_at setting kit ph s) h.phase in
       record { right = inr (subst (IsCut setting) (sym same) h); begins = ap (λ (s : PlainStrand). s.start) (sym same) }
 
-  pub step_right : (kit kit' : Bool) (s s' : PlainStrand) → s' ≡ advanced setting kit s → IsSmallStep setting kit' s s' → IsRightStrand setting s → GoesOn setting s s'
+  pub step_right : (kit kit' : Bool) (s s' : PlainStrand) → s' ≡ advanced setting kit s → IsSmallStep setting kit' s s' → IsRightBy setting s → GoesOn setting s s'
   step_right kit kit' s s' e step (inl h) = sound_step kit' s s' step h
   step_right kit kit' s s' e step (inr h) = cut_step kit s s' e h
 
   -- ---- the beginning
 
-  pub first_right : (s : PlainStrand) → IsFirst setting s → IsRightStrand setting s
-  first_right s h = inl (record { named = first_layered setting.program.tree; tally = no_tally; stands = h; owns = first_own setting })
+  pub first_right : (s : PlainStrand) → IsFirst setting s → IsRightBy setting s
+  first_right s h = inl (record { named = first_layered setting.program.tree; tally = no_tally; stands = h; owns = first_own setting; recorded = first_recorded setting (first_own setting) })
 
 -- ---- a step of the code
 
@@ -72,10 +67,6 @@ kinds_are setting p e r h = ap (λ (i : Setting). i.kinds) h.same
 
 pub codes_are : (setting : Setting) (p : PlainChecked) (e : Edited) (r : List PlainRecord) → IsSet setting p e r → p.codes ≡ setting.codes
 codes_are setting p e r h = ap (λ (i : Setting). i.codes) h.same
-
--- by the run's setting the step is the same
-advanced_is : (setting : Setting) (p : PlainChecked) (e : Edited) (r : List PlainRecord) → IsSet setting p e r → (kit : Bool) (s : PlainStrand) → advanced (given p e r) kit s ≡ advanced setting kit s
-advanced_is setting p e r h kit s = advanced_same (given p e r) (setting_with p e.tables setting.memory.records r).memory kit s ∙ ap (λ (i : Setting). advanced i kit s) h.same
 
 pub all_advanced : (setting : Setting) (p : PlainChecked) (e : Edited) (r : List PlainRecord) → IsSet setting p e r → (lacks none : Type 0) (s s' : PlainStrand) → HoldsBy lacks none (λ kit. s' ≡ advanced (given p e r) kit s)
     → HoldsBy lacks none (λ kit. s' ≡ advanced setting kit s)
@@ -90,25 +81,26 @@ all_advanced setting p e r set lacks none s s' h = record {
 abbrev IsStepBy : Type 0 → Type 0 → PlainChecked → Edited → List PlainRecord → PlainStrand → PlainStrand → Type 0
 IsStepBy lacks none p e r s s' = HoldsBy lacks none (λ kit. (kept : List Kept) → AreKept p kept r → HasItsTables (setting_with p e.tables kept r) → IsStepOf (setting_with p e.tables kept r) kit s s')
 
-goes_on : (setting : Setting) (p : PlainChecked) (e : Edited) (r : List PlainRecord) → IsSet setting p e r → (lacks none : Type 0) (s s' : PlainStrand) → HoldsBy lacks none (λ kit. s' ≡ advanced (given p e r) kit s) → IsStepBy lacks none p e r s s' → IsRightStrand setting s → GoesOn setting s s'
-goes_on setting p e r set lacks none s s' adv step h =
-    let by : IsSmallStep setting step.kit s s' = subst (λ (i : Setting). IsSmallStep i step.kit s s') set.same (step.done setting.memory.records set.kept set.names).step in
-    step_right setting set.ready set.numbered adv.kit step.kit s s' (adv.done ∙ advanced_is setting p e r set adv.kit s) by h
+goes_on : (setting : Setting) (p : PlainChecked) (e : Edited) (r : List PlainRecord) → IsSet setting p e r → (k : Remembers setting) (lacks none : Type 0) (s s' : PlainStrand) → HoldsBy lacks none (λ kit. s' ≡ advanced (given p e r) kit s) → IsStepBy lacks none p e r s s'
+    → IsRightBy (recalling setting k) s → GoesOn (recalling setting k) s s'
+goes_on setting p e r set k lacks none s s' adv step h =
+    let by : IsSmallStep (recalling setting k) step.kit s s' = subst (λ (i : Setting). IsSmallStep i step.kit s s') (set_with setting p e r set k) (step.done k.kept (kept_with setting p e r set k) set.names).step in
+    step_right (recalling setting k) (set.ready k) set.numbered adv.kit step.kit s s' (adv.done ∙ advanced_is setting p e r set adv.kit s ∙ advanced_with setting k adv.kit s) by h
 
 pub step_kept : (setting : Setting) (p : PlainChecked) (e : Edited) (r : List PlainRecord) → IsSet setting p e r → (lacks none : Type 0) (s s' : PlainStrand) → HoldsBy lacks none (λ kit. s' ≡ advanced (given p e r) kit s) → IsStepBy lacks none p e r s s'
     → s'.layer.kinds ≡ s.layer.kinds → (start : Start) (failed : Bool) → IsHeld setting start failed s → IsHeld setting start failed s'
 step_kept setting p e r set lacks none s s' adv step kinds start failed h = record {
   kinds = kinds ∙ h.kinds;
-  right = λ n. (goes_on setting p e r set lacks none s s' adv step (h.right n)).right;
-  begins = λ n. h.begins n ∙ (goes_on setting p e r set lacks none s s' adv step (h.right n)).begins;
+  right = λ n k. (goes_on setting p e r set k lacks none s s' adv step (h.right n k)).right;
+  begins = λ n. h.begins n ∙ (goes_on setting p e r set set.sound lacks none s s' adv step (h.right n set.sound)).begins;
 }
 
 pub failed_kept : (setting : Setting) (start start' : Start) (failed : Bool) (s s' : PlainStrand) → s'.layer.kinds ≡ s.layer.kinds → IsHeld setting start failed s → IsHeld setting start' true s'
 failed_kept setting start start' failed s s' kinds h = record { kinds = kinds ∙ h.kinds; right = λ n. cc; begins = λ n. cc }
 
 pub first_kept : (setting : Setting) (p : PlainChecked) (e : Edited) (r : List PlainRecord) → IsSet setting p e r → (s : PlainStrand) (kit : List Kind) → kit ≡ setting.kinds → s ≡ first_strand p.codes kit p.main → ((tables : Tables) (kept : List Kept) (records : List PlainRecord) → IsFirst (setting_with p tables kept records) s) → IsHeld setting Root false s
-first_kept setting p e r set s kit k is first = record {
-  kinds = ap (λ (s : PlainStrand). s.layer.kinds) is ∙ k;
-  right = λ n. first_right setting set.ready set.numbered s (subst (λ (i : Setting). IsFirst i s) set.same (first e.tables setting.memory.records r));
+first_kept setting p e r set s kit same is first = record {
+  kinds = ap (λ (s : PlainStrand). s.layer.kinds) is ∙ same;
+  right = λ n k. first_right (recalling setting k) (set.ready k) set.numbered s (subst (λ (i : Setting). IsFirst i s) (set_with setting p e r set k) (first e.tables k.kept r));
   begins = λ n. sym (ap (λ (s : PlainStrand). s.start) is);
 }

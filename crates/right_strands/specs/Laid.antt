@@ -1,14 +1,10 @@
 -- Strands that are laid down, and the answer of the last one.
-use Rattle.std.specs.Prelude.{◌≡◌, ℕ, Bool, true, false, List, [], map, length}
+use Rattle.std.specs.Prelude.{◌≡◌, ℕ, Bool, true, false, List, [], map}
 use Rattle.monoid_laws.specs.Kinds.{meaning}
 use Rattle.meaning.specs.Elision.{Answer, Finished, Faulted, from_scratch}
-use Rattle.meaning.specs.Records.{Kept, needed, executed, reused}
 use Rattle.meaning.specs.SmallStep.{same_name}
-use Rattle.trail_theory.specs.Order.{Every}
-use Rattle.trail_theory.specs.OpenLayers.{IsNewRecord}
 use Rattle.linked_program.specs.declared.code.Code.{Code}
 use Rattle.rerun_records.specs.Record.{PlainRecord}
-use Rattle.rerun_records.specs.Named.{AreRecords}
 use Rattle.positions.specs.declared.phase.Paused.{Paused}
 use Rattle.positions.specs.declared.phase.Paused.TheVariants as paused
 use Rattle.positions.specs.Setting.{Setting}
@@ -17,8 +13,11 @@ use Rattle.positions.specs.Simulation.{place_of}
 use Rattle.positions.specs.Strands.{PlainStrand}
 use Rattle.positions.specs.Stands.{named_fault}
 use Rattle.positions.specs.Moves.{lowest_alone}
+use Rattle.positions.specs.Tallies.{PlainTally}
+use Rattle.numbered_runs.specs.News.{HasCounted, HaveNews}
 use Rattle.frames.specs.declared.answer.RunAnswer.{RunAnswer}
 use Rattle.frames.specs.declared.answer.RunAnswer.TheVariants as answer
+use Rattle.right_strands.specs.Remembering.{Remembers, recalling}
 use Rattle.right_strands.specs.declared.laid.Rest.{Rest}
 use Rattle.right_strands.specs.declared.laid.Rest.TheVariants as rest
 
@@ -80,15 +79,14 @@ module _ (setting : Setting) where
   abbrev pub AnswersElision : RunAnswer → Type 0
   AnswersElision given = IsElision (from_scratch setting.program.tree setting.tables) given
 
-  -- the needed instances were counted: as executed those that no valid record answers, as reused the others; and the new records are sound and hold now
-  pub record HasCounted (executed_ones reused_ones : ℕ) (made : List PlainRecord) : Type 0 where
-    pub executed_are : executed_ones ≡ length (executed setting.program.tree (needed setting.program setting.tables setting.memory.records))
-    pub reused_are : reused_ones ≡ length (reused (needed setting.program setting.tables setting.memory.records))
-    pub kept : List Kept
-    pub stand : AreRecords setting.program.tree setting.names setting.kinds kept made
-    pub news : Every (IsNewRecord setting.program setting.tables) kept
+-- ---- counts and new records
 
-  -- where the run has finished
-  abbrev pub HasRecorded : RunAnswer → List PlainRecord → Type 0
-  HasRecorded (answer.Finished v values n m k) made = HasCounted n m made
-  HasRecorded _ made = Unit {0}
+-- those counts, and those new records
+abbrev pub tally_of : ℕ → ℕ → ℕ → List PlainRecord → PlainTally
+tally_of executed reused unrecorded made = record { opened = []; made = made; executed = executed; reused = reused; unrecorded = unrecorded }
+
+-- where the run has finished, it has counted the needed instances, whichever sound records its records stand for, and its new records are sound and hold now
+abbrev pub HasRecorded : Setting → RunAnswer → List PlainRecord → Type 0
+HasRecorded setting (answer.Finished v values n m k) made =
+    (s : Remembers setting) → HasCounted (recalling setting s) (tally_of n m k made) × HaveNews (recalling setting s) (tally_of n m k made)
+HasRecorded setting _ made = Unit {0}

@@ -1,3 +1,4 @@
+pub mod Remembering
 pub mod Picked
 pub mod Rightness
 pub mod Laid

@@ -1,12 +1,8 @@
 -- Two neighbours that may become one strand.
-use Rattle.std.specs.Prelude.{◌≡◌, ◌⊎◌, ℤ, Bool, true, false, List, []}
+use Rattle.std.specs.Prelude.{◌≡◌, ◌⊎◌, ℤ, Bool, true, false, ◌&&◌, List, []}
 use Rattle.monoid_laws.specs.Worth.{Worth}
 use Rattle.monoid_laws.specs.Kinds.{operate_all}
 use Rattle.meaning.specs.SmallStep.{same_name}
-use Rattle.meaning.specs.LayeredStrand as definitions
-use Rattle.meaning.specs.LayeredStrand.{LayeredStrand}
-use Rattle.meaning.specs.Tallies.{Tally}
-use Rattle.meaning.specs.Schedules.{may_join}
 use Rattle.positions.specs.declared.start.Start.{Start}
 use Rattle.positions.specs.declared.phase.Fault.{Fault}
 use Rattle.positions.specs.declared.phase.Paused.TheVariants as paused
@@ -15,13 +11,14 @@ use Rattle.positions.specs.Setting.{Setting}
 use Rattle.positions.specs.Advance.{pause_of}
 use Rattle.positions.specs.Simulation.{place_of}
 use Rattle.positions.specs.Strands.{PlainStrand}
-use Rattle.positions.specs.Stands.{StandsFor}
 use Rattle.frames.specs.Joins.{with_worths}
-use Rattle.right_strands.specs.Rightness.{IsRightStrand}
+use Rattle.frames.specs.Waiting.{leaves_none}
+use Rattle.right_strands.specs.Remembering.{Remembers, recalling}
+use Rattle.right_strands.specs.Rightness.{IsRightBy}
 use Rattle.right_strands.specs.declared.laid.Rest.{Rest}
 use Rattle.right_strands.specs.declared.laid.Rest.TheVariants as rest
 use Rattle.right_strands.specs.Laid.{PlainPiece}
-use Rattle.right_strands.specs.Waiting.{leaves_none}
+use Rattle.right_strands.specs.Waiting.{DecidesWaiting}
 
 -- two strands that may become one
 pub record PlainPair : Type 0 where
@@ -38,27 +35,30 @@ is_waiting rest.Stalled = true
 is_waiting rest.Faulted = true
 is_waiting _ = false
 
+-- the right one waits at a sync: joined, no name of it would wait for a child that ends after the left one's beginning
+abbrev pub frees : Rest → PlainStrand → PlainStrand → Bool
+frees rest.Stalled l r = leaves_none l r
+frees _ l r = true
+
+-- the left one has ended: it names the child behind which the right one begins, and leaves no name of it waiting
+abbrev pub may_follow : Rest → PlainPiece → PlainPiece → Bool
+may_follow rest.Ended l r = same_name (place_of r.strand.start r.strand.path) l.strand.path && frees r.rest l.strand r.strand
+may_follow _ l r = true
+
+-- by their names two pieces may become one strand
+abbrev pub may_pair : PlainPiece → PlainPiece → Bool
+may_pair l r = may_follow l.rest l r
+
 abbrev pub StopsBroken : PlainStrand → Type 0
 StopsBroken s = (f : Fault) × (s.phase ≡ Broken f)
 
 module _ (setting : Setting) where
-  -- joined, no name of the right one waits for a child that ends after the left one's place
-  abbrev pub LeavesNoneWaiting : PlainStrand → PlainStrand → Type 0
-  LeavesNoneWaiting l r =
-      (x y : LayeredStrand) (t u : Tally) (v : ℤ) → StandsFor setting l x t → StandsFor setting r y u
-      → may_join setting.program setting.tables setting.memory x (definitions.joined setting.program.tree x v y) ≡ true
-
-  -- where the left one has ended, it names the child behind which the right one begins, and leaves no name of it waiting
-  pub record MayPair (l r : PlainPiece) : Type 0 where
-    pub behind : l.rest ≡ rest.Ended → same_name (place_of r.strand.start r.strand.path) l.strand.path ≡ true
-    pub free : l.rest ≡ rest.Ended → r.rest ≡ rest.Stalled → leaves_none setting l.strand r.strand ≡ true
-
   -- but for the reducers' values, of which only the products are claimed, both are right; the left one is over or has a fault, the right one waits at a sync or has a fault, with one layer; and where no fault is there, the left one is over with the child behind which the right one begins
   pub record IsPair (l r : PlainStrand) : Type 0 where
     pub left_worths : List Worth
     pub right_worths : List Worth
-    pub left : IsRightStrand setting (with_worths left_worths l)
-    pub right : IsRightStrand setting (with_worths right_worths r)
+    pub left : IsRightBy setting (with_worths left_worths l)
+    pub right : IsRightBy setting (with_worths right_worths r)
     pub product : operate_all setting.kinds l.layer.worths r.layer.worths ≡ operate_all setting.kinds left_worths right_worths
     pub left_kinds : l.layer.kinds ≡ setting.kinds
     pub right_kinds : r.layer.kinds ≡ setting.kinds
@@ -66,9 +66,9 @@ module _ (setting : Setting) where
     pub over : (pause_of setting.codes l ≡ paused.Returned) ⊎ StopsBroken l
     pub waits : (pause_of setting.codes r ≡ paused.AtSync) ⊎ StopsBroken r
     pub behind : (v : ℤ) → l.phase ≡ Leaving v → same_name (place_of r.start r.path) l.path ≡ true
-    pub free : (v : ℤ) → l.phase ≡ Leaving v → pause_of setting.codes r ≡ paused.AtSync → LeavesNoneWaiting (with_worths left_worths l) (with_worths right_worths r)
+    pub free : (v : ℤ) → l.phase ≡ Leaving v → pause_of setting.codes r ≡ paused.AtSync → DecidesWaiting setting (with_worths left_worths l) (with_worths right_worths r) true
 
-  -- what the type of a pair keeps
-  pub record IsPairFrom (start : Start) (l r : PlainStrand) : Type 0 where
-    pub pair : IsPair l r
-    pub begins : start ≡ l.start
+-- what the type of a pair keeps, whichever sound records by name there are
+pub record IsPairFrom (setting : Setting) (start : Start) (l r : PlainStrand) : Type 0 where
+  pub pair : (k : Remembers setting) → IsPair (recalling setting k) l r
+  pub begins : start ≡ l.start

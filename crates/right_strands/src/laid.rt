@@ -1,11 +1,12 @@
 //! Strands that are laid down.
-ghost use Rattle.std.specs.Prelude.{◌≡◌, ◌⊎◌, ◌+◌, ◌≤◌, true, false, suc, List, [], length, IfOk, IfErr, OnOk};
+ghost use Rattle.std.specs.Prelude.{◌≡◌, ◌⊎◌, ◌+◌, ◌≤◌, true, false, suc, List, [], length, IfOk, IfErr};
 ghost use Rattle.monoid_laws.specs.declared.Kind.{Kind};
 ghost use Rattle.meaning.specs.SmallStep.{same_name};
+ghost use Rattle.rerun_records.specs.Named.{HaveValues};
 ghost use Rattle.positions.specs.Advance.{pause_of};
 ghost use Rattle.positions.specs.Moves.{lowest_alone};
 ghost use Rattle.positions.specs.Simulation.{place_of};
-ghost use Rattle.right_strands.specs.Rightness.{IsRightStrand, PlainRight};
+ghost use Rattle.right_strands.specs.Rightness.{IsRightStrand};
 ghost use Rattle.right_strands.specs.Laid.{IsAtRest, laid_as, AnswersElision, IsGiven, HasRecorded, ends_run};
 
 use crate::run::{Run, Scene};
@@ -58,8 +59,11 @@ impl<J: Run, V: View> Piece<J, V> {
         ensures laid { IfOk result (λ p. p.strand ≡ laid_as p.rest strand.strand) }
         ensures back { IfErr result (λ s. s ≡ strand) }
         ensures fitting { (k : List Kind) → K.fits k kits.old → K.fits k kits.new }
-        ensures kept { (k : List Kind) → K.gives k kits.new → K.gives k kits.old ⊎ J.setting.kinds ≡ k }
-        ensures home { length strand.strand.lower + K.free kits.old ≤ K.total kits.old → IfOk result (λ p. K.free kits.new + length p.strand.lower ≡ length strand.strand.lower + K.free kits.old) }
+        ensures kept { (k : List Kind) → K.gives k kits.new
+            → K.gives k kits.old ⊎ J.setting.kinds ≡ k }
+        ensures home { length strand.strand.lower + K.free kits.old ≤ K.total kits.old
+            → IfOk result (λ p. K.free kits.new + length p.strand.lower
+            ≡ length strand.strand.lower + K.free kits.old) }
         ensures away { IfErr result (λ s. K.free kits.new ≡ K.free kits.old) }
         ensures total { K.total kits.new ≡ K.total kits.old }
     {
@@ -89,10 +93,13 @@ impl<J: Run, V: View> Piece<J, V> {
         requires going { strand.failed ≡ false }
         requires faulted { pause_of J.setting.codes strand.strand ≡ Paused.Faulted }
         requires fits { K.fits J.setting.kinds kits.old }
-        ensures laid { result ≡ record { strand = lowest_alone strand.strand; rest = Rest.Faulted } }
+        ensures laid { result
+            ≡ record { strand = lowest_alone strand.strand; rest = Rest.Faulted } }
         ensures fitting { (k : List Kind) → K.fits k kits.old → K.fits k kits.new }
-        ensures kept { (k : List Kind) → K.gives k kits.new → K.gives k kits.old ⊎ J.setting.kinds ≡ k }
-        ensures given { length strand.strand.lower + K.free kits.old ≤ K.total kits.old → K.free kits.new ≡ length strand.strand.lower + K.free kits.old }
+        ensures kept { (k : List Kind) → K.gives k kits.new
+            → K.gives k kits.old ⊎ J.setting.kinds ≡ k }
+        ensures given { length strand.strand.lower + K.free kits.old ≤ K.total kits.old
+            → K.free kits.new ≡ length strand.strand.lower + K.free kits.old }
         ensures total { K.total kits.new ≡ K.total kits.old }
     {
         strand.close_upper(kits);
@@ -133,7 +140,8 @@ impl<J: Run, V: View> Piece<J, V> {
 
     /// Whether the strand begins behind the child of that name; the first one does behind the empty name.
     pub fn is_behind(&self, name: &[usize]) -> bool
-        ensures behind { result ≡ same_name (place_of self.now.strand.start self.now.strand.path) name.now }
+        ensures behind { result
+            ≡ same_name (place_of self.now.strand.start self.now.strand.path) name.now }
     {
         self.strand.is_behind(name)
     }
@@ -141,7 +149,8 @@ impl<J: Run, V: View> Piece<J, V> {
     /// The name of the child behind which the strand begins; that of the first strand is empty. Want of memory is the only
     /// error.
     pub fn begins_behind(&self, alloc: Global) -> Result<Vec<usize>, AllocError>
-        ensures place { IfOk result (λ place. place.items ≡ place_of self.now.strand.start self.now.strand.path) }
+        ensures place { IfOk result (λ place. place.items
+            ≡ place_of self.now.strand.start self.now.strand.path) }
     {
         self.strand.begins_behind(alloc)
     }
@@ -170,14 +179,18 @@ impl<J: Run, V: View> Piece<J, V> {
         ensures elision { AnswersElision J.setting result.0 }
         ensures given { IsGiven result.0 }
         ensures recorded { HasRecorded J.setting result.0 result.1.items }
+        ensures values { HaveValues J.setting.kinds result.1.items }
         ensures records { result.1.items ≡ self.strand.tally.made }
         ensures fitting { (k : List Kind) → K.fits k kits.old → K.fits k kits.new }
-        ensures kept { (k : List Kind) → K.gives k kits.new → K.gives k kits.old ⊎ J.setting.kinds ≡ k }
-        ensures home { suc (length self.strand.lower) + K.free kits.old ≤ K.total kits.old → K.free kits.new ≡ suc (length self.strand.lower) + K.free kits.old }
+        ensures kept { (k : List Kind) → K.gives k kits.new
+            → K.gives k kits.old ⊎ J.setting.kinds ≡ k }
+        ensures home { suc (length self.strand.lower) + K.free kits.old ≤ K.total kits.old
+            → K.free kits.new ≡ suc (length self.strand.lower) + K.free kits.old }
         ensures total { K.total kits.new ≡ K.total kits.old }
     {
         scene.kept();
         let strand = self.into_strand();
+        strand.layered();
         strand.end(alloc, kits)
     }
 

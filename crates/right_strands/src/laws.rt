@@ -3,7 +3,8 @@ ghost use Rattle.std.specs.Prelude.{◌≡◌, ℤ};
 ghost use Rattle.positions.specs.Setting.{Setting};
 ghost use Rattle.positions.specs.Strands.{PlainStrand};
 ghost use Rattle.positions.specs.Advance.{pause_of};
-ghost use Rattle.right_strands.specs.Waiting.{leaves_none, DecidesWaiting};
+ghost use Rattle.frames.specs.Waiting.{leaves_none};
+ghost use Rattle.right_strands.specs.Waiting.{DecidesWaiting};
 
 use positions::phase::{Paused, Phase};
 
@@ -12,5 +13,5 @@ use positions::phase::{Paused, Phase};
 pub fn waiting_is_the_definitions()
     ensures decided { (setting : Setting) (l r : PlainStrand) (v : ℤ) → l.phase ≡ Phase.Leaving v
         → pause_of setting.codes r ≡ Paused.AtSync
-        → DecidesWaiting setting l r (leaves_none setting l r) }
+        → DecidesWaiting setting l r (leaves_none l r) }
 {}

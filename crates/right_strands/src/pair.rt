@@ -1,8 +1,7 @@
 //! Neighbours that become one strand.
-ghost use Rattle.std.specs.Prelude.{◌≡◌, true, false, IfOk, IfErr};
+ghost use Rattle.std.specs.Prelude.{◌≡◌, true, false, IfOk};
 ghost use Rattle.positions.specs.Moves.{joined};
-ghost use Rattle.right_strands.specs.Rightness.{PlainRight};
-ghost use Rattle.right_strands.specs.Pairs.{MayPair, is_over, is_waiting};
+ghost use Rattle.right_strands.specs.Pairs.{is_over, is_waiting, frees, may_pair};
 
 use crate::laid::{Piece, Rest};
 use crate::run::{Run, Scene};
@@ -47,6 +46,27 @@ impl<J: Run, V: View> Piece<J, V> {
     {
         matches!(self.rest, Rest::Stalled | Rest::Faulted)
     }
+
+    /// Whether the strand and that one to its right may be joined by their names. One that has ended has to name the child behind
+    /// which the right one begins, and to leave no name of it waiting.
+    pub fn may_join(&self, right: &Piece<J, V>) -> bool
+        ensures may { result ≡ may_pair self.now right.now }
+    {
+        match self.rest {
+            Rest::Ended => right.is_behind(self.name()) && right.is_freed_by(self),
+            _ => true,
+        }
+    }
+
+    /// Whether no name of a strand at its entry's sync is left waiting, if it is joined to the left one, which has ended.
+    fn is_freed_by(&self, left: &Piece<J, V>) -> bool
+        ensures freed { result ≡ frees self.now.rest left.now.strand self.now.strand }
+    {
+        match self.rest {
+            Rest::Stalled => self.strand.leaves_none_waiting(&left.strand),
+            _ => true,
+        }
+    }
 }
 
 impl<J: Run, V: View> Pair<J, V> {
@@ -54,7 +74,7 @@ impl<J: Run, V: View> Pair<J, V> {
     pub fn new(left: Piece<J, V>, right: Piece<J, V>) -> Pair<J, V>
         requires over { is_over left.rest ≡ true }
         requires waits { is_waiting right.rest ≡ true }
-        requires may { MayPair J.setting left right }
+        requires may { may_pair left right ≡ true }
         ensures pair { result ≡ record { left = left.strand; right = right.strand } }
     {
         let start = left.start();
@@ -73,7 +93,8 @@ impl<J: Run, V: View> Pair<J, V> {
         self,
         scene: &Scene<'_, J>,
     ) -> Result<(RightStrand<J, V>, Kit<V>), (AllocError, Pair<J, V>)>
-        ensures joined { IfOk result (λ r. r.0 ≡ record { strand = joined self.left self.right; failed = false }) }
+        ensures joined { IfOk result (λ r. r.0
+            ≡ record { strand = joined self.left self.right; failed = false }) }
         ensures kit { IfOk result (λ r. r.1 ≡ J.setting.kinds) }
     {
         scene.kept();

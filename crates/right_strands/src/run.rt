@@ -1,5 +1,5 @@
 //! Which run strands are of: a type parameter stands for it.
-ghost use Rattle.std.specs.Prelude.{◌≡◌, List, All};
+ghost use Rattle.std.specs.Prelude.{◌≡◌, List, [], All};
 ghost use Rattle.monoid_laws.specs.Kinds.{IsMonoid};
 ghost use Rattle.meaning.specs.Records.{IsSound};
 ghost use Rattle.trail_theory.specs.Order.{Every};
@@ -7,10 +7,12 @@ ghost use Rattle.trail_theory.specs.OpenLayers.{IsNumbered};
 ghost use Rattle.run_theory.specs.Theorems.{IsReady};
 ghost use Rattle.linked_program.specs.Checked.{IsChecked, revised_of};
 ghost use Rattle.linked_program.specs.TableNames.{columned_of};
-ghost use Rattle.rerun_records.specs.Named.{AreKept, HaveValues};
+ghost use Rattle.rerun_records.specs.Named.{HaveValues};
 ghost use Rattle.positions.specs.Setting.{setting_with};
 ghost use Rattle.meaning.specs.Records.{Kept};
 ghost use Rattle.meaning.specs.Schedules.{recording_from};
+ghost use Rattle.numbered_runs.specs.News.{AreSound};
+ghost use Rattle.right_strands.specs.Remembering.{Remembers};
 
 use input_tables::Tables;
 use linked_program::checked::Checked;
@@ -54,19 +56,21 @@ impl<'a, J: Run> Model for Scene<'a, J> {
 impl<'a, J: Run> Scene<'a, J> {
     /// What the type keeps.
     pub fn kept(&self)
-        ensures ready { IsReady J.setting.program J.setting.tables J.setting.memory }
+        ensures sound { Remembers J.setting }
+        ensures ready { (k : Remembers J.setting)
+            → IsReady J.setting.program J.setting.tables (recording_from k.kept) }
         ensures numbered { IsNumbered J.setting.program }
         ensures monoids { All IsMonoid J.setting.kinds }
     {
         let _ = &self.program;
     }
 
-    /// The scene of the run J, whose records by name are sound and are those that are there.
+    /// The scene of the run J. Its records stand for sound ones by name; whichever these are, strands are right for them.
     pub fn new(program: &'a Checked, tables: &'a Tables, records: &'a Records) -> Scene<'a, J>
-        requires same { setting_with program.now tables.now.tables J.setting.memory.records records.now ≡ J.setting }
+        requires same { setting_with program.now tables.now.tables [] records.now ≡ J.setting }
         requires names { program.now.tables ≡ columned_of tables.now.tables }
-        requires kept { AreKept program.now J.setting.memory.records records.now }
-        requires sound { Every (IsSound (revised_of program.now)) J.setting.memory.records }
+        requires sound { AreSound (revised_of program.now) program.now.tables program.now.kinds
+            records.now }
         requires values { HaveValues program.now.kinds records.now }
     {
         are_ready(program, tables);
@@ -81,7 +85,8 @@ impl<'a, J: Run> Scene<'a, J> {
 
 /// What the theory asks for of a checked program and its tables.
 fn are_ready(program: &Checked, tables: &Tables)
-    ensures ready { (kept : List Kept) → Every (IsSound (revised_of program.now)) kept → IsReady (revised_of program.now) tables.now.tables (recording_from kept) }
+    ensures ready { (kept : List Kept) → Every (IsSound (revised_of program.now)) kept
+        → IsReady (revised_of program.now) tables.now.tables (recording_from kept) }
     ensures numbered { IsNumbered (revised_of program.now) }
     ensures checked { IsChecked program.now }
     ensures monoids { All IsMonoid program.now.kinds }

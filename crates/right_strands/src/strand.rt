@@ -3,10 +3,11 @@ ghost use Rattle.std.specs.Prelude.{◌≡◌, ◌∷◌, ◌++◌, ◌+◌, ◌
 ghost use Rattle.monoid_laws.specs.declared.Kind.{Kind};
 ghost use Rattle.meaning.specs.SmallStep.{same_name};
 ghost use Rattle.positions.specs.Advance.{advanced, pause_of};
-ghost use Rattle.positions.specs.Moves.{inlined, detached, attached, resumed, stolen, lowest_alone};
+ghost use Rattle.positions.specs.Moves.{inlined, detached, attached, resumed, stolen, lowest_alone, at_update};
 ghost use Rattle.positions.specs.Simulation.{place_of};
 ghost use Rattle.frames.specs.Joins.{HasFault};
 ghost use Rattle.frames.specs.Steps.{GivesNone, HoldsBy};
+ghost use Rattle.frames.specs.Waiting.{leaves_none};
 ghost use Rattle.right_strands.specs.Rightness.{FitsHere, IsRightStrand, WasDetached};
 
 use crate::run::{Run, Scene};
@@ -109,7 +110,8 @@ impl<J: Run, V: View> RightStrand<J, V> {
             (λ kit. self.new.strand ≡ advanced J.setting kit self.old.strand)) }
         ensures going { OnOk result (self.new.failed ≡ self.old.failed) }
         ensures failed { OnErr result (self.new.failed ≡ true) }
-        ensures kits { length self.new.strand.lower + K.free kits.new ≡ length self.old.strand.lower + K.free kits.old }
+        ensures kits { length self.new.strand.lower + K.free kits.new
+            ≡ length self.old.strand.lower + K.free kits.old }
         ensures total { K.total kits.new ≡ K.total kits.old }
         ensures fitting { (k : List Kind) → K.fits k kits.old → K.fits k kits.new }
         ensures given_kinds { (k : List Kind) → K.gives k kits.new → k ≡ J.setting.kinds }
@@ -177,7 +179,8 @@ impl<J: Run, V: View> RightStrand<J, V> {
     /// Puts a continuation back that was just taken out: the child is a call.
     pub fn attach(&mut self, task: RightTask<J>)
         requires was { WasDetached J.setting task self.old.strand }
-        ensures called { self.new ≡ record self.old { strand = attached task.task self.old.strand } }
+        ensures called { self.new
+            ≡ record self.old { strand = attached task.task self.old.strand } }
     {
         let RightTask { task, .. } = task;
         self.strand.attach(task);
@@ -192,7 +195,8 @@ impl<J: Run, V: View> RightStrand<J, V> {
 
     /// Whether the continuation was pushed by a strand that began where this one did.
     fn is_since(&self, task: &RightTask<J>) -> bool
-        ensures since { result ≡ true → self.now.failed ≡ false → self.now.strand.start ≡ task.now.since }
+        ensures since { result ≡ true → self.now.failed ≡ false
+            → self.now.strand.start ≡ task.now.since }
     {
         self.start == task.since()
     }
@@ -200,7 +204,8 @@ impl<J: Run, V: View> RightStrand<J, V> {
     /// Where the spawned child has returned: goes on with the continuation that waits for it; elsewhere nothing changes.
     pub fn resume(&mut self, task: RightTask<J>)
         requires fits { FitsHere self.old.strand task }
-        ensures resumed { self.new ≡ record self.old { strand = resumed task.task self.old.strand } }
+        ensures resumed { self.new
+            ≡ record self.old { strand = resumed task.task self.old.strand } }
     {
         let RightTask { task, .. } = task;
         self.strand.resume(task);
@@ -213,11 +218,35 @@ impl<J: Run, V: View> RightStrand<J, V> {
         requires fits { K.fits J.setting.kinds kits.old }
         ensures alone { self.new ≡ record self.old { strand = lowest_alone self.old.strand } }
         ensures fitting { (k : List Kind) → K.fits k kits.old → K.fits k kits.new }
-        ensures kept { (k : List Kind) → K.gives k kits.new → K.gives k kits.old ⊎ J.setting.kinds ≡ k }
-        ensures given { length self.old.strand.lower + K.free kits.old ≤ K.total kits.old → K.free kits.new ≡ length self.old.strand.lower + K.free kits.old }
+        ensures kept { (k : List Kind) → K.gives k kits.new
+            → K.gives k kits.old ⊎ J.setting.kinds ≡ k }
+        ensures given { length self.old.strand.lower + K.free kits.old ≤ K.total kits.old
+            → K.free kits.new ≡ length self.old.strand.lower + K.free kits.old }
         ensures total { K.total kits.new ≡ K.total kits.old }
     {
         self.strand.close_upper(kits);
+    }
+
+    /// How many kits it has: one for each of its layers.
+    pub fn kits(&self) -> usize
+        ensures kits { result ≡ suc (length self.now.strand.lower) }
+    {
+        self.strand.kits()
+    }
+
+    /// Whether the next small step is that of an update.
+    pub fn at_update(&self, scene: &Scene<'_, J>) -> bool
+        ensures update { result ≡ at_update J.setting.codes self.now.strand }
+    {
+        self.strand.at_update(scene.program)
+    }
+
+    /// Whether no name of this strand would wait for a child that ends after the beginning of its left neighbour, which has ended,
+    /// if the two were joined.
+    pub(crate) fn leaves_none_waiting(&self, left: &RightStrand<J, V>) -> bool
+        ensures waiting { result ≡ leaves_none left.now.strand self.now.strand }
+    {
+        self.strand.leaves_none_waiting(&left.strand)
     }
 
     /// What the topmost instance does next.
@@ -243,7 +272,8 @@ impl<J: Run, V: View> RightStrand<J, V> {
 
     /// Whether the strand begins behind the child of that name; the first one does behind the empty name.
     pub fn is_behind(&self, name: &[usize]) -> bool
-        ensures behind { result ≡ same_name (place_of self.now.strand.start self.now.strand.path) name.now }
+        ensures behind { result
+            ≡ same_name (place_of self.now.strand.start self.now.strand.path) name.now }
     {
         self.strand.is_behind(name)
     }
@@ -251,7 +281,8 @@ impl<J: Run, V: View> RightStrand<J, V> {
     /// The name of the child behind which the strand begins; that of the first strand is empty. Want of memory is the only
     /// error.
     pub fn begins_behind(&self, alloc: Global) -> Result<Vec<usize>, AllocError>
-        ensures place { IfOk result (λ place. place.items ≡ place_of self.now.strand.start self.now.strand.path) }
+        ensures place { IfOk result (λ place. place.items
+            ≡ place_of self.now.strand.start self.now.strand.path) }
     {
         self.strand.begins_behind(alloc)
     }
@@ -269,7 +300,8 @@ impl<J: Run, V: View> RightStrand<J, V> {
 
 /// Where a strand begins whose continuation waits for the child of that name.
 fn behind(place: &[usize]) -> Start
-    ensures behind { (front : List ℕ) (child : ℕ) → place.now ≡ front ++ child ∷ [] → result ≡ Start.Behind (length front) child }
+    ensures behind { (front : List ℕ) (child : ℕ) → place.now ≡ front ++ child ∷ []
+        → result ≡ Start.Behind (length front) child }
 {
     match place.split_last() {
         None => Start::Root,
