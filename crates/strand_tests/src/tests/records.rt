@@ -130,24 +130,25 @@ fn what_a_run_recorded_answers_the_next(rt: HostRuntime) -> Result<(), Fail> {
     Ok(())
 }
 
-/// How many kits are free at a fault in a memo instance, after its layer is closed, and at the strand's end.
-fn free_kits(alloc: Global) -> Result<[usize; 3], Fail> {
+/// How many kits are free, and how many the strand has, at a fault in a memo instance and after its upper layer is closed; and how
+/// many are free at the strand's end.
+fn kits_at_fault(alloc: Global) -> Result<[usize; 5], Fail> {
     let program = checked(alloc, FAULTY, &Tables::new(alloc))?;
     let records = Records::new(alloc);
     let mut pool = one_kit(alloc, &program)?;
     let mut strand = begin(alloc, &program)?;
     go_on(alloc, &program, &records, &mut strand, &mut pool)?;
-    let at_fault = pool.free();
+    let (free_at_fault, at_fault) = (pool.free(), strand.kits());
     if let Phase::Broken(_) = strand.phase() {
         strand.close_upper(&mut pool);
     }
-    let closed = pool.free();
+    let (free, closed) = (pool.free(), strand.kits());
     let _ = strand.end(alloc, &mut pool);
-    Ok([at_fault, closed, pool.free()])
+    Ok([free_at_fault, at_fault, free, closed, pool.free()])
 }
 
 #[test]
 fn a_fault_sends_each_kit_home(rt: HostRuntime) -> Result<(), Fail> {
-    assert_eq!(rt; free_kits(rt.alloc())?, [0, 1, 2]);
+    assert_eq!(rt; kits_at_fault(rt.alloc())?, [0, 2, 1, 1, 2]);
     Ok(())
 }

@@ -380,3 +380,28 @@ fn the_first_fault_of_the_text(rt: HostRuntime) -> Result<(), Fail> {
     }
     Ok(())
 }
+
+/// A program whose last strand waits for both children.
+const TWO_CHILDREN: &str =
+    "proc leaf(v) { return v; } proc main() { x = spawn leaf(1); y = spawn leaf(2); sync; return x + y; }";
+
+// Whether main, which waits for two children, waits for none but the second one behind that, and for the second one behind the
+// first one, whose strand begins before both.
+fn waits_for_its_neighbour(alloc: Global) -> Result<bool, Fail> {
+    let tables = Tables::new(alloc);
+    let program = checked(alloc, TWO_CHILDREN, &tables)?;
+    let mut pool = pool_of(alloc, &program, KITS)?;
+    let mut first = begin(alloc, &program, &mut pool)?;
+    let mut second = rob(alloc, &program, &tables, &mut first, &mut pool)?;
+    let mut last = rob(alloc, &program, &tables, &mut second, &mut pool)?;
+    to_pause(alloc, &program, &tables, &mut first)?;
+    to_pause(alloc, &program, &tables, &mut second)?;
+    to_pause(alloc, &program, &tables, &mut last)?;
+    Ok(last.leaves_none_waiting(&second) && !last.leaves_none_waiting(&first))
+}
+
+#[test]
+fn a_strand_that_waits_for_its_neighbour(rt: HostRuntime) -> Result<(), Fail> {
+    assert!(rt; waits_for_its_neighbour(rt.alloc())?);
+    Ok(())
+}
