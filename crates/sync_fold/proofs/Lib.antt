@@ -2,3 +2,6 @@ mod Lists
 mod Apart
 mod Steps
 mod Replays
+mod Fitting
+mod Places
+mod Keeping

@@ -7,8 +7,8 @@ use Rattle.meaning.specs.Every.{every}
 use Rattle.meaning.specs.Outcome.{Place}
 use Rattle.meaning.specs.Strands.{Held, Line, Split, Fold, Book, is_free, may_fold, becomes, splits, folds, if_allowed}
 use Rattle.sync_fold.specs.Laying.{rest_step, may_rest, state_as}
-use Rattle.sync_fold.specs.declared.rest.Rest.{Rest}
-use Rattle.sync_fold.specs.declared.rest.Rest.TheVariants as rest
+use Rattle.right_strands.specs.declared.laid.Rest.{Rest}
+use Rattle.right_strands.specs.declared.laid.Rest.TheVariants as rest
 use Rattle.sync_fold.specs.Pages.{items_of, is_unused, removes, Apart}
 use Rattle.sync_fold.specs.Steps.{Takes, may_split}
 use Rattle.sync_fold.proofs.Lists.{folds_apart}

@@ -2,8 +2,8 @@
 use Rattle.std.specs.Prelude.{Bool, not, ◌&&◌, List}
 use Rattle.meaning.specs.Outcome.{Place}
 use Rattle.meaning.specs.Strands.{Line, State, Ended, Stalled, Faulted, Finished, BookStep, End, Stall, Fault, Finish, is_root, is_alone, is_held_at}
-use Rattle.sync_fold.specs.declared.rest.Rest.{Rest}
-use Rattle.sync_fold.specs.declared.rest.Rest.TheVariants as rest
+use Rattle.right_strands.specs.declared.laid.Rest.{Rest}
+use Rattle.right_strands.specs.declared.laid.Rest.TheVariants as rest
 
 abbrev pub state_as : Rest → State
 state_as rest.Ended = Ended

@@ -3,3 +3,4 @@ pub mod Laying
 pub mod Steps
 pub mod Replays
 pub mod Books
+pub mod Chronicles

@@ -1,10 +1,10 @@
 -- Lists of strands in code, as the definitions have them.
-use Rattle.std.specs.Prelude.{ℕ, suc, Bool, false, cond, not, ◌&&◌, ◌||◌, List, [], ◌∷◌, map}
+use Rattle.std.specs.Prelude.{ℕ, suc, Bool, false, cond, not, ◌&&◌, ◌||◌, List, [], ◌∷◌, map, Option, Some, None}
 use Rattle.std.specs.Global.{Vec}
 use Rattle.std.specs.Str.{bytes_eq}
 use Rattle.meaning.specs.Every.{every}
 use Rattle.meaning.specs.Outcome.{Place}
-use Rattle.meaning.specs.Strands.{Line, done, waits}
+use Rattle.meaning.specs.Strands.{Line, done, waits, holds_by}
 use Rattle.run_theory.proofs.Books.{NoneAt}
 use Rattle.numbered_runs.specs.Named.{line}
 use Rattle.numbered_runs.specs.declared.step.StrandLine.{StrandLine}
@@ -56,3 +56,8 @@ are_neighbours l r (x ∷ rest) = begins_with l r (x ∷ rest) || are_neighbours
 abbrev pub stands : Place → List Line → Bool
 stands p [] = false
 stands p (l ∷ ls) = bytes_eq l.0 p || stands p ls
+
+-- the place of the first strand that the worker holds
+abbrev pub held_place : ℕ → List Line → Option Place
+held_place w [] = None
+held_place w (l ∷ ls) = cond (holds_by w l.1) (Some l.0) (held_place w ls)

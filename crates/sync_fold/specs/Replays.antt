@@ -1,6 +1,6 @@
 -- What a history leaves, or the first of its steps that isn't allowed.
-use Rattle.std.specs.Prelude.{◌≡◌, ℕ, List, ◌∷◌, take, drop, Option, Some, None}
-use Rattle.meaning.specs.Strands.{Line, BookStep, Book, stepped, replayed}
+use Rattle.std.specs.Prelude.{◌≡◌, ℕ, List, [], ◌∷◌, take, drop, Option, Some, None}
+use Rattle.meaning.specs.Strands.{State, Line, BookStep, Book, stepped, replayed}
 use Rattle.sync_fold.specs.declared.error.ReplayError.{ReplayError}
 use Rattle.sync_fold.specs.declared.error.ReplayError.TheVariants as error
 
@@ -20,3 +20,10 @@ pub record RefusedAt (steps : List BookStep) (n : ℕ) : Type 0 where
 abbrev pub Refuses : List BookStep → ReplayError → Type 0
 Refuses steps (error.BadStep n) = RefusedAt steps n
 Refuses steps error.NoMemory = Unit {0}
+
+-- the history is legal, and leaves the first strand alone
+pub record LeavesRootAlone (steps : List BookStep) : Type 0 where
+  pub book : Book
+  pub state : State
+  pub legal : replayed steps ≡ Some book
+  pub alone : book.lines ≡ ([], state) ∷ []

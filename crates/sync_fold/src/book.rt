@@ -1,138 +1,87 @@
-//! The list of strands that stands, with the history that made it.
-ghost use Rattle.std.specs.Prelude.{◌≡◌, IfOk};
-ghost use Rattle.numbered_runs.specs.Named.{book_step};
-ghost use Rattle.meaning.specs.Strands.{Split, Fold};
-ghost use Rattle.sync_fold.specs.Laying.{rest_step};
-
+//! The book that workers share.
+use crate::chronicle::Chronicle;
 use crate::error::BookError;
-use crate::page::Page;
-use crate::rest::Rest;
-use numbered_runs::step::{BookStep, Place, StrandLine};
+use crate::folds::{first_fold, fold_kept, places_at};
+use crate::kept::{keep, put_behind, take_behind};
+use crate::laid::{Laid, ends_alone, into_alone, may_touch_at};
+use crate::lines::held_place;
+use frames::answer::RunAnswer;
+use numbered_runs::step::{BookStep, StrandLine};
+use rerun_records::record::Record;
+use right_strands::laid::Piece;
+use right_strands::pair::Pair;
+use right_strands::run::{Run, Scene};
+use right_strands::strand::RightStrand;
 use std::alloc::{AllocError, Global};
 use std::marker::Model;
+use view_pool::{Kit, KitSource, View};
 
-/// The strands of a run, and the steps that made their list. The history is legal, and its replay is the list that stands.
+/// The strands of the run J, the steps that made their list, and the strands that were laid down, one a line in the lines' order.
+/// The history is legal, and its replay is the list that stands.
 #[derive(Drop)]
-pub struct Book {
-    page: Page,
-    history: Vec<BookStep>,
+pub struct Book<J: Run, V: View = Box<dyn View>> {
+    chronicle: Chronicle,
+    laid: Vec<Laid<Piece<J, V>, Pair<J, V>>>,
 }
 
-impl Model for Book {
-    ghost use Rattle.std.specs.Prelude.{◌≡◌, Some};
-    ghost use Rattle.meaning.specs.Strands.{replayed};
-    ghost use Rattle.numbered_runs.specs.Named.{history as steps_of};
-    ghost use Rattle.sync_fold.specs.Books.{PlainBook};
+impl<J: Run, V: View> Model for Book<J, V> {
+    ghost use Rattle.sync_fold.specs.Books.{PlainBook, IsBook};
+    ghost use Rattle.sync_fold.specs.Chronicles.{told};
 
     ghost Value = { PlainBook };
 
-    ghost view = { λ b. record { page = b.page; history = steps_of b.history.items } };
+    ghost view = { λ b. record { chronicle = told b.chronicle; laid = b.laid.items } };
 
-    ghost invariant = { λ b. replayed (steps_of b.history.items) ≡ Some b.page };
+    ghost invariant = { λ b. IsBook (told b.chronicle) b.laid.items };
 }
 
-/// What the history notes where the strand of that place is laid down so.
-fn noted(rest: Rest, place: Place) -> BookStep
-    ensures noted { book_step result ≡ rest_step rest place.items }
-{
-    match rest {
-        Rest::Ended => BookStep::End(place),
-        Rest::Stalled => BookStep::Stall(place),
-        Rest::Faulted => BookStep::Fault(place),
-        Rest::Finished => BookStep::Finish(place),
-    }
-}
-
-/// The step by which a thief goes on with a part of a strand.
-fn split_of(
-    alloc: Global,
-    victim: &[usize],
-    new: &[usize],
-    thief: usize,
-) -> Result<BookStep, AllocError>
-    ensures step { IfOk result (λ s. book_step s ≡ Split victim.now new.now thief) }
-{
-    let from = Vec::from_slice(alloc, victim)?;
-    let to = Vec::from_slice(alloc, new)?;
-    Ok(BookStep::Split(from, to, thief))
-}
-
-/// The step by which two strands become one.
-fn fold_of(
-    alloc: Global,
-    left: &[usize],
-    right: &[usize],
-    worker: usize,
-) -> Result<BookStep, AllocError>
-    ensures step { IfOk result (λ s. book_step s ≡ Fold left.now right.now worker) }
-{
-    let into = Vec::from_slice(alloc, left)?;
-    let from = Vec::from_slice(alloc, right)?;
-    Ok(BookStep::Fold(into, from, worker))
-}
-
-impl Book {
-    ghost use Rattle.std.specs.Prelude.{◌≡◌, Some, [], IfOk, IfErr, OnOk, OnErr};
-    ghost use Rattle.meaning.specs.Strands.{Split, Fold, first_book, stepped, replayed};
-    ghost use Rattle.numbered_runs.specs.Named.{book_step, history as steps_of};
-    ghost use Rattle.sync_fold.specs.Pages.{shown};
+impl<J: Run, V: View> Book<J, V> {
+    ghost use Rattle.std.specs.Prelude.{◌≡◌, ◌⊎◌, ◌+◌, ◌<◌, ◌≤◌, ◌∷◌, [], suc, true, false, List, length, drop, Some, None, IfSome, IfOk, IfErr, OnOk, OnErr, MatchOption};
+    ghost use Rattle.monoid_laws.specs.declared.Kind.{Kind};
+    ghost use Rattle.meaning.specs.Strands.{Split, Fold, stepped, replayed};
+    ghost use Rattle.rerun_records.specs.Named.{HaveValues};
+    ghost use Rattle.numbered_runs.specs.Named.{history as steps_of};
+    ghost use Rattle.right_strands.specs.Laid.{PlainPiece, AnswersElision, IsGiven, HasRecorded};
+    ghost use Rattle.sync_fold.specs.declared.laid.Laid.TheVariants.{Whole};
+    ghost use Rattle.sync_fold.specs.Pages.{shown, position, held_place};
     ghost use Rattle.sync_fold.specs.Laying.{rest_step};
-    ghost use Rattle.sync_fold.specs.Replays.{lines_of};
-    ghost use Rattle.sync_fold.specs.Books.{Took, Notes, IsRefusedBy, unless_allowed, split_refusal, rest_refusal, fold_refusal};
+    ghost use Rattle.sync_fold.specs.Replays.{LeavesRootAlone};
+    ghost use Rattle.sync_fold.specs.Books.{Took, IsRefusedBy, FoldsAny, FoldsFirst, PlacesAt, first_fold, touch, unless_allowed, BecomeOne, KeepsStrands, begins_at, lay_refusal, first_chronicle, is_ended, split_refusal, rest_refusal, fold_refusal};
 
     /// The first strand, held by worker 0, with no history.
-    pub fn start(alloc: Global) -> Result<Book, AllocError>
-        ensures first { IfOk result (λ b. b.page ≡ first_book) }
-        ensures history { IfOk result (λ b. b.history ≡ []) }
+    pub fn start(alloc: Global) -> Result<Book<J, V>, AllocError>
+        ensures first { IfOk result (λ b. b.chronicle ≡ first_chronicle) }
+        ensures going { IfOk result (λ b. is_ended b ≡ false) }
     {
+        let mut laid = Vec::new(alloc);
+        laid.push(Laid::Nothing)?;
         Ok(Book {
-            page: Page::first(alloc)?,
-            history: Vec::new(alloc),
+            chronicle: Chronicle::start(alloc)?,
+            laid,
         })
     }
 
     /// The strands in serial order.
     pub fn strands(&self) -> &[StrandLine]
-        ensures lines { shown result.now ≡ self.now.page.lines }
+        ensures lines { shown result.now ≡ self.now.chronicle.page.lines }
     {
-        self.page.lines()
+        self.chronicle.strands()
     }
 
     /// The steps so far.
     pub fn history(&self) -> &[BookStep]
-        ensures steps { steps_of result.now ≡ self.now.history }
-        ensures legal { replayed self.now.history ≡ Some self.now.page }
+        ensures steps { steps_of result.now ≡ self.now.chronicle.history }
+        ensures legal { replayed self.now.chronicle.history ≡ Some self.now.chronicle.page }
     {
-        &self.history
+        self.chronicle.history()
     }
 
-    /// A step is taken and noted, where it is allowed. Memory is reserved before anything changes.
-    fn note(&mut self, alloc: Global, step: BookStep) -> Result<bool, AllocError>
-        ensures noted { IfOk result (λ t. Notes self.old (book_step step) t self.new) }
-        ensures same { OnErr result (self.new ≡ self.old) }
+    /// The place of the strand that the worker holds.
+    pub fn held_by(&self, worker: usize) -> Option<&[usize]>
+        ensures held { MatchOption result (held_place worker self.now.chronicle.page.lines ≡ None)
+            (λ place. held_place worker self.now.chronicle.page.lines ≡ Some place.now) }
     {
-        self.history.reserve(1)?;
-        match self.page.take(alloc, &step) {
-            Ok(true) => {
-                self.history.push_reserved(step);
-                Ok(true)
-            }
-            Ok(false) => Ok(false),
-            Err(AllocError) => Err(AllocError),
-        }
-    }
-
-    /// The same, with a refusal.
-    fn take(&mut self, alloc: Global, step: BookStep) -> Result<(), BookError>
-        ensures taken { OnOk result (Took self.old (book_step step) self.new) }
-        ensures refused { IfErr result (IsRefusedBy (unless_allowed (stepped self.old.page (book_step step)))) }
-        ensures same { OnErr result (self.new ≡ self.old) }
-    {
-        match self.note(alloc, step) {
-            Ok(true) => Ok(()),
-            Ok(false) => Err(BookError::NotThere),
-            Err(AllocError) => Err(BookError::NoMemory),
-        }
+        held_place(self.chronicle.strands(), worker)
     }
 
     /// A thief goes on with a part of the victim's strand, from the new place on.
@@ -143,55 +92,244 @@ impl Book {
         new: &[usize],
         thief: usize,
     ) -> Result<(), BookError>
-        ensures taken { OnOk result (Took self.old (Split victim.now new.now thief) self.new) }
-        ensures refused { IfErr result (IsRefusedBy (split_refusal self.old.page victim.now new.now thief)) }
+        ensures taken { OnOk result
+            (Took self.old.chronicle (Split victim.now new.now thief) self.new.chronicle) }
+        ensures refused { IfErr result
+            (IsRefusedBy (split_refusal self.old.chronicle.page victim.now new.now thief)) }
         ensures same { OnErr result (self.new ≡ self.old) }
     {
-        if !self.page.stands(victim) {
-            return Err(BookError::NoStrand);
-        }
-        match split_of(alloc, victim, new, thief) {
-            Ok(step) => self.take(alloc, step),
-            Err(AllocError) => Err(BookError::NoMemory),
+        match self.chronicle.find(victim) {
+            Some(k) => self.split_at(alloc, k, victim, new, thief),
+            None => Err(BookError::NoStrand),
         }
     }
 
-    /// The strand of that place is laid down so.
-    pub fn lay(&mut self, alloc: Global, rest: Rest, place: &[usize]) -> Result<(), BookError>
-        ensures taken { OnOk result (Took self.old (rest_step rest place.now) self.new) }
-        ensures refused { IfErr result (IsRefusedBy (rest_refusal self.old.page rest place.now)) }
-        ensures same { OnErr result (self.new ≡ self.old) }
-    {
-        if !self.page.stands(place) {
-            return Err(BookError::NoStrand);
-        }
-        match Vec::from_slice(alloc, place) {
-            Ok(place) => self.take(alloc, noted(rest, place)),
-            Err(AllocError) => Err(BookError::NoMemory),
-        }
-    }
-
-    /// Two neighbours are one strand from then on, which the worker holds.
-    pub fn fold(
+    /// The same of the line of that number.
+    fn split_at(
         &mut self,
         alloc: Global,
+        k: usize,
+        victim: &[usize],
+        new: &[usize],
+        thief: usize,
+    ) -> Result<(), BookError>
+        requires here { k ≡ position victim.now self.old.chronicle.page.lines }
+        requires within { k < length self.old.chronicle.page.lines }
+        ensures taken { OnOk result
+            (Took self.old.chronicle (Split victim.now new.now thief) self.new.chronicle) }
+        ensures refused { IfErr result
+            (IsRefusedBy (split_refusal self.old.chronicle.page victim.now new.now thief)) }
+        ensures same { OnErr result (self.new ≡ self.old) }
+    {
+        if put_behind(&mut self.laid, k).is_err() {
+            return Err(BookError::NoMemory);
+        }
+        match self.chronicle.split(alloc, victim, new, thief) {
+            Ok(()) => Ok(()),
+            Err(error) => {
+                take_behind(&mut self.laid, k);
+                Err(error)
+            }
+        }
+    }
+
+    /// The strand that a worker holds is laid down; it is handed back with a refusal.
+    pub fn lay(&mut self, alloc: Global, piece: Piece<J, V>) -> Result<(), (BookError, Piece<J, V>)>
+        ensures taken { OnOk result
+            (Took self.old.chronicle (rest_step piece.rest (begins_at piece)) self.new.chronicle) }
+        ensures refused { IfErr result
+            (λ e. IsRefusedBy (lay_refusal self.old piece) e.0) }
+        ensures same { OnErr result (self.new ≡ self.old) }
+        ensures back { IfErr result (λ e. e.1 ≡ piece) }
+    {
+        match piece.begins_behind(alloc) {
+            Ok(place) => self.lay_at(alloc, &place, piece),
+            Err(AllocError) => Err((BookError::NoMemory, piece)),
+        }
+    }
+
+    /// The same of a piece that begins behind that place.
+    fn lay_at(
+        &mut self,
+        alloc: Global,
+        place: &[usize],
+        piece: Piece<J, V>,
+    ) -> Result<(), (BookError, Piece<J, V>)>
+        requires place { place.now ≡ begins_at piece }
+        ensures taken { OnOk result
+            (Took self.old.chronicle (rest_step piece.rest place.now) self.new.chronicle) }
+        ensures refused { IfErr result
+            (λ e. IsRefusedBy (rest_refusal self.old.chronicle.page piece.rest place.now) e.0) }
+        ensures same { OnErr result (self.new ≡ self.old) }
+        ensures back { IfErr result (λ e. e.1 ≡ piece) }
+    {
+        let k = match self.chronicle.find(place) {
+            Some(k) => k,
+            None => return Err((BookError::NoStrand, piece)),
+        };
+        match self.chronicle.lay(alloc, piece.rest(), place) {
+            Ok(()) => {
+                keep(&mut self.laid, k, piece);
+                Ok(())
+            }
+            Err(error) => Err((error, piece)),
+        }
+    }
+
+    /// Whether two neighbours may be one strand, as far as what is kept of them says.
+    fn may_touch(&self, left: &[usize], right: &[usize]) -> bool
+        ensures may { result ≡ touch self.now left.now right.now }
+    {
+        match self.chronicle.find(left) {
+            Some(k) => self.chronicle.are_neighbours(left, right) && may_touch_at(&self.laid, k),
+            None => false,
+        }
+    }
+
+    /// Two neighbours are one strand from then on, which the worker holds, and the kit of the right one is free. Where memory was
+    /// refused the pair may stay in the left line, and the same fold goes on with it.
+    pub fn fold_pair(
+        &mut self,
+        alloc: Global,
+        scene: &Scene<'_, J>,
         left: &[usize],
         right: &[usize],
         worker: usize,
-    ) -> Result<(), BookError>
-        ensures taken { OnOk result (Took self.old (Fold left.now right.now worker) self.new) }
-        ensures refused { IfErr result (IsRefusedBy (fold_refusal self.old.page left.now right.now worker)) }
-        ensures same { OnErr result (self.new ≡ self.old) }
+    ) -> Result<(RightStrand<J, V>, Kit<V>), BookError>
+        ensures taken { OnOk result
+            (Took self.old.chronicle (Fold left.now right.now worker) self.new.chronicle) }
+        ensures joined { IfOk result
+            (λ r. BecomeOne self.old left.now r.0.strand) }
+        ensures going { IfOk result (λ r. r.0.failed ≡ false) }
+        ensures kit { IfOk result (λ r. r.1 ≡ J.setting.kinds) }
+        ensures refused { IfErr result
+            (IsRefusedBy (fold_refusal self.old left.now right.now worker)) }
+        ensures same { OnErr result (self.new.chronicle ≡ self.old.chronicle) }
+        ensures kept { IfErr result
+            (λ e. KeepsStrands self.old left.now e self.new) }
     {
-        if !(self.page.stands(left) && self.page.stands(right)) {
+        if !self.chronicle.both_stand(left, right) {
             return Err(BookError::NoStrand);
         }
-        if !self.page.are_neighbours(left, right) {
+        if !self.may_touch(left, right) {
             return Err(BookError::NotNeighbour);
         }
-        match fold_of(alloc, left, right, worker) {
-            Ok(step) => self.take(alloc, step),
+        self.fold_at(alloc, scene, left, right, worker)
+    }
+
+    /// The same of neighbours that may be one strand, as far as what is kept of them says.
+    fn fold_at(
+        &mut self,
+        alloc: Global,
+        scene: &Scene<'_, J>,
+        left: &[usize],
+        right: &[usize],
+        worker: usize,
+    ) -> Result<(RightStrand<J, V>, Kit<V>), BookError>
+        requires touch { touch self.old left.now right.now ≡ true }
+        ensures taken { OnOk result
+            (Took self.old.chronicle (Fold left.now right.now worker) self.new.chronicle) }
+        ensures joined { IfOk result
+            (λ r. BecomeOne self.old left.now r.0.strand) }
+        ensures going { IfOk result (λ r. r.0.failed ≡ false) }
+        ensures kit { IfOk result (λ r. r.1 ≡ J.setting.kinds) }
+        ensures refused { IfErr result
+            (IsRefusedBy (unless_allowed (stepped self.old.chronicle.page (Fold left.now right.now worker)))) }
+        ensures same { OnErr result (self.new.chronicle ≡ self.old.chronicle) }
+        ensures kept { IfErr result
+            (λ e. KeepsStrands self.old left.now e self.new) }
+    {
+        let k = match self.chronicle.find(left) {
+            Some(k) => k,
+            None => return Err(BookError::NoStrand),
+        };
+        let step = match self.chronicle.prepare_fold(alloc, left, right, worker) {
+            Ok(step) => step,
+            Err(error) => return Err(error),
+        };
+        match fold_kept(scene, &mut self.laid, k) {
+            Ok(joined) => {
+                self.chronicle.fold(step, left, right, worker);
+                Ok(joined)
+            }
+            Err(AllocError) => {
+                drop(step);
+                Err(BookError::NoMemory)
+            }
+        }
+    }
+
+    /// Folds the first two neighbours that may be folded; None where there are none.
+    pub fn fold_any(
+        &mut self,
+        alloc: Global,
+        scene: &Scene<'_, J>,
+        worker: usize,
+    ) -> Option<Result<(RightStrand<J, V>, Kit<V>), BookError>>
+        ensures folded { FoldsAny self.old worker result self.new }
+        ensures going { IfSome result (λ r. IfOk r (λ s. s.0.failed ≡ false)) }
+        ensures kit { IfSome result (λ r. IfOk r (λ s. s.1 ≡ J.setting.kinds)) }
+        ensures same { IfSome result (λ r. OnErr r (self.new.chronicle ≡ self.old.chronicle)) }
+    {
+        match first_fold(self.chronicle.strands(), &self.laid) {
+            Some(k) => Some(self.fold_from(alloc, scene, k, worker)),
+            None => None,
+        }
+    }
+
+    /// Folds the strand of that number with the next one, where these are the first two that may be folded.
+    fn fold_from(
+        &mut self,
+        alloc: Global,
+        scene: &Scene<'_, J>,
+        k: usize,
+        worker: usize,
+    ) -> Result<(RightStrand<J, V>, Kit<V>), BookError>
+        requires first { PlacesAt k self.old.chronicle.page.lines (first_fold self.old) }
+        ensures folded { FoldsFirst self.old worker result self.new }
+        ensures going { IfOk result (λ r. r.0.failed ≡ false) }
+        ensures kit { IfOk result (λ r. r.1 ≡ J.setting.kinds) }
+        ensures same { OnErr result (self.new.chronicle ≡ self.old.chronicle) }
+    {
+        match places_at(alloc, self.chronicle.strands(), k) {
+            Ok((left, right)) => self.fold_pair(alloc, scene, &left, &right, worker),
             Err(AllocError) => Err(BookError::NoMemory),
         }
+    }
+
+    /// Whether one strand is left, which ends the run.
+    pub fn is_at_end(&self) -> bool
+        ensures ended { result ≡ is_ended self.now }
+    {
+        ends_alone(&self.laid)
+    }
+
+    /// The answer of the strand that is left, which is the elision's, its new records, and the history; every kit of it goes home
+    /// where there is room for them all.
+    pub fn end<K: KitSource<Kit<V>>>(
+        self,
+        scene: &Scene<'_, J>,
+        alloc: Global,
+        kits: &mut K,
+    ) -> (RunAnswer, Vec<Record>, Vec<BookStep>)
+        requires ended { is_ended self ≡ true }
+        requires fits { K.fits J.setting.kinds kits.old }
+        ensures elision { AnswersElision J.setting result.0 }
+        ensures given { IsGiven result.0 }
+        ensures recorded { HasRecorded J.setting result.0 result.1.items }
+        ensures values { HaveValues J.setting.kinds result.1.items }
+        ensures history { steps_of result.2.items ≡ self.chronicle.history }
+        ensures legal { LeavesRootAlone self.chronicle.history }
+        ensures fitting { (k : List Kind) → K.fits k kits.old → K.fits k kits.new }
+        ensures kept { (k : List Kind) → K.gives k kits.new
+            → K.gives k kits.old ⊎ J.setting.kinds ≡ k }
+        ensures home { (p : PlainPiece) → self.laid ≡ Whole p ∷ []
+            → suc (length p.strand.lower) + K.free kits.old ≤ K.total kits.old
+            → K.free kits.new ≡ suc (length p.strand.lower) + K.free kits.old }
+        ensures total { K.total kits.new ≡ K.total kits.old }
+    {
+        let Book { chronicle, laid } = self;
+        let (answer, records) = into_alone(laid).end(scene, alloc, kits);
+        (answer, records, chronicle.into_history())
     }
 }

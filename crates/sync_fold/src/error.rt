@@ -18,9 +18,12 @@ pub enum BookError {
     /// A growth was refused.
     #[error("out of memory")]
     NoMemory,
-    /// The right strand isn't directly behind the left one.
+    /// The right strand isn't directly behind the left one, or both may not be one strand.
     #[error("refused E10")]
     NotNeighbour,
+    /// The strand of that place was laid down already.
+    #[error("refused E11")]
+    AlreadyLaid,
     /// No strand begins at that place.
     #[error("refused E12")]
     NoStrand,

@@ -1,9 +1,9 @@
 //! Lists of strands: what stands in them, and what a step makes of them.
-ghost use Rattle.std.specs.Prelude.{◌≡◌, ◌<◌, length, MatchOption, OnOk, OnErr};
+ghost use Rattle.std.specs.Prelude.{◌≡◌, ◌<◌, length, Some, None, MatchOption, OnOk, OnErr};
 ghost use Rattle.std.specs.Str.{bytes_eq};
 ghost use Rattle.meaning.specs.Strands.{Held, done, waits, holds_by, is_held, is_free, is_held_at, is_root, is_alone, may_fold, becomes, splits};
 ghost use Rattle.numbered_runs.specs.Named.{named_state, line};
-ghost use Rattle.sync_fold.specs.Pages.{shown, position, removes, items_of, is_unused, is_pair, begins_pair, begins_with, are_neighbours, stands};
+ghost use Rattle.sync_fold.specs.Pages.{shown, position, removes, items_of, is_unused, is_pair, begins_pair, begins_with, are_neighbours, stands, held_place};
 
 use numbered_runs::step::{Place, State, StrandLine};
 use std::alloc::{AllocError, Global};
@@ -58,7 +58,7 @@ fn is_held_by(state: State, worker: usize) -> bool
 }
 
 /// Whether a strand of that state may be the left one of two.
-fn is_done(state: State) -> bool
+pub(crate) fn is_done(state: State) -> bool
     ensures done { result ≡ done (named_state state) }
 {
     match state {
@@ -68,7 +68,7 @@ fn is_done(state: State) -> bool
 }
 
 /// Whether a strand of that state may be the right one of two.
-fn is_waiting(state: State) -> bool
+pub(crate) fn is_waiting(state: State) -> bool
     ensures waits { result ≡ waits (named_state state) }
 {
     match state {
@@ -99,6 +99,18 @@ pub(crate) fn is_free(lines: &[StrandLine], worker: usize) -> bool
         }
     }
     true
+}
+
+/// The place of the strand that the worker holds.
+pub(crate) fn held_place(lines: &[StrandLine], worker: usize) -> Option<&[usize]>
+    ensures { MatchOption result (held_place worker (shown lines.now) ≡ None) (λ place. held_place worker (shown lines.now) ≡ Some place.now) }
+{
+    for line in lines.iter() {
+        if is_held_by(line.state, worker) {
+            return Some(&line.place);
+        }
+    }
+    None
 }
 
 /// Whether a worker holds the strand of that place.

@@ -4,11 +4,11 @@ ghost use Rattle.numbered_runs.specs.Named.{named_state};
 ghost use Rattle.sync_fold.specs.Laying.{state_as};
 
 use crate::lines::{
-    are_neighbours, is_alone, is_free, is_held_at, is_root, is_unused, may_fold, put_behind,
+    are_neighbours, find, is_alone, is_free, is_held_at, is_root, is_unused, may_fold, put_behind,
     set_state, stands, take_out,
 };
-use crate::rest::Rest;
 use numbered_runs::step::{BookStep, Place, State, StrandLine};
+use right_strands::laid::Rest;
 use std::alloc::{AllocError, Global};
 use std::marker::Model;
 
@@ -42,10 +42,10 @@ fn state_of(rest: Rest) -> State
 }
 
 impl Page {
-    ghost use Rattle.std.specs.Prelude.{◌≡◌, ◌&&◌, ◌∷◌, IfOk, OnOk, OnErr};
-    ghost use Rattle.meaning.specs.Strands.{Held, Split, Fold, first_book, is_free, may_fold, splits, folds};
+    ghost use Rattle.std.specs.Prelude.{◌≡◌, ◌<◌, ◌&&◌, ◌∷◌, length, MatchOption, IfOk, OnOk, OnErr};
+    ghost use Rattle.meaning.specs.Strands.{Held, Split, Fold, first_book, is_free, is_held_at, may_fold, splits};
     ghost use Rattle.numbered_runs.specs.Named.{book_step};
-    ghost use Rattle.sync_fold.specs.Pages.{shown, is_unused, stands, are_neighbours, Apart};
+    ghost use Rattle.sync_fold.specs.Pages.{shown, position, is_unused, stands, are_neighbours, Apart};
     ghost use Rattle.sync_fold.specs.Laying.{rest_step, may_rest};
     ghost use Rattle.sync_fold.specs.Steps.{Takes, may_split};
 
@@ -76,6 +76,20 @@ impl Page {
         ensures lines { shown result.now ≡ self.now.lines }
     {
         &self.lines
+    }
+
+    /// The number of the line of a place.
+    pub(crate) fn find(&self, place: &[usize]) -> Option<usize>
+        ensures { MatchOption result (position place.now self.now.lines ≡ length self.now.lines) (λ k. (k ≡ position place.now self.now.lines) × (k < length self.now.lines)) }
+    {
+        find(&self.lines, place)
+    }
+
+    /// Whether a worker holds the strand of that place.
+    pub(crate) fn is_held_at(&self, place: &[usize]) -> bool
+        ensures held { result ≡ is_held_at self.now.lines place.now }
+    {
+        is_held_at(&self.lines, place)
     }
 
     /// Whether there is a strand of that place.
@@ -171,14 +185,14 @@ impl Page {
     }
 
     /// Whether the worker may fold the strands of these places.
-    fn may_fold(&self, left: &[usize], right: &[usize], worker: usize) -> bool
+    pub(crate) fn may_fold(&self, left: &[usize], right: &[usize], worker: usize) -> bool
         ensures may { result ≡ (may_fold self.now.lines left.now right.now && is_free self.now.lines worker) }
     {
         may_fold(&self.lines, left, right) && is_free(&self.lines, worker)
     }
 
     /// Two neighbours are one strand, which the worker holds, where that is allowed.
-    fn fold(&mut self, left: &[usize], right: &[usize], worker: usize) -> bool
+    pub(crate) fn fold(&mut self, left: &[usize], right: &[usize], worker: usize) -> bool
         requires apart { Apart self.old.lines }
         ensures taken { Takes self.old (Fold left.now right.now worker) result self.new }
     {

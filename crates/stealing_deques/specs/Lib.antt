@@ -1,0 +1,4 @@
+pub mod Order
+pub mod Entries
+pub mod Identity
+pub mod Steps

@@ -1,0 +1,47 @@
+use Rattle.std.proofs.Common.{◌<◌, refl, ap, sym, ◌∙◌, subst}
+use Rattle.sync_fold.specs.Laying.{rest_step}
+use Rattle.sync_fold.specs.Books.{PlainBook, PlainChronicle, Took, IsRefusedBy, rest_refusal}
+use Rattle.sync_fold.specs.Chronicles.{told}
+use Rattle.sync_fold.specs.declared.error.BookError.TheVariants as error
+use Rattle.sync_fold.proofs.Keeping.{apart_of, long_of, same_keeps, lay_keeps, lay_missing, book_of}
+use Rattle.sync_fold.proofs.book.Book.lay_at.Goals as goal
+
+pub lay-requires : goal.lay-requires
+lay-requires g c = record { apart = apart_of (told c.self.inside.chronicle) c.self.inside.laid.items c.self.invariant }
+
+pub keep-requires : goal.keep-requires
+keep-requires g c = record { within = subst (λ n. c.in-Some.k < n) (sym (long_of (told c.self.inside.chronicle) c.self.inside.laid.items c.self.invariant)) c.in-Some.ensures.1 }
+
+pub invariant_of-self : goal.invariant_of-self
+invariant_of-self g c =
+    lay_keeps (told c.self.inside.chronicle) (told c.lay.new.self) c.self.inside.laid.items c.keep.new.laid.items c.rest.result c.args.place.now c.args.piece c.in-Some.k c.self.invariant c.in-Ok.ensures.taken
+    c.rest.ensures.rest c.requires.place c.in-Some.ensures.0 c.in-Some.ensures.1 c.keep.ensures.kept
+
+pub invariant_of-self-in-Err : goal.invariant_of-self-in-Err
+invariant_of-self-in-Err g c = same_keeps (told c.self.inside.chronicle) (told c.lay.new.self) c.self.inside.laid.items c.self.inside.laid.items c.self.invariant c.in-Err.ensures.same refl
+
+pub returns-in-Err : goal.returns-in-Err
+returns-in-Err g c = record {
+  taken = tt;
+  refused = subst (λ (b : PlainBook). IsRefusedBy (rest_refusal b.chronicle.page c.args.piece.rest c.args.place.now) c.in-Err.error) c.self.view_is
+      (subst (λ r. IsRefusedBy (rest_refusal c.self.inside.chronicle.page r c.args.place.now) c.in-Err.error) c.rest.ensures.rest c.in-Err.ensures.refused);
+  same = ap (λ (x : PlainChronicle). book_of x c.self.inside.laid.items) c.in-Err.ensures.same ∙ c.self.view_is;
+  back = refl;
+}
+
+pub returns-in-Ok : goal.returns-in-Ok
+returns-in-Ok g c = record {
+  taken = subst (λ (b : PlainBook). Took b.chronicle (rest_step c.args.piece.rest c.args.place.now) (told c.lay.new.self)) c.self.view_is
+      (subst (λ r. Took (told c.self.inside.chronicle) (rest_step r c.args.place.now) (told c.lay.new.self)) c.rest.ensures.rest c.in-Ok.ensures.taken);
+  refused = tt;
+  same = tt;
+  back = tt;
+}
+
+pub returns-in-None : goal.returns-in-None
+returns-in-None g c = record {
+  taken = tt;
+  refused = subst (λ (b : PlainBook). IsRefusedBy (rest_refusal b.chronicle.page c.args.piece.rest c.args.place.now) error.NoStrand) c.self.view_is (lay_missing c.self.inside.chronicle.page c.args.piece.rest c.args.place.now c.in-None.ensures);
+  same = refl;
+  back = refl;
+}

@@ -1,0 +1,11 @@
+//! Whole runs of sessions. What is wanted was worked out by hand; gates hold workers so that they do at the same time what is tested.
+
+mod answers;
+mod beginning;
+mod counting;
+mod deques;
+mod meeting;
+mod programs;
+mod reruns;
+mod strands;
+mod views;

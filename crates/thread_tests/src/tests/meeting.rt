@@ -1,0 +1,106 @@
+//! Workers and updates that wait for one another.
+
+use std::alloc::{AllocError, Global};
+use std::sync::atomic::{AtomicBool, AtomicUsize, Ordering};
+use std::thread;
+use threaded_driver::{Gate, Point};
+
+/// How often one that waits looks whether it may go on, at most.
+const TURNS: u32 = 10_000_000;
+
+/// Waits until the count is so great; whether it came to be.
+pub fn reaches(count: &AtomicUsize, wanted: usize) -> bool {
+    for _ in 0..TURNS {
+        if count.load(Ordering::SeqCst) >= wanted {
+            return true;
+        }
+        thread::yield_now();
+    }
+    false
+}
+
+/// So many that wait for one another.
+#[derive(Drop)]
+pub struct Together {
+    wanted: usize,
+    came: AtomicUsize,
+    in_vain: AtomicBool,
+}
+
+impl Together {
+    /// So many are wanted, and none is here.
+    pub fn of(wanted: usize) -> Together {
+        Together {
+            wanted,
+            came: AtomicUsize::new(0),
+            in_vain: AtomicBool::new(false),
+        }
+    }
+
+    /// One more is here.
+    pub fn come(&self) {
+        self.came.fetch_add(1, Ordering::SeqCst);
+    }
+
+    /// Waits until all are here; once one has waited in vain, nobody waits any more.
+    pub fn wait(&self) {
+        if self.in_vain.load(Ordering::SeqCst) {
+            return;
+        }
+        if !reaches(&self.came, self.wanted) {
+            self.in_vain.store(true, Ordering::SeqCst);
+        }
+    }
+
+    /// Whether all came, and none has waited in vain.
+    pub fn have_met(&self) -> bool {
+        self.came.load(Ordering::SeqCst) >= self.wanted && !self.in_vain.load(Ordering::SeqCst)
+    }
+}
+
+/// Holds each worker that comes to an update until so many workers have come to one.
+#[derive(Drop)]
+pub struct Meeting {
+    is_here: Vec<AtomicBool>,
+    together: Together,
+}
+
+impl Meeting {
+    /// A meeting of so many of the workers with the numbers below 16.
+    pub fn of(alloc: Global, wanted: usize) -> Result<Meeting, AllocError> {
+        let mut is_here = Vec::new(alloc);
+        for _ in 0..16 {
+            is_here.push(AtomicBool::new(false))?;
+        }
+        Ok(Meeting {
+            is_here,
+            together: Together::of(wanted),
+        })
+    }
+
+    /// Whether all came, and none has waited in vain.
+    pub fn was_held(&self) -> bool {
+        self.together.have_met()
+    }
+
+    /// Notes that a worker is here, if it wasn't before.
+    fn note(&self, worker: usize) {
+        match self.is_here.get(worker) {
+            None => {}
+            Some(flag) => {
+                if !flag.swap(true, Ordering::SeqCst) {
+                    self.together.come();
+                }
+            }
+        }
+    }
+}
+
+impl Gate for Meeting {
+    fn at(&self, worker: usize, point: Point) {
+        if point == Point::Update {
+            self.note(worker);
+            self.together.wait();
+        }
+    }
+}

@@ -1,0 +1,17 @@
+use Rattle.reuse_planner.proofs.Keeping.{news_of}
+use Rattle.threaded_driver.proofs.Settling.{recorded_by, quiet_whatever_kits}
+use Rattle.threaded_driver.proofs.run.settle.Goals as goal
+
+pub settle-requires-clause-new : goal.settle-requires-clause-new
+settle-requires-clause-new g c κs within =
+    let s = c.args.session.now in
+    let e = c.args.ended in
+    let recorded = recorded_by s e.answer e.made.items c.requires.end.recorded c.requires.end.alone in
+    news_of s.checked s.tables s.records e.answer e.made.items recorded c.kept.ensures.sound
+
+pub returns-in-Ok-clause-quiet : goal.returns-in-Ok-clause-quiet
+returns-in-Ok-clause-quiet g c =
+    let s = c.args.session.now in
+    let e = c.args.ended in
+    let recorded = recorded_by s e.answer e.made.items c.requires.end.recorded c.requires.end.alone in
+    quiet_whatever_kits s c.settle.new.self c.args.pool e.answer e.made.items c.kept.ensures.sound recorded c.in-Ok.ensures.settled

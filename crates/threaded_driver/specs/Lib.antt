@@ -1,0 +1,4 @@
+pub mod Come
+pub mod Ends
+pub mod Finds
+pub mod Over

@@ -1,0 +1,435 @@
+//! What stands under the one lock.
+ghost use Rattle.std.specs.Prelude.{◌≡◌, ◌<◌, ◌==◌, ◌||◌, true, false, IfSome, IfOk, IfErr};
+ghost use Rattle.sync_fold.specs.Books.{is_ended};
+ghost use Rattle.threaded_driver.specs.Come.{HasEnded};
+ghost use Rattle.threaded_driver.specs.Ends.{IsEnd};
+ghost use Rattle.threaded_driver.specs.Finds.{is_left};
+ghost use Rattle.threaded_driver.specs.Over.{is_over, is_right, is_refusal, is_noted};
+
+use crate::ended::{Ended, kept_of};
+use crate::failure::{Failure, Mismatch};
+use crate::found::Found;
+use crate::kits::{KitsOf, RightPool, Stocked};
+use crate::seat::Seat;
+use crate::supply::Shelf;
+use right_strands::laid::Piece;
+use right_strands::run::{Run, Scene};
+use right_strands::strand::RightStrand;
+use right_strands::task::RightTask;
+use std::alloc::{AllocError, Global};
+use std::collections::VecDeque;
+use std::sync::ledger::{Blank, Book as Count, Ledger, Share};
+use sync_fold::{Book, BookError};
+use view_pool::{Kit, KitSource, View};
+
+/// The list of strands, the workers' deques, the pool, why the run gave up, and how many workers have left. The first strand lies
+/// there until the first worker comes.
+#[derive(Drop)]
+pub(crate) struct Desk<J: Run + Ledger + Stocked, V: View> {
+    book: Book<J, V>,
+    first: Option<RightStrand<J, V>>,
+    workers: usize,
+    deques: Vec<VecDeque<RightTask<J>>>,
+    pool: RightPool<KitsOf<J>, Kit<V>>,
+    failure: Option<Failure>,
+    left: u64,
+    leavers: Count<J>,
+    ghost counted: { left ≡ leavers.total },
+    // A worker leaves only where the run is over.
+    ghost over: { ((left == 0) || is_over book failure) ≡ true },
+    ghost noted: { is_noted failure ≡ true },
+}
+
+/// An empty deque for each worker.
+fn empty_deques<J: Run>(
+    alloc: Global,
+    workers: usize,
+) -> Result<Vec<VecDeque<RightTask<J>>>, AllocError> {
+    let mut deques = Vec::new(alloc);
+    for _ in 0..workers {
+        deques.push(VecDeque::new(alloc))?;
+    }
+    Ok(deques)
+}
+
+/// The oldest continuation of the first worker with one, among those from one number up to another, and that worker.
+fn oldest_among<J: Run>(
+    deques: &mut [VecDeque<RightTask<J>>],
+    from: usize,
+    to: usize,
+) -> Option<(usize, RightTask<J>)> {
+    for victim in from..to {
+        if let Some(deque) = deques.get_mut(victim) {
+            if let Some(task) = deque.pop_front() {
+                return Some((victim, task));
+            }
+        }
+    }
+    None
+}
+
+/// Why a run gives up that was refused a step so.
+fn failure_of(refusal: BookError) -> Failure
+    ensures right { is_right result ≡ true }
+{
+    match refusal {
+        BookError::NoMemory => Failure::NoMemory,
+        _ => Failure::Refused(refusal),
+    }
+}
+
+/// How a run has come to its end. All kits that it began with have to be home.
+fn end_of<J: Run + Stocked, V: View>(
+    book: Book<J, V>,
+    alloc: Global,
+    scene: &Scene<'_, J>,
+    pool: &mut RightPool<KitsOf<J>, Kit<V>>,
+    kits: usize,
+) -> Ended
+    requires ended { is_ended book ≡ true }
+    ensures end { IsEnd J.setting result }
+    ensures home { HasEnded result.answer → pool.new ≡ kits }
+{
+    let (answer, made, steps) = book.end(scene, alloc, pool);
+    if pool.free() != kits {
+        return Ended::without_memory(alloc);
+    }
+    let made = kept_of(alloc, &answer, made);
+    Ended {
+        answer,
+        made,
+        steps,
+    }
+}
+
+impl<J: Run + Ledger + Stocked, V: View> Desk<J, V> {
+    /// The desk of a run that begins, without its first strand, and one share of the count for all workers. For want of memory
+    /// the pool is handed back.
+    pub(crate) fn new(
+        alloc: Global,
+        pool: RightPool<KitsOf<J>, Kit<V>>,
+        workers: usize,
+        blank: Blank,
+    ) -> Result<(Desk<J, V>, Share<J>), RightPool<KitsOf<J>, Kit<V>>>
+        requires name { blank.name ≡ J.name }
+        requires parts { blank.parts ≡ J.parts }
+        ensures parts { IfOk result (λ r. r.1.parts ≡ J.parts) }
+        ensures none { IfOk result (λ r. r.1.amount ≡ 0) }
+    {
+        let book = match Book::start(alloc) {
+            Ok(book) => book,
+            Err(AllocError) => return Err(pool),
+        };
+        let deques = match empty_deques(alloc, workers) {
+            Ok(deques) => deques,
+            Err(AllocError) => return Err(pool),
+        };
+        let (leavers, share) = blank.open::<J>();
+        let desk = Desk {
+            book,
+            first: None,
+            workers: 0,
+            deques,
+            pool,
+            failure: None,
+            left: 0,
+            leavers,
+        };
+        Ok((desk, share))
+    }
+
+    /// Lays the run's first strand there, with a kit of the pool; none is taken where memory is refused.
+    pub(crate) fn begin(&mut self, alloc: Global, scene: &Scene<'_, J>) -> Result<(), AllocError> {
+        let Some(kit) = self.take_kit() else {
+            return Err(AllocError);
+        };
+        match RightStrand::first(alloc, scene, kit) {
+            Ok(strand) => {
+                self.first = Some(strand);
+                Ok(())
+            }
+            Err((error, kit)) => {
+                self.put_back(kit);
+                Err(error)
+            }
+        }
+    }
+
+    /// The number of a worker that comes, from 0 on, and the first strand for the first one.
+    pub(crate) fn come(&mut self) -> (usize, Option<RightStrand<J, V>>) {
+        let number = self.workers;
+        self.workers = number.saturating_add(1);
+        (number, self.first.take())
+    }
+
+    /// The pool by itself.
+    pub(crate) fn into_pool(self) -> RightPool<KitsOf<J>, Kit<V>> {
+        let Desk { pool, .. } = self;
+        pool
+    }
+
+    /// How the run has ended, and the pool, once a worker has left; the run began with so many kits.
+    pub(crate) fn close(
+        mut self,
+        alloc: Global,
+        scene: &Scene<'_, J>,
+        mut seat: Seat<J>,
+        kits: usize,
+    ) -> (Result<Ended, Mismatch>, RightPool<KitsOf<J>, Kit<V>>)
+        requires left { 0 < seat }
+        ensures end { IfOk result.0 (IsEnd J.setting) }
+        ensures refusal { IfErr result.0 (λ m. is_refusal m.refusal ≡ true) }
+        ensures home { IfOk result.0 (λ e. HasEnded e.answer → result.1 ≡ kits) }
+    {
+        seat.audit(&mut self.leavers);
+        self.end(alloc, scene, kits)
+    }
+
+    /// The same of a run that is over.
+    fn end(
+        self,
+        alloc: Global,
+        scene: &Scene<'_, J>,
+        kits: usize,
+    ) -> (Result<Ended, Mismatch>, RightPool<KitsOf<J>, Kit<V>>)
+        requires over { is_over self.book self.failure ≡ true }
+        ensures end { IfOk result.0 (IsEnd J.setting) }
+        ensures refusal { IfErr result.0 (λ m. is_refusal m.refusal ≡ true) }
+        ensures home { IfOk result.0 (λ e. HasEnded e.answer → result.1 ≡ kits) }
+    {
+        let Desk {
+            book,
+            mut pool,
+            failure,
+            ..
+        } = self;
+        match failure {
+            Some(Failure::NoMemory) => (Ok(Ended::without_memory(alloc)), pool),
+            Some(Failure::Refused(refusal)) => (Err(Mismatch { refusal }), pool),
+            None => {
+                let ended = end_of(book, alloc, scene, &mut pool, kits);
+                (Ok(ended), pool)
+            }
+        }
+    }
+
+    /// Whether the run is at its end, or has given up.
+    fn is_over(&self) -> bool
+        ensures over { result ≡ is_over self.now.book self.now.failure }
+    {
+        self.failure.is_some() || self.book.is_at_end()
+    }
+
+    /// Notes why the run gives up; the first reason stays.
+    pub(crate) fn fail(&mut self, failure: Failure)
+        requires right { is_right failure ≡ true }
+        ensures left { self.new.left ≡ self.old.left }
+    {
+        if self.failure.is_none() {
+            self.failure = Some(failure);
+        }
+    }
+
+    /// The same for a step that was refused so.
+    fn refuse(&mut self, refusal: BookError)
+        ensures left { self.new.left ≡ self.old.left }
+    {
+        self.fail(failure_of(refusal));
+    }
+
+    /// Puts a kit among the free ones. Where there is no room for it the run gives up.
+    fn put_back(&mut self, kit: Kit<V>)
+        requires kind { kit ≡ J.setting.kinds }
+        ensures left { self.new.left ≡ self.old.left }
+    {
+        if self.give_kit(kit).is_err() {
+            self.fail(Failure::NoMemory);
+        }
+    }
+
+    /// Puts a continuation at the new end of the worker's deque, or hands it back.
+    pub(crate) fn push(&mut self, worker: usize, task: RightTask<J>) -> Result<(), RightTask<J>>
+        ensures back { IfErr result (λ t. t ≡ task) }
+    {
+        let Some(deque) = self.deques.get_mut(worker) else {
+            return Err(task);
+        };
+        match deque.push_back(task) {
+            Ok(()) => Ok(()),
+            Err(refused) => Err(refused.value),
+        }
+    }
+
+    /// Takes the newest continuation of the worker's deque, unless the run has given up.
+    pub(crate) fn pop(&mut self, worker: usize) -> Option<RightTask<J>> {
+        if self.failure.is_some() {
+            return None;
+        }
+        self.deques.get_mut(worker)?.pop_back()
+    }
+
+    /// Lays a strand down that its worker has nothing more to do with; one of a run that is over is let go. The continuations that
+    /// a strand with a fault has left in the worker's deque are behind the fault: nobody needs them.
+    pub(crate) fn lay(&mut self, alloc: Global, worker: usize, piece: Piece<J, V>) {
+        if let Some(deque) = self.deques.get_mut(worker) {
+            deque.clear();
+        }
+        if self.is_over() {
+            return;
+        }
+        if let Err((refusal, _)) = self.book.lay(alloc, piece) {
+            self.refuse(refusal);
+        }
+    }
+
+    /// What there is for a worker without a strand. It leaves where the run is over, else it folds two neighbours, else it steals.
+    pub(crate) fn find(
+        &mut self,
+        alloc: Global,
+        scene: &Scene<'_, J>,
+        worker: usize,
+        seat: &mut Seat<J>,
+    ) -> Found<J, V>
+        ensures left { is_left result ≡ true → 0 < seat.new }
+    {
+        if self.is_over() {
+            return if self.leave(seat) {
+                Found::Left
+            } else {
+                Found::Nothing
+            };
+        }
+        match self.fold(alloc, scene, worker) {
+            Some(found) => found,
+            None => self.steal(alloc, scene, worker),
+        }
+    }
+
+    /// Counts a worker among those that have left, where there is room to count it.
+    fn leave(&mut self, seat: &mut Seat<J>) -> bool
+        requires over { is_over self.old.book self.old.failure ≡ true }
+        ensures left { result ≡ true → 0 < seat.new }
+    {
+        if self.left == u64::MAX {
+            return false;
+        }
+        seat.leave(&mut self.leavers);
+        self.left += 1;
+        true
+    }
+
+    /// Folds the first neighbours that may be folded, if there are any.
+    fn fold(&mut self, alloc: Global, scene: &Scene<'_, J>, worker: usize) -> Option<Found<J, V>>
+        requires none_left { self.old.left ≡ 0 }
+        ensures none_left { self.new.left ≡ 0 }
+        ensures stays { IfSome result (λ found. is_left found ≡ false) }
+    {
+        match self.book.fold_any(alloc, scene, worker) {
+            Some(Ok((strand, kit))) => {
+                self.put_back(kit);
+                Some(Found::Folded(strand))
+            }
+            Some(Err(refusal)) => {
+                self.refuse(refusal);
+                Some(Found::Nothing)
+            }
+            None => None,
+        }
+    }
+
+    /// Takes a kit, and then the oldest continuation of a worker that has one.
+    fn steal(&mut self, alloc: Global, scene: &Scene<'_, J>, worker: usize) -> Found<J, V>
+        requires none_left { self.old.left ≡ 0 }
+        ensures stays { is_left result ≡ false }
+    {
+        let Some(kit) = self.take_kit() else {
+            return Found::Nothing;
+        };
+        match self.take_oldest(worker) {
+            Some((victim, task)) => self.begin_stolen(alloc, scene, worker, victim, task, kit),
+            None => {
+                self.put_back(kit);
+                Found::Nothing
+            }
+        }
+    }
+
+    /// The oldest continuation of the next worker that has one, and that worker.
+    fn take_oldest(&mut self, worker: usize) -> Option<(usize, RightTask<J>)>
+        ensures left { self.new.left ≡ self.old.left }
+    {
+        let workers = self.deques.len();
+        match oldest_among(&mut self.deques, worker.saturating_add(1), workers) {
+            Some(found) => Some(found),
+            None => oldest_among(&mut self.deques, 0, worker),
+        }
+    }
+
+    /// The strand of a continuation that was taken from its worker. Where a step is refused the run gives up.
+    fn begin_stolen(
+        &mut self,
+        alloc: Global,
+        scene: &Scene<'_, J>,
+        worker: usize,
+        victim: usize,
+        task: RightTask<J>,
+        kit: Kit<V>,
+    ) -> Found<J, V>
+        requires none_left { self.old.left ≡ 0 }
+        requires kind { kit ≡ J.setting.kinds }
+        ensures stays { is_left result ≡ false }
+    {
+        if let Err(refusal) = self.split(alloc, worker, victim, task.place()) {
+            self.put_back(kit);
+            self.refuse(refusal);
+            return Found::Nothing;
+        }
+        match RightStrand::stolen(alloc, scene, task, kit) {
+            Ok(strand) => Found::Stolen(strand),
+            Err((_, _, kit)) => {
+                self.put_back(kit);
+                self.fail(Failure::NoMemory);
+                Found::Nothing
+            }
+        }
+    }
+
+    /// The worker goes on with a part of the victim's strand, from that place on.
+    fn split(
+        &mut self,
+        alloc: Global,
+        worker: usize,
+        victim: usize,
+        place: &[usize],
+    ) -> Result<(), BookError>
+        requires none_left { self.old.left ≡ 0 }
+        ensures none_left { self.new.left ≡ 0 }
+    {
+        let from = match self.book.held_by(victim) {
+            Some(from) => Vec::from_slice(alloc, from),
+            None => return Err(BookError::NoStrand),
+        };
+        match from {
+            Ok(from) => self.book.split(alloc, &from, place, worker),
+            Err(AllocError) => Err(BookError::NoMemory),
+        }
+    }
+}
+
+impl<J: Run + Ledger + Stocked, V: View> Shelf<Kit<V>> for Desk<J, V> {
+    ghost fits = { λ k. k ≡ J.setting.kinds };
+
+    fn take_kit(&mut self) -> Option<Kit<V>>
+        ensures fits { IfSome result (λ k. k ≡ J.setting.kinds) }
+        ensures left { self.new.left ≡ self.old.left }
+    {
+        self.pool.take()
+    }
+
+    fn give_kit(&mut self, kit: Kit<V>) -> Result<(), Kit<V>>
+        requires fits { kit ≡ J.setting.kinds }
+        ensures left { self.new.left ≡ self.old.left }
+    {
+        self.pool.give(kit)
+    }
+}

@@ -1,0 +1,25 @@
+//! Who watches the workers.
+
+/// Where a worker has come.
+#[derive(Clone, Copy, Debug, PartialEq, Eq)]
+pub enum Point {
+    Pushed,
+    Popped,
+    Stole,
+    Laid,
+    Folded,
+    Update,
+}
+
+/// Watches the workers, and may hold them. It changes nothing of the run.
+pub trait Gate: Sync {
+    /// The worker of that number has come to that point.
+    fn at(&self, worker: usize, point: Point);
+}
+
+/// Nobody watches.
+pub struct NoGate;
+
+impl Gate for NoGate {
+    fn at(&self, _worker: usize, _point: Point) {}
+}

@@ -1,0 +1,17 @@
+//! Runs of a session's program by threads: one lock over the list of strands, the deques and the pool of kits.
+#![tactic(auto)]
+
+mod desk;
+mod ended;
+pub mod failure;
+mod floor;
+mod found;
+pub mod gate;
+mod kits;
+pub mod run;
+mod seat;
+mod supply;
+
+pub use failure::Mismatch;
+pub use gate::{Gate, NoGate, Point};
+pub use run::run_threads;

@@ -1,0 +1,215 @@
+//! A run by threads.
+ghost use Rattle.std.specs.Prelude.{◌≡◌, ◌↔◌, ◌<◌, ◌≤◌, [], true, All, length, IfOk, IfErr, OnErr};
+ghost use Rattle.linked_program.specs.Checked.{revised_of};
+ghost use Rattle.linked_program.specs.TableNames.{columned_of};
+ghost use Rattle.rerun_records.specs.Named.{HaveValues};
+ghost use Rattle.positions.specs.Setting.{setting_with};
+ghost use Rattle.numbered_runs.specs.Named.{history};
+ghost use Rattle.numbered_runs.specs.News.{AreSound};
+ghost use Rattle.reuse_planner.specs.Sessions.{standing_of};
+ghost use Rattle.reuse_planner.specs.Runs.{IsFromScratch, LeavesRecords, IsQuietAfter};
+ghost use Rattle.threaded_driver.specs.Come.{HasCome, HasEnded, HasHistory};
+ghost use Rattle.threaded_driver.specs.Ends.{IsEnd, IsEndFor};
+ghost use Rattle.threaded_driver.specs.Over.{is_refusal};
+ghost use Rattle.sync_fold.specs.declared.error.BookError.TheVariants as error;
+
+use crate::ended::Ended;
+use crate::failure::Mismatch;
+use crate::floor::{Floor, work};
+use crate::gate::Gate;
+use crate::kits::{KitsOf, RightPool, Stocked};
+use crate::seat::Seat;
+use frames::answer::RunAnswer;
+use input_tables::Tables;
+use linked_program::checked::Checked;
+use numbered_runs::step::BookStep;
+use rerun_records::records::Records;
+use reuse_planner::Session;
+use right_strands::run::{Run, Scene};
+use std::alloc::{AllocError, Global};
+use std::marker::Brand;
+use std::sync::Wait;
+use std::sync::ledger::{Blank, Ledger};
+use std::thread;
+use std::thread::Threads;
+use view_pool::{Kit, Pool, View};
+
+/// Runs a session's program on its tables by so many threads. Its memo instances are answered by the records that hold now, and
+/// those that a finished run makes are kept for the next one. The answer is NoKit where no kit is free, and NoMemory where memory
+/// is refused; a kit that is then with a strand is lost. The error is that the list of strands refused a worker.
+pub fn run_threads<V: View + Send, R: Threads + Wait + Sync, G: Gate>(
+    rt: &R,
+    alloc: Global,
+    session: &mut Session<V>,
+    workers: usize,
+    gate: &G,
+) -> Result<(RunAnswer, Vec<BookStep>), Mismatch>
+    requires workers { (0 < workers) × (workers ≤ 16) }
+    ensures elision { IfOk result (λ r. IsFromScratch (standing_of session.old) r.0) }
+    ensures come { IfOk result (λ r. HasCome r.0) }
+    ensures recorded { IfOk result (λ r. LeavesRecords session.old r.0 session.new.records) }
+    // Where each execution was recorded, nothing is left to execute.
+    ensures quiet { IfOk result (λ r. IsQuietAfter r.0 session.new) }
+    ensures kept { OnErr result (session.new.records ≡ session.old.records) }
+    ensures no_kit { IfOk result (λ r. r.0 ≡ RunAnswer.NoKit ↔ session.old.kits.kits ≡ []) }
+    ensures history { IfOk result (λ r. HasHistory r.0 (history r.1.items)) }
+    ensures mismatch { IfErr result (λ m. ¬ (m.refusal ≡ error.NoMemory)) }
+    ensures rest { session.new
+        ≡ record session.old { kits = session.new.kits; records = session.new.records } }
+    ensures home { IfOk result (λ r.
+        HasEnded r.0 → length session.new.kits.kits ≡ length session.old.kits.kits) }
+    ensures total { session.new.kits.total ≡ session.old.kits.total }
+{
+    let (free, _) = session.kits();
+    if free == 0 {
+        return Ok((RunAnswer::NoKit, Vec::new(alloc)));
+    }
+    session.kept();
+    let pool = session.take_pool(alloc);
+    let (ran, pool) = run_on::<Brand, V, R, G>(
+        rt,
+        alloc,
+        session.checked(),
+        session.tables(),
+        session.records(),
+        pool,
+        Blank::new(workers as u64),
+        workers,
+        gate,
+    );
+    match ran {
+        Ok(ended) => Ok(settle(alloc, session, pool, ended)),
+        Err(mismatch) => {
+            put_back(alloc, session, pool);
+            Err(mismatch)
+        }
+    }
+}
+
+/// Gives a session its pool back, and the new records of a run that has ended so; where memory is refused for these, the records
+/// are as before.
+fn settle<V: View>(
+    alloc: Global,
+    session: &mut Session<V>,
+    pool: Pool<Kit<V>>,
+    ended: Ended,
+) -> (RunAnswer, Vec<BookStep>)
+    requires kinds { All (λ k. k ≡ session.old.checked.kinds) pool.kits }
+    requires end { IsEndFor session.old ended }
+    ensures elision { IsFromScratch (standing_of session.old) result.0 }
+    ensures come { HasCome result.0 }
+    ensures recorded { LeavesRecords session.old result.0 session.new.records }
+    ensures quiet { IsQuietAfter result.0 session.new }
+    ensures begun { ¬ (result.0 ≡ RunAnswer.NoKit) }
+    ensures history { HasHistory result.0 (history result.1.items) }
+    ensures ended { HasEnded result.0 → HasEnded ended.answer }
+    ensures rest { session.new ≡ record session.old { kits = pool; records = session.new.records } }
+{
+    session.kept();
+    let Ended {
+        answer,
+        made,
+        steps,
+    } = ended;
+    match session.settle(pool, made) {
+        Ok(()) => (answer, steps),
+        Err(AllocError) => (RunAnswer::NoMemory, Vec::new(alloc)),
+    }
+}
+
+/// Gives a session its pool back; its records are as before.
+fn put_back<V: View>(alloc: Global, session: &mut Session<V>, pool: Pool<Kit<V>>)
+    requires kinds { All (λ k. k ≡ session.old.checked.kinds) pool.kits }
+    ensures put { session.new ≡ record session.old { kits = pool } }
+{
+    // Without new records either answer leaves the same.
+    let _ = session.settle(pool, Vec::new(alloc));
+}
+
+/// How a run of the program on the tables over the records has ended, and the pool.
+fn run_on<J, V, R, G>(
+    rt: &R,
+    alloc: Global,
+    program: &Checked,
+    tables: &Tables,
+    records: &Records,
+    pool: Pool<Kit<V>>,
+    blank: Blank,
+    workers: usize,
+    gate: &G,
+) -> (Result<Ended, Mismatch>, Pool<Kit<V>>)
+where
+    J: Run + Ledger + Stocked + Send + Sync,
+    V: View + Send,
+    R: Threads + Wait + Sync,
+    G: Gate,
+    requires same { setting_with program.now tables.now.tables [] records.now ≡ J.setting }
+    requires tables { program.now.tables ≡ columned_of tables.now.tables }
+    requires sound { AreSound (revised_of program.now) program.now.tables program.now.kinds records.now }
+    requires values { HaveValues program.now.kinds records.now }
+    requires kinds { All (λ k. k ≡ J.setting.kinds) pool.kits }
+    requires total { pool.total ≡ J.total }
+    requires name { blank.name ≡ J.name }
+    requires parts { (blank.parts ≡ J.parts) × (J.parts ≡ workers) }
+    requires some { 0 < workers }
+    ensures end { IfOk result.0 (IsEnd J.setting) }
+    ensures refusal { IfErr result.0 (λ m. is_refusal m.refusal ≡ true) }
+    ensures home { IfOk result.0 (λ e. HasEnded e.answer → length result.1.kits ≡ length pool.kits) }
+    ensures kinds { All (λ k. k ≡ J.setting.kinds) result.1.kits }
+    ensures total { result.1.total ≡ J.total }
+{
+    let scene = Scene::<J>::new(program, tables, records);
+    match Floor::<J, V>::new(alloc, scene, RightPool::new(pool), workers, blank) {
+        Ok((floor, seats)) => {
+            let (ran, pool) = run_floor(rt, alloc, floor, seats, gate);
+            (ran, pool.into_pool())
+        }
+        Err(pool) => (Ok(Ended::without_memory(alloc)), pool.into_pool()),
+    }
+}
+
+/// A thread for each seat, until all have left.
+fn run_floor<J, V, R, G>(
+    rt: &R,
+    alloc: Global,
+    floor: Floor<'_, J, V>,
+    seats: Vec<Seat<J>>,
+    gate: &G,
+) -> (Result<Ended, Mismatch>, RightPool<KitsOf<J>, Kit<V>>)
+where
+    J: Run + Ledger + Stocked + Send + Sync,
+    V: View + Send,
+    R: Threads + Wait + Sync,
+    G: Gate,
+    requires some { 0 < length seats.items }
+    ensures end { IfOk result.0 (IsEnd J.setting) }
+    ensures refusal { IfErr result.0 (λ m. is_refusal m.refusal ≡ true) }
+    ensures home { IfOk result.0 (λ e. HasEnded e.answer → result.1 ≡ floor.entry.kits) }
+{
+    let shared = &floor;
+    let life = |seat: Seat<J>| -> Seat<J>
+        ensures { 0 < result }
+    { work(rt, shared, seat, gate) };
+    match thread::map_vec(rt, seats, &life) {
+        Ok(seats) => finish(floor, seats),
+        Err(AllocError) => (Ok(Ended::without_memory(alloc)), floor.into_pool()),
+    }
+}
+
+/// How a run has ended that all workers have left, and the pool.
+fn finish<J: Run + Ledger + Stocked, V: View>(
+    floor: Floor<'_, J, V>,
+    seats: Vec<Seat<J>>,
+) -> (Result<Ended, Mismatch>, RightPool<KitsOf<J>, Kit<V>>)
+    requires some { 0 < length seats.items }
+    requires left { All (λ seat. 0 < seat) seats.items }
+    ensures end { IfOk result.0 (IsEnd J.setting) }
+    ensures refusal { IfErr result.0 (λ m. is_refusal m.refusal ≡ true) }
+    ensures home { IfOk result.0 (λ e. HasEnded e.answer → result.1 ≡ floor.entry.kits) }
+{
+    let mut seats = seats;
+    match seats.pop() {
+        Some(seat) => floor.finish(seat),
+        None => unreachable!(),
+    }
+}
