@@ -1,7 +1,7 @@
 //! Answers the script on its input by runs of a program over tables.
 #![tactic(auto)]
 
-use cli::program::{report, status};
+use cli::program::{ending, report};
 use monoid_laws::Kind;
 use std::alloc::AllocError;
 use std::process::ExitCode;
@@ -12,12 +12,5 @@ fn main(rt: HostRuntime) -> ExitCode {
     let make = |kind: Kind| -> Result<Box<dyn View>, AllocError> {
         Ok(Box::new(alloc, PlainView::new(alloc, kind))?)
     };
-    match report(&rt, alloc, &make) {
-        Ok(()) => ExitCode::SUCCESS,
-        Err(error) => {
-            let status = status(&error);
-            let _ = eprintln!(&rt; "{error}");
-            ExitCode::from(status)
-        }
-    }
+    ending(&rt, report(&rt, alloc, &make))
 }

@@ -1,7 +1,9 @@
 -- By which errors the parts of a session may end.
 use Rattle.std.specs.Prelude.{◌≡◌, ◌⊎◌}
+use Rattle.sync_fold.specs.declared.error.BookError.TheVariants as refusal
+use Rattle.threaded_driver.specs.declared.failure.Mismatch as declared
 use Rattle.cli.specs.declared.streams.SessionError.{SessionError}
-use Rattle.cli.specs.declared.streams.SessionError.TheVariants.{NoMemory, NoKit, Read, Write}
+use Rattle.cli.specs.declared.streams.SessionError.TheVariants.{NoMemory, NoKit, Mismatch, Read, Write}
 
 abbrev pub IsReaderError : SessionError → Type 0
 IsReaderError error = (error ≡ NoMemory) ⊎ (error ≡ Read)
@@ -10,4 +12,12 @@ abbrev pub IsWriterError : SessionError → Type 0
 IsWriterError error = (error ≡ NoMemory) ⊎ (error ≡ Write)
 
 abbrev pub IsRunError : SessionError → Type 0
-IsRunError error = (error ≡ NoMemory) ⊎ (error ≡ NoKit)
+IsRunError error = (error ≡ NoMemory) ⊎ ((error ≡ NoKit) ⊎ ((m : declared.Mismatch) × (error ≡ Mismatch m)))
+
+-- a mismatch carries what the list of strands refused, which is no want of memory
+abbrev pub CarriesRefusal : SessionError → Type 0
+CarriesRefusal NoMemory = Unit {0}
+CarriesRefusal NoKit = Unit {0}
+CarriesRefusal (Mismatch m) = ¬ (m.refusal ≡ refusal.NoMemory)
+CarriesRefusal Read = Unit {0}
+CarriesRefusal Write = Unit {0}

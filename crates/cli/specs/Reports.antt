@@ -8,6 +8,7 @@ use Rattle.cli.specs.declared.streams.SessionError.TheVariants as s
 use Rattle.cli.specs.declared.program.ProgramError.{ProgramError}
 use Rattle.cli.specs.declared.program.ProgramError.TheVariants.{Line, File, Prepare, Session}
 use Rattle.cli.specs.Answers.{first_answers}
+use Rattle.cli.specs.Endings.{CarriesRefusal}
 use Rattle.cli.specs.Written.{HasBeginning}
 use Rattle.cli.specs.Preparing.{IsPrepared, IsRefused}
 
@@ -65,6 +66,13 @@ IsBegunOver held options known old new =
     (program tables script : List ℕ) → held options.program.now ≡ Some program → held options.tables.now ≡ Some tables
     → known ≡ Some script → IsBegun program tables script old new
 
+-- a mismatch carries what the list of strands refused
+abbrev pub ReportsRefusal : ProgramError → Type 0
+ReportsRefusal (Line e) = Unit {0}
+ReportsRefusal (File path) = Unit {0}
+ReportsRefusal (Prepare e) = Unit {0}
+ReportsRefusal (Session e) = CarriesRefusal e
+
 -- the errors after which nothing was written
 abbrev pub WritesNothing : ProgramError → Type 0
 WritesNothing (Line e) = Unit {0}
@@ -73,4 +81,5 @@ WritesNothing (Prepare e) = Unit {0}
 WritesNothing (Session s.Read) = Unit {0}
 WritesNothing (Session s.NoMemory) = ⊥
 WritesNothing (Session s.NoKit) = ⊥
+WritesNothing (Session (s.Mismatch m)) = ⊥
 WritesNothing (Session s.Write) = ⊥

@@ -17,5 +17,6 @@ status_of (Prepare (p.Shape table)) = 1
 status_of (Prepare (p.Check rule name line)) = 1
 status_of (Session s.NoMemory) = 3
 status_of (Session s.NoKit) = 3
+status_of (Session (s.Mismatch m)) = 3
 status_of (Session s.Read) = 1
 status_of (Session s.Write) = 1

@@ -1,9 +1,10 @@
 // The program: its line, its files, its session on standard input and output.
-ghost use Rattle.std.specs.Prelude.{◌≡◌, ◌≢◌, ◌<◌, ◌⊎◌, Err, true, IfOk, IfErr, OnOk, OnErr, length, map, string_bytes};
+ghost use Rattle.std.specs.Prelude.{◌≡◌, ◌≢◌, ◌<◌, ◌≤◌, ◌⊎◌, Err, true, IfOk, IfErr, OnOk, OnErr, length, map, string_bytes};
 ghost use Rattle.std.specs.Io.KnownBytes.{Keeps, IsAtEnd};
 ghost use Rattle.std.specs.IoError.{error_kind};
+ghost use Rattle.std.specs.Process.{exit_status};
 ghost use Rattle.cli.specs.Statuses.{status_of};
-ghost use Rattle.cli.specs.Reports.{IsOpened, IsUnopened, IsFailed, IsReportedOver, IsBegunOver, WritesNothing};
+ghost use Rattle.cli.specs.Reports.{IsOpened, IsUnopened, IsFailed, IsReportedOver, IsBegunOver, ReportsRefusal, WritesNothing};
 
 use crate::beginning::{BeginError, begin};
 use crate::files::{FileSource, SystemFiles};
@@ -16,10 +17,13 @@ use monoid_laws::Kind;
 use reuse_planner::Session;
 use std::alloc::{AllocError, Global};
 use std::io::{BufReader, BufWriter, ErrorKind, Read, Write};
+use std::process::ExitCode;
 use std::rt::Runtime;
 use std::sync::Wait;
+use std::thread::Threads;
 use std::{env, io};
 use thiserror::Error;
+use threaded_driver::NoGate;
 use view_pool::View;
 
 /// Why the program ended before its script did.
@@ -36,7 +40,7 @@ pub enum ProgramError {
 }
 
 /// The program's exit status: 1 where its program, its tables, a file or a stream failed, 2 for its line, 3 where
-/// memory or kits did.
+/// memory, kits or a run's list of strands did.
 pub fn status(error: &ProgramError) -> u8
     ensures { result ≡ status_of error.now }
 {
@@ -44,21 +48,39 @@ pub fn status(error: &ProgramError) -> u8
         ProgramError::Line(OptionsError::Usage) => 2,
         ProgramError::Line(OptionsError::NoMemory)
         | ProgramError::Prepare(PrepareError::NoMemory)
-        | ProgramError::Session(SessionError::NoMemory | SessionError::NoKit) => 3,
+        | ProgramError::Session(
+            SessionError::NoMemory | SessionError::NoKit | SessionError::Mismatch(_),
+        ) => 3,
         ProgramError::File(_) | ProgramError::Prepare(_) | ProgramError::Session(_) => 1,
+    }
+}
+
+/// How the program ends after its report: with status 0, or an error's text on standard error and its status. That the
+/// text can't be written changes nothing.
+pub fn ending(rt: &impl Eprint, reported: Result<(), ProgramError>) -> ExitCode
+    ensures done { OnOk reported (exit_status result ≡ 0) }
+    ensures failed { IfErr reported (λ e. exit_status result ≡ status_of e) }
+{
+    match reported {
+        Ok(()) => ExitCode::SUCCESS,
+        Err(error) => {
+            let _ = eprintln!(rt; "{error}");
+            ExitCode::from(status(&error))
+        }
     }
 }
 
 /// Does the session that the program's line asks for, from standard input to standard output, with views that the caller
 /// makes; one of another kind counts as want of memory. Its errors are those of the line, of a file, of
 /// `prepare` and of the session, but for the want of a kit, since a line asks for one kit at least.
-pub fn report<V: View, M: Fn(Kind) -> Result<V, AllocError>, S: Runtime + AllocGlobal + Wait>(
-    rt: &S,
+pub fn report<V: View, M: Fn(Kind) -> Result<V, AllocError>>(
+    rt: &(impl Runtime + AllocGlobal + Threads + Wait + Sync),
     alloc: Global,
     make: &M,
 ) -> Result<(), ProgramError>
     requires callable { M.IsAlwaysCallable make.now }
     ensures kits { result ≢ Err (ProgramError.Session SessionError.NoKit) }
+    ensures mismatch { IfErr result ReportsRefusal }
 {
     let held = line_of(rt, alloc)?;
     let words = lent(alloc, held.as_slice())?;
@@ -85,7 +107,7 @@ pub fn report<V: View, M: Fn(Kind) -> Result<V, AllocError>, S: Runtime + AllocG
 /// that the caller makes, its script is all that the reader has, its answers go to the writer. Where a file fails or is
 /// refused nothing is written; which streams failed is noted.
 pub fn report_on<V: View, M: Fn(Kind) -> Result<V, AllocError>, F: FileSource, R: Read, W: Write>(
-    rt: &impl Wait,
+    rt: &(impl Threads + Wait + Sync),
     alloc: Global,
     options: Options<'_>,
     make: &M,
@@ -95,7 +117,7 @@ pub fn report_on<V: View, M: Fn(Kind) -> Result<V, AllocError>, F: FileSource, R
     failures: &mut Failures,
 ) -> Result<(), ProgramError>
     requires callable { M.IsAlwaysCallable make.now }
-    requires workers { 0 < options.workers }
+    requires workers { (0 < options.workers) × (options.workers ≤ 16) }
     ensures answered { OnOk result (IsReportedOver (F.held files.now) options.entry
         (R.remaining reader.old) (W.contents writer.old) (W.contents writer.new)) }
     ensures over { OnOk result (IsAtEnd (R.remaining reader.new)) }
@@ -106,6 +128,7 @@ pub fn report_on<V: View, M: Fn(Kind) -> Result<V, AllocError>, F: FileSource, R
         → Keeps (W.contents writer.old) (W.contents writer.new)) }
     ensures kits { 0 < options.entry.kits
         → result ≢ Err (ProgramError.Session SessionError.NoKit) }
+    ensures mismatch { IfErr result ReportsRefusal }
     ensures input { result ≡ Err (ProgramError.Session SessionError.Read)
         → failures.new.input ≡ true }
     ensures output { result ≡ Err (ProgramError.Session SessionError.Write)
@@ -116,7 +139,9 @@ pub fn report_on<V: View, M: Fn(Kind) -> Result<V, AllocError>, F: FileSource, R
 {
     let session = session_of(alloc, options, make, files)?;
     let workers = options.workers;
-    match session_text(rt, alloc, session, workers, reader, writer, failures) {
+    match session_text(
+        rt, alloc, session, workers, &NoGate, reader, writer, failures,
+    ) {
         Ok(()) => Ok(()),
         Err(error) => Err(ProgramError::Session(error)),
     }
@@ -127,6 +152,7 @@ fn line_of<S: Runtime + AllocGlobal>(rt: &S, alloc: Global) -> Result<Vec<String
     ensures refused { IfErr result (λ e.
         (e ≡ ProgramError.Session SessionError.NoMemory) ⊎ (e ≡ ProgramError.Line OptionsError.Usage)) }
     ensures kits { result ≢ Err (ProgramError.Session SessionError.NoKit) }
+    ensures mismatch { IfErr result ReportsRefusal }
 {
     let mut words = Vec::new(alloc);
     let args = match env::args(rt) {
@@ -146,6 +172,7 @@ fn lent(alloc: Global, held: &[String]) -> Result<Vec<&str>, ProgramError>
         map (λ word. word.now) words.items ≡ map string_bytes held.now) }
     ensures refused { IfErr result (λ e. e ≡ ProgramError.Session SessionError.NoMemory) }
     ensures kits { result ≢ Err (ProgramError.Session SessionError.NoKit) }
+    ensures mismatch { IfErr result ReportsRefusal }
 {
     let mut words = Vec::new(alloc);
     for word in held {
@@ -169,6 +196,7 @@ fn session_of<V: View, M: Fn(Kind) -> Result<V, AllocError>, F: FileSource>(
     ensures unopened { IfErr result (IsUnopened (F.held files.now) options.entry) }
     ensures kits { 0 < options.entry.kits
         → result ≢ Err (ProgramError.Session SessionError.NoKit) }
+    ensures mismatch { IfErr result ReportsRefusal }
     ensures input { result ≢ Err (ProgramError.Session SessionError.Read) }
     ensures output { result ≢ Err (ProgramError.Session SessionError.Write) }
 {

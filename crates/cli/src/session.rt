@@ -1,5 +1,5 @@
 // The answers to a session's script, from a reader to a writer.
-ghost use Rattle.std.specs.Prelude.{◌≡◌, ◌≢◌, ◌+◌, ◌<◌, ◌^◌, [], true, Err, length, IfOk, IfErr, OnOk, OnErr};
+ghost use Rattle.std.specs.Prelude.{◌≡◌, ◌≢◌, ◌+◌, ◌<◌, ◌≤◌, ◌^◌, [], true, Err, length, IfOk, IfErr, OnOk, OnErr};
 ghost use Rattle.std.specs.Io.KnownBytes.{Appends, Keeps, IsAtEnd};
 ghost use Rattle.meaning.specs.Text.{edit_text, runs_after};
 ghost use Rattle.session_edits.specs.Said as edits;
@@ -8,38 +8,42 @@ ghost use Rattle.reuse_planner.specs.Sessions.{standing_of};
 ghost use Rattle.reuse_planner.specs.Applied.{edited};
 ghost use Rattle.trace_report.specs.Outcomes.{Extends};
 ghost use Rattle.cli.specs.Answers.{answer_text, answers_of, left_by_edit, run_answer, standing_after};
-ghost use Rattle.cli.specs.Endings.{IsRunError};
+ghost use Rattle.threaded_driver.specs.Come.{HasCome, HasEnded};
+ghost use Rattle.cli.specs.Endings.{CarriesRefusal, IsRunError};
 ghost use Rattle.cli.specs.Written.{HasBeginning, WritesAll, WritesBeginning};
 
 use crate::streams::{Failures, SessionError, flush, read_all, write_whole};
+use frames::answer::RunAnswer;
 use reuse_planner::{ApplyError, Session};
-use round_driver::run;
-use round_driver::runs::RunError;
 use script_reader::command::Command;
 use script_reader::script::commands;
 use session_edits::Edit;
 use std::alloc::Global;
 use std::io::{Read, Write};
 use std::sync::Wait;
+use std::thread::Threads;
+use threaded_driver::{Gate, run_threads};
 use trace_report::answers::{push_outcome, push_run, push_unknown};
 use trace_report::edits::{push_accepted, push_edit_refusal};
 use view_pool::View;
 
-/// Answers the script that a reader has, all of it read before anything runs. It ends early where memory is refused,
-/// no kit is free, or a read, a write or a flush fails; a failed read leaves the writer as it was. It is noted which
-/// streams failed: a failed read is answered where the reader is noted, and nowhere else is the reader noted; a failed
-/// write is answered where the writer is noted. The writer is noted besides where its flush fails after another error has
-/// ended the session, and that error is answered.
+/// Answers the script that a reader has, all of it read before anything runs. Each run is by that many threads, 1 to 16,
+/// which the gate watches. It ends early where memory is refused, no kit is free, a run's list of strands refuses a worker,
+/// or a read, a write or a flush fails; a failed read leaves the writer as it was. It is noted which streams failed: a
+/// failed read is answered where the reader is noted, and nowhere else is the reader noted; a failed write is answered
+/// where the writer is noted. The writer is noted besides where its flush fails after another error has ended the session,
+/// and that error is answered.
 pub fn session_text<V: View, R: Read, W: Write>(
-    rt: &impl Wait,
+    rt: &(impl Threads + Wait + Sync),
     alloc: Global,
     session: Session<V>,
     workers: usize,
+    gate: &impl Gate,
     reader: &mut R,
     writer: &mut W,
     failures: &mut Failures,
 ) -> Result<(), SessionError>
-    requires workers { 0 < workers }
+    requires workers { (0 < workers) × (workers ≤ 16) }
     ensures answered { OnOk result (WritesAll (answers_of session)
         (R.remaining reader.old) (W.contents writer.old) (W.contents writer.new)) }
     ensures over { OnOk result (IsAtEnd (R.remaining reader.new)) }
@@ -48,6 +52,7 @@ pub fn session_text<V: View, R: Read, W: Write>(
     ensures beginning { WritesBeginning (answers_of session)
         (R.remaining reader.old) (W.contents writer.old) (W.contents writer.new) }
     ensures no_kit { result ≡ Err SessionError.NoKit → session.kits.kits ≡ [] }
+    ensures mismatch { IfErr result CarriesRefusal }
     ensures input { result ≡ Err SessionError.Read → failures.new.input ≡ true }
     ensures output { result ≡ Err SessionError.Write → failures.new.output ≡ true }
     ensures unmarked { OnOk result (failures.new ≡ failures.old) }
@@ -60,7 +65,16 @@ pub fn session_text<V: View, R: Read, W: Write>(
     let script = read_all(alloc, reader, failures)?;
     let mut session = session;
     let text = script.as_slice();
-    let answered = answer_script(rt, alloc, &mut session, workers, text, writer, failures);
+    let answered = answer_script(
+        rt,
+        alloc,
+        &mut session,
+        workers,
+        gate,
+        text,
+        writer,
+        failures,
+    );
     let flushed = flush(writer, failures);
     answered?;
     flushed
@@ -68,20 +82,22 @@ pub fn session_text<V: View, R: Read, W: Write>(
 
 // Writes the answers to a script.
 fn answer_script<V: View, W: Write>(
-    rt: &impl Wait,
+    rt: &(impl Threads + Wait + Sync),
     alloc: Global,
     session: &mut Session<V>,
     workers: usize,
+    gate: &impl Gate,
     script: &[u8],
     writer: &mut W,
     failures: &mut Failures,
 ) -> Result<(), SessionError>
-    requires workers { 0 < workers }
+    requires workers { (0 < workers) × (workers ≤ 16) }
     ensures written { OnOk result (Appends (W.contents writer.old) (W.contents writer.new)
         (answers_of session.old script.now)) }
     ensures beginning { HasBeginning (W.contents writer.old) (W.contents writer.new)
         (answers_of session.old script.now) }
     ensures read { OnErr result (¬ (result ≡ Err SessionError.Read)) }
+    ensures mismatch { IfErr result CarriesRefusal }
     ensures no_kit { result ≡ Err SessionError.NoKit → session.old.kits.kits ≡ [] }
     ensures output { result ≡ Err SessionError.Write → failures.new.output ≡ true }
     ensures unmarked { result ≢ Err SessionError.Write → failures.new ≡ failures.old }
@@ -95,7 +111,7 @@ fn answer_script<V: View, W: Write>(
     let mut text = String::new(alloc);
     for command in commands.iter() {
         text.clear();
-        runs = answer(rt, alloc, session, workers, runs, command, &mut text)?;
+        runs = answer(rt, alloc, session, workers, gate, runs, command, &mut text)?;
         write_whole(writer, text.as_bytes(), failures)?;
     }
     Ok(())
@@ -103,24 +119,26 @@ fn answer_script<V: View, W: Write>(
 
 // Puts the answer to a command, after so many runs, at the end of the text, and gives the number of runs after it.
 fn answer<V: View>(
-    rt: &impl Wait,
+    rt: &(impl Threads + Wait + Sync),
     alloc: Global,
     session: &mut Session<V>,
     workers: usize,
+    gate: &impl Gate,
     runs: usize,
     command: &Command<'_>,
     text: &mut String,
 ) -> Result<usize, SessionError>
     requires few { runs + 1 < 2 ^ 64 }
-    requires workers { 0 < workers }
+    requires workers { (0 < workers) × (workers ≤ 16) }
     ensures answered { OnOk result (Extends text.old text.new
         (answer_text (standing_of session.old) runs (said command.now))) }
     ensures after { OnOk result (standing_of session.new
         ≡ standing_after (standing_of session.old) (said command.now)) }
     ensures runs { IfOk result (λ n. n ≡ runs_after runs (said command.now)) }
     ensures refused { IfErr result IsRunError }
+    ensures mismatch { IfErr result CarriesRefusal }
     ensures no_kit { result ≡ Err SessionError.NoKit → session.old.kits.kits ≡ [] }
-    ensures free { length session.new.kits.kits ≡ length session.old.kits.kits }
+    ensures free { OnOk result (length session.new.kits.kits ≡ length session.old.kits.kits) }
 {
     match command {
         Command::Unknown(line) => {
@@ -132,7 +150,7 @@ fn answer<V: View>(
             Ok(runs)
         }
         Command::Run => {
-            run_once(rt, alloc, session, workers, runs + 1, text)?;
+            run_once(rt, alloc, session, workers, gate, runs + 1, text)?;
             Ok(runs + 1)
         }
     }
@@ -161,37 +179,42 @@ fn change<V: View>(
 
 // Runs once, and puts the line of the run of that number and what it came to at the end of the text.
 fn run_once<V: View>(
-    rt: &impl Wait,
+    rt: &(impl Threads + Wait + Sync),
     alloc: Global,
     session: &mut Session<V>,
     workers: usize,
+    gate: &impl Gate,
     number: usize,
     text: &mut String,
 ) -> Result<(), SessionError>
-    requires workers { 0 < workers }
+    requires workers { (0 < workers) × (workers ≤ 16) }
     ensures answered { OnOk result (Extends text.old text.new
         (run_answer (standing_of session.old) number)) }
     ensures same { standing_of session.new ≡ standing_of session.old }
     ensures refused { IfErr result IsRunError }
+    ensures mismatch { IfErr result CarriesRefusal }
     ensures no_kit { result ≡ Err SessionError.NoKit → session.old.kits.kits ≡ [] }
-    ensures free { length session.new.kits.kits ≡ length session.old.kits.kits }
+    ensures free { OnOk result (length session.new.kits.kits ≡ length session.old.kits.kits) }
 {
-    let outcome = match run(rt, alloc, session, workers) {
-        Ok(outcome) => outcome,
-        Err(error) => return Err(refusal_of(error)),
-    };
+    let (answer, _) = run_threads(rt, alloc, session, workers, gate)?;
+    ended(&answer)?;
     push_run(text, number)?;
-    push_outcome(alloc, text, session.checked(), &outcome)?;
+    push_outcome(alloc, text, session.checked(), &answer)?;
     Ok(())
 }
 
-// The refusal of a run.
-fn refusal_of(error: RunError) -> SessionError
-    ensures refused { IsRunError result }
-    ensures no_kit { result ≡ SessionError.NoKit → error ≡ RunError.NoKit }
+// Refuses what a run that was refused memory or a kit came to.
+fn ended(answer: &RunAnswer) -> Result<(), SessionError>
+    requires come { HasCome answer.now }
+    ensures ended { OnOk result (HasEnded answer.now) }
+    ensures refused { IfErr result IsRunError }
+    ensures mismatch { IfErr result CarriesRefusal }
+    ensures no_kit { result ≡ Err SessionError.NoKit → answer.now ≡ RunAnswer.NoKit }
 {
-    match error {
-        RunError::NoMemory => SessionError::NoMemory,
-        RunError::NoKit => SessionError::NoKit,
+    match answer {
+        RunAnswer::Finished { .. } | RunAnswer::Fault(_) => Ok(()),
+        RunAnswer::NoMemory => Err(SessionError::NoMemory),
+        RunAnswer::NoKit => Err(SessionError::NoKit),
+        RunAnswer::Unfinished => unreachable!(),
     }
 }

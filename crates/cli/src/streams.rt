@@ -3,6 +3,7 @@ ghost use Rattle.std.specs.Prelude.{◌≡◌, ◌≢◌, ◌<◌, ◌≤◌, Er
 ghost use Rattle.std.specs.Io.KnownBytes.{Appends, Keeps, Consumes, IsAtEnd};
 ghost use Rattle.std.specs.IoError.{error_kind};
 ghost use Rattle.cli.specs.declared.streams.SessionError.TheVariants.{NoMemory};
+ghost use Rattle.cli.specs.declared.streams.SessionError.TheVariants as ended;
 ghost use Rattle.cli.specs.Endings.{IsReaderError, IsWriterError};
 ghost use Rattle.cli.specs.Written.{HasBeginning};
 
@@ -11,6 +12,7 @@ use std::io;
 use std::io::{ErrorKind, Read, Write};
 use std::marker::Model;
 use thiserror::Error;
+use threaded_driver::Mismatch;
 
 /// Why a session ended before its script did.
 #[derive(Debug, Drop, Error)]
@@ -19,6 +21,9 @@ pub enum SessionError {
     NoMemory,
     #[error("no kit")]
     NoKit,
+    /// A run's list of strands refused one of its workers.
+    #[error("worker mismatch")]
+    Mismatch(Mismatch),
     #[error("failed input")]
     Read,
     #[error("failed output")]
@@ -30,6 +35,14 @@ impl From<AllocError> for SessionError {
 
     fn from(_e: AllocError) -> SessionError {
         SessionError::NoMemory
+    }
+}
+
+impl From<Mismatch> for SessionError {
+    ghost from_gives = { λ m e. e ≡ ended.Mismatch m };
+
+    fn from(mismatch: Mismatch) -> SessionError {
+        SessionError::Mismatch(mismatch)
     }
 }
 

@@ -7,9 +7,9 @@ use meaning::FaultKind;
 use monoid_laws::{Kind, Val};
 use program_tree::Reducer;
 use reuse_planner::Session;
-use round_driver::run;
 use std::alloc::{AllocError, Global};
 use std::process::Abort;
+use threaded_driver::{NoGate, run_threads};
 use trace_report::amounts::merged;
 use trace_report::answers::{
     kind_name, push_fault, push_outcome, push_reducer, push_result, push_run, push_unknown,
@@ -151,8 +151,10 @@ fn kits_of_a_session(rt: HostRuntime) {
 #[test]
 fn a_run_gives_its_kit_back(rt: HostRuntime) {
     let mut session = session(&rt, rt.alloc());
-    match run(&rt, rt.alloc(), &mut session, 1) {
-        Ok(RunAnswer::Finished { result, values, .. }) => {
+    let ran = run_threads(&rt, rt.alloc(), &mut session, 1, &NoGate);
+    let (answer, _) = ran.expect(&rt, "an answer");
+    match answer {
+        RunAnswer::Finished { result, values, .. } => {
             assert_eq!(&rt; result, -3);
             assert_eq!(&rt; values.len(), 2);
         }

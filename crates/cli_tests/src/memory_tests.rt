@@ -11,6 +11,7 @@ use std::io;
 use std::io::{ErrorKind, Write};
 use std::process::Abort;
 use std::sync::Wait;
+use std::thread::Threads;
 use view_pool::PlainView;
 
 const FIRST: &[u8] = b"reducer total : add;
@@ -57,7 +58,7 @@ impl Write for Page {
 
 // Whether all of these answers are written, or a beginning of them and then memory was refused.
 fn is_written(
-    rt: &(impl Abort + Wait),
+    rt: &(impl Abort + Threads + Wait + Sync),
     alloc: Global,
     text: &[u8],
     script: &[u8],

@@ -11,6 +11,9 @@ use std::io;
 use std::io::ErrorKind;
 use std::process::Abort;
 use std::sync::Wait;
+use std::thread::Threads;
+use sync_fold::BookError;
+use threaded_driver::Mismatch;
 use view_pool::{PlainView, View};
 
 const FIRST: &[u8] = b"reducer total : add;
@@ -82,7 +85,7 @@ impl<'a> FileSource for Two<'a> {
 
 // What is written, what is said of the error, and the status.
 fn ran(
-    rt: &(impl Abort + Wait),
+    rt: &(impl Abort + Threads + Wait + Sync),
     alloc: Global,
     program: Option<&[u8]>,
     tables: Option<&[u8]>,
@@ -220,11 +223,16 @@ fn seventeen_workers(rt: HostRuntime) {
     }
 }
 
+const MISMATCH: Mismatch = Mismatch {
+    refusal: BookError::NotThere,
+};
+
 #[test]
 fn statuses_of_errors(rt: HostRuntime) {
     for (error, wanted, said) in [
         (SessionError::NoMemory, 3, "out of memory"),
         (SessionError::NoKit, 3, "no kit"),
+        (SessionError::Mismatch(MISMATCH), 3, "worker mismatch"),
         (SessionError::Read, 1, "failed input"),
         (SessionError::Write, 1, "failed output"),
     ] {

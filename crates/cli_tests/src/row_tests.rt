@@ -1,5 +1,5 @@
 // Programs run by several workers, and what is written for them.
-ghost use Rattle.std.specs.Prelude.{◌<◌};
+ghost use Rattle.std.specs.Prelude.{◌<◌, ◌≤◌};
 
 use cli::beginning::begin;
 use cli::session::session_text;
@@ -8,6 +8,8 @@ use monoid_laws::Kind;
 use std::alloc::{AllocError, Global};
 use std::process::Abort;
 use std::sync::Wait;
+use std::thread::Threads;
+use threaded_driver::NoGate;
 use view_pool::{PlainView, View};
 
 const TOTALS: &str = "reducer total : add;
@@ -65,7 +67,7 @@ rows = [[1, 2, 5], [2, 3, 7], [3, 1, 100]]
 
 // What a script is answered, with so many kits of views that are made so.
 fn answered<V: View, M: Fn(Kind) -> Result<V, AllocError>>(
-    rt: &(impl Abort + Wait),
+    rt: &(impl Abort + Threads + Wait + Sync),
     alloc: Global,
     program: &str,
     workers: usize,
@@ -73,7 +75,7 @@ fn answered<V: View, M: Fn(Kind) -> Result<V, AllocError>>(
     make: &M,
 ) -> Vec<u8>
     requires callable { M.IsAlwaysCallable make.now }
-    requires workers { 0 < workers }
+    requires workers { (0 < workers) × (workers ≤ 16) }
 {
     let session = begin(alloc, program.as_bytes(), SALES, kits, make).expect(rt, "a session");
     let mut reader = b"run\n".as_slice();
@@ -84,6 +86,7 @@ fn answered<V: View, M: Fn(Kind) -> Result<V, AllocError>>(
         alloc,
         session,
         workers,
+        &NoGate,
         &mut reader,
         &mut written,
         &mut failures,
@@ -93,14 +96,14 @@ fn answered<V: View, M: Fn(Kind) -> Result<V, AllocError>>(
 }
 
 fn is_answered(
-    rt: &(impl Abort + Wait),
+    rt: &(impl Abort + Threads + Wait + Sync),
     alloc: Global,
     program: &str,
     workers: usize,
     kits: usize,
     answer: &str,
 )
-    requires workers { 0 < workers }
+    requires workers { (0 < workers) × (workers ≤ 16) }
 {
     let make = |kind: Kind| -> Result<PlainView, AllocError> { Ok(PlainView::new(alloc, kind)) };
     let written = answered(rt, alloc, program, workers, kits, &make);

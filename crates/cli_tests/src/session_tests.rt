@@ -1,5 +1,5 @@
 // Programs, scripts and lines, with what is written for them.
-ghost use Rattle.std.specs.Prelude.{◌<◌};
+ghost use Rattle.std.specs.Prelude.{◌<◌, ◌≤◌};
 
 use cli::beginning::{BeginError, begin};
 use cli::prepare::{PrepareError, prepare};
@@ -14,6 +14,8 @@ use std::io;
 use std::io::{ErrorKind, Read, Write};
 use std::process::Abort;
 use std::sync::Wait;
+use std::thread::Threads;
+use threaded_driver::NoGate;
 use view_pool::PlainView;
 
 const FIRST: &str = "reducer total : add;
@@ -67,13 +69,13 @@ fn session(rt: &impl Abort, alloc: Global, program: &str, tables: &str) -> Sessi
 
 // What a script is answered.
 fn answers_over(
-    rt: &(impl Abort + Wait),
+    rt: &(impl Abort + Threads + Wait + Sync),
     alloc: Global,
     session: Session<PlainView>,
     script: &[u8],
     workers: usize,
 ) -> Vec<u8>
-    requires workers { 0 < workers }
+    requires workers { (0 < workers) × (workers ≤ 16) }
 {
     let mut reader = script;
     let mut written = Vec::new(alloc);
@@ -83,6 +85,7 @@ fn answers_over(
         alloc,
         session,
         workers,
+        &NoGate,
         &mut reader,
         &mut written,
         &mut failures,
@@ -92,13 +95,13 @@ fn answers_over(
 }
 
 fn answers(
-    rt: &(impl Abort + Wait),
+    rt: &(impl Abort + Threads + Wait + Sync),
     alloc: Global,
     program: &str,
     script: &str,
     workers: usize,
 ) -> Vec<u8>
-    requires workers { 0 < workers }
+    requires workers { (0 < workers) × (workers ≤ 16) }
 {
     let session = session(rt, alloc, program, "");
     answers_over(rt, alloc, session, script.as_bytes(), workers)
@@ -106,14 +109,23 @@ fn answers(
 
 // What a session by one worker ends by.
 fn ended<R: Read, W: Write>(
-    rt: &impl Wait,
+    rt: &(impl Threads + Wait + Sync),
     alloc: Global,
     session: Session<PlainView>,
     reader: &mut R,
     writer: &mut W,
 ) -> Result<(), SessionError> {
     let mut failures = Failures::none();
-    session_text(rt, alloc, session, 1, reader, writer, &mut failures)
+    session_text(
+        rt,
+        alloc,
+        session,
+        1,
+        &NoGate,
+        reader,
+        writer,
+        &mut failures,
+    )
 }
 
 fn refusal(alloc: Global, program: &[u8], tables: &str) -> Option<String> {
@@ -436,7 +448,11 @@ top 100 3
 ";
 
 // The answers to the refused edits, to a writer that takes so many bytes; whether all of them were written, and what was.
-fn answers_into(rt: &(impl Abort + Wait), alloc: Global, room: usize) -> (bool, Vec<u8>) {
+fn answers_into(
+    rt: &(impl Abort + Threads + Wait + Sync),
+    alloc: Global,
+    room: usize,
+) -> (bool, Vec<u8>) {
     let mut reader = REFUSED;
     let mut writer = Narrow {
         room,

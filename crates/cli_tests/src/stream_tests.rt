@@ -9,6 +9,8 @@ use std::io;
 use std::io::{ErrorKind, Read, Write};
 use std::process::Abort;
 use std::sync::Wait;
+use std::thread::Threads;
+use threaded_driver::NoGate;
 use view_pool::PlainView;
 
 // A reader that gives one byte of `run` and an end of line a call, and errors of this kind before some.
@@ -87,14 +89,14 @@ fn session(rt: &impl Abort, alloc: Global) -> Session<PlainView> {
 
 // The session's answer over these streams, one worker, and which of them failed.
 fn noting<R: Read, W: Write>(
-    rt: &(impl Abort + Wait),
+    rt: &(impl Abort + Threads + Wait + Sync),
     alloc: Global,
     reader: &mut R,
     writer: &mut W,
     failures: &mut Failures,
 ) -> Result<(), SessionError> {
     let session = session(rt, alloc);
-    session_text(rt, alloc, session, 1, reader, writer, failures)
+    session_text(rt, alloc, session, 1, &NoGate, reader, writer, failures)
 }
 
 #[test]
@@ -153,6 +155,7 @@ fn ending(ended: &Result<(), SessionError>) -> &'static str {
         Ok(()) => "done",
         Err(SessionError::NoMemory) => "no memory",
         Err(SessionError::NoKit) => "no kit",
+        Err(SessionError::Mismatch(_)) => "worker mismatch",
         Err(SessionError::Read) => "failed input",
         Err(SessionError::Write) => "failed output",
     }

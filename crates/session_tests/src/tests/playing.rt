@@ -1,15 +1,16 @@
 //! Scripts played in a session, and what is answered.
-ghost use Rattle.std.specs.Prelude.{◌<◌};
+ghost use Rattle.std.specs.Prelude.{◌<◌, ◌≤◌};
 
 use linked_program::checked::Checked;
 use reuse_planner::{ApplyError, Session};
-use round_driver::run;
 use script_reader::command::Command;
 use script_reader::script::commands;
 use session_edits::Edit;
 use std::alloc::{AllocError, Global};
 use std::fmt::Write;
 use std::sync::Wait;
+use std::thread::Threads;
+use threaded_driver::{NoGate, run_threads};
 use trace_report::answers::{push_outcome, push_unknown};
 use trace_report::edits::{push_accepted, push_edit_refusal};
 use view_pool::View;
@@ -84,32 +85,32 @@ impl Answers {
         push_counts(&mut self.counts, answer)
     }
 
-    /// Runs the session by so many workers in turn.
+    /// Runs the session by so many threads.
     fn run<V: View>(
         &mut self,
-        rt: &impl Wait,
+        rt: &(impl Threads + Wait + Sync),
         alloc: Global,
         session: &mut Session<V>,
         workers: usize,
     ) -> Result<(), AllocError>
-        requires workers { 0 < workers }
+        requires workers { (0 < workers) × (workers ≤ 16) }
     {
-        match run(rt, alloc, session, workers) {
-            Ok(answer) => self.note(alloc, session.checked(), &answer),
-            Err(error) => writeln!(&mut self.lines, "{error}"),
+        match run_threads(rt, alloc, session, workers, &NoGate) {
+            Ok((answer, _)) => self.note(alloc, session.checked(), &answer),
+            Err(_) => writeln!(&mut self.lines, "worker mismatch"),
         }
     }
 
     /// Does a command.
     fn answer<V: View>(
         &mut self,
-        rt: &impl Wait,
+        rt: &(impl Threads + Wait + Sync),
         alloc: Global,
         session: &mut Session<V>,
         workers: usize,
         command: &Command<'_>,
     ) -> Result<(), AllocError>
-        requires workers { 0 < workers }
+        requires workers { (0 < workers) × (workers ≤ 16) }
     {
         match command {
             Command::Unknown(line) => push_unknown(&mut self.lines, *line),
@@ -127,15 +128,15 @@ pub fn no_answers(alloc: Global) -> Answers {
     }
 }
 
-/// Plays a script, with runs by so many workers in turn.
+/// Plays a script, with runs by so many threads.
 pub fn play<V: View>(
-    rt: &impl Wait,
+    rt: &(impl Threads + Wait + Sync),
     alloc: Global,
     session: &mut Session<V>,
     workers: usize,
     script: &[u8],
 ) -> Result<Answers, AllocError>
-    requires workers { 0 < workers }
+    requires workers { (0 < workers) × (workers ≤ 16) }
 {
     let mut answers = no_answers(alloc);
     let commands = commands(alloc, script)?;

@@ -1,4 +1,4 @@
-//! Sessions by any edits and runs, of one to five workers with one to six kits or many: the answers are those of the slow serial
+//! Sessions by any edits and runs, of one to five workers or sixteen with one to six kits or many: the answers are those of the slow serial
 //! program from scratch, and what a run executes and has answered by records is what that one needs by the session's records.
 ghost use Rattle.std.specs.Prelude.{◌≡◌, ◌<◌};
 
@@ -8,23 +8,25 @@ use super::model::Model;
 use super::playing::{no_answers, play};
 use super::slow::{needs_of, scratch_text};
 use reuse_planner::Session;
-use round_driver::run;
 use std::alloc::Global;
 use std::process::Abort;
 use std::sync::Wait;
+use std::thread::Threads;
+use threaded_driver::{NoGate, run_threads};
 use view_pool::View;
 use worker_core::RunAnswer;
 
-/// Runs a session by workers in turn, or by any steps.
+/// Runs a session by threads, or by any steps.
 fn any_run<V: View>(
-    rt: &(impl Abort + Wait),
+    rt: &(impl Abort + Threads + Wait + Sync),
     alloc: Global,
     session: &mut Session<V>,
     dice: &mut Dice,
 ) -> RunAnswer {
-    let workers = dice.below(5) + 1;
+    let workers = [1, 2, 3, 4, 5, 16][dice.below(6)];
     if dice.below(2) == 0 {
-        return run(rt, alloc, session, workers).expect(rt, "an answer");
+        let (answer, _) = run_threads(rt, alloc, session, workers, &NoGate).expect(rt, "an answer");
+        return answer;
     }
     let steps = any_steps(rt, alloc, session, dice, workers);
     session.run(alloc, workers, &steps)
@@ -35,7 +37,7 @@ type Seen = (bool, bool);
 
 /// Edits a session once, and its model.
 fn edit<V: View>(
-    rt: &(impl Abort + Wait),
+    rt: &(impl Abort + Threads + Wait + Sync),
     alloc: Global,
     session: &mut Session<V>,
     model: &mut Model,
@@ -48,7 +50,7 @@ fn edit<V: View>(
 
 /// Runs a session once, beside its model.
 fn run_beside<V: View>(
-    rt: &(impl Abort + Wait),
+    rt: &(impl Abort + Threads + Wait + Sync),
     alloc: Global,
     session: &mut Session<V>,
     model: &Model,
@@ -79,7 +81,7 @@ fn run_beside<V: View>(
 
 /// Edits a session some times, and then runs it.
 fn go_on<V: View>(
-    rt: &(impl Abort + Wait),
+    rt: &(impl Abort + Threads + Wait + Sync),
     alloc: Global,
     session: &mut Session<V>,
     model: &mut Model,
@@ -92,7 +94,12 @@ fn go_on<V: View>(
 }
 
 /// A session of a dozen runs with so many kits.
-fn any_session(rt: &(impl Abort + Wait), alloc: Global, count: usize, seed: u64) -> Seen {
+fn any_session(
+    rt: &(impl Abort + Threads + Wait + Sync),
+    alloc: Global,
+    count: usize,
+    seed: u64,
+) -> Seen {
     let mut model = Model::new(alloc).expect(rt, "memory");
     let text = model.text(alloc).expect(rt, "memory");
     let mut session = session(rt, alloc, &text, count);
@@ -107,7 +114,7 @@ fn any_session(rt: &(impl Abort + Wait), alloc: Global, count: usize, seed: u64)
 }
 
 /// Sessions with so many kits.
-fn any_sessions(rt: &(impl Abort + Wait), alloc: Global, count: usize) -> Seen {
+fn any_sessions(rt: &(impl Abort + Threads + Wait + Sync), alloc: Global, count: usize) -> Seen {
     let mut seen = (false, false);
     for seed in 0..6 {
         let (reused, faulted) = any_session(rt, alloc, count, seed);

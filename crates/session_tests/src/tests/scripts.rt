@@ -1,5 +1,5 @@
 //! Scripts whose answers were found by hand, in sessions with few kits and many, and by one worker and more.
-ghost use Rattle.std.specs.Prelude.{◌<◌};
+ghost use Rattle.std.specs.Prelude.{◌<◌, ◌≤◌};
 
 use super::beginning::session;
 use super::playing::{Answers, play};
@@ -8,17 +8,18 @@ use super::rows::{ROWS, Row};
 use std::alloc::Global;
 use std::process::Abort;
 use std::sync::Wait;
+use std::thread::Threads;
 
 /// What a script is answered in a new session.
 fn answers(
-    rt: &(impl Abort + Wait),
+    rt: &(impl Abort + Threads + Wait + Sync),
     alloc: Global,
     text: &str,
     count: usize,
     workers: usize,
     script: &str,
 ) -> Answers
-    requires workers { 0 < workers }
+    requires workers { (0 < workers) × (workers ≤ 16) }
 {
     let mut session = session(rt, alloc, text, count);
     let answers = play(rt, alloc, &mut session, workers, script.as_bytes()).expect(rt, "memory");
@@ -28,13 +29,13 @@ fn answers(
 
 /// Compares the answers of a row, and gives the counts.
 fn counts_of(
-    rt: &(impl Abort + Wait),
+    rt: &(impl Abort + Threads + Wait + Sync),
     alloc: Global,
     row: Row,
     count: usize,
     workers: usize,
 ) -> String
-    requires workers { 0 < workers }
+    requires workers { (0 < workers) × (workers ≤ 16) }
 {
     let (text, script, lines, _) = row;
     let found = answers(rt, alloc, text, count, workers, script);
@@ -43,7 +44,7 @@ fn counts_of(
 }
 
 /// Compares the answers of a row and its counts.
-fn is_counted(rt: &(impl Abort + Wait), alloc: Global, row: Row) {
+fn is_counted(rt: &(impl Abort + Threads + Wait + Sync), alloc: Global, row: Row) {
     let (_, script, _, counts) = row;
     let found = counts_of(rt, alloc, row, 64, 1);
     assert_eq!(rt; found.as_str(), counts, "{script}");
@@ -57,8 +58,13 @@ fn answers_and_counts(rt: HostRuntime) {
 }
 
 /// Compares the answers of all rows by so many workers with so many kits.
-fn all_answers(rt: &(impl Abort + Wait), alloc: Global, workers: usize, count: usize)
-    requires workers { 0 < workers }
+fn all_answers(
+    rt: &(impl Abort + Threads + Wait + Sync),
+    alloc: Global,
+    workers: usize,
+    count: usize,
+)
+    requires workers { (0 < workers) × (workers ≤ 16) }
 {
     for row in ROWS {
         counts_of(rt, alloc, row, count, workers);
