@@ -1,4 +1,4 @@
-//! Histories replayed and lists changed step by step, against lists that were found by hand.
+//! Histories replayed, against lists that were found by hand.
 #![tactic(auto)]
 
 #[cfg(test)]

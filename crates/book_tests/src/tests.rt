@@ -1,5 +1,4 @@
 //! Lists of strands and their histories, as lines of words.
 
-mod books;
 mod replays;
 mod words;
