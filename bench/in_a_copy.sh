@@ -28,7 +28,10 @@ in_a_copy() {
         grep -E "^$crate:" "$top/crates.txt" >> "$copy/crates.txt"
     done
     cp "$top/bench/$name/main.rt.txt" "$copy/crates/${name}_bench/src/main.rt" # the gate reads every .rt file, so it has another name here
-    if [ -d "$top/bench/$name/proofs" ]; then cp -r "$top/bench/$name/proofs" "$copy/crates/${name}_bench/"; fi
+    if [ -d "$top/bench/$name/proofs" ]; then # likewise .antt files
+        cp -r "$top/bench/$name/proofs" "$copy/crates/${name}_bench/"
+        find "$copy/crates/${name}_bench/proofs" -name '*.antt.txt' -exec sh -c 'mv "$1" "${1%.txt}"' _ {} \;
+    fi
     cp "$top/HANDLES" "$copy/"
     echo "${name}_bench: $uses" >> "$copy/crates.txt"
     cd "$copy/crates/${name}_bench"
