@@ -1,0 +1,6 @@
+//! What a refusal means and how to mend it, in plain words, as lines under the refusal's own.
+#![tactic(auto)]
+
+pub mod programs;
+pub mod rules;
+pub mod tables;

@@ -1,0 +1,75 @@
+//! Why a program's text isn't in the language, as far as its bytes tell.
+
+use crate::rules::push_line;
+use std::alloc::AllocError;
+use std::fmt::Write;
+
+// What the longest line that is shown has.
+const MOST_SHOWN: usize = 120;
+
+/// Puts the line of a text at which no program can have it, and what to look for there, at the end of the text. Line 0 is a text that
+/// is too long. Want of memory is the only error.
+pub fn push_bad_program(text: &mut String, program: &[u8], line: u32) -> Result<(), AllocError> {
+    if line == 0 {
+        return push_line(text, "The text has more than 1,048,576 bytes.");
+    }
+    let words = line_at(program, line);
+    push_shown(text, words, line)?;
+    push_line(text, looked_for(words))
+}
+
+// What to look for in such a line.
+fn looked_for(words: &[u8]) -> &'static str {
+    if words.iter().any(|byte| *byte == 13) {
+        return "The line ends with a carriage return: lines end with a line feed alone.";
+    }
+    if words.iter().any(|byte| !is_of_a_text(*byte)) {
+        return "The line has a byte that is neither a tab nor one from space to `~`.";
+    }
+    if words.iter().all(|byte| is_blank(*byte)) {
+        return "The text ends before its program does: a `}` or a `;` is missing, or there is no declaration.";
+    }
+    "A word of this line can't stand where it does. Look for a `;`, `}` or `)` that is missing here or on the line before, an \
+     upper-case letter, a keyword used as a name, or a limit that is passed."
+}
+
+// Whether a text may have that byte within a line.
+fn is_of_a_text(byte: u8) -> bool {
+    byte == 9 || (32 <= byte && byte <= 126)
+}
+
+fn is_blank(byte: u8) -> bool {
+    byte == 9 || byte == 32
+}
+
+// The line of that number, counted from 1, without its end; nothing where there is no such line.
+fn line_at(program: &[u8], line: u32) -> &[u8] {
+    let mut number = 1;
+    for words in program.split(|byte| *byte == 10) {
+        if number == line {
+            return words;
+        }
+        if number == u32::MAX {
+            break;
+        }
+        number += 1;
+    }
+    &[]
+}
+
+// Puts a line with its number at the end of the text; what isn't a byte of a text is shown as a question mark.
+fn push_shown(text: &mut String, words: &[u8], line: u32) -> Result<(), AllocError> {
+    write!(text, "  {line} | ")?;
+    for byte in words.iter().take(MOST_SHOWN) {
+        let shown = if is_of_a_text(*byte) {
+            *byte as char
+        } else {
+            '?'
+        };
+        text.push(shown)?;
+    }
+    if words.len() > MOST_SHOWN {
+        text.push_str(" ..")?;
+    }
+    text.push_str("\n")
+}
