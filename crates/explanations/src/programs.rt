@@ -13,9 +13,8 @@ pub fn push_bad_program(text: &mut String, program: &[u8], line: u32) -> Result<
     if line == 0 {
         return push_line(text, "The text has more than 1,048,576 bytes.");
     }
-    let words = line_at(program, line);
-    push_shown(text, words, line)?;
-    push_line(text, looked_for(words))
+    push_shown(text, program, line)?;
+    push_line(text, looked_for(line_at(program, line)))
 }
 
 // What to look for in such a line.
@@ -57,8 +56,13 @@ fn line_at(program: &[u8], line: u32) -> &[u8] {
     &[]
 }
 
-// Puts a line with its number at the end of the text; what isn't a byte of a text is shown as a question mark.
-fn push_shown(text: &mut String, words: &[u8], line: u32) -> Result<(), AllocError> {
+/// Puts the line of that number of a text, counted from 1, at the end of the text, as far as it isn't too long to be shown; nothing for
+/// line 0. What isn't a byte of a program is shown as a question mark. Want of memory is the only error.
+pub fn push_shown(text: &mut String, program: &[u8], line: u32) -> Result<(), AllocError> {
+    if line == 0 {
+        return Ok(());
+    }
+    let words = line_at(program, line);
     write!(text, "  {line} | ")?;
     for byte in words.iter().take(MOST_SHOWN) {
         let shown = if is_of_a_text(*byte) {

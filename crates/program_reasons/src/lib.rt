@@ -1,0 +1,76 @@
+//! What stands under the error of a program that is refused, from its files.
+#![tactic(auto)]
+
+use cli::files::{FileSource, SystemFiles};
+use cli::prepare::PrepareError;
+use cli::program::ProgramError;
+use command_line::line::options;
+use explanations::programs::{push_bad_program, push_shown};
+use explanations::rules::push_rule;
+use explanations::tables::{push_bad_table, push_bad_toml};
+use std::alloc::{AllocError, Global};
+use std::env;
+use std::rt::Runtime;
+
+/// The lines in plain words that belong under a report's error: those of a refused program, or of refused tables, which are read once
+/// more by the words of the program's line. There are none under other errors, and where a file can't be read any more.
+pub fn reasons_of(
+    rt: &(impl Runtime + AllocGlobal),
+    alloc: Global,
+    reported: &Result<(), ProgramError>,
+) -> String {
+    match reported {
+        Err(ProgramError::Prepare(error)) => {
+            read_again(rt, alloc, error).unwrap_or_else(|| String::new(alloc))
+        }
+        _ => String::new(alloc),
+    }
+}
+
+// The lines of a refusal, where the files of the program's line can be read.
+fn read_again(
+    rt: &(impl Runtime + AllocGlobal),
+    alloc: Global,
+    error: &PrepareError,
+) -> Option<String> {
+    let mut held = Vec::new(alloc);
+    for word in env::args(rt).ok()? {
+        held.push(word).ok()?;
+    }
+    let mut words = Vec::new(alloc);
+    for word in held.iter() {
+        words.push(word.as_str()).ok()?;
+    }
+    let options = options(alloc, words.as_slice()).ok()?;
+    let files = SystemFiles { rt };
+    let program = files.read(alloc, options.program).ok()?;
+    let tables = files.read(alloc, options.tables).ok()?;
+    let tables = str::from_utf8(tables.as_slice()).ok()?;
+    reasons(alloc, error, program.as_slice(), tables).ok()
+}
+
+/// The lines under the refusal of a program or of tables with these texts. Want of memory is the only error.
+pub fn reasons(
+    alloc: Global,
+    error: &PrepareError,
+    program: &[u8],
+    tables: &str,
+) -> Result<String, AllocError> {
+    let mut text = String::new(alloc);
+    match error {
+        PrepareError::NoMemory => {}
+        PrepareError::Text { line } => push_bad_program(&mut text, program, *line)?,
+        PrepareError::NotToml => push_bad_toml(alloc, &mut text, tables)?,
+        PrepareError::Shape { table } => push_bad_table(alloc, &mut text, tables, table.as_str())?,
+        PrepareError::Check { rule, line, .. } => {
+            push_shown(&mut text, program, *line)?;
+            push_rule(&mut text, *rule)?;
+        }
+    }
+    Ok(text)
+}
+
+/// Prints the lines on standard error. That they can't be written changes nothing.
+pub fn show(rt: &impl Eprint, reasons: &str) {
+    let _ = eprint!(rt; "{reasons}");
+}
