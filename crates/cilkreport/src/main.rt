@@ -3,6 +3,7 @@
 
 use cli::program::{ending, report};
 use monoid_laws::Kind;
+use program_reasons::{reasons_of, show};
 use std::alloc::AllocError;
 use std::process::ExitCode;
 use view_pool::{PlainView, View};
@@ -12,5 +13,9 @@ fn main(rt: HostRuntime) -> ExitCode {
     let make = |kind: Kind| -> Result<Box<dyn View>, AllocError> {
         Ok(Box::new(alloc, PlainView::new(alloc, kind))?)
     };
-    ending(&rt, report(&rt, alloc, &make))
+    let reported = report(&rt, alloc, &make);
+    let reasons = reasons_of(&rt, alloc, &reported);
+    let status = ending(&rt, reported);
+    show(&rt, reasons.as_str());
+    status
 }
