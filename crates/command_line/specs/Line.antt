@@ -1,5 +1,5 @@
 -- What the words of the program's line ask for, as clap reads them.
-use Rattle.std.specs.Prelude.{◌≡◌, ◌≢◌, ◌≤◌, ℕ, Bool, List, [], ◌∷◌, Option, Some, None, true, codes, option_map}
+use Rattle.std.specs.Prelude.{◌≡◌, ◌≢◌, ◌≤◌, ℕ, Bool, List, [], ◌∷◌, Option, Some, None, ⊤, true, false, codes, option_map}
 use Rattle.std.specs.Option.{option_map_or}
 use Rattle.std.specs.Str.{bytes_eq}
 use Rattle.std.specs.Str.Parse.{IsNumeral, digits_value, without_leading_plus}
@@ -21,11 +21,13 @@ option_rule name = record (new_rule name) { long = Some name; action = Some Set 
 abbrev pub flag_rule : List ℕ → Rule
 flag_rule name = record (new_rule name) { long = Some name; action = Some SetTrue }
 
--- the program, which has a version
-abbrev pub program_form : App
-program_form = record (new_app (codes "cilkreport")) { top = record (new_app (codes "cilkreport")).top { has_version = true } }
+abbrev pub with_version : App → App
+with_version app = record app { top = record app.top { has_version = true } }
 
--- the form of a line: PROGRAM TABLES [--workers N] [--kits N] [--trace FILE] [--stats]
+-- the form of a line: PROGRAM TABLES [--workers N] [--kits N] [--trace FILE] [--stats]; help and the version may be asked for
+abbrev pub program_form : App
+program_form = with_version (new_app (codes "cilkreport"))
+
 abbrev pub line_form : App
 line_form =
     with_rule (with_rule (with_rule (with_rule (with_rule (with_rule program_form (path_rule (codes "program"))) (path_rule (codes "tables")))

@@ -1,7 +1,7 @@
 // The words of the program's line.
-ghost use Rattle.std.specs.Prelude.{◌≡◌, ◌≢◌, ◌≤◌, ℕ, List, IfOk, IfErr, OnOk, codes, map, option_map};
-ghost use Rattle.clap.specs.Words.{app_of, found_of, first_value, kind_of};
-ghost use Rattle.command_line.specs.Line.{line_form, given, is_set, HasForm, AsksFor, IsLineOf, IsNoLine, IsRefusedFor, IsRefusalOf};
+ghost use Rattle.std.specs.Prelude.{◌≡◌, ◌≤◌, ℕ, List, IfOk, IfErr, OnOk, false, map, option_map};
+ghost use Rattle.clap.specs.Words.{app_of, found_of, first_value, kind_of, rule_of};
+ghost use Rattle.command_line.specs.Line.{line_form, given, is_set, option_rule, path_rule, HasForm, AsksFor, IsLineOf, IsNoLine, IsRefusedFor, IsRefusalOf};
 ghost use Rattle.command_line.specs.declared.options.OptionsError.TheVariants as refusal;
 
 use crate::options::{Options, OptionsError, VERSION};
