@@ -98,7 +98,12 @@ fn lines_that_ask_for_a_text(rt: HostRuntime) {
     let alloc = rt.alloc();
     assert!(&rt; is_help(alloc, &["cilkreport", "--help"]));
     assert!(&rt; is_help(alloc, &["cilkreport", "-h"]));
-    assert!(&rt; is_help(alloc, &["cilkreport", "p", "t", "--workers", "17", "--help"]));
+    assert!(&rt;
+        is_help(
+            alloc,
+            &["cilkreport", "p", "t", "--workers", "17", "--help"]
+        )
+    );
     assert!(&rt; is_help(alloc, &["cilkreport", "--help", "--version"]));
     assert!(&rt; is_version(alloc, &["cilkreport", "--version"]));
     assert!(&rt; is_version(alloc, &["cilkreport", "p", "-V"]));
