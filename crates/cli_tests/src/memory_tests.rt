@@ -69,6 +69,8 @@ fn is_written(
         tables: "t",
         workers: 1,
         kits: 2,
+        trace: None,
+        stats: false,
     };
     let make = |kind: Kind| -> Result<PlainView, AllocError> { Ok(PlainView::new(alloc, kind)) };
     let mut reader = script;
@@ -141,6 +143,6 @@ fn of_a_line(rt: HostRuntime) {
     match options(rt.alloc(), &words) {
         Ok(given) => assert_eq!(&rt; (given.workers, given.kits), (3, 5)),
         Err(OptionsError::NoMemory) => {}
-        Err(OptionsError::Usage) => assert!(&rt; false),
+        Err(_) => assert!(&rt; false),
     }
 }
