@@ -6,6 +6,8 @@ mod answer_tests;
 #[cfg(test)]
 mod edit_tests;
 #[cfg(test)]
+mod examples;
+#[cfg(test)]
 mod memory_tests;
 #[cfg(test)]
 mod program_tests;
