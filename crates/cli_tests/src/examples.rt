@@ -118,13 +118,17 @@ memo proc range(low, size, before) {
   after = call range(low + size / 2, size / 2, between);
   return after;
 }
-# The same where some may stand behind the last one. It asks for the limit, and so isn't recorded.
+# The entries from `low` on, at most so many, as ranges without a number behind the last one. It isn't recorded, since it asks
+# for the limit.
 proc up_to(low, size, before) {
   if low + size <= limit entries { whole = call range(low, size, before); return whole; }
-  if low >= limit entries { return before; }
-  between = call up_to(low, size / 2, before);
-  after = call up_to(low + size / 2, size / 2, between);
-  return after;
+  if low + size / 2 < limit entries {
+    between = call range(low, size / 2, before);
+    after = call up_to(low + size / 2, size / 2, between);
+    return after;
+  }
+  if low < limit entries { fewer = call up_to(low, size / 2, before); return fewer; }
+  return before;
 }
 proc main() { balance = call up_to(0, 2147483648, 0); return balance; }
 ";
@@ -201,14 +205,17 @@ memo proc range(low, size) {
     call range(low + size / 2, size / 2);
   }
 }
-# The same where some may stand behind the last one. It asks for the limit, and so isn't recorded.
+# The items from `low` on, at most so many, as ranges without a number behind the last one. It isn't recorded, since it asks for
+# the limit.
 proc up_to(low, size) {
   if low + size <= limit stock {
     call range(low, size);
   } else {
-    if low < limit stock {
-      spawn up_to(low, size / 2);
+    if low + size / 2 < limit stock {
+      spawn range(low, size / 2);
       call up_to(low + size / 2, size / 2);
+    } else {
+      if low < limit stock { call up_to(low, size / 2); }
     }
   }
 }
