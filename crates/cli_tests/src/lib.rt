@@ -7,6 +7,7 @@ mod answer_tests;
 mod edit_tests;
 #[cfg(test)]
 mod line_tests;
+mod examples;
 #[cfg(test)]
 mod memory_tests;
 #[cfg(test)]
