@@ -26,6 +26,8 @@ pub fn options<'a>(alloc: Global, words: &'a [&'a str]) -> Result<Options<'a>, O
             tables,
             workers,
             kits,
+            trace: None,
+            stats: false,
         }),
         _ => Err(OptionsError::Usage),
     }

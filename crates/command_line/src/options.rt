@@ -8,6 +8,10 @@ pub struct Options<'a> {
     pub tables: &'a str,
     pub workers: usize,
     pub kits: usize,
+    /// The file that the history of each run is written to.
+    pub trace: Option<&'a str>,
+    /// The counts of each run are written to standard error.
+    pub stats: bool,
 }
 
 /// Why a line is refused.
@@ -17,4 +21,8 @@ pub enum OptionsError {
     NoMemory,
     #[error("usage: cilkreport PROGRAM TABLES [--workers 1..16] [--kits 1..4096]")]
     Usage,
+    #[error("help")]
+    Help,
+    #[error("version")]
+    Version,
 }
