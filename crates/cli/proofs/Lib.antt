@@ -1,3 +1,4 @@
 pub mod Answering
+pub mod Opening
 pub mod SameKind
 pub mod Written

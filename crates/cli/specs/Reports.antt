@@ -94,6 +94,14 @@ ReportsRefusal (Prepare e) = Unit {0}
 ReportsRefusal (Session e) = CarriesRefusal e
 ReportsRefusal (Trace path) = Unit {0}
 
+-- the errors after which nothing of the script was read
+abbrev pub ReadsNothing : ProgramError → Type 0
+ReadsNothing (Line e) = Unit {0}
+ReadsNothing (File path) = Unit {0}
+ReadsNothing (Prepare e) = Unit {0}
+ReadsNothing (Session e) = ⊥
+ReadsNothing (Trace path) = ⊥
+
 -- the errors after which nothing was written
 abbrev pub WritesNothing : ProgramError → Type 0
 WritesNothing (Line e) = Unit {0}

@@ -4,7 +4,7 @@ ghost use Rattle.std.specs.Io.KnownBytes.{Keeps, IsAtEnd};
 ghost use Rattle.std.specs.IoError.{error_kind};
 ghost use Rattle.std.specs.Process.{exit_status};
 ghost use Rattle.cli.specs.Statuses.{status_of};
-ghost use Rattle.cli.specs.Reports.{IsOpened, IsUnopened, IsFailed, IsUnmade, IsUnnoted, IsReportedOver, IsBegunOver, ReportsRefusal, WritesNothing};
+ghost use Rattle.cli.specs.Reports.{IsOpened, IsUnopened, IsFailed, IsUnmade, IsUnnoted, IsReportedOver, IsBegunOver, ReadsNothing, ReportsRefusal, WritesNothing};
 
 use crate::beginning::{BeginError, begin};
 use crate::files::{FileSource, StandardError, SystemFiles};
@@ -149,6 +149,8 @@ pub fn report_on<
         (R.remaining reader.old) (W.contents writer.old) (W.contents writer.new) }
     ensures unwritten { IfErr result (λ e. WritesNothing e
         → Keeps (W.contents writer.old) (W.contents writer.new)) }
+    ensures unread { IfErr result (λ e. ReadsNothing e
+        → Keeps (R.remaining reader.old) (R.remaining reader.new)) }
     ensures kits { 0 < options.entry.kits
         → result ≢ Err (ProgramError.Session SessionError.NoKit) }
     ensures mismatch { IfErr result ReportsRefusal }
@@ -258,6 +260,10 @@ fn notes_of<F: FileSource, E: Write + Drop>(
     errors: E,
 ) -> Result<RunNotes<F::Made, E>, ProgramError>
     ensures unmade { IfErr result (IsUnmade (option_map (λ t. t.now) options.entry.trace)) }
+    ensures kits { result ≢ Err (ProgramError.Session SessionError.NoKit) }
+    ensures mismatch { IfErr result ReportsRefusal }
+    ensures input { result ≢ Err (ProgramError.Session SessionError.Read) }
+    ensures output { result ≢ Err (ProgramError.Session SessionError.Write) }
 {
     let trace = match options.trace {
         None => None,
@@ -273,6 +279,11 @@ fn notes_of<F: FileSource, E: Write + Drop>(
 // The error of a run that couldn't be noted for that reason.
 fn unnoted(alloc: Global, trace: Option<&str>, failure: Option<NotesError>) -> ProgramError
     ensures unnoted { IsUnnoted (option_map (λ t. t.now) trace.entry) result }
+    ensures begun { ¬ (WritesNothing result) × ¬ (ReadsNothing result) }
+    ensures kits { result ≢ ProgramError.Session SessionError.NoKit }
+    ensures mismatch { ReportsRefusal result }
+    ensures input { result ≢ ProgramError.Session SessionError.Read }
+    ensures output { result ≢ ProgramError.Session SessionError.Write }
 {
     match (trace, failure) {
         (Some(path), Some(NotesError::Trace)) => match String::from_str(alloc, path) {

@@ -30,6 +30,7 @@ loop-command-preserved g c =
       free = c.in_ok-runs.ensures.free ∙ c.loop-command.invariant.free;
       few = runs_after-le _ _ _ _ c.in_ok-runs.ensures.runs c.loop-command.invariant.few;
       unmarked = c.in_ok-write_whole.ensures.unmarked (λ e. cc) ∙ c.loop-command.invariant.unmarked;
+      noted = c.in_ok-runs.ensures.notes_stay (λ e. cc) ∙ c.loop-command.invariant.noted;
       written = (_, Appends-more _ _ _ w.0 _ w.1 c.in_ok-write_whole.ensures.written, rw append_assoc next);
     }
 

@@ -1,0 +1,27 @@
+-- Why a session that was begun doesn't go on, or not to its end.
+use Rattle.std.proofs.Common.{◌≡◌, ℕ, List, Option, Some, None, option_map, sym, ap, ◌∙◌, inr}
+use Rattle.meaning.specs.Tables.{Tables}
+use Rattle.linked_program.specs.Checked.{PlainChecked}
+use Rattle.command_line.specs.declared.options.Options.{Options}
+use Rattle.cli.specs.declared.program.ProgramError.{ProgramError}
+use Rattle.cli.specs.declared.program.ProgramError.TheVariants.{Line, File, Prepare, Session, Trace}
+use Rattle.cli.specs.Reports.{IsOpened, IsUnopened, IsUnmade, IsUnnoted}
+
+-- the trace's file can't be made, once the session is begun
+pub unmade_unopened : (held : List ℕ → Option (List ℕ)) (options : Options) (checked : PlainChecked) (tables : Tables) (trace : Option (List ℕ)) (e : ProgramError)
+    → option_map (λ t. t.now) options.trace ≡ trace → IsUnmade trace e → IsOpened held options checked tables → IsUnopened held options e
+unmade_unopened held options checked tables None e is h opened = absurd h
+unmade_unopened held options checked tables (Some path) (Line e) is h opened = absurd h
+unmade_unopened held options checked tables (Some path) (File name) is h opened = inr (inr (is ∙ ap Some (sym h), checked, tables, opened))
+unmade_unopened held options checked tables (Some path) (Prepare e) is h opened = absurd h
+unmade_unopened held options checked tables (Some path) (Session e) is h opened = tt
+unmade_unopened held options checked tables (Some path) (Trace name) is h opened = absurd h
+
+-- a run couldn't be noted
+pub unnoted_unopened : (held : List ℕ → Option (List ℕ)) (options : Options) (e : ProgramError)
+    → IsUnnoted (option_map (λ t. t.now) options.trace) e → IsUnopened held options e
+unnoted_unopened held options (Line e) h = absurd h
+unnoted_unopened held options (File name) h = absurd h
+unnoted_unopened held options (Prepare e) h = absurd h
+unnoted_unopened held options (Session e) h = tt
+unnoted_unopened held options (Trace name) h = h
