@@ -1,12 +1,18 @@
 -- Lemmas about the program's line and what clap makes of it.
-use Rattle.std.proofs.Common.{◌∷◌, ◌<◌, ◌≤◌, arith, ◌≡◌, ◌≢◌, subst, ◌∙◌, ap, sym, refl, inl, inr, ℕ, List, [], true, codes}
-use Rattle.clap.specs.Words.{App, HasKind, HasMatchesOf, fault_of, first_of, first_value, found_of, is_simple, is_simple_and_free, kind_of, matches_of}
+use Rattle.std.proofs.Common.{◌∷◌, ◌<◌, ◌≤◌, arith, ◌≡◌, ◌≢◌, subst, ◌∙◌, ap, sym, refl, inl, inr, ℕ, List, [], Some, None, Result, Ok, Err, IfErr, IsErrAnd, true, false, codes}
+use Rattle.clap.specs.Words.{App, HasKind, HasMatchesOf, IsAmong, Kinds, built, fault_of, first_of, first_value, found_of, is_simple, is_simple_and_free, kind_of, matches_of}
+use Rattle.clap.specs.Simple.{argument_words}
+use Rattle.clap.specs.Walk.{nothing_held}
 use Rattle.clap.specs.declared.parser.matches.ArgMatches.{ArgMatches}
 use Rattle.clap.specs.declared.error.Error.{Error}
-use Rattle.clap.specs.declared.error.kind.ErrorKind.TheVariants.{OutOfMemory}
+use Rattle.clap.specs.declared.error.kind.ErrorKind.{ErrorKind}
+use Rattle.clap.specs.declared.error.kind.ErrorKind.TheVariants.{DisplayHelp, DisplayVersion, OutOfMemory}
 use Rattle.clap.proofs.OnLiterals.{clap_on_literals}
 use Rattle.clap.proofs.WalkLemmas.{first_value-rows}
-use Rattle.command_line.specs.Line.{line_form, given, HasForm, IsLine}
+use Rattle.command_line.specs.declared.options.OptionsError.{OptionsError}
+use Rattle.command_line.specs.declared.options.OptionsError.TheVariants.{NoMemory, Usage, Help, Version}
+use Rattle.command_line.specs.Line.{line_form, given, HasForm, IsLine, IsNoLine, Request, IsRefusalOf, IsRefusedFor, WantsHelp, WantsVersion}
+use Rattle.command_line.proofs.Faults.{HasOneAtMost, of_words, whole}
 
 pub simple_form : is_simple line_form ≡ true
 unfolding clap_on_literals
@@ -28,40 +34,120 @@ pub form_of : (app : App) (words : List (List ℕ)) → app ≡ line_form
 unfolding HasForm
 form_of app words e h = sym (ap (λ a. fault_of a words) e) ∙ h (ap is_simple_and_free e ∙ free_form)
 
--- an error that isn't want of memory is of words that don't
-pub no_form : (app : App) (words : List (List ℕ)) (x : Error) → app ≡ line_form
-    → (is_simple_and_free app ≡ true → HasKind (fault_of app words) x) → kind_of x ≢ OutOfMemory → HasForm words → ⊥
-unfolding HasForm
-no_form app words x e h other empty =
-    elim (subst (λ kinds. HasKind kinds x) (ap (λ a. fault_of a words) e ∙ empty) (h (ap is_simple_and_free e ∙ free_form))) [
-      | inl memory ↦ other memory
-      | inr none ↦ none
-    ]
+-- words have one fault at most
+one_fault : (words : List (List ℕ)) → HasOneAtMost (fault_of line_form words)
+one_fault words = of_words (built line_form).top refl nothing_held (argument_words line_form words)
+
+-- the fault of an error
+fault_by : (words : List (List ℕ)) (x : Error) (k : ErrorKind) → HasKind (fault_of line_form words) x → kind_of x ≡ k
+    → (k ≢ OutOfMemory) → fault_of line_form words ≡ k ∷ []
+fault_by words x k (inl memory) is other = absurd (other (sym is ∙ memory))
+fault_by words x k (inr among) is other =
+    whole (fault_of line_form words) k (one_fault words) (subst (λ y. IsAmong y (fault_of line_form words)) is among)
+
+-- an error of another kind, where the fault is one
+not_one : (kinds : Kinds) (x : Error) (k : ErrorKind) → HasKind kinds x → (kind_of x ≢ OutOfMemory) → (kind_of x ≢ k) → kinds ≡ k ∷ [] → ⊥
+not_one kinds x k h memory other is = elim (subst (λ ks. HasKind ks x) is h) [
+  | inl m ↦ memory m
+  | inr (inl same) ↦ other same
+  | inr (inr none) ↦ none
+]
+
+-- an error of the words is refused as what it is
+pub refused_as : (app : App) (words : List (List ℕ)) (x : Error) (refusal : OptionsError) → app ≡ line_form
+    → (is_simple_and_free app ≡ true → HasKind (fault_of app words) x) → IsRefusalOf (kind_of x) refusal
+    → IsRefusedFor (HasForm words → ⊥) words refusal
+unfolding HasForm WantsHelp WantsVersion
+refused_as app words x refusal e h is =
+    go refusal is
+  where
+    kinds : HasKind (fault_of line_form words) x
+    kinds = subst (λ ks. HasKind ks x) (ap (λ a. fault_of a words) e) (h (ap is_simple_and_free e ∙ free_form))
+    go : (r : OptionsError) → IsRefusalOf (kind_of x) r → IsRefusedFor (HasForm words → ⊥) words r
+    go NoMemory is = tt
+    go Help is = fault_by words x DisplayHelp kinds is (λ same. absurd cc)
+    go Version is = fault_by words x DisplayVersion kinds is (λ same. absurd cc)
+    go Usage is = (
+      λ empty. elim (subst (λ ks. HasKind ks x) empty kinds) [
+        | inl memory ↦ is.0 memory
+        | inr none ↦ none
+      ],
+      not_one (fault_of line_form words) x DisplayHelp kinds is.0 is.1,
+      not_one (fault_of line_form words) x DisplayVersion kinds is.0 is.2
+    )
+
+-- words that have the form ask for neither help nor the version
+pub as_usage : (words : List (List ℕ)) (error : OptionsError) → HasForm words → IsNoLine words → error ≡ Usage → IsRefusedFor (IsNoLine words) words error
+unfolding HasForm WantsHelp WantsVersion
+as_usage words error form unfit is =
+    subst (IsRefusedFor (IsNoLine words) words) (sym is) (unfit, (λ help. absurd cc), (λ version. absurd cc))
+
+-- the same of an error that is handed on
+pub handed_on : {T : Type 0} (words : List (List ℕ)) (result : Result T OptionsError) (error : OptionsError) → IsErrAnd result (λ e. e ≡ error)
+    → HasForm words → IsNoLine words → error ≡ Usage → IfErr result (IsRefusedFor (IsNoLine words) words)
+handed_on words (Ok t) error same form unfit is = absurd same
+handed_on words (Err e) error same form unfit is = as_usage words e form unfit (same ∙ is)
 
 -- lines written out
 
-pub two_workers : IsLine (codes "cilkreport" ∷ codes "p.ck" ∷ codes "--workers" ∷ codes "2" ∷ codes "t.toml" ∷ []) (codes "p.ck") (codes "t.toml") 2 64
+abbrev paths_alone : Request
+paths_alone = record { program = codes "p.ck"; tables = codes "t.toml"; workers = 1; kits = 64; trace = None; stats = false }
+
+pub two_workers : IsLine (codes "cilkreport" ∷ codes "p.ck" ∷ codes "--workers" ∷ codes "2" ∷ codes "t.toml" ∷ []) (record paths_alone { workers = 2 })
 unfolding given HasForm clap_on_literals
 two_workers =
     let written : 0 < 1 = omega arith in
     let digit : 2 < 10 = omega arith in
     let one : 1 ≤ 2 = omega arith in
     let sixteen : 2 ≤ 16 = omega arith in
-    record { form = refl; program_is = refl; tables_are = refl; workers_are = ((written, (digit, tt)), refl, one, sixteen); kits_are = refl }
+    record {
+      form = refl;
+      program_is = refl;
+      tables_are = refl;
+      workers_are = ((written, (digit, tt)), refl, one, sixteen);
+      kits_are = refl;
+      trace_is = refl;
+      stats_are = refl;
+    }
 
-pub one_worker : IsLine (codes "cilkreport" ∷ codes "p.ck" ∷ codes "t.toml" ∷ []) (codes "p.ck") (codes "t.toml") 1 64
+pub one_worker : IsLine (codes "cilkreport" ∷ codes "p.ck" ∷ codes "t.toml" ∷ []) paths_alone
 unfolding given HasForm clap_on_literals
-one_worker = record { form = refl; program_is = refl; tables_are = refl; workers_are = refl; kits_are = refl }
+one_worker = record { form = refl; program_is = refl; tables_are = refl; workers_are = refl; kits_are = refl; trace_is = refl; stats_are = refl }
 
-pub eight_kits : IsLine (codes "cilkreport" ∷ codes "--kits" ∷ codes "8" ∷ codes "p.ck" ∷ codes "t.toml" ∷ []) (codes "p.ck") (codes "t.toml") 1 8
+pub eight_kits : IsLine (codes "cilkreport" ∷ codes "--kits" ∷ codes "8" ∷ codes "p.ck" ∷ codes "t.toml" ∷ []) (record paths_alone { kits = 8 })
 unfolding given HasForm clap_on_literals
 eight_kits =
     let written : 0 < 1 = omega arith in
     let digit : 8 < 10 = omega arith in
     let one : 1 ≤ 8 = omega arith in
     let most : 8 ≤ 4096 = omega arith in
-    record { form = refl; program_is = refl; tables_are = refl; workers_are = refl; kits_are = ((written, (digit, tt)), refl, one, most) }
+    record {
+      form = refl;
+      program_is = refl;
+      tables_are = refl;
+      workers_are = refl;
+      kits_are = ((written, (digit, tt)), refl, one, most);
+      trace_is = refl;
+      stats_are = refl;
+    }
+
+pub traced : IsLine (codes "cilkreport" ∷ codes "--stats" ∷ codes "p.ck" ∷ codes "t.toml" ∷ codes "--trace" ∷ codes "runs" ∷ [])
+    (record paths_alone { trace = Some (codes "runs"); stats = true })
+unfolding given HasForm clap_on_literals
+traced = record { form = refl; program_is = refl; tables_are = refl; workers_are = refl; kits_are = refl; trace_is = refl; stats_are = refl }
 
 pub no_tables : HasForm (codes "cilkreport" ∷ codes "p.ck" ∷ []) → ⊥
 unfolding HasForm clap_on_literals
 no_tables e = absurd cc
+
+pub help : WantsHelp (codes "cilkreport" ∷ codes "--help" ∷ [])
+unfolding WantsHelp clap_on_literals
+help = refl
+
+pub help_behind_a_path : WantsHelp (codes "cilkreport" ∷ codes "p.ck" ∷ codes "-h" ∷ codes "--threads" ∷ [])
+unfolding WantsHelp clap_on_literals
+help_behind_a_path = refl
+
+pub version : WantsVersion (codes "cilkreport" ∷ codes "-V" ∷ codes "--help" ∷ [])
+unfolding WantsVersion clap_on_literals
+version = refl

@@ -1,24 +1,37 @@
 -- What the words of the program's line ask for, as clap reads them.
-use Rattle.std.specs.Prelude.{◌≡◌, ◌≤◌, ◌⊎◌, ℕ, List, [], Option, Some, None, true, codes}
+use Rattle.std.specs.Prelude.{◌≡◌, ◌≢◌, ◌≤◌, ℕ, Bool, List, [], ◌∷◌, Option, Some, None, ⊤, true, false, codes, option_map}
+use Rattle.std.specs.Option.{option_map_or}
+use Rattle.std.specs.Str.{bytes_eq}
 use Rattle.std.specs.Str.Parse.{IsNumeral, digits_value, without_leading_plus}
 use Rattle.clap.specs.Words.{App, Rule, fault_of, first_of, matches_of, new_app, new_rule, with_rule}
-use Rattle.clap.specs.declared.builder.action.ArgAction.TheVariants.{Set}
+use Rattle.clap.specs.declared.builder.action.ArgAction.TheVariants.{Set, SetTrue}
+use Rattle.clap.specs.declared.error.kind.ErrorKind.{ErrorKind}
+use Rattle.clap.specs.declared.error.kind.ErrorKind.TheVariants.{DisplayHelp, DisplayVersion, OutOfMemory}
 use Rattle.command_line.specs.declared.options.Options.{Options}
 use Rattle.command_line.specs.declared.options.OptionsError.{OptionsError}
-use Rattle.command_line.specs.declared.options.OptionsError.TheVariants.{NoMemory, Usage}
+use Rattle.command_line.specs.declared.options.OptionsError.TheVariants.{NoMemory, Usage, Help, Version}
 
--- a path that each line has, and an option that a line may have
+-- a path that each line has, an option that a line may have, and a flag
 abbrev pub path_rule : List ℕ → Rule
 path_rule name = record (new_rule name) { required = true; action = Some Set }
 
 abbrev pub option_rule : List ℕ → Rule
 option_rule name = record (new_rule name) { long = Some name; action = Some Set }
 
--- the form of a line: PROGRAM TABLES [--workers N] [--kits N]
+abbrev pub flag_rule : List ℕ → Rule
+flag_rule name = record (new_rule name) { long = Some name; action = Some SetTrue }
+
+abbrev pub with_version : App → App
+with_version app = record app { top = record app.top { has_version = true } }
+
+-- the form of a line: PROGRAM TABLES [--workers N] [--kits N] [--trace FILE] [--stats]; help and the version may be asked for
+abbrev pub program_form : App
+program_form = with_version (new_app (codes "cilkreport"))
+
 abbrev pub line_form : App
 line_form =
-    with_rule (with_rule (with_rule (with_rule (new_app (codes "cilkreport")) (path_rule (codes "program"))) (path_rule (codes "tables")))
-    (option_rule (codes "workers"))) (option_rule (codes "kits"))
+    with_rule (with_rule (with_rule (with_rule (with_rule (with_rule program_form (path_rule (codes "program"))) (path_rule (codes "tables")))
+    (option_rule (codes "workers"))) (option_rule (codes "kits"))) (option_rule (codes "trace"))) (flag_rule (codes "stats"))
 
 -- what the words give for a name of the form
 unfoldable pub given : List ℕ → List (List ℕ) → Option (List ℕ)
@@ -28,26 +41,68 @@ given name words = first_of name (matches_of line_form words)
 unfoldable pub HasForm : List (List ℕ) → Type 0
 HasForm words = fault_of line_form words ≡ []
 
+-- the words ask for help, or for the version: that is the first thing for which they give no options
+unfoldable pub WantsHelp : List (List ℕ) → Type 0
+WantsHelp words = fault_of line_form words ≡ DisplayHelp ∷ []
+
+unfoldable pub WantsVersion : List (List ℕ) → Type 0
+WantsVersion words = fault_of line_form words ≡ DisplayVersion ∷ []
+
 -- n is asked for: the first number where nothing is said, else one of 1 to the second
 abbrev pub AsksFor : ℕ → ℕ → Option (List ℕ) → ℕ → Type 0
 AsksFor unsaid most None n = n ≡ unsaid
 AsksFor unsaid most (Some text) n = IsNumeral 10 (without_leading_plus text) × (digits_value 10 (without_leading_plus text) ≡ n) × (1 ≤ n) × (n ≤ most)
 
--- the words are a line with these two paths, for so many workers and kits
-pub record IsLine (words : List (List ℕ)) (program tables : List ℕ) (workers kits : ℕ) : Type 0 where
+-- a flag is given: its text is `true`
+abbrev pub is_set : Option (List ℕ) → Bool
+is_set text = option_map_or (λ t. bytes_eq t (codes "true")) text false
+
+-- what a line asks for
+pub record Request : Type 0 where
+  pub program : List ℕ
+  pub tables : List ℕ
+  pub workers : ℕ
+  pub kits : ℕ
+  pub trace : Option (List ℕ)
+  pub stats : Bool
+
+-- the words are a line that asks for this
+pub record IsLine (words : List (List ℕ)) (r : Request) : Type 0 where
   pub form : HasForm words
-  pub program_is : given (codes "program") words ≡ Some program
-  pub tables_are : given (codes "tables") words ≡ Some tables
-  pub workers_are : AsksFor 1 16 (given (codes "workers") words) workers
-  pub kits_are : AsksFor 64 4096 (given (codes "kits") words) kits
+  pub program_is : given (codes "program") words ≡ Some r.program
+  pub tables_are : given (codes "tables") words ≡ Some r.tables
+  pub workers_are : AsksFor 1 16 (given (codes "workers") words) r.workers
+  pub kits_are : AsksFor 64 4096 (given (codes "kits") words) r.kits
+  pub trace_is : given (codes "trace") words ≡ r.trace
+  pub stats_are : is_set (given (codes "stats") words) ≡ r.stats
+
+abbrev pub request_of : Options → Request
+request_of o = record {
+  program = o.program.now;
+  tables = o.tables.now;
+  workers = o.workers;
+  kits = o.kits;
+  trace = option_map (λ t. t.now) o.trace;
+  stats = o.stats;
+}
 
 -- the words are the line of these options
 abbrev pub IsLineOf : List (List ℕ) → Options → Type 0
-IsLineOf words o = IsLine words o.program.now o.tables.now o.workers o.kits
+IsLineOf words o = IsLine words (request_of o)
 
 abbrev pub IsNoLine : List (List ℕ) → Type 0
-IsNoLine words = (program tables : List ℕ) (workers kits : ℕ) → IsLine words program tables workers kits → ⊥
+IsNoLine words = (r : Request) → IsLine words r → ⊥
 
--- refused for want of memory, or as usage with that reason
-abbrev pub IsRefusedFor : Type 0 → OptionsError → Type 0
-IsRefusedFor reason error = (error ≡ NoMemory) ⊎ ((error ≡ Usage) × reason)
+-- words are refused: for want of memory, as they ask for help or the version, or as usage with that reason
+abbrev pub IsRefusedFor : Type 0 → List (List ℕ) → OptionsError → Type 0
+IsRefusedFor reason words NoMemory = ⊤
+IsRefusedFor reason words Usage = reason × (WantsHelp words → ⊥) × (WantsVersion words → ⊥)
+IsRefusedFor reason words Help = WantsHelp words
+IsRefusedFor reason words Version = WantsVersion words
+
+-- the refusal for an error of that kind
+abbrev pub IsRefusalOf : ErrorKind → OptionsError → Type 0
+IsRefusalOf kind NoMemory = kind ≡ OutOfMemory
+IsRefusalOf kind Usage = (kind ≢ OutOfMemory) × (kind ≢ DisplayHelp) × (kind ≢ DisplayVersion)
+IsRefusalOf kind Help = kind ≡ DisplayHelp
+IsRefusalOf kind Version = kind ≡ DisplayVersion

@@ -1,21 +1,22 @@
 // The words of the program's line.
-ghost use Rattle.std.specs.Prelude.{◌≡◌, ◌≢◌, ◌≤◌, ℕ, List, IfOk, IfErr, OnOk, map, option_map};
-ghost use Rattle.clap.specs.Words.{app_of, found_of, first_value, kind_of};
-ghost use Rattle.clap.specs.declared.error.kind.ErrorKind.TheVariants.{OutOfMemory};
-ghost use Rattle.command_line.specs.Line.{line_form, given, HasForm, AsksFor, IsLineOf, IsNoLine, IsRefusedFor};
+ghost use Rattle.std.specs.Prelude.{◌≡◌, ◌≤◌, ℕ, List, IfOk, IfErr, OnOk, false, map, option_map};
+ghost use Rattle.clap.specs.Words.{app_of, found_of, first_value, kind_of, rule_of};
+ghost use Rattle.command_line.specs.Line.{line_form, given, is_set, option_rule, path_rule, HasForm, AsksFor, IsLineOf, IsNoLine, IsRefusedFor, IsRefusalOf};
 ghost use Rattle.command_line.specs.declared.options.OptionsError.TheVariants as refusal;
 
-use crate::options::{Options, OptionsError};
+use crate::options::{Options, OptionsError, VERSION};
 use clap::error::ErrorKind;
 use clap::{Arg, ArgAction, ArgMatches, Command, Error};
 use std::alloc::{AllocError, Global};
 
-/// The options of a line, whose first word is the program's own name; refused for another form or want of memory.
+/// The options of a line, whose first word is the program's own name; refused for another form, a request for help or
+/// the version, or want of memory.
 pub fn options<'a>(alloc: Global, words: &'a [&'a str]) -> Result<Options<'a>, OptionsError>
     ensures read { IfOk result (IsLineOf (map (λ word. word.now) words.now)) }
     ensures workers { IfOk result (λ o. (1 ≤ o.workers) × (o.workers ≤ 16)) }
     ensures kits { IfOk result (λ o. (1 ≤ o.kits) × (o.kits ≤ 4096)) }
-    ensures refused { IfErr result (IsRefusedFor (IsNoLine (map (λ word. word.now) words.now))) }
+    ensures refused { IfErr result (IsRefusedFor (IsNoLine (map (λ word. word.now) words.now))
+        (map (λ word. word.now) words.now)) }
 {
     let matches = matched(alloc, words)?;
     let workers = asked(matches.get_str("workers"), 1, 16)?;
@@ -26,8 +27,8 @@ pub fn options<'a>(alloc: Global, words: &'a [&'a str]) -> Result<Options<'a>, O
             tables,
             workers,
             kits,
-            trace: None,
-            stats: false,
+            trace: matches.get_str("trace"),
+            stats: is_given(matches.get_str("stats")),
         }),
         _ => Err(OptionsError::Usage),
     }
@@ -38,7 +39,8 @@ fn matched<'a>(alloc: Global, words: &'a [&'a str]) -> Result<ArgMatches<'a>, Op
     ensures form { OnOk result (HasForm (map (λ word. word.now) words.now)) }
     ensures given { IfOk result (λ matches. (name : List ℕ)
         → first_value (found_of matches) name ≡ given name (map (λ word. word.now) words.now)) }
-    ensures refused { IfErr result (IsRefusedFor (HasForm (map (λ word. word.now) words.now) → ⊥)) }
+    ensures refused { IfErr result (IsRefusedFor (HasForm (map (λ word. word.now) words.now) → ⊥)
+        (map (λ word. word.now) words.now)) }
 {
     let Ok(command) = form(alloc) else {
         return Err(OptionsError::NoMemory);
@@ -51,33 +53,54 @@ fn matched<'a>(alloc: Global, words: &'a [&'a str]) -> Result<ArgMatches<'a>, Op
 
 // The refusal for an error of the words.
 fn refusal(error: Error) -> OptionsError
-    ensures { IsRefusedFor (kind_of error ≢ OutOfMemory) result }
+    ensures { IsRefusalOf (kind_of error) result }
 {
-    if error.kind() == ErrorKind::OutOfMemory {
-        return OptionsError::NoMemory;
+    match error.kind() {
+        ErrorKind::OutOfMemory => OptionsError::NoMemory,
+        ErrorKind::DisplayHelp => OptionsError::Help,
+        ErrorKind::DisplayVersion => OptionsError::Version,
+        _ => OptionsError::Usage,
     }
-    OptionsError::Usage
 }
 
 // The form of the line.
 fn form<'a>(alloc: Global) -> Result<Command<'a>, AllocError>
     ensures { IfOk result (λ command. app_of command ≡ line_form) }
 {
-    let program = Arg::new(alloc, "program")
-        .required(true)
-        .action(ArgAction::Set);
-    let tables = Arg::new(alloc, "tables")
-        .required(true)
-        .action(ArgAction::Set);
-    let workers = Arg::new(alloc, "workers")
-        .long("workers")
-        .action(ArgAction::Set);
-    let kits = Arg::new(alloc, "kits").long("kits").action(ArgAction::Set);
+    let stats = Arg::new(alloc, "stats")
+        .long("stats")
+        .action(ArgAction::SetTrue);
     Command::new(alloc, "cilkreport")
-        .arg(program)?
-        .arg(tables)?
-        .arg(workers)?
-        .arg(kits)
+        .version(VERSION)
+        .arg(path(alloc, "program"))?
+        .arg(path(alloc, "tables"))?
+        .arg(option(alloc, "workers"))?
+        .arg(option(alloc, "kits"))?
+        .arg(option(alloc, "trace"))?
+        .arg(stats)
+}
+
+// A path that each line has.
+fn path<'a>(alloc: Global, name: &'a str) -> Arg<'a>
+    ensures rule { rule_of result ≡ path_rule name.now }
+    ensures local { result.global ≡ false }
+{
+    Arg::new(alloc, name).required(true).action(ArgAction::Set)
+}
+
+// An option with a value.
+fn option<'a>(alloc: Global, name: &'a str) -> Arg<'a>
+    ensures rule { rule_of result ≡ option_rule name.now }
+    ensures local { result.global ≡ false }
+{
+    Arg::new(alloc, name).long(name).action(ArgAction::Set)
+}
+
+// Whether a flag is given, by the text that stands for it.
+fn is_given(text: Option<&str>) -> bool
+    ensures { result ≡ is_set (option_map (λ t. t.now) text.entry) }
+{
+    text == Some("true")
 }
 
 // The number that a text asks for, of 1 to the most; where there is no text, the one that is meant then.

@@ -14,15 +14,36 @@ pub struct Options<'a> {
     pub stats: bool,
 }
 
-/// Why a line is refused.
+/// Why a line gives no options: memory ran out, it has another form, or it asks for a text.
 #[derive(Debug, Drop, Error)]
 pub enum OptionsError {
     #[error("out of memory")]
     NoMemory,
-    #[error("usage: cilkreport PROGRAM TABLES [--workers 1..16] [--kits 1..4096]")]
+    #[error("{USAGE}")]
     Usage,
-    #[error("help")]
+    #[error("Runs a report program over tables, by the commands of a script.\n\n{USAGE}\n\n{HELP}")]
     Help,
-    #[error("version")]
+    #[error("cilkreport {VERSION}")]
     Version,
 }
+
+/// The program's version.
+pub const VERSION: &str = "0.1.0";
+
+const USAGE: &str =
+    "usage: cilkreport PROGRAM TABLES [--workers 1..16] [--kits 1..4096] [--trace FILE] [--stats]";
+
+const HELP: &str = "  PROGRAM         the file of the report program
+  TABLES          the file of its tables, in TOML
+  --workers N     how many threads run the program: 1 to 16, otherwise 1
+  --kits N        how many views of all reducers a run may have at once: 1 to 4096, otherwise 64
+  --trace FILE    writes the history of each run to FILE, otherwise nowhere
+  --stats         writes the counts of each run to standard error, otherwise nowhere
+  -h, --help      prints this text
+  -V, --version   prints the program's version
+
+The script is read from standard input, and its answers are written to standard output:
+
+  cilkreport sales.cilk tables.toml --workers 4 --stats < script
+
+docs/LANGUAGE.md describes programs, tables and scripts.";

@@ -1,16 +1,17 @@
-use Rattle.std.proofs.Common.{rules, ◌≡◌, ◌∙◌, ap₂, codes}
+use Rattle.std.proofs.Common.{rules, ◌≡◌, ◌∙◌, ap, ap₂, codes}
 use Rattle.std.proofs.lemmas.Result.{IfOk-weaker}
-use Rattle.clap.specs.Words.{rule_of, with_rule}
-use Rattle.command_line.specs.Line.{path_rule, option_rule}
+use Rattle.clap.specs.Simple.{app_of_fields}
+use Rattle.clap.specs.Words.{app_of, rule_of, with_rule}
+use Rattle.command_line.specs.Line.{flag_rule, program_form, with_version}
 use Rattle.command_line.proofs.line.form.Goals as goal
 
 pub returns : goal.returns
 returns c =
-    let program_is : rule_of c.action-program.result ≡ path_rule (codes "program") = search rules in
-    let tables_are : rule_of c.action-tables.result ≡ path_rule (codes "tables") = search rules in
-    let workers_are : rule_of c.action-workers.result ≡ option_rule (codes "workers") = search rules in
-    let kits_are : rule_of c.action-kits.result ≡ option_rule (codes "kits") = search rules in
-    let first = c.in_ok-arg.ensures.shape (search rules) ∙ ap₂ with_rule c.new-5.ensures.app program_is in
-    let second = c.in_ok-arg-2.ensures.shape (search rules) ∙ ap₂ with_rule first tables_are in
-    let third = c.in_ok-arg-3.ensures.shape (search rules) ∙ ap₂ with_rule second workers_are in
-    IfOk-weaker c.arg-4.result _ _ (λ command h. h.shape (search rules) ∙ ap₂ with_rule third kits_are) c.arg-4.ensures
+    let stats_is : rule_of c.action-stats.result ≡ flag_rule (codes "stats") = search rules in
+    let program_is : app_of c.version.result ≡ program_form = ap app_of_fields c.version.ensures ∙ ap with_version c.new-2.ensures.app in
+    let first = c.in_ok-arg.ensures.shape c.path.ensures.local ∙ ap₂ with_rule program_is c.path.ensures.rule in
+    let second = c.in_ok-arg-2.ensures.shape c.path-2.ensures.local ∙ ap₂ with_rule first c.path-2.ensures.rule in
+    let third = c.in_ok-arg-3.ensures.shape c.option.ensures.local ∙ ap₂ with_rule second c.option.ensures.rule in
+    let fourth = c.in_ok-arg-4.ensures.shape c.option-2.ensures.local ∙ ap₂ with_rule third c.option-2.ensures.rule in
+    let fifth = c.in_ok-arg-5.ensures.shape c.option-3.ensures.local ∙ ap₂ with_rule fourth c.option-3.ensures.rule in
+    IfOk-weaker c.arg-6.result _ _ (λ command h. h.shape (search rules) ∙ ap₂ with_rule fifth stats_is) c.arg-6.ensures

@@ -1,5 +1,4 @@
-use Rattle.std.proofs.Common.{inl, inr}
-use Rattle.command_line.proofs.Lines.{form_of, given_by, no_form}
+use Rattle.command_line.proofs.Lines.{form_of, given_by, refused_as}
 use Rattle.command_line.proofs.line.matched.Goals as goal
 
 pub returns-in-Ok-try_get_matches_from-clause-form : goal.returns-in-Ok-try_get_matches_from-clause-form
@@ -9,7 +8,4 @@ pub returns-in-Ok-try_get_matches_from-clause-given : goal.returns-in-Ok-try_get
 returns-in-Ok-try_get_matches_from-clause-given c = given_by _ _ _ c.in-Ok.ensures c.in-Ok-try_get_matches_from.ensures.matches
 
 pub returns-in-Err-clause-refused : goal.returns-in-Err-clause-refused
-returns-in-Err-clause-refused c = elim c.refusal.ensures [
-  | inl memory ↦ inl memory
-  | inr usage ↦ inr (usage.0, no_form _ _ c.in-Err.error c.in-Ok.ensures c.in-Err.ensures.kinds usage.1)
-]
+returns-in-Err-clause-refused c = refused_as _ _ c.in-Err.error _ c.in-Ok.ensures c.in-Err.ensures.kinds c.refusal.ensures
