@@ -8,6 +8,8 @@ mod edit_tests;
 #[cfg(test)]
 mod memory_tests;
 #[cfg(test)]
+mod notes_tests;
+#[cfg(test)]
 mod program_tests;
 #[cfg(test)]
 mod row_tests;
