@@ -6,6 +6,8 @@ mod answer_tests;
 #[cfg(test)]
 mod edit_tests;
 #[cfg(test)]
+mod line_tests;
+#[cfg(test)]
 mod memory_tests;
 #[cfg(test)]
 mod notes_tests;

@@ -225,7 +225,8 @@ fn seventeen_workers(rt: HostRuntime) {
         Err(error) => {
             assert_eq!(&rt; status(&error), 2);
             let said = error.to_string(rt.alloc()).expect(&rt, "memory");
-            let form = "usage: cilkreport PROGRAM TABLES [--workers 1..16] [--kits 1..4096]";
+            let form =
+                "usage: cilkreport PROGRAM TABLES [--workers 1..16] [--kits 1..4096] [--trace FILE] [--stats]";
             assert_eq!(&rt; said.as_str(), form);
         }
     }

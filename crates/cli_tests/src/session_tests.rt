@@ -1,4 +1,4 @@
-// Programs, scripts and lines, with what is written for them.
+// Programs and scripts, with what is written for them.
 ghost use Rattle.std.specs.Prelude.{◌<◌, ◌≤◌};
 
 use cli::beginning::{BeginError, begin};
@@ -6,8 +6,6 @@ use cli::notes::NoNotes;
 use cli::prepare::{PrepareError, prepare};
 use cli::session::session_text;
 use cli::streams::{Failures, SessionError};
-use command_line::line::options;
-use command_line::options::OptionsError;
 use monoid_laws::Kind;
 use reuse_planner::Session;
 use std::alloc::{AllocError, Global};
@@ -350,49 +348,6 @@ fn programs_that_break_none(rt: HostRuntime) {
             "{kind} {body}"
         );
     }
-}
-
-#[test]
-fn lines(rt: HostRuntime) {
-    let words = ["cilkreport", "p", "t", "--workers", "16"];
-    let given = options(rt.alloc(), &words).expect(&rt, "options");
-    assert_eq!(&rt; given.program, "p");
-    assert_eq!(&rt; given.tables, "t");
-    assert_eq!(&rt; given.workers, 16);
-    assert_eq!(&rt; given.kits, 64);
-    let words = ["cilkreport", "--kits", "4096", "p", "t"];
-    let given = options(rt.alloc(), &words).expect(&rt, "options");
-    assert_eq!(&rt; given.workers, 1);
-    assert_eq!(&rt; given.kits, 4096);
-    let words = ["cilkreport", "--workers=4", "p", "--kits", "+08", "t"];
-    let given = options(rt.alloc(), &words).expect(&rt, "options");
-    assert_eq!(&rt; (given.workers, given.kits), (4, 8));
-}
-
-fn is_usage<'a>(alloc: Global, words: &'a [&'a str]) -> bool {
-    matches!(&options(alloc, words), Err(OptionsError::Usage))
-}
-
-#[test]
-fn refused_lines(rt: HostRuntime) {
-    for workers in ["17", "0", "", "two", "-1"] {
-        let words = ["cilkreport", "p", "t", "--workers", workers];
-        let refused = options(rt.alloc(), &words);
-        assert!(&rt; matches!(&refused, Err(OptionsError::Usage)), "{workers}");
-    }
-    for kits in ["4097", "0", "", "two", "-1"] {
-        let words = ["cilkreport", "p", "t", "--kits", kits];
-        let refused = options(rt.alloc(), &words);
-        assert!(&rt; matches!(&refused, Err(OptionsError::Usage)), "{kits}");
-    }
-    let alloc = rt.alloc();
-    assert!(&rt; is_usage(alloc, &[]));
-    assert!(&rt; is_usage(alloc, &["cilkreport", "p"]));
-    assert!(&rt; is_usage(alloc, &["cilkreport", "p", "t", "u"]));
-    assert!(&rt; is_usage(alloc, &["cilkreport", "p", "t", "--kits"]));
-    assert!(&rt; is_usage(alloc, &["cilkreport", "p", "t", "--kits=1", "--kits=1"]));
-    assert!(&rt; is_usage(alloc, &["cilkreport", "p", "t", "--threads", "2"]));
-    assert!(&rt; is_usage(alloc, &["cilkreport", "p", "t", "--help"]));
 }
 
 #[test]

@@ -63,6 +63,7 @@ refused_as app words x refusal e h is =
   where
     kinds : HasKind (fault_of line_form words) x
     kinds = subst (λ ks. HasKind ks x) (ap (λ a. fault_of a words) e) (h (ap is_simple_and_free e ∙ free_form))
+
     go : (r : OptionsError) → IsRefusalOf (kind_of x) r → IsRefusedFor (HasForm words → ⊥) words r
     go NoMemory is = tt
     go Help is = fault_by words x DisplayHelp kinds is (λ same. absurd cc)
@@ -73,7 +74,7 @@ refused_as app words x refusal e h is =
         | inr none ↦ none
       ],
       not_one (fault_of line_form words) x DisplayHelp kinds is.0 is.1,
-      not_one (fault_of line_form words) x DisplayVersion kinds is.0 is.2
+      not_one (fault_of line_form words) x DisplayVersion kinds is.0 is.2,
     )
 
 -- words that have the form ask for neither help nor the version
