@@ -53,13 +53,13 @@ abbrev pub IsUnmade : Option (List ℕ) → ProgramError → Type 0
 IsUnmade None e = ⊥
 IsUnmade (Some path) e = IsFailed path e
 
--- the error of a run that couldn't be noted: the trace's path, or that counts couldn't be written, or want of memory
-abbrev pub IsUnnoted : Option (List ℕ) → ProgramError → Type 0
-IsUnnoted path (Line e) = ⊥
-IsUnnoted path (File name) = ⊥
-IsUnnoted path (Prepare e) = ⊥
-IsUnnoted path (Session e) = (e ≡ s.NoMemory) ⊎ (e ≡ s.Notes)
-IsUnnoted path (Trace name) = path ≡ Some (string_bytes name)
+-- an error of a session that was begun, or was to be: that of a trace has the trace's path
+abbrev pub IsLate : Option (List ℕ) → ProgramError → Type 0
+IsLate path (Line e) = ⊥
+IsLate path (File name) = ⊥
+IsLate path (Prepare e) = ⊥
+IsLate path (Session e) = Unit {0}
+IsLate path (Trace name) = path ≡ Some (string_bytes name)
 
 -- the tables' bytes are text, and the answers of some program that the texts give, and to this script, were written
 abbrev pub IsReported : List ℕ → List ℕ → List ℕ → Option (List ℕ) → Option (List ℕ) → Type 0

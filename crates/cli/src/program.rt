@@ -1,10 +1,11 @@
 // The program: its line, its files, its session on standard input and output.
-ghost use Rattle.std.specs.Prelude.{◌≡◌, ◌≢◌, ◌<◌, ◌≤◌, ◌⊎◌, Err, true, IfOk, IfErr, OnOk, OnErr, length, map, option_map, string_bytes};
+ghost use Rattle.std.specs.Prelude.{◌≡◌, ◌≢◌, ◌↔◌, ◌<◌, ◌≤◌, ◌⊎◌, Err, true, IfOk, IfErr, OnOk, OnErr, length, map, option_map, string_bytes};
 ghost use Rattle.std.specs.Io.KnownBytes.{Keeps, IsAtEnd};
 ghost use Rattle.std.specs.IoError.{error_kind};
 ghost use Rattle.std.specs.Process.{exit_status};
+ghost use Rattle.cli.specs.Endings.{CarriesRefusal};
 ghost use Rattle.cli.specs.Statuses.{status_of};
-ghost use Rattle.cli.specs.Reports.{IsOpened, IsUnopened, IsFailed, IsUnmade, IsUnnoted, IsReportedOver, IsBegunOver, ReadsNothing, ReportsRefusal, WritesNothing};
+ghost use Rattle.cli.specs.Reports.{IsOpened, IsUnopened, IsFailed, IsUnmade, IsLate, IsReportedOver, IsBegunOver, ReadsNothing, ReportsRefusal, WritesNothing};
 
 use crate::beginning::{BeginError, begin};
 use crate::files::{FileSource, StandardError, SystemFiles};
@@ -176,8 +177,7 @@ pub fn report_on<
         failures,
     ) {
         Ok(()) => Ok(()),
-        Err(SessionError::Notes) => Err(unnoted(alloc, options.trace, notes.failure())),
-        Err(error) => Err(ProgramError::Session(error)),
+        Err(error) => Err(ended_by(alloc, options.trace, error, notes.failure())),
     }
 }
 
@@ -276,10 +276,30 @@ fn notes_of<F: FileSource, E: Write + Drop>(
     Ok(RunNotes::new(alloc, trace, counts))
 }
 
+// What an error of a session is to the program, with the reason why a run couldn't be noted.
+fn ended_by(
+    alloc: Global,
+    trace: Option<&str>,
+    error: SessionError,
+    failure: Option<NotesError>,
+) -> ProgramError
+    ensures named { IsLate (option_map (λ t. t.now) trace.entry) result }
+    ensures written { WritesNothing result → error ≡ SessionError.Read }
+    ensures kits { result ≡ ProgramError.Session SessionError.NoKit → error ≡ SessionError.NoKit }
+    ensures mismatch { CarriesRefusal error → ReportsRefusal result }
+    ensures input { result ≡ ProgramError.Session SessionError.Read ↔ error ≡ SessionError.Read }
+    ensures output { result ≡ ProgramError.Session SessionError.Write → error ≡ SessionError.Write }
+{
+    match error {
+        SessionError::Notes => unnoted(alloc, trace, failure),
+        error => ProgramError::Session(error),
+    }
+}
+
 // The error of a run that couldn't be noted for that reason.
 fn unnoted(alloc: Global, trace: Option<&str>, failure: Option<NotesError>) -> ProgramError
-    ensures unnoted { IsUnnoted (option_map (λ t. t.now) trace.entry) result }
-    ensures begun { ¬ (WritesNothing result) × ¬ (ReadsNothing result) }
+    ensures named { IsLate (option_map (λ t. t.now) trace.entry) result }
+    ensures written { ¬ (WritesNothing result) }
     ensures kits { result ≢ ProgramError.Session SessionError.NoKit }
     ensures mismatch { ReportsRefusal result }
     ensures input { result ≢ ProgramError.Session SessionError.Read }
