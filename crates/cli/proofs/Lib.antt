@@ -1,3 +1,5 @@
 pub mod Answering
+pub mod Errors
+pub mod Opening
 pub mod SameKind
 pub mod Written

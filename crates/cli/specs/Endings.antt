@@ -3,7 +3,7 @@ use Rattle.std.specs.Prelude.{◌≡◌, ◌⊎◌}
 use Rattle.sync_fold.specs.declared.error.BookError.TheVariants as refusal
 use Rattle.threaded_driver.specs.declared.failure.Mismatch as declared
 use Rattle.cli.specs.declared.streams.SessionError.{SessionError}
-use Rattle.cli.specs.declared.streams.SessionError.TheVariants.{NoMemory, NoKit, Mismatch, Read, Write}
+use Rattle.cli.specs.declared.streams.SessionError.TheVariants.{NoMemory, NoKit, Mismatch, Read, Write, Notes}
 
 abbrev pub IsReaderError : SessionError → Type 0
 IsReaderError error = (error ≡ NoMemory) ⊎ (error ≡ Read)
@@ -14,6 +14,10 @@ IsWriterError error = (error ≡ NoMemory) ⊎ (error ≡ Write)
 abbrev pub IsRunError : SessionError → Type 0
 IsRunError error = (error ≡ NoMemory) ⊎ ((error ≡ NoKit) ⊎ ((m : declared.Mismatch) × (error ≡ Mismatch m)))
 
+-- a run's, and that it couldn't be noted
+abbrev pub IsAnswerError : SessionError → Type 0
+IsAnswerError error = IsRunError error ⊎ (error ≡ Notes)
+
 -- a mismatch carries what the list of strands refused, which is no want of memory
 abbrev pub CarriesRefusal : SessionError → Type 0
 CarriesRefusal NoMemory = Unit {0}
@@ -21,3 +25,4 @@ CarriesRefusal NoKit = Unit {0}
 CarriesRefusal (Mismatch m) = ¬ (m.refusal ≡ refusal.NoMemory)
 CarriesRefusal Read = Unit {0}
 CarriesRefusal Write = Unit {0}
+CarriesRefusal Notes = Unit {0}

@@ -1,12 +1,12 @@
 -- What a session over two files, a script and a writer comes to, and why it is not begun.
-use Rattle.std.specs.Prelude.{◌≡◌, ◌⊎◌, ℕ, List, Option, Some, None, string_bytes, IsUtf8}
+use Rattle.std.specs.Prelude.{◌≡◌, ◌⊎◌, ℕ, List, Option, Some, None, option_map, string_bytes, IsUtf8}
 use Rattle.std.specs.Io.KnownBytes.{Appends, Keeps}
 use Rattle.meaning.specs.Tables.{Tables}
 use Rattle.linked_program.specs.Checked.{PlainChecked}
 use Rattle.command_line.specs.declared.options.Options.{Options}
 use Rattle.cli.specs.declared.streams.SessionError.TheVariants as s
 use Rattle.cli.specs.declared.program.ProgramError.{ProgramError}
-use Rattle.cli.specs.declared.program.ProgramError.TheVariants.{Line, File, Prepare, Session}
+use Rattle.cli.specs.declared.program.ProgramError.TheVariants.{Line, File, Prepare, Session, Trace}
 use Rattle.cli.specs.Answers.{first_answers}
 use Rattle.cli.specs.Endings.{CarriesRefusal}
 use Rattle.cli.specs.Written.{HasBeginning}
@@ -23,16 +23,22 @@ abbrev pub IsNoText : Option (List ℕ) → Type 0
 IsNoText None = Unit {0}
 IsNoText (Some bytes) = IsUtf8 bytes → ⊥
 
--- why no session was begun: a file first, and a text only where the tables' file is text; of a session that was begun, or was to have no kits, nothing is said
+-- a path is that of the trace's file
+abbrev pub IsTrace : Options → List ℕ → Type 0
+IsTrace options path = option_map (λ t. t.now) options.trace ≡ Some path
+
+-- why no session was begun: a file first, and a text only where the tables' file is text, and then the trace's file; of a session that was begun, or was to have no kits, only the path of a trace that failed is said
 abbrev pub IsUnopened : (List ℕ → Option (List ℕ)) → Options → ProgramError → Type 0
 IsUnopened held options (Line e) = ⊥
 IsUnopened held options (File path) =
     ((string_bytes path ≡ options.program.now) × (held options.program.now ≡ None))
-    ⊎ ((string_bytes path ≡ options.tables.now) × IsNoText (held options.tables.now))
+    ⊎ (((string_bytes path ≡ options.tables.now) × IsNoText (held options.tables.now))
+    ⊎ (IsTrace options (string_bytes path) × (checked : PlainChecked) × (tables : Tables) × IsOpened held options checked tables))
 IsUnopened held options (Prepare e) =
     (program tables_text : List ℕ) → held options.program.now ≡ Some program → held options.tables.now ≡ Some tables_text
     → IsUtf8 tables_text × IsRefused program tables_text e
 IsUnopened held options (Session e) = Unit {0}
+IsUnopened held options (Trace path) = IsTrace options (string_bytes path)
 
 -- the error of a file that failed: its path, or want of memory
 abbrev pub IsFailed : List ℕ → ProgramError → Type 0
@@ -40,6 +46,20 @@ IsFailed path (Line e) = ⊥
 IsFailed path (File name) = string_bytes name ≡ path
 IsFailed path (Prepare e) = ⊥
 IsFailed path (Session e) = e ≡ s.NoMemory
+IsFailed path (Trace name) = ⊥
+
+-- the error of a trace's file that can't be made
+abbrev pub IsUnmade : Option (List ℕ) → ProgramError → Type 0
+IsUnmade None e = ⊥
+IsUnmade (Some path) e = IsFailed path e
+
+-- an error of a session that was begun, or was to be: that of a trace has the trace's path
+abbrev pub IsLate : Option (List ℕ) → ProgramError → Type 0
+IsLate path (Line e) = ⊥
+IsLate path (File name) = ⊥
+IsLate path (Prepare e) = ⊥
+IsLate path (Session e) = Unit {0}
+IsLate path (Trace name) = path ≡ Some (string_bytes name)
 
 -- the tables' bytes are text, and the answers of some program that the texts give, and to this script, were written
 abbrev pub IsReported : List ℕ → List ℕ → List ℕ → Option (List ℕ) → Option (List ℕ) → Type 0
@@ -72,6 +92,15 @@ ReportsRefusal (Line e) = Unit {0}
 ReportsRefusal (File path) = Unit {0}
 ReportsRefusal (Prepare e) = Unit {0}
 ReportsRefusal (Session e) = CarriesRefusal e
+ReportsRefusal (Trace path) = Unit {0}
+
+-- the errors after which nothing of the script was read
+abbrev pub ReadsNothing : ProgramError → Type 0
+ReadsNothing (Line e) = Unit {0}
+ReadsNothing (File path) = Unit {0}
+ReadsNothing (Prepare e) = Unit {0}
+ReadsNothing (Session e) = ⊥
+ReadsNothing (Trace path) = ⊥
 
 -- the errors after which nothing was written
 abbrev pub WritesNothing : ProgramError → Type 0
@@ -83,3 +112,5 @@ WritesNothing (Session s.NoMemory) = ⊥
 WritesNothing (Session s.NoKit) = ⊥
 WritesNothing (Session (s.Mismatch m)) = ⊥
 WritesNothing (Session s.Write) = ⊥
+WritesNothing (Session s.Notes) = ⊥
+WritesNothing (Trace path) = ⊥

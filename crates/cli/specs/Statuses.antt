@@ -4,11 +4,13 @@ use Rattle.command_line.specs.declared.options.OptionsError.TheVariants as o
 use Rattle.cli.specs.declared.prepare.PrepareError.TheVariants as p
 use Rattle.cli.specs.declared.streams.SessionError.TheVariants as s
 use Rattle.cli.specs.declared.program.ProgramError.{ProgramError}
-use Rattle.cli.specs.declared.program.ProgramError.TheVariants.{Line, File, Prepare, Session}
+use Rattle.cli.specs.declared.program.ProgramError.TheVariants.{Line, File, Prepare, Session, Trace}
 
 abbrev pub status_of : ProgramError → ℕ
 status_of (Line o.Usage) = 2
 status_of (Line o.NoMemory) = 3
+status_of (Line o.Help) = 0
+status_of (Line o.Version) = 0
 status_of (File path) = 1
 status_of (Prepare p.NoMemory) = 3
 status_of (Prepare (p.Text line)) = 1
@@ -20,3 +22,5 @@ status_of (Session s.NoKit) = 3
 status_of (Session (s.Mismatch m)) = 3
 status_of (Session s.Read) = 1
 status_of (Session s.Write) = 1
+status_of (Session s.Notes) = 1
+status_of (Trace path) = 1

@@ -4,7 +4,9 @@
 pub mod beginning;
 pub mod files;
 pub mod kits;
+pub mod notes;
 pub mod prepare;
 pub mod program;
+pub mod run_notes;
 pub mod session;
 pub mod streams;

@@ -1,14 +1,16 @@
 // The program: its line, its files, its session on standard input and output.
-ghost use Rattle.std.specs.Prelude.{◌≡◌, ◌≢◌, ◌<◌, ◌≤◌, ◌⊎◌, Err, true, IfOk, IfErr, OnOk, OnErr, length, map, string_bytes};
+ghost use Rattle.std.specs.Prelude.{◌≡◌, ◌≢◌, ◌↔◌, ◌<◌, ◌≤◌, ◌⊎◌, Err, true, IfOk, IfErr, OnOk, OnErr, length, map, option_map, string_bytes};
 ghost use Rattle.std.specs.Io.KnownBytes.{Keeps, IsAtEnd};
 ghost use Rattle.std.specs.IoError.{error_kind};
 ghost use Rattle.std.specs.Process.{exit_status};
+ghost use Rattle.cli.specs.Endings.{CarriesRefusal};
 ghost use Rattle.cli.specs.Statuses.{status_of};
-ghost use Rattle.cli.specs.Reports.{IsOpened, IsUnopened, IsFailed, IsReportedOver, IsBegunOver, ReportsRefusal, WritesNothing};
+ghost use Rattle.cli.specs.Reports.{IsOpened, IsUnopened, IsFailed, IsUnmade, IsLate, IsReportedOver, IsBegunOver, ReadsNothing, ReportsRefusal, WritesNothing};
 
 use crate::beginning::{BeginError, begin};
-use crate::files::{FileSource, SystemFiles};
+use crate::files::{FileSource, StandardError, SystemFiles};
 use crate::prepare::PrepareError;
+use crate::run_notes::{NotesError, RunNotes};
 use crate::session::session_text;
 use crate::streams::{Failures, SessionError};
 use command_line::line::options;
@@ -37,35 +39,47 @@ pub enum ProgramError {
     Prepare(PrepareError),
     #[error("{0}")]
     Session(SessionError),
+    /// The trace's file failed after it was made.
+    #[error("failed {0}")]
+    Trace(String),
 }
 
-/// The program's exit status: 1 where its program, its tables, a file or a stream failed, 2 for its line, 3 where
-/// memory, kits or a run's list of strands did.
+/// The program's exit status: 0 where its line asks for a text alone, 1 where its program, its tables, a file or a stream
+/// failed, 2 for another line, 3 where memory, kits or a run's list of strands did.
 pub fn status(error: &ProgramError) -> u8
     ensures { result ≡ status_of error.now }
 {
     match error {
+        ProgramError::Line(OptionsError::Help | OptionsError::Version) => 0,
         ProgramError::Line(OptionsError::Usage) => 2,
         ProgramError::Line(OptionsError::NoMemory)
         | ProgramError::Prepare(PrepareError::NoMemory)
         | ProgramError::Session(
             SessionError::NoMemory | SessionError::NoKit | SessionError::Mismatch(_),
         ) => 3,
-        ProgramError::File(_) | ProgramError::Prepare(_) | ProgramError::Session(_) => 1,
+        ProgramError::File(_)
+        | ProgramError::Prepare(_)
+        | ProgramError::Session(_)
+        | ProgramError::Trace(_) => 1,
     }
 }
 
-/// How the program ends after its report: with status 0, or an error's text on standard error and its status. That the
-/// text can't be written changes nothing.
-pub fn ending(rt: &impl Eprint, reported: Result<(), ProgramError>) -> ExitCode
+/// How the program ends after its report: with status 0, or an error's text on standard error and its status; a text that
+/// the line asks for is on standard output. That a text can't be written changes nothing.
+pub fn ending(rt: &(impl Print + Eprint), reported: Result<(), ProgramError>) -> ExitCode
     ensures done { OnOk reported (exit_status result ≡ 0) }
     ensures failed { IfErr reported (λ e. exit_status result ≡ status_of e) }
 {
     match reported {
         Ok(()) => ExitCode::SUCCESS,
         Err(error) => {
-            let _ = eprintln!(rt; "{error}");
-            ExitCode::from(status(&error))
+            let status = status(&error);
+            let _ = if status == 0 {
+                println!(rt; "{error}")
+            } else {
+                eprintln!(rt; "{error}")
+            };
+            ExitCode::from(status)
         }
     }
 }
@@ -99,14 +113,23 @@ pub fn report<V: View, M: Fn(Kind) -> Result<V, AllocError>>(
         &SystemFiles { rt },
         &mut reader,
         &mut writer,
+        StandardError { rt },
         &mut Failures::none(),
     )
 }
 
 /// Does the session that the options ask for: its program and its tables are those of two files, its kits are of views
-/// that the caller makes, its script is all that the reader has, its answers go to the writer. Where a file fails or is
-/// refused nothing is written; which streams failed is noted.
-pub fn report_on<V: View, M: Fn(Kind) -> Result<V, AllocError>, F: FileSource, R: Read, W: Write>(
+/// that the caller makes, its script is all that the reader has, its answers go to the writer. The trace is a file that is
+/// made before the script is read; counts go to the writer of errors. Where a file fails or is refused nothing is written;
+/// which streams failed is noted.
+pub fn report_on<
+    V: View,
+    M: Fn(Kind) -> Result<V, AllocError>,
+    F: FileSource,
+    R: Read,
+    W: Write,
+    E: Write + Drop,
+>(
     rt: &(impl Threads + Wait + Sync),
     alloc: Global,
     options: Options<'_>,
@@ -114,6 +137,7 @@ pub fn report_on<V: View, M: Fn(Kind) -> Result<V, AllocError>, F: FileSource, R
     files: &F,
     reader: &mut R,
     writer: &mut W,
+    errors: E,
     failures: &mut Failures,
 ) -> Result<(), ProgramError>
     requires callable { M.IsAlwaysCallable make.now }
@@ -126,6 +150,8 @@ pub fn report_on<V: View, M: Fn(Kind) -> Result<V, AllocError>, F: FileSource, R
         (R.remaining reader.old) (W.contents writer.old) (W.contents writer.new) }
     ensures unwritten { IfErr result (λ e. WritesNothing e
         → Keeps (W.contents writer.old) (W.contents writer.new)) }
+    ensures unread { IfErr result (λ e. ReadsNothing e
+        → Keeps (R.remaining reader.old) (R.remaining reader.new)) }
     ensures kits { 0 < options.entry.kits
         → result ≢ Err (ProgramError.Session SessionError.NoKit) }
     ensures mismatch { IfErr result ReportsRefusal }
@@ -138,12 +164,20 @@ pub fn report_on<V: View, M: Fn(Kind) -> Result<V, AllocError>, F: FileSource, R
         → failures.new.input ≡ failures.old.input }
 {
     let session = session_of(alloc, options, make, files)?;
-    let workers = options.workers;
+    let mut notes = notes_of(alloc, options, files, errors)?;
     match session_text(
-        rt, alloc, session, workers, &NoGate, reader, writer, failures,
+        rt,
+        alloc,
+        session,
+        options.workers,
+        &mut notes,
+        &NoGate,
+        reader,
+        writer,
+        failures,
     ) {
         Ok(()) => Ok(()),
-        Err(error) => Err(ProgramError::Session(error)),
+        Err(error) => Err(ended_by(alloc, options.trace, error, notes.failure())),
     }
 }
 
@@ -215,6 +249,69 @@ fn session_of<V: View, M: Fn(Kind) -> Result<V, AllocError>, F: FileSource>(
         Ok(session) => Ok(session),
         Err(BeginError::Prepare(error)) => Err(ProgramError::Prepare(error)),
         Err(BeginError::NoKit) => Err(ProgramError::Session(SessionError::NoKit)),
+    }
+}
+
+// The notes that the options ask for, with the trace's file made.
+fn notes_of<F: FileSource, E: Write + Drop>(
+    alloc: Global,
+    options: Options<'_>,
+    files: &F,
+    errors: E,
+) -> Result<RunNotes<F::Made, E>, ProgramError>
+    ensures unmade { IfErr result (IsUnmade (option_map (λ t. t.now) options.entry.trace)) }
+    ensures kits { result ≢ Err (ProgramError.Session SessionError.NoKit) }
+    ensures mismatch { IfErr result ReportsRefusal }
+    ensures input { result ≢ Err (ProgramError.Session SessionError.Read) }
+    ensures output { result ≢ Err (ProgramError.Session SessionError.Write) }
+{
+    let trace = match options.trace {
+        None => None,
+        Some(path) => match files.make(path) {
+            Ok(file) => Some(file),
+            Err(error) => return Err(failed(alloc, path, &error)),
+        },
+    };
+    let counts = if options.stats { Some(errors) } else { None };
+    Ok(RunNotes::new(alloc, trace, counts))
+}
+
+// What an error of a session is to the program, with the reason why a run couldn't be noted.
+fn ended_by(
+    alloc: Global,
+    trace: Option<&str>,
+    error: SessionError,
+    failure: Option<NotesError>,
+) -> ProgramError
+    ensures named { IsLate (option_map (λ t. t.now) trace.entry) result }
+    ensures written { WritesNothing result → error ≡ SessionError.Read }
+    ensures kits { result ≡ ProgramError.Session SessionError.NoKit → error ≡ SessionError.NoKit }
+    ensures mismatch { CarriesRefusal error → ReportsRefusal result }
+    ensures input { result ≡ ProgramError.Session SessionError.Read ↔ error ≡ SessionError.Read }
+    ensures output { result ≡ ProgramError.Session SessionError.Write → error ≡ SessionError.Write }
+{
+    match error {
+        SessionError::Notes => unnoted(alloc, trace, failure),
+        error => ProgramError::Session(error),
+    }
+}
+
+// The error of a run that couldn't be noted for that reason.
+fn unnoted(alloc: Global, trace: Option<&str>, failure: Option<NotesError>) -> ProgramError
+    ensures named { IsLate (option_map (λ t. t.now) trace.entry) result }
+    ensures written { ¬ (WritesNothing result) }
+    ensures kits { result ≢ ProgramError.Session SessionError.NoKit }
+    ensures mismatch { ReportsRefusal result }
+    ensures input { result ≢ ProgramError.Session SessionError.Read }
+    ensures output { result ≢ ProgramError.Session SessionError.Write }
+{
+    match (trace, failure) {
+        (Some(path), Some(NotesError::Trace)) => match String::from_str(alloc, path) {
+            Ok(path) => ProgramError::Trace(path),
+            Err(_) => no_memory(),
+        },
+        (_, Some(NotesError::NoMemory)) => no_memory(),
+        _ => ProgramError::Session(SessionError::Notes),
     }
 }
 

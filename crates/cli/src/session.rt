@@ -9,9 +9,10 @@ ghost use Rattle.reuse_planner.specs.Applied.{edited};
 ghost use Rattle.trace_report.specs.Outcomes.{Extends};
 ghost use Rattle.cli.specs.Answers.{answer_text, answers_of, left_by_edit, run_answer, standing_after};
 ghost use Rattle.threaded_driver.specs.Come.{HasCome, HasEnded};
-ghost use Rattle.cli.specs.Endings.{CarriesRefusal, IsRunError};
+ghost use Rattle.cli.specs.Endings.{CarriesRefusal, IsAnswerError, IsRunError};
 ghost use Rattle.cli.specs.Written.{HasBeginning, WritesAll, WritesBeginning};
 
+use crate::notes::Notes;
 use crate::streams::{Failures, SessionError, flush, read_all, write_whole};
 use frames::answer::RunAnswer;
 use reuse_planner::{ApplyError, Session};
@@ -28,16 +29,18 @@ use trace_report::edits::{push_accepted, push_edit_refusal};
 use view_pool::View;
 
 /// Answers the script that a reader has, all of it read before anything runs. Each run is by that many threads, 1 to 16,
-/// which the gate watches. It ends early where memory is refused, no kit is free, a run's list of strands refuses a worker,
-/// or a read, a write or a flush fails; a failed read leaves the writer as it was. It is noted which streams failed: a
+/// which the gate watches; the notes are told of each that comes to a result or a fault. It ends early where memory is
+/// refused, no kit is free, a run's list of strands refuses a worker, a run can't be noted, or a read, a write or a flush
+/// fails; a failed read leaves the writer as it was. It is noted which streams failed: a
 /// failed read is answered where the reader is noted, and nowhere else is the reader noted; a failed write is answered
 /// where the writer is noted. The writer is noted besides where its flush fails after another error has ended the session,
 /// and that error is answered.
-pub fn session_text<V: View, R: Read, W: Write>(
+pub fn session_text<V: View, N: Notes, R: Read, W: Write>(
     rt: &(impl Threads + Wait + Sync),
     alloc: Global,
     session: Session<V>,
     workers: usize,
+    notes: &mut N,
     gate: &impl Gate,
     reader: &mut R,
     writer: &mut W,
@@ -61,6 +64,9 @@ pub fn session_text<V: View, R: Read, W: Write>(
     ensures output_unread { result ≡ Err SessionError.Read
         → failures.new.output ≡ failures.old.output }
     ensures output_stays { failures.old.output ≡ true → failures.new.output ≡ true }
+    ensures notes { result ≡ Err SessionError.Notes → N.failed notes.new ≡ true }
+    ensures notes_stay { result ≢ Err SessionError.Notes
+        → N.failed notes.new ≡ N.failed notes.old }
 {
     let script = read_all(alloc, reader, failures)?;
     let mut session = session;
@@ -70,6 +76,7 @@ pub fn session_text<V: View, R: Read, W: Write>(
         alloc,
         &mut session,
         workers,
+        notes,
         gate,
         text,
         writer,
@@ -81,11 +88,12 @@ pub fn session_text<V: View, R: Read, W: Write>(
 }
 
 // Writes the answers to a script.
-fn answer_script<V: View, W: Write>(
+fn answer_script<V: View, N: Notes, W: Write>(
     rt: &(impl Threads + Wait + Sync),
     alloc: Global,
     session: &mut Session<V>,
     workers: usize,
+    notes: &mut N,
     gate: &impl Gate,
     script: &[u8],
     writer: &mut W,
@@ -102,6 +110,9 @@ fn answer_script<V: View, W: Write>(
     ensures output { result ≡ Err SessionError.Write → failures.new.output ≡ true }
     ensures unmarked { result ≢ Err SessionError.Write → failures.new ≡ failures.old }
     ensures input { failures.new.input ≡ failures.old.input }
+    ensures notes { result ≡ Err SessionError.Notes → N.failed notes.new ≡ true }
+    ensures notes_stay { result ≢ Err SessionError.Notes
+        → N.failed notes.new ≡ N.failed notes.old }
 {
     let commands = match commands(alloc, script) {
         Ok(commands) => commands,
@@ -111,18 +122,21 @@ fn answer_script<V: View, W: Write>(
     let mut text = String::new(alloc);
     for command in commands.iter() {
         text.clear();
-        runs = answer(rt, alloc, session, workers, gate, runs, command, &mut text)?;
+        runs = answer(
+            rt, alloc, session, workers, notes, gate, runs, command, &mut text,
+        )?;
         write_whole(writer, text.as_bytes(), failures)?;
     }
     Ok(())
 }
 
 // Puts the answer to a command, after so many runs, at the end of the text, and gives the number of runs after it.
-fn answer<V: View>(
+fn answer<V: View, N: Notes>(
     rt: &(impl Threads + Wait + Sync),
     alloc: Global,
     session: &mut Session<V>,
     workers: usize,
+    notes: &mut N,
     gate: &impl Gate,
     runs: usize,
     command: &Command<'_>,
@@ -135,10 +149,13 @@ fn answer<V: View>(
     ensures after { OnOk result (standing_of session.new
         ≡ standing_after (standing_of session.old) (said command.now)) }
     ensures runs { IfOk result (λ n. n ≡ runs_after runs (said command.now)) }
-    ensures refused { IfErr result IsRunError }
+    ensures refused { IfErr result IsAnswerError }
     ensures mismatch { IfErr result CarriesRefusal }
     ensures no_kit { result ≡ Err SessionError.NoKit → session.old.kits.kits ≡ [] }
     ensures free { OnOk result (length session.new.kits.kits ≡ length session.old.kits.kits) }
+    ensures notes { result ≡ Err SessionError.Notes → N.failed notes.new ≡ true }
+    ensures notes_stay { result ≢ Err SessionError.Notes
+        → N.failed notes.new ≡ N.failed notes.old }
 {
     match command {
         Command::Unknown(line) => {
@@ -150,7 +167,7 @@ fn answer<V: View>(
             Ok(runs)
         }
         Command::Run => {
-            run_once(rt, alloc, session, workers, gate, runs + 1, text)?;
+            run_once(rt, alloc, session, workers, notes, gate, runs + 1, text)?;
             Ok(runs + 1)
         }
     }
@@ -177,12 +194,13 @@ fn change<V: View>(
     }
 }
 
-// Runs once, and puts the line of the run of that number and what it came to at the end of the text.
-fn run_once<V: View>(
+// Runs once, puts the line of the run of that number and what it came to at the end of the text, and tells the notes of it.
+fn run_once<V: View, N: Notes>(
     rt: &(impl Threads + Wait + Sync),
     alloc: Global,
     session: &mut Session<V>,
     workers: usize,
+    notes: &mut N,
     gate: &impl Gate,
     number: usize,
     text: &mut String,
@@ -191,16 +209,22 @@ fn run_once<V: View>(
     ensures answered { OnOk result (Extends text.old text.new
         (run_answer (standing_of session.old) number)) }
     ensures same { standing_of session.new ≡ standing_of session.old }
-    ensures refused { IfErr result IsRunError }
+    ensures refused { IfErr result IsAnswerError }
     ensures mismatch { IfErr result CarriesRefusal }
     ensures no_kit { result ≡ Err SessionError.NoKit → session.old.kits.kits ≡ [] }
     ensures free { OnOk result (length session.new.kits.kits ≡ length session.old.kits.kits) }
+    ensures notes { result ≡ Err SessionError.Notes → N.failed notes.new ≡ true }
+    ensures notes_stay { result ≢ Err SessionError.Notes
+        → N.failed notes.new ≡ N.failed notes.old }
 {
-    let (answer, _) = run_threads(rt, alloc, session, workers, gate)?;
+    let (answer, history) = run_threads(rt, alloc, session, workers, gate)?;
     ended(&answer)?;
     push_run(text, number)?;
     push_outcome(alloc, text, session.checked(), &answer)?;
-    Ok(())
+    if notes.run(number, &answer, &history, session.kits()) {
+        return Ok(());
+    }
+    Err(SessionError::Notes)
 }
 
 // Refuses what a run that was refused memory or a kit came to.

@@ -28,6 +28,9 @@ pub enum SessionError {
     Read,
     #[error("failed output")]
     Write,
+    /// A run couldn't be noted.
+    #[error("failed output")]
+    Notes,
 }
 
 impl From<AllocError> for SessionError {

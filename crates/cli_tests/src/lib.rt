@@ -11,6 +11,8 @@ mod examples;
 #[cfg(test)]
 mod memory_tests;
 #[cfg(test)]
+mod notes_tests;
+#[cfg(test)]
 mod program_tests;
 #[cfg(test)]
 mod row_tests;

@@ -8,7 +8,7 @@ use command_line::options::{Options, OptionsError};
 use monoid_laws::Kind;
 use std::alloc::{AllocError, Global};
 use std::io;
-use std::io::{ErrorKind, Write};
+use std::io::{ErrorKind, Sink, Write};
 use std::process::Abort;
 use std::sync::Wait;
 use std::thread::Threads;
@@ -28,9 +28,15 @@ struct Program<'a> {
 }
 
 impl<'a> FileSource for Program<'a> {
+    type Made = Sink;
+
     fn read(&self, alloc: Global, path: &str) -> io::Result<Vec<u8>> {
         let text = if path == "p" { self.text } else { b"" };
         Ok(Vec::from_slice(alloc, text)?)
+    }
+
+    fn make(&self, _path: &str) -> io::Result<Sink> {
+        Ok(io::sink())
     }
 }
 
@@ -69,8 +75,8 @@ fn is_written(
         tables: "t",
         workers: 1,
         kits: 2,
-        trace: None,
-        stats: false,
+        trace: Some("T"),
+        stats: true,
     };
     let make = |kind: Kind| -> Result<PlainView, AllocError> { Ok(PlainView::new(alloc, kind)) };
     let mut reader = script;
@@ -86,6 +92,7 @@ fn is_written(
         &Program { text },
         &mut reader,
         &mut page,
+        io::sink(),
         &mut Failures::none(),
     );
     let written = &page.bytes[..page.len.min(64)];

@@ -8,7 +8,7 @@ use command_line::options::OptionsError;
 use monoid_laws::Kind;
 use std::alloc::{AllocError, Global};
 use std::io;
-use std::io::ErrorKind;
+use std::io::{ErrorKind, Sink, Write};
 use std::process::Abort;
 use std::sync::Wait;
 use std::thread::Threads;
@@ -70,6 +70,8 @@ struct Two<'a> {
 }
 
 impl<'a> FileSource for Two<'a> {
+    type Made = Sink;
+
     fn read(&self, alloc: Global, path: &str) -> io::Result<Vec<u8>> {
         let file = if path == "p" {
             self.program
@@ -80,6 +82,10 @@ impl<'a> FileSource for Two<'a> {
             Some(bytes) => Ok(Vec::from_slice(alloc, bytes)?),
             None => Err(io::Error::from(ErrorKind::NotFound)),
         }
+    }
+
+    fn make(&self, _path: &str) -> io::Result<Sink> {
+        Ok(io::sink())
     }
 }
 
@@ -103,6 +109,7 @@ fn ran(
         &files,
         &mut reader,
         &mut written,
+        io::sink(),
         &mut Failures::none(),
     );
     match ended {
@@ -162,6 +169,7 @@ fn sixteen_workers_and_one_kit(rt: HostRuntime) {
             &files,
             &mut reader,
             &mut written,
+            io::sink(),
             &mut Failures::none(),
         )
         .expect(&rt, "a report");
@@ -236,6 +244,7 @@ fn statuses_of_errors(rt: HostRuntime) {
         (SessionError::Mismatch(MISMATCH), 3, "worker mismatch"),
         (SessionError::Read, 1, "failed input"),
         (SessionError::Write, 1, "failed output"),
+        (SessionError::Notes, 1, "failed output"),
     ] {
         let error = ProgramError::Session(error);
         assert_eq!(&rt; status(&error), wanted);
@@ -244,8 +253,14 @@ fn statuses_of_errors(rt: HostRuntime) {
     }
     let error = ProgramError::Prepare(PrepareError::NoMemory);
     assert_eq!(&rt; status(&error), 3);
-    let error = ProgramError::Line(OptionsError::NoMemory);
-    assert_eq!(&rt; status(&error), 3);
+    for (error, wanted) in [
+        (OptionsError::NoMemory, 3),
+        (OptionsError::Usage, 2),
+        (OptionsError::Help, 0),
+        (OptionsError::Version, 0),
+    ] {
+        assert_eq!(&rt; status(&ProgramError::Line(error)), wanted);
+    }
 }
 
 #[test]
@@ -258,4 +273,7 @@ fn files_of_the_system(rt: HostRuntime) {
         .expect(&rt, "a file");
     assert_eq!(&rt; kernel.as_slice(), b"Linux\n".as_slice());
     assert!(&rt; files.read(rt.alloc(), "no such folder/p").is_err());
+    assert!(&rt; files.make("no such folder/p").is_err());
+    let mut full = files.make("/dev/full").expect(&rt, "a file");
+    assert!(&rt; full.write(b"run 1\n").is_err());
 }

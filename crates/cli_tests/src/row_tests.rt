@@ -2,6 +2,7 @@
 ghost use Rattle.std.specs.Prelude.{◌<◌, ◌≤◌};
 
 use cli::beginning::begin;
+use cli::notes::NoNotes;
 use cli::session::session_text;
 use cli::streams::Failures;
 use monoid_laws::Kind;
@@ -86,6 +87,7 @@ fn answered<V: View, M: Fn(Kind) -> Result<V, AllocError>>(
         alloc,
         session,
         workers,
+        &mut NoNotes,
         &NoGate,
         &mut reader,
         &mut written,

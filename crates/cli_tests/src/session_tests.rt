@@ -2,6 +2,7 @@
 ghost use Rattle.std.specs.Prelude.{◌<◌, ◌≤◌};
 
 use cli::beginning::{BeginError, begin};
+use cli::notes::NoNotes;
 use cli::prepare::{PrepareError, prepare};
 use cli::session::session_text;
 use cli::streams::{Failures, SessionError};
@@ -83,6 +84,7 @@ fn answers_over(
         alloc,
         session,
         workers,
+        &mut NoNotes,
         &NoGate,
         &mut reader,
         &mut written,
@@ -119,6 +121,7 @@ fn ended<R: Read, W: Write>(
         alloc,
         session,
         1,
+        &mut NoNotes,
         &NoGate,
         reader,
         writer,

@@ -1,5 +1,6 @@
 // Readers and writers that fail in mid-stream, or only for a moment.
 use cli::beginning::begin;
+use cli::notes::NoNotes;
 use cli::session::session_text;
 use cli::streams::{Failures, SessionError, read_all, write_whole};
 use monoid_laws::Kind;
@@ -96,7 +97,10 @@ fn noting<R: Read, W: Write>(
     failures: &mut Failures,
 ) -> Result<(), SessionError> {
     let session = session(rt, alloc);
-    session_text(rt, alloc, session, 1, &NoGate, reader, writer, failures)
+    let notes = &mut NoNotes;
+    session_text(
+        rt, alloc, session, 1, notes, &NoGate, reader, writer, failures,
+    )
 }
 
 #[test]
@@ -158,6 +162,7 @@ fn ending(ended: &Result<(), SessionError>) -> &'static str {
         Err(SessionError::Mismatch(_)) => "worker mismatch",
         Err(SessionError::Read) => "failed input",
         Err(SessionError::Write) => "failed output",
+        Err(SessionError::Notes) => "failed notes",
     }
 }
 

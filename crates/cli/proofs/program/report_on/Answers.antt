@@ -1,7 +1,9 @@
-use Rattle.std.proofs.Common.{◌≡◌, ℕ, List, Option, Some, IfSome, subst, inr}
+use Rattle.std.proofs.Common.{◌≡◌, ℕ, List, Option, Some, IfSome, refl, subst, inr}
+use Rattle.std.proofs.lemmas.Result.{err_from_is_err_and}
 use Rattle.std.specs.Io.KnownBytes.{Appends}
 use Rattle.cli.specs.Written.{HasBeginning}
 use Rattle.cli.proofs.Answering.{first_written}
+use Rattle.cli.proofs.Opening.{unmade_unopened, late_unopened, late_read}
 use Rattle.cli.proofs.program.report_on.Goals as goal
 
 of_some : (P : List ℕ → Type 0) (o : Option (List ℕ)) (x : List ℕ) → o ≡ Some x → IfSome o P → P x
@@ -42,3 +44,16 @@ returns-in-Err-clause-beginning g c program tables script p t s =
       opened.1,
       first_written session c.in_ok-session.ensures.unedited (HasBeginning (g.W.Write.contents c.args.writer.now) (g.W.Write.contents c.session_text.new.writer)) script wrote,
     )
+
+pub returns-in_err-notes-clause-unopened : goal.returns-in_err-notes-clause-unopened
+returns-in_err-notes-clause-unopened g c =
+    let p = err_from_is_err_and c.from_residual-in_err-notes.result c.from_residual-in_err-notes.ensures.1 in
+    let session = c.in_ok-session.session in
+    rw (p.1, p.2) (unmade_unopened (g.F.FileSource.held c.args.files.now) c.args.options session.checked session.tables.tables _ c.in_err-notes.field-0.0 refl c.in_err-notes.ensures.unmade c.in_ok-session.ensures.opened)
+
+pub returns-in-Err-clause-unopened : goal.returns-in-Err-clause-unopened
+returns-in-Err-clause-unopened g c =
+    late_unopened (g.F.FileSource.held c.args.files.now) c.args.options c.ended_by.result c.ended_by.ensures.named
+
+pub returns-in-Err-clause-unread : goal.returns-in-Err-clause-unread
+returns-in-Err-clause-unread g c h = absurd (late_read _ c.ended_by.result c.ended_by.ensures.named h)

@@ -11,6 +11,7 @@ invariant-loop-command g l = record {
   free : length l.session.kits.kits ≡ length l.fn.session.kits.kits;
   few : l.runs ≤ l.command-index;
   unmarked : l.failures ≡ l.fn.failures;
+  noted : g.N.Notes.failed l.notes ≡ g.N.Notes.failed l.fn.notes;
   written : (done : List ℕ) × Appends (g.W.Write.contents l.fn.writer) (g.W.Write.contents l.writer) done
       × (done ++ answers_from (standing_of l.session) l.runs (map said (drop l.command-index l.command-items))
       ≡ answers_from (standing_of l.fn.session) 0 (map said l.command-items));

@@ -1,0 +1,43 @@
+// Who is told of a session's runs.
+ghost use Rattle.std.specs.Prelude.{◌≡◌, Bool, true, false};
+ghost use Rattle.threaded_driver.specs.Come.{HasEnded};
+
+use frames::answer::RunAnswer;
+use worker_core::BookStep;
+
+/// Who is told of each run that came to a result or a fault.
+pub trait Notes {
+    // Whether it has failed.
+    ghost failed: { Self → Bool };
+
+    /// Tells of the run of that number, counted from 1: what it came to, the history of its list of strands, and how many kits
+    /// are free, of how many. False where it couldn't be noted, which is a failure; nothing else is one.
+    fn run(
+        &mut self,
+        number: usize,
+        answer: &RunAnswer,
+        history: &[BookStep],
+        kits: (usize, usize),
+    ) -> bool
+        requires ended { HasEnded answer.now }
+        ensures failed { result ≡ false → failed self.new ≡ true }
+        ensures unmarked { result ≡ true → failed self.new ≡ failed self.old };
+}
+
+/// Tells nobody.
+#[derive(Clone, Copy)]
+pub struct NoNotes;
+
+impl Notes for NoNotes {
+    ghost failed = { λ _. false };
+
+    fn run(
+        &mut self,
+        _number: usize,
+        _answer: &RunAnswer,
+        _history: &[BookStep],
+        _kits: (usize, usize),
+    ) -> bool {
+        true
+    }
+}

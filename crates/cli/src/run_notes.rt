@@ -1,0 +1,216 @@
+// Notes of runs, written: the history of each to the trace, and what is counted of each beside it.
+ghost use Rattle.std.specs.Prelude.{◌≡◌, ◌⊎◌, ℕ, List, None, Some, true, false, IfErr, OnOk};
+ghost use Rattle.std.specs.Io.KnownBytes.{Appends};
+ghost use Rattle.numbered_runs.specs.Named.{history as steps_of};
+ghost use Rattle.trace_report.specs.Outcomes.{Extends};
+ghost use Rattle.trace_report.specs.Traces.{trace_text};
+ghost use Rattle.threaded_driver.specs.Come.{HasEnded};
+ghost use Rattle.cli.specs.declared.run_notes.NotesError.TheVariants as notes;
+ghost use Rattle.cli.specs.Noted.{Noted, has_failed, known_of, run_counts_text};
+
+use crate::notes::Notes;
+use crate::streams::{Failures, SessionError, flush, write_whole};
+use frames::answer::RunAnswer;
+use std::alloc::{AllocError, Global};
+use std::io::Write;
+use std::marker::Model;
+use trace_report::trace::{RunCounts, folds, push_counts, push_no_counts, push_trace, steals};
+use worker_core::BookStep;
+
+/// Why a run couldn't be noted: memory was refused, or a write of its history or of its counts failed.
+#[derive(Clone, Copy, Debug)]
+pub enum NotesError {
+    NoMemory,
+    Trace,
+    Counts,
+}
+
+impl From<AllocError> for NotesError {
+    ghost from_gives = { λ _ e. e ≡ notes.NoMemory };
+
+    fn from(_e: AllocError) -> NotesError {
+        NotesError::NoMemory
+    }
+}
+
+/// Writes the history of each run to one writer, and what is counted of it to another, where there are such. All that is
+/// written of a run is flushed before the next begins.
+#[derive(Drop)]
+pub struct RunNotes<T: Write + Drop, C: Write + Drop> {
+    alloc: Global,
+    trace: Option<T>,
+    counts: Option<C>,
+    failure: Option<NotesError>,
+}
+
+impl<T: Write + Drop, C: Write + Drop> Model for RunNotes<T, C> {
+    ghost Value = { Noted };
+
+    ghost view = { λ n. record {
+        trace = known_of T.contents n.trace; counts = known_of C.contents n.counts; failure = n.failure } };
+}
+
+impl<T: Write + Drop, C: Write + Drop> RunNotes<T, C> {
+    /// Notes to these writers.
+    pub fn new(alloc: Global, trace: Option<T>, counts: Option<C>) -> RunNotes<T, C>
+        ensures trace { result.trace ≡ known_of T.contents trace }
+        ensures counts { result.counts ≡ known_of C.contents counts }
+        ensures fresh { result.failure ≡ None }
+    {
+        RunNotes {
+            alloc,
+            trace,
+            counts,
+            failure: None,
+        }
+    }
+
+    /// Why a run couldn't be noted, if there was one.
+    pub fn failure(&self) -> Option<NotesError>
+        ensures failure { result ≡ self.now.failure }
+    {
+        self.failure
+    }
+
+    // Notes a run that came to its end.
+    fn note(
+        &mut self,
+        number: usize,
+        answer: &RunAnswer,
+        history: &[BookStep],
+        kits: (usize, usize),
+    ) -> Result<(), NotesError>
+        ensures trace { OnOk result (Appends self.old.trace self.new.trace
+            (trace_text number (steps_of history.now))) }
+        ensures counts { OnOk result (Appends self.old.counts self.new.counts
+            (run_counts_text number answer.now (steps_of history.now) kits)) }
+        ensures unmarked { self.new.failure ≡ self.old.failure }
+    {
+        write_trace(self.alloc, &mut self.trace, number, history)?;
+        write_counts(self.alloc, &mut self.counts, number, answer, history, kits)
+    }
+}
+
+impl<T: Write + Drop, C: Write + Drop> Notes for RunNotes<T, C> {
+    ghost failed = { has_failed };
+
+    fn run(
+        &mut self,
+        number: usize,
+        answer: &RunAnswer,
+        history: &[BookStep],
+        kits: (usize, usize),
+    ) -> bool
+        requires ended { HasEnded answer.now }
+        ensures failed { result ≡ false → has_failed self.new ≡ true }
+        ensures unmarked { result ≡ true → has_failed self.new ≡ has_failed self.old }
+        ensures trace { result ≡ true → Appends self.old.trace self.new.trace
+            (trace_text number (steps_of history.now)) }
+        ensures counts { result ≡ true → Appends self.old.counts self.new.counts
+            (run_counts_text number answer.now (steps_of history.now) kits) }
+    {
+        match self.note(number, answer, history, kits) {
+            Ok(()) => true,
+            Err(error) => {
+                self.failure = Some(error);
+                false
+            }
+        }
+    }
+}
+
+// Writes the history of a run, if there is a trace.
+fn write_trace<T: Write>(
+    alloc: Global,
+    trace: &mut Option<T>,
+    number: usize,
+    history: &[BookStep],
+) -> Result<(), NotesError>
+    ensures written { OnOk result (Appends (known_of T.contents trace.old)
+        (known_of T.contents trace.new) (trace_text number (steps_of history.now))) }
+{
+    match trace {
+        None => Ok(()),
+        Some(to) => {
+            let mut text = String::new(alloc);
+            push_trace(&mut text, number, history)?;
+            write_text(to, text.as_str(), NotesError::Trace)
+        }
+    }
+}
+
+// Writes what is counted of a run, if there is a stream for it.
+fn write_counts<C: Write>(
+    alloc: Global,
+    counts: &mut Option<C>,
+    number: usize,
+    answer: &RunAnswer,
+    history: &[BookStep],
+    kits: (usize, usize),
+) -> Result<(), NotesError>
+    ensures written { OnOk result (Appends (known_of C.contents counts.old)
+        (known_of C.contents counts.new)
+        (run_counts_text number answer.now (steps_of history.now) kits)) }
+{
+    match counts {
+        None => Ok(()),
+        Some(to) => {
+            let mut text = String::new(alloc);
+            push_run_counts(&mut text, number, answer, history, kits)?;
+            write_text(to, text.as_str(), NotesError::Counts)
+        }
+    }
+}
+
+// Puts the line of what is counted of a run at the end of the text.
+fn push_run_counts(
+    text: &mut String,
+    number: usize,
+    answer: &RunAnswer,
+    history: &[BookStep],
+    kits: (usize, usize),
+) -> Result<(), AllocError>
+    ensures { OnOk result (Extends text.old text.new
+        (run_counts_text number answer.now (steps_of history.now) kits)) }
+{
+    match answer {
+        RunAnswer::Finished {
+            executed,
+            reused,
+            unrecorded,
+            ..
+        } => {
+            let counts = RunCounts {
+                executed: *executed as usize,
+                reused: *reused as usize,
+                unrecorded: *unrecorded as usize,
+                steals: steals(history),
+                folds: folds(history),
+                free: kits.0,
+                kits: kits.1,
+            };
+            push_counts(text, number, counts)
+        }
+        RunAnswer::Fault(_)
+        | RunAnswer::Unfinished
+        | RunAnswer::NoMemory
+        | RunAnswer::NoKit => push_no_counts(text, number),
+    }
+}
+
+// Writes a text and flushes it; the error is the one for a write that failed, or that memory was refused.
+fn write_text<W: Write>(writer: &mut W, text: &str, failed: NotesError) -> Result<(), NotesError>
+    ensures written { OnOk result (Appends (W.contents writer.old) (W.contents writer.new) text.now) }
+{
+    let mut failures = Failures::none();
+    write_whole(writer, text.as_bytes(), &mut failures).map_err(|error| reason(&error, failed))?;
+    flush(writer, &mut failures).map_err(|error| reason(&error, failed))
+}
+
+// What such an error of a write or a flush is to the notes.
+fn reason(error: &SessionError, failed: NotesError) -> NotesError {
+    match error {
+        SessionError::NoMemory => NotesError::NoMemory,
+        _ => failed,
+    }
+}
