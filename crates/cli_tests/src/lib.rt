@@ -6,8 +6,9 @@ mod answer_tests;
 #[cfg(test)]
 mod edit_tests;
 #[cfg(test)]
+mod example_tests;
+#[cfg(test)]
 mod line_tests;
-mod examples;
 #[cfg(test)]
 mod memory_tests;
 #[cfg(test)]

@@ -2,6 +2,7 @@
 ghost use Rattle.std.specs.Prelude.{◌<◌, ◌≤◌};
 
 use cli::beginning::begin;
+use cli::notes::NoNotes;
 use cli::session::session_text;
 use cli::streams::Failures;
 use monoid_laws::Kind;
@@ -363,6 +364,7 @@ fn answers(
         alloc,
         session,
         workers,
+        &mut NoNotes,
         &NoGate,
         &mut reader,
         &mut written,
