@@ -1,7 +1,7 @@
 -- Which errors a session is not ended by.
 use Rattle.std.proofs.Common.{◌≡◌, Result, Err, OnErr, inl, inr, sym, ◌∙◌}
 use Rattle.cli.specs.declared.streams.SessionError.{SessionError}
-use Rattle.cli.specs.declared.streams.SessionError.TheVariants.{NoMemory, NoKit, Mismatch, Read, Write, Notes}
+use Rattle.cli.specs.declared.streams.SessionError.TheVariants.{Read}
 use Rattle.cli.specs.Endings.{IsAnswerError, IsWriterError}
 
 pub answer_not_read : (e : SessionError) → IsAnswerError e → e ≡ Read → ⊥

@@ -3,7 +3,7 @@ ghost use Rattle.std.specs.Prelude.{◌≡◌, ℕ, List, Option, None, IfOk, If
 ghost use Rattle.std.specs.IoError.{error_kind};
 
 use std::alloc::Global;
-use std::io::{ErrorKind, Eprint, Write};
+use std::io::{Eprint, ErrorKind, Write};
 use std::rt::Runtime;
 use std::{fs, io};
 

@@ -47,7 +47,10 @@ impl<T: Write + Drop, C: Write + Drop> Model for RunNotes<T, C> {
     ghost Value = { Noted };
 
     ghost view = { λ n. record {
-        trace = known_of T.contents n.trace; counts = known_of C.contents n.counts; failure = n.failure } };
+      trace = known_of T.contents n.trace;
+      counts = known_of C.contents n.counts;
+      failure = n.failure;
+    } };
 }
 
 impl<T: Write + Drop, C: Write + Drop> RunNotes<T, C> {
@@ -191,10 +194,8 @@ fn push_run_counts(
             };
             push_counts(text, number, counts)
         }
-        RunAnswer::Fault(_)
-        | RunAnswer::Unfinished
-        | RunAnswer::NoMemory
-        | RunAnswer::NoKit => push_no_counts(text, number),
+        RunAnswer::Fault(_) | RunAnswer::Unfinished | RunAnswer::NoMemory | RunAnswer::NoKit =>
+            push_no_counts(text, number),
     }
 }
 

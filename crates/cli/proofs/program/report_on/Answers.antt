@@ -33,8 +33,8 @@ returns-in-Ok-clause-beginning g c program tables script p t s =
       first_written session c.in_ok-session.ensures.unedited (HasBeginning (g.W.Write.contents c.args.writer.now) (g.W.Write.contents c.session_text.new.writer)) script wrote,
     )
 
-pub returns-in-Err-clause-beginning : goal.returns-in-Err-clause-beginning
-returns-in-Err-clause-beginning g c program tables script p t s =
+pub returns-clause-beginning : goal.returns-clause-beginning
+returns-clause-beginning g c program tables script p t s =
     let session = c.in_ok-session.session in
     let opened = c.in_ok-session.ensures.opened program tables p t in
     let wrote = of_some _ (g.R.Read.remaining c.args.reader.now) script s c.in-Err.ensures.beginning in
@@ -51,9 +51,9 @@ returns-in_err-notes-clause-unopened g c =
     let session = c.in_ok-session.session in
     rw (p.1, p.2) (unmade_unopened (g.F.FileSource.held c.args.files.now) c.args.options session.checked session.tables.tables _ c.in_err-notes.field-0.0 refl c.in_err-notes.ensures.unmade c.in_ok-session.ensures.opened)
 
-pub returns-in-Err-clause-unopened : goal.returns-in-Err-clause-unopened
-returns-in-Err-clause-unopened g c =
+pub returns-clause-unopened : goal.returns-clause-unopened
+returns-clause-unopened g c =
     late_unopened (g.F.FileSource.held c.args.files.now) c.args.options c.ended_by.result c.ended_by.ensures.named
 
-pub returns-in-Err-clause-unread : goal.returns-in-Err-clause-unread
-returns-in-Err-clause-unread g c h = absurd (late_read _ c.ended_by.result c.ended_by.ensures.named h)
+pub returns-clause-unread : goal.returns-clause-unread
+returns-clause-unread g c h = absurd (late_read _ c.ended_by.result c.ended_by.ensures.named h)
