@@ -1,10 +1,13 @@
 #!/usr/bin/env bash
 # Counts the instructions of runs that record and are answered by records: a report that calls a procedure for each row of a table, with
-# that procedure marked memo and not, at 1e3, 1e4 and 1e5 rows, by one worker. Takes ./cilkreport as it is built, or another program
-# of that kind as its first word, and valgrind.
+# that procedure marked memo and not, by one worker. Takes valgrind.
+#
+# usage: run.sh [PROGRAM] [ROWS ..]      by default ./cilkreport as it is built, and 1000 10000 100000 rows
 set -eu
 top=$(cd "$(dirname "$0")/../.." && pwd)
-program=${1:-$top/crates/cilkreport/out/cilkreport}
+program=$(realpath -m "${1:-$top/crates/cilkreport/out/cilkreport}")
+if [ $# -gt 0 ]; then shift; fi
+if [ $# = 0 ]; then set -- 1000 10000 100000; fi
 room=$(mktemp -d)
 trap 'rm -rf "$room"' EXIT
 cat > "$room/memo" <<'REPORT'
@@ -24,7 +27,7 @@ instructions() {
         sed -n 's/.*Collected : //p'
 }
 
-for rows in 1000 10000 100000; do
+for rows in "$@"; do
     { echo '[sales]'; echo 'columns = ["qty", "price"]'; echo 'rows = ['; seq 0 $((rows - 1)) | sed 's/.*/[&, &, 7],/'; echo ']'; } > "$room/tables"
     for report in plain memo; do
         begun=$(instructions $report 0)
