@@ -1,8 +1,10 @@
 -- A worker's deque is bound to the lowest instance of the strand that it goes on with.
-use Rattle.std.proofs.Common.{◌≡◌, ℕ, ◌+◌, ◌<◌, ℤ, Bool, true, false, List, [], ◌∷◌, ◌++◌, length, Option, Some, None, refl, sym, ap, ◌∙◌, subst, arith}
+use Rattle.std.proofs.Common.{◌≡◌, ℕ, ◌+◌, ◌<◌, ℤ, Bool, true, false, List, [], ◌∷◌, ◌++◌, length, Option, Some, None, Result, Ok, Err, refl, sym, ap, ◌∙◌, subst, arith}
+use Rattle.std.specs.Prelude.{IfOk, OnOk}
 use Rattle.std.proofs.lemmas.List.{length-append}
 use Rattle.positions.specs.declared.phase.Phase.{Phase}
 use Rattle.positions.specs.declared.phase.Phase.TheVariants.{Entering, Running, AtSpawn, Returning, Leaving, Broken}
+use Rattle.positions.specs.declared.phase.Paused.{Paused}
 use Rattle.positions.specs.declared.phase.Paused.TheVariants as paused
 use Rattle.positions.specs.declared.start.Start.{Start}
 use Rattle.positions.specs.declared.start.Start.TheVariants.{Root, Behind}
@@ -13,12 +15,14 @@ use Rattle.positions.specs.Tallies.{PlainTally}
 use Rattle.positions.specs.Strands.{PlainStrand, PlainTask, shorter}
 use Rattle.positions.specs.Advance.{advanced, pause_of, sync_pause}
 use Rattle.positions.specs.Moves.{detached, attached, resumed, resumed_by, returned_at}
+use Rattle.frames.specs.Steps.{HoldsBy}
 use Rattle.right_strands.specs.Remembering.{Remembers}
 use Rattle.right_strands.specs.Rightness.{Pushed, FitsHere, IsRightTask}
 use Rattle.stealing_deques.specs.declared.entry.Spot.{Spot}
 use Rattle.stealing_deques.specs.Order.{spot, GoesOn, IsBoundTo}
 use Rattle.threaded_driver.specs.Spots.{numbers_of, lowest_name, spot_of, bottom_of, own_spot, child_spot, HasReturned}
 use Rattle.threaded_driver.proofs.Names.{under, alone, goes_on}
+use Rattle.threaded_driver.proofs.Staying.{stays}
 
 -- bound to that spot
 pub bound_to : (here : Option Spot) (there x : Spot) → here ≡ Some there → x ≡ there → IsBoundTo here x
@@ -48,6 +52,19 @@ module _ (setting : Setting) (kit : Bool) (start : Start) (layer : PlainLayer) (
 pub returned : (setting : Setting) (kit : Bool) (s t : PlainStrand) → t ≡ advanced setting kit s → pause_of setting.codes s ≡ paused.Returned → HasReturned t
 returned setting kit s t is e =
     subst HasReturned (sym is) (returned_piece setting kit s.start s.layer s.lower s.top s.arguments s.tally s.path s.below s.phase e)
+
+-- ---- a small step, by the call's contract
+
+pub stays_after : {A E lacks none : Type 0} (setting : Setting) (s t : PlainStrand) (r : Result A E) → OnOk r (HoldsBy lacks none (λ kit. t ≡ advanced setting kit s)) → OnOk r (spot_of t ≡ spot_of s)
+stays_after setting s t (Ok v) h = ap spot_of h.done ∙ stays setting h.kit s
+stays_after setting s t (Err e) h = tt
+
+pub returned_after : {E lacks none : Type 0} (setting : Setting) (s t : PlainStrand) (r : Result Paused E) → IfOk r (λ p. p ≡ pause_of setting.codes s) → OnOk r (HoldsBy lacks none (λ kit. t ≡ advanced setting kit s))
+    → IfOk r (λ p. p ≡ paused.Returned → HasReturned t)
+returned_after setting s t (Ok p) e h = λ q. returned setting h.kit s t h.done (sym e ∙ q)
+returned_after setting s t (Err x) e h = tt
+
+-- ---- on with the continuation
 
 bare : (ph : Phase) (below : List PlainActivation) (path : List ℕ) (v : ℤ) → returned_at ph below path ≡ Some v → below ≡ []
 bare (Leaving w) [] (k ∷ n) v e = refl
@@ -97,8 +114,11 @@ module _ (s : PlainStrand) (k : Pushed) (since : k.since ≡ s.start) (place : k
       ap (λ name. spot name (numbers_of s.start)) (alone s.path [] refl ∙ sym place)
       ∙ ap (λ start. spot k.task.place (numbers_of start)) (sym since)
 
-pub attached_at : (s : PlainStrand) (k : Pushed) → s.below ≡ k.task.top ∷ k.task.below → spot_of s ≡ spot_of (attached k.task (detached s))
-attached_at s k below = ap (λ below. spot (lowest_name s.path below) (numbers_of s.start)) below
+-- put back, it has it again
+pub attached_bound : (here : Option Spot) (s d t : PlainStrand) (k j : Pushed) → s.below ≡ k.task.top ∷ k.task.below → j ≡ k → d ≡ detached s → t ≡ attached j.task d → IsBoundTo here (spot_of s) → IsBoundTo here (spot_of t)
+attached_bound here s d t k j below same bare is =
+    let again : spot_of s ≡ spot_of (attached k.task (detached s)) = ap (λ below. spot (lowest_name s.path below) (numbers_of s.start)) below in
+    subst (IsBoundTo here) (again ∙ sym (ap spot_of (is ∙ ap (λ (j : Pushed). attached j.task d) same ∙ ap (attached k.task) bare)))
 
 -- the child's name is longer than that of the continuation's lowest instance
 pub task_goes_on : (setting : Setting) (k : Pushed) → Remembers setting → IsRightTask setting k → GoesOn (bottom_of k.task) k.task.place

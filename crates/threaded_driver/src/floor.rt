@@ -1,5 +1,5 @@
 //! The floor: the scene, and the one lock over the list of strands, the thieves' ends of the deques and the pool.
-ghost use Rattle.std.specs.Prelude.{◌≡◌, ◌<◌, true, None, Some, length, IfOk, IfErr, IfSome, IfNone, OnOk};
+ghost use Rattle.std.specs.Prelude.{◌≡◌, ◌<◌, true, false, None, Some, length, IfOk, IfErr, IfSome, IfNone, OnOk};
 ghost use Rattle.stealing_deques.specs.Order.{IsBoundTo};
 ghost use Rattle.threaded_driver.specs.Come.{HasEnded};
 ghost use Rattle.threaded_driver.specs.Ends.{IsEnd};
