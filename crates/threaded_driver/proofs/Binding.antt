@@ -55,14 +55,14 @@ returned setting kit s t is e =
 
 -- ---- a small step, by the call's contract
 
-pub stays_after : {A E lacks none : Type 0} (setting : Setting) (s t : PlainStrand) (r : Result A E) → OnOk r (HoldsBy lacks none (λ kit. t ≡ advanced setting kit s)) → OnOk r (spot_of t ≡ spot_of s)
-stays_after setting s t (Ok v) h = ap spot_of h.done ∙ stays setting h.kit s
-stays_after setting s t (Err e) h = tt
+pub stays_after : {A E : Type 0} (lacks none : Type 0) (setting : Setting) (s t : PlainStrand) (r : Result A E) → OnOk r (HoldsBy lacks none (λ kit. t ≡ advanced setting kit s)) → OnOk r (spot_of t ≡ spot_of s)
+stays_after lacks none setting s t (Ok v) h = ap spot_of h.done ∙ stays setting h.kit s
+stays_after lacks none setting s t (Err e) h = tt
 
-pub returned_after : {E lacks none : Type 0} (setting : Setting) (s t : PlainStrand) (r : Result Paused E) → IfOk r (λ p. p ≡ pause_of setting.codes s) → OnOk r (HoldsBy lacks none (λ kit. t ≡ advanced setting kit s))
+pub returned_after : {E : Type 0} (lacks none : Type 0) (setting : Setting) (s t : PlainStrand) (r : Result Paused E) → IfOk r (λ p. p ≡ pause_of setting.codes s) → OnOk r (HoldsBy lacks none (λ kit. t ≡ advanced setting kit s))
     → IfOk r (λ p. p ≡ paused.Returned → HasReturned t)
-returned_after setting s t (Ok p) e h = λ q. returned setting h.kit s t h.done (sym e ∙ q)
-returned_after setting s t (Err x) e h = tt
+returned_after lacks none setting s t (Ok p) e h = λ q. returned setting h.kit s t h.done (sym e ∙ q)
+returned_after lacks none setting s t (Err x) e h = tt
 
 -- ---- on with the continuation
 

@@ -50,7 +50,7 @@ module _ (there : Spot) where
 
   left_there : (below : List PlainActivation) (v : ℤ) (s : PlainStrand) → s.below ≡ below → IsThere s → IsThere (left_to below v s)
   left_there [] v s e h = h
-  left_there (p ∷ rest) v s e h = ap (λ name. spot name (numbers_of s.start)) (under s.path p rest ∙ ap (lowest_name s.path) (sym e)) ∙ h
+  left_there (p ∷ rest) v s e h = ap (λ name. spot name (numbers_of s.start)) (under s.path rest ∙ ap (lowest_name s.path) (sym e)) ∙ h
 
   pushed_there : (child : PlainActivation) (spawned : Bool) (into : Option ℕ) (w : Work) (ph : Phase) (s : PlainStrand) → IsThere s → IsThere (pushed child spawned into w ph s)
   pushed_there child spawned into w ph s h = ap (λ name. spot name (numbers_of s.start)) (above s.path (s.top.children + 1) (waiting spawned into w s.top) s.below) ∙ h
