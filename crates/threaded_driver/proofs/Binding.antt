@@ -1,5 +1,5 @@
 -- A worker's deque is bound to the lowest instance of the strand that it goes on with.
-use Rattle.std.proofs.Common.{◌≡◌, ℕ, ◌+◌, ◌<◌, ℤ, Bool, true, false, List, [], ◌∷◌, ◌++◌, length, Option, Some, None, Result, Ok, Err, refl, sym, ap, ◌∙◌, subst, arith}
+use Rattle.std.proofs.Common.{◌≡◌, ℕ, ◌+◌, ℤ, Bool, true, false, List, [], ◌∷◌, length, Option, Some, Result, Ok, Err, refl, sym, ap, ◌∙◌, subst, arith}
 use Rattle.std.specs.Prelude.{IfOk, OnOk}
 use Rattle.std.proofs.lemmas.List.{length-append}
 use Rattle.positions.specs.declared.phase.Phase.{Phase}
@@ -12,7 +12,7 @@ use Rattle.positions.specs.Setting.{Setting}
 use Rattle.positions.specs.Activations.{PlainActivation}
 use Rattle.positions.specs.Layers.{PlainLayer}
 use Rattle.positions.specs.Tallies.{PlainTally}
-use Rattle.positions.specs.Strands.{PlainStrand, PlainTask, shorter}
+use Rattle.positions.specs.Strands.{PlainStrand, shorter}
 use Rattle.positions.specs.Advance.{advanced, pause_of, sync_pause}
 use Rattle.positions.specs.Moves.{detached, attached, resumed, resumed_by, returned_at}
 use Rattle.frames.specs.Steps.{HoldsBy}

@@ -354,7 +354,12 @@ impl<J: Run + Ledger + Stocked + Send, D: Deques, V: View> Desk<J, D, V> {
         ensures left { self.new.left ≡ self.old.left }
     {
         let workers = self.came.len();
-        match oldest_among(&mut self.deques, &self.came, worker.saturating_add(1), workers) {
+        match oldest_among(
+            &mut self.deques,
+            &self.came,
+            worker.saturating_add(1),
+            workers,
+        ) {
             Some(found) => Some(found),
             None => oldest_among(&mut self.deques, &self.came, 0, worker),
         }

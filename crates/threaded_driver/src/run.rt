@@ -167,8 +167,9 @@ where
     let pool = RightPool::new(pool);
     match new_deques(alloc, workers, ROOM) {
         Ok(deques) => {
-            let (ran, pool) =
-                run_through::<J, Brand, V, R, G>(rt, alloc, scene, pool, deques, blank, gate);
+            let (ran, pool) = run_through::<J, Brand, V, R, G>(
+                rt, alloc, scene, pool, deques, blank, gate,
+            );
             (ran, pool.into_pool())
         }
         Err(AllocError) => (Ok(Ended::without_memory(alloc)), pool.into_pool()),
