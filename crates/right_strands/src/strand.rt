@@ -164,6 +164,7 @@ impl<J: Run, V: View> RightStrand<J, V> {
         requires at_spawn { self.old.strand.phase ≡ Phase.AtSpawn }
         ensures since { result.since ≡ self.old.strand.start }
         ensures place { result.task.place ≡ self.old.strand.path }
+        ensures below { self.old.strand.below ≡ result.task.top ∷ result.task.below }
         ensures child { self.new ≡ record self.old { strand = detached self.old.strand } }
         ensures was { WasDetached J.setting result self.new.strand }
     {

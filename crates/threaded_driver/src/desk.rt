@@ -1,5 +1,5 @@
 //! What stands under the one lock.
-ghost use Rattle.std.specs.Prelude.{◌≡◌, ◌<◌, ◌==◌, ◌||◌, true, false, IfSome, IfOk, IfErr};
+ghost use Rattle.std.specs.Prelude.{◌≡◌, ◌<◌, ◌==◌, ◌||◌, true, false, None, IfSome, IfOk, IfErr};
 ghost use Rattle.sync_fold.specs.Books.{is_ended};
 ghost use Rattle.threaded_driver.specs.Come.{HasEnded};
 ghost use Rattle.threaded_driver.specs.Ends.{IsEnd};
@@ -12,24 +12,26 @@ use crate::found::Found;
 use crate::kits::{KitsOf, RightPool, Stocked};
 use crate::seat::Seat;
 use crate::supply::Shelf;
+use crate::waiting::Waiting;
 use right_strands::laid::Piece;
 use right_strands::run::{Run, Scene};
 use right_strands::strand::RightStrand;
 use right_strands::task::RightTask;
 use std::alloc::{AllocError, Global};
-use std::collections::VecDeque;
 use std::sync::ledger::{Blank, Book as Count, Ledger, Share};
+use stealing_deques::{Deques, ThiefEnd};
 use sync_fold::{Book, BookError};
 use view_pool::{Kit, KitSource, View};
 
-/// The list of strands, the workers' deques, the pool, why the run gave up, and how many workers have left. The first strand lies
-/// there until the first worker comes.
+/// The list of strands, the thieves' ends of the deques by their numbers, the pool, why the run gave up, and how many workers have
+/// left. The numbers of the deques stand in the order in which their workers came. The first strand lies there until the first
+/// worker comes.
 #[derive(Drop)]
-pub(crate) struct Desk<J: Run + Ledger + Stocked, V: View> {
+pub(crate) struct Desk<J: Run + Ledger + Stocked + Send, D: Deques, V: View> {
     book: Book<J, V>,
     first: Option<RightStrand<J, V>>,
-    workers: usize,
-    deques: Vec<VecDeque<RightTask<J>>>,
+    came: Vec<usize>,
+    deques: Vec<ThiefEnd<Waiting<J>, D>>,
     pool: RightPool<KitsOf<J>, Kit<V>>,
     failure: Option<Failure>,
     left: u64,
@@ -40,29 +42,27 @@ pub(crate) struct Desk<J: Run + Ledger + Stocked, V: View> {
     ghost noted: { is_noted failure ≡ true },
 }
 
-/// An empty deque for each worker.
-fn empty_deques<J: Run>(
-    alloc: Global,
-    workers: usize,
-) -> Result<Vec<VecDeque<RightTask<J>>>, AllocError> {
-    let mut deques = Vec::new(alloc);
-    for _ in 0..workers {
-        deques.push(VecDeque::new(alloc))?;
-    }
-    Ok(deques)
+/// The oldest continuation of the worker of that number, where it has one.
+fn oldest_of<J: Run + Send, D: Deques>(
+    deques: &mut [ThiefEnd<Waiting<J>, D>],
+    came: &[usize],
+    victim: usize,
+) -> Option<RightTask<J>> {
+    let deque = came.get(victim)?;
+    let waiting = deques.get_mut(*deque)?.steal()?;
+    Some(waiting.task)
 }
 
 /// The oldest continuation of the first worker with one, among those from one number up to another, and that worker.
-fn oldest_among<J: Run>(
-    deques: &mut [VecDeque<RightTask<J>>],
+fn oldest_among<J: Run + Send, D: Deques>(
+    deques: &mut [ThiefEnd<Waiting<J>, D>],
+    came: &[usize],
     from: usize,
     to: usize,
 ) -> Option<(usize, RightTask<J>)> {
     for victim in from..to {
-        if let Some(deque) = deques.get_mut(victim) {
-            if let Some(task) = deque.pop_front() {
-                return Some((victim, task));
-            }
+        if let Some(task) = oldest_of(deques, came, victim) {
+            return Some((victim, task));
         }
     }
     None
@@ -102,15 +102,15 @@ fn end_of<J: Run + Stocked, V: View>(
     }
 }
 
-impl<J: Run + Ledger + Stocked, V: View> Desk<J, V> {
+impl<J: Run + Ledger + Stocked + Send, D: Deques, V: View> Desk<J, D, V> {
     /// The desk of a run that begins, without its first strand, and one share of the count for all workers. For want of memory
     /// the pool is handed back.
     pub(crate) fn new(
         alloc: Global,
         pool: RightPool<KitsOf<J>, Kit<V>>,
-        workers: usize,
+        deques: Vec<ThiefEnd<Waiting<J>, D>>,
         blank: Blank,
-    ) -> Result<(Desk<J, V>, Share<J>), RightPool<KitsOf<J>, Kit<V>>>
+    ) -> Result<(Desk<J, D, V>, Share<J>), RightPool<KitsOf<J>, Kit<V>>>
         requires name { blank.name ≡ J.name }
         requires parts { blank.parts ≡ J.parts }
         ensures parts { IfOk result (λ r. r.1.parts ≡ J.parts) }
@@ -120,15 +120,15 @@ impl<J: Run + Ledger + Stocked, V: View> Desk<J, V> {
             Ok(book) => book,
             Err(AllocError) => return Err(pool),
         };
-        let deques = match empty_deques(alloc, workers) {
-            Ok(deques) => deques,
+        let came = match Vec::with_capacity(alloc, deques.len()) {
+            Ok(came) => came,
             Err(AllocError) => return Err(pool),
         };
         let (leavers, share) = blank.open::<J>();
         let desk = Desk {
             book,
             first: None,
-            workers: 0,
+            came,
             deques,
             pool,
             failure: None,
@@ -155,10 +155,12 @@ impl<J: Run + Ledger + Stocked, V: View> Desk<J, V> {
         }
     }
 
-    /// The number of a worker that comes, from 0 on, and the first strand for the first one.
-    pub(crate) fn come(&mut self) -> (usize, Option<RightStrand<J, V>>) {
-        let number = self.workers;
-        self.workers = number.saturating_add(1);
+    /// The number of a worker that comes with its deque, from 0 on, and the first strand for the first one.
+    pub(crate) fn come(&mut self, deque: usize) -> (usize, Option<RightStrand<J, V>>) {
+        let number = self.came.len();
+        if self.came.push(deque).is_err() {
+            self.fail(Failure::NoMemory);
+        }
         (number, self.first.take())
     }
 
@@ -173,10 +175,10 @@ impl<J: Run + Ledger + Stocked, V: View> Desk<J, V> {
         mut self,
         alloc: Global,
         scene: &Scene<'_, J>,
-        mut seat: Seat<J>,
+        mut seat: Seat<J, D>,
         kits: usize,
     ) -> (Result<Ended, Mismatch>, RightPool<KitsOf<J>, Kit<V>>)
-        requires left { 0 < seat }
+        requires left { 0 < seat.left }
         ensures end { IfOk result.0 (IsEnd J.setting) }
         ensures refusal { IfErr result.0 (λ m. is_refusal m.refusal ≡ true) }
         ensures home { IfOk result.0 (λ e. HasEnded e.answer → result.1 ≡ kits) }
@@ -247,33 +249,24 @@ impl<J: Run + Ledger + Stocked, V: View> Desk<J, V> {
         }
     }
 
-    /// Puts a continuation at the new end of the worker's deque, or hands it back.
-    pub(crate) fn push(&mut self, worker: usize, task: RightTask<J>) -> Result<(), RightTask<J>>
-        ensures back { IfErr result (λ t. t ≡ task) }
+    /// Whether the run has given up.
+    pub(crate) fn has_failed(&self) -> bool {
+        self.failure.is_some()
+    }
+
+    /// Whether all that a worker has pushed was popped or stolen.
+    pub(crate) fn is_drained(&mut self, seat: &mut Seat<J, D>) -> bool
+        ensures drained { result ≡ true → seat.new.here ≡ None }
+        ensures same { result ≡ false → seat.new ≡ seat.old }
     {
-        let Some(deque) = self.deques.get_mut(worker) else {
-            return Err(task);
-        };
-        match deque.push_back(task) {
-            Ok(()) => Ok(()),
-            Err(refused) => Err(refused.value),
+        match self.deques.get_mut(seat.deque()) {
+            Some(thief) => seat.is_drained(thief),
+            None => false,
         }
     }
 
-    /// Takes the newest continuation of the worker's deque, unless the run has given up.
-    pub(crate) fn pop(&mut self, worker: usize) -> Option<RightTask<J>> {
-        if self.failure.is_some() {
-            return None;
-        }
-        self.deques.get_mut(worker)?.pop_back()
-    }
-
-    /// Lays a strand down that its worker has nothing more to do with; one of a run that is over is let go. The continuations that
-    /// a strand with a fault has left in the worker's deque are behind the fault: nobody needs them.
-    pub(crate) fn lay(&mut self, alloc: Global, worker: usize, piece: Piece<J, V>) {
-        if let Some(deque) = self.deques.get_mut(worker) {
-            deque.clear();
-        }
+    /// Lays a strand down that its worker has nothing more to do with; one of a run that is over is let go.
+    pub(crate) fn lay(&mut self, alloc: Global, piece: Piece<J, V>) {
         if self.is_over() {
             return;
         }
@@ -288,9 +281,10 @@ impl<J: Run + Ledger + Stocked, V: View> Desk<J, V> {
         alloc: Global,
         scene: &Scene<'_, J>,
         worker: usize,
-        seat: &mut Seat<J>,
+        seat: &mut Seat<J, D>,
     ) -> Found<J, V>
-        ensures left { is_left result ≡ true → 0 < seat.new }
+        ensures left { is_left result ≡ true → 0 < seat.new.left }
+        ensures here { seat.new.here ≡ seat.old.here }
     {
         if self.is_over() {
             return if self.leave(seat) {
@@ -306,9 +300,10 @@ impl<J: Run + Ledger + Stocked, V: View> Desk<J, V> {
     }
 
     /// Counts a worker among those that have left, where there is room to count it.
-    fn leave(&mut self, seat: &mut Seat<J>) -> bool
+    fn leave(&mut self, seat: &mut Seat<J, D>) -> bool
         requires over { is_over self.old.book self.old.failure ≡ true }
-        ensures left { result ≡ true → 0 < seat.new }
+        ensures left { result ≡ true → 0 < seat.new.left }
+        ensures here { seat.new.here ≡ seat.old.here }
     {
         if self.left == u64::MAX {
             return false;
@@ -358,10 +353,15 @@ impl<J: Run + Ledger + Stocked, V: View> Desk<J, V> {
     fn take_oldest(&mut self, worker: usize) -> Option<(usize, RightTask<J>)>
         ensures left { self.new.left ≡ self.old.left }
     {
-        let workers = self.deques.len();
-        match oldest_among(&mut self.deques, worker.saturating_add(1), workers) {
+        let workers = self.came.len();
+        match oldest_among(
+            &mut self.deques,
+            &self.came,
+            worker.saturating_add(1),
+            workers,
+        ) {
             Some(found) => Some(found),
-            None => oldest_among(&mut self.deques, 0, worker),
+            None => oldest_among(&mut self.deques, &self.came, 0, worker),
         }
     }
 
@@ -416,7 +416,7 @@ impl<J: Run + Ledger + Stocked, V: View> Desk<J, V> {
     }
 }
 
-impl<J: Run + Ledger + Stocked, V: View> Shelf<Kit<V>> for Desk<J, V> {
+impl<J: Run + Ledger + Stocked + Send, D: Deques, V: View> Shelf<Kit<V>> for Desk<J, D, V> {
     ghost fits = { λ k. k ≡ J.setting.kinds };
 
     fn take_kit(&mut self) -> Option<Kit<V>>

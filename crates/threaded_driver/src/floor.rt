@@ -1,9 +1,11 @@
-//! The floor: the scene, and the one lock over the list of strands, the deques and the pool.
-ghost use Rattle.std.specs.Prelude.{◌≡◌, ◌<◌, true, length, IfOk, IfErr};
+//! The floor: the scene, and the one lock over the list of strands, the thieves' ends of the deques and the pool.
+ghost use Rattle.std.specs.Prelude.{◌≡◌, ◌<◌, true, false, None, Some, length, IfOk, IfErr, IfSome, IfNone, OnOk};
+ghost use Rattle.stealing_deques.specs.Order.{IsBoundTo};
 ghost use Rattle.threaded_driver.specs.Come.{HasEnded};
 ghost use Rattle.threaded_driver.specs.Ends.{IsEnd};
 ghost use Rattle.threaded_driver.specs.Finds.{is_left};
-ghost use Rattle.threaded_driver.specs.Over.{is_refusal};
+ghost use Rattle.threaded_driver.specs.Over.{is_refusal, is_right};
+ghost use Rattle.threaded_driver.specs.Spots.{spot_of, own_spot, child_spot, HasReturned};
 
 use crate::desk::Desk;
 use crate::ended::Ended;
@@ -13,38 +15,51 @@ use crate::gate::{Gate, Point};
 use crate::kits::{KitsOf, RightPool, Stocked};
 use crate::seat::{Seat, seats_of};
 use crate::supply::Supply;
+use crate::waiting::Waiting;
 use crossbeam_utils::Backoff;
 use positions::phase::{Paused, Phase};
 use right_strands::laid::Piece;
 use right_strands::run::{Run, Scene};
 use right_strands::strand::RightStrand;
+use right_strands::task::RightTask;
 use std::alloc::{AllocError, Global};
+use std::sync::atomic::{AtomicBool, Ordering};
 use std::sync::ledger::{Blank, Ledger};
 use std::sync::{Mutex, Wait};
+use stealing_deques::{Deques, NewDeque, all_ends};
 use view_pool::{Kit, View};
 
-/// What the workers of a run share. The run began with so many kits.
+/// What the workers of a run share. The run began with so many kits. That it gave up stands beside the lock too, where workers look
+/// that go on without it: they stop earlier then, and nothing else rests on it.
 #[derive(Drop)]
-pub(crate) struct Floor<'a, J: Run + Ledger + Stocked, V: View> {
+pub(crate) struct Floor<'a, J: Run + Ledger + Stocked + Send, D: Deques, V: View> {
     alloc: Global,
     scene: Scene<'a, J>,
-    desk: Mutex<Desk<J, V>>,
+    desk: Mutex<Desk<J, D, V>>,
+    gave_up: AtomicBool,
     kits: usize,
 }
 
 /// One worker's life: it leaves where the run is over.
-pub(crate) fn work<J: Run + Ledger + Stocked, V: View, R: Wait, G: Gate>(
+pub(crate) fn work<J, D, V, R, G>(
     rt: &R,
-    floor: &Floor<'_, J, V>,
-    seat: Seat<J>,
+    floor: &Floor<'_, J, D, V>,
+    seat: Seat<J, D>,
     gate: &G,
-) -> Seat<J>
-    ensures left { 0 < result }
+) -> Seat<J, D>
+where
+    J: Run + Ledger + Stocked + Send,
+    D: Deques,
+    V: View,
+    R: Wait,
+    G: Gate,
+    ensures left { 0 < result.left }
 {
     let mut seat = seat;
-    let (number, first) = floor.desk.lock(rt).come();
+    let (number, first) = floor.desk.lock(rt).come(seat.deque());
+    floor.drain(rt, &mut seat);
     if let Some(strand) = first {
-        floor.go_on(rt, number, strand, gate);
+        floor.go_on(rt, number, &mut seat, strand, gate);
     }
     let idle = Backoff::new();
     for _ in rt.forever() {
@@ -52,7 +67,7 @@ pub(crate) fn work<J: Run + Ledger + Stocked, V: View, R: Wait, G: Gate>(
             Found::Left => return seat,
             Found::Nothing => idle.snooze(),
             Found::Folded(strand) | Found::Stolen(strand) => {
-                floor.go_on(rt, number, strand, gate);
+                floor.go_on(rt, number, &mut seat, strand, gate);
                 idle.reset();
             }
         }
@@ -60,16 +75,17 @@ pub(crate) fn work<J: Run + Ledger + Stocked, V: View, R: Wait, G: Gate>(
     unreachable!()
 }
 
-impl<J: Run + Ledger + Stocked, V: View> Floor<'_, J, V> {
+impl<J: Run + Ledger + Stocked + Send, D: Deques, V: View> Floor<'_, J, D, V> {
     /// What there is for a worker without a strand.
     fn find<R: Wait, G: Gate>(
         &self,
         rt: &R,
         number: usize,
-        seat: &mut Seat<J>,
+        seat: &mut Seat<J, D>,
         gate: &G,
     ) -> Found<J, V>
-        ensures left { is_left result ≡ true → 0 < seat.new }
+        ensures left { is_left result ≡ true → 0 < seat.new.left }
+        ensures here { seat.new.here ≡ seat.old.here }
     {
         let found = self.look(rt, number, seat, gate);
         match &found {
@@ -84,13 +100,15 @@ impl<J: Run + Ledger + Stocked, V: View> Floor<'_, J, V> {
         &self,
         rt: &R,
         number: usize,
-        seat: &mut Seat<J>,
+        seat: &mut Seat<J, D>,
         gate: &G,
     ) -> Found<J, V>
-        ensures left { is_left result ≡ true → 0 < seat.new }
+        ensures left { is_left result ≡ true → 0 < seat.new.left }
+        ensures here { seat.new.here ≡ seat.old.here }
     {
         let mut desk = self.desk.lock(rt);
         let found = desk.find(self.alloc, &self.scene, number, seat);
+        self.note(desk.has_failed());
         match &found {
             Found::Stolen(_) => gate.at(number, Point::Stole),
             _ => {}
@@ -99,30 +117,58 @@ impl<J: Run + Ledger + Stocked, V: View> Floor<'_, J, V> {
     }
 
     /// Goes on with a strand until there is nothing more to do with it, and lays it down.
-    fn go_on<R: Wait, G: Gate>(&self, rt: &R, number: usize, strand: RightStrand<J, V>, gate: &G) {
+    fn go_on<R: Wait, G: Gate>(
+        &self,
+        rt: &R,
+        number: usize,
+        seat: &mut Seat<J, D>,
+        strand: RightStrand<J, V>,
+        gate: &G,
+    )
+        requires fresh { seat.old.here ≡ None }
+        ensures fresh { seat.new.here ≡ None }
+    {
         let mut strand = strand;
         for _ in rt.forever() {
-            let goes_on = match self.advance(rt, number, &mut strand, gate) {
-                Ok(Paused::Working) => true,
-                Ok(Paused::AtSpawn) => self.spawn(rt, number, &mut strand, gate),
-                Ok(Paused::Returned) => self.resume(rt, number, &mut strand, gate),
-                _ => false,
-            };
-            if !goes_on {
+            if !self.step(rt, number, seat, &mut strand, gate) {
                 break;
             }
         }
-        self.lay(rt, number, strand, gate);
+        self.lay(rt, number, seat, strand, gate);
     }
 
-    /// One small step. Want of memory is the only error.
+    /// One small step, or what there is to do where a strand pauses. Whether the strand goes on.
+    fn step<R: Wait, G: Gate>(
+        &self,
+        rt: &R,
+        number: usize,
+        seat: &mut Seat<J, D>,
+        strand: &mut RightStrand<J, V>,
+        gate: &G,
+    ) -> bool
+        requires bound { IsBoundTo seat.old.here (spot_of strand.old.strand) }
+        ensures bound { result ≡ true → IsBoundTo seat.new.here (spot_of strand.new.strand) }
+    {
+        match self.advance(rt, number, strand, gate) {
+            Ok(Paused::Working) => true,
+            Ok(Paused::AtSpawn) => self.spawn(number, seat, strand, gate),
+            Ok(Paused::Returned) => self.resume(rt, number, seat, strand, gate),
+            _ => false,
+        }
+    }
+
+    /// One small step, which leaves the strand's lowest instance as it is. Want of memory is the only error.
     fn advance<R: Wait, G: Gate>(
         &self,
         rt: &R,
         number: usize,
         strand: &mut RightStrand<J, V>,
         gate: &G,
-    ) -> Result<Paused, AllocError> {
+    ) -> Result<Paused, AllocError>
+        ensures spot { OnOk result (spot_of strand.new.strand ≡ spot_of strand.old.strand) }
+        ensures returned { IfOk result
+            (λ paused. paused ≡ Paused.Returned → HasReturned strand.new.strand) }
+    {
         let held = strand.kits();
         if held > self.kits {
             return Err(AllocError);
@@ -134,98 +180,191 @@ impl<J: Run + Ledger + Stocked, V: View> Floor<'_, J, V> {
         strand.advance(self.alloc, &self.scene, &mut supply)
     }
 
-    /// At a spawn: puts the continuation off and goes on with the child, or makes the child a call where there is no memory for
+    /// At a spawn: puts the continuation off and goes on with the child, or makes the child a call where there is no room for
     /// that. Whether the strand goes on.
-    fn spawn<R: Wait, G: Gate>(
+    fn spawn<G: Gate>(
         &self,
-        rt: &R,
         number: usize,
+        seat: &mut Seat<J, D>,
         strand: &mut RightStrand<J, V>,
         gate: &G,
-    ) -> bool {
+    ) -> bool
+        requires bound { IsBoundTo seat.old.here (spot_of strand.old.strand) }
+        ensures bound { IsBoundTo seat.new.here (spot_of strand.new.strand) }
+    {
         if strand.has_failed() {
             return false;
         }
         match strand.phase() {
             Phase::AtSpawn => {
-                let task = strand.detach(self.alloc);
-                let pushed = self.desk.lock(rt).push(number, task);
-                match pushed {
-                    Ok(()) => gate.at(number, Point::Pushed),
-                    Err(task) => strand.attach(task),
-                }
+                self.push(number, seat, strand, gate);
                 true
             }
             _ => false,
         }
     }
 
-    /// Where the child has returned: goes on with the continuation that waits for it, unless it was stolen. Whether the strand
-    /// goes on.
+    /// The same of a strand that is at a spawn. It takes no lock.
+    fn push<G: Gate>(
+        &self,
+        number: usize,
+        seat: &mut Seat<J, D>,
+        strand: &mut RightStrand<J, V>,
+        gate: &G,
+    )
+        requires going { strand.old.failed ≡ false }
+        requires at_spawn { strand.old.strand.phase ≡ Phase.AtSpawn }
+        requires bound { IsBoundTo seat.old.here (spot_of strand.old.strand) }
+        ensures bound { IsBoundTo seat.new.here (spot_of strand.new.strand) }
+    {
+        self.scene.kept();
+        let task = strand.detach(self.alloc);
+        task.kept();
+        match seat.push(task) {
+            Ok(()) => gate.at(number, Point::Pushed),
+            Err(task) => strand.attach(task),
+        }
+    }
+
+    /// Where the child has returned: goes on with the continuation that waits for it, unless all were stolen or the run has given
+    /// up. Whether the strand goes on.
     fn resume<R: Wait, G: Gate>(
         &self,
         rt: &R,
         number: usize,
+        seat: &mut Seat<J, D>,
         strand: &mut RightStrand<J, V>,
         gate: &G,
-    ) -> bool {
-        let popped = self.desk.lock(rt).pop(number);
-        let Some(task) = popped else {
-            return false;
-        };
-        if !strand.fits(&task) {
-            self.desk.lock(rt).fail(Failure::NoMemory);
+    ) -> bool
+        requires returned { HasReturned strand.old.strand }
+        requires bound { IsBoundTo seat.old.here (spot_of strand.old.strand) }
+        ensures bound { result ≡ true → IsBoundTo seat.new.here (spot_of strand.new.strand) }
+    {
+        if self.gave_up.load(Ordering::Relaxed) {
             return false;
         }
-        strand.resume(task);
-        gate.at(number, Point::Popped);
-        true
+        match self.take(rt, seat) {
+            Some(task) => {
+                strand.resume(task);
+                gate.at(number, Point::Popped);
+                true
+            }
+            None => false,
+        }
     }
 
-    /// Lays a strand down. Where it isn't at a point to lie at, for want of memory, the run gives up.
-    fn lay<R: Wait, G: Gate>(&self, rt: &R, number: usize, strand: RightStrand<J, V>, gate: &G) {
+    /// The newest continuation in the worker's deque, which waits for the child at its spot; none once all that was pushed was
+    /// taken. The lock is taken only where a pop has missed, to count.
+    fn take<R: Wait>(&self, rt: &R, seat: &mut Seat<J, D>) -> Option<RightTask<J>>
+        ensures waits { IfSome result (λ t. seat.old.here ≡ Some (child_spot t)) }
+        ensures popped { IfSome result (λ t. seat.new.here ≡ Some (own_spot t)) }
+        ensures drained { IfNone result (seat.new.here ≡ None) }
+    {
+        for _ in rt.forever() {
+            if let Some(task) = seat.pop() {
+                return Some(task);
+            }
+            if self.desk.lock(rt).is_drained(seat) {
+                return None;
+            }
+        }
+        unreachable!()
+    }
+
+    /// Pops what is left in the worker's deque: what a strand with a fault has left there is behind the fault, and nobody needs it.
+    fn drain<R: Wait>(&self, rt: &R, seat: &mut Seat<J, D>)
+        ensures drained { seat.new.here ≡ None }
+    {
+        for _ in rt.forever() {
+            if self.take(rt, seat).is_none() {
+                return;
+            }
+        }
+        unreachable!()
+    }
+
+    /// Lays a strand down, once its worker's deque is empty. Where it isn't at a point to lie at, for want of memory, the run gives
+    /// up.
+    fn lay<R: Wait, G: Gate>(
+        &self,
+        rt: &R,
+        number: usize,
+        seat: &mut Seat<J, D>,
+        strand: RightStrand<J, V>,
+        gate: &G,
+    )
+        ensures drained { seat.new.here ≡ None }
+    {
+        self.drain(rt, seat);
         let mut supply = Supply::new(rt, &self.desk, self.kits, strand.kits());
         match Piece::lay(&self.scene, strand, &mut supply) {
             Ok(piece) => {
-                self.desk.lock(rt).lay(self.alloc, number, piece);
+                self.put(rt, piece);
                 gate.at(number, Point::Laid);
             }
-            Err(_) => self.desk.lock(rt).fail(Failure::NoMemory),
+            Err(_) => self.fail(rt, Failure::NoMemory),
+        }
+    }
+
+    /// Lays a piece down under the lock.
+    fn put<R: Wait>(&self, rt: &R, piece: Piece<J, V>) {
+        let mut desk = self.desk.lock(rt);
+        desk.lay(self.alloc, piece);
+        self.note(desk.has_failed());
+    }
+
+    /// The run gives up.
+    fn fail<R: Wait>(&self, rt: &R, failure: Failure)
+        requires right { is_right failure ≡ true }
+    {
+        self.desk.lock(rt).fail(failure);
+        self.note(true);
+    }
+
+    /// Notes beside the lock whether the run has given up.
+    fn note(&self, has_failed: bool) {
+        if has_failed {
+            self.gave_up.store(true, Ordering::Relaxed);
         }
     }
 }
 
-impl<'a, J: Run + Ledger + Stocked, V: View> Floor<'a, J, V> {
+impl<'a, J: Run + Ledger + Stocked + Send, D: Deques, V: View> Floor<'a, J, D, V> {
     /// The floor of a run with these kits, and a seat for each worker. For want of memory the pool is handed back.
     pub(crate) fn new(
         alloc: Global,
         scene: Scene<'a, J>,
         pool: RightPool<KitsOf<J>, Kit<V>>,
-        workers: usize,
+        deques: Vec<NewDeque<Waiting<J>>>,
         blank: Blank,
-    ) -> Result<(Floor<'a, J, V>, Vec<Seat<J>>), RightPool<KitsOf<J>, Kit<V>>>
+    ) -> Result<(Floor<'a, J, D, V>, Vec<Seat<J, D>>), RightPool<KitsOf<J>, Kit<V>>>
+        requires named { D.deques ≡ deques.items }
         requires name { blank.name ≡ J.name }
-        requires parts { (blank.parts ≡ J.parts) × (J.parts ≡ workers) }
+        requires parts { (blank.parts ≡ J.parts) × (J.parts ≡ length deques.items) }
         ensures kits { IfOk result (λ r. r.0.kits ≡ pool) }
-        ensures seats { IfOk result (λ r. length r.1.items ≡ workers) }
+        ensures seats { IfOk result (λ r. length r.1.items ≡ length deques.items) }
     {
         let kits = pool.free();
-        let (mut desk, share) = match Desk::new(alloc, pool, workers, blank) {
+        let (owners, thieves) = match all_ends::<Waiting<J>, D>(alloc, deques) {
+            Ok(ends) => ends,
+            Err(AllocError) => return Err(pool),
+        };
+        let (mut desk, share) = match Desk::new(alloc, pool, thieves, blank) {
             Ok(made) => made,
             Err(pool) => return Err(pool),
         };
-        let seats = match seats_of(alloc, workers, share) {
+        let seats = match seats_of(alloc, owners, share) {
             Ok(seats) => seats,
             Err(AllocError) => return Err(desk.into_pool()),
         };
         if desk.begin(alloc, &scene).is_err() {
             return Err(desk.into_pool());
         }
-        let desk = Mutex::new(desk);
         let floor = Floor {
             alloc,
             scene,
-            desk,
+            desk: Mutex::new(desk),
+            gave_up: AtomicBool::new(false),
             kits,
         };
         Ok((floor, seats))
@@ -239,9 +378,9 @@ impl<'a, J: Run + Ledger + Stocked, V: View> Floor<'a, J, V> {
     /// How the run has ended, and the pool, once a worker has left.
     pub(crate) fn finish(
         self,
-        seat: Seat<J>,
+        seat: Seat<J, D>,
     ) -> (Result<Ended, Mismatch>, RightPool<KitsOf<J>, Kit<V>>)
-        requires left { 0 < seat }
+        requires left { 0 < seat.left }
         ensures end { IfOk result.0 (IsEnd J.setting) }
         ensures refusal { IfErr result.0 (λ m. is_refusal m.refusal ≡ true) }
         ensures home { IfOk result.0 (λ e. HasEnded e.answer → result.1 ≡ self.entry.kits) }
@@ -251,6 +390,7 @@ impl<'a, J: Run + Ledger + Stocked, V: View> Floor<'a, J, V> {
             scene,
             desk,
             kits,
+            ..
         } = self;
         desk.into_inner().close(alloc, &scene, seat, kits)
     }

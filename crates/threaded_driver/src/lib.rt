@@ -1,4 +1,4 @@
-//! Runs of a session's program by threads: one lock over the list of strands, the deques and the pool of kits.
+//! Runs of a session's program by threads: one lock over the list of strands and the pool of kits, and deques outside of it.
 #![tactic(auto)]
 
 mod desk;
@@ -11,6 +11,7 @@ mod kits;
 pub mod run;
 mod seat;
 mod supply;
+mod waiting;
 
 pub use failure::Mismatch;
 pub use gate::{Gate, NoGate, Point};

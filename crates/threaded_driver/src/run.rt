@@ -19,6 +19,7 @@ use crate::floor::{Floor, work};
 use crate::gate::Gate;
 use crate::kits::{KitsOf, RightPool, Stocked};
 use crate::seat::Seat;
+use crate::waiting::Waiting;
 use frames::answer::RunAnswer;
 use input_tables::Tables;
 use linked_program::checked::Checked;
@@ -32,7 +33,11 @@ use std::sync::Wait;
 use std::sync::ledger::{Blank, Ledger};
 use std::thread;
 use std::thread::Threads;
+use stealing_deques::{Deques, NewDeque, new_deques};
 use view_pool::{Kit, Pool, View};
+
+/// How many continuations a deque has room for at first.
+const ROOM: usize = 64;
 
 /// Runs a session's program on its tables by so many threads. Its memo instances are answered by the records that hold now, and
 /// those that a finished run makes are kept for the next one. The answer is NoKit where no kit is free, and NoMemory where memory
@@ -159,25 +164,59 @@ where
     ensures total { result.1.total ≡ J.total }
 {
     let scene = Scene::<J>::new(program, tables, records);
-    match Floor::<J, V>::new(alloc, scene, RightPool::new(pool), workers, blank) {
-        Ok((floor, seats)) => {
-            let (ran, pool) = run_floor(rt, alloc, floor, seats, gate);
+    let pool = RightPool::new(pool);
+    match new_deques(alloc, workers, ROOM) {
+        Ok(deques) => {
+            let (ran, pool) = run_through::<J, Brand, V, R, G>(
+                rt, alloc, scene, pool, deques, blank, gate,
+            );
             (ran, pool.into_pool())
         }
-        Err(pool) => (Ok(Ended::without_memory(alloc)), pool.into_pool()),
+        Err(AllocError) => (Ok(Ended::without_memory(alloc)), pool.into_pool()),
     }
 }
 
-/// A thread for each seat, until all have left.
-fn run_floor<J, V, R, G>(
+/// The same through these deques, one for each worker.
+fn run_through<J, D, V, R, G>(
     rt: &R,
     alloc: Global,
-    floor: Floor<'_, J, V>,
-    seats: Vec<Seat<J>>,
+    scene: Scene<'_, J>,
+    pool: RightPool<KitsOf<J>, Kit<V>>,
+    deques: Vec<NewDeque<Waiting<J>>>,
+    blank: Blank,
     gate: &G,
 ) -> (Result<Ended, Mismatch>, RightPool<KitsOf<J>, Kit<V>>)
 where
     J: Run + Ledger + Stocked + Send + Sync,
+    D: Deques + Send + Sync,
+    V: View + Send,
+    R: Threads + Wait + Sync,
+    G: Gate,
+    requires named { D.deques ≡ deques.items }
+    requires name { blank.name ≡ J.name }
+    requires parts { (blank.parts ≡ J.parts) × (J.parts ≡ length deques.items) }
+    requires some { 0 < length deques.items }
+    ensures end { IfOk result.0 (IsEnd J.setting) }
+    ensures refusal { IfErr result.0 (λ m. is_refusal m.refusal ≡ true) }
+    ensures home { IfOk result.0 (λ e. HasEnded e.answer → result.1 ≡ pool) }
+{
+    match Floor::<J, D, V>::new(alloc, scene, pool, deques, blank) {
+        Ok((floor, seats)) => run_floor(rt, alloc, floor, seats, gate),
+        Err(pool) => (Ok(Ended::without_memory(alloc)), pool),
+    }
+}
+
+/// A thread for each seat, until all have left.
+fn run_floor<J, D, V, R, G>(
+    rt: &R,
+    alloc: Global,
+    floor: Floor<'_, J, D, V>,
+    seats: Vec<Seat<J, D>>,
+    gate: &G,
+) -> (Result<Ended, Mismatch>, RightPool<KitsOf<J>, Kit<V>>)
+where
+    J: Run + Ledger + Stocked + Send + Sync,
+    D: Deques + Send + Sync,
     V: View + Send,
     R: Threads + Wait + Sync,
     G: Gate,
@@ -187,8 +226,8 @@ where
     ensures home { IfOk result.0 (λ e. HasEnded e.answer → result.1 ≡ floor.entry.kits) }
 {
     let shared = &floor;
-    let life = |seat: Seat<J>| -> Seat<J>
-        ensures { 0 < result }
+    let life = |seat: Seat<J, D>| -> Seat<J, D>
+        ensures { 0 < result.left }
     { work(rt, shared, seat, gate) };
     match thread::map_vec(rt, seats, &life) {
         Ok(seats) => finish(floor, seats),
@@ -197,12 +236,12 @@ where
 }
 
 /// How a run has ended that all workers have left, and the pool.
-fn finish<J: Run + Ledger + Stocked, V: View>(
-    floor: Floor<'_, J, V>,
-    seats: Vec<Seat<J>>,
+fn finish<J: Run + Ledger + Stocked + Send, D: Deques, V: View>(
+    floor: Floor<'_, J, D, V>,
+    seats: Vec<Seat<J, D>>,
 ) -> (Result<Ended, Mismatch>, RightPool<KitsOf<J>, Kit<V>>)
     requires some { 0 < length seats.items }
-    requires left { All (λ seat. 0 < seat) seats.items }
+    requires left { All (λ seat. 0 < seat.left) seats.items }
     ensures end { IfOk result.0 (IsEnd J.setting) }
     ensures refusal { IfErr result.0 (λ m. is_refusal m.refusal ≡ true) }
     ensures home { IfOk result.0 (λ e. HasEnded e.answer → result.1 ≡ floor.entry.kits) }

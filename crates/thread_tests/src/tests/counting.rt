@@ -1,7 +1,7 @@
-//! Gates that count, and one that holds a worker until another has stolen.
+//! Gates that count, and some that hold a worker until another has pushed or stolen.
 
 use super::meeting::reaches;
-use std::sync::atomic::{AtomicI64, AtomicUsize, Ordering};
+use std::sync::atomic::{AtomicBool, AtomicI64, AtomicUsize, Ordering};
 use threaded_driver::{Gate, Point};
 
 /// How often workers came to an update.
@@ -107,6 +107,59 @@ impl Gate for UntilStolen {
             }
             Point::Stole => {
                 self.steals.fetch_add(1, Ordering::SeqCst);
+            }
+            Point::Popped | Point::Laid | Point::Folded | Point::Update => {}
+        }
+    }
+}
+
+/// Holds the first worker at its first push until the second one has stolen, and that one at its steal, where it has the lock, until
+/// the first one has pushed once more.
+#[derive(Drop)]
+pub struct PushBesideSteal {
+    pushes: AtomicUsize,
+    steals: AtomicUsize,
+    in_vain: AtomicBool,
+}
+
+impl PushBesideSteal {
+    /// Nothing was pushed or stolen so far.
+    pub fn new() -> PushBesideSteal {
+        PushBesideSteal {
+            pushes: AtomicUsize::new(0),
+            steals: AtomicUsize::new(0),
+            in_vain: AtomicBool::new(false),
+        }
+    }
+
+    /// Whether both came to where the other waited for them.
+    pub fn have_met(&self) -> bool {
+        self.steals.load(Ordering::SeqCst) > 0
+            && self.pushes.load(Ordering::SeqCst) > 1
+            && !self.in_vain.load(Ordering::SeqCst)
+    }
+
+    /// Waits until the count is so great.
+    fn wait(&self, count: &AtomicUsize, wanted: usize) {
+        if !reaches(count, wanted) {
+            self.in_vain.store(true, Ordering::SeqCst);
+        }
+    }
+}
+
+impl Gate for PushBesideSteal {
+    fn at(&self, worker: usize, point: Point) {
+        match point {
+            Point::Pushed => {
+                if worker == 0 && self.pushes.fetch_add(1, Ordering::SeqCst) == 0 {
+                    self.wait(&self.steals, 1);
+                }
+            }
+            Point::Stole => {
+                if worker == 1 {
+                    self.steals.fetch_add(1, Ordering::SeqCst);
+                    self.wait(&self.pushes, 2);
+                }
             }
             Point::Popped | Point::Laid | Point::Folded | Point::Update => {}
         }

@@ -1,8 +1,8 @@
 //! What goes through the deques.
 
 use super::beginning::{answer, session_on};
-use super::counting::{Held, UntilStolen};
-use super::programs::{LEVELS, LEVELS_TO_A_FAULT, ONES, SALES};
+use super::counting::{Held, PushBesideSteal, UntilStolen};
+use super::programs::{LEVELS, LEVELS_TO_A_FAULT, NESTED, ONES, SALES};
 use threaded_driver::NoGate;
 
 #[test]
@@ -37,4 +37,14 @@ fn over_a_thousand_continuations(rt: HostRuntime) {
     let found = answer(&rt, rt.alloc(), &mut session, 1, &gate);
     assert_eq!(&rt; found.as_str(), "fault divide by zero in level at 4\n");
     assert_eq!(&rt; gate.most(), 1008);
+}
+
+/// The second push takes place while the thief has the lock.
+#[test]
+fn push_beside_a_steal(rt: HostRuntime) {
+    let gate = PushBesideSteal::new();
+    let mut session = session_on(&rt, rt.alloc(), NESTED, SALES, 2);
+    let found = answer(&rt, rt.alloc(), &mut session, 2, &gate);
+    assert_eq!(&rt; found.as_str(), "result 3\ntotal 3\n");
+    assert!(&rt; gate.have_met());
 }

@@ -12,6 +12,13 @@ proc leaf(v) { update total v; return v; }
 proc main() { x = spawn leaf(1); y = spawn leaf(2); update total 9; sync; return x + y; }
 ";
 
+/// A spawned procedure that spawns.
+pub const NESTED: &str = "reducer total : add;
+proc leaf(v) { update total v; return v; }
+proc two(v) { x = spawn leaf(v); sync; return x; }
+proc main() { x = spawn two(1); y = spawn leaf(2); sync; return x + y; }
+";
+
 pub const LINES: &str = "reducer total : add;
 reducer top : argmax;
 memo proc line(r) { v = sales[r].qty * sales[r].price; update total v; update top v, r; return v; }

@@ -1,8 +1,8 @@
-use Rattle.std.proofs.Common.{◌≡◌, ◌+◌, ◌-◌, length}
+use Rattle.std.proofs.Common.{◌≡◌, ◌+◌, length}
 use Rattle.threaded_driver.proofs.seat.seats_of.Given as goal
 
-abbrev pub invariant-loop-seats : goal.invariant-loop-seats
-invariant-loop-seats g l = (l.share.parts + length l.seats.items ≡ l.count) × (l.share.amount ≡ 0)
+abbrev pub invariant-loop-owner : goal.invariant-loop-owner
+invariant-loop-owner g l = (l.share.parts ≡ length l.owners.items) × (l.share.amount ≡ 0) × (length l.seats.items + length l.owners.items ≡ length l.fn.owners.items)
 
-abbrev pub decreases-loop-seats : goal.decreases-loop-seats
-decreases-loop-seats g l = l.count - length l.seats.items
+abbrev pub decreases-loop-owner : goal.decreases-loop-owner
+decreases-loop-owner g l = length l.owners.items

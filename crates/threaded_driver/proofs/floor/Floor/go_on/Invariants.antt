@@ -1,0 +1,6 @@
+use Rattle.stealing_deques.specs.Order.{IsBoundTo}
+use Rattle.threaded_driver.specs.Spots.{spot_of}
+use Rattle.threaded_driver.proofs.floor.Floor.go_on.Given as goal
+
+abbrev pub invariant-loop : goal.invariant-loop
+invariant-loop g l = (goal.iterator-loop g).can_next l.iterator' × (goal.iterator-loop g).is_finite l.iterator' × IsBoundTo l.seat.here (spot_of l.strand.strand)

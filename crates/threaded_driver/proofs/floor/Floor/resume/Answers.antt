@@ -1,0 +1,19 @@
+use Rattle.std.proofs.Common.{◌≡◌, ap, ◌∙◌}
+use Rattle.positions.specs.Moves.{resumed}
+use Rattle.right_strands.specs.Rightness.{PlainRight, FitsHere}
+use Rattle.threaded_driver.specs.Spots.{spot_of, own_spot}
+use Rattle.threaded_driver.proofs.Binding.{bound_to, pops_fit, resumed_at}
+use Rattle.threaded_driver.proofs.floor.Floor.resume.Goals as goal
+
+pub resume-requires-clause-fits : goal.resume-requires-clause-fits
+resume-requires-clause-fits g c κs within =
+    pops_fit c.args.seat.now.here c.args.strand.now.strand c.in-Some.task c.requires.returned c.requires.bound c.in-Some.ensures.waits
+
+pub returns-in-Some : goal.returns-in-Some
+returns-in-Some g c = record {
+  bound = λ _. (let s = c.args.strand.now.strand in
+      let k = c.in-Some.task in
+      let fits : FitsHere s k = pops_fit c.args.seat.now.here s k c.requires.returned c.requires.bound c.in-Some.ensures.waits in
+      let is : c.resume.new.self.strand ≡ resumed k.task s = ap (λ (s : PlainRight). s.strand) c.resume.ensures.resumed in
+      bound_to c.take.new.seat.here (own_spot k) (spot_of c.resume.new.self.strand) c.in-Some.ensures.popped (ap spot_of is ∙ resumed_at s k c.requires.returned fits));
+}
