@@ -9,13 +9,19 @@ use std::alloc::AllocError;
 use std::process::ExitCode;
 use view_pool::PlainView;
 
+// What the program ends by where its session isn't begun.
+fn unbegun(error: BeginError) -> ProgramError {
+    match error {
+        BeginError::Prepare(error) => ProgramError::Prepare(error),
+        BeginError::NoKit => ProgramError::Session(SessionError::NoKit),
+    }
+}
+
 fn main(rt: HostRuntime) -> ExitCode {
     let alloc = rt.alloc();
     let make = |kind: Kind| -> Result<PlainView, AllocError> { Ok(PlainView::new(alloc, kind)) };
-    let reported = match begin(alloc, b"proc main() { return 0; }", "", 0, &make) {
-        Ok(_) => Ok(()),
-        Err(BeginError::NoKit) => Err(ProgramError::Session(SessionError::NoKit)),
-        Err(BeginError::Prepare(error)) => Err(ProgramError::Prepare(error)),
-    };
-    ending(&rt, reported)
+    match begin(alloc, b"proc main() { return 0; }", "", 0, &make) {
+        Ok(_session) => ending(&rt, Ok(())),
+        Err(error) => ending(&rt, Err(unbegun(error))),
+    }
 }
