@@ -37,15 +37,10 @@ struct Both<'a, J: Run, V: View> {
     alloc: Global,
     core: Core<'a, V>,
     crew: Crew<'a, J, V>,
-    workers: usize,
 }
 
 /// Takes a step in the run whose workers share the book. Whether it was taken.
-fn step_of<J: Run, V: View>(
-    rt: &impl Abort,
-    crew: &mut Crew<'_, J, V>,
-    step: &Step,
-) -> bool {
+fn step_of<J: Run, V: View>(rt: &impl Abort, crew: &mut Crew<'_, J, V>, step: &Step) -> bool {
     match step {
         Step::Work(worker) => crew.work(rt, *worker),
         Step::Push(worker) => crew.push(rt, *worker),
@@ -86,17 +81,17 @@ impl<J: Run, V: View> Both<'_, J, V> {
     }
 
     /// A step by any worker.
-    fn any_step(&self, rt: &impl Abort, dice: &mut Dice) -> Step
-        requires { 0 < self.now.workers }
+    fn any_step(&self, rt: &impl Abort, dice: &mut Dice, workers: usize) -> Step
+        requires { 0 < workers }
     {
-        let worker = dice.below(self.workers);
+        let worker = dice.below(workers);
         match dice.below(16) {
             0..=6 => Step::Work(worker),
             7 | 8 => Step::Push(worker),
             9 => Step::Inline(worker),
             10 => Step::Pop(worker),
             11 | 12 => Step::Stall(worker),
-            13 | 14 => Step::Steal(worker, dice.below(self.workers)),
+            13 | 14 => Step::Steal(worker, dice.below(workers)),
             _ => match self.place(rt, dice.below(8)) {
                 Some(place) => Step::Fold(worker, place),
                 None => Step::Work(worker),
@@ -105,11 +100,11 @@ impl<J: Run, V: View> Both<'_, J, V> {
     }
 
     /// Tries many steps.
-    fn go_anyhow(&mut self, rt: &impl Abort, dice: &mut Dice)
-        requires { 0 < self.old.workers }
+    fn go_anyhow(&mut self, rt: &impl Abort, dice: &mut Dice, workers: usize)
+        requires { 0 < workers }
     {
         for _ in 0..400 {
-            let step = self.any_step(rt, dice);
+            let step = self.any_step(rt, dice, workers);
             let _ = self.take(rt, &step);
         }
     }
@@ -136,12 +131,12 @@ impl<J: Run, V: View> Both<'_, J, V> {
     }
 
     /// All workers go on by turns, until the run is over.
-    fn go_to_the_end(&mut self, rt: &impl Abort) {
+    fn go_to_the_end(&mut self, rt: &impl Abort, workers: usize) {
         for _ in 0..1000 {
             if self.core.is_over() {
                 return;
             }
-            for worker in 0..self.workers {
+            for worker in 0..workers {
                 self.go_on(rt, worker);
                 self.fold_all(rt, worker);
             }
@@ -150,12 +145,7 @@ impl<J: Run, V: View> Both<'_, J, V> {
 
     /// How both have ended, which is the same.
     fn end(self, rt: &impl Abort) -> Told {
-        let Both {
-            alloc,
-            core,
-            crew,
-            workers: _,
-        } = self;
+        let Both { alloc, core, crew } = self;
         let steals = core
             .history()
             .iter()
@@ -195,7 +185,7 @@ fn run_beside<J: Run, V: View>(
     requires sound { AreSound (revised_of program.now) program.now.tables program.now.kinds records.now }
     requires values { HaveValues program.now.kinds records.now }
     requires first_kits { All (λ k. k ≡ program.now.kinds) pools.0.kits }
-    requires second_kits { All (λ k. k ≡ J.setting.kinds) pools.1.kits }
+    requires second_kits { All (λ k. k ≡ program.now.kinds) pools.1.kits }
     requires workers { 0 < workers }
 {
     let (first, second) = pools;
@@ -204,14 +194,9 @@ fn run_beside<J: Run, V: View>(
     };
     let scene = Scene::<J>::new(program, tables, records);
     let crew = Crew::start(rt, alloc, scene, second, workers);
-    let mut both = Both {
-        alloc,
-        core,
-        crew,
-        workers,
-    };
-    both.go_anyhow(rt, &mut Dice { state: seed });
-    both.go_to_the_end(rt);
+    let mut both = Both { alloc, core, crew };
+    both.go_anyhow(rt, &mut Dice { state: seed }, workers);
+    both.go_to_the_end(rt, workers);
     both.end(rt)
 }
 

@@ -153,15 +153,16 @@ fn push_record(text: &mut String, record: &Record) -> Result<(), AllocError> {
         write!(text, " {}:", part.0)?;
         push_value(text, &part.1)?;
     }
-    write!(text, " read {} high {}", record.read_count(), record.height())
+    write!(
+        text,
+        " read {} high {}",
+        record.read_count(),
+        record.height()
+    )
 }
 
 /// The answer of a run with its counts and its records.
-pub fn end_text(
-    alloc: Global,
-    answer: &RunAnswer,
-    made: &[Record],
-) -> Result<String, AllocError> {
+pub fn end_text(alloc: Global, answer: &RunAnswer, made: &[Record]) -> Result<String, AllocError> {
     let mut text = answer_text(alloc, answer)?;
     push_counts(&mut text, answer)?;
     for record in made {

@@ -73,7 +73,11 @@ fn all_runs(rt: &impl Abort, alloc: Global, text: &str, wanted: &str) -> Seen {
 #[test]
 fn any_steps(rt: HostRuntime) {
     for (text, wanted) in PROGRAMS {
-        assert_eq!(&rt; all_runs(&rt, rt.alloc(), text, wanted), (true, true), "{text}");
+        assert_eq!(&rt;
+            all_runs(&rt, rt.alloc(), text, wanted),
+            (true, true),
+            "{text}"
+        );
     }
 }
 
@@ -104,10 +108,7 @@ fn run_session(rt: &impl Abort, alloc: Global, text: &str) -> Session<PlainView>
 /// Programs, and what they come to over the records of their first run: the answer, the counts, and the new records.
 const RERUNS: [(&str, &str); 3] = [
     // No instance reads the row.
-    (
-        PAIRS,
-        "result 21; 1 2 -1 3 4 -3 9 5 6 -5; counts 0 3 0",
-    ),
+    (PAIRS, "result 21; 1 2 -1 3 4 -3 9 5 6 -5; counts 0 3 0"),
     // One of three lines reads it.
     (
         LINES,
@@ -116,7 +117,7 @@ const RERUNS: [(&str, &str); 3] = [
     // The instance over the lines reads what its lines read.
     (
         NESTED_READS,
-        "result 138; 138; counts 2 2 0; 0 of 2 gave 0 with 0: 28 read 3 high 1; 1 of gave 0 with 0: 138 read 8 high 2",
+        "result 138; 138; counts 2 2 0; 0 of 2 gave 0 with 0: 28 read 3 high 1; 1 of gave 0 with 0: 138 read 10 high 2",
     ),
 ];
 
