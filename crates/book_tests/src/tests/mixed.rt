@@ -160,7 +160,7 @@ fn run_mixed<J: Run, V: View>(
     tables: &Tables,
     records: &Records,
     pools: (Pool<Kit<V>>, Pool<Kit<V>>),
-    line: &str,
+    line: String,
 ) -> String
     requires same { setting_with program.now tables.now.tables [] records.now ≡ J.setting }
     requires tables { program.now.tables ≡ columned_of tables.now.tables }
@@ -187,7 +187,7 @@ fn run_mixed<J: Run, V: View>(
             4,
         ),
     };
-    mixed.play(rt, line)
+    mixed.play(rt, &line)
 }
 
 /// What is refused of a line with runs of the program that a text is.
@@ -197,5 +197,7 @@ pub fn refused(rt: &impl Abort, alloc: Global, text: &str, line: &str) -> String
     let (program, tables, records) = (session.checked(), session.tables(), session.records());
     let first = Pool::new(kits(rt, alloc, program.kinds(), 6));
     let second = Pool::new(kits(rt, alloc, program.kinds(), 6));
+    // Rattle picks no run at a call with a text that is lent.
+    let line = String::from_str(alloc, line).expect(rt, "memory");
     run_mixed::<Brand, PlainView>(rt, alloc, program, tables, records, (first, second), line)
 }
