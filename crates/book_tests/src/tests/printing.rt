@@ -161,10 +161,13 @@ fn push_record(text: &mut String, record: &Record) -> Result<(), AllocError> {
     )
 }
 
-/// The answer of a run with its counts and its records.
+/// The answer of a run with its counts, and with its records where it has finished: nobody keeps those of another one.
 pub fn end_text(alloc: Global, answer: &RunAnswer, made: &[Record]) -> Result<String, AllocError> {
     let mut text = answer_text(alloc, answer)?;
     push_counts(&mut text, answer)?;
+    if !matches!(answer, RunAnswer::Finished { .. }) {
+        return Ok(text);
+    }
     for record in made {
         push_record(&mut text, record)?;
     }

@@ -108,7 +108,7 @@ fn refused_folds(rt: HostRuntime) {
 /// Two strands with faults.
 const FAULTED: [(&str, &str); 3] = [
     ("W0 P0 S10 W0 L0 W1 L1 Fr12 L2", ""),
-    // The first one is laid already, and nobody holds the second one.
+    // Nobody holds the first one any more.
     ("W0 P0 S10 W0 L0 W1 L1 Dr23", "Dr23 refused E16;"),
     // A worker holds the right one.
     ("W0 P0 S10 W0 L0 W1 Fr12", "Fr12 refused E16;"),
