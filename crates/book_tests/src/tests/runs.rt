@@ -1,0 +1,133 @@
+//! Runs whose workers share the book, by one to five workers with one to six kits or many, beside the same steps of a `Core`.
+ghost use Rattle.std.specs.Prelude.{◌<◌};
+
+use super::beginning::session;
+use super::beside::beside;
+use super::programs::{
+    FAULTS_IN_RECORDS, FIRST_LIST, LINES, LOOP, NESTED_READS, PAIRS, TWO_FAULTS,
+};
+use reuse_planner::Session;
+use session_edits::Edit;
+use std::alloc::Global;
+use std::process::Abort;
+use view_pool::PlainView;
+use worker_core::Step;
+
+/// Programs, and their answers.
+const PROGRAMS: [(&str, &str); 7] = [
+    (FIRST_LIST, "result 3; 1 2 9"),
+    (LOOP, "result 0; 0 1 2 3"),
+    (PAIRS, "result 21; 1 2 -1 3 4 -3 9 5 6 -5"),
+    (LINES, "result 131; 131; 100 3"),
+    (NESTED_READS, "result 131; 131"),
+    (
+        TWO_FAULTS,
+        "Fault { kind: DivideByZero, procedure: 0, statement: 1 }",
+    ),
+    (
+        FAULTS_IN_RECORDS,
+        "Fault { kind: DivideByZero, procedure: 0, statement: 3 }",
+    ),
+];
+
+/// Whether there were a steal and a fold in a run.
+type Seen = (bool, bool);
+
+/// Runs with so many workers and kits.
+fn any_runs(
+    rt: &impl Abort,
+    alloc: Global,
+    session: &Session<PlainView>,
+    workers: usize,
+    count: usize,
+    wanted: &str,
+) -> Seen
+    requires workers { 0 < workers }
+{
+    let mut seen = (false, false);
+    for seed in 0..3 {
+        let told = beside(rt, alloc, session, workers, count, seed);
+        assert_eq!(rt;
+            told.answer.as_str(),
+            wanted,
+            "{workers} workers, {count} kits, {seed}"
+        );
+        seen = (seen.0 | told.steals, seen.1 | told.folds);
+    }
+    seen
+}
+
+/// Runs of the program that a text is.
+fn all_runs(rt: &impl Abort, alloc: Global, text: &str, wanted: &str) -> Seen {
+    let session = session(rt, alloc, text);
+    let mut seen = (false, false);
+    for workers in 1..6 {
+        for count in [1, 2, 3, 6, 64] {
+            let (steals, folds) = any_runs(rt, alloc, &session, workers, count, wanted);
+            seen = (seen.0 | steals, seen.1 | folds);
+        }
+    }
+    seen
+}
+
+#[test]
+fn any_steps(rt: HostRuntime) {
+    for (text, wanted) in PROGRAMS {
+        assert_eq!(&rt;
+            all_runs(&rt, rt.alloc(), text, wanted),
+            (true, true),
+            "{text}"
+        );
+    }
+}
+
+/// Steps by which one worker goes to the end of each of the programs.
+fn steps(rt: &impl Abort, alloc: Global) -> Vec<Step> {
+    let mut steps = Vec::new(alloc);
+    for _ in 0..200 {
+        for step in [Step::Work(0), Step::Inline(0), Step::Stall(0)] {
+            steps.push(step).expect(rt, "memory");
+        }
+    }
+    steps
+}
+
+/// The session of a program that was run once, with the second row put anew.
+fn run_session(rt: &impl Abort, alloc: Global, text: &str) -> Session<PlainView> {
+    let mut session = session(rt, alloc, text);
+    let _ = session.run(alloc, 1, &steps(rt, alloc));
+    let put = Edit::Put {
+        table: "sales",
+        row: 2,
+        values: vec![in alloc; 4, 7].expect(rt, "memory"),
+    };
+    assert!(rt; session.apply(alloc, &put).is_ok());
+    session
+}
+
+/// Programs, and what they come to over the records of their first run: the answer, the counts, and the new records.
+const RERUNS: [(&str, &str); 3] = [
+    // No instance reads the row.
+    (PAIRS, "result 21; 1 2 -1 3 4 -3 9 5 6 -5; counts 0 3 0"),
+    // One of three lines reads it.
+    (
+        LINES,
+        "result 138; 138; 100 3; counts 1 2 0; 0 of 2 gave 28 with 0: 28 1: 28 2 read 2 high 1",
+    ),
+    // The instance over the lines reads what its lines read.
+    (
+        NESTED_READS,
+        "result 138; 138; counts 2 2 0; 0 of 2 gave 0 with 0: 28 read 3 high 1; 1 of gave 0 with 0: 138 read 10 high 2",
+    ),
+];
+
+#[test]
+fn reruns(rt: HostRuntime) {
+    for (text, wanted) in RERUNS {
+        let session = run_session(&rt, rt.alloc(), text);
+        for workers in 1..6 {
+            let told = beside(&rt, rt.alloc(), &session, workers, 64, workers as u64);
+            assert_eq!(&rt; told.end.as_str(), wanted);
+        }
+    }
+}

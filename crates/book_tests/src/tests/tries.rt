@@ -1,0 +1,161 @@
+//! Folds that are refused in the middle for want of memory, and tried again.
+ghost use Rattle.std.specs.Prelude.{◌≡◌, ◌∷◌, [], All, true};
+ghost use Rattle.monoid_laws.specs.declared.Kind.TheVariants.{List as ListKind};
+ghost use Rattle.linked_program.specs.Checked.{revised_of};
+ghost use Rattle.linked_program.specs.TableNames.{columned_of};
+ghost use Rattle.rerun_records.specs.Named.{HaveValues};
+ghost use Rattle.positions.specs.Setting.{setting_with};
+ghost use Rattle.numbered_runs.specs.News.{AreSound};
+
+use super::beginning::session;
+use super::crew::Crew;
+use super::mixed::{go_on, standing};
+use super::printing::answer_text;
+use super::programs::TWO_LISTS;
+use super::stubborn::Stubborn;
+use super::words::place;
+use input_tables::Tables;
+use linked_program::checked::Checked;
+use monoid_laws::Kind;
+use rerun_records::records::Records;
+use right_strands::run::{Run, Scene};
+use std::alloc::Global;
+use std::marker::Brand;
+use std::process::Abort;
+use std::sync::Arc;
+use std::sync::atomic::{AtomicUsize, Ordering};
+use sync_fold::BookError;
+use view_pool::{Kit, Pool, View};
+
+/// Whether these are the kinds of two lists.
+fn are_two_lists(kinds: &[Kind]) -> bool
+    ensures { result ≡ true → kinds.now ≡ ListKind ∷ ListKind ∷ [] }
+{
+    match kinds {
+        [Kind::List, Kind::List] => true,
+        _ => false,
+    }
+}
+
+/// A kit of two lists; the second one refuses once, if it is to.
+fn kit(rt: &impl Abort, alloc: Global, refuses: bool, drops: &Arc<AtomicUsize>) -> Kit<Stubborn>
+    ensures kinds { result ≡ ListKind ∷ ListKind ∷ [] }
+{
+    let one = Stubborn::new(alloc, false, drops.clone().expect(rt, "memory"));
+    let two = Stubborn::new(alloc, refuses, drops.clone().expect(rt, "memory"));
+    let mut views = Vec::new(alloc);
+    if views.push(one).is_err() || views.push(two).is_err() {
+        panic!(rt; "memory");
+    }
+    Kit::reset(views)
+}
+
+/// Two such kits. The second one, whose second list refuses once, is taken first.
+fn pool(rt: &impl Abort, alloc: Global, drops: &Arc<AtomicUsize>) -> Pool<Kit<Stubborn>>
+    ensures kits { All (λ k. k ≡ ListKind ∷ ListKind ∷ []) result.kits }
+{
+    let mut kits = Vec::new(alloc);
+    for refuses in [false, true] {
+        if kits.push(kit(rt, alloc, refuses, drops)).is_err() {
+            panic!(rt; "memory");
+        }
+    }
+    Pool::new(kits)
+}
+
+/// The child of `main` is at its end, and `main` is at its sync: the first strand is worker 0's, the other worker 1's. Both are
+/// laid down.
+fn lead<J: Run, V: View>(rt: &impl Abort, crew: &mut Crew<'_, J, V>) {
+    go_on(rt, crew, 0);
+    assert!(rt; crew.push(rt, 0) && crew.steal(rt, 1, 0));
+    go_on(rt, crew, 0);
+    go_on(rt, crew, 1);
+    assert!(rt; crew.stall(rt, 0) && crew.stall(rt, 1));
+}
+
+/// A fold that is refused leaves the list and the history.
+fn is_refused<J: Run, V: View>(rt: &impl Abort, alloc: Global, crew: &mut Crew<'_, J, V>) {
+    let (left, right) = (place(rt, alloc, b'r'), place(rt, alloc, b'1'));
+    let before = standing(rt, alloc, crew);
+    assert_eq!(rt; crew.fold_pair(&left, &right, 2), Err(BookError::NoMemory));
+    let after = standing(rt, alloc, crew);
+    assert_eq!(rt; after.as_str(), before.as_str());
+}
+
+/// How the fold is tried again: by its places, as the first one that may be, or not at all.
+#[derive(Clone, Copy, Debug, PartialEq, Eq)]
+enum Again {
+    Pair,
+    Any,
+    Never,
+}
+
+/// The answer of the run, whose one fold is refused once.
+fn folded<J: Run, V: View>(
+    rt: &impl Abort,
+    alloc: Global,
+    mut crew: Crew<'_, J, V>,
+    again: Again,
+) -> String {
+    lead(rt, &mut crew);
+    is_refused(rt, alloc, &mut crew);
+    let (left, right) = (place(rt, alloc, b'r'), place(rt, alloc, b'1'));
+    match again {
+        Again::Pair => assert!(rt; crew.fold_pair(&left, &right, 2).is_ok()),
+        Again::Any => assert_eq!(rt; crew.fold_any(2), Some(Ok(()))),
+        Again::Never => return String::new(alloc),
+    }
+    go_on(rt, &mut crew, 2);
+    assert!(rt; crew.stall(rt, 2));
+    let ended = crew.end(rt);
+    assert_eq!(rt; ended.kits, (2, 2));
+    answer_text(alloc, &ended.answer).expect(rt, "memory")
+}
+
+/// The same of a program with two lists.
+fn folds<J: Run, V: View>(
+    rt: &impl Abort,
+    alloc: Global,
+    program: &Checked,
+    tables: &Tables,
+    records: &Records,
+    pool: Pool<Kit<V>>,
+    again: Again,
+) -> String
+    requires same { setting_with program.now tables.now.tables [] records.now ≡ J.setting }
+    requires tables { program.now.tables ≡ columned_of tables.now.tables }
+    requires sound { AreSound (revised_of program.now) program.now.tables program.now.kinds records.now }
+    requires values { HaveValues program.now.kinds records.now }
+    requires lists { program.now.kinds ≡ ListKind ∷ ListKind ∷ [] }
+    requires kits { All (λ k. k ≡ ListKind ∷ ListKind ∷ []) pool.kits }
+{
+    let scene = Scene::<J>::new(program, tables, records);
+    folded(rt, alloc, Crew::start(rt, alloc, scene, pool, 3), again)
+}
+
+/// The answer of the run that is tried again so, and how many views were dropped at its end.
+fn tried(rt: &impl Abort, alloc: Global, again: Again) -> (String, usize) {
+    let drops = Arc::new(alloc, AtomicUsize::new(0)).expect(rt, "memory");
+    let session = session(rt, alloc, TWO_LISTS);
+    session.kept();
+    let (program, tables, records) = (session.checked(), session.tables(), session.records());
+    if !are_two_lists(program.kinds()) {
+        panic!(rt; "other kinds");
+    }
+    let pool = pool(rt, alloc, &drops);
+    let text = folds::<Brand, Stubborn>(rt, alloc, program, tables, records, pool, again);
+    (text, drops.load(Ordering::Relaxed))
+}
+
+/// Two kits of two views are dropped, each view once; also where the run is given up with the fold refused.
+#[test]
+fn refused_fold_is_tried_again(rt: HostRuntime) {
+    for (again, wanted) in [
+        (Again::Pair, "result 1; 1 2; 1 2"),
+        (Again::Any, "result 1; 1 2; 1 2"),
+        (Again::Never, ""),
+    ] {
+        let (text, drops) = tried(&rt, rt.alloc(), again);
+        assert_eq!(&rt; (text.as_str(), drops), (wanted, 4), "{again:?}");
+    }
+}
