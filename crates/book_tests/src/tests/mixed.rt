@@ -1,7 +1,7 @@
 //! Two runs of one program, whose books are kept apart: pieces of the second run are laid down in the first book too.
 //!
-//! A line has a word for each step. `W0` lets worker 0 of the first run go on to the next point, `P0` pushes, `I0` makes the
-//! child a call, `S10` steals for worker 1 from worker 0, and `.W0` is the same step of the second run. These calls of the first
+//! A line has a word for each step. `W0*` lets worker 0 of the first run go on to the next point, `P0` pushes, `I0` makes the
+//! child a call, `S10` steals for worker 1 from worker 0, and `.W0*` is the same step of the second run. These calls of the first
 //! book may be refused: `L0` lays the strand of worker 0 down, `M0` that of worker 0 of the second run, `Dr12` splits the first
 //! strand at the place 1 for worker 2, and `Fr12` folds it with the one at the place 1 for worker 2.
 ghost use Rattle.std.specs.Prelude.{◌≡◌, [], All};
@@ -47,7 +47,7 @@ pub fn go_on<J: Run, V: View>(rt: &impl Abort, crew: &mut Crew<'_, J, V>, worker
 /// A step of one run. Whether there is one of that name, and it was taken.
 fn is_taken<J: Run, V: View>(rt: &impl Abort, crew: &mut Crew<'_, J, V>, word: &[u8]) -> bool {
     match word {
-        [b'W', worker] => {
+        [b'W', worker, b'*'] => {
             go_on(rt, crew, digit(*worker));
             true
         }

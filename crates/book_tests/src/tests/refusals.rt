@@ -15,21 +15,24 @@ fn are_refused(rt: &impl Abort, alloc: Global, text: &str, rows: &[(&str, &str)]
 /// Pieces that are laid down.
 const LAYINGS: [(&str, &str); 6] = [
     // The second strand isn't there.
-    (".W0 .P0 .S10 .W1 .I1 .W1 M1", "M1 refused E12;"),
+    (".W0* .P0 .S10 .W1* .I1 .W1* M1", "M1 refused E12;"),
     // The first strand is laid already.
-    ("W0 P0 S10 W0 L0 .W0 .P0 .S10 .W0 M0", "M0 refused E11;"),
+    ("W0* P0 S10 W0* L0 .W0* .P0 .S10 .W0* M0", "M0 refused E11;"),
     // The other run's strand was laid in the place of its own.
     (
-        "W0 P0 S10 W1 I1 W1 .W0 .P0 .S10 .W1 .I1 .W1 M1 L1",
+        "W0* P0 S10 W1* I1 W1* .W0* .P0 .S10 .W1* .I1 .W1* M1 L1",
         "L1 refused E11;",
     ),
     // Who has finished isn't alone.
-    ("W0 P0 S10 .W0 .I0 .W0 .I0 .W0 M0", "M0 refused E16;"),
+    ("W0* P0 S10 .W0* .I0 .W0* .I0 .W0* M0", "M0 refused E16;"),
     // It is laid already, before it isn't alone.
-    ("W0 P0 S10 W0 L0 .W0 .I0 .W0 .I0 .W0 M0", "M0 refused E11;"),
+    (
+        "W0* P0 S10 W0* L0 .W0* .I0 .W0* .I0 .W0* M0",
+        "M0 refused E11;",
+    ),
     // The run has ended.
     (
-        "W0 I0 W0 I0 W0 L0 .W0 .I0 .W0 .I0 .W0 M0",
+        "W0* I0 W0* I0 W0* L0 .W0* .I0 .W0* .I0 .W0* M0",
         "M0 refused E11;",
     ),
 ];
@@ -52,9 +55,12 @@ const SPLITS: [(&str, &str); 8] = [
     // The place was split off already, from whichever strand.
     ("Dr11 Dr12 D112", "Dr12 refused E16;D112 refused E16;"),
     // Nobody holds the strand.
-    ("W0 P0 S10 W0 L0 Dr23", "Dr23 refused E16;"),
+    ("W0* P0 S10 W0* L0 Dr23", "Dr23 refused E16;"),
     // A place that was folded away is no new one.
-    ("W0 P0 S10 W0 L0 W1 I1 W1 L1 Fr12 Dr13", "Dr13 refused E16;"),
+    (
+        "W0* P0 S10 W0* L0 W1* I1 W1* L1 Fr12 Dr13",
+        "Dr13 refused E16;",
+    ),
 ];
 
 #[test]
@@ -72,32 +78,35 @@ const FOLDS: [(&str, &str); 13] = [
     ("Dr11 F1r0", "F1r0 refused E10;"),
     // Workers hold both, or the right one, or the left one.
     ("Dr11 Fr12", "Fr12 refused E16;"),
-    ("W0 P0 S10 W0 L0 Fr12", "Fr12 refused E16;"),
-    ("W0 P0 S10 W1 I1 W1 L1 Fr12", "Fr12 refused E16;"),
+    ("W0* P0 S10 W0* L0 Fr12", "Fr12 refused E16;"),
+    ("W0* P0 S10 W1* I1 W1* L1 Fr12", "Fr12 refused E16;"),
     // The worker holds a strand; another one folds.
     (
-        "W0 P0 S10 W1 P1 S21 W1 L1 W2 L2 F120 F123",
+        "W0* P0 S10 W1* P1 S21 W1* L1 W2* L2 F120 F123",
         "F120 refused E16;",
     ),
     // Both have stalled.
     (
-        "W0 P0 S10 W1 P1 S21 W2 L2 .W0 .P0 .S10 .W1 .I1 .W1 M1 F123",
+        "W0* P0 S10 W1* P1 S21 W2* L2 .W0* .P0 .S10 .W1* .I1 .W1* M1 F123",
         "F123 refused E16;",
     ),
     // The left one has ended as the second child, the right one begins behind the first.
     (
-        "W0 P0 S10 W1 I1 W1 L1 .W0 .I0 .W0 .P0 .S10 .W0 M0 Fr12",
+        "W0* P0 S10 W1* I1 W1* L1 .W0* .I0 .W0* .P0 .S10 .W0* M0 Fr12",
         "Fr12 refused E10;",
     ),
     // The right one waits for the first child too, which the left one had as a call.
     (
-        "W0 I0 W0 P0 S10 W0 L0 .W0 .P0 .S10 .W1 .P1 .S21 .W2 M2 Fr22",
+        "W0* I0 W0* P0 S10 W0* L0 .W0* .P0 .S10 .W1* .P1 .S21 .W2* M2 Fr22",
         "Fr22 refused E10;",
     ),
     // The right one's own strand doesn't.
-    ("W0 I0 W0 P0 S10 W0 L0 W1 L1 Fr22", ""),
+    ("W0* I0 W0* P0 S10 W0* L0 W1* L1 Fr22", ""),
     // Nor does a strand of the other run that went the same way.
-    ("W0 I0 W0 P0 S10 W0 L0 .W0 .I0 .W0 .P0 .S10 .W1 M1 Fr22", ""),
+    (
+        "W0* I0 W0* P0 S10 W0* L0 .W0* .I0 .W0* .P0 .S10 .W1* M1 Fr22",
+        "",
+    ),
 ];
 
 #[test]
@@ -107,11 +116,11 @@ fn refused_folds(rt: HostRuntime) {
 
 /// Two strands with faults.
 const FAULTED: [(&str, &str); 3] = [
-    ("W0 P0 S10 W0 L0 W1 L1 Fr12 L2", ""),
+    ("W0* P0 S10 W0* L0 W1* L1 Fr12 L2", ""),
     // Nobody holds the first one any more.
-    ("W0 P0 S10 W0 L0 W1 L1 Dr23", "Dr23 refused E16;"),
+    ("W0* P0 S10 W0* L0 W1* L1 Dr23", "Dr23 refused E16;"),
     // A worker holds the right one.
-    ("W0 P0 S10 W0 L0 W1 Fr12", "Fr12 refused E16;"),
+    ("W0* P0 S10 W0* L0 W1* Fr12", "Fr12 refused E16;"),
 ];
 
 #[test]
