@@ -70,11 +70,13 @@ pub fn define(
     // A procedure whose revision number is as it was is the same, and the reducers are the same.
     ensures later { IfOk result (λ new. IsLater (revised_of checked.now) (revised_of new)) }
     // Records that were sound are sound.
-    ensures sound { IfOk result (λ new. RecordsStaySound (revised_of checked.now) (revised_of new)) }
+    ensures sound { IfOk result (λ new.
+        RecordsStaySound (revised_of checked.now) (revised_of new)) }
     ensures tables { IfOk result (λ new. new.tables ≡ columned_of tables.now.tables) }
     ensures kinds { IfOk result (λ new. new.kinds ≡ checked.now.kinds) }
     // Each procedure stands where it stood.
-    ensures places { IfOk result (λ new. KeepsPlaces (tree checked.now.program) (tree new.program)) }
+    ensures places { IfOk result (λ new.
+        KeepsPlaces (tree checked.now.program) (tree new.program)) }
 {
     match parse_define(alloc, text, checked.program()) {
         Ok(program) => in_place(alloc, checked, tables, program),

@@ -21,7 +21,8 @@ pub fn checker_is_rules()
 
 /// Procedures that are put in leave the reducers as they are, in their order.
 pub fn reducers_stay()
-    ensures reducers { (source : Source) (before : Tree × List Lined) → reducers (put_all [] source before).0 ≡ reducers before.0 }
+    ensures reducers { (source : Source) (before : Tree × List Lined)
+        → reducers (put_all [] source before).0 ≡ reducers before.0 }
 {}
 
 /// Procedures that keep their places keep their numbers.

@@ -54,7 +54,8 @@ impl<V: View> Strand<V> {
         ensures goes_on { IfOk result (λ paused. paused ≡ Paused.Working → (kept : List Kept)
             → IsStepTaken (setting_with program.now tables.now.tables kept records.now) self.old) }
         ensures kinds { self.new.layer.kinds ≡ self.old.layer.kinds }
-        ensures kits { length self.new.lower + K.free kits.new ≡ length self.old.lower + K.free kits.old }
+        ensures kits { length self.new.lower + K.free kits.new
+            ≡ length self.old.lower + K.free kits.old }
         ensures total { K.total kits.new ≡ K.total kits.old }
         ensures fitting { (k : List Kind) → K.fits k kits.old → K.fits k kits.new }
         ensures given_kinds { (k : List Kind) → K.gives k kits.new → k ≡ program.now.kinds }

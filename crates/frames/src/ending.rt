@@ -76,8 +76,10 @@ impl<V: View> Strand<V> {
         ensures kinds { self.new.layer.kinds ≡ self.old.layer.kinds }
         ensures home { K.fits self.old.layer.kinds kits.new }
         ensures fitting { (k : List Kind) → K.fits k kits.old → K.fits k kits.new }
-        ensures kept { (k : List Kind) → K.gives k kits.new → K.gives k kits.old ⊎ self.old.layer.kinds ≡ k }
-        ensures given { length self.old.lower + K.free kits.old ≤ K.total kits.old → K.free kits.new ≡ length self.old.lower + K.free kits.old }
+        ensures kept { (k : List Kind) → K.gives k kits.new
+            → K.gives k kits.old ⊎ self.old.layer.kinds ≡ k }
+        ensures given { length self.old.lower + K.free kits.old ≤ K.total kits.old
+            → K.free kits.new ≡ length self.old.lower + K.free kits.old }
         ensures total { K.total kits.new ≡ K.total kits.old }
     {
         self.machine.close_upper(kits);
@@ -91,8 +93,10 @@ impl<V: View> Strand<V> {
         ensures definition { (setting : Setting) → IsAnswerOf setting self result.0 }
         ensures records { result.1.items ≡ self.tally.made }
         ensures fitting { (k : List Kind) → K.fits k kits.old → K.fits k kits.new }
-        ensures kept { (k : List Kind) → K.gives k kits.new → K.gives k kits.old ⊎ self.layer.kinds ≡ k }
-        ensures given { suc (length self.lower) + K.free kits.old ≤ K.total kits.old → K.free kits.new ≡ suc (length self.lower) + K.free kits.old }
+        ensures kept { (k : List Kind) → K.gives k kits.new
+            → K.gives k kits.old ⊎ self.layer.kinds ≡ k }
+        ensures given { suc (length self.lower) + K.free kits.old ≤ K.total kits.old
+            → K.free kits.new ≡ suc (length self.lower) + K.free kits.old }
         ensures total { K.total kits.new ≡ K.total kits.old }
     {
         let Strand { machine } = self;

@@ -74,12 +74,16 @@ impl<V: View> Strand<V> {
         requires kinds { self.old.layer.kinds ≡ right.layer.kinds }
         requires monoids { All IsMonoid self.old.layer.kinds }
         ensures joined { OnOk result (self.new ≡ joined self.old right) }
-        ensures definition { (setting : Setting) → OnOk result (IsJoined setting self.old right self.new) }
+        ensures definition { (setting : Setting)
+            → OnOk result (IsJoined setting self.old right self.new) }
         ensures kit { IfOk result (λ kit. kit ≡ right.layer.kinds) }
         ensures left_kept { OnErr result (self.new ≡ with_worths self.new.layer.worths self.old) }
         ensures right_kept { IfErr result (λ e. e.1 ≡ with_worths e.1.layer.worths right) }
-        ensures product { IfErr result (λ e. operate_all self.old.layer.kinds self.new.layer.worths e.1.layer.worths ≡ operate_all self.old.layer.kinds self.old.layer.worths right.layer.worths) }
-        ensures views { IfErr result (λ e. FoldsViews self.old.phase right.phase ⊎ ((self.new ≡ self.old) × (e.1 ≡ right))) }
+        ensures product { IfErr result (λ e.
+            operate_all self.old.layer.kinds self.new.layer.worths e.1.layer.worths
+            ≡ operate_all self.old.layer.kinds self.old.layer.worths right.layer.worths) }
+        ensures views { IfErr result (λ e.
+            FoldsViews self.old.phase right.phase ⊎ ((self.new ≡ self.old) × (e.1 ≡ right))) }
     {
         let Strand { machine } = right;
         match self.machine.join(machine) {

@@ -46,9 +46,11 @@ impl<V: View> Strand<V> {
         kit: Kit<V>,
     ) -> Result<Strand<V>, (AllocError, Kit<V>)>
         requires kinds { kit ≡ program.now.kinds }
-        ensures first { IfOk result (λ strand. strand ≡ first_strand program.now.codes kit program.now.main) }
+        ensures first { IfOk result (λ strand.
+            strand ≡ first_strand program.now.codes kit program.now.main) }
         ensures beginning { (tables : Tables) (kept : List Kept) (records : List PlainRecord)
-            → IfOk result (λ strand. IsFirst (setting_with program.now tables kept records) strand) }
+            → IfOk result (λ strand.
+            IsFirst (setting_with program.now tables kept records) strand) }
         ensures handed_back { IfErr result (λ e. e.1 ≡ kit) }
     {
         program.linked();
@@ -69,7 +71,8 @@ impl<V: View> Strand<V> {
         requires kinds { kit ≡ program.now.kinds }
         ensures stolen { IfOk result (λ strand. strand ≡ stolen program.now.codes kit task) }
         ensures definition { (tables : Tables) (kept : List Kept) (records : List PlainRecord)
-            → IfOk result (λ strand. IsStolen (setting_with program.now tables kept records) task strand) }
+            → IfOk result (λ strand.
+            IsStolen (setting_with program.now tables kept records) task strand) }
         ensures task_back { IfErr result (λ e. e.1 ≡ task) }
         ensures kit_back { IfErr result (λ e. e.2 ≡ kit) }
     {

@@ -172,10 +172,15 @@ impl<V: View> Hypermap<V> {
         requires reducer_is { reducer < length self.old.kinds }
         requires count { (c : Kind) → IsAt self.old.kinds reducer c → length numbers.now ≡ arity c }
         ensures kinds { self.new.kinds ≡ self.old.kinds }
-        ensures done { (c : Kind) (x : Worth) → IsAt self.old.kinds reducer c → IsAt self.old.worths reducer x → OnOk result (self.new.worths ≡ slice_set self.old.worths reducer (operate c x (element_of c numbers.now))) }
-        ensures named { (c : Kind) → IsAt self.old.kinds reducer c → OnOk result (names_element c numbers.now ≡ true) }
+        ensures done { (c : Kind) (x : Worth) → IsAt self.old.kinds reducer c
+            → IsAt self.old.worths reducer x
+            → OnOk result (
+            self.new.worths ≡ slice_set self.old.worths reducer (operate c x (element_of c numbers.now))) }
+        ensures named { (c : Kind) → IsAt self.old.kinds reducer c
+            → OnOk result (names_element c numbers.now ≡ true) }
         ensures refused { OnErr result (self.new.worths ≡ self.old.worths) }
-        ensures cause { (c : Kind) → IsAt self.old.kinds reducer c → IfErr result (λ e. (e ≡ NoMemory) ⊎ (e ≡ refusal c numbers.now)) }
+        ensures cause { (c : Kind) → IsAt self.old.kinds reducer c
+            → IfErr result (λ e. (e ≡ NoMemory) ⊎ (e ≡ refusal c numbers.now)) }
     {
         if note_use(&mut self.used, reducer).is_err() {
             return Err(InjectError::NoMemory);
@@ -192,9 +197,13 @@ impl<V: View> Hypermap<V> {
         value: &Val,
     ) -> Result<(), AllocError>
         requires reducer_is { reducer < length self.old.kinds }
-        requires of_kind { (c : Kind) → IsAt self.old.kinds reducer c → IsWorth c (meaning value.now) }
+        requires of_kind { (c : Kind) → IsAt self.old.kinds reducer c
+            → IsWorth c (meaning value.now) }
         ensures kinds { self.new.kinds ≡ self.old.kinds }
-        ensures absorbed { (c : Kind) (x : Worth) → IsAt self.old.kinds reducer c → IsAt self.old.worths reducer x → OnOk result (self.new.worths ≡ slice_set self.old.worths reducer (operate c x (meaning value.now))) }
+        ensures absorbed { (c : Kind) (x : Worth) → IsAt self.old.kinds reducer c
+            → IsAt self.old.worths reducer x
+            → OnOk result (
+            self.new.worths ≡ slice_set self.old.worths reducer (operate c x (meaning value.now))) }
         ensures refused { OnErr result (self.new.worths ≡ self.old.worths) }
     {
         let copy = copy_of(alloc, value)?;
@@ -209,7 +218,8 @@ impl<V: View> Hypermap<V> {
     pub fn used_value(&self, reducer: usize) -> Result<Option<Val>, AllocError>
         requires reducer_is { reducer < length self.now.kinds }
         ensures used { IfOk result (λ v. IfSome v (λ v. IsAt self.now.worths reducer (meaning v))) }
-        ensures unused { IfOk result (λ v. IsNone v → (c : Kind) (w : Worth) → IsAt self.now.kinds reducer c → IsAt self.now.worths reducer w → w ≡ identity_of c) }
+        ensures unused { IfOk result (λ v. IsNone v → (c : Kind) (w : Worth)
+            → IsAt self.now.kinds reducer c → IsAt self.now.worths reducer w → w ≡ identity_of c) }
     {
         if !self.used.contains(&reducer) {
             return Ok(None);
@@ -223,8 +233,10 @@ impl<V: View> Hypermap<V> {
     pub fn absorb_record(&mut self, alloc: Global, values: &[Val]) -> Result<(), AllocError>
         requires of_kinds { AreWorths self.old.kinds (map meaning values.now) }
         ensures kinds { self.new.kinds ≡ self.old.kinds }
-        ensures absorbed { OnOk result (self.new.worths ≡ operate_all self.old.kinds self.old.worths (map meaning values.now)) }
-        ensures partly { OnErr result ((n : ℕ) × (self.new.worths ≡ operate_first n self.old.kinds self.old.worths (map meaning values.now))) }
+        ensures absorbed { OnOk result (self.new.worths
+            ≡ operate_all self.old.kinds self.old.worths (map meaning values.now)) }
+        ensures partly { OnErr result ((n : ℕ) × (self.new.worths
+            ≡ operate_first n self.old.kinds self.old.worths (map meaning values.now))) }
     {
         for i in 0..values.len() {
             let copy = copy_of(alloc, &values[i])?;
@@ -244,8 +256,10 @@ impl<V: View> Hypermap<V> {
         requires monoids { All IsMonoid self.old.kinds }
         ensures left_kinds { self.new.kinds ≡ self.old.kinds }
         ensures right_kinds { right.new.kinds ≡ right.old.kinds }
-        ensures product { operate_all self.old.kinds self.new.worths right.new.worths ≡ operate_all self.old.kinds self.old.worths right.old.worths }
-        ensures folded { OnOk result (self.new.worths ≡ operate_all self.old.kinds self.old.worths right.old.worths) }
+        ensures product { operate_all self.old.kinds self.new.worths right.new.worths
+            ≡ operate_all self.old.kinds self.old.worths right.old.worths }
+        ensures folded { OnOk result (self.new.worths
+            ≡ operate_all self.old.kinds self.old.worths right.old.worths) }
         ensures emptied { OnOk result (right.new.worths ≡ identities self.old.kinds) }
     {
         while let Some(r) = right.used.first().copied() {

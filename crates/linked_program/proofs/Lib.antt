@@ -5,3 +5,4 @@ pub mod Pushes
 pub mod Named
 pub mod Quiet
 pub mod Fits
+pub mod Crosses

@@ -14,9 +14,11 @@ use crate::phase::Paused;
 /// gives back as many kits. At the point at which a strand is said to be there is no small step, and where it is said to go on
 /// there is one. The next step is said to be an update where it is one.
 pub fn steps_are_the_definitions()
-    ensures step { (setting : Setting) → HasItsTables setting → IsLinked setting → HasItsRecords setting
+    ensures step { (setting : Setting) → HasItsTables setting → IsLinked setting
+        → HasItsRecords setting
         → (kit : Bool) (s : PlainStrand) → IsSmallStep setting kit s (advanced setting kit s) }
-    ensures kits { (setting : Setting) → HasItsTables setting → IsLinked setting → HasItsRecords setting
+    ensures kits { (setting : Setting) → HasItsTables setting → IsLinked setting
+        → HasItsRecords setting
         → (kit : Bool) (s : PlainStrand) → KitsFollow setting kit s (advanced setting kit s) }
     ensures pause { (setting : Setting) (s : PlainStrand)
         → IsPause setting (pause_of setting.codes s) s }

@@ -119,7 +119,8 @@ pub fn definition(
     room: Room,
     tokens: &[Placed],
 ) -> Result<Vec<Declaration>, ParseError>
-    ensures { Gives (λ x. source x.items) result (definition_at (seen.room room) (words tokens.now)) }
+    ensures { Gives (λ x. source x.items) result
+        (definition_at (seen.room room) (words tokens.now)) }
 {
     let (all, rest) = defining(alloc, room, tokens)?;
     if !ended(rest) {

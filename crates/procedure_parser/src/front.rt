@@ -114,7 +114,8 @@ pub fn within<'a, 'b>(
     high: u64,
     tokens: &'b [Placed<'a>],
 ) -> Result<(u64, &'b [Placed<'a>]), ParseError>
-    ensures exact { Gives (λ x. (x.0, words x.1.now)) result (within_at low high (words tokens.now)) }
+    ensures exact { Gives (λ x. (x.0, words x.1.now)) result
+        (within_at low high (words tokens.now)) }
     ensures within { IfOk result (λ x. (low ≤ x.0) × (x.0 ≤ high)) }
 {
     match within_of(low, high, tokens) {

@@ -16,5 +16,6 @@ pub fn records_are_the_definitions()
     ensures lookup { (program : Revised) (names : List Columned) (kinds : List Kind) (tables : Tables)
         → (depth : ℕ) (f : Name) (args : List ℤ)
         → LooksUp program names kinds tables depth f args }
-    ensures commit { (program : PlainChecked) (rs ss : List PlainRecord) → CommitsNamed program rs ss (put_records rs ss) }
+    ensures commit { (program : PlainChecked) (rs ss : List PlainRecord)
+        → CommitsNamed program rs ss (put_records rs ss) }
 {}

@@ -64,7 +64,8 @@ pub fn checked_programs_are_numbered()
 /// An accepted edit of a table changes no name of a table or column.
 pub fn edits_keep_columns()
     ensures put { (old new : Standing) (table : Name) (row : ℤ) (values : List ℤ)
-        → after_put old table row values ≡ Ok new → columned_of new.tables ≡ columned_of old.tables }
+        → after_put old table row values ≡ Ok new
+        → columned_of new.tables ≡ columned_of old.tables }
     ensures delete { (old new : Standing) (table : Name) (row : ℤ)
         → after_delete old table row ≡ Ok new → columned_of new.tables ≡ columned_of old.tables }
 {}

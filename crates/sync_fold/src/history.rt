@@ -26,7 +26,8 @@ fn take_nth(page: &mut Page, alloc: Global, step: &BookStep, n: usize) -> Result
 
 /// The list that a history leaves; else the number, from 0, of its first step that isn't allowed.
 pub fn replay(alloc: Global, steps: &[BookStep]) -> Result<Vec<StrandLine>, ReplayError>
-    ensures legal { IfOk result (λ lines. lines_of (replayed (history steps.now)) ≡ Some (shown lines.items)) }
+    ensures legal { IfOk result (λ lines. lines_of (replayed (history steps.now))
+        ≡ Some (shown lines.items)) }
     ensures refused { IfErr result (Refuses (history steps.now)) }
 {
     let mut page = match Page::first(alloc) {

@@ -1,5 +1,4 @@
 pub mod Binding
-pub mod Crosses
 pub mod Names
 pub mod Settling
 pub mod Staying

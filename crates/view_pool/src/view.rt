@@ -20,7 +20,8 @@ pub trait View: Send + Drop {
     /// Combines the element that the numbers name on the right of the value; refused, the value stays.
     fn update(&mut self, numbers: &[i64]) -> Result<(), InjectError>
         requires count { length numbers.now ≡ arity (kind_of self.old) }
-        ensures done { OnOk result (worth_of self.new ≡ operate (kind_of self.old) (worth_of self.old) (element_of (kind_of self.old) numbers.now)) }
+        ensures done { OnOk result (worth_of self.new
+            ≡ operate (kind_of self.old) (worth_of self.old) (element_of (kind_of self.old) numbers.now)) }
         ensures element { OnOk result (IsWorth (kind_of self.old) (element_of (kind_of self.old) numbers.now)) }
         ensures named { OnOk result (names_element (kind_of self.old) numbers.now ≡ true) }
         ensures refused { OnErr result (worth_of self.new ≡ worth_of self.old) }
@@ -30,7 +31,8 @@ pub trait View: Send + Drop {
     /// Combines a value on the right, or hands it back for want of memory; into a view at its identity it always succeeds.
     fn absorb(&mut self, value: Val) -> Result<(), Val>
         requires of_kind { IsWorth (kind_of self.old) (meaning value) }
-        ensures done { OnOk result (worth_of self.new ≡ operate (kind_of self.old) (worth_of self.old) (meaning value)) }
+        ensures done { OnOk result (worth_of self.new
+            ≡ operate (kind_of self.old) (worth_of self.old) (meaning value)) }
         ensures refused { OnErr result (worth_of self.new ≡ worth_of self.old) }
         ensures handed_back { IfErr result (λ v. v ≡ value) }
         ensures room { worth_of self.old ≡ identity_of (kind_of self.old) → IsOk result }

@@ -77,7 +77,8 @@ impl<'a, V: View> Core<'a, V> {
         requires tables { program.now.tables ≡ columned_of tables.now.tables }
         requires sound { AreSoundFor program.now records.now }
         requires values { HaveValues program.now.kinds records.now }
-        ensures started { IfOk result (λ core. IsFirstCore program.now tables.now records.now pool workers core) }
+        ensures started { IfOk result (λ core.
+            IsFirstCore program.now tables.now records.now pool workers core) }
         ensures beginning { IfOk result (IsBeginning (length pool.kits)) }
         ensures kits { IfOk result (λ core. kits_in core.strands ≡ length pool.kits) }
         ensures refused { IfErr result (λ e. CannotStart pool e.0) }
@@ -106,8 +107,10 @@ impl<'a, V: View> Core<'a, V> {
         ensures step { OnOk result (IsStep step.now self.old self.new) }
         ensures refused { IfErr result (RefusedAs (takes_memory step.now) (taken self.old step.now)) }
         ensures no_step { IfErr result (λ e. (e ≡ Refusal.NoMemory) ⊎ IsNoStep step.now self.old) }
-        ensures stands { IfErr result (λ e. StandsAfter step.now e self.old.strands self.new.strands) }
-        ensures failed { IfErr result (λ e. self.new ≡ record (failed_by step.now e self.old) { strands = self.new.strands }) }
+        ensures stands { IfErr result (λ e.
+            StandsAfter step.now e self.old.strands self.new.strands) }
+        ensures failed { IfErr result (λ e.
+            self.new ≡ record (failed_by step.now e self.old) { strands = self.new.strands }) }
         ensures going { OnOk result (self.new ≡ record self.old { strands = self.new.strands }) }
         // An instance goes without a record only where no kit was free.
         ensures unrecorded { OnOk result (PassesWithoutKit self.old.strands self.new.strands) }
@@ -165,7 +168,8 @@ impl<'a, V: View> Core<'a, V> {
 
     /// The strands in serial order; want of memory is the only error.
     pub fn strands(&self, alloc: Global) -> Result<Vec<StrandLine>, AllocError>
-        ensures strands { IfOk result (λ lines. map line lines.items ≡ map line_of self.now.strands.pieces) }
+        ensures strands { IfOk result (λ lines.
+            map line lines.items ≡ map line_of self.now.strands.pieces) }
     {
         self.strands.lines(alloc)
     }

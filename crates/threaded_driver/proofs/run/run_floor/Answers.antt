@@ -1,6 +1,6 @@
 use denote.Param.Send.{sendable}
 use Rattle.std.proofs.Crossing.{crosses}
-use Rattle.threaded_driver.proofs.Crosses.{checked_sync}
+use Rattle.linked_program.proofs.Crosses.{checked_sync}
 use Rattle.input_tables.proofs.tables.Tables.TheSendSync as tables
 use Rattle.rerun_records.proofs.records.Records.TheSendSync as records
 use Rattle.threaded_driver.proofs.desk.Desk.TheSendSync as desk
