@@ -1,6 +1,6 @@
 //! The slots that an instance begins with.
 
-ghost use Rattle.std.specs.Prelude.{◌≡◌, map};
+ghost use Rattle.std.specs.Prelude.{◌≡◌, [], map};
 ghost use Rattle.linked_program.specs.CodeView.{expression as plain};
 ghost use Rattle.evaluation.specs.Values.{entry_at};
 ghost use Rattle.evaluation.specs.Ends.{Ends, Stops};
@@ -8,26 +8,26 @@ ghost use Rattle.evaluation.specs.Ends.{Ends, Stops};
 use crate::note::Note;
 use crate::slot::Slot;
 use crate::stop::Stop;
-use crate::values::evaluate;
+use crate::values::evaluated;
 use input_tables::Tables;
 use linked_program::code::Expression;
-use std::alloc::Global;
 
 /// The slots of an instance of `size` names that is entered with these arguments: their values, and then no values; or the
-/// first fault. What they read is noted. Where memory is refused the notes are as they were.
+/// first fault. What they read is noted. Where memory is refused the notes are as they were. They stand in `room`, an empty list.
 pub fn entry_slots(
-    alloc: Global,
+    room: Vec<Slot>,
     size: usize,
     arguments: &[Expression],
     slots: &[Slot],
     tables: &Tables,
     notes: &mut Vec<Note>,
 ) -> Result<Vec<Slot>, Stop>
+    requires empty { room.items ≡ [] }
     ensures ends { Ends (λ v. v.items) (entry_at tables.now.tables slots.now size
         (map plain arguments.now)) notes.old.items notes.new.items result }
 {
     let before = notes.len();
-    match slots_of(alloc, size, arguments, slots, tables, notes) {
+    match slots_of(room, size, arguments, slots, tables, notes) {
         Ok(made) => Ok(made),
         Err(Stop::Fault(kind)) => Err(Stop::Fault(kind)),
         Err(Stop::NoMemory) => {
@@ -39,21 +39,22 @@ pub fn entry_slots(
 
 // The slots of a new instance; where memory is refused, the notes so far stay.
 fn slots_of(
-    alloc: Global,
+    room: Vec<Slot>,
     size: usize,
     arguments: &[Expression],
     slots: &[Slot],
     tables: &Tables,
     notes: &mut Vec<Note>,
 ) -> Result<Vec<Slot>, Stop>
+    requires empty { room.items ≡ [] }
     ensures stops { Stops (λ v. v.items) (entry_at tables.now.tables slots.now size (map plain arguments.now)) notes.old.items notes.new.items result }
 {
-    let mut made = Vec::new(alloc);
+    let mut made = room;
     if made.reserve(size).is_err() {
         return Err(Stop::NoMemory);
     }
     for argument in arguments {
-        match evaluate(argument, slots, tables, notes) {
+        match evaluated(argument, slots, tables, notes) {
             Ok(value) => {
                 if made.push(Slot::Has(value)).is_err() {
                     return Err(Stop::NoMemory);

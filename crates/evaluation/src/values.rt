@@ -1,11 +1,12 @@
 //! The values of expressions.
 
-ghost use Rattle.std.specs.Prelude.{◌≡◌, ◌++◌, ◌∷◌, [], OnOk, OnErr, IfErr, map, slice_get};
+ghost use Rattle.std.specs.Prelude.{◌≡◌, ◌++◌, ◌∷◌, [], OnOk, OnErr, IfErr, IfSome, map, slice_get};
 ghost use Rattle.linked_program.specs.CodeView.{expression as plain};
 ghost use Rattle.input_tables.specs.Edited as read;
 ghost use Rattle.meaning.specs.Values.{one_if as one_for};
 ghost use Rattle.evaluation.specs.Slots.{number_in as number_of};
-ghost use Rattle.evaluation.specs.Values.{value_at, values_at, looked, reading, applied as applied_to};
+ghost use Rattle.evaluation.specs.Values.{value_at, values_at, looked, reading, pure, applied as applied_to};
+ghost use Rattle.meaning.specs.Tables.{Tables as TableList};
 ghost use Rattle.evaluation.specs.Ends.{Ends, Stops};
 
 use crate::note::Note;
@@ -28,7 +29,7 @@ pub fn value(
         notes.old.items notes.new.items result }
 {
     let before = notes.len();
-    match evaluate(expression, slots, tables, notes) {
+    match evaluated(expression, slots, tables, notes) {
         Ok(value) => Ok(value),
         Err(Stop::Fault(kind)) => Err(Stop::Fault(kind)),
         Err(Stop::NoMemory) => {
@@ -75,7 +76,7 @@ fn evaluate_all(
     ensures stops { Stops (λ u. numbers.new.items) (values_at tables.now.tables slots.now (map plain expressions.now)) notes.old.items notes.new.items result }
 {
     for expression in expressions {
-        match evaluate(expression, slots, tables, notes) {
+        match evaluated(expression, slots, tables, notes) {
             Ok(value) => {
                 if numbers.push(value).is_err() {
                     return Err(Stop::NoMemory);
@@ -99,9 +100,12 @@ pub(crate) fn evaluate(
     match expression {
         Expression::Number(number) => Ok(*number),
         Expression::Slot(number) => Ok(number_in(slots, *number)),
-        Expression::Cell(table, row, column) => match evaluate(row, slots, tables, notes) {
-            Ok(row) => cell(tables, *table, row, *column, notes),
-            Err(stop) => Err(stop),
+        Expression::Cell(table, row, column) => match at_once(row, slots) {
+            Some(row) => cell(tables, *table, row, *column, notes),
+            None => match evaluate(row, slots, tables, notes) {
+                Ok(row) => cell(tables, *table, row, *column, notes),
+                Err(stop) => Err(stop),
+            },
         },
         Expression::Has(table, row) => match evaluate(row, slots, tables, notes) {
             Ok(row) => has(tables, *table, row, notes),
@@ -112,13 +116,53 @@ pub(crate) fn evaluate(
             Ok(number) => Ok(number.wrapping_neg()),
             Err(stop) => Err(stop),
         },
-        Expression::Binary(operator, left, right) => match evaluate(left, slots, tables, notes) {
-            Ok(left) => match evaluate(right, slots, tables, notes) {
-                Ok(right) => applied(*operator, left, right),
+        Expression::Binary(operator, left, right) => match at_once(left, slots) {
+            Some(left) => match at_once(right, slots) {
+                Some(right) => applied(*operator, left, right),
+                None => match evaluate(right, slots, tables, notes) {
+                    Ok(right) => applied(*operator, left, right),
+                    Err(stop) => Err(stop),
+                },
+            },
+            None => match evaluate(left, slots, tables, notes) {
+                Ok(left) => match at_once(right, slots) {
+                    Some(right) => applied(*operator, left, right),
+                    None => match evaluate(right, slots, tables, notes) {
+                        Ok(right) => applied(*operator, left, right),
+                        Err(stop) => Err(stop),
+                    },
+                },
                 Err(stop) => Err(stop),
             },
-            Err(stop) => Err(stop),
         },
+    }
+}
+
+/// The same; that of a number or a slot without a call.
+#[inline(always)]
+pub(crate) fn evaluated(
+    expression: &Expression,
+    slots: &[Slot],
+    tables: &Tables,
+    notes: &mut Vec<Note>,
+) -> Result<i64, Stop>
+    ensures stops { Stops (λ v. v) (value_at tables.now.tables slots.now (plain expression.now)) notes.old.items notes.new.items result }
+{
+    match at_once(expression, slots) {
+        Some(value) => Ok(value),
+        None => evaluate(expression, slots, tables, notes),
+    }
+}
+
+// The value of a number or a slot, which reads nothing; none of any other expression.
+#[inline(always)]
+fn at_once(expression: &Expression, slots: &[Slot]) -> Option<i64>
+    ensures value { IfSome result (λ v. (all : TableList) → value_at all slots.now (plain expression.now) ≡ pure v) }
+{
+    match expression {
+        Expression::Number(number) => Some(*number),
+        Expression::Slot(number) => Some(number_in(slots, *number)),
+        _ => None,
     }
 }
 

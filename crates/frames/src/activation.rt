@@ -44,16 +44,17 @@ impl Model for Activation {
 }
 
 impl Activation {
-    /// An instance that begins, with those slots and so many levels below it.
+    /// An instance that begins, with those slots, an empty list for places, and so many levels below it.
     #[inline(always)]
     pub(crate) fn new(
-        alloc: Global,
         procedure: usize,
         slots: Vec<Slot>,
+        outer: Vec<Position>,
         work: Work,
         left: u32,
     ) -> Activation
         requires fits { WorkFits work }
+        requires empty { outer.items ≡ [] }
         ensures made { result ≡ made procedure slots.items work left }
     {
         Activation {
@@ -61,7 +62,7 @@ impl Activation {
             children: 0,
             procedure,
             slots,
-            outer: Vec::new(alloc),
+            outer,
             work,
             spawned: false,
             into: None,
@@ -111,11 +112,19 @@ impl Activation {
         &self.slots
     }
 
-    /// A copy of its slots.
-    pub(crate) fn copied_slots(&self, alloc: Global) -> Result<Vec<Slot>, AllocError>
+    /// A copy of its slots, in that empty list.
+    pub(crate) fn copied_slots(&self, mut room: Vec<Slot>) -> Result<Vec<Slot>, AllocError>
+        requires empty { room.items ≡ [] }
         ensures slots { IfOk result (λ v. v.items ≡ self.now.slots) }
     {
-        Vec::from_slice(alloc, &self.slots)
+        room.extend_from_slice(&self.slots)?;
+        Ok(room)
+    }
+
+    /// Its lists of slots and of places.
+    pub(crate) fn into_lists(self) -> (Vec<Slot>, Vec<Position>) {
+        let Activation { slots, outer, .. } = self;
+        (slots, outer)
     }
 
     /// Gives its slots away.

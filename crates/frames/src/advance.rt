@@ -22,12 +22,14 @@ use positions::phase::{Paused, Phase};
 use positions::work::{Position, Work};
 use rerun_records::records::Records;
 use std::alloc::{AllocError, Global};
+use std::mem;
 use view_pool::{Kit, KitSource, View};
 
 impl<V: View> Strand<V> {
     /// Does one small step and answers Working, or changes nothing and answers the point at which the strand is. A memo instance
     /// is answered by a valid record, or begins in a layer of its own where a kit is free. Where memory is refused nothing has
     /// changed but the values of the two topmost layers.
+    #[inline(always)]
     pub fn advance<K: KitSource<Kit<V>>>(
         &mut self,
         alloc: Global,
@@ -284,7 +286,8 @@ impl<V: View> Machine<V> {
     {
         if let Some(mut parent) = self.below.pop() {
             parent.receive(value);
-            self.top = parent;
+            let over = mem::replace(&mut self.top, parent);
+            self.spares.keep(over);
             let _ = self.path.pop();
             self.phase = Phase::Running;
         }

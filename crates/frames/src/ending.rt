@@ -163,6 +163,7 @@ impl<V: View> Machine<V> {
             arguments: _,
             tally,
             numbers: _,
+            spares: _,
         } = self;
         send_home(kits, layer.close());
         tally.into_records()

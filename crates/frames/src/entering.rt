@@ -119,7 +119,8 @@ impl<V: View> Machine<V> {
             self.fault(statement, FaultKind::TooDeep);
             return Ok(());
         }
-        let child = Activation::new(alloc, callee, slots, Work::Block(FIRST), left - 1);
+        let places = self.spares.places(alloc);
+        let child = Activation::new(callee, slots, places, Work::Block(FIRST), left - 1);
         match way {
             Way::Call => {
                 self.push_called(child, work, into, Phase::Entering)?;

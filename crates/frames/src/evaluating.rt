@@ -70,9 +70,10 @@ impl<V: View> Machine<V> {
         ensures evaluated { IfOk result (Evaluates (λ v. v.items) statement (entry_at tables.now.tables self.old.top.slots size (map plain arguments.now)) self.old self.new) }
         ensures unchanged { OnErr result (self.new ≡ self.old) }
     {
+        let room = self.spares.slots(alloc);
         match self
             .layer
-            .entry(alloc, size, arguments, self.top.slots(), tables)
+            .entry(room, size, arguments, self.top.slots(), tables)
         {
             Ok(slots) => Ok(Some(slots)),
             Err(Stop::Fault(kind)) => {

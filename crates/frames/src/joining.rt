@@ -214,6 +214,7 @@ impl<V: View> Machine<V> {
             arguments,
             tally: _,
             numbers: _,
+            spares: _,
         } = right;
         self.path = path;
         self.place = place;

@@ -1,5 +1,5 @@
 //! A layer of a strand: the views of a kit, and what was read and entered since they were opened.
-ghost use Rattle.std.specs.Prelude.{◌≡◌, ℕ, ◌<◌, ◌+◌, ◌⊎◌, OnOk, OnErr, IfOk, IfErr, Some, All, if◌then◌else◌, true, false, length, map, take, slice_get};
+ghost use Rattle.std.specs.Prelude.{◌≡◌, [], ℕ, ◌<◌, ◌+◌, ◌⊎◌, OnOk, OnErr, IfOk, IfErr, Some, All, if◌then◌else◌, true, false, length, map, take, slice_get};
 ghost use Rattle.monoid_laws.specs.declared.Kind.{Kind};
 ghost use Rattle.monoid_laws.specs.Kinds.{IsMonoid, meaning, names_element, operate_all};
 ghost use Rattle.linked_program.specs.CodeView.{expression as plain};
@@ -108,19 +108,20 @@ impl<V: View> Layer<V> {
         values(expressions, slots, tables, numbers, &mut self.notes)
     }
 
-    /// The slots of an instance that is entered with these arguments.
+    /// The slots of an instance that is entered with these arguments, in that empty list.
     #[inline(always)]
     pub(crate) fn entry(
         &mut self,
-        alloc: Global,
+        room: Vec<Slot>,
         size: usize,
         arguments: &[Expression],
         slots: &[Slot],
         tables: &Tables,
     ) -> Result<Vec<Slot>, Stop>
+        requires empty { room.items ≡ [] }
         ensures notes { Notes (λ v. v.items) (entry_at tables.now.tables slots.now size (map plain arguments.now)) self.old self.new result }
     {
-        entry_slots(alloc, size, arguments, slots, tables, &mut self.notes)
+        entry_slots(room, size, arguments, slots, tables, &mut self.notes)
     }
 
     /// A loop's range.

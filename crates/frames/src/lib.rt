@@ -20,6 +20,7 @@ mod places;
 mod recording;
 mod remembering;
 pub mod setting;
+mod spares;
 mod statements;
 pub mod strand;
 mod tally;

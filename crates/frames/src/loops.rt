@@ -116,7 +116,8 @@ impl<V: View> Machine<V> {
         ensures looped { OnOk result (self.new ≡ looping place (range.low, range.count) self.old) }
         ensures unchanged { OnErr result (self.new ≡ self.old) }
     {
-        let slots = self.top.copied_slots(alloc)?;
+        let room = self.spares.slots(alloc);
+        let slots = self.top.copied_slots(room)?;
         let site = Loop {
             block: place.block,
             index: place.index,
@@ -128,7 +129,8 @@ impl<V: View> Machine<V> {
         };
         let work = Work::Halves(site, HALVINGS, whole);
         let procedure = self.top.procedure();
-        let child = Activation::new(alloc, procedure, slots, work, self.top.left());
+        let places = self.spares.places(alloc);
+        let child = Activation::new(procedure, slots, places, work, self.top.left());
         self.push_called(child, Work::Block(next_of(place)), None, Phase::Running)
     }
 
@@ -166,10 +168,12 @@ impl<V: View> Machine<V> {
         ensures split { OnOk result (self.new ≡ split site halvings share self.old) }
         ensures unchanged { OnErr result (self.new ≡ self.old) }
     {
-        let slots = self.top.copied_slots(alloc)?;
+        let room = self.spares.slots(alloc);
+        let slots = self.top.copied_slots(room)?;
         let work = Work::Halves(site, halvings, left_of(site, share));
         let procedure = self.top.procedure();
-        let child = Activation::new(alloc, procedure, slots, work, self.top.left());
+        let places = self.spares.places(alloc);
+        let child = Activation::new(procedure, slots, places, work, self.top.left());
         let later = Work::Second(site, halvings, right_of(site, share));
         self.push_spawned(child, later, None)
     }
@@ -194,7 +198,8 @@ impl<V: View> Machine<V> {
         let slots = self.top.take_slots(alloc);
         let work = Work::Halves(site, halvings, share);
         let procedure = self.top.procedure();
-        let child = Activation::new(alloc, procedure, slots, work, self.top.left());
+        let places = self.spares.places(alloc);
+        let child = Activation::new(procedure, slots, places, work, self.top.left());
         self.path.push_reserved(number);
         let mut parent = mem::replace(&mut self.top, child);
         parent.wait(false, None, Work::Over);
@@ -447,10 +452,11 @@ impl<V: View> Machine<V> {
         ensures notes { Notes (λ v. v.items) (entry_at tables.now.tables (slice_set self.old.top.slots variable number) size (map plain arguments.now)) self.old.layer self.new.layer result }
         ensures rest { self.new ≡ record self.old { layer = self.new.layer } }
     {
+        let room = self.spares.slots(alloc);
         let held = self.top.exchange(variable, number);
         let outcome = self
             .layer
-            .entry(alloc, size, arguments, self.top.slots(), tables);
+            .entry(room, size, arguments, self.top.slots(), tables);
         self.top.restore(variable, held);
         outcome
     }

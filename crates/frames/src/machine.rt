@@ -7,6 +7,7 @@ ghost use Rattle.positions.specs.Advance.{faulted, begun, pushed};
 
 use crate::activation::Activation;
 use crate::layer::Layer;
+use crate::spares::Spares;
 use crate::tally::Tally;
 use meaning::FaultKind;
 use positions::phase::{Fault, Phase};
@@ -36,6 +37,7 @@ pub(crate) struct Machine<V: View> {
     pub(crate) arguments: Vec<i64>,
     pub(crate) tally: Tally,
     pub(crate) numbers: Vec<i64>,
+    pub(crate) spares: Spares,
 }
 
 impl<V: View> Model for Machine<V> {

@@ -12,6 +12,7 @@ ghost use Rattle.positions.specs.Moves.{first_strand, stolen, stolen_with, inlin
 use crate::activation::Activation;
 use crate::layer::Layer;
 use crate::machine::{DEEPEST, Machine};
+use crate::spares::Spares;
 use crate::strand::Strand;
 use crate::tally::Tally;
 use crate::task::Task;
@@ -165,12 +166,13 @@ impl<V: View> Machine<V> {
             lower: Vec::new(alloc),
             path: Vec::new(alloc),
             place: Vec::new(alloc),
-            top: Activation::new(alloc, main, slots, work, LEVELS_BELOW_MAIN),
+            top: Activation::new(main, slots, Vec::new(alloc), work, LEVELS_BELOW_MAIN),
             below: Vec::new(alloc),
             phase: Phase::Entering,
             arguments: Vec::new(alloc),
             tally: Tally::new(alloc),
             numbers: Vec::new(alloc),
+            spares: Spares::new(alloc),
         })
     }
 
@@ -219,6 +221,7 @@ impl<V: View> Machine<V> {
             arguments: Vec::new(alloc),
             tally: Tally::new(alloc),
             numbers: Vec::new(alloc),
+            spares: Spares::new(alloc),
         }
     }
 

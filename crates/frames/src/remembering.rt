@@ -1,5 +1,5 @@
 // Memo instances that are called and spawned: their arguments are kept, by which a record of them is looked up.
-ghost use Rattle.std.specs.Prelude.{◌≡◌, true, false, ◌<◌, OnErr, OnOk, IfOk, length, map};
+ghost use Rattle.std.specs.Prelude.{◌≡◌, [], true, false, ◌<◌, OnErr, OnOk, IfOk, length, map};
 ghost use Rattle.linked_program.specs.CodeView.{expression as plain, memo_of};
 ghost use Rattle.evaluation.specs.Slots.{slots_for};
 ghost use Rattle.evaluation.specs.Values.{values_at};
@@ -33,11 +33,12 @@ pub(crate) struct Entrance {
     pub(crate) callee: usize,
 }
 
-/// The slots of an instance of so many names that is entered with these values.
-fn slots_with(alloc: Global, size: usize, values: &[i64]) -> Result<Vec<Slot>, AllocError>
+/// The slots of an instance of so many names that is entered with these values, in that empty list.
+fn slots_with(room: Vec<Slot>, size: usize, values: &[i64]) -> Result<Vec<Slot>, AllocError>
+    requires empty { room.items ≡ [] }
     ensures slots { IfOk result (λ v. v.items ≡ slots_for size values.now) }
 {
-    let mut slots = Vec::new(alloc);
+    let mut slots = room;
     slots.reserve(size)?;
     for value in values {
         slots.push(Slot::Has(*value))?;
@@ -121,7 +122,8 @@ impl<V: View> Machine<V> {
         ensures refused { OnErr result (IsValued self.old self.new) }
         ensures kits { KeepsKits K.fits K.gives K.free K.total setting.entry.program.now.kinds kits.old kits.new self.old.lower self.new.lower }
     {
-        let slots = slots_with(alloc, setting.program.slots(entrance.callee), numbers)?;
+        let room = self.spares.slots(alloc);
+        let slots = slots_with(room, setting.program.slots(entrance.callee), numbers)?;
         mem::swap(&mut self.arguments, numbers);
         match self.nest_remembered(alloc, setting, entrance, slots, kits) {
             Ok(()) => Ok(()),
@@ -155,7 +157,8 @@ impl<V: View> Machine<V> {
             self.fault(entrance.statement, FaultKind::TooDeep);
             return Ok(());
         }
-        let child = Activation::new(alloc, entrance.callee, slots, Work::Block(FIRST), left - 1);
+        let places = Vec::new(alloc);
+        let child = Activation::new(entrance.callee, slots, places, Work::Block(FIRST), left - 1);
         match entrance.way {
             Way::Call => self.call_memo(alloc, setting, child, entrance, kits),
             Way::Spawn => self.push_spawned(child, entrance.work, entrance.into),

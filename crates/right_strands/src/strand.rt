@@ -96,6 +96,7 @@ impl<J: Run, V: View> RightStrand<J, V> {
 
     /// Does one small step and answers Working, or changes nothing and answers the point at which the strand is. Where memory is
     /// refused the strand has failed: nothing is claimed of it any more.
+    #[inline(always)]
     pub fn advance<K: KitSource<Kit<V>>>(
         &mut self,
         alloc: Global,

@@ -171,7 +171,7 @@ fn values_from_left_to_right(rt: HostRuntime) -> Result<(), Fail> {
 fn enters(alloc: Global, size: usize, tables: &Tables, slots: &[Slot], readings: usize) -> bool {
     let mut notes = Vec::new(alloc);
     let arguments = [Expression::Number(5), Expression::Limit(0)];
-    match entry_slots(alloc, size, &arguments, &[], tables, &mut notes) {
+    match entry_slots(Vec::new(alloc), size, &arguments, &[], tables, &mut notes) {
         Ok(found) => found.as_slice() == slots && notes.len() == readings,
         Err(_) => false,
     }

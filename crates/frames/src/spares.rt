@@ -1,0 +1,57 @@
+//! Lists that instances which are over no longer need, for those that begin: most instances then take no memory.
+ghost use Rattle.std.specs.Prelude.{◌≡◌, []};
+
+use crate::activation::Activation;
+use evaluation::slot::Slot;
+use positions::work::Position;
+use std::alloc::Global;
+
+/// Lists of slots and of places, for instances to come. What they held doesn't matter.
+#[derive(Drop)]
+pub(crate) struct Spares {
+    slots: Vec<Vec<Slot>>,
+    places: Vec<Vec<Position>>,
+}
+
+impl Spares {
+    /// None yet.
+    pub(crate) fn new(alloc: Global) -> Spares {
+        Spares {
+            slots: Vec::new(alloc),
+            places: Vec::new(alloc),
+        }
+    }
+
+    /// An empty list of slots.
+    pub(crate) fn slots(&mut self, alloc: Global) -> Vec<Slot>
+        ensures empty { result.items ≡ [] }
+    {
+        match self.slots.pop() {
+            Some(mut slots) => {
+                slots.clear();
+                slots
+            }
+            None => Vec::new(alloc),
+        }
+    }
+
+    /// An empty list of places.
+    pub(crate) fn places(&mut self, alloc: Global) -> Vec<Position>
+        ensures empty { result.items ≡ [] }
+    {
+        match self.places.pop() {
+            Some(mut places) => {
+                places.clear();
+                places
+            }
+            None => Vec::new(alloc),
+        }
+    }
+
+    /// Keeps the lists of an instance that is over. Where memory is refused for that they are let go.
+    pub(crate) fn keep(&mut self, over: Activation) {
+        let (slots, places) = over.into_lists();
+        let _ = self.slots.push(slots);
+        let _ = self.places.push(places);
+    }
+}
