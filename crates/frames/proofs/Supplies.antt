@@ -1,8 +1,9 @@
 -- Steps with a free kit and without, and the kits that they take and give back.
-use Rattle.std.proofs.Common.{◌≡◌, ℕ, Bool, true, false, List, length, Result, Ok, Err, OnOk, refl, ap, sym, ◌∙◌, ◌+◌, ◌⊎◌, inl, inr}
+use Rattle.std.proofs.Common.{◌≡◌, ℕ, suc, ◌<◌, ◌≤◌, Bool, true, false, List, [], ◌∷◌, length, Result, Ok, Err, OnOk, refl, ap, sym, ◌∙◌, ◌+◌, ◌⊎◌, inl, inr, arith}
 use Rattle.monoid_laws.specs.declared.Kind.{Kind}
 use Rattle.rerun_records.specs.Record.{PlainRecord}
-use Rattle.positions.specs.Layers.{PlainLayer}
+use Rattle.positions.specs.Layers.{PlainLayer, below_top}
+use Rattle.positions.specs.Tallies.{PlainOpened, is_own}
 use Rattle.frames.specs.Steps.{HoldsBy, IsSupplied, KeepsKits}
 
 module _ (lacks none : Type 0) where
@@ -34,3 +35,32 @@ module _ {S : Type 0} (fits gives : List Kind → S → Type 0) (free total : S 
 pub either_kept : (Now Before : Type 0) (home kinds k : List Kind) → home ≡ kinds → (Now → Before ⊎ kinds ≡ k) → Now ⊎ home ≡ k → Before ⊎ kinds ≡ k
 either_kept Now Before home kinds k e f (inl h) = f h
 either_kept Now Before home kinds k e f (inr h) = inr (sym e ∙ h)
+
+-- the layer of an open instance lies on another
+pub owned_lies : (opened : List PlainOpened) (lower : List PlainLayer) (n : ℕ) → is_own opened n ≡ true → length opened ≡ length lower → 0 < length lower
+owned_lies [] lower n h e = absurd cc
+owned_lies (o ∷ os) lower n h e = omega arith
+
+gives_or : (Now Before : Type 0) (home kinds k : List Kind) → home ≡ kinds → (Before → k ≡ kinds) → (Now → Before ⊎ home ≡ k) → Now → k ≡ kinds
+gives_or Now Before home kinds k e b f now = from (f now)
+  where
+    from : Before ⊎ home ≡ k → k ≡ kinds
+    from (inl h) = b h
+    from (inr h) = sym h ∙ e
+
+module _ {S : Type 0} (fits gives : List Kind → S → Type 0) (free total : S → ℕ) (kinds home : List Kind) (old new : S) where
+  count_home : (before : List PlainLayer) → 0 < length before → suc (length before) + free old ≤ total old → (free old < total old → free new ≡ suc (free old))
+      → length (below_top before) + free new ≡ length before + free old
+  count_home [] h room sent = absurd (omega arith)
+  count_home (l ∷ ls) h room sent = let e : free new ≡ suc (free old) = sent (omega arith) in omega arith
+
+  -- the topmost layer's kit came home
+  pub one_home : (before after : List PlainLayer) → 0 < length before → after ≡ below_top before → suc (length before) + free old ≤ total old → home ≡ kinds
+      → ((k : List Kind) → fits k old → fits k new) → ((k : List Kind) → gives k new → gives k old ⊎ home ≡ k) → (free old < total old → free new ≡ suc (free old)) → total new ≡ total old
+      → ((k : List Kind) → gives k old → k ≡ kinds) → KeepsKits fits gives free total kinds old new before after
+  one_home before after some low room e fitting kept sent all given = record {
+    count = rw low (count_home before some room sent);
+    all = all;
+    fitting = fitting;
+    given = λ k. gives_or (gives k new) (gives k old) home kinds k e (given k) (kept k);
+  }
