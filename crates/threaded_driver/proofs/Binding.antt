@@ -1,6 +1,5 @@
 -- A worker's deque is bound to the lowest instance of the strand that it goes on with.
-use Rattle.std.proofs.Common.{◌≡◌, ℕ, ◌+◌, ℤ, Bool, true, false, List, [], ◌∷◌, length, Option, Some, Result, Ok, Err, refl, sym, ap, ◌∙◌, subst, arith}
-use Rattle.std.specs.Prelude.{IfOk, OnOk}
+use Rattle.std.proofs.Common.{◌≡◌, ℕ, ◌+◌, ℤ, Bool, true, false, List, [], ◌∷◌, length, Option, Some, refl, sym, ap, ◌∙◌, subst, arith}
 use Rattle.std.proofs.lemmas.List.{length-append}
 use Rattle.positions.specs.declared.phase.Phase.{Phase}
 use Rattle.positions.specs.declared.phase.Phase.TheVariants.{Entering, Running, AtSpawn, Returning, Leaving, Broken}
@@ -55,14 +54,12 @@ returned setting kit s t is e =
 
 -- ---- a small step, by the call's contract
 
-pub stays_after : {A E : Type 0} (lacks none : Type 0) (setting : Setting) (s t : PlainStrand) (r : Result A E) → OnOk r (HoldsBy lacks none (λ kit. t ≡ advanced setting kit s)) → OnOk r (spot_of t ≡ spot_of s)
-stays_after lacks none setting s t (Ok v) h = ap spot_of h.done ∙ stays setting h.kit s
-stays_after lacks none setting s t (Err e) h = tt
+pub stays_after : (lacks none : Type 0) (setting : Setting) (s t : PlainStrand) → HoldsBy lacks none (λ kit. t ≡ advanced setting kit s) → spot_of t ≡ spot_of s
+stays_after lacks none setting s t h = ap spot_of h.done ∙ stays setting h.kit s
 
-pub returned_after : {E : Type 0} (lacks none : Type 0) (setting : Setting) (s t : PlainStrand) (r : Result Paused E) → IfOk r (λ p. p ≡ pause_of setting.codes s) → OnOk r (HoldsBy lacks none (λ kit. t ≡ advanced setting kit s))
-    → IfOk r (λ p. p ≡ paused.Returned → HasReturned t)
-returned_after lacks none setting s t (Ok p) e h = λ q. returned setting h.kit s t h.done (sym e ∙ q)
-returned_after lacks none setting s t (Err x) e h = tt
+pub returned_after : (lacks none : Type 0) (setting : Setting) (s t : PlainStrand) (p : Paused) → p ≡ pause_of setting.codes s → HoldsBy lacks none (λ kit. t ≡ advanced setting kit s)
+    → p ≡ paused.Returned → HasReturned t
+returned_after lacks none setting s t p e h q = returned setting h.kit s t h.done (sym e ∙ q)
 
 -- ---- on with the continuation
 

@@ -29,6 +29,9 @@ use std::sync::{Mutex, Wait};
 use stealing_deques::{Deques, NewDeque, all_ends};
 use view_pool::{Kit, View};
 
+/// How many small steps a worker does before it looks whether the run has given up.
+const STEPS: usize = 4096;
+
 /// What the workers of a run share. The run began with so many kits. That it gave up stands beside the lock too, where workers look
 /// that go on without it: they stop earlier then, and nothing else rests on it.
 #[derive(Drop)]
@@ -137,7 +140,7 @@ impl<J: Run + Ledger + Stocked + Send, D: Deques, V: View> Floor<'_, J, D, V> {
         self.lay(rt, number, seat, strand, gate);
     }
 
-    /// One small step, or what there is to do where a strand pauses. Whether the strand goes on.
+    /// Small steps, and what there is to do where the strand pauses. Whether the strand goes on.
     fn step<R: Wait, G: Gate>(
         &self,
         rt: &R,
@@ -150,14 +153,15 @@ impl<J: Run + Ledger + Stocked + Send, D: Deques, V: View> Floor<'_, J, D, V> {
         ensures bound { result ≡ true → IsBoundTo seat.new.here (spot_of strand.new.strand) }
     {
         match self.advance(rt, number, strand, gate) {
-            Ok(Paused::Working) => true,
+            Ok(Paused::Working) => !self.has_given_up(),
             Ok(Paused::AtSpawn) => self.spawn(number, seat, strand, gate),
             Ok(Paused::Returned) => self.resume(rt, number, seat, strand, gate),
             _ => false,
         }
     }
 
-    /// One small step, which leaves the strand's lowest instance as it is. Want of memory is the only error.
+    /// Small steps until the strand pauses, or as many as are done in one go, which leave its lowest instance as it is. Want of memory
+    /// is the only error.
     fn advance<R: Wait, G: Gate>(
         &self,
         rt: &R,
@@ -173,15 +177,22 @@ impl<J: Run + Ledger + Stocked + Send, D: Deques, V: View> Floor<'_, J, D, V> {
         if held > self.kits {
             return Err(AllocError);
         }
-        if strand.at_update(&self.scene) {
-            gate.at(number, Point::Update);
-        }
+        let is_watched = gate.watches_updates();
         let mut supply = Supply::new(rt, &self.desk, self.kits, held);
-        strand.advance(self.alloc, &self.scene, &mut supply)
+        for _ in 0..STEPS {
+            if is_watched && strand.at_update(&self.scene) {
+                gate.at(number, Point::Update);
+            }
+            match strand.advance(self.alloc, &self.scene, &mut supply)? {
+                Paused::Working => {}
+                paused => return Ok(paused),
+            }
+        }
+        Ok(Paused::Working)
     }
 
     /// At a spawn: puts the continuation off and goes on with the child, or makes the child a call where there is no room for
-    /// that. Whether the strand goes on.
+    /// that. Whether the strand goes on: not where the run has given up.
     fn spawn<G: Gate>(
         &self,
         number: usize,
@@ -192,7 +203,7 @@ impl<J: Run + Ledger + Stocked + Send, D: Deques, V: View> Floor<'_, J, D, V> {
         requires bound { IsBoundTo seat.old.here (spot_of strand.old.strand) }
         ensures bound { IsBoundTo seat.new.here (spot_of strand.new.strand) }
     {
-        if strand.has_failed() {
+        if strand.has_failed() || self.has_given_up() {
             return false;
         }
         match strand.phase() {
@@ -240,7 +251,7 @@ impl<J: Run + Ledger + Stocked + Send, D: Deques, V: View> Floor<'_, J, D, V> {
         requires bound { IsBoundTo seat.old.here (spot_of strand.old.strand) }
         ensures bound { result ≡ true → IsBoundTo seat.new.here (spot_of strand.new.strand) }
     {
-        if self.gave_up.load(Ordering::Relaxed) {
+        if self.has_given_up() {
             return false;
         }
         match self.take(rt, seat) {
@@ -319,6 +330,11 @@ impl<J: Run + Ledger + Stocked + Send, D: Deques, V: View> Floor<'_, J, D, V> {
     {
         self.desk.lock(rt).fail(failure);
         self.note(true);
+    }
+
+    /// Whether it was noted beside the lock that the run has given up.
+    fn has_given_up(&self) -> bool {
+        self.gave_up.load(Ordering::Relaxed)
     }
 
     /// Notes beside the lock whether the run has given up.

@@ -15,6 +15,11 @@ pub enum Point {
 pub trait Gate: Sync {
     /// The worker of that number has come to that point.
     fn at(&self, worker: usize, point: Point);
+
+    /// Whether it is told of updates; where it isn't, no worker looks for them.
+    fn watches_updates(&self) -> bool {
+        true
+    }
 }
 
 /// Nobody watches.
@@ -22,4 +27,8 @@ pub struct NoGate;
 
 impl Gate for NoGate {
     fn at(&self, _worker: usize, _point: Point) {}
+
+    fn watches_updates(&self) -> bool {
+        false
+    }
 }

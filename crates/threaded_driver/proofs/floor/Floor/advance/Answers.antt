@@ -1,9 +1,17 @@
+use Rattle.std.proofs.Common.{◌≡◌, ◌+◌, ◌≤◌, suc, length, ◌∙◌, arith}
 use Rattle.threaded_driver.proofs.Binding.{stays_after, returned_after}
 use Rattle.threaded_driver.proofs.floor.Floor.advance.Goals as goal
 
-pub returns-clause-spot : goal.returns-clause-spot
-returns-clause-spot g c = stays_after _ _ g.J.Run.setting c.args.strand.now.strand c.advance.new.self.strand c.advance.result c.advance.ensures.advanced
+pub loop-preserved : goal.loop-preserved
+loop-preserved g c =
+    let stays = stays_after _ _ g.J.Run.setting c.loop.strand.strand c.advance.new.self.strand c.in_ok-paused.ensures.advanced in
+    let room : suc (length c.loop.strand.strand.lower) + c.loop.supply.free ≤ c.loop.supply.total = c.loop.invariant.1 in
+    let kits : length c.advance.new.self.strand.lower + c.advance.new.kits.free ≡ length c.loop.strand.strand.lower + c.loop.supply.free = c.in_ok-paused.ensures.kits in
+    let total : c.advance.new.kits.total ≡ c.loop.supply.total = c.in_ok-paused.ensures.total in
+    (stays ∙ c.loop.invariant.0, omega arith)
 
-pub returns-clause-returned : goal.returns-clause-returned
-returns-clause-returned g c =
-    returned_after _ _ g.J.Run.setting c.args.strand.now.strand c.advance.new.self.strand c.advance.result c.advance.ensures.pause c.advance.ensures.advanced
+pub returns-in_default : goal.returns-in_default
+returns-in_default g c = record {
+  spot = stays_after _ _ g.J.Run.setting c.loop.strand.strand c.advance.new.self.strand c.in_ok-paused.ensures.advanced ∙ c.loop.invariant.0;
+  returned = returned_after _ _ g.J.Run.setting c.loop.strand.strand c.advance.new.self.strand c.in_ok-paused.paused c.in_ok-paused.ensures.pause c.in_ok-paused.ensures.advanced;
+}
