@@ -22,7 +22,7 @@ module _ (eq : Note → Note → Bool) (same : (a b : Note) → eq a b ≡ same_
   put_as_key seen n = put_by (list_any (eq n) seen) seen (seen ++ n ∷ []) ∙ ap (λ b. cond b seen (seen ++ n ∷ [])) (any_same n seen)
 
 -- readings are compared part by part
-derived_same : (a b : Note) → (notes.ghosts).eq a b ≡ same_note a b
+pub derived_same : (a b : Note) → (notes.ghosts).eq a b ≡ same_note a b
 derived_same (n.Cell t row c v) (n.Cell u s d w) = refl
 derived_same (n.Cell t row c v) (n.Has u s d) = refl
 derived_same (n.Cell t row c v) (n.Limit u w) = refl

@@ -147,6 +147,7 @@ impl<V: View> Machine<V> {
     }
 
     /// What the phase says.
+    #[inline(always)]
     fn go_on<K: KitSource<Kit<V>>>(
         &mut self,
         alloc: Global,

@@ -1,10 +1,12 @@
 //! What is kept of a memo instance whose layer is open, and what a record keeps of the layer once it is over.
 ghost use Rattle.std.specs.Prelude.{◌≡◌, ◌<◌, ◌++◌, IfOk, OnOk, length, map, slice_get};
+ghost use Rattle.std.specs.List.{list_any};
 ghost use Rattle.monoid_laws.specs.Worth.{Worth};
 ghost use Rattle.monoid_laws.specs.Kinds.{meaning};
 ghost use Rattle.hypermaps.specs.Layer.{IsAt};
 ghost use Rattle.rerun_records.specs.Record.{touched, note_of};
 ghost use Rattle.rerun_records.specs.Named.{AreValuesFrom};
+ghost use Rattle.positions.specs.Values.{same_note};
 ghost use Rattle.positions.specs.Tallies.{touched_from, once, put_note, entries_from};
 ghost use Rattle.frames.specs.Recordings.{recording_of, recorded, touched_at, entry_of};
 
@@ -118,6 +120,9 @@ impl Recording {
     }
 }
 
+/// How many readings are few enough to look through them for each, which is quicker than a hash.
+const FEW: usize = 16;
+
 impl<V: View> Layer<V> {
     /// What a record keeps of the layer. It is refused for want of memory, or where a number is past what its form holds.
     pub(crate) fn recording(
@@ -200,8 +205,57 @@ fn push_value(
 fn distinct_readings(alloc: Global, notes: &[Note]) -> Result<Vec<Reading>, AllocError>
     ensures once { IfOk result (λ rs. map note_of rs.items ≡ once notes.now) }
 {
-    let seen = distinct(alloc, notes)?;
-    readings(alloc, seen.as_slice())
+    if notes.len() <= FEW {
+        let seen = distinct_of_few(alloc, notes)?;
+        readings(alloc, &seen)
+    } else {
+        let seen = distinct(alloc, notes)?;
+        readings(alloc, seen.as_slice())
+    }
+}
+
+/// The notes, each once; by looking through those before it.
+fn distinct_of_few(alloc: Global, notes: &[Note]) -> Result<Vec<Note>, AllocError>
+    ensures once { IfOk result (λ seen. seen.items ≡ once notes.now) }
+{
+    let mut seen = Vec::new(alloc);
+    for note in notes {
+        mark_few(&mut seen, note)?;
+    }
+    Ok(seen)
+}
+
+/// Puts in a note, unless it is there.
+fn mark_few(seen: &mut Vec<Note>, note: &Note) -> Result<(), AllocError>
+    ensures put { OnOk result (seen.new.items ≡ put_note seen.old.items note.now) }
+{
+    if is_among(seen, note) {
+        return Ok(());
+    }
+    match seen.push(*note) {
+        Ok(()) => Ok(()),
+        Err(_) => Err(AllocError),
+    }
+}
+
+/// Whether a note is among those.
+fn is_among(seen: &[Note], note: &Note) -> bool
+    ensures among { result ≡ list_any (same_note note.now) seen.now }
+{
+    for other in seen {
+        if is_same(note, other) {
+            return true;
+        }
+    }
+    false
+}
+
+/// Whether two notes are the same.
+#[tactic(auto, using(crate::proofs::Marks::derived_same))]
+fn is_same(left: &Note, right: &Note) -> bool
+    ensures same { result ≡ same_note left.now right.now }
+{
+    left == right
 }
 
 /// The notes, each once.

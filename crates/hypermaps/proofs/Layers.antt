@@ -7,7 +7,7 @@ use Rattle.std.proofs.Math.Seq.{map-set_same}
 use Rattle.std.proofs.lemmas.List.{map-set, get_or-map, get_or-set_other}
 use Rattle.std.proofs.lemmas.List.Elements.{All-head, All-tail, All-push, All-nil, All-get_or}
 use Rattle.std.proofs.lemmas.Grind.{common_steps}
-use Rattle.indexmap.specs.IndexSet.{insert_key}
+use Rattle.hypermaps.specs.Layer.{used_also}
 use Rattle.monoid_laws.specs.Worth.{Worth}
 use Rattle.monoid_laws.specs.Kinds.{operate, operate_all, IsMonoid, identity_of, identities, AreWorths, IsWorth}
 use Rattle.monoid_laws.specs.declared.Kind.{Kind}
@@ -51,7 +51,7 @@ below_insert true n i used h a = a
 below_insert false n i used h a = All-push (λ k. k < n) used i a h
 
 pub IsLayer-update : (cs : List Kind) (ws : List Worth) (used : List ℕ) (i : ℕ) (c : Kind) (w : Worth) → IsLayer cs ws used
-    → i < length cs → c ≡ get_or cs i c → IsWorth c w → IsLayer cs (set ws i w) (insert_key nat_eq used i)
+    → i < length cs → c ≡ get_or cs i c → IsWorth c w → IsLayer cs (set ws i w) (used_also used i)
 IsLayer-update cs ws used i c w l h e f = record {
   right = AreWorths-set cs ws i c w l.right e f;
   shut = λ j d x g p q n. (let k : (list_any (nat_eq j) used ≡ false) × (j ≢ i) = insert_cases (list_any (nat_eq i) used) j i used refl n in
@@ -79,7 +79,7 @@ module _ {X : Type 0} (kind : X → Kind) (worth : X → Worth) (xs : List X) (i
   worths_kept e = map-set_same worth xs i new old (e ∙ ap worth is)
 
   pub IsLayer-written : (used : List ℕ) → IsLayer (map kind xs) (map worth xs) used → IsWorth (kind old) (worth new)
-      → IsLayer (map kind (set xs i new)) (map worth (set xs i new)) (insert_key nat_eq used i)
+      → IsLayer (map kind (set xs i new)) (map worth (set xs i new)) (used_also used i)
   IsLayer-written used l r =
       rw (kinds_written, map-set worth xs i new)
       (IsLayer-update (map kind xs) (map worth xs) used i (kind old) (worth new) l (let e : length (map kind xs) ≡ length xs = length-map xs kind in omega arith)
@@ -159,7 +159,7 @@ module _ {X : Type 0} (kind : X → Kind) (worth : X → Worth) (ls rs : List X)
     left_old : IsWorth (kind lo) (worth lo)
     left_old = IsWorth-old kind worth ls i lo ln within_left is_l left_kind used layer
 
-    pub fold-left_layer : IsLayer (map kind (set ls i ln)) (map worth (set ls i ln)) (insert_key nat_eq used i)
+    pub fold-left_layer : IsLayer (map kind (set ls i ln)) (map worth (set ls i ln)) (used_also used i)
     fold-left_layer =
         IsLayer-written kind worth ls i lo ln within_left is_l left_kind used layer
         (IsWorth-combined r (kind lo) (worth lo) (worth ln) (worth ro) moved (OnOk-always r (IsWorth (kind lo) (worth ro)) (subst (λ c. IsWorth c (worth ro)) (sym fold-same_kind) fold-right_value)) left_kept left_old)

@@ -1,5 +1,5 @@
 -- What a hypermap is worth, reducer by reducer.
-use Rattle.std.specs.Prelude.{◌≡◌, ℕ, zero, suc, [], ◌∷◌, ◌<◌, List, length, false, nat_eq, All, slice_index_or}
+use Rattle.std.specs.Prelude.{◌≡◌, ℕ, zero, suc, [], ◌∷◌, ◌++◌, ◌<◌, List, length, false, nat_eq, All, slice_index_or, if◌then◌else◌}
 use Rattle.std.specs.List.{list_any}
 use Rattle.monoid_laws.specs.Worth.{Worth}
 use Rattle.monoid_laws.specs.Kinds.{operate, identity_of, AreWorths}
@@ -12,6 +12,10 @@ pub record Layer : Type 0 where
 -- c is the i-th kind, and w the i-th value
 abbrev pub IsAt : {X : Type 0} → List X → ℕ → X → Type 0
 IsAt xs i x = x ≡ slice_index_or xs i x
+
+-- the reducers in use, with that one
+abbrev pub used_also : List ℕ → ℕ → List ℕ
+used_also used r = if list_any (nat_eq r) used then used else used ++ r ∷ []
 
 -- the values are their kinds', and the reducers that are not in use stand at their identity
 pub record IsLayer (cs : List Kind) (ws : List Worth) (used : List ℕ) : Type 0 where

@@ -1,16 +1,14 @@
 //! Reducers to views, each opened at its first use.
 #![tactic(auto)]
 
-ghost use Rattle.std.specs.Prelude.{◌≡◌, ℕ, ◌≤◌, ◌<◌, ◌+◌, OnOk, OnErr, IfOk, IfErr, IsOk, IsSome, IsTrue, IsNone, IfSome, length, List, map, All, ◌++◌, ◌∷◌, [], slice_index_or, slice_set, ◌↔◌, Bool, false, true, vec_len, nat_eq, ◌⊎◌};
+ghost use Rattle.std.specs.Prelude.{◌≡◌, ℕ, ◌≤◌, ◌<◌, ◌+◌, OnOk, OnErr, IfOk, IfErr, IsOk, IsSome, IsTrue, IsNone, IfSome, length, List, map, All, ◌++◌, ◌∷◌, [], slice_index_or, slice_set, ◌↔◌, Bool, false, true, not, vec_len, nat_eq, ◌⊎◌};
 ghost use Rattle.std.specs.List.{list_any};
-ghost use Rattle.indexmap.specs.IndexSet.{insert_key};
 ghost use Rattle.monoid_laws.specs.Worth.{Worth};
 ghost use Rattle.monoid_laws.specs.declared.Kind.{Kind};
 ghost use Rattle.monoid_laws.specs.Kinds.{operate, identity_of, identities, meaning, element_of, IsWorth, AreWorths, arity, names_element, refusal, operate_all, IsMonoid};
 ghost use Rattle.monoid_laws.specs.declared.InjectError.TheVariants.{NoMemory};
-ghost use Rattle.hypermaps.specs.Layer.{Layer, IsLayer, IsAt, operate_first};
+ghost use Rattle.hypermaps.specs.Layer.{Layer, IsLayer, IsAt, operate_first, used_also};
 
-use indexmap::IndexSet;
 use monoid_laws::{InjectError, Val};
 use reducer_values::copy_of;
 use std::alloc::{AllocError, Global};
@@ -22,7 +20,7 @@ use view_pool::{Kit, View};
 #[derive(Drop)]
 pub struct Hypermap<V: View = Box<dyn View>> {
     views: Vec<V>,
-    used: IndexSet<usize>,
+    used: Vec<usize>,
 }
 
 impl<V: View> Model for Hypermap<V> {
@@ -30,27 +28,42 @@ impl<V: View> Model for Hypermap<V> {
 
     ghost view = { λ s. record { kinds = map V.kind_of s.views.items; worths = map V.worth_of s.views.items } };
 
-    ghost invariant = { λ s. IsLayer (map V.kind_of s.views.items) (map V.worth_of s.views.items) s.used.keys };
+    ghost invariant = { λ s. IsLayer (map V.kind_of s.views.items) (map V.worth_of s.views.items) s.used.items };
 }
 
 /// Whether a reducer was used. The used ones are so few that looking through them is quicker than a hash.
 #[tactic(auto, using(crate::proofs::Layers::any_swap))]
-fn is_used(used: &IndexSet<usize>, reducer: usize) -> bool
-    ensures used { result ≡ list_any (nat_eq reducer) used.now.keys }
+fn is_used(used: &[usize], reducer: usize) -> bool
+    ensures used { result ≡ list_any (nat_eq reducer) used.now }
 {
-    used.as_slice().contains(&reducer)
+    used.contains(&reducer)
 }
 
 /// Notes that a reducer is used.
-fn note_use(used: &mut IndexSet<usize>, reducer: usize) -> Result<(), AllocError>
-    ensures keys { OnOk result (used.new.keys ≡ insert_key nat_eq used.old.keys reducer) }
-    ensures same { OnErr result (used.new.keys ≡ used.old.keys) }
+fn note_use(used: &mut Vec<usize>, reducer: usize) -> Result<(), AllocError>
+    ensures keys { OnOk result (used.new.items ≡ used_also used.old.items reducer) }
+    ensures same { OnErr result (used.new.items ≡ used.old.items) }
 {
     if is_used(used, reducer) {
         return Ok(());
     }
-    match used.insert(reducer) {
-        Ok(_) => Ok(()),
+    match used.push(reducer) {
+        Ok(()) => Ok(()),
+        Err(_) => Err(AllocError),
+    }
+}
+
+/// Notes that a reducer is used; whether it wasn't before.
+fn note_first(used: &mut Vec<usize>, reducer: usize) -> Result<bool, AllocError>
+    ensures keys { OnOk result (used.new.items ≡ used_also used.old.items reducer) }
+    ensures added { IfOk result (λ fresh. fresh ≡ not (list_any (nat_eq reducer) used.old.items)) }
+    ensures same { OnErr result (used.new.items ≡ used.old.items) }
+{
+    if is_used(used, reducer) {
+        return Ok(false);
+    }
+    match used.push(reducer) {
+        Ok(()) => Ok(true),
         Err(_) => Err(AllocError),
     }
 }
@@ -85,23 +98,23 @@ fn move_one<V: View>(left: &mut V, right: &mut V, fresh: bool) -> Result<(), All
 /// Moves what reducer `r` is worth on the right to the left.
 fn fold_at<V: View>(
     left: &mut Vec<V>,
-    left_used: &mut IndexSet<usize>,
+    left_used: &mut Vec<usize>,
     right: &mut Vec<V>,
     r: usize,
 ) -> Result<(), AllocError>
     requires reducer_is { r < length right.old.items }
     requires kinds { map V.kind_of left.old.items ≡ map V.kind_of right.old.items }
-    requires left_layer { IsLayer (map V.kind_of left.old.items) (map V.worth_of left.old.items) left_used.old.keys }
+    requires left_layer { IsLayer (map V.kind_of left.old.items) (map V.worth_of left.old.items) left_used.old.items }
     requires right_values { AreWorths (map V.kind_of right.old.items) (map V.worth_of right.old.items) }
     requires monoids { All IsMonoid (map V.kind_of left.old.items) }
     ensures left_kinds { map V.kind_of left.new.items ≡ map V.kind_of left.old.items }
     ensures right_kinds { map V.kind_of right.new.items ≡ map V.kind_of right.old.items }
-    ensures left_layer { IsLayer (map V.kind_of left.new.items) (map V.worth_of left.new.items) left_used.new.keys }
+    ensures left_layer { IsLayer (map V.kind_of left.new.items) (map V.worth_of left.new.items) left_used.new.items }
     ensures product { operate_all (map V.kind_of left.new.items) (map V.worth_of left.new.items) (map V.worth_of right.new.items) ≡ operate_all (map V.kind_of left.old.items) (map V.worth_of left.old.items) (map V.worth_of right.old.items) }
     ensures moved { (c : Kind) → IsAt (map V.kind_of right.old.items) r c → OnOk result (map V.worth_of right.new.items ≡ slice_set (map V.worth_of right.old.items) r (identity_of c)) }
     ensures kept { OnErr result (map V.worth_of right.new.items ≡ map V.worth_of right.old.items) }
 {
-    let Ok(fresh) = left_used.insert(r) else {
+    let Ok(fresh) = note_first(left_used, r) else {
         return Err(AllocError);
     };
     let l = &mut left[r];
@@ -112,15 +125,15 @@ fn fold_at<V: View>(
 /// Combines a value on the right of what reducer `r` is worth, or hands it back.
 fn absorb_at<V: View>(
     views: &mut Vec<V>,
-    used: &mut IndexSet<usize>,
+    used: &mut Vec<usize>,
     r: usize,
     value: Val,
 ) -> Result<(), Val>
     requires reducer_is { r < length views.old.items }
-    requires layer { IsLayer (map V.kind_of views.old.items) (map V.worth_of views.old.items) used.old.keys }
+    requires layer { IsLayer (map V.kind_of views.old.items) (map V.worth_of views.old.items) used.old.items }
     requires of_kind { (c : Kind) → IsAt (map V.kind_of views.old.items) r c → IsWorth c (meaning value) }
     ensures kinds { map V.kind_of views.new.items ≡ map V.kind_of views.old.items }
-    ensures layer { IsLayer (map V.kind_of views.new.items) (map V.worth_of views.new.items) used.new.keys }
+    ensures layer { IsLayer (map V.kind_of views.new.items) (map V.worth_of views.new.items) used.new.items }
     ensures absorbed { (c : Kind) (x : Worth) → IsAt (map V.kind_of views.old.items) r c → IsAt (map V.worth_of views.old.items) r x → OnOk result (map V.worth_of views.new.items ≡ slice_set (map V.worth_of views.old.items) r (operate c x (meaning value))) }
     ensures refused { OnErr result (map V.worth_of views.new.items ≡ map V.worth_of views.old.items) }
 {
@@ -139,7 +152,7 @@ impl<V: View> Hypermap<V> {
         let views = kit.into_views();
         Hypermap {
             views,
-            used: IndexSet::new(alloc),
+            used: Vec::new(alloc),
         }
     }
 
@@ -221,7 +234,7 @@ impl<V: View> Hypermap<V> {
         ensures unused { IfOk result (λ v. IsNone v → (c : Kind) (w : Worth)
             → IsAt self.now.kinds reducer c → IsAt self.now.worths reducer w → w ≡ identity_of c) }
     {
-        if !self.used.contains(&reducer) {
+        if !is_used(&self.used, reducer) {
             return Ok(None);
         }
         Ok(Some(self.views[reducer].export()?))
@@ -264,7 +277,7 @@ impl<V: View> Hypermap<V> {
     {
         while let Some(r) = right.used.first().copied() {
             fold_at(&mut self.views, &mut self.used, &mut right.views, r)?;
-            right.used.shift_remove_index(0);
+            right.used.remove(0);
         }
         Ok(())
     }

@@ -1,7 +1,7 @@
 use Rattle.std.proofs.Common.{◌≡◌, sym, ◌∙◌, ap, map, set}
 use Rattle.std.proofs.lemmas.List.{map-set}
 use Rattle.monoid_laws.specs.Kinds.{operate, meaning, IsWorth}
-use Rattle.indexmap.specs.IndexSet.{insert_key}
+use Rattle.hypermaps.specs.Layer.{used_also}
 use Rattle.std.specs.Prelude.{nat_eq}
 use Rattle.hypermaps.proofs.Layers.{IsLayer-written, IsWorth-old, IsWorth-combined, kinds_written, worths_kept, OnErr-kept, OnOk-kept, OnOk-always, at_map, is_at_map, was_ok}
 use Rattle.hypermaps.proofs.absorb_at.Goals as goal
@@ -20,9 +20,9 @@ returns-clause-layer g c =
     c.requires.of_kind (kind old) (is_at_map kind c.args.views.now.items c.args.r old c.requires.reducer_is c.index_mut-view.ensures.value) in
     let right : IsWorth (g.V.View.kind_of c.index_mut-view.result.now) (g.V.View.worth_of c.absorb.new.self) =
     IsWorth-combined c.absorb.result _ _ _ _ c.absorb.ensures.done (OnOk-always c.absorb.result _ given) c.absorb.ensures.refused
-    (IsWorth-old kind worth c.args.views.now.items c.args.r old new c.requires.reducer_is c.index_mut-view.ensures.value c.absorb.ensures.same_kind c.args.used.now.keys c.requires.layer) in
-    rw (was_ok c.note_use.result (c.note_use.new.used.keys ≡ insert_key nat_eq c.args.used.now.keys c.args.r) (sym (c.is_err.ensures.value) ∙ c.if-is_err.false) c.note_use.ensures.keys)
-    (IsLayer-written kind worth c.args.views.now.items c.args.r old new c.requires.reducer_is c.index_mut-view.ensures.value c.absorb.ensures.same_kind c.args.used.now.keys c.requires.layer right)
+    (IsWorth-old kind worth c.args.views.now.items c.args.r old new c.requires.reducer_is c.index_mut-view.ensures.value c.absorb.ensures.same_kind c.args.used.now.items c.requires.layer) in
+    rw (was_ok c.note_use.result (c.note_use.new.used.items ≡ used_also c.args.used.now.items c.args.r) (sym (c.is_err.ensures.value) ∙ c.if-is_err.false) c.note_use.ensures.keys)
+    (IsLayer-written kind worth c.args.views.now.items c.args.r old new c.requires.reducer_is c.index_mut-view.ensures.value c.absorb.ensures.same_kind c.args.used.now.items c.requires.layer right)
 
 pub returns-clause-absorbed : goal.returns-clause-absorbed
 returns-clause-absorbed g c = λ k x p q.

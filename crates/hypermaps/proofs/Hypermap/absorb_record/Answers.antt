@@ -1,4 +1,4 @@
-use Rattle.std.proofs.Common.{◌≡◌, ◌<◌, ◌+◌, ◌≤◌, sym, ◌∙◌, ap, subst, map, length, arith, set, get_or, List, add-one}
+use Rattle.std.proofs.Common.{OnErr, Result, Ok, Err, ℕ, ◌≡◌, ◌<◌, ◌+◌, ◌≤◌, sym, ◌∙◌, ap, subst, map, length, arith, set, get_or, List, add-one}
 use Rattle.std.proofs.Math.ListN.{length-map}
 use Rattle.monoid_laws.specs.Worth.{Worth}
 use Rattle.monoid_laws.specs.declared.Kind.{Kind}
@@ -68,3 +68,10 @@ returns-clause-absorbed g c =
     let n : length (map meaning c.args.values.now) ≡ length c.args.values.now = length-map c.args.values.now meaning in
     let t : length c.args.values.now ≤ c.loop-i.i = c.loop-i-test.false in
     c.loop-i.invariant.so_far ∙ first_all c.loop-i.i c.args.self.now.kinds c.args.self.now.worths (map meaning c.args.values.now) a c.requires.of_kinds (omega arith)
+
+refused_by : {A E P : Type 0} (r : Result A E) → P → OnErr r P
+refused_by (Ok a) p = tt
+refused_by (Err e) p = p
+
+pub returns-in_err-copy-clause-partly : goal.returns-in_err-copy-clause-partly
+returns-in_err-copy-clause-partly g c = refused_by c.from_residual.result (c.loop-i.i, c.loop-i.invariant.so_far)

@@ -1,4 +1,4 @@
-use Rattle.std.proofs.Common.{◌≡◌, sym, ◌∙◌, ap, subst, map, get_or, List}
+use Rattle.std.proofs.Common.{rules, ◌≡◌, sym, ◌∙◌, ap, subst, map, get_or, List}
 use Rattle.std.specs.Prelude.{Some, None, refl}
 use Rattle.std.specs.List.{slice_get}
 use Rattle.monoid_laws.specs.Worth.{Worth}
@@ -13,21 +13,21 @@ pub loop-r-preserved : goal.loop-r-preserved
 loop-r-preserved g c =
     let ks : List Kind = map g.V.View.kind_of c.loop-r.right-inside.views.items in
     let ws : List Worth = map g.V.View.worth_of c.loop-r.right-inside.views.items in
-    let used = c.loop-r.right-inside.used.keys in
-    let e : slice_get c.loop-r.right-inside.used.keys 0 ≡ Some c.in-Some.r = cc (c.first.ensures.key, c.copied.ensures, c.in-Some.is) in
+    let used = c.loop-r.right-inside.used.items in
+    let e : slice_get c.loop-r.right-inside.used.items 0 ≡ Some c.in-Some.r = search rules in
     let k : (x : Kind) × (x ≡ get_or ks c.in-Some.r x) = exists_at ks c.in-Some.r (first_within ks ws used c.in-Some.r c.loop-r.invariant.right_layer e) in
     record {
       left_kinds = c.in_ok-fold_at.ensures.left_kinds ∙ c.loop-r.invariant.left_kinds;
       right_kinds = c.in_ok-fold_at.ensures.right_kinds ∙ c.loop-r.invariant.right_kinds;
       left_layer = c.in_ok-fold_at.ensures.left_layer;
-      right_layer = rw (c.shift_remove_index.ensures.keys, c.in_ok-fold_at.ensures.right_kinds, c.in_ok-fold_at.ensures.moved (k.0) (k.1))
+      right_layer = rw (c.remove.ensures.items, c.in_ok-fold_at.ensures.right_kinds, c.in_ok-fold_at.ensures.moved (k.0) (k.1))
           (IsLayer-emptied ks ws used c.in-Some.r (k.0) c.loop-r.invariant.right_layer e (k.1));
       product = rw (← c.loop-r.invariant.product, ← c.loop-r.invariant.left_kinds, ← c.in_ok-fold_at.ensures.product, c.in_ok-fold_at.ensures.left_kinds) refl;
     }
 
 pub returns-clause-emptied : goal.returns-clause-emptied
 returns-clause-emptied g c =
-    let e : slice_get c.loop-r.right-inside.used.keys 0 ≡ None = cc (c.first.ensures.key, c.copied.ensures, c.in_default.is) in
+    let e : slice_get c.loop-r.right-inside.used.items 0 ≡ None = search rules in
     IsLayer-none _ _ (subst (IsLayer _ _) (none_used _ e) c.loop-r.invariant.right_layer) ∙ ap identities (c.loop-r.invariant.right_kinds ∙ sym c.requires.kinds)
 
 pub returns-clause-folded : goal.returns-clause-folded

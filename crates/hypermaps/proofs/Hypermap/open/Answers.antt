@@ -5,7 +5,7 @@ use Rattle.hypermaps.proofs.Hypermap.open.Goals as goal
 
 pub invariant_of-result : goal.invariant_of-result
 invariant_of-result g c =
-    rw (worths_at_identity g.V.View.kind_of g.V.View.worth_of c.into_views-views.result.items c.into_views-views.ensures.at_identity, c.new.ensures.empty)
+    rw (worths_at_identity g.V.View.kind_of g.V.View.worth_of c.into_views-views.result.items c.into_views-views.ensures.at_identity, c.new.ensures.items)
     (IsLayer-open (map g.V.View.kind_of c.into_views-views.result.items))
 
 pub returns : goal.returns

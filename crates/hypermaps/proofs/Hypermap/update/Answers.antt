@@ -2,7 +2,7 @@ use Rattle.std.proofs.Common.{inr, ◌≡◌, ◌<◌, sym, ◌∙◌, ap, subst
 use Rattle.std.proofs.Math.ListN.{length-map}
 use Rattle.std.proofs.lemmas.List.{map-set}
 use Rattle.monoid_laws.specs.Kinds.{operate, element_of, names_element, refusal, IsWorth}
-use Rattle.indexmap.specs.IndexSet.{insert_key}
+use Rattle.hypermaps.specs.Layer.{used_also}
 use Rattle.std.specs.Prelude.{nat_eq}
 use Rattle.hypermaps.specs.Layer.{Layer}
 use Rattle.hypermaps.proofs.Layers.{IsLayer-written, IsWorth-old, IsWorth-combined, kinds_written, worths_kept, OnErr-kept, OnOk-kept, IfErr-kept, at_map, was_ok}
@@ -25,9 +25,9 @@ invariant_of-self-2 g c =
     let new = c.update.new.self in
     let right : IsWorth (g.V.View.kind_of c.index_mut-view.result.now) (g.V.View.worth_of c.update.new.self) =
     IsWorth-combined c.update.result _ _ _ _ c.update.ensures.done c.update.ensures.element c.update.ensures.refused
-    (IsWorth-old g.V.View.kind_of g.V.View.worth_of c.self.inside.views.items c.args.reducer old new h c.index_mut-view.ensures.value c.update.ensures.same_kind c.self.inside.used.keys c.self.invariant) in
-    rw (was_ok c.note_use.result (c.note_use.new.used.keys ≡ insert_key nat_eq c.self.inside.used.keys c.args.reducer) (sym (c.is_err.ensures.value) ∙ c.if-is_err.false) c.note_use.ensures.keys)
-    (IsLayer-written g.V.View.kind_of g.V.View.worth_of c.self.inside.views.items c.args.reducer old new h c.index_mut-view.ensures.value c.update.ensures.same_kind c.self.inside.used.keys c.self.invariant right)
+    (IsWorth-old g.V.View.kind_of g.V.View.worth_of c.self.inside.views.items c.args.reducer old new h c.index_mut-view.ensures.value c.update.ensures.same_kind c.self.inside.used.items c.self.invariant) in
+    rw (was_ok c.note_use.result (c.note_use.new.used.items ≡ used_also c.self.inside.used.items c.args.reducer) (sym (c.is_err.ensures.value) ∙ c.if-is_err.false) c.note_use.ensures.keys)
+    (IsLayer-written g.V.View.kind_of g.V.View.worth_of c.self.inside.views.items c.args.reducer old new h c.index_mut-view.ensures.value c.update.ensures.same_kind c.self.inside.used.items c.self.invariant right)
 
 pub returns-clause-kinds : goal.returns-clause-kinds
 returns-clause-kinds g c =
