@@ -1,4 +1,5 @@
 pub mod Binding
+pub mod Crosses
 pub mod Names
 pub mod Settling
 pub mod Staying

@@ -1,16 +1,17 @@
 //! What stands under the one lock.
-ghost use Rattle.std.specs.Prelude.{◌≡◌, ◌<◌, ◌==◌, ◌||◌, true, false, None, IfSome, IfOk, IfErr};
+ghost use Rattle.std.specs.Prelude.{◌≡◌, ◌<◌, ◌==◌, ◌||◌, true, false, None, All, length, IfSome, IfOk, IfErr};
 ghost use Rattle.sync_fold.specs.Books.{is_ended};
 ghost use Rattle.threaded_driver.specs.Come.{HasEnded};
 ghost use Rattle.threaded_driver.specs.Ends.{IsEnd};
 ghost use Rattle.threaded_driver.specs.Finds.{is_left};
 ghost use Rattle.threaded_driver.specs.Over.{is_over, is_right, is_refusal, is_noted};
 
+use crate::beginning::NewDeques;
 use crate::ended::{Ended, kept_of};
 use crate::failure::{Failure, Mismatch};
 use crate::found::Found;
 use crate::kits::{KitsOf, RightPool, Stocked};
-use crate::seat::Seat;
+use crate::seat::{Seat, seats_of};
 use crate::supply::Shelf;
 use crate::waiting::Waiting;
 use right_strands::laid::Piece;
@@ -18,8 +19,8 @@ use right_strands::run::{Run, Scene};
 use right_strands::strand::RightStrand;
 use right_strands::task::RightTask;
 use std::alloc::{AllocError, Global};
-use std::sync::ledger::{Blank, Book as Count, Ledger, Share};
-use stealing_deques::{Deques, ThiefEnd};
+use std::sync::ledger::{Book as Count, Ledger};
+use stealing_deques::{Deques, ThiefEnd, all_ends};
 use sync_fold::{Book, BookError};
 use view_pool::{Kit, KitSource, View};
 
@@ -40,6 +41,43 @@ pub(crate) struct Desk<J: Run + Ledger + Stocked + Send, D: Deques, V: View> {
     // A worker leaves only where the run is over.
     ghost over: { ((left == 0) || is_over book failure) ≡ true },
     ghost noted: { is_noted failure ≡ true },
+}
+
+/// What a desk begins with beside the first strand and the pool: the list of that strand alone, the thieves' ends, and the count of
+/// those that have left.
+#[derive(Drop)]
+pub(crate) struct Parts<J: Run + Ledger + Stocked + Send, D: Deques, V: View> {
+    book: Book<J, V>,
+    came: Vec<usize>,
+    deques: Vec<ThiefEnd<Waiting<J>, D>>,
+    leavers: Count<J>,
+}
+
+impl<J: Run + Ledger + Stocked + Send, D: Deques, V: View> Parts<J, D, V> {
+    /// The parts of a run with these deques, and a seat for each of them. Want of memory is the only error.
+    pub(crate) fn new(
+        alloc: Global,
+        deques: NewDeques<J>,
+    ) -> Result<(Parts<J, D, V>, Vec<Seat<J, D>>), AllocError>
+        requires named { D.deques ≡ deques }
+        ensures none { IfOk result (λ r. r.0.leavers.total ≡ 0) }
+        ensures count { IfOk result (λ r. length r.1.items ≡ length deques) }
+        ensures none_left { IfOk result (λ r. All (λ seat. seat.left ≡ 0) r.1.items) }
+    {
+        let NewDeques { deques, blank } = deques;
+        let (owners, deques) = all_ends::<Waiting<J>, D>(alloc, deques)?;
+        let book = Book::start(alloc)?;
+        let came = Vec::with_capacity(alloc, deques.len())?;
+        let (leavers, share) = blank.open::<J>();
+        let seats = seats_of(alloc, owners, share)?;
+        let parts = Parts {
+            book,
+            came,
+            deques,
+            leavers,
+        };
+        Ok((parts, seats))
+    }
 }
 
 /// The oldest continuation of the worker of that number, where it has one.
@@ -103,55 +141,29 @@ fn end_of<J: Run + Stocked, V: View>(
 }
 
 impl<J: Run + Ledger + Stocked + Send, D: Deques, V: View> Desk<J, D, V> {
-    /// The desk of a run that begins, without its first strand, and one share of the count for all workers. For want of memory
-    /// the pool is handed back.
+    /// The desk of a run that begins with that strand.
     pub(crate) fn new(
-        alloc: Global,
+        parts: Parts<J, D, V>,
+        first: RightStrand<J, V>,
         pool: RightPool<KitsOf<J>, Kit<V>>,
-        deques: Vec<ThiefEnd<Waiting<J>, D>>,
-        blank: Blank,
-    ) -> Result<(Desk<J, D, V>, Share<J>), RightPool<KitsOf<J>, Kit<V>>>
-        requires name { blank.name ≡ J.name }
-        requires parts { blank.parts ≡ J.parts }
-        ensures parts { IfOk result (λ r. r.1.parts ≡ J.parts) }
-        ensures none { IfOk result (λ r. r.1.amount ≡ 0) }
+    ) -> Desk<J, D, V>
+        requires none { parts.leavers.total ≡ 0 }
     {
-        let book = match Book::start(alloc) {
-            Ok(book) => book,
-            Err(AllocError) => return Err(pool),
-        };
-        let came = match Vec::with_capacity(alloc, deques.len()) {
-            Ok(came) => came,
-            Err(AllocError) => return Err(pool),
-        };
-        let (leavers, share) = blank.open::<J>();
-        let desk = Desk {
+        let Parts {
             book,
-            first: None,
+            came,
+            deques,
+            leavers,
+        } = parts;
+        Desk {
+            book,
+            first: Some(first),
             came,
             deques,
             pool,
             failure: None,
             left: 0,
             leavers,
-        };
-        Ok((desk, share))
-    }
-
-    /// Lays the run's first strand there, with a kit of the pool; none is taken where memory is refused.
-    pub(crate) fn begin(&mut self, alloc: Global, scene: &Scene<'_, J>) -> Result<(), AllocError> {
-        let Some(kit) = self.take_kit() else {
-            return Err(AllocError);
-        };
-        match RightStrand::first(alloc, scene, kit) {
-            Ok(strand) => {
-                self.first = Some(strand);
-                Ok(())
-            }
-            Err((error, kit)) => {
-                self.put_back(kit);
-                Err(error)
-            }
         }
     }
 

@@ -1,41 +1,62 @@
 //! The floor: the scene, and the one lock over the list of strands, the thieves' ends of the deques and the pool.
-ghost use Rattle.std.specs.Prelude.{◌≡◌, ◌<◌, true, false, None, Some, length, IfOk, IfErr, IfSome, IfNone, OnOk};
+ghost use Rattle.std.specs.Prelude.{◌≡◌, ◌<◌, [], true, false, None, Some, All, length, IfOk, IfErr, IfSome, IfNone, OnOk};
+ghost use Rattle.linked_program.specs.Checked.{revised_of};
+ghost use Rattle.linked_program.specs.TableNames.{columned_of};
+ghost use Rattle.rerun_records.specs.Named.{HaveValues};
+ghost use Rattle.positions.specs.Setting.{setting_with};
+ghost use Rattle.numbered_runs.specs.Named.{history};
+ghost use Rattle.numbered_runs.specs.News.{AreSound};
+ghost use Rattle.right_strands.specs.Laid.{AnswersElision, IsGiven, HasRecorded};
+ghost use Rattle.worker_core.specs.Cores.{CannotStart};
 ghost use Rattle.stealing_deques.specs.Order.{IsBoundTo};
-ghost use Rattle.threaded_driver.specs.Come.{HasEnded};
-ghost use Rattle.threaded_driver.specs.Ends.{IsEnd};
+ghost use Rattle.threaded_driver.specs.Come.{HasEnded, HasHistory};
+ghost use Rattle.threaded_driver.specs.Ends.{IsAlone, IsEnd};
 ghost use Rattle.threaded_driver.specs.Finds.{is_left};
 ghost use Rattle.threaded_driver.specs.Over.{is_refusal, is_right};
 ghost use Rattle.threaded_driver.specs.Spots.{spot_of, own_spot, child_spot, HasReturned};
 
-use crate::desk::Desk;
+use crate::beginning::{NewDeques, first_of};
+use crate::desk::{Desk, Parts};
 use crate::ended::Ended;
 use crate::failure::{Failure, Mismatch};
 use crate::found::Found;
 use crate::gate::{Gate, Point};
 use crate::kits::{KitsOf, RightPool, Stocked};
-use crate::seat::{Seat, seats_of};
+use crate::seat::Seat;
 use crate::supply::Supply;
-use crate::waiting::Waiting;
 use crossbeam_utils::Backoff;
+use frames::answer::RunAnswer;
+use input_tables::Tables;
+use linked_program::checked::Checked;
+use numbered_runs::refusal::StartError;
+use numbered_runs::step::BookStep;
 use positions::phase::{Paused, Phase};
+use rerun_records::record::Record;
+use rerun_records::records::Records;
 use right_strands::laid::Piece;
 use right_strands::run::{Run, Scene};
 use right_strands::strand::RightStrand;
 use right_strands::task::RightTask;
 use std::alloc::{AllocError, Global};
+use std::marker::Model;
 use std::sync::atomic::{AtomicBool, Ordering};
-use std::sync::ledger::{Blank, Ledger};
+use std::sync::ledger::Ledger;
 use std::sync::{Mutex, Wait};
-use stealing_deques::{Deques, NewDeque, all_ends};
-use view_pool::{Kit, View};
+use stealing_deques::Deques;
+use view_pool::{Kit, Pool, View};
 
 /// How many small steps a worker does before it looks whether the run has given up.
 const STEPS: usize = 4096;
 
+/// What contracts see of a floor: with how many kits its run began.
+pub struct PlainFloor {
+    pub kits: usize,
+}
+
 /// What the workers of a run share. The run began with so many kits. That it gave up stands beside the lock too, where workers look
 /// that go on without it: they stop earlier then, and nothing else rests on it.
 #[derive(Drop)]
-pub(crate) struct Floor<'a, J: Run + Ledger + Stocked + Send, D: Deques, V: View> {
+pub struct Floor<'a, J: Run + Ledger + Stocked + Send, D: Deques, V: View> {
     alloc: Global,
     scene: Scene<'a, J>,
     desk: Mutex<Desk<J, D, V>>,
@@ -43,8 +64,16 @@ pub(crate) struct Floor<'a, J: Run + Ledger + Stocked + Send, D: Deques, V: View
     kits: usize,
 }
 
+impl<'a, J: Run + Ledger + Stocked + Send, D: Deques, V: View> Model for Floor<'a, J, D, V> {
+    ghost use Rattle.threaded_driver.specs.declared.floor.PlainFloor.{PlainFloor};
+
+    ghost Value = { PlainFloor };
+
+    ghost view = { λ f. record { kits = f.kits } };
+}
+
 /// One worker's life: it leaves where the run is over.
-pub(crate) fn work<J, D, V, R, G>(
+pub fn work<J, D, V, R, G>(
     rt: &R,
     floor: &Floor<'_, J, D, V>,
     seat: Seat<J, D>,
@@ -346,56 +375,99 @@ impl<J: Run + Ledger + Stocked + Send, D: Deques, V: View> Floor<'_, J, D, V> {
 }
 
 impl<'a, J: Run + Ledger + Stocked + Send, D: Deques, V: View> Floor<'a, J, D, V> {
-    /// The floor of a run with these kits, and a seat for each worker. For want of memory the pool is handed back.
-    pub(crate) fn new(
+    /// The floor of a run of the program on the tables over the records, and a seat for each deque. Refused where no kit is free,
+    /// or for want of memory; the pool is handed back.
+    pub fn new(
         alloc: Global,
-        scene: Scene<'a, J>,
-        pool: RightPool<KitsOf<J>, Kit<V>>,
-        deques: Vec<NewDeque<Waiting<J>>>,
-        blank: Blank,
-    ) -> Result<(Floor<'a, J, D, V>, Vec<Seat<J, D>>), RightPool<KitsOf<J>, Kit<V>>>
-        requires named { D.deques ≡ deques.items }
-        requires name { blank.name ≡ J.name }
-        requires parts { (blank.parts ≡ J.parts) × (J.parts ≡ length deques.items) }
-        ensures kits { IfOk result (λ r. r.0.kits ≡ pool) }
-        ensures seats { IfOk result (λ r. length r.1.items ≡ length deques.items) }
+        program: &'a Checked,
+        tables: &'a Tables,
+        records: &'a Records,
+        pool: Pool<Kit<V>>,
+        deques: NewDeques<J>,
+    ) -> Result<(Floor<'a, J, D, V>, Vec<Seat<J, D>>), (StartError, Pool<Kit<V>>)>
+        requires same { setting_with program.now tables.now.tables [] records.now ≡ J.setting }
+        requires names { program.now.tables ≡ columned_of tables.now.tables }
+        requires sound { AreSound (revised_of program.now) program.now.tables program.now.kinds
+            records.now }
+        requires values { HaveValues program.now.kinds records.now }
+        requires kinds { All (λ k. k ≡ J.setting.kinds) pool.kits }
+        requires total { pool.total ≡ J.total }
+        requires named { D.deques ≡ deques }
+        ensures kits { IfOk result (λ r. r.0.kits ≡ length pool.kits) }
+        ensures some { IfOk result (λ _. 0 < length pool.kits) }
+        ensures seats { IfOk result (λ r. length r.1.items ≡ length deques) }
+        ensures none_left { IfOk result (λ r. All (λ seat. seat.left ≡ 0) r.1.items) }
+        ensures refused { IfErr result (λ e. CannotStart pool e.0) }
+        ensures handed_back { IfErr result (λ e. e.1 ≡ pool) }
     {
         let kits = pool.free();
-        let (owners, thieves) = match all_ends::<Waiting<J>, D>(alloc, deques) {
-            Ok(ends) => ends,
-            Err(AllocError) => return Err(pool),
-        };
-        let (mut desk, share) = match Desk::new(alloc, pool, thieves, blank) {
-            Ok(made) => made,
-            Err(pool) => return Err(pool),
-        };
-        let seats = match seats_of(alloc, owners, share) {
-            Ok(seats) => seats,
-            Err(AllocError) => return Err(desk.into_pool()),
-        };
-        if desk.begin(alloc, &scene).is_err() {
-            return Err(desk.into_pool());
+        if kits == 0 {
+            return Err((StartError::NoKit, pool));
         }
-        let floor = Floor {
-            alloc,
-            scene,
-            desk: Mutex::new(desk),
-            gave_up: AtomicBool::new(false),
-            kits,
+        let scene = Scene::new(program, tables, records);
+        let (parts, seats) = match Parts::new(alloc, deques) {
+            Ok(begun) => begun,
+            Err(AllocError) => return Err((StartError::NoMemory, pool)),
         };
-        Ok((floor, seats))
+        match first_of(alloc, &scene, pool) {
+            Ok((first, pool)) => {
+                let desk = Desk::new(parts, first, RightPool::new(pool));
+                let floor = Floor {
+                    alloc,
+                    scene,
+                    desk: Mutex::new(desk),
+                    gave_up: AtomicBool::new(false),
+                    kits,
+                };
+                Ok((floor, seats))
+            }
+            Err(refused) => Err(refused),
+        }
     }
 
-    /// The pool by itself.
-    pub(crate) fn into_pool(self) -> RightPool<KitsOf<J>, Kit<V>> {
-        self.desk.into_inner().into_pool()
+    /// The kits that are home, of a run that is given up.
+    pub fn into_pool(self) -> Pool<Kit<V>>
+        ensures kinds { All (λ k. k ≡ J.setting.kinds) result.kits }
+        ensures total { result.total ≡ J.total }
+    {
+        self.desk.into_inner().into_pool().into_pool()
+    }
+
+    /// The answer of a run that all workers have left, the kits that are home, the new records of a run that has finished, and what
+    /// changed the list of strands. The error is that the list refused a worker.
+    pub fn finish(
+        self,
+        seats: Vec<Seat<J, D>>,
+    ) -> Result<(RunAnswer, Pool<Kit<V>>, Vec<Record>, Vec<BookStep>), (Mismatch, Pool<Kit<V>>)>
+        requires some { 0 < length seats.items }
+        requires left { All (λ seat. 0 < seat.left) seats.items }
+        ensures elision { IfOk result (λ r. AnswersElision J.setting r.0) }
+        ensures come { IfOk result (λ r. IsGiven r.0) }
+        ensures recorded { IfOk result (λ r. HasRecorded J.setting r.0 r.2.items) }
+        ensures alone { IfOk result (λ r. IsAlone r.0 r.2.items) }
+        ensures values { IfOk result (λ r. HaveValues J.setting.kinds r.2.items) }
+        ensures history { IfOk result (λ r. HasHistory r.0 (history r.3.items)) }
+        ensures home { IfOk result (λ r. HasEnded r.0 → length r.1.kits ≡ self.entry.kits) }
+        ensures kinds { IfOk result (λ r. All (λ k. k ≡ J.setting.kinds) r.1.kits) }
+        ensures total { IfOk result (λ r. r.1.total ≡ J.total) }
+        ensures refusal { IfErr result (λ e. is_refusal e.0.refusal ≡ true) }
+        ensures kinds_back { IfErr result (λ e. All (λ k. k ≡ J.setting.kinds) e.1.kits) }
+        ensures total_back { IfErr result (λ e. e.1.total ≡ J.total) }
+    {
+        let mut seats = seats;
+        let (ran, pool) = match seats.pop() {
+            Some(seat) => self.close(seat),
+            None => unreachable!(),
+        };
+        let pool = pool.into_pool();
+        match ran {
+            Ok(ended) => Ok((ended.answer, pool, ended.made, ended.steps)),
+            Err(mismatch) => Err((mismatch, pool)),
+        }
     }
 
     /// How the run has ended, and the pool, once a worker has left.
-    pub(crate) fn finish(
-        self,
-        seat: Seat<J, D>,
-    ) -> (Result<Ended, Mismatch>, RightPool<KitsOf<J>, Kit<V>>)
+    fn close(self, seat: Seat<J, D>) -> (Result<Ended, Mismatch>, RightPool<KitsOf<J>, Kit<V>>)
         requires left { 0 < seat.left }
         ensures end { IfOk result.0 (IsEnd J.setting) }
         ensures refusal { IfErr result.0 (λ m. is_refusal m.refusal ≡ true) }

@@ -13,31 +13,28 @@ ghost use Rattle.threaded_driver.specs.Ends.{IsEnd, IsEndFor};
 ghost use Rattle.threaded_driver.specs.Over.{is_refusal};
 ghost use Rattle.sync_fold.specs.declared.error.BookError.TheVariants as error;
 
+use crate::beginning::{NewDeques, deques_of};
 use crate::ended::Ended;
 use crate::failure::Mismatch;
 use crate::floor::{Floor, work};
 use crate::gate::Gate;
-use crate::kits::{KitsOf, RightPool, Stocked};
+use crate::kits::Stocked;
 use crate::seat::Seat;
-use crate::waiting::Waiting;
 use frames::answer::RunAnswer;
 use input_tables::Tables;
 use linked_program::checked::Checked;
 use numbered_runs::step::BookStep;
 use rerun_records::records::Records;
 use reuse_planner::Session;
-use right_strands::run::{Run, Scene};
+use right_strands::run::Run;
 use std::alloc::{AllocError, Global};
 use std::marker::Brand;
 use std::sync::Wait;
 use std::sync::ledger::{Blank, Ledger};
 use std::thread;
 use std::thread::Threads;
-use stealing_deques::{Deques, NewDeque, new_deques};
+use stealing_deques::Deques;
 use view_pool::{Kit, Pool, View};
-
-/// How many continuations a deque has room for at first.
-const ROOM: usize = 64;
 
 /// Runs a session's program on its tables by so many threads. Its memo instances are answered by the records that hold now, and
 /// those that a finished run makes are kept for the next one. The answer is NoKit where no kit is free, and NoMemory where memory
@@ -149,7 +146,7 @@ where
     R: Threads + Wait + Sync,
     G: Gate,
     requires same { setting_with program.now tables.now.tables [] records.now ≡ J.setting }
-    requires tables { program.now.tables ≡ columned_of tables.now.tables }
+    requires names { program.now.tables ≡ columned_of tables.now.tables }
     requires sound { AreSound (revised_of program.now) program.now.tables program.now.kinds records.now }
     requires values { HaveValues program.now.kinds records.now }
     requires kinds { All (λ k. k ≡ J.setting.kinds) pool.kits }
@@ -163,16 +160,11 @@ where
     ensures kinds { All (λ k. k ≡ J.setting.kinds) result.1.kits }
     ensures total { result.1.total ≡ J.total }
 {
-    let scene = Scene::<J>::new(program, tables, records);
-    let pool = RightPool::new(pool);
-    match new_deques(alloc, workers, ROOM) {
-        Ok(deques) => {
-            let (ran, pool) = run_through::<J, Brand, V, R, G>(
-                rt, alloc, scene, pool, deques, blank, gate,
-            );
-            (ran, pool.into_pool())
-        }
-        Err(AllocError) => (Ok(Ended::without_memory(alloc)), pool.into_pool()),
+    match deques_of(alloc, blank, workers) {
+        Ok(deques) => run_through::<J, Brand, V, R, G>(
+            rt, alloc, program, tables, records, pool, deques, gate,
+        ),
+        Err(AllocError) => (Ok(Ended::without_memory(alloc)), pool),
     }
 }
 
@@ -180,29 +172,36 @@ where
 fn run_through<J, D, V, R, G>(
     rt: &R,
     alloc: Global,
-    scene: Scene<'_, J>,
-    pool: RightPool<KitsOf<J>, Kit<V>>,
-    deques: Vec<NewDeque<Waiting<J>>>,
-    blank: Blank,
+    program: &Checked,
+    tables: &Tables,
+    records: &Records,
+    pool: Pool<Kit<V>>,
+    deques: NewDeques<J>,
     gate: &G,
-) -> (Result<Ended, Mismatch>, RightPool<KitsOf<J>, Kit<V>>)
+) -> (Result<Ended, Mismatch>, Pool<Kit<V>>)
 where
     J: Run + Ledger + Stocked + Send + Sync,
     D: Deques + Send + Sync,
     V: View + Send,
     R: Threads + Wait + Sync,
     G: Gate,
-    requires named { D.deques ≡ deques.items }
-    requires name { blank.name ≡ J.name }
-    requires parts { (blank.parts ≡ J.parts) × (J.parts ≡ length deques.items) }
-    requires some { 0 < length deques.items }
+    requires same { setting_with program.now tables.now.tables [] records.now ≡ J.setting }
+    requires names { program.now.tables ≡ columned_of tables.now.tables }
+    requires sound { AreSound (revised_of program.now) program.now.tables program.now.kinds records.now }
+    requires values { HaveValues program.now.kinds records.now }
+    requires kinds { All (λ k. k ≡ J.setting.kinds) pool.kits }
+    requires total { pool.total ≡ J.total }
+    requires named { D.deques ≡ deques }
+    requires some { 0 < length deques }
     ensures end { IfOk result.0 (IsEnd J.setting) }
     ensures refusal { IfErr result.0 (λ m. is_refusal m.refusal ≡ true) }
-    ensures home { IfOk result.0 (λ e. HasEnded e.answer → result.1 ≡ pool) }
+    ensures home { IfOk result.0 (λ e. HasEnded e.answer → length result.1.kits ≡ length pool.kits) }
+    ensures kinds { All (λ k. k ≡ J.setting.kinds) result.1.kits }
+    ensures total { result.1.total ≡ J.total }
 {
-    match Floor::<J, D, V>::new(alloc, scene, pool, deques, blank) {
+    match Floor::<J, D, V>::new(alloc, program, tables, records, pool, deques) {
         Ok((floor, seats)) => run_floor(rt, alloc, floor, seats, gate),
-        Err(pool) => (Ok(Ended::without_memory(alloc)), pool),
+        Err((_, pool)) => (Ok(Ended::without_memory(alloc)), pool),
     }
 }
 
@@ -213,7 +212,7 @@ fn run_floor<J, D, V, R, G>(
     floor: Floor<'_, J, D, V>,
     seats: Vec<Seat<J, D>>,
     gate: &G,
-) -> (Result<Ended, Mismatch>, RightPool<KitsOf<J>, Kit<V>>)
+) -> (Result<Ended, Mismatch>, Pool<Kit<V>>)
 where
     J: Run + Ledger + Stocked + Send + Sync,
     D: Deques + Send + Sync,
@@ -223,7 +222,9 @@ where
     requires some { 0 < length seats.items }
     ensures end { IfOk result.0 (IsEnd J.setting) }
     ensures refusal { IfErr result.0 (λ m. is_refusal m.refusal ≡ true) }
-    ensures home { IfOk result.0 (λ e. HasEnded e.answer → result.1 ≡ floor.entry.kits) }
+    ensures home { IfOk result.0 (λ e. HasEnded e.answer → length result.1.kits ≡ floor.entry.kits) }
+    ensures kinds { All (λ k. k ≡ J.setting.kinds) result.1.kits }
+    ensures total { result.1.total ≡ J.total }
 {
     let shared = &floor;
     let life = |seat: Seat<J, D>| -> Seat<J, D>
@@ -239,16 +240,24 @@ where
 fn finish<J: Run + Ledger + Stocked + Send, D: Deques, V: View>(
     floor: Floor<'_, J, D, V>,
     seats: Vec<Seat<J, D>>,
-) -> (Result<Ended, Mismatch>, RightPool<KitsOf<J>, Kit<V>>)
+) -> (Result<Ended, Mismatch>, Pool<Kit<V>>)
     requires some { 0 < length seats.items }
     requires left { All (λ seat. 0 < seat.left) seats.items }
     ensures end { IfOk result.0 (IsEnd J.setting) }
     ensures refusal { IfErr result.0 (λ m. is_refusal m.refusal ≡ true) }
-    ensures home { IfOk result.0 (λ e. HasEnded e.answer → result.1 ≡ floor.entry.kits) }
+    ensures home { IfOk result.0 (λ e. HasEnded e.answer → length result.1.kits ≡ floor.entry.kits) }
+    ensures kinds { All (λ k. k ≡ J.setting.kinds) result.1.kits }
+    ensures total { result.1.total ≡ J.total }
 {
-    let mut seats = seats;
-    match seats.pop() {
-        Some(seat) => floor.finish(seat),
-        None => unreachable!(),
+    match floor.finish(seats) {
+        Ok((answer, pool, made, steps)) => {
+            let ended = Ended {
+                answer,
+                made,
+                steps,
+            };
+            (Ok(ended), pool)
+        }
+        Err((mismatch, pool)) => (Err(mismatch), pool),
     }
 }

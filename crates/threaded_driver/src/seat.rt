@@ -1,5 +1,5 @@
 //! A worker's own end of its deque, and its part of the count of those that have left.
-ghost use Rattle.std.specs.Prelude.{◌≡◌, ◌+◌, ◌≤◌, true, false, Some, None, length, IfOk, IfSome, IfNone, IfErr, OnOk, OnErr};
+ghost use Rattle.std.specs.Prelude.{◌≡◌, ◌+◌, ◌≤◌, true, false, Some, None, All, length, IfOk, IfSome, IfNone, IfErr, OnOk, OnErr};
 ghost use Rattle.stealing_deques.specs.Order.{GoesOn, IsBoundTo};
 ghost use Rattle.threaded_driver.specs.Spots.{bottom_of, own_spot, child_spot};
 
@@ -19,7 +19,7 @@ pub struct PlainSeat {
 
 /// What a worker has to itself: its end of its deque, and its part of the count of those that have left.
 #[derive(Drop)]
-pub(crate) struct Seat<J: Run + Ledger + Send, D: Deques> {
+pub struct Seat<J: Run + Ledger + Send, D: Deques> {
     owner: OwnerEnd<Waiting<J>, D>,
     share: Share<J>,
 }
@@ -39,6 +39,8 @@ impl<J: Run + Ledger + Send, D: Deques> Seat<J, D> {
     /// A seat with that end of a deque and that part of the count.
     fn new(owner: OwnerEnd<Waiting<J>, D>, share: Share<J>) -> Seat<J, D>
         requires one { share.parts ≡ 1 }
+        requires none { share.amount ≡ 0 }
+        ensures none { result.left ≡ 0 }
     {
         Seat { owner, share }
     }
@@ -108,6 +110,7 @@ pub(crate) fn seats_of<J: Run + Ledger + Send, D: Deques>(
     requires parts { share.parts ≡ length owners.items }
     requires none { share.amount ≡ 0 }
     ensures count { IfOk result (λ seats. length seats.items ≡ length owners.items) }
+    ensures none_left { IfOk result (λ seats. All (λ seat. seat.left ≡ 0) seats.items) }
 {
     let mut owners = owners;
     let mut share = share;
