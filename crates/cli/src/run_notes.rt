@@ -2,8 +2,7 @@
 ghost use Rattle.std.specs.Prelude.{◌≡◌, ◌⊎◌, ℕ, List, None, Some, true, false, IfErr, OnOk};
 ghost use Rattle.std.specs.Io.KnownBytes.{Appends};
 ghost use Rattle.numbered_runs.specs.Named.{history as steps_of};
-ghost use Rattle.trace_report.specs.Outcomes.{Extends};
-ghost use Rattle.trace_report.specs.Traces.{trace_text};
+ghost use Rattle.trace_report.specs.Traces.{stats_text, trace_text};
 ghost use Rattle.threaded_driver.specs.Come.{HasEnded};
 ghost use Rattle.cli.specs.declared.run_notes.NotesError.TheVariants as notes;
 ghost use Rattle.cli.specs.Noted.{Noted, has_failed, known_of, run_counts_text};
@@ -14,7 +13,7 @@ use frames::answer::RunAnswer;
 use std::alloc::{AllocError, Global};
 use std::io::Write;
 use std::marker::Model;
-use trace_report::trace::{RunCounts, folds, push_counts, push_no_counts, push_trace, steals};
+use trace_report::trace::{RunCounts, folds, history_text, stats_text, steals};
 use worker_core::BookStep;
 
 /// Why a run couldn't be noted: memory was refused, or a write of its history or of its counts failed.
@@ -135,8 +134,7 @@ fn write_trace<T: Write>(
     match trace {
         None => Ok(()),
         Some(to) => {
-            let mut text = String::new(alloc);
-            push_trace(&mut text, number, history)?;
+            let text = history_text(alloc, number, history)?;
             write_text(to, text.as_str(), NotesError::Trace)
         }
     }
@@ -158,23 +156,16 @@ fn write_counts<C: Write>(
     match counts {
         None => Ok(()),
         Some(to) => {
-            let mut text = String::new(alloc);
-            push_run_counts(&mut text, number, answer, history, kits)?;
+            let text = stats_text(alloc, number, counts_of(answer, history, kits))?;
             write_text(to, text.as_str(), NotesError::Counts)
         }
     }
 }
 
-// Puts the line of what is counted of a run at the end of the text.
-fn push_run_counts(
-    text: &mut String,
-    number: usize,
-    answer: &RunAnswer,
-    history: &[BookStep],
-    kits: (usize, usize),
-) -> Result<(), AllocError>
-    ensures { OnOk result (Extends text.old text.new
-        (run_counts_text number answer.now (steps_of history.now) kits)) }
+// What is counted of a run: nothing of one that came to no result.
+fn counts_of(answer: &RunAnswer, history: &[BookStep], kits: (usize, usize)) -> Option<RunCounts>
+    ensures { (n : ℕ) → stats_text n result
+        ≡ run_counts_text n answer.now (steps_of history.now) kits }
 {
     match answer {
         RunAnswer::Finished {
@@ -182,20 +173,17 @@ fn push_run_counts(
             reused,
             unrecorded,
             ..
-        } => {
-            let counts = RunCounts {
-                executed: *executed as usize,
-                reused: *reused as usize,
-                unrecorded: *unrecorded as usize,
-                steals: steals(history),
-                folds: folds(history),
-                free: kits.0,
-                kits: kits.1,
-            };
-            push_counts(text, number, counts)
-        }
+        } => Some(RunCounts {
+            executed: *executed as usize,
+            reused: *reused as usize,
+            unrecorded: *unrecorded as usize,
+            steals: steals(history),
+            folds: folds(history),
+            free: kits.0,
+            kits: kits.1,
+        }),
         RunAnswer::Fault(_) | RunAnswer::Unfinished | RunAnswer::NoMemory | RunAnswer::NoKit =>
-            push_no_counts(text, number),
+            None,
     }
 }
 

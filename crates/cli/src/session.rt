@@ -24,7 +24,7 @@ use std::io::{Read, Write};
 use std::sync::Wait;
 use std::thread::Threads;
 use threaded_driver::{Gate, run_threads};
-use trace_report::answers::{push_outcome, push_run, push_unknown};
+use trace_report::answers::{answer_text, push_unknown};
 use trace_report::edits::{push_accepted, push_edit_refusal};
 use view_pool::View;
 
@@ -219,8 +219,8 @@ fn run_once<V: View, N: Notes>(
 {
     let (answer, history) = run_threads(rt, alloc, session, workers, gate)?;
     ended(&answer)?;
-    push_run(text, number)?;
-    push_outcome(alloc, text, session.checked(), &answer)?;
+    let shown = answer_text(alloc, number, session.checked(), &answer)?;
+    text.push_str(shown.as_str())?;
     if notes.run(number, &answer, &history, session.kits()) {
         return Ok(());
     }

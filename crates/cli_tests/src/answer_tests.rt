@@ -12,8 +12,8 @@ use std::process::Abort;
 use threaded_driver::{NoGate, run_threads};
 use trace_report::amounts::merged;
 use trace_report::answers::{
-    kind_name, push_fault, push_outcome, push_reducer, push_result, push_run, push_unknown,
-    push_value, push_values,
+    answer_text, kind_name, push_fault, push_outcome, push_reducer, push_result, push_run,
+    push_unknown, push_value, push_values,
 };
 use view_pool::PlainView;
 use worker_core::{Fault, RunAnswer};
@@ -126,6 +126,10 @@ fn lines_of_an_outcome(rt: HostRuntime) {
     )
     .expect(&rt, "memory");
     assert_eq!(&rt; text.as_str(), "fault too deep in main at 2\n");
+    let text = answer_text(rt.alloc(), 5, session.checked(), &RunAnswer::Fault(fault)).expect(
+        &rt, "memory",
+    );
+    assert_eq!(&rt; text.as_str(), "run 5\nfault too deep in main at 2\n");
 }
 
 #[test]

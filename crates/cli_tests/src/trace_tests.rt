@@ -1,9 +1,7 @@
 // The history of a run, and what is counted of it.
 use std::alloc::Global;
 use std::process::Abort;
-use trace_report::trace::{
-    RunCounts, folds, push_counts, push_history, push_no_counts, push_trace, steals,
-};
+use trace_report::trace::{RunCounts, folds, history_text, stats_text, steals};
 use worker_core::{BookStep, Place};
 
 const TWO_STEALS: &str = "run 1
@@ -45,8 +43,7 @@ fn two_steals(rt: &impl Abort, alloc: Global) -> Vec<BookStep> {
 #[test]
 fn lines_of_a_history(rt: HostRuntime) {
     let history = two_steals(&rt, rt.alloc());
-    let mut text = String::new(rt.alloc());
-    push_trace(&mut text, 1, &history).expect(&rt, "memory");
+    let text = history_text(rt.alloc(), 1, &history).expect(&rt, "memory");
     assert_eq!(&rt; text.as_str(), TWO_STEALS);
     assert_eq!(&rt; steals(&history), 2);
     assert_eq!(&rt; folds(&history), 2);
@@ -57,9 +54,8 @@ fn line_of_a_longer_place(rt: HostRuntime) {
     let alloc = rt.alloc();
     let deep = vec![in alloc; 1, 12, 3].expect(&rt, "memory");
     let history = vec![in alloc; BookStep::Fault(deep)].expect(&rt, "memory");
-    let mut text = String::new(alloc);
-    push_history(&mut text, &history).expect(&rt, "memory");
-    assert_eq!(&rt; text.as_str(), "fault 1.12.3\n");
+    let text = history_text(alloc, 2, &history).expect(&rt, "memory");
+    assert_eq!(&rt; text.as_str(), "run 2\nfault 1.12.3\n");
 }
 
 #[test]
@@ -73,11 +69,9 @@ fn lines_of_counts(rt: HostRuntime) {
         free: 6,
         kits: 64,
     };
-    let mut text = String::new(rt.alloc());
-    push_counts(&mut text, 7, counts).expect(&rt, "memory");
-    push_no_counts(&mut text, 8).expect(&rt, "memory");
-    let wanted = "stats 7 executed 1 reused 2 unrecorded 3 steals 4 folds 5 kits 6 of 64
-stats 8 none
-";
+    let text = stats_text(rt.alloc(), 7, Some(counts)).expect(&rt, "memory");
+    let wanted = "stats 7 executed 1 reused 2 unrecorded 3 steals 4 folds 5 kits 6 of 64\n";
     assert_eq!(&rt; text.as_str(), wanted);
+    let text = stats_text(rt.alloc(), 8, None).expect(&rt, "memory");
+    assert_eq!(&rt; text.as_str(), "stats 8 none\n");
 }

@@ -1,44 +1,53 @@
 //! Why a program's text isn't in the language, as far as its bytes tell.
 
+use crate::expected::push_expected;
 use crate::rules::push_line;
-use std::alloc::AllocError;
+use std::alloc::{AllocError, Global};
 use std::fmt::Write;
 
 // What the longest line that is shown has.
 const MOST_SHOWN: usize = 120;
 
-/// Puts the line of a text at which no program can have it, and what to look for there, at the end of the text. Line 0 is a text that
-/// is too long. Want of memory is the only error.
-pub fn push_bad_program(text: &mut String, program: &[u8], line: u32) -> Result<(), AllocError> {
+// What to look for where the token at which a text is refused isn't found.
+const LOOKED_FOR: &str =
+    "A word of this line can't stand where it does. Look for a `;`, `}` or `)` that is missing here or on the line \
+                          before, a keyword used as a name, or a limit that is passed.";
+
+/// Puts the line of a text at which no program can have it, and what is wrong or was expected there, at the end of the text. Line 0 is a
+/// text that is too long. Want of memory is the only error.
+pub fn push_bad_program(
+    alloc: Global,
+    text: &mut String,
+    program: &[u8],
+    line: u32,
+) -> Result<(), AllocError> {
     if line == 0 {
         return push_line(text, "The text has more than 1,048,576 bytes.");
     }
     push_shown(text, program, line)?;
-    push_line(text, looked_for(line_at(program, line)))
+    if let Some(wrong) = wrong_byte(line_at(program, line)) {
+        return push_line(text, wrong);
+    }
+    if push_expected(alloc, text, program, line)? {
+        return Ok(());
+    }
+    push_line(text, LOOKED_FOR)
 }
 
-// What to look for in such a line.
-fn looked_for(words: &[u8]) -> &'static str {
+// What is said of a line with a byte that no text may have.
+fn wrong_byte(words: &[u8]) -> Option<&'static str> {
     if words.iter().any(|byte| *byte == 13) {
-        return "The line ends with a carriage return: lines end with a line feed alone.";
+        return Some("The line ends with a carriage return: lines end with a line feed alone.");
     }
     if words.iter().any(|byte| !is_of_a_text(*byte)) {
-        return "The line has a byte that is neither a tab nor one from space to `~`.";
+        return Some("The line has a byte that is neither a tab nor one from space to `~`.");
     }
-    if words.iter().all(|byte| is_blank(*byte)) {
-        return "The text ends before its program does: a `}` or a `;` is missing, or there is no declaration.";
-    }
-    "A word of this line can't stand where it does. Look for a `;`, `}` or `)` that is missing here or on the line before, an \
-     upper-case letter, a keyword used as a name, or a limit that is passed."
+    None
 }
 
 // Whether a text may have that byte within a line.
 fn is_of_a_text(byte: u8) -> bool {
     byte == 9 || (32 <= byte && byte <= 126)
-}
-
-fn is_blank(byte: u8) -> bool {
-    byte == 9 || byte == 32
 }
 
 // The line of that number, counted from 1, without its end; nothing where there is no such line.

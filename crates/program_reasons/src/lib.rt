@@ -59,7 +59,7 @@ pub fn reasons(
     let mut text = String::new(alloc);
     match error {
         PrepareError::NoMemory => {}
-        PrepareError::Text { line } => push_bad_program(&mut text, program, *line)?,
+        PrepareError::Text { line } => push_bad_program(alloc, &mut text, program, *line)?,
         PrepareError::NotToml => push_bad_toml(alloc, &mut text, tables)?,
         PrepareError::Shape { table } => push_bad_table(alloc, &mut text, tables, table.as_str())?,
         PrepareError::Check { rule, line, .. } => {

@@ -5,7 +5,7 @@ use Rattle.monoid_laws.specs.Kinds.{meaning}
 use Rattle.program_tree.specs.View.{tree}
 use Rattle.meaning.specs.declared.FaultKind.{FaultKind}
 use Rattle.meaning.specs.Statements.{reducers}
-use Rattle.meaning.specs.Text.{result_text, worths_text, fault_text}
+use Rattle.meaning.specs.Text.{run_line, result_text, worths_text, fault_text}
 use Rattle.linked_program.specs.Checked.{PlainChecked}
 use Rattle.positions.specs.Stands.{fault_in}
 use Rattle.positions.specs.declared.phase.Fault.{Fault}
@@ -34,6 +34,15 @@ Shows program (answer.Fault fault) old new = Extends old new (named_fault_text p
 Shows program answer.Unfinished old new = ⊥
 Shows program answer.NoMemory old new = ⊥
 Shows program answer.NoKit old new = ⊥
+
+-- the answer to a run of that number: its line, and what it came to
+abbrev pub IsRunText : ℕ → PlainChecked → RunAnswer → List ℕ → Type 0
+IsRunText n program (answer.Finished v values executed reused unrecorded) text =
+    text ≡ run_line n ++ (result_text v ++ worths_text (reducers (tree program.program)) (map meaning values.items))
+IsRunText n program (answer.Fault fault) text = text ≡ run_line n ++ named_fault_text program fault
+IsRunText n program answer.Unfinished text = ⊥
+IsRunText n program answer.NoMemory text = ⊥
+IsRunText n program answer.NoKit text = ⊥
 
 -- the answer to an edit that was accepted
 abbrev pub accepted_text : List ℕ

@@ -1,5 +1,5 @@
 -- The text of a run's history and of what is counted of it.
-use Rattle.std.specs.Prelude.{ℕ, suc, List, [], ◌∷◌, ◌++◌, flat_map, codes}
+use Rattle.std.specs.Prelude.{ℕ, suc, List, [], ◌∷◌, ◌++◌, Option, Some, None, flat_map, codes}
 use Rattle.std.specs.Fmt.{decimal}
 use Rattle.meaning.specs.Outcome.{Place}
 use Rattle.meaning.specs.Strands.{BookStep, Split, End, Stall, Fault, Finish, Fold}
@@ -69,3 +69,8 @@ counts_text n c = codes "stats " ++ decimal n ++ instances_text c ++ moves_text 
 -- a run that came to a fault has none
 abbrev pub no_counts_text : ℕ → List ℕ
 no_counts_text n = codes "stats " ++ decimal n ++ codes " none\n"
+
+-- the line of what is counted of a run, where there are counts
+abbrev pub stats_text : ℕ → Option RunCounts → List ℕ
+stats_text n (Some c) = counts_text n c
+stats_text n None = no_counts_text n

@@ -5,7 +5,7 @@ ghost use Rattle.meaning.specs.Statements.{reducers, found};
 ghost use Rattle.linked_program.specs.Procedures.{procedures};
 ghost use Rattle.program_tree.specs.Plain.{Tree};
 ghost use Rattle.program_tree.specs.View.{tree, decl, red};
-ghost use Rattle.trace_report.specs.Outcomes.{Extends, Shows, named_fault_text, fault_line};
+ghost use Rattle.trace_report.specs.Outcomes.{Extends, IsRunText, Shows, named_fault_text, fault_line};
 ghost use Rattle.meaning.specs.Text.{unknown_text, run_line, result_text, fault_name, spaced, spaced_amount, best_text, worth_text, worth_line, worths_text};
 
 use crate::amounts::merged;
@@ -223,4 +223,21 @@ pub fn push_outcome(
         RunAnswer::Fault(fault) => push_fault_of(text, checked, *fault),
         RunAnswer::Unfinished | RunAnswer::NoMemory | RunAnswer::NoKit => Err(AllocError),
     }
+}
+
+/// The answer to a run of that number, counted from 1: its line, and what it came to. A run that came to no end is refused as want of
+/// memory.
+pub fn answer_text(
+    alloc: Global,
+    number: usize,
+    checked: &Checked,
+    answer: &RunAnswer,
+) -> Result<String, AllocError>
+    ensures { IfOk result (λ text.
+        IsRunText number checked.now answer.now (string_bytes text)) }
+{
+    let mut text = String::new(alloc);
+    push_run(&mut text, number)?;
+    push_outcome(alloc, &mut text, checked, answer)?;
+    Ok(text)
 }

@@ -1,12 +1,12 @@
 // The text of a run's history and of what is counted of it.
-ghost use Rattle.std.specs.Prelude.{◌≡◌, OnOk, flat_map};
+ghost use Rattle.std.specs.Prelude.{◌≡◌, IfOk, OnOk, flat_map, string_bytes};
 ghost use Rattle.numbered_runs.specs.Named.{book_step, history as steps_of};
 ghost use Rattle.trace_report.specs.Outcomes.{Extends};
-ghost use Rattle.trace_report.specs.Traces.{dotted, place_text, laid_text, places_text, step_text, history_text, trace_text, splits_in, folds_in, instances_text, moves_text, kits_text, counts_text, no_counts_text};
+ghost use Rattle.trace_report.specs.Traces.{dotted, place_text, laid_text, places_text, step_text, history_text, trace_text, splits_in, folds_in, instances_text, moves_text, kits_text, counts_text, no_counts_text, stats_text};
 
 use crate::answers::push_run;
 use numbered_runs::step::BookStep;
-use std::alloc::AllocError;
+use std::alloc::{AllocError, Global};
 use std::fmt::Write;
 
 /// What is counted of a run that came to a result.
@@ -90,8 +90,8 @@ fn push_step(text: &mut String, step: &BookStep) -> Result<(), AllocError>
     }
 }
 
-/// Puts the lines of a history at the end of the text. Want of memory is the only error.
-pub fn push_history(text: &mut String, history: &[BookStep]) -> Result<(), AllocError>
+// Puts the lines of a history at the end of the text.
+fn push_history(text: &mut String, history: &[BookStep]) -> Result<(), AllocError>
     ensures { OnOk result (Extends text.old text.new (history_text (steps_of history.now))) }
 {
     for step in history {
@@ -100,12 +100,25 @@ pub fn push_history(text: &mut String, history: &[BookStep]) -> Result<(), Alloc
     Ok(())
 }
 
-/// Puts a run's number, counted from 1, and its history at the end of the text. Want of memory is the only error.
-pub fn push_trace(text: &mut String, number: usize, history: &[BookStep]) -> Result<(), AllocError>
+// Puts a run's number, counted from 1, and its history at the end of the text.
+fn push_trace(text: &mut String, number: usize, history: &[BookStep]) -> Result<(), AllocError>
     ensures { OnOk result (Extends text.old text.new (trace_text number (steps_of history.now))) }
 {
     push_run(text, number)?;
     push_history(text, history)
+}
+
+/// The text of a run's history behind the line of its number, which is counted from 1. Want of memory is the only error.
+pub fn history_text(
+    alloc: Global,
+    number: usize,
+    history: &[BookStep],
+) -> Result<String, AllocError>
+    ensures { IfOk result (λ text. string_bytes text ≡ trace_text number (steps_of history.now)) }
+{
+    let mut text = String::new(alloc);
+    push_trace(&mut text, number, history)?;
+    Ok(text)
 }
 
 /// How many continuations were stolen.
@@ -166,8 +179,8 @@ fn push_kits(text: &mut String, counts: RunCounts) -> Result<(), AllocError>
     write!(text, " kits {free} of {kits}")
 }
 
-/// Puts the line of a run's counts at the end of the text. Want of memory is the only error.
-pub fn push_counts(text: &mut String, number: usize, counts: RunCounts) -> Result<(), AllocError>
+// Puts the line of a run's counts at the end of the text.
+fn push_counts(text: &mut String, number: usize, counts: RunCounts) -> Result<(), AllocError>
     ensures { OnOk result (Extends text.old text.new (counts_text number counts)) }
 {
     write!(text, "stats {number}")?;
@@ -177,9 +190,26 @@ pub fn push_counts(text: &mut String, number: usize, counts: RunCounts) -> Resul
     writeln!(text)
 }
 
-/// Puts the line of a run that came to a fault at the end of the text: it has no counts. Want of memory is the only error.
-pub fn push_no_counts(text: &mut String, number: usize) -> Result<(), AllocError>
+// Puts the line of a run that came to a fault at the end of the text: it has no counts.
+fn push_no_counts(text: &mut String, number: usize) -> Result<(), AllocError>
     ensures { OnOk result (Extends text.old text.new (no_counts_text number)) }
 {
     writeln!(text, "stats {number} none")
+}
+
+/// The line of what is counted of the run of that number; there are no counts of one that came to a fault. Want of memory is the only
+/// error.
+pub fn stats_text(
+    alloc: Global,
+    number: usize,
+    counts: Option<RunCounts>,
+) -> Result<String, AllocError>
+    ensures { IfOk result (λ text. string_bytes text ≡ stats_text number counts) }
+{
+    let mut text = String::new(alloc);
+    match counts {
+        Some(counts) => push_counts(&mut text, number, counts)?,
+        None => push_no_counts(&mut text, number)?,
+    }
+    Ok(text)
 }

@@ -1,0 +1,162 @@
+//! At which token a text is refused, and what could stand there.
+
+use crate::followers::{may_follow, push_followers};
+use crate::marks::{begins_declaration, mark_of, push_token};
+use procedure_parser::{TextError, parse};
+use std::alloc::{AllocError, Global};
+use token_scanner::{LONGEST_TEXT, Placed, Token, tokens};
+
+// The longest beginning of a declaration that is read again with each word that could follow it, in bytes.
+const LONGEST_BEGINNING: usize = 65_536;
+
+/// Puts a line about the token at which a program's text is refused, which is on that line of it, and what could stand in its place, at
+/// the end of the text. It is false, and nothing is put there, where no such token is found, or too much stands in front of it. Want of
+/// memory is the only error.
+pub fn push_expected(
+    alloc: Global,
+    text: &mut String,
+    program: &[u8],
+    line: u32,
+) -> Result<bool, AllocError> {
+    if program.len() > LONGEST_TEXT {
+        return Ok(false);
+    }
+    let tokens = tokens(alloc, program)?;
+    let Some(at) = refused_at(alloc, &tokens)? else {
+        return Ok(false);
+    };
+    if !is_on(&tokens, at, line) {
+        return Ok(false);
+    }
+    let beginning = written(alloc, &tokens, declaration_around(&tokens, at), at, ' ')?;
+    if beginning.len() > LONGEST_BEGINNING {
+        return Ok(false);
+    }
+    push_place(text, &tokens, at)?;
+    push_wanted(alloc, text, beginning.as_str(), tokens.get(at))?;
+    Ok(true)
+}
+
+// The number of the token at which a text of these is refused, counted from 0; it is one more than the last one's where the text ends
+// too early.
+fn refused_at(alloc: Global, tokens: &[Placed]) -> Result<Option<usize>, AllocError> {
+    // On a line of its own each token is told by its line.
+    let text = written(alloc, tokens, 0, tokens.len(), '\n')?;
+    match parse(alloc, text.as_bytes()) {
+        Ok(_) => Ok(None),
+        Err(TextError::NoMemory) => Err(AllocError),
+        Err(TextError::Text { line: 0 }) => Ok(None),
+        Err(TextError::Text { line }) => Ok(Some(line as usize - 1)),
+    }
+}
+
+// Whether the token of that number is on that line; the text's end is on any.
+fn is_on(tokens: &[Placed], at: usize, line: u32) -> bool {
+    match tokens.get(at) {
+        Some(token) => token.line == line,
+        None => true,
+    }
+}
+
+// The number of the token with which the declaration begins that is still open in front of a token.
+fn declaration_around(tokens: &[Placed], at: usize) -> usize {
+    let mut first = 0;
+    let mut before = None;
+    for (number, placed) in tokens.iter().enumerate() {
+        if number < at && begins_declaration(before, placed.token) {
+            first = number;
+        }
+        before = mark_of(placed.token);
+    }
+    first
+}
+
+// The tokens from one number to another, that one not counted, each with a character behind it.
+fn written(
+    alloc: Global,
+    tokens: &[Placed],
+    from: usize,
+    to: usize,
+    behind: char,
+) -> Result<String, AllocError> {
+    let mut text = String::new(alloc);
+    for (number, placed) in tokens.iter().enumerate() {
+        if from <= number && number < to {
+            push_token(&mut text, placed.token)?;
+            text.push(behind)?;
+        }
+    }
+    Ok(text)
+}
+
+// Puts which token can't stand behind which one at the end of the text.
+fn push_place(text: &mut String, tokens: &[Placed], at: usize) -> Result<(), AllocError> {
+    match tokens.get(at) {
+        None => text.push_str("  The text can't end")?,
+        Some(placed) => push_refused(text, placed.token)?,
+    }
+    if at == 0 {
+        return text.push_str(" at the beginning. ");
+    }
+    match tokens.get(at - 1) {
+        None => text.push_str(" there. "),
+        Some(before) => push_before(text, before.token),
+    }
+}
+
+// Puts the token that can't stand there at the end of the text.
+fn push_refused(text: &mut String, token: Token<'_>) -> Result<(), AllocError> {
+    if let Token::Bad = token {
+        return text.push_str(
+            "  What is no name, number or mark of the language (upper case, more than 32 bytes, a number that is too large) can't stand",
+        );
+    }
+    text.push_str("  `")?;
+    push_token(text, token)?;
+    text.push_str("` can't stand")
+}
+
+fn push_before(text: &mut String, before: Token<'_>) -> Result<(), AllocError> {
+    text.push_str(" behind `")?;
+    push_token(text, before)?;
+    text.push_str("`. ")
+}
+
+// Puts what could stand behind a beginning in the place of the token that is refused there at the end of the text.
+fn push_wanted(
+    alloc: Global,
+    text: &mut String,
+    beginning: &str,
+    refused: Option<&Placed<'_>>,
+) -> Result<(), AllocError> {
+    let mut followers = String::new(alloc);
+    push_followers(alloc, &mut followers, beginning)?;
+    if followers.is_empty() || is_one_too_many(alloc, beginning, refused)? {
+        return text.push_str("A limit is passed there: docs/LANGUAGE.md has them.\n");
+    }
+    text.push_str("Expected: ")?;
+    text.push_str(followers.as_str())?;
+    text.push_str(".\n")
+}
+
+// Whether a token that is refused could stand there if there were fewer declarations, or if it were a smaller number.
+fn is_one_too_many(
+    alloc: Global,
+    beginning: &str,
+    refused: Option<&Placed<'_>>,
+) -> Result<bool, AllocError> {
+    let Some(placed) = refused else {
+        return Ok(false);
+    };
+    match placed.token {
+        Token::Bad => Ok(false),
+        Token::Number(_) => Ok(
+            may_follow(alloc, beginning, "0")? || may_follow(alloc, beginning, "1")?,
+        ),
+        token => {
+            let mut word = String::new(alloc);
+            push_token(&mut word, token)?;
+            may_follow(alloc, beginning, word.as_str())
+        }
+    }
+}

@@ -1,0 +1,85 @@
+//! Tokens as they are written.
+
+use std::alloc::AllocError;
+use std::fmt::Write;
+use token_scanner::{Mark, Token};
+
+/// Puts a token, as a text has it, at the end of the text; in place of what is no token stands `!`, which is none either. Want of
+/// memory is the only error.
+pub fn push_token(text: &mut String, token: Token<'_>) -> Result<(), AllocError> {
+    match token {
+        Token::Name(name) => text.push_str(name),
+        Token::Number(number) => write!(text, "{number}"),
+        Token::Sign(mark) => text.push_str(written(mark)),
+        Token::Bad => text.push_str("!"),
+    }
+}
+
+/// Whether a declaration begins at a token that has the other in front of it.
+pub fn begins_declaration(before: Option<Mark>, token: Token<'_>) -> bool {
+    match token {
+        Token::Sign(Mark::Reducer | Mark::Memo) => true,
+        Token::Sign(Mark::Proc) => before != Some(Mark::Memo),
+        _ => false,
+    }
+}
+
+/// The mark that a token is.
+pub fn mark_of(token: Token<'_>) -> Option<Mark> {
+    match token {
+        Token::Sign(mark) => Some(mark),
+        _ => None,
+    }
+}
+
+// A mark or a keyword as it is written.
+fn written(mark: Mark) -> &'static str {
+    match mark {
+        Mark::OpenBrace => "{",
+        Mark::CloseBrace => "}",
+        Mark::OpenParen => "(",
+        Mark::CloseParen => ")",
+        Mark::OpenBracket => "[",
+        Mark::CloseBracket => "]",
+        Mark::Colon => ":",
+        Mark::Semicolon => ";",
+        Mark::Comma => ",",
+        Mark::Dot => ".",
+        Mark::Range => "..",
+        Mark::Assign => "=",
+        Mark::Equal => "==",
+        Mark::Unequal => "!=",
+        Mark::Less => "<",
+        Mark::AtMost => "<=",
+        Mark::Greater => ">",
+        Mark::AtLeast => ">=",
+        Mark::Plus => "+",
+        Mark::Minus => "-",
+        Mark::Star => "*",
+        Mark::Slash => "/",
+        Mark::Percent => "%",
+        keyword => keyword_written(keyword),
+    }
+}
+
+fn keyword_written(keyword: Mark) -> &'static str {
+    match keyword {
+        Mark::Reducer => "reducer",
+        Mark::Memo => "memo",
+        Mark::Proc => "proc",
+        Mark::Call => "call",
+        Mark::Spawn => "spawn",
+        Mark::Sync => "sync",
+        Mark::Update => "update",
+        Mark::If => "if",
+        Mark::Else => "else",
+        Mark::CilkFor => "cilk_for",
+        Mark::In => "in",
+        Mark::Grain => "grain",
+        Mark::Return => "return",
+        Mark::Read => "read",
+        Mark::Has => "has",
+        Mark::Limit => "limit",
+        _ => "",
+    }
+}
