@@ -19,5 +19,8 @@ pub use failure::Mismatch;
 pub use floor::{Floor, PlainFloor, work};
 pub use gate::{Gate, NoGate, Point};
 pub use kits::Stocked;
+pub use numbered_runs::refusal::StartError;
+pub use right_strands::run::Run;
 pub use run::run_threads;
 pub use seat::{PlainSeat, Seat};
+pub use stealing_deques::Deques;

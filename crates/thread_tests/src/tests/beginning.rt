@@ -83,6 +83,13 @@ fn push_answer(
     }
 }
 
+/// What a run came to.
+pub fn text_of(rt: &impl Abort, alloc: Global, program: &Checked, answer: &RunAnswer) -> String {
+    let mut text = String::new(alloc);
+    push_answer(alloc, &mut text, program, answer).expect(rt, "memory");
+    text
+}
+
 /// Runs a session by so many threads under a gate, and gives what it came to. Behind it all kits are home.
 pub fn answer<V: View + Send, R: Abort + Threads + Wait + Sync, G: Gate>(
     rt: &R,
@@ -99,7 +106,5 @@ pub fn answer<V: View + Send, R: Abort + Threads + Wait + Sync, G: Gate>(
     );
     let (free, total) = session.kits();
     assert_eq!(rt; free, total);
-    let mut text = String::new(alloc);
-    push_answer(alloc, &mut text, session.checked(), &answer).expect(rt, "memory");
-    text
+    text_of(rt, alloc, session.checked(), &answer)
 }
