@@ -3,6 +3,8 @@
 
 mod document;
 mod names;
+mod page;
+mod places;
 mod refusal;
 mod rows;
 mod shapes;

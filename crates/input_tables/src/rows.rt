@@ -7,25 +7,29 @@ ghost use Rattle.meaning.specs.Edits.{row_put, row_gone, in_range};
 ghost use Rattle.input_tables.specs.Rows.{AreCells};
 ghost use Rattle.input_tables.specs.Edited.{RowsFit};
 
+use crate::page::Page;
+use crate::places::{find, page_of, place_among_pages};
 use std::alloc::{AllocError, Global};
-use std::collections::BTreeMap;
 use std::marker::Model;
 
-/// Rows, each with its number and its values, by rising numbers.
+/// Rows, each with its number and its values, by rising numbers. They stand in pages, each with its own number, so that a
+/// row is found at once where none is missing before it, and a lone row of a great number takes little.
 #[derive(Drop)]
 pub struct Rows {
-    by_number: BTreeMap<i64, Vec<i64>>,
+    alloc: Global,
+    pages: Vec<(i64, Page)>,
 }
 
 impl Model for Rows {
     ghost use Rattle.std.specs.Prelude.{List};
-    ghost use Rattle.input_tables.specs.Rows.{Row, seen, AreNumbered, HaveCells};
+    ghost use Rattle.input_tables.specs.Rows.{Row};
+    ghost use Rattle.input_tables.specs.Pages.{all_of, AreRising, ArePages};
 
     ghost Value = { List Row };
 
-    ghost view = { λ rows. seen rows.by_number.entries };
+    ghost view = { λ rows. all_of rows.pages.items };
 
-    ghost invariant = { λ rows. AreNumbered rows.by_number.entries × HaveCells rows.by_number.entries };
+    ghost invariant = { λ rows. AreRising rows.pages.items × ArePages rows.pages.items };
 }
 
 fn number_fits(number: i64)
@@ -49,38 +53,46 @@ impl Rows {
         ensures { result ≡ [] }
     {
         Rows {
-            by_number: BTreeMap::new(alloc),
+            alloc,
+            pages: Vec::new(alloc),
         }
     }
 
     /// The values of the row of this number.
-    pub fn get(&self, number: i64) -> Option<&Vec<i64>>
-        ensures { option_map (λ values. values.now.items) result ≡ row_of self.now number }
+    pub fn get(&self, number: i64) -> Option<&[i64]>
+        ensures { option_map (λ values. values.now) result ≡ row_of self.now number }
     {
-        self.by_number.get(&number)
+        let page = page_of(number);
+        match find(&self.pages, page, place_among_pages(page)) {
+            Ok(place) => self.pages[place].1.get(number),
+            Err(_) => None,
+        }
     }
 
     /// Whether there is a row of this number.
     pub fn has(&self, number: i64) -> bool
         ensures { result ≡ is_there (row_of self.now number) }
     {
-        self.by_number.contains_key(&number)
+        self.get(number).is_some()
     }
 
     /// What the type keeps: each cell is a number of 64 bits.
     pub fn cells_fit(&self)
         ensures fit { RowsFit self.now }
     {
-        let _ = &self.by_number;
+        let _ = &self.pages;
     }
 
     /// One more than the greatest number, or 0 where there are no rows.
     pub fn limit(&self) -> i64
         ensures { result ≡ above_all (pos 0) self.now }
     {
-        match self.by_number.last_key_value() {
+        match self.pages.last() {
+            Some(page) => match page.1.last() {
+                Some(number) => number + 1,
+                None => 0,
+            },
             None => 0,
-            Some((last, _)) => *last + 1,
         }
     }
 
@@ -92,9 +104,16 @@ impl Rows {
         ensures same { OnErr result (self.new ≡ self.old) }
     {
         values_fit(&values);
-        match self.by_number.insert(number, values) {
-            Ok(before) => Ok(before.is_some()),
-            Err(_) => Err(AllocError),
+        let page = page_of(number);
+        match find(&self.pages, page, place_among_pages(page)) {
+            Ok(place) => self.pages[place].1.put(number, values),
+            Err(place) => {
+                let rows = Page::of_row(self.alloc, number, values)?;
+                if self.pages.insert(place, (page, rows)).is_err() {
+                    return Err(AllocError);
+                }
+                Ok(false)
+            }
         }
     }
 
@@ -103,6 +122,18 @@ impl Rows {
         ensures there { result ≡ is_there (row_of self.old number) }
         ensures gone { self.new ≡ row_gone number self.old }
     {
-        self.by_number.remove(&number).is_some()
+        let page = page_of(number);
+        match find(&self.pages, page, place_among_pages(page)) {
+            Ok(place) => {
+                let page = &mut self.pages[place].1;
+                let there = page.delete(number);
+                if page.last().is_some() {
+                    return there;
+                }
+                self.pages.remove(place);
+                there
+            }
+            Err(_) => false,
+        }
     }
 }

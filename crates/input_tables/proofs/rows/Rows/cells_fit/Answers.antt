@@ -1,5 +1,5 @@
-use Rattle.input_tables.proofs.Entries.{rows_fit}
+use Rattle.input_tables.proofs.PageEdits.{rows_fit}
 use Rattle.input_tables.proofs.rows.Rows.cells_fit.Goals as goal
 
 pub returns : goal.returns
-returns c = rw (← c.self.view_is) (record { fit = rows_fit c.self.inside.by_number.entries c.self.invariant.1 })
+returns c = rw (← c.self.view_is) (record { fit = rows_fit c.self.inside.pages.items c.self.invariant.1 })

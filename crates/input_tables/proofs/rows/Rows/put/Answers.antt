@@ -1,20 +1,100 @@
-use Rattle.std.proofs.Common.{◌∙◌, w64, subst}
+use Rattle.std.proofs.Common.{rules, ◌≡◌, ◌<◌, length, Some, ap, sym, ◌∙◌, w64, subst, FitsSigned}
 use Rattle.std.proofs.lemmas.Int.{to_z-of_z}
-use Rattle.input_tables.specs.Rows.{AreCells}
-use Rattle.input_tables.proofs.Entries.{there_row, put_row, put_or_same, more_has_cells}
+use Rattle.std.proofs.lemmas.Option.{slice_get-get_or}
+use Rattle.std.specs.Prelude.{slice_get, IfOk}
+use Rattle.meaning.specs.Tables.{is_there}
+use Rattle.input_tables.specs.Pages.{page_of, all_of}
+use Rattle.input_tables.proofs.PageEdits.{row_via_page, row_off_pages, put_page, new_page, rising_of, keep_put, keep_new, inserted, on_ok}
 use Rattle.input_tables.proofs.rows.Rows.put.Goals as goal
 
+pub put-requires : goal.put-requires
+put-requires c =
+    let ps = c.self.inside.pages.items in
+    let n = c.args.number in
+    let of_n = to_z-of_z w64 n c.ranges.number in
+    let fits : FitsSigned w64 c.page_of-page.result = search rules in
+    let number = to_z-of_z w64 c.page_of-page.result fits ∙ c.page_of-page.ensures ∙ ap page_of of_n in
+    let place = rw c.deref-2.ensures.value at c.in-Ok.ensures.place in
+    let there = rw c.deref-2.ensures.value at c.in-Ok.ensures.there in
+    let q = c.index_mut.result.now in
+    let within : c.in-Ok.place < length ps = rw c.deref-2.ensures.value at c.in-Ok.ensures.within in
+    let here : slice_get ps c.in-Ok.place ≡ Some q = slice_get-get_or ps c.in-Ok.place q within ∙ ap Some (sym c.index_mut.ensures.value) in
+    rising_of ps _ n c.in-Ok.place number c.self.invariant.0 c.self.invariant.1 place q here
+
 pub invariant_of-self : goal.invariant_of-self
-invariant_of-self c = (
-  put_or_same c.insert.result c.self.inside.by_number.entries _ _ c.args.number c.args.values (to_z-of_z w64 _ c.ranges.number) c.insert.ensures.entries c.insert.ensures.err c.requires c.self.invariant.0,
-  more_has_cells c.insert.result c.self.inside.by_number.entries _ _ c.args.values c.insert.ensures.entries c.insert.ensures.err (subst AreCells c.deref.ensures.value c.values_fit.ensures.fit) c.self.invariant.1,
-)
+invariant_of-self c =
+    let ps = c.self.inside.pages.items in
+    let n = c.args.number in
+    let of_n = to_z-of_z w64 n c.ranges.number in
+    let fits : FitsSigned w64 c.page_of-page.result = search rules in
+    let number = to_z-of_z w64 c.page_of-page.result fits ∙ c.page_of-page.ensures ∙ ap page_of of_n in
+    let place = rw c.deref-2.ensures.value at c.in-Ok.ensures.place in
+    let there = rw c.deref-2.ensures.value at c.in-Ok.ensures.there in
+    let q = c.index_mut.result.now in
+    let within : c.in-Ok.place < length ps = rw c.deref-2.ensures.value at c.in-Ok.ensures.within in
+    let here : slice_get ps c.in-Ok.place ≡ Some q = slice_get-get_or ps c.in-Ok.place q within ∙ ap Some (sym c.index_mut.ensures.value) in
+    keep_put ps _ n c.in-Ok.place number c.self.invariant.0 c.self.invariant.1 place c.put.result q c.args.values.items c.put.new.self here there c.requires (rw c.deref.ensures.value at c.values_fit.ensures.fit)
+    (rw of_n at c.put.ensures.put) c.put.ensures.same
+
+pub invariant_of-self-in-Err : goal.invariant_of-self-in-Err
+invariant_of-self-in-Err c =
+    let ps = c.self.inside.pages.items in
+    let n = c.args.number in
+    let of_n = to_z-of_z w64 n c.ranges.number in
+    let fits : FitsSigned w64 c.page_of-page.result = search rules in
+    let number = to_z-of_z w64 c.page_of-page.result fits ∙ c.page_of-page.ensures ∙ ap page_of of_n in
+    let place = rw c.deref-2.ensures.value at c.in-Err.ensures.new_place in
+    let absent = rw c.deref-2.ensures.value at c.in-Err.ensures.absent in
+    keep_new ps _ n c.in-Err.place number c.self.invariant.0 c.self.invariant.1 place c.insert.result c.args.values.items c.in_ok-rows-in-Err.rows c.insert.new.self.items absent c.requires
+    (rw c.deref.ensures.value at c.values_fit.ensures.fit) (rw of_n at c.in_ok-rows-in-Err.ensures) c.insert.ensures.items
 
 pub returns-in-Ok-clause-there : goal.returns-in-Ok-clause-there
 returns-in-Ok-clause-there c =
-    rw (← c.self.view_is) (c.is_some.ensures
-    ∙ there_row c.self.inside.by_number.entries _ c.args.number (to_z-of_z w64 _ c.ranges.number) _ c.in-Ok.ensures.old)
+    let ps = c.self.inside.pages.items in
+    let n = c.args.number in
+    let of_n = to_z-of_z w64 n c.ranges.number in
+    let fits : FitsSigned w64 c.page_of-page.result = search rules in
+    let number = to_z-of_z w64 c.page_of-page.result fits ∙ c.page_of-page.ensures ∙ ap page_of of_n in
+    let place = rw c.deref-2.ensures.value at c.in-Ok.ensures.place in
+    let there = rw c.deref-2.ensures.value at c.in-Ok.ensures.there in
+    let q = c.index_mut.result.now in
+    let within : c.in-Ok.place < length ps = rw c.deref-2.ensures.value at c.in-Ok.ensures.within in
+    let here : slice_get ps c.in-Ok.place ≡ Some q = slice_get-get_or ps c.in-Ok.place q within ∙ ap Some (sym c.index_mut.ensures.value) in
+    rw (← c.self.view_is) (subst (λ o. IfOk c.put.result (λ found. found ≡ is_there o)) (row_via_page ps _ n c.in-Ok.place number c.self.invariant.0 c.self.invariant.1 place q here there) (rw of_n at c.put.ensures.there))
 
 pub returns-in-Ok-clause-put : goal.returns-in-Ok-clause-put
 returns-in-Ok-clause-put c =
-    rw (← c.self.view_is) (put_row c.self.inside.by_number.entries _ _ c.args.number c.args.values (to_z-of_z w64 _ c.ranges.number) c.in-Ok.ensures.entries)
+    let ps = c.self.inside.pages.items in
+    let n = c.args.number in
+    let of_n = to_z-of_z w64 n c.ranges.number in
+    let fits : FitsSigned w64 c.page_of-page.result = search rules in
+    let number = to_z-of_z w64 c.page_of-page.result fits ∙ c.page_of-page.ensures ∙ ap page_of of_n in
+    let place = rw c.deref-2.ensures.value at c.in-Ok.ensures.place in
+    let there = rw c.deref-2.ensures.value at c.in-Ok.ensures.there in
+    let q = c.index_mut.result.now in
+    let within : c.in-Ok.place < length ps = rw c.deref-2.ensures.value at c.in-Ok.ensures.within in
+    let here : slice_get ps c.in-Ok.place ≡ Some q = slice_get-get_or ps c.in-Ok.place q within ∙ ap Some (sym c.index_mut.ensures.value) in
+    rw (← c.self.view_is) (on_ok c.put.result (rw of_n at c.put.ensures.put) (λ new. put_page ps _ n c.in-Ok.place number c.self.invariant.0 c.self.invariant.1 place q c.args.values.items c.put.new.self here there new))
+
+pub returns-else-is_err-clause-there : goal.returns-else-is_err-clause-there
+returns-else-is_err-clause-there c =
+    let ps = c.self.inside.pages.items in
+    let n = c.args.number in
+    let of_n = to_z-of_z w64 n c.ranges.number in
+    let fits : FitsSigned w64 c.page_of-page.result = search rules in
+    let number = to_z-of_z w64 c.page_of-page.result fits ∙ c.page_of-page.ensures ∙ ap page_of of_n in
+    let place = rw c.deref-2.ensures.value at c.in-Err.ensures.new_place in
+    let absent = rw c.deref-2.ensures.value at c.in-Err.ensures.absent in
+    rw (← c.self.view_is) (sym (ap is_there (row_off_pages ps _ n c.in-Err.place number c.self.invariant.0 c.self.invariant.1 place absent)))
+
+pub returns-else-is_err-clause-put : goal.returns-else-is_err-clause-put
+returns-else-is_err-clause-put c =
+    let ps = c.self.inside.pages.items in
+    let n = c.args.number in
+    let of_n = to_z-of_z w64 n c.ranges.number in
+    let fits : FitsSigned w64 c.page_of-page.result = search rules in
+    let number = to_z-of_z w64 c.page_of-page.result fits ∙ c.page_of-page.ensures ∙ ap page_of of_n in
+    let place = rw c.deref-2.ensures.value at c.in-Err.ensures.new_place in
+    let absent = rw c.deref-2.ensures.value at c.in-Err.ensures.absent in
+    let items = inserted c.insert.result _ _ _ _ c.is_err.ensures.value c.if-is_err.false c.insert.ensures.items in
+    rw (← c.self.view_is) (ap all_of items ∙ new_page ps _ n c.in-Err.place number c.self.invariant.0 c.self.invariant.1 place c.args.values.items c.in_ok-rows-in-Err.rows absent (rw of_n at c.in_ok-rows-in-Err.ensures))

@@ -1,0 +1,78 @@
+// Where a number stands among entries by rising numbers, and which page covers a row.
+
+ghost use Rattle.std.specs.Prelude.{◌≡◌, ◌<◌, ◌≤◌, IfOk, IfErr, slice_get, length};
+ghost use Rattle.input_tables.specs.Pages.{place_of, page_of, AreRising, IsOf, IsAbsent};
+
+const PAGE_ROWS: i64 = 64;
+
+/// The number of the page that covers a row. No row has a number below 0, so there is no page of those.
+pub fn page_of(row: i64) -> i64
+    ensures { result ≡ page_of row }
+{
+    if row < 0 { -1 } else { row / PAGE_ROWS }
+}
+
+/// Where a row stands in its page, if those before it on the page are all there.
+pub fn place_on_page(row: i64) -> usize {
+    if row < 0 {
+        0
+    } else {
+        (row % PAGE_ROWS) as usize
+    }
+}
+
+/// Where a page stands, if those before it are all there.
+pub fn place_among_pages(page: i64) -> usize {
+    if page < 0 { 0 } else { page as usize }
+}
+
+/// Where the entry of this number stands, or else where it is to be put. It is quick where the entry stands at `guess`.
+pub fn find<T>(entries: &[(i64, T)], number: i64, guess: usize) -> Result<usize, usize>
+    requires { AreRising entries.now }
+    ensures place { IfOk result (λ place. place ≡ place_of number entries.now) }
+    ensures within { IfOk result (λ place. place < length entries.now) }
+    ensures there { IfOk result (λ place. IsOf number (slice_get entries.now place)) }
+    ensures new_place { IfErr result (λ place. place ≡ place_of number entries.now) }
+    ensures upto_end { IfErr result (λ place. place ≤ length entries.now) }
+    ensures absent { IfErr result (λ place. IsAbsent number (slice_get entries.now place)) }
+{
+    let place = place_of(entries, number, guess);
+    match entries.get(place) {
+        Some(entry) => {
+            if entry.0 == number {
+                Ok(place)
+            } else {
+                Err(place)
+            }
+        }
+        None => Err(place),
+    }
+}
+
+// How many entries have lower numbers.
+fn place_of<T>(entries: &[(i64, T)], number: i64, guess: usize) -> usize
+    requires { AreRising entries.now }
+    ensures { result ≡ place_of number entries.now }
+{
+    match entries.get(guess) {
+        Some(entry) if entry.0 == number => guess,
+        _ => search(entries, number),
+    }
+}
+
+fn search<T>(entries: &[(i64, T)], number: i64) -> usize
+    requires { AreRising entries.now }
+    ensures { result ≡ place_of number entries.now }
+{
+    let mut low = 0;
+    let mut high = entries.len();
+    while low < high {
+        let middle = low + (high - low) / 2;
+        if entries[middle].0 < number {
+            low = middle + 1;
+        } else {
+            high = middle;
+        }
+    }
+    low
+}
