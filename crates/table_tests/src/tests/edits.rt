@@ -80,3 +80,65 @@ fn a_row_is_deleted(rt: HostRuntime) -> Result<(), Fail> {
     assert_eq!(rt; wrong_answer(&tables, &looks), None);
     Ok(())
 }
+
+#[test]
+fn rows_of_several_pages_are_put(rt: HostRuntime) -> Result<(), Fail> {
+    let mut tables = Tables::from_toml(rt.alloc(), SALES)?;
+    let last: [Look; 3] = [Limit(0, 64), Cell(0, 63, 0, Some(7)), Has(0, 64, false)];
+    let next: [Look; 3] = [
+        Limit(0, 65),
+        Cell(0, 64, 1, Some(2)),
+        Cell(0, 63, 0, Some(7)),
+    ];
+    let far: [Look; 4] = [
+        Limit(0, 2_147_483_648),
+        Cell(0, 2_147_483_647, 1, Some(4)),
+        Has(0, 2_147_483_583, false),
+        Has(0, -1, false),
+    ];
+    let between: [Look; 3] = [
+        Limit(0, 2_147_483_648),
+        Has(0, 200, true),
+        Has(0, 136, false),
+    ];
+    let over: [Look; 3] = [Edits(5), Cell(0, 64, 0, Some(8)), Cell(0, 64, 1, Some(9))];
+    let rows: [(i64, [i64; 2], &[Look]); 5] = [
+        (63, [7, 1], &last),
+        (64, [1, 2], &next),
+        (2_147_483_647, [3, 4], &far),
+        (200, [5, 6], &between),
+        (64, [8, 9], &over),
+    ];
+    for (row, values, looks) in rows {
+        tables.put(rt.alloc(), "sales", row, &values)?;
+        assert_eq!(rt; wrong_answer(&tables, looks), None);
+    }
+    Ok(())
+}
+
+const PAGES: &str =
+    "[sales]\ncolumns = [\"price\"]\nrows = [[64, 5], [0, 3], [2147483647, 8], [63, 4]]\n";
+
+#[test]
+fn rows_of_several_pages_are_deleted(rt: HostRuntime) -> Result<(), Fail> {
+    let mut tables = Tables::from_toml(rt.alloc(), PAGES)?;
+    let far: [Look; 3] = [
+        Limit(0, 65),
+        Has(0, 2_147_483_647, false),
+        Cell(0, 64, 0, Some(5)),
+    ];
+    let middle: [Look; 3] = [Limit(0, 65), Has(0, 63, false), Cell(0, 64, 0, Some(5))];
+    let second: [Look; 3] = [Limit(0, 1), Has(0, 64, false), Cell(0, 0, 0, Some(3))];
+    let none: [Look; 3] = [Limit(0, 0), Has(0, 0, false), Edits(4)];
+    let rows: [(i64, &[Look]); 4] = [
+        (2_147_483_647, &far),
+        (63, &middle),
+        (64, &second),
+        (0, &none),
+    ];
+    for (row, looks) in rows {
+        tables.delete("sales", row)?;
+        assert_eq!(rt; wrong_answer(&tables, looks), None);
+    }
+    Ok(())
+}
