@@ -57,6 +57,18 @@ where
     }
 }
 
+/// What a run comes to that is given up before a worker has come: the first strand has a kit.
+fn given_up<J: Run + Ledger + Stocked + Send, D: Deques>(
+    floor: Floor<'_, J, D, PlainView>,
+) -> Came {
+    Came {
+        answer: RunAnswer::Unfinished,
+        home: floor.into_pool().free(),
+        records: 0,
+        steps: 0,
+    }
+}
+
 /// The run through these deques, one for each worker; the error is why it wasn't begun, and how many kits are back.
 fn through<J, D, R>(
     rt: &R,
@@ -66,6 +78,7 @@ fn through<J, D, R>(
     records: &Records,
     pool: Pool<Kit<PlainView>>,
     deques: NewDeques<J>,
+    gives_up: bool,
 ) -> Result<Came, (StartError, usize)>
 where
     J: Run + Ledger + Stocked + Send + Sync,
@@ -81,7 +94,13 @@ where
     requires some { 0 < length deques }
 {
     match Floor::<J, D, PlainView>::new(alloc, program, tables, records, pool, deques) {
-        Ok((floor, seats)) => Ok(finished(rt, floor, seats)),
+        Ok((floor, seats)) => {
+            if gives_up {
+                Ok(given_up(floor))
+            } else {
+                Ok(finished(rt, floor, seats))
+            }
+        }
         Err((error, pool)) => Err((error, pool.free())),
     }
 }
@@ -96,6 +115,7 @@ fn by_workers<J, R>(
     pool: Pool<Kit<PlainView>>,
     blank: Blank,
     workers: usize,
+    gives_up: bool,
 ) -> Result<Came, (StartError, usize)>
 where
     J: Run + Ledger + Stocked + Send + Sync,
@@ -111,7 +131,7 @@ where
     requires some { 0 < workers }
 {
     let deques = deques_of::<J>(alloc, blank, workers).expect(rt, "memory");
-    through::<J, Brand, R>(rt, alloc, program, tables, records, pool, deques)
+    through::<J, Brand, R>(rt, alloc, program, tables, records, pool, deques, gives_up)
 }
 
 /// A session's program on its tables by so many workers; the session has no kits behind it.
@@ -122,6 +142,7 @@ fn on_a_floor<R: Abort + Threads + Wait + Sync>(
     rows: &str,
     kits: usize,
     workers: usize,
+    gives_up: bool,
 ) -> Result<(String, usize, usize, usize), (StartError, usize)>
     requires workers { (0 < workers) × (workers ≤ 16) }
 {
@@ -142,6 +163,7 @@ fn on_a_floor<R: Abort + Threads + Wait + Sync>(
         pool,
         Blank::new(workers as u64),
         workers,
+        gives_up,
     )?;
     let text = text_of(rt, alloc, session.checked(), &came.answer);
     Ok((text, came.home, came.records, came.steps))
@@ -149,7 +171,7 @@ fn on_a_floor<R: Abort + Threads + Wait + Sync>(
 
 #[test]
 fn result_on_a_floor(rt: HostRuntime) {
-    match on_a_floor(&rt, rt.alloc(), LINES, SALES, 8, 2) {
+    match on_a_floor(&rt, rt.alloc(), LINES, SALES, 8, 2, false) {
         Ok((text, home, records, steps)) => {
             assert_eq!(&rt; text.as_str(), "result 131\ntotal 131\ntop 100 3\n");
             assert_eq!(&rt; (home, records), (8, 3));
@@ -162,7 +184,7 @@ fn result_on_a_floor(rt: HostRuntime) {
 /// A run that has ended by a fault leaves no records.
 #[test]
 fn fault_on_a_floor(rt: HostRuntime) {
-    match on_a_floor(&rt, rt.alloc(), LINES, SALES_WITH_A_GAP, 8, 4) {
+    match on_a_floor(&rt, rt.alloc(), LINES, SALES_WITH_A_GAP, 8, 4, false) {
         Ok((text, home, records, _)) => {
             assert_eq!(&rt; text.as_str(), "fault missing row in line at 1\n");
             assert_eq!(&rt; (home, records), (8, 0));
@@ -173,8 +195,18 @@ fn fault_on_a_floor(rt: HostRuntime) {
 
 #[test]
 fn no_floor_without_a_kit(rt: HostRuntime) {
-    match on_a_floor(&rt, rt.alloc(), FIRST, SALES, 0, 2) {
+    match on_a_floor(&rt, rt.alloc(), FIRST, SALES, 0, 2, false) {
         Ok(_) => panic!(&rt; "begun"),
         Err(refused) => assert_eq!(&rt; refused, (StartError::NoKit, 0)),
+    }
+}
+
+#[test]
+fn floor_is_given_up(rt: HostRuntime) {
+    match on_a_floor(&rt, rt.alloc(), FIRST, SALES, 8, 2, true) {
+        Ok((text, home, _, _)) => {
+            assert_eq!(&rt; (text.as_str(), home), ("unfinished\n", 7));
+        }
+        Err(_) => panic!(&rt; "not begun"),
     }
 }
