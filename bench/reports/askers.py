@@ -6,8 +6,8 @@ the quantity, times the price.
 import dataclasses
 
 STEPS = 24
-# How many turns of a put and a run a session has: fewer for who does all rows at each run.
-TURNS, FEW_TURNS = 20, 4
+# How many turns of a put and a run a session has: fewer for who does all rows at each run, and over many rows.
+TURNS, FEW_TURNS, MANY_ROWS = 20, 4, 300_000
 KITS = 256
 
 
@@ -118,9 +118,10 @@ with recursive n (r) as (select 1 union all select r + 1 from n where r < {rows}
 # ---- all of them
 
 
-def askers_of(program, by_hand, weight, room):
+def askers_of(program, by_hand, rows, weight, room):
     """All askers, in the order of the table; the first is the one that the others are compared with."""
     tables = f"{room}/tables"
+    turns_of_some = FEW_TURNS if rows > MANY_ROWS else TURNS
 
     def reports(title, name, turns):
         for workers in (1, 2, 4):
@@ -134,13 +135,13 @@ def askers_of(program, by_hand, weight, room):
         return Asker(f"sqlite3, {title}", name, ("sqlite3", "-batch", ":memory:"), turns, is_sqlite=True)
 
     return [
-        *reports("cilkreport, halves with records", "halves", TURNS),
+        *reports("cilkreport, halves with records", "halves", turns_of_some),
         *reports("cilkreport, all rows", "whole", FEW_TURNS),
         hand("a loop over all rows", "loop", FEW_TURNS),
         hand("the same by 2 threads", "threads=2", FEW_TURNS),
         hand("the same by 4 threads", "threads=4", FEW_TURNS),
         hand("a HashMap of the rows' values", "memo", FEW_TURNS),
-        hand("a tree of sums", "tree", TURNS),
+        hand("a tree of sums", "tree", turns_of_some),
         sqlite("a query of all rows", "query", FEW_TURNS),
-        sqlite("triggers that keep the total", "triggers", TURNS),
+        sqlite("triggers that keep the total", "triggers", turns_of_some),
     ]

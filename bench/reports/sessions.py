@@ -13,7 +13,7 @@ import sys
 import askers
 
 # How often each session is run, by the number of rows.
-TIMES = ((1_000, 25), (10_000, 15), (100_000, 7), (sys.maxsize, 4))
+TIMES = ((1_000, 25), (10_000, 15), (100_000, 7), (sys.maxsize, 3))
 
 
 def marks_of(asker, room, preload):
@@ -25,8 +25,8 @@ def marks_of(asker, room, preload):
         words = {"env": {**os.environ, "LD_PRELOAD": preload, "MARKS": noted}, "stderr": subprocess.DEVNULL}
         answers = subprocess.run(asker.words, stdin=script, stdout=subprocess.PIPE, check=True, **words).stdout
     with open(noted, "rb") as file, mmap.mmap(file.fileno(), 0, access=mmap.ACCESS_READ) as found:
-        marks = list(struct.iter_unpack("QQ", found))
-    return [(a / 1e6, b / 1e6) for a, b in marks], re.findall(r"^total (-?\d+)$", answers.decode(), re.M)
+        marks = [(used / 1e6, clock / 1e6) for used, clock in struct.iter_unpack("QQ", found) if clock]
+    return marks, re.findall(r"^total (-?\d+)$", answers.decode(), re.M)
 
 
 def sqlite_marks_of(asker, room):
@@ -48,7 +48,7 @@ def sqlite_marks_of(asker, room):
 
 def took(asker, marks):
     """Milliseconds of the first run and of a turn, each by the processor and by the clock."""
-    if len(marks) != asker.turns + 2 or not all(clock for _, clock in marks[1:]) and not asker.is_sqlite:
+    if len(marks) != asker.turns + 2:
         sys.exit(f"{asker.title}: {len(marks)} marks")
     begun, first, last = marks[0], marks[1], marks[-1]
     return [first[i] - begun[i] for i in (0, 1)] + [(last[i] - first[i]) / asker.turns for i in (0, 1)]
@@ -96,9 +96,9 @@ def ratio(part, whole):
 
 
 def print_table(rows, weight, least):
-    """Processor time with its ratio to that of the first asker; the clock's is written behind it, but for sqlite3."""
+    """Processor time, and its ratio to that of the first asker; the clock's is written behind it, but for sqlite3."""
     base = next(iter(least.values()))
-    print(f"\n| {rows} {weight} rows, ms of a processor (by the clock) | first run | to the first line | put and run | to the first line |")
+    print(f"\n| {rows} {weight} rows, ms of a processor (by the clock) | first run | its ratio | put and run | its ratio |")
     print("|---|---|---|---|---|")
     for asker, (first, first_clock, again, again_clock) in least.items():
         clocks = ("", "") if asker.is_sqlite else (f" ({written(first_clock)})", f" ({written(again_clock)})")
@@ -110,7 +110,7 @@ def main():
     program, by_hand, preload, room, *counts = sys.argv[1:]
     for rows in map(int, counts):
         for weight in ("light", "heavy"):
-            found = askers.askers_of(program, by_hand, weight, room)
+            found = askers.askers_of(program, by_hand, rows, weight, room)
             print_table(rows, weight, measure(rows, weight, found, room, preload))
 
 

@@ -1,6 +1,6 @@
 #!/usr/bin/env bash
 # Prints what runs of light reports cost by one worker, as a table: the instructions of a row, an iteration or a call (callgrind), and
-# the nanoseconds of a processor (the least of seven sessions), each that of a session with one run less that of the session without.
+# the nanoseconds of a processor (the least of fifteen sessions), each that of a session with one run less that of the session without.
 # Beside the program stand a loop in Rust without a runtime, and Lua 5.4 where `lua5.4` is on the path. Then what a spawn with its sync
 # costs in calls, and for each report the twenty functions with most instructions. The answers are compared. Takes valgrind, rustc, python3.
 #
@@ -120,7 +120,7 @@ commands() {
 }
 
 declare -A took
-while read -r name processor _; do took[$name]=$processor; done < <(commands | "$here/../least.py" 7)
+while read -r name processor _; do took[$name]=$processor; done < <(commands | "$here/../least.py" 15)
 
 # Nanoseconds a unit.
 nanoseconds() { # the name, how many runs, how many units
