@@ -3,9 +3,9 @@
 # row, one behind a define of the procedure that is called for each row, and one behind a define of main alone. Beside the program stand
 # sqlite3 that asks the same by a query of all rows, sqlite3 whose triggers and index keep the total and the best row, and a loop in Rust
 # that does all from scratch. Each number is that of a session with the part, less that of the session without it, by the number of rows:
-# instructions as callgrind counts them, or with --time the nanoseconds of a processor, by the least of five sessions that have each part
-# ten times; these are read to a millisecond, so they want a million rows and a quiet machine. The answers of all four are compared. Without a program its column is empty.
-# Takes sqlite3, rustc, and valgrind where it counts.
+# instructions as callgrind counts them, or with --time the nanoseconds of a processor, by the least of three sessions that have each part
+# four times; these are read to a millisecond, so they want a million rows and a quiet machine. The answers of all four are compared.
+# Without a program its column is empty. Takes sqlite3, rustc, and valgrind where it counts.
 #
 # usage: sessions.sh [--time] [--program FILE] [ROWS ..]      by default ./cilkreport as it is built, and 100000 rows
 set -eu
@@ -14,7 +14,7 @@ program=$(realpath -m "$here/../../crates/cilkreport/out/cilkreport")
 unit=instructions times=1
 while [[ ${1:-} == --* ]]; do
     case $1 in
-        --time) unit=nanoseconds times=10 ;;
+        --time) unit=nanoseconds times=4 ;;
         --program)
             program=$2
             shift
@@ -135,7 +135,7 @@ instructions() { # whose, which part
 
 nanoseconds() {
     local least='' took TIMEFORMAT='%3U %3S'
-    for _ in 1 2 3 4 5; do
+    for _ in 1 2 3; do
         took=$({ time "${words[@]}" < "$room/$1.$2" > "$room/$1.$2.answers"; } 2>&1 | awk '{ printf "%.0f", ($1 + $2) * 1e9 }')
         if [ -z "$least" ] || [ "$took" -lt "$least" ]; then least=$took; fi
     done

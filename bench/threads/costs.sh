@@ -1,0 +1,53 @@
+#!/usr/bin/env bash
+# Prints what a spawn and a steal cost, in instructions (callgrind): a spawn that isn't stolen, with its sync, beyond a call in its place;
+# and a steal with its fold, by runs with 2 and 4 workers of so many more pairs of instances that the steals differ, beyond the same runs
+# with one worker. The second holds what a worker does to find something to steal. Takes valgrind.
+#
+# usage: costs.sh [PROGRAM]      by default ./cilkreport as it is built
+set -eu
+here=$(cd "$(dirname "$0")" && pwd)
+program=$(realpath -m "${1:-$here/../../crates/cilkreport/out/cilkreport}")
+room=$(mktemp -d)
+trap 'rm -rf "$room"' EXIT
+source "$here/../speed/reports.sh"
+fib=24
+spawned=75024 # by fib(24)
+few=2000 many=8000
+echo run > "$room/once"
+: > "$room/tables"
+calls $fib > "$room/calls"
+spawns $fib > "$room/spawns"
+
+# So many times two instances side by side, one of them spawned.
+pairs() {
+    echo 'reducer total : add;'
+    echo 'proc one(k) { x = k * 3; }'
+    echo 'proc spin(i) { cilk_for k in 0 .. 40 grain 64 : one(k); update total i; return i; }'
+    echo 'proc pair(i) { x = spawn spin(i); y = call spin(i); sync; }'
+    echo "proc main() { cilk_for i in 0 .. $1 grain 65536 : pair(i); t = read total; return t; }"
+}
+for count in $few $many; do pairs $count > "$room/pairs$count"; done
+
+# The instructions and the steals of a run.
+counts() { # the report, how many workers
+    valgrind --tool=callgrind --fair-sched=yes --callgrind-out-file=/dev/null \
+        "$program" "$room/$1" "$room/tables" --workers "$2" --stats < "$room/once" 2>&1 > "$room/answers" |
+        sed -nE 's/.*Collected : //p; s/^stats .* steals ([0-9]+) .*/\1/p' | sort -n | xargs
+}
+
+read -r _ called < <(counts calls 1)
+read -r _ all < <(counts spawns 1)
+echo "a spawn that isn't stolen, with its sync: $(((all - called) / spawned)) instructions more than a call"
+read -r _ few_alone < <(counts pairs$few 1)
+read -r _ many_alone < <(counts pairs$many 1)
+for workers in 2 4; do
+    read -r few_steals few_all < <(counts pairs$few $workers)
+    read -r many_steals many_all < <(counts pairs$many $workers)
+    more=$((many_all - many_alone - few_all + few_alone))
+    steals=$((many_steals - few_steals))
+    if [ $steals = 0 ]; then
+        echo "$workers workers: nothing was stolen"
+    else
+        echo "a steal with its fold, by $workers workers: $((more / steals)) instructions, the search for it among them ($steals steals)"
+    fi
+done
