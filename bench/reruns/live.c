@@ -1,28 +1,14 @@
 // A malloc before the C library's: keeps how many bytes are in use, and notes them before each line of standard error that begins with
 // `stats`, as one 64-bit number each, in the file LIVE, which has to be there and to be long enough.
 #define _GNU_SOURCE
+#include "../notes.h"
 #include <dlfcn.h>
-#include <fcntl.h>
 #include <malloc.h>
-#include <stdint.h>
-#include <stdlib.h>
 #include <string.h>
-#include <sys/mman.h>
-#include <sys/stat.h>
 #include <sys/syscall.h>
-#include <unistd.h>
 static _Atomic int64_t live;
-static int64_t *next, *end;
 static int64_t size_of(void *room) { return (int64_t)malloc_usable_size(room); }
-__attribute__((constructor)) static void begin(void) {
-  const char *name = getenv("LIVE");
-  int file = name ? open(name, O_RDWR) : -1;
-  struct stat found;
-  if (file < 0 || fstat(file, &found)) return;
-  void *room = mmap(0, (size_t)found.st_size, PROT_READ | PROT_WRITE, MAP_SHARED, file, 0);
-  if (room != MAP_FAILED) { next = room; end = next + found.st_size / sizeof *next; }
-  close(file);
-}
+__attribute__((constructor)) static void begin(void) { open_notes("LIVE"); }
 void *malloc(size_t size) {
   static void *(*real)(size_t);
   if (!real) real = dlsym(RTLD_NEXT, "malloc");

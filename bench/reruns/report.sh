@@ -17,11 +17,4 @@ report() { # what is added to each value, and to the result
     main_added "$2" | sed 's/ + 0;/;/'
 }
 
-# A table of so many rows, numbered from 1.
-tables() {
-    echo '[sales]'
-    echo 'columns = ["qty", "price"]'
-    echo 'rows = ['
-    seq 1 "$1" | sed 's/.*/[&, &, 7],/'
-    echo ']'
-}
+source "$(dirname "${BASH_SOURCE[0]}")/../rows.sh"

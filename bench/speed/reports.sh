@@ -1,13 +1,6 @@
 # Sourced by run.sh: the reports that it runs, and their tables.
 
-# A table of so many rows, numbered from 1.
-tables() {
-    echo '[sales]'
-    echo 'columns = ["qty", "price"]'
-    echo 'rows = ['
-    seq 1 "$1" | sed 's/.*/[&, &, 7],/'
-    echo ']'
-}
+source "$(dirname "${BASH_SOURCE[0]}")/../rows.sh"
 
 # Calls a procedure for each row of the table.
 lines() {
