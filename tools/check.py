@@ -7,9 +7,11 @@ usage: tools/check.py CRATE [FLAGS OF rattle check ..]   proves the crate: --onl
        tools/check.py CRATE --edits [EDIT ..]            tries its must-fail edits: each has to be refused
        tools/check.py CRATE --plant [FLAGS OF rt plant]  lists the wrong bodies that its contracts let through
        tools/check.py --type CRATE ..                    reads the crates and their tests from sources: types and borrows
+       tools/check.py --take FOLDER LOG                  keeps the libraries that `rt ci` has proved in that clone by now, by what it printed
 
 Libraries below that aren't kept yet are proved first. They are kept in $HEARTSPLUM_LIBRARIES, or ~/.cache/heartsplum, by
-the sum of the sources that they are made of; rt's own checks know nothing of them. What a check has proved of the crate
+the sum of the sources that they are made of; rt's own checks know nothing of them. $HEARTSPLUM_JOBS says how many
+processors a proof takes, else one. What a check has proved of the crate
 itself stays in the crate's folder out/, so a check again takes seconds. None of this is a verdict: the gate is `rt ci`.
 It works by what this kit's rt is made of, and says so where that is otherwise.
 """
@@ -17,12 +19,14 @@ import fcntl
 import importlib.machinery
 import importlib.util
 import os
+import re
 import shutil
 import sys
 import tempfile
 
 TOP = os.path.dirname(os.path.dirname(os.path.realpath(__file__)))
 KEPT_IN = os.environ.get("HEARTSPLUM_LIBRARIES", os.path.expanduser("~/.cache/heartsplum"))
+JOBS = ["--jobs", os.environ.get("HEARTSPLUM_JOBS", "1")]
 KIT = os.path.dirname(os.path.realpath(shutil.which("rt") or sys.exit("rt is not on the path")))
 
 
@@ -70,7 +74,7 @@ def make(crate):
             return 0
         print(f"making the library {crate.name}", flush=True)
         made = tempfile.mkdtemp(dir=os.path.dirname(room))
-        words = [*crate.words(["--jobs", "1"], keeps=False), *rtlib.KEPT]
+        words = [*crate.words(JOBS, keeps=False), *rtlib.KEPT]
         status = crate.call(rtlib.RATTLE, "build", *words, "-o", f"{made}/{file}")
         crate.sums.clear()
         if status or os.path.dirname(crate.rlib) != room:
@@ -78,6 +82,21 @@ def make(crate):
             return status or print("the sources were changed meanwhile: once more") or 1
         os.rename(made, room)
         return 0
+
+
+def take(folder, log):
+    """Keeps the libraries that `rt ci` has made in a clone, of each crate of which the log says that it is proved."""
+    with open(log, encoding="utf-8") as file:
+        proved = sorted(set(re.findall(r"^rt: (\w+) proved$", file.read(), re.M)))
+    for name in proved:
+        crate = rtlib.Crate(f"{folder}/crates/{name}", folder, {})
+        made, room = f"{crate.folder}/out/rlib/{name}.rlib", os.path.dirname(crate.rlib)
+        if os.path.isdir(made) and not os.path.isdir(room):
+            os.makedirs(os.path.dirname(room), exist_ok=True)
+            shutil.copytree(made, f"{room}.new/{name}.rlib", symlinks=True)
+            os.rename(f"{room}.new", room)
+            print(f"took the library {name}", flush=True)
+    return 0
 
 
 def typed(crate):
@@ -123,6 +142,10 @@ def main(words):
     keeps_libraries(rtlib.Crate)
     if words[0] == "--type":
         return max([typed(crate_of(name)) for name in words[1:]], default=0)
+    if words[0] == "--take":
+        folder, log = map(os.path.realpath, words[1:3])
+        os.chdir(folder)
+        return take(folder, log)
     crate, flags = crate_of(words[0]), words[1:]
     if any(make(below) for below in crate.below()):
         return 1
@@ -133,10 +156,10 @@ def main(words):
         return plants(crate, rest)
     if verb == "--run":
         crate.held = []
-        return crate.run(["--jobs", "1"], rest[:1], tests=crate.has_tests() and not crate.is_program)
+        return crate.run(JOBS, rest[:1], tests=crate.has_tests() and not crate.is_program)
     if verb == "--lib":
         return make(crate)
-    return crate.check(flags if "--jobs" in flags else [*flags, "--jobs", "1"])
+    return crate.check(flags if "--jobs" in flags else [*flags, *JOBS])
 
 
 if __name__ == "__main__":

@@ -1,8 +1,10 @@
 //! Answers the script on its input by runs of a program over tables.
 #![tactic(auto)]
 
+use cli::files::StandardError;
 use cli::program::{ending, report};
 use monoid_laws::Kind;
+use program_reasons::script::Explainer;
 use program_reasons::{reasons_of, show};
 use std::alloc::AllocError;
 use std::process::ExitCode;
@@ -13,7 +15,8 @@ fn main(rt: HostRuntime) -> ExitCode {
     let make = |kind: Kind| -> Result<Box<dyn View>, AllocError> {
         Ok(Box::new(alloc, PlainView::new(alloc, kind))?)
     };
-    let reported = report(&rt, alloc, &make);
+    let explainer = Explainer::new(alloc, StandardError { rt: &rt });
+    let reported = report(&rt, alloc, &make, explainer);
     let reasons = reasons_of(&rt, alloc, &reported);
     let status = ending(&rt, reported);
     show(&rt, reasons.as_str());

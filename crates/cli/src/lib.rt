@@ -2,6 +2,7 @@
 #![tactic(auto)]
 
 pub mod beginning;
+pub mod explained;
 pub mod files;
 pub mod kits;
 pub mod notes;

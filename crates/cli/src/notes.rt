@@ -2,10 +2,13 @@
 ghost use Rattle.std.specs.Prelude.{◌≡◌, Bool, true, false};
 ghost use Rattle.threaded_driver.specs.Come.{HasEnded};
 
+use crate::explained::Cause;
 use frames::answer::RunAnswer;
+use input_tables::Tables;
+use linked_program::checked::Checked;
 use worker_core::BookStep;
 
-/// Who is told of each run that came to a result or a fault.
+/// Who is told of each run that came to a result or a fault, and of what is refused.
 pub trait Notes {
     // Whether it has failed.
     ghost failed: { Self → Bool };
@@ -22,6 +25,12 @@ pub trait Notes {
         requires ended { HasEnded answer.now }
         ensures failed { result ≡ false → failed self.new ≡ true }
         ensures unmarked { result ≡ true → failed self.new ≡ failed self.old };
+
+    /// Tells of an edit or a line that is refused, or of a run's fault, with the program and the tables as they are then.
+    /// That it isn't explained is no failure.
+    fn explain(&mut self, _cause: Cause<'_>, _checked: &Checked, _tables: &Tables)
+        ensures kept { failed self.new ≡ failed self.old }
+    {}
 }
 
 /// Tells nobody.

@@ -8,6 +8,7 @@ ghost use Rattle.cli.specs.Statuses.{status_of};
 ghost use Rattle.cli.specs.Reports.{IsOpened, IsUnopened, IsFailed, IsUnmade, IsLate, IsReportedOver, IsBegunOver, ReadsNothing, ReportsRefusal, WritesNothing};
 
 use crate::beginning::{BeginError, begin};
+use crate::explained::{Explain, Explained};
 use crate::files::{FileSource, StandardError, SystemFiles};
 use crate::prepare::PrepareError;
 use crate::run_notes::{NotesError, RunNotes};
@@ -85,12 +86,14 @@ pub fn ending(rt: &(impl Print + Eprint), reported: Result<(), ProgramError>) ->
 }
 
 /// Does the session that the program's line asks for, from standard input to standard output, with views that the caller
-/// makes; one of another kind counts as want of memory. Its errors are those of the line, of a file, of
-/// `prepare` and of the session, but for the want of a kit, since a line asks for one kit at least.
-pub fn report<V: View, M: Fn(Kind) -> Result<V, AllocError>>(
+/// makes; one of another kind counts as want of memory. What is refused is explained where the line asks for it. Its
+/// errors are those of the line, of a file, of `prepare` and of the session, but for the want of a kit, since a line asks
+/// for one kit at least.
+pub fn report<V: View, M: Fn(Kind) -> Result<V, AllocError>, X: Explain + Drop>(
     rt: &(impl Runtime + AllocGlobal + Threads + Wait + Sync),
     alloc: Global,
     make: &M,
+    explain: X,
 ) -> Result<(), ProgramError>
     requires callable { M.IsAlwaysCallable make.now }
     ensures kits { result ≢ Err (ProgramError.Session SessionError.NoKit) }
@@ -114,13 +117,15 @@ pub fn report<V: View, M: Fn(Kind) -> Result<V, AllocError>>(
         &mut reader,
         &mut writer,
         StandardError { rt },
+        explain,
         &mut Failures::none(),
     )
 }
 
 /// Does the session that the options ask for: its program and its tables are those of two files, its kits are of views
 /// that the caller makes, its script is all that the reader has, its answers go to the writer. The trace is a file that is
-/// made before the script is read; counts go to the writer of errors. Where a file fails or is refused nothing is written;
+/// made before the script is read; counts go to the writer of errors; what is refused is explained where the options ask
+/// for it. Where a file fails or is refused nothing is written;
 /// which streams failed is noted.
 pub fn report_on<
     V: View,
@@ -129,6 +134,7 @@ pub fn report_on<
     R: Read,
     W: Write,
     E: Write + Drop,
+    X: Explain + Drop,
 >(
     rt: &(impl Threads + Wait + Sync),
     alloc: Global,
@@ -138,6 +144,7 @@ pub fn report_on<
     reader: &mut R,
     writer: &mut W,
     errors: E,
+    explain: X,
     failures: &mut Failures,
 ) -> Result<(), ProgramError>
     requires callable { M.IsAlwaysCallable make.now }
@@ -164,7 +171,9 @@ pub fn report_on<
         → failures.new.input ≡ failures.old.input }
 {
     let session = session_of(alloc, options, make, files)?;
-    let mut notes = notes_of(alloc, options, files, errors)?;
+    let notes = notes_of(alloc, options, files, errors)?;
+    let explain = asked(options.explain, explain);
+    let mut notes = Explained { notes, explain };
     match session_text(
         rt,
         alloc,
@@ -177,7 +186,7 @@ pub fn report_on<
         failures,
     ) {
         Ok(()) => Ok(()),
-        Err(error) => Err(ended_by(alloc, options.trace, error, notes.failure())),
+        Err(error) => Err(ended_by(alloc, options.trace, error, notes.notes.failure())),
     }
 }
 
@@ -274,6 +283,11 @@ fn notes_of<F: FileSource, E: Write + Drop>(
     };
     let counts = if options.stats { Some(errors) } else { None };
     Ok(RunNotes::new(alloc, trace, counts))
+}
+
+// Who explains, where that is asked for.
+fn asked<X: Explain + Drop>(is_asked: bool, explain: X) -> Option<X> {
+    if is_asked { Some(explain) } else { None }
 }
 
 // What an error of a session is to the program, with the reason why a run couldn't be noted.

@@ -12,9 +12,12 @@ ghost use Rattle.threaded_driver.specs.Come.{HasCome, HasEnded};
 ghost use Rattle.cli.specs.Endings.{CarriesRefusal, IsAnswerError, IsRunError};
 ghost use Rattle.cli.specs.Written.{HasBeginning, WritesAll, WritesBeginning};
 
+use crate::explained::Cause;
 use crate::notes::Notes;
 use crate::streams::{Failures, SessionError, flush, read_all, write_whole};
 use frames::answer::RunAnswer;
+use input_tables::Tables;
+use linked_program::checked::Checked;
 use reuse_planner::{ApplyError, Session};
 use script_reader::command::Command;
 use script_reader::script::commands;
@@ -29,7 +32,7 @@ use trace_report::edits::{push_accepted, push_edit_refusal};
 use view_pool::View;
 
 /// Answers the script that a reader has, all of it read before anything runs. Each run is by that many threads, 1 to 16,
-/// which the gate watches; the notes are told of each that comes to a result or a fault. It ends early where memory is
+/// which the gate watches; the notes are told of each that comes to a result or a fault, and of what is refused. It ends early where memory is
 /// refused, no kit is free, a run's list of strands refuses a worker, a run can't be noted, or a read, a write or a flush
 /// fails; a failed read leaves the writer as it was. It is noted which streams failed: a
 /// failed read is answered where the reader is noted, and nowhere else is the reader noted; a failed write is answered
@@ -123,14 +126,14 @@ fn answer_script<V: View, N: Notes, W: Write>(
     for command in commands.iter() {
         text.clear();
         runs = answer(
-            rt, alloc, session, workers, notes, gate, runs, command, &mut text,
+            rt, alloc, session, workers, notes, gate, script, runs, command, &mut text,
         )?;
         write_whole(writer, text.as_bytes(), failures)?;
     }
     Ok(())
 }
 
-// Puts the answer to a command, after so many runs, at the end of the text, and gives the number of runs after it.
+// Puts the answer to a command of a script, after so many runs, at the end of the text, and gives the number of runs after it.
 fn answer<V: View, N: Notes>(
     rt: &(impl Threads + Wait + Sync),
     alloc: Global,
@@ -138,6 +141,7 @@ fn answer<V: View, N: Notes>(
     workers: usize,
     notes: &mut N,
     gate: &impl Gate,
+    script: &[u8],
     runs: usize,
     command: &Command<'_>,
     text: &mut String,
@@ -160,10 +164,15 @@ fn answer<V: View, N: Notes>(
     match command {
         Command::Unknown(line) => {
             push_unknown(text, *line)?;
+            notes.explain(
+                Cause::Line(script, *line),
+                session.checked(),
+                session.tables(),
+            );
             Ok(runs)
         }
         Command::Change(edit) => {
-            change(alloc, session, edit, text)?;
+            change(alloc, session, notes, edit, text)?;
             Ok(runs)
         }
         Command::Run => {
@@ -174,9 +183,10 @@ fn answer<V: View, N: Notes>(
 }
 
 // Does an edit, and puts what it came to at the end of the text.
-fn change<V: View>(
+fn change<V: View, N: Notes>(
     alloc: Global,
     session: &mut Session<V>,
+    notes: &mut N,
     edit: &Edit<'_>,
     text: &mut String,
 ) -> Result<(), SessionError>
@@ -186,10 +196,15 @@ fn change<V: View>(
         ≡ left_by_edit (standing_of session.old) (edits.said edit.now)) }
     ensures refused { IfErr result (λ e. e ≡ SessionError.NoMemory) }
     ensures kits { session.new.kits ≡ session.old.kits }
+    ensures notes_stay { N.failed notes.new ≡ N.failed notes.old }
 {
     match session.apply(alloc, edit) {
         Ok(()) => Ok(push_accepted(text)?),
-        Err(ApplyError::Refused(error)) => Ok(push_edit_refusal(text, &error)?),
+        Err(ApplyError::Refused(error)) => {
+            let cause = Cause::Edit(edit, &error);
+            notes.explain(cause, session.checked(), session.tables());
+            Ok(push_edit_refusal(text, &error)?)
+        }
         Err(ApplyError::NoMemory) => Err(SessionError::NoMemory),
     }
 }
@@ -221,10 +236,26 @@ fn run_once<V: View, N: Notes>(
     ended(&answer)?;
     let shown = answer_text(alloc, number, session.checked(), &answer)?;
     text.push_str(shown.as_str())?;
+    tell_fault(notes, number, &answer, session.checked(), session.tables());
     if notes.run(number, &answer, &history, session.kits()) {
         return Ok(());
     }
     Err(SessionError::Notes)
+}
+
+// Tells the notes of a run's fault, if it came to one.
+fn tell_fault<N: Notes>(
+    notes: &mut N,
+    number: usize,
+    answer: &RunAnswer,
+    checked: &Checked,
+    tables: &Tables,
+)
+    ensures kept { N.failed notes.new ≡ N.failed notes.old }
+{
+    if let RunAnswer::Fault(fault) = answer {
+        notes.explain(Cause::Fault(number, fault), checked, tables);
+    }
 }
 
 // Refuses what a run that was refused memory or a kit came to.

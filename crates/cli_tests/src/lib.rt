@@ -8,6 +8,8 @@ mod edit_tests;
 #[cfg(test)]
 mod example_tests;
 #[cfg(test)]
+mod explain_tests;
+#[cfg(test)]
 mod line_tests;
 #[cfg(test)]
 mod memory_tests;

@@ -5,7 +5,7 @@ use std::alloc::Global;
 
 const HELP: &str = "Runs a report program over tables, by the commands of a script.
 
-usage: cilkreport PROGRAM TABLES [--workers 1..16] [--kits 1..4096] [--trace FILE] [--stats]
+usage: cilkreport PROGRAM TABLES [--workers 1..16] [--kits 1..4096] [--trace FILE] [--stats] [--explain]
 
   PROGRAM         the file of the report program
   TABLES          the file of its tables, in TOML
@@ -13,6 +13,7 @@ usage: cilkreport PROGRAM TABLES [--workers 1..16] [--kits 1..4096] [--trace FIL
   --kits N        how many views of all reducers a run may have at once: 1 to 4096, otherwise 64
   --trace FILE    writes the history of each run to FILE, otherwise nowhere
   --stats         writes the counts of each run to standard error, otherwise nowhere
+  --explain       explains each refused line of the script and each fault on standard error
   -h, --help      prints this text
   -V, --version   prints the program's version
 
@@ -53,6 +54,18 @@ fn lines_with_a_trace_or_counts(rt: HostRuntime) {
     let words = ["cilkreport", "p", "t", "--stats"];
     let given = options(rt.alloc(), &words).expect(&rt, "options");
     assert_eq!(&rt; (given.trace, given.stats), (None, true));
+    assert!(&rt; !given.explain);
+}
+
+#[test]
+fn lines_that_ask_for_explanations(rt: HostRuntime) {
+    let words = ["cilkreport", "p", "--explain", "t"];
+    let given = options(rt.alloc(), &words).expect(&rt, "options");
+    assert_eq!(&rt; (given.program, given.tables), ("p", "t"));
+    assert_eq!(&rt; (given.stats, given.explain), (false, true));
+    let words = ["cilkreport", "p", "t", "--stats", "--explain"];
+    let given = options(rt.alloc(), &words).expect(&rt, "options");
+    assert_eq!(&rt; (given.stats, given.explain), (true, true));
 }
 
 fn is_usage<'a>(alloc: Global, words: &'a [&'a str]) -> bool {
@@ -112,7 +125,7 @@ fn lines_that_ask_for_a_text(rt: HostRuntime) {
 #[test]
 fn texts_of_refused_lines(rt: HostRuntime) {
     let usage =
-        "usage: cilkreport PROGRAM TABLES [--workers 1..16] [--kits 1..4096] [--trace FILE] [--stats]";
+        "usage: cilkreport PROGRAM TABLES [--workers 1..16] [--kits 1..4096] [--trace FILE] [--stats] [--explain]";
     for (refusal, wanted) in [
         (OptionsError::NoMemory, "out of memory"),
         (OptionsError::Usage, usage),

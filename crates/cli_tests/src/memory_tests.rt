@@ -6,6 +6,7 @@ use cli::streams::Failures;
 use command_line::line::options;
 use command_line::options::{Options, OptionsError};
 use monoid_laws::Kind;
+use program_reasons::script::Explainer;
 use std::alloc::{AllocError, Global};
 use std::io;
 use std::io::{ErrorKind, Sink, Write};
@@ -77,6 +78,7 @@ fn is_written(
         kits: 2,
         trace: Some("T"),
         stats: true,
+        explain: true,
     };
     let make = |kind: Kind| -> Result<PlainView, AllocError> { Ok(PlainView::new(alloc, kind)) };
     let mut reader = script;
@@ -93,6 +95,7 @@ fn is_written(
         &mut reader,
         &mut page,
         io::sink(),
+        Explainer::new(alloc, io::sink()),
         &mut Failures::none(),
     );
     let written = &page.bytes[..page.len.min(64)];

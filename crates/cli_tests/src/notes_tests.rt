@@ -1,5 +1,6 @@
 // The trace and the counts of a program's runs, and a trace that fails.
 use cli::files::FileSource;
+use cli::notes::NoNotes;
 use cli::program::{report_on, status};
 use cli::streams::Failures;
 use command_line::options::Options;
@@ -33,6 +34,7 @@ const ASKED: Options<'static> = Options {
     kits: 64,
     trace: Some("T"),
     stats: true,
+    explain: false,
 };
 
 // A program, the tables of sales, and the trace `T` in memory, which takes so many bytes; without any it can't be made.
@@ -121,6 +123,7 @@ fn reported(
         &mut reader,
         &mut written,
         &mut counts,
+        NoNotes,
         &mut Failures::none(),
     );
     let (said, status) = match ended {

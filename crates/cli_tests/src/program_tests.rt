@@ -1,5 +1,6 @@
 // The program over two files in memory: what is written, what is said of an error, and the status.
 use cli::files::{FileSource, SystemFiles};
+use cli::notes::NoNotes;
 use cli::prepare::PrepareError;
 use cli::program::{ProgramError, report_on, status};
 use cli::streams::{Failures, SessionError};
@@ -110,6 +111,7 @@ fn ran(
         &mut reader,
         &mut written,
         io::sink(),
+        NoNotes,
         &mut Failures::none(),
     );
     match ended {
@@ -170,6 +172,7 @@ fn sixteen_workers_and_one_kit(rt: HostRuntime) {
             &mut reader,
             &mut written,
             io::sink(),
+            NoNotes,
             &mut Failures::none(),
         )
         .expect(&rt, "a report");
@@ -226,7 +229,7 @@ fn seventeen_workers(rt: HostRuntime) {
             assert_eq!(&rt; status(&error), 2);
             let said = error.to_string(rt.alloc()).expect(&rt, "memory");
             let form =
-                "usage: cilkreport PROGRAM TABLES [--workers 1..16] [--kits 1..4096] [--trace FILE] [--stats]";
+                "usage: cilkreport PROGRAM TABLES [--workers 1..16] [--kits 1..4096] [--trace FILE] [--stats] [--explain]";
             assert_eq!(&rt; said.as_str(), form);
         }
     }

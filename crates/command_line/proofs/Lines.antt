@@ -92,7 +92,7 @@ handed_on words (Err e) error same form unfit is = as_usage words e form unfit (
 -- lines written out
 
 abbrev paths_alone : Request
-paths_alone = record { program = codes "p.ck"; tables = codes "t.toml"; workers = 1; kits = 64; trace = None; stats = false }
+paths_alone = record { program = codes "p.ck"; tables = codes "t.toml"; workers = 1; kits = 64; trace = None; stats = false; explain = false }
 
 pub two_workers : IsLine (codes "cilkreport" ∷ codes "p.ck" ∷ codes "--workers" ∷ codes "2" ∷ codes "t.toml" ∷ []) (record paths_alone { workers = 2 })
 unfolding given HasForm clap_on_literals
@@ -109,11 +109,12 @@ two_workers =
       kits_are = refl;
       trace_is = refl;
       stats_are = refl;
+      explain_is = refl;
     }
 
 pub one_worker : IsLine (codes "cilkreport" ∷ codes "p.ck" ∷ codes "t.toml" ∷ []) paths_alone
 unfolding given HasForm clap_on_literals
-one_worker = record { form = refl; program_is = refl; tables_are = refl; workers_are = refl; kits_are = refl; trace_is = refl; stats_are = refl }
+one_worker = record { form = refl; program_is = refl; tables_are = refl; workers_are = refl; kits_are = refl; trace_is = refl; stats_are = refl; explain_is = refl }
 
 pub eight_kits : IsLine (codes "cilkreport" ∷ codes "--kits" ∷ codes "8" ∷ codes "p.ck" ∷ codes "t.toml" ∷ []) (record paths_alone { kits = 8 })
 unfolding given HasForm clap_on_literals
@@ -130,12 +131,17 @@ eight_kits =
       kits_are = ((written, (digit, tt)), refl, one, most);
       trace_is = refl;
       stats_are = refl;
+      explain_is = refl;
     }
 
 pub traced : IsLine (codes "cilkreport" ∷ codes "--stats" ∷ codes "p.ck" ∷ codes "t.toml" ∷ codes "--trace" ∷ codes "runs" ∷ [])
     (record paths_alone { trace = Some (codes "runs"); stats = true })
 unfolding given HasForm clap_on_literals
-traced = record { form = refl; program_is = refl; tables_are = refl; workers_are = refl; kits_are = refl; trace_is = refl; stats_are = refl }
+traced = record { form = refl; program_is = refl; tables_are = refl; workers_are = refl; kits_are = refl; trace_is = refl; stats_are = refl; explain_is = refl }
+
+pub explained : IsLine (codes "cilkreport" ∷ codes "p.ck" ∷ codes "--explain" ∷ codes "t.toml" ∷ []) (record paths_alone { explain = true })
+unfolding given HasForm clap_on_literals
+explained = record { form = refl; program_is = refl; tables_are = refl; workers_are = refl; kits_are = refl; trace_is = refl; stats_are = refl; explain_is = refl }
 
 pub no_tables : HasForm (codes "cilkreport" ∷ codes "p.ck" ∷ []) → ⊥
 unfolding HasForm clap_on_literals

@@ -24,14 +24,14 @@ flag_rule name = record (new_rule name) { long = Some name; action = Some SetTru
 abbrev pub with_version : App → App
 with_version app = record app { top = record app.top { has_version = true } }
 
--- the form of a line: PROGRAM TABLES [--workers N] [--kits N] [--trace FILE] [--stats]; help and the version may be asked for
+-- the form of a line: PROGRAM TABLES [--workers N] [--kits N] [--trace FILE] [--stats] [--explain]; help and the version may be asked for
 abbrev pub program_form : App
 program_form = with_version (new_app (codes "cilkreport"))
 
 abbrev pub line_form : App
 line_form =
-    with_rule (with_rule (with_rule (with_rule (with_rule (with_rule program_form (path_rule (codes "program"))) (path_rule (codes "tables")))
-    (option_rule (codes "workers"))) (option_rule (codes "kits"))) (option_rule (codes "trace"))) (flag_rule (codes "stats"))
+    with_rule (with_rule (with_rule (with_rule (with_rule (with_rule (with_rule program_form (path_rule (codes "program"))) (path_rule (codes "tables")))
+    (option_rule (codes "workers"))) (option_rule (codes "kits"))) (option_rule (codes "trace"))) (flag_rule (codes "stats"))) (flag_rule (codes "explain"))
 
 -- what the words give for a name of the form
 unfoldable pub given : List ℕ → List (List ℕ) → Option (List ℕ)
@@ -65,6 +65,7 @@ pub record Request : Type 0 where
   pub kits : ℕ
   pub trace : Option (List ℕ)
   pub stats : Bool
+  pub explain : Bool
 
 -- the words are a line that asks for this
 pub record IsLine (words : List (List ℕ)) (r : Request) : Type 0 where
@@ -75,6 +76,7 @@ pub record IsLine (words : List (List ℕ)) (r : Request) : Type 0 where
   pub kits_are : AsksFor 64 4096 (given (codes "kits") words) r.kits
   pub trace_is : given (codes "trace") words ≡ r.trace
   pub stats_are : is_set (given (codes "stats") words) ≡ r.stats
+  pub explain_is : is_set (given (codes "explain") words) ≡ r.explain
 
 abbrev pub request_of : Options → Request
 request_of o = record {
@@ -84,6 +86,7 @@ request_of o = record {
   kits = o.kits;
   trace = option_map (λ t. t.now) o.trace;
   stats = o.stats;
+  explain = o.explain;
 }
 
 -- the words are the line of these options

@@ -1,7 +1,7 @@
 // The words of the program's line.
 ghost use Rattle.std.specs.Prelude.{◌≡◌, ◌≤◌, ℕ, List, IfOk, IfErr, OnOk, false, map, option_map};
 ghost use Rattle.clap.specs.Words.{app_of, found_of, first_value, kind_of, rule_of};
-ghost use Rattle.command_line.specs.Line.{line_form, given, is_set, option_rule, path_rule, HasForm, AsksFor, IsLineOf, IsNoLine, IsRefusedFor, IsRefusalOf};
+ghost use Rattle.command_line.specs.Line.{line_form, given, is_set, flag_rule, option_rule, path_rule, HasForm, AsksFor, IsLineOf, IsNoLine, IsRefusedFor, IsRefusalOf};
 ghost use Rattle.command_line.specs.declared.options.OptionsError.TheVariants as refusal;
 
 use crate::options::{Options, OptionsError, VERSION};
@@ -29,6 +29,7 @@ pub fn options<'a>(alloc: Global, words: &'a [&'a str]) -> Result<Options<'a>, O
             kits,
             trace: matches.get_str("trace"),
             stats: is_given(matches.get_str("stats")),
+            explain: is_given(matches.get_str("explain")),
         }),
         _ => Err(OptionsError::Usage),
     }
@@ -67,9 +68,6 @@ fn refusal(error: Error) -> OptionsError
 fn form<'a>(alloc: Global) -> Result<Command<'a>, AllocError>
     ensures { IfOk result (λ command. app_of command ≡ line_form) }
 {
-    let stats = Arg::new(alloc, "stats")
-        .long("stats")
-        .action(ArgAction::SetTrue);
     Command::new(alloc, "cilkreport")
         .version(VERSION)
         .arg(path(alloc, "program"))?
@@ -77,7 +75,8 @@ fn form<'a>(alloc: Global) -> Result<Command<'a>, AllocError>
         .arg(option(alloc, "workers"))?
         .arg(option(alloc, "kits"))?
         .arg(option(alloc, "trace"))?
-        .arg(stats)
+        .arg(flag(alloc, "stats"))?
+        .arg(flag(alloc, "explain"))
 }
 
 // A path that each line has.
@@ -94,6 +93,14 @@ fn option<'a>(alloc: Global, name: &'a str) -> Arg<'a>
     ensures local { result.global ≡ false }
 {
     Arg::new(alloc, name).long(name).action(ArgAction::Set)
+}
+
+// An option without a value.
+fn flag<'a>(alloc: Global, name: &'a str) -> Arg<'a>
+    ensures rule { rule_of result ≡ flag_rule name.now }
+    ensures local { result.global ≡ false }
+{
+    Arg::new(alloc, name).long(name).action(ArgAction::SetTrue)
 }
 
 // Whether a flag is given, by the text that stands for it.

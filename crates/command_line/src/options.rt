@@ -12,6 +12,8 @@ pub struct Options<'a> {
     pub trace: Option<&'a str>,
     /// The counts of each run are written to standard error.
     pub stats: bool,
+    /// What of the script is refused, and each fault of a run, is explained on standard error.
+    pub explain: bool,
 }
 
 /// Why a line gives no options: memory ran out, it has another form, or it asks for a text.
@@ -31,7 +33,7 @@ pub enum OptionsError {
 pub const VERSION: &str = "0.1.0";
 
 const USAGE: &str =
-    "usage: cilkreport PROGRAM TABLES [--workers 1..16] [--kits 1..4096] [--trace FILE] [--stats]";
+    "usage: cilkreport PROGRAM TABLES [--workers 1..16] [--kits 1..4096] [--trace FILE] [--stats] [--explain]";
 
 const HELP: &str = "  PROGRAM         the file of the report program
   TABLES          the file of its tables, in TOML
@@ -39,6 +41,7 @@ const HELP: &str = "  PROGRAM         the file of the report program
   --kits N        how many views of all reducers a run may have at once: 1 to 4096, otherwise 64
   --trace FILE    writes the history of each run to FILE, otherwise nowhere
   --stats         writes the counts of each run to standard error, otherwise nowhere
+  --explain       explains each refused line of the script and each fault on standard error
   -h, --help      prints this text
   -V, --version   prints the program's version
 

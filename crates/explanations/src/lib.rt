@@ -1,9 +1,15 @@
-//! What a refusal means and how to mend it, in plain words, as lines under the refusal's own.
+//! What a refusal or a fault means and how to mend it, in plain words, as lines under its own.
 #![tactic(auto)]
 
+mod defines;
+pub mod edits;
 mod expected;
+mod expressions;
+pub mod faults;
 mod followers;
+pub mod lines;
 mod marks;
 pub mod programs;
 pub mod rules;
+mod statements;
 pub mod tables;

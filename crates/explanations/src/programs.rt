@@ -9,7 +9,7 @@ use std::fmt::Write;
 const MOST_SHOWN: usize = 120;
 
 // What to look for where the token at which a text is refused isn't found.
-const LOOKED_FOR: &str =
+pub(crate) const LOOKED_FOR: &str =
     "A word of this line can't stand where it does. Look for a `;`, `}` or `)` that is missing here or on the line \
                           before, a keyword used as a name, or a limit that is passed.";
 
@@ -35,7 +35,7 @@ pub fn push_bad_program(
 }
 
 // What is said of a line with a byte that no text may have.
-fn wrong_byte(words: &[u8]) -> Option<&'static str> {
+pub(crate) fn wrong_byte(words: &[u8]) -> Option<&'static str> {
     if words.iter().any(|byte| *byte == 13) {
         return Some("The line ends with a carriage return: lines end with a line feed alone.");
     }
@@ -51,7 +51,7 @@ fn is_of_a_text(byte: u8) -> bool {
 }
 
 // The line of that number, counted from 1, without its end; nothing where there is no such line.
-fn line_at(program: &[u8], line: u32) -> &[u8] {
+pub(crate) fn line_at(program: &[u8], line: u32) -> &[u8] {
     let mut number = 1;
     for words in program.split(|byte| *byte == 10) {
         if number == line {

@@ -1,6 +1,6 @@
 -- The values of a record that are combined with a layer's one after another.
-use Rattle.std.proofs.Common.{◌≡◌, ◌≢◌, ℕ, zero, suc, ◌+◌, ◌<◌, ◌≤◌, List, [], ◌∷◌, ◌++◌, All, length, map, drop, take, Some, slice_get, refl, sym, ap, ◌∙◌, subst, arith, get_or, set}
-use Rattle.std.proofs.lemmas.List.{get_or-set_other, set-set, drop_more, drop_all, take_more, append_assoc}
+use Rattle.std.proofs.Common.{◌≡◌, ◌≢◌, ℕ, zero, suc, ◌+◌, ◌<◌, ◌≤◌, List, [], ◌∷◌, All, length, map, drop, slice_get, refl, sym, ap, ◌∙◌, subst, arith, get_or, set}
+use Rattle.std.proofs.lemmas.List.{get_or-set_other, set-set, drop_more, drop_all}
 use Rattle.monoid_laws.specs.declared.Kind.{Kind}
 use Rattle.monoid_laws.specs.Worth.{Worth}
 use Rattle.monoid_laws.specs.declared.Val.{Val}
@@ -162,15 +162,3 @@ pub turns_over : (ks : List Kind) (ws total : List Worth) (vs : List (ℕ × Val
     → operate_all ks ws (filled (identities ks) (map touched (drop i vs))) ≡ total → ws ≡ total
 turns_over ks ws total vs i monoids are l so_far =
     sym (operate_all_identities ks ws monoids are) ∙ ap (λ es. operate_all ks ws (filled (identities ks) (map touched es))) (sym (drop_all i vs l)) ∙ so_far
-
--- ---- a record's readings
-
-read_at : {A : Type 0} (rs : List A) (i : ℕ) (n : A) → Some n ≡ slice_get rs i → n ≡ get_or rs i n
-read_at [] i n e = absurd cc
-read_at (r ∷ rs) zero n e = cc
-read_at (r ∷ rs) (suc i) n e = read_at rs i n e
-
-pub pushed_next : {A : Type 0} (old now rs : List A) (i : ℕ) (n : A) → i < length rs → Some n ≡ slice_get rs i → now ≡ old ++ take i rs → now ++ n ∷ [] ≡ old ++ take (i + 1) rs
-pushed_next old now rs i n l at so_far =
-    ap (λ xs. xs ++ n ∷ []) so_far ∙ append_assoc old (take i rs) (n ∷ [])
-    ∙ ap (λ xs. old ++ xs) (ap (λ m. take i rs ++ m ∷ []) (read_at rs i n at) ∙ sym (take_more rs i n l))

@@ -1,3 +1,4 @@
+pub mod Crosses
 pub mod Worths
 pub mod Lowest
 pub mod Slots
@@ -19,3 +20,5 @@ pub mod Memos
 pub mod Nesting
 pub mod Whole
 pub mod Memories
+pub mod Paths
+pub mod Traces

@@ -6,8 +6,7 @@ use Rattle.indexmap.specs.IndexSet.{insert_key}
 use Rattle.evaluation.specs.declared.note.Note.{Note}
 use Rattle.evaluation.specs.declared.note.Note.TheVariants as n
 use Rattle.evaluation.specs.contracts.note.NotePartialEq.TheImpl as notes
-use Rattle.positions.specs.Values.{same_note}
-use Rattle.positions.specs.Tallies.{once, once_behind, put_note}
+use Rattle.positions.specs.Values.{same_note, once, once_behind, put_note}
 
 module _ (eq : Note → Note → Bool) (same : (a b : Note) → eq a b ≡ same_note a b) where
   any_same : (n : Note) (seen : List Note) → list_any (eq n) seen ≡ list_any (same_note n) seen

@@ -6,14 +6,14 @@ use Rattle.std.proofs.lemmas.List.Elements.{All-tail}
 use Rattle.monoid_laws.specs.declared.Kind.{Kind}
 use Rattle.meaning.specs.Elision.{depth_limit}
 use Rattle.linked_program.specs.CodeView.{memo_of}
-use Rattle.rerun_records.specs.Record.{PlainRecord, is_of}
+use Rattle.rerun_records.specs.Record.{PlainRecord, is_of, settled}
 use Rattle.rerun_records.specs.Validity.{only_valid, record_valid}
 use Rattle.rerun_records.specs.Named.{AreValuesFrom, HaveValues}
 use Rattle.positions.specs.declared.work.Position.{Position}
 use Rattle.positions.specs.declared.work.Work.TheVariants.{Block}
 use Rattle.positions.specs.declared.phase.Phase.TheVariants.{Leaving}
 use Rattle.positions.specs.Setting.{Setting}
-use Rattle.positions.specs.Layers.{PlainLayer, multiplied, closed_onto, below_top}
+use Rattle.positions.specs.Layers.{PlainLayer, covered, closed_onto, below_top}
 use Rattle.positions.specs.Tallies.{PlainTally, closing}
 use Rattle.positions.specs.Strands.{PlainStrand}
 use Rattle.positions.specs.Advance.{record_for, answer_for, recalled, opened, passed, closed, started, started_by, started_as}
@@ -34,9 +34,9 @@ valid_has P true r x h e = subst P (let q : r ≡ x = cc in q) h
 valid_has P false r x h e = absurd cc
 
 module _ (setting : Setting) where
-  only_has : (P : PlainRecord → Type 0) (depth : ℕ) (o : Option PlainRecord) (x : PlainRecord) → ((r : PlainRecord) → o ≡ Some r → P r) → Some x ≡ only_valid setting.program.revisions setting.tables depth o → P x
+  only_has : (P : PlainRecord → Type 0) (depth : ℕ) (o : Option PlainRecord) (x : PlainRecord) → ((r : PlainRecord) → o ≡ Some r → P (settled r)) → Some x ≡ only_valid setting.program.revisions setting.tables depth o → P x
   only_has P depth None x h e = absurd cc
-  only_has P depth (Some r) x h e = valid_has P (record_valid setting.program.revisions setting.tables depth r) r x (h r refl) e
+  only_has P depth (Some r) x h e = valid_has P (record_valid setting.program.revisions setting.tables depth r) (settled r) x (h r refl) e
 
   record_values : (ks : List Kind) (depth procedure : ℕ) (arguments : List ℤ) (r : PlainRecord) → HaveValues ks setting.records → Some r ≡ record_for setting depth procedure arguments → AreValuesFrom 0 ks r.contribution
   record_values ks zero procedure arguments r h e = absurd cc
@@ -66,11 +66,11 @@ module _ (setting : Setting) where
 
   -- ---- layers that close
 
-  pub closed_popped : (s : PlainStrand) (items rest : List PlainLayer) (outer new : PlainLayer) (t : PlainTally) (v w : ℤ) → s.lower ≡ reverse items → items ≡ rest ++ outer ∷ [] → new ≡ multiplied outer s.layer
+  pub closed_popped : (s : PlainStrand) (items rest : List PlainLayer) (outer new : PlainLayer) (t : PlainTally) (v w : ℤ) → s.lower ≡ reverse items → items ≡ rest ++ outer ∷ [] → new ≡ covered outer s.layer
       → t ≡ closing setting.program.revisions s.layer w s.tally → w ≡ v → record s { layer = new; lower = reverse rest; phase = Leaving w; tally = t } ≡ closed setting v s
   closed_popped s items rest outer new t v w e f n c i =
       let down : s.lower ≡ outer ∷ reverse rest = e ∙ ap reverse f ∙ reverse-append rest (outer ∷ []) in
       ap (λ l. record s { layer = l; lower = reverse rest; phase = Leaving w; tally = t }) n
-      ∙ ap (λ u. record s { layer = multiplied outer s.layer; lower = reverse rest; phase = Leaving w; tally = u }) c
-      ∙ ap (λ x. record s { layer = multiplied outer s.layer; lower = reverse rest; phase = Leaving x; tally = closing setting.program.revisions s.layer x s.tally }) i
+      ∙ ap (λ u. record s { layer = covered outer s.layer; lower = reverse rest; phase = Leaving w; tally = u }) c
+      ∙ ap (λ x. record s { layer = covered outer s.layer; lower = reverse rest; phase = Leaving x; tally = closing setting.program.revisions s.layer x s.tally }) i
       ∙ ap (λ ls. record s { layer = closed_onto s.layer ls; lower = below_top ls; phase = Leaving v; tally = closing setting.program.revisions s.layer v s.tally }) (sym down)

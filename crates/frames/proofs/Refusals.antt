@@ -40,7 +40,7 @@ forgotten_valued s n ns e =
 pub arguments_back : (s n : PlainStrand) (vs : List ℤ) → IsValued (with_arguments vs s) n → IsValued s (with_arguments s.arguments n)
 arguments_back s n vs e = ap (with_arguments s.arguments) e
 
-path_back : (xs : List ℕ) (x : ℕ) → shorter (xs ++ x ∷ []) ≡ xs
+pub path_back : (xs : List ℕ) (x : ℕ) → shorter (xs ++ x ∷ []) ≡ xs
 path_back xs x =
     let e : length (xs ++ x ∷ []) ≡ length xs + 1 = length-append xs (x ∷ []) in
     let f : length (xs ++ x ∷ []) - 1 ≡ length xs = omega arith in

@@ -1,15 +1,12 @@
 -- What a record keeps of a layer, gathered one number after another.
-use Rattle.std.proofs.Common.{◌≡◌, ℕ, ℤ, zero, suc, ◌+◌, ◌<◌, ◌≤◌, Bool, true, false, cond, List, [], ◌∷◌, ◌++◌, length, drop, Option, Some, None, slice_get, refl, sym, ap, ◌∙◌, subst, arith, get_or, add-one}
+use Rattle.std.proofs.Common.{◌≡◌, ℕ, zero, suc, ◌+◌, ◌<◌, ◌≤◌, Bool, true, false, cond, List, [], ◌∷◌, ◌++◌, length, drop, Option, Some, slice_get, refl, sym, ap, ◌∙◌, subst, arith, get_or, add-one}
 use Rattle.std.proofs.lemmas.List.{append_assoc, append-nil, drop_all, drop_more}
 use Rattle.std.specs.Prelude.{IfSome}
-use Rattle.std.proofs.lemmas.List.Elements.{All-head, All-tail, All-push}
+use Rattle.std.proofs.lemmas.List.Elements.{All-push}
 use Rattle.std.proofs.lemmas.Grind.{common_steps}
 use Rattle.program_tree.specs.Plain.{Name}
 use Rattle.monoid_laws.specs.declared.Kind.TheVariants as k
-use Rattle.rerun_records.specs.Record.{PlainRecord, is_of}
-use Rattle.rerun_records.specs.Validity.{only_valid, record_valid, valid_at}
-use Rattle.meaning.specs.Tables.{Tables}
-use Rattle.std.specs.List.{find}
+use Rattle.rerun_records.specs.Record.{PlainRecord}
 use Rattle.monoid_laws.specs.declared.Kind.{Kind}
 use Rattle.monoid_laws.specs.Worth.{Worth}
 use Rattle.monoid_laws.specs.Kinds.{identity_of, AreWorths}
@@ -151,28 +148,3 @@ some_is P o x e h = subst (λ z. IfSome z P) e h
 
 pub one_more_values : (ks : List Kind) (old new : List PlainRecord) (r : PlainRecord) → new ≡ old ++ r ∷ [] → AreValuesFrom 0 ks r.contribution → HaveValues ks old → HaveValues ks new
 one_more_values ks old new r e v h = subst (λ rs. HaveValues ks rs) (sym e) (All-push (λ s. AreValuesFrom 0 ks s.contribution) old r h v)
-
-found_by : (ks : List Kind) (rest : Option PlainRecord) (b : Bool) (s r : PlainRecord) → AreValuesFrom 0 ks s.contribution → cond b (Some s) rest ≡ Some r
-    → (rest ≡ Some r → AreValuesFrom 0 ks r.contribution) → AreValuesFrom 0 ks r.contribution
-found_by ks rest true s r h e f = let p : s ≡ r = cc in subst (λ t. AreValuesFrom 0 ks t.contribution) p h
-found_by ks rest false s r h e f = f e
-
-found_values : (ks : List Kind) (test : PlainRecord → Bool) (rs : List PlainRecord) (r : PlainRecord) → HaveValues ks rs → find test rs ≡ Some r → AreValuesFrom 0 ks r.contribution
-found_values ks test [] r h e = absurd cc
-found_values ks test (s ∷ rs) r h e =
-    found_by ks (find test rs) (test s) s r (All-head (λ t. AreValuesFrom 0 ks t.contribution) s rs h) e
-    (found_values ks test rs r (All-tail (λ t. AreValuesFrom 0 ks t.contribution) s rs h))
-
-valid_alone : (revisions : List (Name × ℕ)) (tables : Tables) (depth : ℕ) (o : Option PlainRecord) (r : PlainRecord) → only_valid revisions tables depth o ≡ Some r → o ≡ Some r
-valid_alone revisions tables depth None r e = absurd cc
-valid_alone revisions tables depth (Some s) r e = valid_by (record_valid revisions tables depth s) s r e
-  where
-    valid_by : (b : Bool) (s r : PlainRecord) → cond b (Some s) None ≡ Some r → Some s ≡ Some r
-    valid_by true s r e = e
-    valid_by false s r e = absurd cc
-
--- a record that answers has values of the reducers' kinds
-pub answering_values : (ks : List Kind) (revisions : List (Name × ℕ)) (tables : Tables) (depth : ℕ) (rs : List PlainRecord) (procedure : ℕ) (arguments : List ℤ) (r : PlainRecord)
-    → HaveValues ks rs → valid_at revisions tables depth rs procedure arguments ≡ Some r → AreValuesFrom 0 ks r.contribution
-answering_values ks revisions tables depth rs procedure arguments r h e =
-    found_values ks (is_of procedure arguments) rs r h (valid_alone revisions tables depth (find (is_of procedure arguments) rs) r e)

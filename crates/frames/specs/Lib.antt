@@ -9,3 +9,4 @@ pub mod Recordings
 pub mod Identities
 pub mod Folds
 pub mod Waiting
+pub mod Paths

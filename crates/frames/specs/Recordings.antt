@@ -6,10 +6,10 @@ use Rattle.monoid_laws.specs.declared.Kind.{Kind}
 use Rattle.monoid_laws.specs.Kinds.{identity_of}
 use Rattle.meaning.specs.Elision.{depth_limit}
 use Rattle.evaluation.specs.declared.note.Note.{Note}
-use Rattle.rerun_records.specs.Record.{PlainRecord}
-use Rattle.positions.specs.Layers.{PlainLayer}
+use Rattle.rerun_records.specs.Record.{PlainRecord, rows}
+use Rattle.positions.specs.Layers.{PlainLayer, kept_reads}
 use Rattle.positions.specs.Values.{same_worth}
-use Rattle.positions.specs.Tallies.{PlainOpened, touched_from, once, entries_from}
+use Rattle.positions.specs.Tallies.{PlainOpened, touched_from, entries_from}
 
 -- the values of the reducers that were touched, each reading once, the procedures entered, and how many instances were nested at most, main counted
 pub record PlainRecording : Type 0 where
@@ -21,7 +21,7 @@ pub record PlainRecording : Type 0 where
 abbrev pub recording_of : List (Name × ℕ) → PlainLayer → PlainRecording
 recording_of revisions l = record {
   contribution = touched_from 0 l.kinds l.worths;
-  reads = once l.notes;
+  reads = kept_reads l;
   entered = entries_from 0 revisions l.entered;
   levels = suc l.deepest;
 }
@@ -36,6 +36,7 @@ recorded r o v = record {
   reads = r.reads;
   entered = r.entered;
   height = r.levels - (depth_limit - o.left);
+  doubted = rows [];
 }
 
 -- a reducer's value with its number, unless it is the kind's identity

@@ -1,15 +1,17 @@
-// A layer takes over what a record has.
-ghost use Rattle.std.specs.Prelude.{◌≡◌, ◌≤◌, ◌+◌, ◌++◌, OnErr, OnOk, All, length, map, slice_set, vec_capacity, true};
+// A layer takes over what a record has, or what a layer has that becomes a record.
+ghost use Rattle.std.specs.Prelude.{◌≡◌, ◌<◌, ◌++◌, OnErr, OnOk, All, map, slice_set, vec_len, vec_capacity, true};
 ghost use Rattle.monoid_laws.specs.Kinds.{IsMonoid};
 ghost use Rattle.rerun_records.specs.Record.{touched};
 ghost use Rattle.rerun_records.specs.Named.{AreValuesFrom};
-ghost use Rattle.positions.specs.Layers.{absorbing, flagged};
-ghost use Rattle.frames.specs.Folds.{IsSameButWorths, combined_with};
+ghost use Rattle.rerun_records.specs.Readings.{all_of};
+ghost use Rattle.positions.specs.Layers.{absorbing, covered, flagged, kept_reads};
+ghost use Rattle.frames.specs.Folds.{HasSameProduct, IsSameButWorths, combined_with};
 
+use crate::joining::flag_all;
 use crate::layer::Layer;
-use evaluation::note::Note;
 use hypermaps::Hypermap;
 use monoid_laws::Val;
+use rerun_records::readings::Readings;
 use rerun_records::record::Record;
 use std::alloc::{AllocError, Global};
 use view_pool::View;
@@ -31,11 +33,34 @@ impl<V: View> Layer<V> {
         let Some(levels) = depth.checked_add(record.height()) else {
             return Err(AllocError);
         };
-        self.notes.reserve(record.read_count())?;
+        self.shared.reserve(1)?;
+        let reads = record.reads().share()?;
         absorb_values(&mut self.hypermap, alloc, record.contribution())?;
-        push_reads(&mut self.notes, record);
+        push_shared(&mut self.shared, reads);
         flag_entered(&mut self.entered, record.entered());
         self.deepest = self.deepest.max(levels.saturating_sub(1));
+        Ok(())
+    }
+
+    /// Puts a layer that becomes a record behind this, which shares the readings that its record keeps, and leaves its views at
+    /// the identities. Where memory is refused, some reducers have moved to this one and the others have not, and nothing else has
+    /// changed.
+    pub(crate) fn cover(&mut self, right: &mut Layer<V>, kept: &Readings) -> Result<(), AllocError>
+        requires kinds { self.old.kinds ≡ right.old.kinds }
+        requires monoids { All IsMonoid self.old.kinds }
+        requires kept { kept.now ≡ kept_reads right.old }
+        ensures covered { OnOk result (self.new ≡ covered self.old right.old) }
+        ensures right_kinds { right.new.kinds ≡ right.old.kinds }
+        ensures left_kept { OnErr result (IsSameButWorths self.old self.new) }
+        ensures right_kept { OnErr result (IsSameButWorths right.old right.new) }
+        ensures product { OnErr result (HasSameProduct self.old right.old self.new right.new) }
+    {
+        self.shared.reserve(1)?;
+        let reads = kept.share()?;
+        self.hypermap.fold(&mut right.hypermap)?;
+        push_shared(&mut self.shared, reads);
+        flag_all(&mut self.entered, &right.entered);
+        self.deepest = self.deepest.max(right.deepest);
         Ok(())
     }
 }
@@ -59,14 +84,12 @@ fn absorb_values<V: View>(
     Ok(())
 }
 
-/// Puts a record's readings behind the notes, for which there is room.
-fn push_reads(notes: &mut Vec<Note>, record: &Record)
-    requires room { length notes.old.items + length record.now.reads ≤ vec_capacity notes.old }
-    ensures pushed { notes.new.items ≡ notes.old.items ++ record.now.reads }
+/// Puts readings behind those that a layer shares, for which there is room.
+pub(crate) fn push_shared(shared: &mut Vec<Readings>, reads: Readings)
+    requires room { vec_len shared.old < vec_capacity shared.old }
+    ensures pushed { all_of shared.new.items ≡ all_of shared.old.items ++ reads }
 {
-    for index in 0..record.read_count() {
-        notes.push_reserved(record.read(index));
-    }
+    shared.push_reserved(reads);
 }
 
 /// Puts up the flags of these procedures.

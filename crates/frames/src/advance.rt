@@ -4,6 +4,7 @@ ghost use Rattle.monoid_laws.specs.declared.Kind.{Kind};
 ghost use Rattle.monoid_laws.specs.Kinds.{IsMonoid};
 ghost use Rattle.meaning.specs.Records.{Kept};
 ghost use Rattle.rerun_records.specs.Named.{AreKept, HaveValues};
+ghost use Rattle.rerun_records.specs.Doubted.{IsInStep};
 ghost use Rattle.positions.specs.Setting.{HasItsTables, setting_with};
 ghost use Rattle.positions.specs.Strands.{IsLayered};
 ghost use Rattle.positions.specs.Simulation.{IsPause, IsStepTaken};
@@ -41,6 +42,7 @@ impl<V: View> Strand<V> {
         requires kinds { self.old.layer.kinds ≡ program.now.kinds }
         requires monoids { All IsMonoid program.now.kinds }
         requires values { HaveValues program.now.kinds records.now }
+        requires in_step { IsInStep tables.now.tables records.now }
         requires given_kinds { (k : List Kind) → K.gives k kits.old → k ≡ program.now.kinds }
         requires fits { K.fits program.now.kinds kits.old }
         requires room { suc (length self.old.lower) + K.free kits.old ≤ K.total kits.old }
@@ -281,7 +283,7 @@ impl<V: View> Machine<V> {
     }
 
     /// The topmost instance's value goes to the one below it, where there is one.
-    fn leave(&mut self, value: i64)
+    pub(crate) fn leave(&mut self, value: i64)
         requires leaving { self.old.phase ≡ Phase.Leaving value }
         ensures left { self.new ≡ left_to self.old.below value self.old }
     {

@@ -1,8 +1,9 @@
 // Two strands become one.
-ghost use Rattle.std.specs.Prelude.{◌≡◌, ◌||◌, ◌⊎◌, [], List, All, IfOk, IfErr, OnOk, OnErr};
+ghost use Rattle.std.specs.Prelude.{◌≡◌, ◌≤◌, ◌+◌, ◌++◌, ◌||◌, ◌⊎◌, [], List, All, IfOk, IfErr, OnOk, OnErr, vec_len, vec_capacity};
 ghost use Rattle.monoid_laws.specs.declared.Kind.{Kind};
 ghost use Rattle.monoid_laws.specs.Kinds.{IsMonoid, operate_all};
 ghost use Rattle.rerun_records.specs.Named.{HaveValues};
+ghost use Rattle.rerun_records.specs.Readings.{all_of};
 ghost use Rattle.positions.specs.Setting.{Setting};
 ghost use Rattle.positions.specs.Layers.{either, multiplied};
 ghost use Rattle.positions.specs.Moves.{joined, joined_broken, joined_ended, settled_by, FoldsViews};
@@ -14,6 +15,7 @@ use crate::machine::Machine;
 use crate::strand::Strand;
 use positions::phase::{Fault, Phase};
 use positions::start::Start;
+use rerun_records::readings::Readings;
 use std::alloc::AllocError;
 use view_pool::{Kit, View};
 
@@ -30,16 +32,26 @@ impl<V: View> Layer<V> {
         ensures product { OnErr result (operate_all self.old.kinds self.new.worths right.new.worths ≡ operate_all self.old.kinds self.old.worths right.old.worths) }
     {
         self.notes.reserve(right.notes.len())?;
+        self.shared.reserve(right.shared.len())?;
         self.hypermap.fold(&mut right.hypermap)?;
         let _ = self.notes.extend_from_slice(&right.notes);
+        append_shared(&mut self.shared, &mut right.shared);
         flag_all(&mut self.entered, &right.entered);
         self.deepest = self.deepest.max(right.deepest);
         Ok(())
     }
 }
 
+/// Moves readings behind others, for which there is room.
+fn append_shared(shared: &mut Vec<Readings>, more: &mut Vec<Readings>)
+    requires room { vec_len shared.old + vec_len more.old ≤ vec_capacity shared.old }
+    ensures appended { all_of shared.new.items ≡ all_of shared.old.items ++ all_of more.old.items }
+{
+    let _ = shared.append(more);
+}
+
 /// Puts up the flags that are up in `others`.
-fn flag_all(flags: &mut Vec<bool>, others: &[bool])
+pub(crate) fn flag_all(flags: &mut Vec<bool>, others: &[bool])
     ensures either { flags.new.items ≡ either flags.old.items others.now }
 {
     for i in 0..flags.len() {

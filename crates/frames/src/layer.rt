@@ -18,25 +18,29 @@ use hypermaps::Hypermap;
 use input_tables::Tables;
 use linked_program::code::Expression;
 use monoid_laws::{Kind, Val};
+use rerun_records::readings::Readings;
 use std::alloc::{AllocError, Global};
 use std::marker::Model;
 use view_pool::{Kit, View};
 
-/// The reducers' views, what was read, for each procedure whether it was entered, and the greatest depth of an instance.
+/// The reducers' views, what was read, what the instances have read that were recorded or answered meanwhile, for each procedure
+/// whether it was entered, and the greatest depth of an instance.
 #[derive(Drop)]
 pub struct Layer<V: View = Box<dyn View>> {
     pub(crate) hypermap: Hypermap<V>,
     pub(crate) notes: Vec<Note>,
+    pub(crate) shared: Vec<Readings>,
     pub(crate) entered: Vec<bool>,
     pub(crate) deepest: u32,
 }
 
 impl<V: View> Model for Layer<V> {
+    ghost use Rattle.rerun_records.specs.Readings.{all_of};
     ghost use Rattle.positions.specs.Layers.{PlainLayer};
 
     ghost Value = { PlainLayer };
 
-    ghost view = { λ l. record { kinds = l.hypermap.kinds; worths = l.hypermap.worths; notes = l.notes.items; entered = l.entered.items; deepest = l.deepest } };
+    ghost view = { λ l. record { kinds = l.hypermap.kinds; worths = l.hypermap.worths; notes = l.notes.items; shared = all_of l.shared.items; entered = l.entered.items; deepest = l.deepest } };
 }
 
 impl<V: View> Layer<V> {
@@ -57,6 +61,7 @@ impl<V: View> Layer<V> {
         Ok(Layer {
             hypermap: Hypermap::open(alloc, kit),
             notes: Vec::new(alloc),
+            shared: Vec::new(alloc),
             entered,
             deepest: 0,
         })

@@ -4,6 +4,7 @@
 mod absorbing;
 pub mod activation;
 mod advance;
+mod ahead;
 pub mod answer;
 mod code;
 mod ending;
@@ -12,6 +13,7 @@ mod evaluating;
 mod identities;
 mod joining;
 pub mod layer;
+pub mod leaf;
 mod loops;
 mod machine;
 mod memo;

@@ -57,7 +57,7 @@ fn right_of(loop_place: Loop, share: Share) -> Share
 }
 
 /// All but the first.
-fn rest_of(loop_place: Loop, share: Share) -> Share
+pub(crate) fn rest_of(loop_place: Loop, share: Share) -> Share
     requires fits { ShareFits loop_place share }
     requires more { 0 < share.count }
     ensures rest { result ≡ later_of share }
@@ -70,7 +70,7 @@ fn rest_of(loop_place: Loop, share: Share) -> Share
 }
 
 /// The number of the first iteration.
-fn number_of(loop_place: Loop, share: Share) -> i64
+pub(crate) fn number_of(loop_place: Loop, share: Share) -> i64
     requires fits { ShareFits loop_place share }
     ensures number { result ≡ loop_place.low +ℤ pos share.first }
 {
@@ -440,7 +440,7 @@ impl<V: View> Machine<V> {
 
     /// The slots of an instance that is entered with these arguments, with that in a slot meanwhile.
     #[tactic(auto, using(crate::proofs::Slots::put_back))]
-    fn entry_with(
+    pub(crate) fn entry_with(
         &mut self,
         alloc: Global,
         tables: &Tables,

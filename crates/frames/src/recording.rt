@@ -6,8 +6,9 @@ ghost use Rattle.monoid_laws.specs.Kinds.{meaning};
 ghost use Rattle.hypermaps.specs.Layer.{IsAt};
 ghost use Rattle.rerun_records.specs.Record.{touched, note_of};
 ghost use Rattle.rerun_records.specs.Named.{AreValuesFrom};
-ghost use Rattle.positions.specs.Values.{same_note};
-ghost use Rattle.positions.specs.Tallies.{touched_from, once, put_note, entries_from};
+ghost use Rattle.rerun_records.specs.Readings.{all_of};
+ghost use Rattle.positions.specs.Values.{same_note, once, put_note};
+ghost use Rattle.positions.specs.Tallies.{touched_from, entries_from};
 ghost use Rattle.frames.specs.Recordings.{recording_of, recorded, touched_at, entry_of};
 
 use crate::identities::is_identity;
@@ -19,6 +20,7 @@ use indexmap::IndexSet;
 use linked_program::checked::Checked;
 use monoid_laws::{Kind, Val};
 use rerun_records::reading::{Reading, readings};
+use rerun_records::readings::Readings;
 use rerun_records::record::Record;
 use std::alloc::{AllocError, Global};
 use std::marker::Model;
@@ -75,22 +77,29 @@ impl Opened {
 #[derive(Drop)]
 pub(crate) struct Recording {
     contribution: Vec<(usize, Val)>,
-    reads: Vec<Reading>,
+    reads: Readings,
     entered: Vec<(usize, u64)>,
     levels: u32,
 }
 
 impl Model for Recording {
     ghost use Rattle.std.specs.Prelude.{map};
-    ghost use Rattle.rerun_records.specs.Record.{note_of, touched};
+    ghost use Rattle.rerun_records.specs.Record.{touched};
     ghost use Rattle.frames.specs.Recordings.{PlainRecording};
 
     ghost Value = { PlainRecording };
 
-    ghost view = { λ r. record { contribution = map touched r.contribution.items; reads = map note_of r.reads.items; entered = r.entered.items; levels = r.levels } };
+    ghost view = { λ r. record { contribution = map touched r.contribution.items; reads = r.reads; entered = r.entered.items; levels = r.levels } };
 }
 
 impl Recording {
+    /// Lends what was read.
+    pub(crate) fn reads(&self) -> &Readings
+        ensures reads { result.now ≡ self.now.reads }
+    {
+        &self.reads
+    }
+
     /// The record of an instance that is over with that value. It takes no memory.
     pub(crate) fn record(self, opened: Opened, value: i64) -> Record
         ensures record { result ≡ recorded self opened value }
@@ -139,7 +148,7 @@ impl<V: View> Layer<V> {
         };
         Ok(Recording {
             contribution: contribution(alloc, &self.hypermap, program.kinds())?,
-            reads: distinct_readings(alloc, &self.notes)?,
+            reads: kept_reads(alloc, &self.notes, &self.shared)?,
             entered: entries(alloc, &self.entered, program)?,
             levels,
         })
@@ -199,6 +208,30 @@ fn push_value(
         values.push((reducer, value))?;
     }
     Ok(())
+}
+
+/// A layer's own readings, each once, and then those that it shares. Those of one instance alone are handed on as they are.
+fn kept_reads(alloc: Global, notes: &[Note], shared: &[Readings]) -> Result<Readings, AllocError>
+    ensures kept { IfOk result (λ r. r ≡ once notes.now ++ all_of shared.now) }
+{
+    if notes.is_empty() && shared.len() == 1 {
+        return shared[0].share();
+    }
+    let own = distinct_readings(alloc, notes)?;
+    let parts = shares(alloc, shared)?;
+    Readings::new(alloc, own, parts)
+}
+
+/// The same readings once more, without spare room.
+fn shares(alloc: Global, shared: &[Readings]) -> Result<Vec<Readings>, AllocError>
+    ensures same { IfOk result (λ parts. parts.items ≡ shared.now) }
+{
+    let mut parts = Vec::new(alloc);
+    parts.reserve_exact(shared.len())?;
+    for part in shared {
+        parts.push(part.share()?)?;
+    }
+    Ok(parts)
 }
 
 /// Each reading once, in the order in which they were first made.

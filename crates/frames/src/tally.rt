@@ -2,7 +2,7 @@
 ghost use Rattle.std.specs.Prelude.{◌≡◌, suc, ◌+◌, IfOk, OnErr, OnOk, All};
 ghost use Rattle.monoid_laws.specs.Kinds.{IsMonoid};
 ghost use Rattle.rerun_records.specs.Named.{AreValuesFrom, HaveValues};
-ghost use Rattle.positions.specs.Layers.{multiplied, absorbing};
+ghost use Rattle.positions.specs.Layers.{multiplied, covered, absorbing};
 ghost use Rattle.positions.specs.Tallies.{no_tally, passing, answering, opening, is_own, closing, tallies_joined};
 ghost use Rattle.frames.specs.Folds.{IsSameButWorths, HasSameProduct, BothHaveValues};
 
@@ -135,7 +135,7 @@ impl Tally {
         requires monoids { All IsMonoid below.old.kinds }
         ensures closed { OnOk result
             (self.new ≡ closing program.now.revisions top.old value self.old) }
-        ensures multiplied { OnOk result (below.new ≡ multiplied below.old top.old) }
+        ensures covered { OnOk result (below.new ≡ covered below.old top.old) }
         ensures top_kinds { top.new.kinds ≡ top.old.kinds }
         ensures below_kinds { below.new.kinds ≡ below.old.kinds }
         ensures values { HaveValues top.old.kinds self.old.made
@@ -147,7 +147,7 @@ impl Tally {
     {
         self.made.reserve(1)?;
         let recording = top.recording(alloc, program)?;
-        below.multiply(top)?;
+        below.cover(top, recording.reads())?;
         if let Some(opened) = self.opened.pop() {
             self.made.push_reserved(recording.record(opened, value));
         }

@@ -118,7 +118,7 @@ impl<V: View> Machine<V> {
 impl<V: View> Layer<V> {
     /// Combines the element that the numbers name on the right of the value of a reducer of that kind; false where they name
     /// none. Refused for want of memory alone, and then the value stays.
-    fn update(
+    pub(crate) fn update(
         &mut self,
         kind: &Kind,
         reducer: usize,

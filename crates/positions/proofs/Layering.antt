@@ -14,12 +14,13 @@ use Rattle.linked_program.specs.Procedures.{procedures}
 use Rattle.linked_program.specs.Linked.{procedure_number}
 use Rattle.linked_program.specs.declared.code.Code.{Code}
 use Rattle.linked_program.specs.CodeView.{AreCodesOf}
+use Rattle.evaluation.specs.declared.note.Note.{Note}
 use Rattle.evaluation.specs.Numbers.{numbered, readings, OnlyReads}
 use Rattle.positions.specs.Setting.{Setting, IsLinked}
 use Rattle.rerun_records.specs.Named.{SameMembers}
 use Rattle.positions.specs.Layers.{PlainLayer, blank, flagged, noting, entering, updated_by, updating, lowest}
 use Rattle.positions.specs.Stands.{IsNotes, AreNotes}
-use Rattle.positions.proofs.Members.{members_same, members_append}
+use Rattle.positions.proofs.Members.{members_same, members_then, members_append, members_by_parts}
 
 -- ---- what is noted one behind the other
 
@@ -53,6 +54,15 @@ flagged_append flags (q ∷ ps) p = flagged_append (slice_set flags q true) ps p
 -- ---- a layer by numbers
 
 module _ (setting : Setting) where
+  -- readings behind those that the layer has noted itself
+  more_read : (l : PlainLayer) (n : Notes) (rs : List Note) → IsNotes setting l n → SameMembers ((l.notes ++ rs) ++ l.shared) (map (numbered setting.names) n.read ++ rs)
+  more_read l n rs i =
+      let old : List Note = map (numbered setting.names) n.read in
+      members_then ((l.notes ++ rs) ++ l.shared) ((l.notes ++ l.shared) ++ rs) (old ++ rs)
+      (subst (λ us. SameMembers ((l.notes ++ rs) ++ us) ((l.notes ++ l.shared) ++ rs)) (append-nil l.shared)
+      (subst (λ us. SameMembers ((l.notes ++ rs) ++ (l.shared ++ [])) ((l.notes ++ l.shared) ++ us)) (append-nil rs) (members_by_parts l.notes l.shared rs [])))
+      (members_append (l.notes ++ l.shared) old rs rs i.notes (members_same rs rs refl))
+
   pub notes_read : (l : PlainLayer) (n : Notes) (log : Log) → OnlyReads log → IsNotes setting l n
       → IsNotes setting (noting (map (numbered setting.names) (readings log)) l) (definitions.noted n log)
   notes_read l n log h i =
@@ -61,9 +71,7 @@ module _ (setting : Setting) where
         kinds = i.kinds;
         worths = i.worths;
         each = i.each;
-        notes =
-            subst (SameMembers (l.notes ++ map (numbered setting.names) (readings log))) (sym (map-append (numbered setting.names) n.read (readings log)))
-            (members_append l.notes (map (numbered setting.names) n.read) (map (numbered setting.names) (readings log)) (map (numbered setting.names) (readings log)) i.notes (members_same _ _ refl));
+        notes = subst (SameMembers ((l.notes ++ map (numbered setting.names) (readings log)) ++ l.shared)) (sym (map-append (numbered setting.names) n.read (readings log))) (more_read l n (map (numbered setting.names) (readings log)) i);
         entered = i.entered;
         deepest = i.deepest;
       })

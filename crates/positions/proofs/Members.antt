@@ -1,5 +1,5 @@
 -- Lists with the same members.
-use Rattle.std.proofs.Common.{◌≡◌, ℕ, zero, suc, ◌<◌, List, [], ◌∷◌, ◌++◌, length, map, Contains, inl, inr, ⊎_elim, refl, sym, ap, subst, arith}
+use Rattle.std.proofs.Common.{◌≡◌, ℕ, zero, suc, ◌<◌, List, [], ◌∷◌, ◌++◌, length, map, Contains, inl, inr, ⊎_elim, refl, sym, ◌∙◌, ap, subst, arith, append_assoc}
 use Rattle.std.specs.Prelude.{slice_index_or}
 use Rattle.trail_theory.specs.Order.{In}
 use Rattle.trail_theory.proofs.Places.{in_append, in_left, in_right}
@@ -41,6 +41,20 @@ both_in xs ys zs ws f g x h = ⊎_elim (λ i. in_left x ys ws (f x i)) (λ i. in
 pub members_append : {A : Type 0} (xs ys zs ws : List A) → SameMembers xs ys → SameMembers zs ws → SameMembers (xs ++ zs) (ys ++ ws)
 members_append xs ys zs ws f g =
     same_members (xs ++ zs) (ys ++ ws) (both_in xs ys zs ws (there xs ys f) (there zs ws g)) (both_in ys xs ws zs (back xs ys f) (back zs ws g))
+
+swapped_in : {A : Type 0} (xs ys : List A) (x : A) → In x (xs ++ ys) → In x (ys ++ xs)
+swapped_in xs ys x h = ⊎_elim (λ i. in_right x ys xs i) (λ i. in_left x ys xs i) (in_append x xs ys h)
+
+members_swapped : {A : Type 0} (xs ys : List A) → SameMembers (xs ++ ys) (ys ++ xs)
+members_swapped xs ys = same_members (xs ++ ys) (ys ++ xs) (swapped_in xs ys) (swapped_in ys xs)
+
+-- two lists of two parts each, part by part
+pub members_by_parts : {A : Type 0} (xs ys zs ws : List A) → SameMembers ((xs ++ zs) ++ (ys ++ ws)) ((xs ++ ys) ++ (zs ++ ws))
+members_by_parts xs ys zs ws =
+    let inner : SameMembers ((zs ++ ys) ++ ws) ((ys ++ zs) ++ ws) = members_append (zs ++ ys) (ys ++ zs) ws ws (members_swapped zs ys) (members_same ws ws refl) in
+    let whole : SameMembers (xs ++ ((zs ++ ys) ++ ws)) (xs ++ ((ys ++ zs) ++ ws)) = members_append xs xs ((zs ++ ys) ++ ws) ((ys ++ zs) ++ ws) (members_same xs xs refl) inner in
+    subst (λ us. SameMembers us ((xs ++ ys) ++ (zs ++ ws))) (ap (λ us. xs ++ us) (append_assoc zs ys ws) ∙ sym (append_assoc xs zs (ys ++ ws)))
+    (subst (SameMembers (xs ++ ((zs ++ ys) ++ ws))) (ap (λ us. xs ++ us) (append_assoc ys zs ws) ∙ sym (append_assoc xs ys (zs ++ ws))) whole)
 
 -- ---- what a function makes of them
 

@@ -14,8 +14,8 @@ use Rattle.evaluation.specs.declared.note.Note.TheVariants.{Cell, Has, Limit}
 use Rattle.rerun_records.specs.Named.{SameMembers, filled}
 use Rattle.trail_theory.specs.Order.{In}
 use Rattle.trail_theory.proofs.Places.{in_append, in_left, in_right}
-use Rattle.positions.specs.Tallies.{put_note, once_behind, once, touched_from}
-use Rattle.positions.specs.Values.{same_pair, same_best, same_worth, same_flag, same_note}
+use Rattle.positions.specs.Tallies.{touched_from}
+use Rattle.positions.specs.Values.{same_pair, same_best, same_worth, same_flag, same_note, put_note, once_behind, once}
 use Rattle.positions.proofs.Members.{same_members}
 
 -- ---- tests that hold

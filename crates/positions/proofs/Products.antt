@@ -1,5 +1,5 @@
 -- A layer put behind another one, and what a record has put behind a layer, by numbers and by names.
-use Rattle.std.proofs.Common.{◌≡◌, ℕ, zero, suc, ◌+◌, ◌-◌, Bool, true, false, ◌||◌, List, [], ◌∷◌, ◌++◌, map, max, length, replicate, refl, sym, ◌∙◌, ap, subst, arith}
+use Rattle.std.proofs.Common.{◌≡◌, ℕ, zero, suc, ◌+◌, ◌-◌, Bool, true, false, ◌||◌, List, [], ◌∷◌, ◌++◌, map, max, length, replicate, refl, sym, ◌∙◌, ap, subst, arith, append_assoc}
 use Rattle.std.specs.Prelude.{slice_set}
 use Rattle.std.proofs.lemmas.List.{map-append, length-set, length-map, length-replicate}
 use Rattle.monoid_laws.specs.declared.Kind.{Kind}
@@ -7,18 +7,21 @@ use Rattle.monoid_laws.specs.Worth.{Worth}
 use Rattle.monoid_laws.specs.Kinds.{operate, operate_all, identities, identity_of}
 use Rattle.program_tree.specs.Plain.{Name, Red}
 use Rattle.meaning.specs.Records.{Kept, with_kinds}
-use Rattle.meaning.specs.Outcome.{combined}
+use Rattle.meaning.specs.Outcome.{combined, Reading}
 use Rattle.meaning.specs.Statements.{reducers}
 use Rattle.meaning.specs.Layers as definitions
 use Rattle.meaning.specs.Layers.{Notes, notes_of, closed_top}
 use Rattle.linked_program.specs.Procedures.{procedures}
+use Rattle.evaluation.specs.declared.note.Note.{Note}
 use Rattle.evaluation.specs.Numbers.{numbered}
 use Rattle.rerun_records.specs.Record.{PlainRecord}
 use Rattle.rerun_records.specs.Named.{SameMembers, IsRecord, filled, number_of, numbered_entry}
 use Rattle.positions.specs.Setting.{Setting, IsLinked}
-use Rattle.positions.specs.Layers.{PlainLayer, either, flagged, multiplied, absorbing, closed_onto, below_top}
+use Rattle.positions.specs.Layers.{PlainLayer, either, flagged, multiplied, kept_reads, covered, absorbing, closed_onto, below_top}
+use Rattle.positions.specs.Values.{once}
 use Rattle.positions.specs.Stands.{IsNotes, AreNotes}
-use Rattle.positions.proofs.Members.{members_append, members_mapped, map_map}
+use Rattle.positions.proofs.Members.{members_same, members_then, members_append, members_by_parts, members_mapped, map_map}
+use Rattle.positions.proofs.Once.{once_is}
 use Rattle.positions.proofs.Entries.{flagged_more, length_flagged, flagged_same}
 
 -- ---- flags of both
@@ -75,6 +78,12 @@ module _ (setting : Setting) where
   abbrev none_entered : List Bool
   none_entered = replicate (length (procedures setting.program.tree)) false
 
+  -- what a record keeps of a layer's readings
+  pub kept_reads_are : (l : PlainLayer) (n : Notes) → IsNotes setting l n → SameMembers (kept_reads l) (map (numbered setting.names) n.read)
+  kept_reads_are l n h =
+      members_then (kept_reads l) (l.notes ++ l.shared) (map (numbered setting.names) n.read)
+      (members_append (once l.notes) l.notes l.shared l.shared (once_is l.notes) (members_same l.shared l.shared refl)) h.notes
+
   module _ (l : PlainLayer) (n : Notes) (h : IsNotes setting l n) where
     length_kinds : length l.kinds ≡ length (reducers setting.program.tree)
     length_kinds = ap length h.kinds ∙ length-map (reducers setting.program.tree) (λ x. x.kind)
@@ -87,12 +96,25 @@ module _ (setting : Setting) where
         ∙ combined_both (reducers setting.program.tree) l.worths ws (h.each ∙ length_kinds) (f ∙ length_kinds)
         ∙ ap (λ ks. operate_all ks l.worths ws) (sym h.kinds)
 
+    -- readings behind all that the layer has
+    read_behind : (rs us : List Note) → SameMembers rs us → SameMembers ((l.notes ++ l.shared) ++ rs) (map (numbered setting.names) n.read ++ us)
+    read_behind rs us = members_append (l.notes ++ l.shared) (map (numbered setting.names) n.read) rs us h.notes
+
+    -- readings that it shares
+    shared_behind : (rs : List Note) (us : List Reading) → SameMembers rs (map (numbered setting.names) us) → SameMembers (l.notes ++ (l.shared ++ rs)) (map (numbered setting.names) (n.read ++ us))
+    shared_behind rs us e =
+        subst (SameMembers (l.notes ++ (l.shared ++ rs))) (sym (map-append (numbered setting.names) n.read us))
+        (subst (λ vs. SameMembers vs (map (numbered setting.names) n.read ++ map (numbered setting.names) us)) (append_assoc l.notes l.shared rs) (read_behind rs (map (numbered setting.names) us) e))
+
     pub notes_multiplied : (r : PlainLayer) (m : Notes) → IsNotes setting r m → IsNotes setting (multiplied l r) (definitions.multiplied setting.program.tree n m)
     notes_multiplied r m i = record {
       kinds = h.kinds;
       worths = worths_behind r.worths m.worth i.worths (i.each ∙ ap length (i.kinds ∙ sym h.kinds));
       each = length_operated l.kinds l.worths r.worths h.each (i.each ∙ ap length (i.kinds ∙ sym h.kinds));
-      notes = subst (SameMembers (l.notes ++ r.notes)) (sym (map-append (numbered setting.names) n.read m.read)) (members_append l.notes (map (numbered setting.names) n.read) r.notes (map (numbered setting.names) m.read) h.notes i.notes);
+      notes =
+          subst (SameMembers ((l.notes ++ r.notes) ++ (l.shared ++ r.shared))) (sym (map-append (numbered setting.names) n.read m.read))
+          (members_then ((l.notes ++ r.notes) ++ (l.shared ++ r.shared)) ((l.notes ++ l.shared) ++ (r.notes ++ r.shared)) (map (numbered setting.names) n.read ++ map (numbered setting.names) m.read)
+          (members_by_parts l.notes l.shared r.notes r.shared) (read_behind (r.notes ++ r.shared) (map (numbered setting.names) m.read) i.notes));
       entered =
           ap (λ fs. either fs r.entered) h.entered
           ∙ ap (either (flagged none_entered (map (number_of setting.program.tree) n.entered))) i.entered
@@ -100,6 +122,19 @@ module _ (setting : Setting) where
           ∙ ap (flagged none_entered) (sym (map-append (number_of setting.program.tree) n.entered m.entered));
       deepest = ap (λ d. max d m.deepest) h.deepest ∙ ap (max l.deepest) i.deepest;
     }
+
+    -- the layer of an instance that becomes a record
+    pub notes_covered : (r : PlainLayer) (m : Notes) → IsNotes setting r m → IsNotes setting (covered l r) (definitions.multiplied setting.program.tree n m)
+    notes_covered r m i =
+        let both : IsNotes setting (multiplied l r) (definitions.multiplied setting.program.tree n m) = notes_multiplied r m i in
+        record {
+          kinds = both.kinds;
+          worths = both.worths;
+          each = both.each;
+          notes = shared_behind (kept_reads r) m.read (kept_reads_are r m i);
+          entered = both.entered;
+          deepest = both.deepest;
+        }
 
     -- what a record has of an instance at that depth
     pub absorbed : IsLinked setting → (k : Kept) (r : PlainRecord) (depth : ℕ) → IsRecord setting.program.tree setting.names setting.kinds k r
@@ -114,7 +149,7 @@ module _ (setting : Setting) where
           kinds = h.kinds;
           worths = worths_behind values k.contribution (i.contribution ∙ ap (λ ks. filled (identities ks) r.contribution) same_kinds) long;
           each = length_operated l.kinds l.worths values h.each long;
-          notes = subst (SameMembers (l.notes ++ r.reads)) (sym (map-append (numbered setting.names) n.read k.read)) (members_append l.notes (map (numbered setting.names) n.read) r.reads (map (numbered setting.names) k.read) h.notes i.reads);
+          notes = shared_behind r.reads k.read i.reads;
           entered =
               ap (λ fs. flagged fs (map (λ (e : ℕ × ℕ). e.0) r.entered)) h.entered
               ∙ flagged_same (flagged none_entered (map (number_of setting.program.tree) n.entered)) (map (λ (e : ℕ × ℕ). e.0) r.entered) (map (λ (e : ℕ × ℕ). e.0) (map (numbered_entry setting.program.tree) k.revisions))
@@ -133,4 +168,4 @@ module _ (setting : Setting) where
   closed_layers l [] (n ∷ m ∷ ns) h = absurd h.1
   closed_layers l (k ∷ ls) [] h = absurd h
   closed_layers l (k ∷ ls) (n ∷ []) h = absurd h.1
-  closed_layers l (k ∷ ls) (n ∷ m ∷ ns) h = (notes_multiplied k m h.1.0 l n h.0, h.1.1)
+  closed_layers l (k ∷ ls) (n ∷ m ∷ ns) h = (notes_covered k m h.1.0 l n h.0, h.1.1)

@@ -10,7 +10,6 @@ use Rattle.meaning.specs.SmallStep.{leaving}
 use Rattle.meaning.specs.Layers.{Notes}
 use Rattle.meaning.specs.Tallies as definitions
 use Rattle.meaning.specs.Tallies.{Opened, Tally, opened_all, passed_all, answered_one, closed_by, valid_record}
-use Rattle.evaluation.specs.Numbers.{numbered}
 use Rattle.rerun_records.specs.Record.{PlainRecord}
 use Rattle.rerun_records.specs.Named.{SameMembers, IsRecord, AreRecords, IsAnswer, filled, number_of, numbered_entry}
 use Rattle.rerun_records.proofs.Lookups.{looks_up}
@@ -19,12 +18,12 @@ use Rattle.trail_theory.specs.OwnLayers.{is_top_by_length}
 use Rattle.monoid_laws.specs.Kinds.{identities}
 use Rattle.positions.specs.Setting.{Setting, IsLinked, HasItsTables, HasItsRecords}
 use Rattle.positions.specs.Layers.{PlainLayer}
-use Rattle.positions.specs.Tallies.{PlainOpened, PlainTally, once, touched_from, entries_from, record_by, is_own, closing_by, closing}
+use Rattle.positions.specs.Tallies.{PlainOpened, PlainTally, touched_from, entries_from, record_by, is_own, closing_by, closing}
 use Rattle.positions.specs.Advance.{record_for}
 use Rattle.positions.specs.Stands.{IsNotes, IsOpened, AreOpened, IsTally}
 use Rattle.positions.specs.Simulation.{HoldNow}
-use Rattle.positions.proofs.Members.{members_then}
-use Rattle.positions.proofs.Once.{second_is, once_is, touched_is}
+use Rattle.positions.proofs.Once.{second_is, touched_is}
+use Rattle.positions.proofs.Products.{kept_reads_are}
 use Rattle.positions.proofs.Entries.{entries_are}
 
 every_last : {A : Type 0} (P : A → Type 0) (xs : List A) (x : A) → Every P (xs ++ x ∷ []) → P x
@@ -66,7 +65,7 @@ module _ (setting : Setting) where
           arguments = i.arguments;
           value = refl;
           contribution = h.worths ∙ sym (touched_is l.kinds l.worths h.each) ∙ ap (λ ks. filled (identities ks) (touched_from 0 l.kinds l.worths)) (sym same_kinds);
-          reads = members_then (once l.notes) l.notes (map (numbered setting.names) n.read) (once_is l.notes) h.notes;
+          reads = kept_reads_are setting l n h;
           entered =
               subst (λ flags. SameMembers (entries_from 0 setting.program.revisions flags) (map (numbered_entry setting.program.tree) (definitions.record_by setting.program k n v).revisions)) (sym h.entered)
               (entries_are setting.program.tree setting.program.revisions records.in_order n.entered current);

@@ -6,18 +6,20 @@ use Rattle.monoid_laws.specs.Kinds.{operate, operate_all, identities, element_of
 use Rattle.evaluation.specs.declared.note.Note.{Note}
 use Rattle.rerun_records.specs.Record.{PlainRecord}
 use Rattle.rerun_records.specs.Named.{filled}
+use Rattle.positions.specs.Values.{once}
 
--- the reducers' kinds and values, what was read, for each procedure whether it was entered, and the greatest depth of an instance
+-- the reducers' kinds and values, what was read, what the instances have read that were recorded or answered meanwhile, for each procedure whether it was entered, and the greatest depth of an instance
 pub record PlainLayer : Type 0 where
   pub kinds : List Kind
   pub worths : List Worth
   pub notes : List Note
+  pub shared : List Note
   pub entered : List Bool
   pub deepest : ℕ
 
 -- a layer that has noted nothing, for a program of so many procedures
 abbrev pub blank : List Kind → ℕ → PlainLayer
-blank kinds procedures = record { kinds = kinds; worths = identities kinds; notes = []; entered = replicate procedures false; deepest = 0 }
+blank kinds procedures = record { kinds = kinds; worths = identities kinds; notes = []; shared = []; entered = replicate procedures false; deepest = 0 }
 
 abbrev pub noting : List Note → PlainLayer → PlainLayer
 noting ns l = record l { notes = l.notes ++ ns }
@@ -41,7 +43,15 @@ either (x ∷ xs) (y ∷ ys) = (x || y) ∷ either xs ys
 
 -- a layer, and one behind it
 abbrev pub multiplied : PlainLayer → PlainLayer → PlainLayer
-multiplied l r = record l { worths = operate_all l.kinds l.worths r.worths; notes = l.notes ++ r.notes; entered = either l.entered r.entered; deepest = max l.deepest r.deepest }
+multiplied l r = record l { worths = operate_all l.kinds l.worths r.worths; notes = l.notes ++ r.notes; shared = l.shared ++ r.shared; entered = either l.entered r.entered; deepest = max l.deepest r.deepest }
+
+-- what a record keeps of a layer's readings: its own once each, and then the others
+abbrev pub kept_reads : PlainLayer → List Note
+kept_reads l = once l.notes ++ l.shared
+
+-- a layer, and behind it one that becomes a record: what that keeps was read is shared with it
+abbrev pub covered : PlainLayer → PlainLayer → PlainLayer
+covered l r = record (multiplied l r) { notes = l.notes; shared = l.shared ++ kept_reads r }
 
 -- the flags of these numbers are put up
 abbrev pub flagged : List Bool → List ℕ → List Bool
@@ -52,7 +62,7 @@ flagged flags (p ∷ ps) = flagged (slice_set flags p true) ps
 abbrev pub absorbing : PlainRecord → ℕ → PlainLayer → PlainLayer
 absorbing r depth l = record l {
   worths = operate_all l.kinds l.worths (filled (identities l.kinds) r.contribution);
-  notes = l.notes ++ r.reads;
+  shared = l.shared ++ r.reads;
   entered = flagged l.entered (map (λ e. e.0) r.entered);
   deepest = max l.deepest (depth + r.height - 1);
 }
@@ -60,7 +70,7 @@ absorbing r depth l = record l {
 -- the layers, topmost first, after the topmost was put behind the one below it
 abbrev pub closed_onto : PlainLayer → List PlainLayer → PlainLayer
 closed_onto l [] = l
-closed_onto l (m ∷ ls) = multiplied m l
+closed_onto l (m ∷ ls) = covered m l
 
 abbrev pub below_top : List PlainLayer → List PlainLayer
 below_top [] = []

@@ -1,5 +1,5 @@
 -- What a strand of numbers stands for: a strand of the definitions, whose instances and procedures go by name.
-use Rattle.std.specs.Prelude.{◌≡◌, ℕ, zero, suc, ◌-◌, ◌<◌, ◌≤◌, ℤ, true, false, List, [], ◌∷◌, map, length, replicate, take, Option, None, slice_get}
+use Rattle.std.specs.Prelude.{◌≡◌, ℕ, zero, suc, ◌-◌, ◌<◌, ◌≤◌, ℤ, true, false, List, [], ◌∷◌, ◌++◌, map, length, replicate, take, Option, None, slice_get}
 use Rattle.program_tree.specs.Plain.{Body, Proc, Tree}
 use Rattle.meaning.specs.Outcome.{Place, Fault as NamedFault}
 use Rattle.meaning.specs.Trail.{child_of}
@@ -74,7 +74,7 @@ module _ (setting : Setting) where
     pub kinds : l.kinds ≡ map (λ r. r.kind) (reducers setting.program.tree)
     pub worths : n.worth ≡ l.worths
     pub each : length l.worths ≡ length l.kinds
-    pub notes : SameMembers l.notes (map (numbered setting.names) n.read)
+    pub notes : SameMembers (l.notes ++ l.shared) (map (numbered setting.names) n.read)
     pub entered : l.entered ≡ flagged (replicate (length (procedures setting.program.tree)) false) (map (procedure_number (procedures setting.program.tree)) n.entered)
     pub deepest : n.deepest ≡ l.deepest
 

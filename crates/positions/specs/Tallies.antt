@@ -1,15 +1,13 @@
 -- What a strand has counted and recorded of memo instances, by numbers.
 use Rattle.std.specs.Prelude.{ℕ, suc, ◌+◌, ◌-◌, nat_eq, ℤ, Bool, true, false, cond, List, [], ◌∷◌, ◌++◌}
-use Rattle.std.specs.List.{list_any}
 use Rattle.program_tree.specs.Plain.{Name}
 use Rattle.monoid_laws.specs.declared.Kind.{Kind}
 use Rattle.monoid_laws.specs.Worth.{Worth}
 use Rattle.monoid_laws.specs.Kinds.{identity_of}
 use Rattle.meaning.specs.Elision.{depth_limit}
-use Rattle.evaluation.specs.declared.note.Note.{Note}
-use Rattle.rerun_records.specs.Record.{PlainRecord}
-use Rattle.positions.specs.Layers.{PlainLayer}
-use Rattle.positions.specs.Values.{same_worth, same_note}
+use Rattle.rerun_records.specs.Record.{PlainRecord, rows}
+use Rattle.positions.specs.Layers.{PlainLayer, kept_reads}
+use Rattle.positions.specs.Values.{same_worth}
 
 -- a memo instance with a layer of its own: its procedure, its arguments, the depth left below it, and how long its name is
 pub record PlainOpened : Type 0 where
@@ -47,18 +45,6 @@ tallies_joined a b = record { opened = a.opened; made = a.made ++ b.made; execut
 
 -- ---- the record of an instance that is over
 
--- a reading among those that are there
-abbrev pub put_note : List Note → Note → List Note
-put_note seen n = cond (list_any (same_note n) seen) seen (seen ++ n ∷ [])
-
-abbrev pub once_behind : List Note → List Note → List Note
-once_behind seen [] = seen
-once_behind seen (n ∷ ns) = once_behind (put_note seen n) ns
-
--- each reading once
-abbrev pub once : List Note → List Note
-once ns = once_behind [] ns
-
 -- the values that are not the identities, with the reducers' numbers, of those from a number on
 abbrev pub touched_from : ℕ → List Kind → List Worth → List (ℕ × Worth)
 touched_from i [] ws = []
@@ -79,9 +65,10 @@ record_by revisions o l v = record {
   arguments = o.arguments;
   value = v;
   contribution = touched_from 0 l.kinds l.worths;
-  reads = once l.notes;
+  reads = kept_reads l;
   entered = entries_from 0 revisions l.entered;
   height = suc l.deepest - (depth_limit - o.left);
+  doubted = rows [];
 }
 
 -- the topmost open layer is that of the instance whose name is so long

@@ -1,5 +1,6 @@
--- Values and readings that are the same, decided by their parts.
-use Rattle.std.specs.Prelude.{nat_eq, ℤ, Bool, true, false, ◌&&◌, Option, Some, None}
+-- Values and readings that are the same, decided by their parts, and each reading once.
+use Rattle.std.specs.Prelude.{nat_eq, ℤ, Bool, true, false, cond, ◌&&◌, List, [], ◌∷◌, ◌++◌, Option, Some, None}
+use Rattle.std.specs.List.{list_any}
 use Rattle.std.specs.Ordering.{int_eq}
 use Rattle.std.specs.Cmp.Lexicographic.{pointwise}
 use Rattle.monoid_laws.specs.Worth.{Worth, number, items, best, line, amounts, element}
@@ -33,3 +34,15 @@ same_note (Cell t row c v) (Cell u s d w) = nat_eq t u && (int_eq row s && (nat_
 same_note (Has t row b) (Has u s d) = nat_eq t u && (int_eq row s && same_flag b d)
 same_note (Limit t v) (Limit u w) = nat_eq t u && int_eq v w
 same_note _ _ = false
+
+-- a reading among those that are there
+abbrev pub put_note : List Note → Note → List Note
+put_note seen n = cond (list_any (same_note n) seen) seen (seen ++ n ∷ [])
+
+abbrev pub once_behind : List Note → List Note → List Note
+once_behind seen [] = seen
+once_behind seen (n ∷ ns) = once_behind (put_note seen n) ns
+
+-- each reading once
+abbrev pub once : List Note → List Note
+once ns = once_behind [] ns

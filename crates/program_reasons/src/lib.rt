@@ -1,5 +1,8 @@
-//! What stands under the error of a program that is refused, from its files.
+//! What stands under the error of a program that is refused, from its files; and what explains a session's refusals and faults.
 #![tactic(auto)]
+
+pub mod causes;
+pub mod script;
 
 use cli::files::{FileSource, SystemFiles};
 use cli::prepare::PrepareError;

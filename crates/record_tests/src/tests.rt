@@ -5,4 +5,5 @@ mod depths;
 mod edits;
 mod making;
 mod parts;
+mod reads;
 mod sizes;

@@ -1,6 +1,7 @@
 //! The program as `cilkreport` is, stored with a run whose program is refused: it ends with status 1.
 #![tactic(auto)]
 
+use cli::notes::NoNotes;
 use cli::program::{ending, report};
 use monoid_laws::Kind;
 use std::alloc::AllocError;
@@ -12,5 +13,5 @@ fn main(rt: HostRuntime) -> ExitCode {
     let make = |kind: Kind| -> Result<Box<dyn View>, AllocError> {
         Ok(Box::new(alloc, PlainView::new(alloc, kind))?)
     };
-    ending(&rt, report(&rt, alloc, &make))
+    ending(&rt, report(&rt, alloc, &make, NoNotes))
 }

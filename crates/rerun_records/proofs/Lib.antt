@@ -1,4 +1,12 @@
-pub mod Puts
 pub mod Members
+pub mod Covered
+pub mod Puts
+pub mod InStep
+pub mod Standing
+pub mod Finding
+pub mod Marks
 pub mod Numbers
+pub mod SameBut
 pub mod Lookups
+pub mod NodeNotes
+pub mod Crosses

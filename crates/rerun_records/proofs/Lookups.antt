@@ -1,5 +1,5 @@
 -- Records by number stand for those by name, as they are looked up and put in.
-use Rattle.std.proofs.Common.{◌≡◌, ℕ, suc, ◌+◌, ℤ, Bool, true, false, cond, List, [], ◌∷◌, Some, None, refl, sym, ap, ◌∙◌, subst}
+use Rattle.std.proofs.Common.{◌≡◌, ℕ, suc, ◌+◌, ℤ, Bool, true, false, cond, List, [], ◌∷◌, map, Some, None, refl, sym, ap, ◌∙◌, subst}
 use Rattle.std.specs.Prelude.{◌&&◌, nat_eq, nat_le}
 use Rattle.std.specs.Cmp.Lexicographic.{pointwise}
 use Rattle.std.specs.List.{find}
@@ -11,16 +11,17 @@ use Rattle.program_tree.specs.Plain.{Name}
 use Rattle.meaning.specs.Commits.{replaced, committed, same_key}
 use Rattle.meaning.specs.Elision.{depth_limit}
 use Rattle.meaning.specs.Every.{every}
-use Rattle.meaning.specs.Records.{Revised, Kept, agrees, is_current, is_valid, if_valid, record_of, same_args}
+use Rattle.meaning.specs.Records.{Revised, Kept, agrees, is_current, holds_now, is_valid, if_valid, record_of, same_args}
 use Rattle.meaning.specs.Statements.{procedure_of}
 use Rattle.meaning.specs.Tables.{Tables, is_there}
 use Rattle.linked_program.specs.TableNames.{Columned, columned_of}
 use Rattle.evaluation.specs.Numbers.{numbered}
-use Rattle.rerun_records.specs.Record.{PlainRecord, is_of, same_instance}
+use Rattle.rerun_records.specs.Record.{PlainRecord, is_of, same_instance, settled}
 use Rattle.rerun_records.specs.Validity.{note_agrees, has_revision, record_valid, only_valid, valid_at}
+use Rattle.rerun_records.specs.Doubted.{reads_agree, ReadNow}
 use Rattle.rerun_records.specs.Commits.{put_record, put_records}
 use Rattle.rerun_records.specs.Named.{number_of, numbered_entry, IsRecord, AreRecords, IsAnswer, IsInOrder}
-use Rattle.rerun_records.proofs.Members.{every_member, every_mapped}
+use Rattle.rerun_records.proofs.Members.{every_member, every_mapped, left_is, right_is, both}
 use Rattle.rerun_records.proofs.Numbers.{same_name, current_is, reading_is, same_arguments}
 
 module _ (program : Revised) (names : List Columned) (kinds : List Kind) where
@@ -32,13 +33,36 @@ module _ (program : Revised) (names : List Columned) (kinds : List Kind) where
       ∙ ap (λ n. nat_eq (number_of program.tree f) n && pointwise int_eq args k.args) (sym h.procedure)
       ∙ ap (λ xs. nat_eq (number_of program.tree f) r.procedure && pointwise int_eq args xs) (sym h.arguments)
 
-  module _ (tables : Tables) (listed : IsInOrder program.tree program.revisions) (known : columned_of tables ≡ names) where
+  settled_is : (k : Kept) (r : PlainRecord) → IsRecord program.tree names kinds k r → IsRecord program.tree names kinds k (settled r)
+  settled_is k r h = record {
+    known = h.known;
+    procedure = h.procedure;
+    arguments = h.arguments;
+    value = h.value;
+    contribution = h.contribution;
+    reads = h.reads;
+    entered = h.entered;
+    height = h.height;
+  }
+
+  module _ (tables : Tables) (known : columned_of tables ≡ names) where
     reads_hold : (k : Kept) (r : PlainRecord) → IsRecord program.tree names kinds k r → every (agrees tables) k.read ≡ every (note_agrees tables) r.reads
     reads_hold k r h =
         every_mapped (note_agrees tables) (agrees tables) (numbered names) k.read
         (λ x. subst (λ (ts : List Columned). agrees tables x ≡ note_agrees tables (numbered ts x)) known (reading_is tables x))
         ∙ sym (every_member (note_agrees tables) r.reads _ h.reads)
 
+    -- records that stand for those that hold now agree with the tables
+    pub agree_now : (ks : List Kept) (rs : List PlainRecord) → AreRecords program.tree names kinds ks rs → every (holds_now program tables) ks ≡ true → ReadNow tables rs
+    agree_now [] [] h n = refl
+    agree_now [] (r ∷ rs) h n = absurd h
+    agree_now (k ∷ ks) [] h n = absurd h
+    agree_now (k ∷ ks) (r ∷ rs) h n =
+        both (reads_agree tables r) (every (reads_agree tables) rs)
+        (sym (reads_hold k r h.0) ∙ left_is (every (agrees tables) k.read) (every (is_current program.revisions) k.revisions) (left_is (holds_now program tables k) (every (holds_now program tables) ks) n))
+        (agree_now ks rs h.1 (right_is (holds_now program tables k) (every (holds_now program tables) ks) n))
+
+  module _ (tables : Tables) (listed : IsInOrder program.tree program.revisions) (known : columned_of tables ≡ names) where
     revisions_hold : (k : Kept) (r : PlainRecord) → IsRecord program.tree names kinds k r → every (is_current program.revisions) k.revisions ≡ every (has_revision program.revisions) r.entered
     revisions_hold k r h =
         every_mapped (has_revision program.revisions) (is_current program.revisions) (numbered_entry program.tree) k.revisions (current_is program.tree program.revisions listed)
@@ -46,12 +70,12 @@ module _ (program : Revised) (names : List Columned) (kinds : List Kind) where
 
     valid_is : (depth : ℕ) (k : Kept) (r : PlainRecord) → IsRecord program.tree names kinds k r → is_valid program tables depth k ≡ record_valid program.revisions tables depth r
     valid_is depth k r h =
-        ap (λ b. (b && every (is_current program.revisions) k.revisions) && nat_le (depth + k.height) (suc depth_limit)) (reads_hold k r h)
+        ap (λ b. (b && every (is_current program.revisions) k.revisions) && nat_le (depth + k.height) (suc depth_limit)) (reads_hold tables known k r h)
         ∙ ap (λ b. (every (note_agrees tables) r.reads && b) && nat_le (depth + k.height) (suc depth_limit)) (revisions_hold k r h)
         ∙ ap (λ n. (every (note_agrees tables) r.reads && every (has_revision program.revisions) r.entered) && nat_le (depth + n) (suc depth_limit)) (sym h.height)
 
-    found_one : (b : Bool) (k : Kept) (r : PlainRecord) → IsRecord program.tree names kinds k r → IsAnswer program.tree names kinds (cond b (Some k) None) (cond b (Some r) None)
-    found_one true k r h = h
+    found_one : (b : Bool) (k : Kept) (r : PlainRecord) → IsRecord program.tree names kinds k r → IsAnswer program.tree names kinds (cond b (Some k) None) (cond b (Some (settled r)) None)
+    found_one true k r h = settled_is k r h
     found_one false k r h = tt
 
     valid_one : (depth : ℕ) (k : Kept) (r : PlainRecord) → IsRecord program.tree names kinds k r
@@ -70,6 +94,34 @@ module _ (program : Revised) (names : List Columned) (kinds : List Kind) where
           | true ↦ valid_one depth k r h.0
           | false ↦ looks_up depth f args ks rs h.1
         ])
+
+  unsettled_is : (k : Kept) (r : PlainRecord) → IsRecord program.tree names kinds k (settled r) → IsRecord program.tree names kinds k r
+  unsettled_is k r h = record {
+    known = h.known;
+    procedure = h.procedure;
+    arguments = h.arguments;
+    value = h.value;
+    contribution = h.contribution;
+    reads = h.reads;
+    entered = h.entered;
+    height = h.height;
+  }
+
+  settled_all : (ks : List Kept) (rs : List PlainRecord) → AreRecords program.tree names kinds ks rs → AreRecords program.tree names kinds ks (map settled rs)
+  settled_all [] [] h = tt
+  settled_all [] (r ∷ rs) h = absurd h
+  settled_all (k ∷ ks) [] h = absurd h
+  settled_all (k ∷ ks) (r ∷ rs) h = (settled_is k r h.0, settled_all ks rs h.1)
+
+  unsettled_all : (ks : List Kept) (rs : List PlainRecord) → AreRecords program.tree names kinds ks (map settled rs) → AreRecords program.tree names kinds ks rs
+  unsettled_all [] [] h = tt
+  unsettled_all [] (r ∷ rs) h = absurd h
+  unsettled_all (k ∷ ks) [] h = absurd h
+  unsettled_all (k ∷ ks) (r ∷ rs) h = (unsettled_is k r h.0, unsettled_all ks rs h.1)
+
+  -- what records stand for doesn't go by what is in doubt of them
+  pub same_but_doubts : (ks : List Kept) (rs ss : List PlainRecord) → map settled ss ≡ map settled rs → AreRecords program.tree names kinds ks rs → AreRecords program.tree names kinds ks ss
+  same_but_doubts ks rs ss e h = unsettled_all ks ss (rw e (settled_all ks rs h))
 
   none_of_name : (k : Kept) (r : PlainRecord) (f : Name) → IsRecord program.tree names kinds k r → is_there (procedure_of program.tree f) ≡ false → bytes_eq k.of f ≡ false
   none_of_name k r f h unknown =

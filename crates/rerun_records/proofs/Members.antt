@@ -10,11 +10,11 @@ contains_tail x y xs c = (suc c.0, omega (arith, c.1), c.2)
 contains_head : {A : Type 0} (x : A) (xs : List A) → Contains (x ∷ xs) x
 contains_head x xs = (0, omega arith, refl)
 
-left_is : (a b : Bool) → a && b ≡ true → a ≡ true
+pub left_is : (a b : Bool) → a && b ≡ true → a ≡ true
 left_is true b e = refl
 left_is false b e = absurd (true≢false (sym e))
 
-right_is : (a b : Bool) → a && b ≡ true → b ≡ true
+pub right_is : (a b : Bool) → a && b ≡ true → b ≡ true
 right_is true b e = e
 right_is false b e = absurd (true≢false (sym e))
 
@@ -45,3 +45,11 @@ every_member p xs ys h =
 pub every_mapped : {A B : Type 0} (p : B → Bool) (q : A → Bool) (g : A → B) (xs : List A) → ((x : A) → q x ≡ p (g x)) → every q xs ≡ every p (map g xs)
 every_mapped p q g [] h = refl
 every_mapped p q g (x ∷ xs) h = ap (λ b. b && every q xs) (h x) ∙ ap (λ b. p (g x) && b) (every_mapped p q g xs h)
+
+pub both : (a b : Bool) → a ≡ true → b ≡ true → a && b ≡ true
+both true b e f = f
+both false b e f = absurd (true≢false (sym e))
+
+pub every_weaker : {A : Type 0} (p q : A → Bool) (xs : List A) → ((x : A) → p x ≡ true → q x ≡ true) → every p xs ≡ true → every q xs ≡ true
+every_weaker p q [] h e = refl
+every_weaker p q (x ∷ xs) h e = both (q x) (every q xs) (h x (left_is (p x) (every p xs) e)) (every_weaker p q xs h (right_is (p x) (every p xs) e))

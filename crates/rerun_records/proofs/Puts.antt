@@ -1,9 +1,11 @@
 -- A record that takes the place of another in a set.
-use Rattle.std.proofs.Common.{◌≡◌, All, ℕ, suc, ◌+◌, ◌≤◌, ◌<◌, Bool, true, false, cond, ◌||◌, List, [], ◌∷◌, ◌++◌, length, if◌then◌else◌, refl, sym, ap, ◌∙◌, arith}
+use Rattle.std.proofs.Common.{◌≡◌, All, ℕ, suc, ◌+◌, ◌≤◌, ◌<◌, Bool, true, false, cond, ◌||◌, List, [], ◌∷◌, ◌++◌, length, map, if◌then◌else◌, refl, sym, ap, ◌∙◌, arith}
 use Rattle.std.proofs.lemmas.List.Elements.{All-cons, All-head, All-tail}
 use Rattle.std.specs.List.{list_any}
 use Rattle.indexmap.specs.IndexSet.{replace_key, swap_key}
-use Rattle.rerun_records.specs.Record.{PlainRecord, same_instance}
+use Rattle.rerun_records.specs.Record.{PlainRecord, same_instance, settled}
+use Rattle.rerun_records.specs.Named.{AreValuesFrom, HaveValues}
+use Rattle.monoid_laws.specs.declared.Kind.{Kind}
 use Rattle.rerun_records.specs.Commits.{put_record, put_records}
 
 behind_both : {A : Type 0} (b : Bool) (x : A) (xs ys : List A) → (if b then x ∷ xs else x ∷ ys) ≡ x ∷ (if b then xs else ys)
@@ -20,9 +22,8 @@ replaced_is_put (s ∷ ss) r =
 
 -- one more record was put in
 pub still_put : (before now rest all whole : List PlainRecord) (r : PlainRecord)
-    → put_records before all ≡ whole → all ≡ r ∷ rest → now ≡ replace_key same_instance before r → put_records now rest ≡ whole
-still_put before now rest all whole r e s n =
-    ap (λ rs. put_records rs rest) (n ∙ replaced_is_put before r) ∙ ap (put_records before) (sym s) ∙ e
+    → put_records before all ≡ whole → all ≡ r ∷ rest → now ≡ put_record before r → put_records now rest ≡ whole
+still_put before now rest all whole r e s n = ap (λ rs. put_records rs rest) n ∙ ap (put_records before) (sym s) ∙ e
 
 pub room_before : (rest all : List PlainRecord) (r : PlainRecord) (spare : ℕ) → length all ≤ spare → all ≡ r ∷ rest → 0 < spare
 room_before rest all r spare l s = let e : length all ≡ suc (length rest) = ap length s in omega (arith, l, e)
@@ -42,3 +43,40 @@ all_put P (s ∷ ss) r a p =
 pub all_put_in : (P : PlainRecord → Type 0) (rs ss : List PlainRecord) → All P rs → All P ss → All P (put_records rs ss)
 all_put_in P rs [] a b = a
 all_put_in P rs (s ∷ ss) a b = all_put_in P (put_record rs s) ss (all_put P rs s a (All-head P s ss b)) (All-tail P s ss b)
+
+-- a record is put among others that have nothing in doubt as it is among those that have
+settled_put : (rs : List PlainRecord) (r : PlainRecord) → map settled (put_record rs r) ≡ put_record (map settled rs) (settled r)
+settled_put [] r = refl
+settled_put (s ∷ ss) r =
+    elim (same_instance r s) as (λ b. map settled (cond b (r ∷ ss) (s ∷ put_record ss r)) ≡ cond b (settled r ∷ map settled ss) (settled s ∷ put_record (map settled ss) (settled r))) [
+      | true ↦ refl
+      | false ↦ ap (λ xs. settled s ∷ xs) (settled_put ss r)
+    ]
+
+pub still_settled : (before now : List PlainRecord) (r : PlainRecord) → map settled before ≡ before → now ≡ replace_key same_instance before r → settled r ≡ r → map settled now ≡ now
+still_settled before now r b n s =
+    let put : now ≡ put_record before r = n ∙ replaced_is_put before r in
+    ap (map settled) put ∙ settled_put before r ∙ ap (λ xs. put_record xs (settled r)) b ∙ ap (put_record before) s ∙ sym put
+
+pub place_before : (rest all : List PlainRecord) (r : PlainRecord) (places capacity : ℕ) → places + length all ≤ capacity → all ≡ r ∷ rest → places < capacity
+place_before rest all r places capacity l s = let e : length all ≡ suc (length rest) = ap length s in omega (arith, l, e)
+
+pub places_after : (rest all : List PlainRecord) (r : PlainRecord) (before after capacity same : ℕ) → before + length all ≤ capacity → all ≡ r ∷ rest → after ≤ before + 1 → same ≡ capacity → after + length rest ≤ same
+places_after rest all r before after capacity same l s m e = let long : length all ≡ suc (length rest) = ap length s in omega (arith, l, long, m, e)
+
+pub still_put_settled : (before now rest all whole : List PlainRecord) (r : PlainRecord)
+    → put_records (map settled before) all ≡ whole → all ≡ r ∷ rest → now ≡ put_record before r → settled r ≡ r → put_records (map settled now) rest ≡ whole
+still_put_settled before now rest all whole r e s n m =
+    still_put (map settled before) (map settled now) rest all whole r e s (ap (map settled) n ∙ settled_put before r ∙ ap (put_record (map settled before)) m)
+
+-- a test of records that doesn't go by what is in doubt
+settled_pass : (P : PlainRecord → Type 0) → ((r : PlainRecord) → P r → P (settled r)) → (rs : List PlainRecord) → All P rs → All P (map settled rs)
+settled_pass P f [] a = a
+settled_pass P f (r ∷ rs) a = All-cons P (settled r) (map settled rs) (f r (All-head P r rs a)) (settled_pass P f rs (All-tail P r rs a))
+
+unsettled_pass : (P : PlainRecord → Type 0) → ((r : PlainRecord) → P (settled r) → P r) → (rs : List PlainRecord) → All P (map settled rs) → All P rs
+unsettled_pass P f [] a = a
+unsettled_pass P f (r ∷ rs) a = All-cons P r rs (f r (All-head P (settled r) (map settled rs) a)) (unsettled_pass P f rs (All-tail P (settled r) (map settled rs) a))
+
+pub same_values : (kinds : List Kind) (rs ss : List PlainRecord) → map settled ss ≡ map settled rs → HaveValues kinds rs → HaveValues kinds ss
+same_values kinds rs ss e h = unsettled_pass (λ r. AreValuesFrom 0 kinds r.contribution) (λ r v. v) ss (rw e (settled_pass (λ r. AreValuesFrom 0 kinds r.contribution) (λ r v. v) rs h))

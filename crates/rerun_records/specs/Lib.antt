@@ -1,4 +1,8 @@
 pub mod Record
+pub mod Spans
+pub mod Readings
 pub mod Validity
 pub mod Commits
+pub mod Doubted
+pub mod Moments
 pub mod Named

@@ -1,5 +1,5 @@
 -- Records as plain values: everything in them goes by number.
-use Rattle.std.specs.Prelude.{ℕ, nat_eq, nat_le, ℤ, Bool, ◌&&◌, List, map}
+use Rattle.std.specs.Prelude.{ℕ, nat_eq, nat_le, ℤ, Bool, ◌&&◌, List, [], map}
 use Rattle.std.specs.Cmp.Lexicographic.{pointwise}
 use Rattle.std.specs.Ordering.{int_eq}
 use Rattle.monoid_laws.specs.Worth.{Worth}
@@ -10,8 +10,14 @@ use Rattle.evaluation.specs.declared.note.Note.TheVariants as n
 use Rattle.rerun_records.specs.declared.reading.Reading.{Reading}
 use Rattle.rerun_records.specs.declared.reading.Reading.TheVariants as r
 
+-- which readings of a record may no longer agree with the tables: any, or those of rows that were changed, each with its table's number
+pub data Doubts : Type 0 where
+  everything : Doubts
+  rows : List (ℕ × ℤ) → Doubts
+
 -- of a memo instance that is over: its procedure and arguments, its value, what it made of each reducer that it touched, what it read,
--- the procedures entered with their revision numbers, and how many instances were nested in it at most, itself counted
+-- the procedures entered with their revision numbers, how many instances were nested in it at most, itself counted,
+-- and which of its readings are in doubt
 pub record PlainRecord : Type 0 where
   pub procedure : ℕ
   pub arguments : List ℤ
@@ -20,6 +26,7 @@ pub record PlainRecord : Type 0 where
   pub reads : List Note
   pub entered : List (ℕ × ℕ)
   pub height : ℕ
+  pub doubted : Doubts
 
 -- the note that was put into fewer bytes
 abbrev pub note_of : Reading → Note
@@ -46,6 +53,10 @@ abbrev pub same_instance : PlainRecord → PlainRecord → Bool
 same_instance r s = is_of r.procedure r.arguments s
 
 -- the record of these parts
-abbrev pub made_of : ℕ → List ℤ → ℤ → List (ℕ × Val) → List Reading → List (ℕ × ℕ) → ℕ → PlainRecord
+abbrev pub made_of : ℕ → List ℤ → ℤ → List (ℕ × Val) → List Note → List (ℕ × ℕ) → ℕ → PlainRecord
 made_of procedure arguments value contribution reads entered height =
-    record { procedure = procedure; arguments = arguments; value = value; contribution = map touched contribution; reads = map note_of reads; entered = entered; height = height }
+    record { procedure = procedure; arguments = arguments; value = value; contribution = map touched contribution; reads = reads; entered = entered; height = height; doubted = rows [] }
+
+-- the record with nothing in doubt
+abbrev pub settled : PlainRecord → PlainRecord
+settled r = record r { doubted = rows [] }

@@ -1,8 +1,12 @@
 //! The records that a run leaves of its memo instances, and the next run looks up.
 #![tactic(auto)]
 
+mod changes;
+pub mod edits;
 pub mod key;
 pub mod laws;
 pub mod reading;
+pub mod readings;
 pub mod record;
 pub mod records;
+mod spans;

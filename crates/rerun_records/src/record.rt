@@ -1,5 +1,5 @@
 //! The record of a memo instance that is over.
-ghost use Rattle.std.specs.Prelude.{◌≡◌, ◌+◌, ◌<◌, suc, length, slice_get, Some, map, nat_eq, nat_le, ◌++◌};
+ghost use Rattle.std.specs.Prelude.{◌≡◌, ◌+◌, suc, map, nat_eq, nat_le, ◌++◌, true, option_copied};
 ghost use Rattle.std.specs.Cmp.Lexicographic.{pointwise};
 ghost use Rattle.std.specs.Cmp.Rules.{comparing, hashing};
 ghost use Rattle.std.specs.Hash as fed;
@@ -7,11 +7,12 @@ ghost use Rattle.std.specs.Ordering.{on, eq_of_both, int_eq};
 ghost use Rattle.std.proofs.Common.{rules};
 ghost use Rattle.meaning.specs.Elision.{depth_limit};
 ghost use Rattle.meaning.specs.Every.{every};
-ghost use Rattle.rerun_records.specs.Record.{note_of, touched, made_of};
+ghost use Rattle.rerun_records.specs.Record.{touched, made_of, settled, rows};
+ghost use Rattle.rerun_records.specs.Doubted.{in_step, reads_agree};
+ghost use Rattle.rerun_records.specs.Moments.{doubts_by};
 ghost use Rattle.rerun_records.specs.Validity.{note_agrees, has_revision, record_holds, record_valid};
 
-use crate::reading::Reading;
-use evaluation::note::Note;
+use crate::readings::Readings;
 use input_tables::Tables;
 use linked_program::checked::Checked;
 use monoid_laws::Val;
@@ -21,6 +22,9 @@ use std::marker::Model;
 /// How many instances may be nested, as the language has it.
 const DEPTH_LIMIT: u64 = 64;
 
+/// How many changes of rows are few enough to look through them for each reading, which is quicker than to look it up.
+const FEW: usize = 16;
+
 /// What a memo instance came to, and what that rests on. Records are equal where they are of one procedure with the same
 /// arguments, whatever else they hold.
 #[derive(Drop)]
@@ -29,18 +33,18 @@ pub struct Record {
     arguments: Vec<i64>,
     value: i64,
     contribution: Vec<(usize, Val)>,
-    reads: Vec<Reading>,
+    reads: Readings,
     entered: Vec<(usize, u64)>,
     height: u32,
 }
 
 impl Model for Record {
-    ghost use Rattle.std.specs.Prelude.{map};
-    ghost use Rattle.rerun_records.specs.Record.{PlainRecord, note_of, touched};
+    ghost use Rattle.std.specs.Prelude.{[], map};
+    ghost use Rattle.rerun_records.specs.Record.{PlainRecord, rows, touched};
 
     ghost Value = { PlainRecord };
 
-    ghost view = { λ r. record { procedure = r.procedure; arguments = r.arguments.items; value = r.value; contribution = map touched r.contribution.items; reads = map note_of r.reads.items; entered = r.entered.items; height = r.height } };
+    ghost view = { λ r. record { procedure = r.procedure; arguments = r.arguments.items; value = r.value; contribution = map touched r.contribution.items; reads = r.reads; entered = r.entered.items; height = r.height; doubted = rows [] } };
 }
 
 impl Record {
@@ -52,16 +56,15 @@ impl Record {
         mut arguments: Vec<i64>,
         value: i64,
         mut contribution: Vec<(usize, Val)>,
-        mut reads: Vec<Reading>,
+        reads: Readings,
         mut entered: Vec<(usize, u64)>,
         height: u32,
     ) -> Record
         ensures made { result
-            ≡ made_of procedure arguments.items value contribution.items reads.items entered.items height }
+            ≡ made_of procedure arguments.items value contribution.items reads entered.items height }
     {
         arguments.shrink_to_fit();
         contribution.shrink_to_fit();
-        reads.shrink_to_fit();
         entered.shrink_to_fit();
         Record {
             procedure,
@@ -72,6 +75,13 @@ impl Record {
             entered,
             height,
         }
+    }
+
+    /// What the type keeps: nothing of a record on its own is in doubt.
+    pub fn settled(&self)
+        ensures settled { settled self.now ≡ self.now }
+    {
+        let _ = &self.height;
     }
 
     /// The number of the procedure.
@@ -102,19 +112,11 @@ impl Record {
         &self.contribution
     }
 
-    /// How many readings there are.
-    pub fn read_count(&self) -> usize
-        ensures count { result ≡ length self.now.reads }
+    /// Lends what was read.
+    pub fn reads(&self) -> &Readings
+        ensures reads { result.now ≡ self.now.reads }
     {
-        self.reads.len()
-    }
-
-    /// The reading of that number, counted from 0, with what it held.
-    pub fn read(&self, index: usize) -> Note
-        requires within { index < length self.now.reads }
-        ensures read { Some result ≡ slice_get self.now.reads index }
-    {
-        self.reads[index].note()
+        &self.reads
     }
 
     /// Lends the numbers of the procedures entered, each with its revision number.
@@ -135,15 +137,32 @@ impl Record {
     pub fn holds_now(&self, tables: &Tables, program: &Checked) -> bool
         ensures holds { result ≡ record_holds program.now.revisions tables.now.tables self.now }
     {
-        reads_agree(&self.reads, tables) && are_current(&self.entered, program)
+        self.reads.agree(tables) && are_current(&self.entered, program)
     }
 
-    /// Whether the record holds now, and an instance at that depth with as many nested in it stays within the limit.
-    pub fn is_valid(&self, depth: u32, tables: &Tables, program: &Checked) -> bool
+    /// Whether the record holds now, and an instance at that depth with as many nested in it stays within the limit, where the
+    /// tables hold each reading that those changes of rows, or any, don't put in doubt: those in doubt alone are compared.
+    pub(crate) fn stays_valid(
+        &self,
+        depth: u32,
+        changes: Option<&[(usize, i64)]>,
+        tables: &Tables,
+        program: &Checked,
+    ) -> bool
+        requires in_step { every (in_step tables.now.tables (doubts_by (option_copied changes))) self.now.reads ≡ true }
         ensures valid { result
             ≡ record_valid program.now.revisions tables.now.tables depth self.now }
     {
-        self.holds_now(tables, program) && fits(depth, self.height)
+        doubted_agree(&self.reads, changes, tables)
+            && are_current(&self.entered, program)
+            && fits(depth, self.height)
+    }
+
+    /// Whether the tables hold what was read.
+    pub(crate) fn agrees(&self, tables: &Tables) -> bool
+        ensures agree { result ≡ reads_agree tables.now.tables self.now }
+    {
+        self.reads.agree(tables)
     }
 }
 
@@ -154,31 +173,23 @@ fn fits(depth: u32, height: u32) -> bool
     u64::from(depth) + u64::from(height) <= DEPTH_LIMIT + 1
 }
 
-// Whether the tables hold what was read.
-fn reads_agree(reads: &[Reading], tables: &Tables) -> bool
-    ensures agree { result ≡ every (note_agrees tables.now.tables) (map note_of reads.now) }
+// Whether the tables hold what was read, where they held each reading that those changes of rows, or any, don't put in doubt.
+fn doubted_agree(reads: &Readings, changes: Option<&[(usize, i64)]>, tables: &Tables) -> bool
+    requires in_step { every (in_step tables.now.tables (doubts_by (option_copied changes))) reads.now ≡ true }
+    ensures agree { result ≡ every (note_agrees tables.now.tables) reads.now }
 {
-    for reading in reads {
-        if !agrees(&reading.note(), tables) {
-            return false;
-        }
+    match changes {
+        Some(changes) => those_agree(reads, changes, tables),
+        None => reads.agree(tables),
     }
-    true
 }
 
-fn agrees(note: &Note, tables: &Tables) -> bool
-    ensures agrees { result ≡ note_agrees tables.now.tables note.now }
+// The same for those changes.
+fn those_agree(reads: &Readings, changes: &[(usize, i64)], tables: &Tables) -> bool
+    requires in_step { every (in_step tables.now.tables (rows changes.now)) reads.now ≡ true }
+    ensures agree { result ≡ every (note_agrees tables.now.tables) reads.now }
 {
-    match note {
-        Note::Cell {
-            table,
-            row,
-            column,
-            value,
-        } => tables.cell(*table, *row, *column) == Some(*value),
-        Note::Has { table, row, found } => tables.has(*table, *row) == *found,
-        Note::Limit { table, value } => tables.limit(*table) == *value,
-    }
+    reads.doubted_agree(changes, tables)
 }
 
 // Whether these procedures have these revision numbers.

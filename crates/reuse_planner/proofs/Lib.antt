@@ -1,3 +1,4 @@
+pub mod Doubts
 pub mod Keeping
 pub mod Refusals
 pub mod Paths

@@ -1,5 +1,5 @@
 -- What an edit makes of a session.
-use Rattle.std.specs.Prelude.{◌≡◌, Result, Ok, Err, IsOk, IfErr, OnOk, OnErr}
+use Rattle.std.specs.Prelude.{◌≡◌, map, Result, Ok, Err, IsOk, IfErr, OnOk, OnErr}
 use Rattle.meaning.specs.Edits.{Standing, Edit, EditRefusal, Put, Delete, Define, tried}
 use Rattle.checked_defines.specs.Readers.{reads_text, checks_rules}
 use Rattle.session_edits.specs.Said.{refusal}
@@ -8,6 +8,7 @@ use Rattle.input_tables.specs.declared.refusal.EditError as tables
 use Rattle.input_tables.specs.declared.refusal.EditError.TheVariants as table
 use Rattle.checked_defines.specs.declared.refusal.DefineError.{DefineError}
 use Rattle.checked_defines.specs.declared.refusal.DefineError.TheVariants as define
+use Rattle.rerun_records.specs.Record.{settled}
 use Rattle.reuse_planner.specs.declared.refusal.ApplyError.{ApplyError}
 use Rattle.reuse_planner.specs.declared.refusal.ApplyError.TheVariants.{NoMemory, Refused}
 use Rattle.reuse_planner.specs.Sessions.{PlainSession, standing_of}
@@ -43,9 +44,10 @@ abbrev pub IsApplyCause : Edit → Result Standing EditRefusal → ApplyError �
 IsApplyCause e answer NoMemory = MayLackMemory e answer
 IsApplyCause e answer (Refused error) = answer ≡ Err (refusal error)
 
--- the answer to an edit is the definitions', and the session after it is theirs: a refused edit changes nothing, and no edit changes the records
+-- the answer to an edit is the definitions', and the session after it is theirs: a refused edit changes nothing, and no edit changes the records, but for what is in doubt of them
 pub record IsApplied (s : PlainSession) (e : Edit) (given : Result Unit ApplyError) (t : PlainSession) : Type 0 where
   pub applied : OnOk given (edited (standing_of s) e ≡ Ok (standing_of t))
   pub refused : IfErr given (IsApplyCause e (edited (standing_of s) e))
   pub same : OnErr given (t ≡ s)
-  pub rest : t ≡ record s { checked = t.checked; tables = t.tables }
+  pub rest : t ≡ record s { checked = t.checked; tables = t.tables; records = t.records }
+  pub records : map settled t.records ≡ map settled s.records

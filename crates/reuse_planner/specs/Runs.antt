@@ -8,7 +8,7 @@ use Rattle.meaning.specs.Elision.{from_scratch}
 use Rattle.meaning.specs.Records.{needed, executed}
 use Rattle.meaning.specs.Schedules.{RunState, RunStep, first_state, path, end_of}
 use Rattle.linked_program.specs.Checked.{revised_of}
-use Rattle.rerun_records.specs.Record.{PlainRecord}
+use Rattle.rerun_records.specs.Record.{PlainRecord, settled}
 use Rattle.rerun_records.specs.Commits.{put_records}
 use Rattle.positions.specs.Setting.{Setting}
 use Rattle.positions.specs.Stands.{fault_in}
@@ -53,11 +53,11 @@ abbrev pub IsBegun : RunAnswer → Type 0
 IsBegun answer.NoKit = ⊥
 IsBegun _ = Unit {0}
 
--- after a run that has finished the records are those before with its own put in, else those before
+-- after a run that has finished the records are those before with its own put in, else those before; but for what is in doubt of them
 abbrev pub LeavesRecords : PlainSession → RunAnswer → List PlainRecord → Type 0
 LeavesRecords s (answer.Finished v values n m k) records =
-    (made : List PlainRecord) × HasRecordedBy s.checked s.tables s.records (answer.Finished v values n m k) made × (records ≡ put_records s.records made)
-LeavesRecords s _ records = records ≡ s.records
+    (made : List PlainRecord) × HasRecordedBy s.checked s.tables s.records (answer.Finished v values n m k) made × (map settled records ≡ put_records (map settled s.records) made)
+LeavesRecords s _ records = map settled records ≡ map settled s.records
 
 -- by records that the session's stand for nothing is left to execute
 pub record NeedsNothing (s : PlainSession) : Type 0 where

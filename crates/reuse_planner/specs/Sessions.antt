@@ -14,6 +14,7 @@ use Rattle.linked_program.specs.TableNames.{columned_of}
 use Rattle.linked_program.specs.Checked.{PlainChecked, revised_of}
 use Rattle.input_tables.specs.Edited.{Edited}
 use Rattle.rerun_records.specs.Record.{PlainRecord}
+use Rattle.rerun_records.specs.Doubted.{IsInStep}
 use Rattle.rerun_records.specs.Named.{AreKept, HaveValues}
 use Rattle.checked_defines.specs.Standings.{standing}
 use Rattle.worker_core.specs.Keeps.{AreSoundFor}
@@ -53,9 +54,10 @@ pub record AreNewFor (program : PlainChecked) (tables : Edited) (made : List Pla
   pub stand : AreKept program kept made
   pub news : Every (IsNewRecord (revised_of program) tables.tables) kept
 
--- what a session keeps in its type
+-- what a session keeps in its type: its records are in step with its tables, whatever rows were changed since they were made
 pub record KeepsSession (s : PlainSession) : Type 0 where
   pub kept : AreKeptFor s.checked s.records
   pub values : HaveValues s.checked.kinds s.records
   pub columns : s.checked.tables ≡ columned_of s.tables.tables
   pub kinds : All (λ k. k ≡ s.checked.kinds) s.kits.kits
+  pub in_step : IsInStep s.tables.tables s.records

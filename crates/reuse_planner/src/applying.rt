@@ -1,7 +1,8 @@
 // Edits of a session, one kind after another.
-ghost use Rattle.std.specs.Prelude.{◌≡◌, Ok, IfErr, OnOk, OnErr};
+ghost use Rattle.std.specs.Prelude.{◌≡◌, Ok, map, IfErr, OnOk, OnErr};
 ghost use Rattle.meaning.specs.Edits.{Put, Delete, Define, after_put, after_delete, after_define};
 ghost use Rattle.checked_defines.specs.Readers.{reads_text, checks_rules};
+ghost use Rattle.rerun_records.specs.Record.{settled};
 ghost use Rattle.reuse_planner.specs.Sessions.{standing_of};
 ghost use Rattle.reuse_planner.specs.Applied.{IsApplyCause};
 
@@ -24,9 +25,14 @@ impl<V: View> Session<V> {
         ensures refused { IfErr result (IsApplyCause (Put table.now row values.now)
             (after_put (standing_of self.old) table.now row values.now)) }
         ensures same { OnErr result (self.new ≡ self.old) }
-        ensures rest { self.new ≡ record self.old { tables = self.new.tables } }
+        ensures rest { self.new
+            ≡ record self.old { tables = self.new.tables; records = self.new.records } }
+        ensures records { map settled self.new.records ≡ map settled self.old.records }
     {
-        match self.tables.put(alloc, table, row, values) {
+        match self
+            .records
+            .put(alloc, &mut self.tables, table, row, values)
+        {
             Ok(()) => Ok(()),
             Err(error) => Err(unput(error)),
         }
@@ -39,9 +45,11 @@ impl<V: View> Session<V> {
         ensures refused { IfErr result (IsApplyCause (Delete table.now row)
             (after_delete (standing_of self.old) table.now row)) }
         ensures same { OnErr result (self.new ≡ self.old) }
-        ensures rest { self.new ≡ record self.old { tables = self.new.tables } }
+        ensures rest { self.new
+            ≡ record self.old { tables = self.new.tables; records = self.new.records } }
+        ensures records { map settled self.new.records ≡ map settled self.old.records }
     {
-        match self.tables.delete(table, row) {
+        match self.records.delete(&mut self.tables, table, row) {
             Ok(()) => Ok(()),
             Err(error) => Err(unput(error)),
         }

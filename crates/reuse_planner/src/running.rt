@@ -1,6 +1,7 @@
 // Runs of a session by steps that are given.
 ghost use Rattle.std.specs.Prelude.{◌≡◌, ◌↔◌, ◌<◌, [], false, All, IfOk, OnOk, length};
 ghost use Rattle.linked_program.specs.TableNames.{columned_of};
+ghost use Rattle.rerun_records.specs.Doubted.{IsInStep};
 ghost use Rattle.rerun_records.specs.Named.{HaveValues};
 ghost use Rattle.worker_core.specs.Strands.{kits_in};
 ghost use Rattle.worker_core.specs.Cores.{is_no_memory};
@@ -85,6 +86,7 @@ fn run_on<V: View>(
     requires tables { checked.now.tables ≡ columned_of tables.now.tables }
     requires sound { AreSoundFor checked.now records.now }
     requires values { HaveValues checked.now.kinds records.now }
+    requires in_step { IsInStep tables.now.tables records.now }
     ensures elision { IsFromScratch (standing_of (lent checked.now tables.now pool records.now)) result.answer }
     ensures led { IsLed (lent checked.now tables.now pool records.now) workers steps.now result.inlined result.answer }
     ensures begun { IsBegun result.answer }

@@ -1,6 +1,8 @@
 // A session: a checked program, its tables, its pool of kits, and the records that its runs have left.
-ghost use Rattle.std.specs.Prelude.{◌≡◌, ◌<◌, [], All, Ok, length, IfOk, IfErr, OnOk, OnErr};
+ghost use Rattle.std.specs.Prelude.{◌≡◌, ◌<◌, [], All, Ok, length, map, IfOk, IfErr, OnOk, OnErr};
 ghost use Rattle.linked_program.specs.TableNames.{columned_of};
+ghost use Rattle.rerun_records.specs.Record.{settled};
+ghost use Rattle.rerun_records.specs.Doubted.{IsInStep};
 ghost use Rattle.rerun_records.specs.Commits.{put_records};
 ghost use Rattle.rerun_records.specs.Named.{HaveValues};
 ghost use Rattle.worker_core.specs.Keeps.{AreSoundFor};
@@ -73,7 +75,7 @@ impl<V: View> Session<V> {
     }
 
     /// Edits the tables or the program, as the definitions have it. A refused edit changes nothing, and no edit changes the
-    /// records, each of which stays sound.
+    /// records, each of which stays sound, but for what is in doubt of them.
     pub fn apply(&mut self, alloc: Global, edit: &Edit<'_>) -> Result<(), ApplyError>
         ensures applied { OnOk result
             (edited (standing_of self.old) (said edit.now) ≡ Ok (standing_of self.new)) }
@@ -81,7 +83,8 @@ impl<V: View> Session<V> {
             (IsApplyCause (said edit.now) (edited (standing_of self.old) (said edit.now))) }
         ensures same { OnErr result (self.new ≡ self.old) }
         ensures rest { self.new
-            ≡ record self.old { checked = self.new.checked; tables = self.new.tables } }
+            ≡ record self.old { checked = self.new.checked; tables = self.new.tables; records = self.new.records } }
+        ensures records { map settled self.new.records ≡ map settled self.old.records }
     {
         match edit {
             Edit::Put { table, row, values } => self.put(alloc, table, *row, values),
@@ -127,12 +130,13 @@ impl<V: View> Session<V> {
     }
 
     /// What the type keeps: the tables have the names that the program was checked against, the kits are of its reducers' kinds,
-    /// and the records are sound for it.
+    /// and the records are sound for it and in step with the tables.
     pub fn kept(&self)
         ensures sound { AreSoundFor self.now.checked self.now.records }
         ensures values { HaveValues self.now.checked.kinds self.now.records }
         ensures columns { self.now.checked.tables ≡ columned_of self.now.tables.tables }
         ensures kinds { All (λ k. k ≡ self.now.checked.kinds) self.now.kits.kits }
+        ensures in_step { IsInStep self.now.tables.tables self.now.records }
     {
         let _ = &self.checked;
     }
@@ -145,6 +149,14 @@ impl<V: View> Session<V> {
         mem::replace(&mut self.kits, Pool::new(Vec::new(alloc)))
     }
 
+    /// Puts a pool in the place of the one that is there, and changes nothing else.
+    pub fn put_back(&mut self, pool: Pool<Kit<V>>)
+        requires kinds { All (λ k. k ≡ self.old.checked.kinds) pool.kits }
+        ensures put { self.new ≡ record self.old { kits = pool } }
+    {
+        self.kits = pool;
+    }
+
     /// Puts a pool in the place of the one that is there, and then a run's new records among the others, all or none: where
     /// memory is refused the records are as they were.
     pub fn settle(&mut self, pool: Pool<Kit<V>>, made: Vec<Record>) -> Result<(), AllocError>
@@ -152,7 +164,9 @@ impl<V: View> Session<V> {
         requires new { AreNewFor self.old.checked self.old.tables made.items }
         requires values { HaveValues self.old.checked.kinds made.items }
         ensures settled { OnOk result (self.new
-            ≡ record self.old { kits = pool; records = put_records self.old.records made.items }) }
+            ≡ record self.old { kits = pool; records = self.new.records }) }
+        ensures records { OnOk result (map settled self.new.records
+            ≡ put_records (map settled self.old.records) made.items) }
         ensures refused { OnErr result (self.new ≡ record self.old { kits = pool }) }
     {
         // What the program's type keeps.

@@ -1,3 +1,4 @@
+pub mod Crosses
 pub mod Starts
 pub mod Owned
 pub mod Recorded

@@ -8,6 +8,7 @@ use Rattle.linked_program.specs.TableNames.{columned_of}
 use Rattle.linked_program.specs.Checked.{PlainChecked, nothing}
 use Rattle.input_tables.specs.Edited.{Edited}
 use Rattle.rerun_records.specs.Record.{PlainRecord}
+use Rattle.rerun_records.specs.Doubted.{IsInStep}
 use Rattle.rerun_records.specs.Named.{HaveValues}
 use Rattle.positions.specs.Setting.{Setting, setting_with}
 use Rattle.right_strands.specs.Remembering.{Remembers}
@@ -16,12 +17,13 @@ use Rattle.right_strands.specs.Remembering.{Remembers}
 abbrev pub unpicked : Setting
 unpicked = record { names = []; program = nothing; codes = []; kinds = []; tables = []; records = []; memory = recording_from [] }
 
--- the program, the tables and the records are the run's; program and tables were checked against each other, the records stand for sound ones, and whichever these are, all are what the theory asks for
+-- the program, the tables and the records are the run's; program and tables were checked against each other, the records are in step with the tables and stand for sound ones, and whichever these are, all are what the theory asks for
 pub record IsSet (setting : Setting) (p : PlainChecked) (e : Edited) (r : List PlainRecord) : Type 0 where
   pub same : setting_with p e.tables [] r ≡ setting
   pub names : p.tables ≡ columned_of e.tables
   pub sound : Remembers setting
   pub values : HaveValues p.kinds r
+  pub in_step : IsInStep e.tables r
   pub ready : (k : Remembers setting) → IsReady setting.program setting.tables (recording_from k.kept)
   pub numbered : IsNumbered setting.program
   pub monoids : All IsMonoid setting.kinds

@@ -7,6 +7,7 @@ ghost use Rattle.trail_theory.specs.OpenLayers.{IsNumbered};
 ghost use Rattle.run_theory.specs.Theorems.{IsReady};
 ghost use Rattle.linked_program.specs.Checked.{IsChecked, revised_of};
 ghost use Rattle.linked_program.specs.TableNames.{columned_of};
+ghost use Rattle.rerun_records.specs.Doubted.{IsInStep};
 ghost use Rattle.rerun_records.specs.Named.{HaveValues};
 ghost use Rattle.positions.specs.Setting.{setting_with};
 ghost use Rattle.meaning.specs.Records.{Kept};
@@ -72,6 +73,7 @@ impl<'a, J: Run> Scene<'a, J> {
         requires sound { AreSound (revised_of program.now) program.now.tables program.now.kinds
             records.now }
         requires values { HaveValues program.now.kinds records.now }
+        requires in_step { IsInStep tables.now.tables records.now }
     {
         are_ready(program, tables);
         Scene {

@@ -6,6 +6,7 @@ ghost use Rattle.positions.specs.Advance.{advanced, pause_of};
 ghost use Rattle.positions.specs.Moves.{inlined, detached, attached, resumed, stolen, lowest_alone, at_update};
 ghost use Rattle.positions.specs.Simulation.{place_of};
 ghost use Rattle.frames.specs.Joins.{HasFault};
+ghost use Rattle.frames.specs.Paths.{IsPath};
 ghost use Rattle.frames.specs.Steps.{GivesNone, HoldsBy};
 ghost use Rattle.frames.specs.Waiting.{leaves_none};
 ghost use Rattle.right_strands.specs.Rightness.{FitsHere, IsRightStrand, WasDetached};
@@ -127,6 +128,17 @@ impl<J: Run, V: View> RightStrand<J, V> {
                 Err(error)
             }
         }
+    }
+
+    /// Does small steps for which no kit is needed, some or none; where memory is refused it stops before.
+    #[inline(always)]
+    pub fn run_ahead(&mut self, alloc: Global, scene: &Scene<'_, J>)
+        ensures path { IsPath J.setting self.old.strand self.new.strand }
+        ensures going { self.new.failed ≡ self.old.failed }
+        ensures lower { self.new.strand.lower ≡ self.old.strand.lower }
+    {
+        self.strand
+            .run_ahead(alloc, scene.program, scene.tables, scene.records);
     }
 
     /// The point at which the strand is, or Working where it can go on.

@@ -1,5 +1,6 @@
 //! Programs, each on one strand.
 
+mod ahead;
 mod answers;
 mod driving;
 mod faults;

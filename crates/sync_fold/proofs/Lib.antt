@@ -1,3 +1,4 @@
+pub mod Crosses
 mod Lists
 mod Apart
 mod Steps

@@ -2,6 +2,7 @@
 ghost use Rattle.std.specs.Prelude.{◌≡◌, ◌<◌, [], true, false, None, Some, All, length, IfOk, IfErr, IfSome, IfNone, OnOk};
 ghost use Rattle.linked_program.specs.Checked.{revised_of};
 ghost use Rattle.linked_program.specs.TableNames.{columned_of};
+ghost use Rattle.rerun_records.specs.Doubted.{IsInStep};
 ghost use Rattle.rerun_records.specs.Named.{HaveValues};
 ghost use Rattle.positions.specs.Setting.{setting_with};
 ghost use Rattle.numbered_runs.specs.Named.{history};
@@ -45,8 +46,8 @@ use std::sync::{Mutex, Wait};
 use stealing_deques::Deques;
 use view_pool::{Kit, Pool, View};
 
-/// How many small steps a worker does before it looks whether the run has given up.
-const STEPS: usize = 4096;
+/// How many times a worker goes ahead before it looks whether the run has given up.
+const STEPS: usize = 64;
 
 /// What contracts see of a floor: with how many kits its run began.
 pub struct PlainFloor {
@@ -209,15 +210,33 @@ impl<J: Run + Ledger + Stocked + Send, D: Deques, V: View> Floor<'_, J, D, V> {
         let is_watched = gate.watches_updates();
         let mut supply = Supply::new(rt, &self.desk, self.kits, held);
         for _ in 0..STEPS {
-            if is_watched && strand.at_update(&self.scene) {
-                gate.at(number, Point::Update);
-            }
+            self.go_ahead(number, is_watched, strand, gate);
             match strand.advance(self.alloc, &self.scene, &mut supply)? {
                 Paused::Working => {}
                 paused => return Ok(paused),
             }
         }
         Ok(Paused::Working)
+    }
+
+    /// Small steps that need no kit; where updates are watched none, and the gate is told of an update that is next.
+    #[inline(always)]
+    #[tactic(auto, using(crate::proofs::Staying::stays_along))]
+    fn go_ahead<G: Gate>(
+        &self,
+        number: usize,
+        is_watched: bool,
+        strand: &mut RightStrand<J, V>,
+        gate: &G,
+    )
+        ensures spot { spot_of strand.new.strand ≡ spot_of strand.old.strand }
+        ensures lower { strand.new.strand.lower ≡ strand.old.strand.lower }
+    {
+        if !is_watched {
+            strand.run_ahead(self.alloc, &self.scene);
+        } else if strand.at_update(&self.scene) {
+            gate.at(number, Point::Update);
+        }
     }
 
     /// At a spawn: puts the continuation off and goes on with the child, or makes the child a call where there is no room for
@@ -390,6 +409,7 @@ impl<'a, J: Run + Ledger + Stocked + Send, D: Deques, V: View> Floor<'a, J, D, V
         requires sound { AreSound (revised_of program.now) program.now.tables program.now.kinds
             records.now }
         requires values { HaveValues program.now.kinds records.now }
+        requires in_step { IsInStep tables.now.tables records.now }
         requires kinds { All (λ k. k ≡ J.setting.kinds) pool.kits }
         requires total { pool.total ≡ J.total }
         requires named { D.deques ≡ deques }

@@ -2,6 +2,7 @@
 ghost use Rattle.std.specs.Prelude.{◌≡◌, ◌↔◌, ◌<◌, ◌≤◌, [], true, All, length, IfOk, IfErr, OnErr};
 ghost use Rattle.linked_program.specs.Checked.{revised_of};
 ghost use Rattle.linked_program.specs.TableNames.{columned_of};
+ghost use Rattle.rerun_records.specs.Doubted.{IsInStep};
 ghost use Rattle.rerun_records.specs.Named.{HaveValues};
 ghost use Rattle.positions.specs.Setting.{setting_with};
 ghost use Rattle.numbered_runs.specs.Named.{history};
@@ -82,7 +83,7 @@ pub fn run_threads<V: View + Send, R: Threads + Wait + Sync, G: Gate>(
     match ran {
         Ok(ended) => Ok(settle(alloc, session, pool, ended)),
         Err(mismatch) => {
-            put_back(alloc, session, pool);
+            session.put_back(pool);
             Err(mismatch)
         }
     }
@@ -119,15 +120,6 @@ fn settle<V: View>(
     }
 }
 
-/// Gives a session its pool back; its records are as before.
-fn put_back<V: View>(alloc: Global, session: &mut Session<V>, pool: Pool<Kit<V>>)
-    requires kinds { All (λ k. k ≡ session.old.checked.kinds) pool.kits }
-    ensures put { session.new ≡ record session.old { kits = pool } }
-{
-    // Without new records either answer leaves the same.
-    let _ = session.settle(pool, Vec::new(alloc));
-}
-
 /// How a run of the program on the tables over the records has ended, and the pool.
 fn run_on<J, V, R, G>(
     rt: &R,
@@ -149,6 +141,7 @@ where
     requires names { program.now.tables ≡ columned_of tables.now.tables }
     requires sound { AreSound (revised_of program.now) program.now.tables program.now.kinds records.now }
     requires values { HaveValues program.now.kinds records.now }
+    requires in_step { IsInStep tables.now.tables records.now }
     requires kinds { All (λ k. k ≡ J.setting.kinds) pool.kits }
     requires total { pool.total ≡ J.total }
     requires name { blank.name ≡ J.name }
@@ -189,6 +182,7 @@ where
     requires names { program.now.tables ≡ columned_of tables.now.tables }
     requires sound { AreSound (revised_of program.now) program.now.tables program.now.kinds records.now }
     requires values { HaveValues program.now.kinds records.now }
+    requires in_step { IsInStep tables.now.tables records.now }
     requires kinds { All (λ k. k ≡ J.setting.kinds) pool.kits }
     requires total { pool.total ≡ J.total }
     requires named { D.deques ≡ deques }

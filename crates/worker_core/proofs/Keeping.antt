@@ -12,6 +12,7 @@ use Rattle.linked_program.specs.TableNames.{columned_of}
 use Rattle.linked_program.specs.Checked.{PlainChecked, IsChecked, revised_of}
 use Rattle.input_tables.specs.Edited.{Edited}
 use Rattle.rerun_records.specs.Record.{PlainRecord}
+use Rattle.rerun_records.specs.Doubted.{IsInStep}
 use Rattle.rerun_records.specs.Named.{HaveValues}
 use Rattle.frames.specs.Given.{given}
 use Rattle.numbered_runs.specs.Named.{run_step}
@@ -46,11 +47,12 @@ module _ (program : PlainChecked) (tables : Edited) (records : List PlainRecord)
       (first_agrees (setting_by program tables records k) (record { codes = checked.linked; kinds = checked.kinds_are }) program.main kits checked.main_is)
 
   pub keeps_first : (s : PlainStrands) (kits : ℕ) → ((kept : List Kept) → Every (IsSound (revised_of program)) kept → IsReady (revised_of program) tables.tables (recording_from kept)) → IsNumbered (revised_of program)
-      → program.tables ≡ columned_of tables.tables → IsChecked program → All IsMonoid program.kinds → AreSoundFor program records → HaveValues program.kinds records
+      → program.tables ≡ columned_of tables.tables → IsChecked program → All IsMonoid program.kinds → AreSoundFor program records → HaveValues program.kinds records → IsInStep tables.tables records
       → run_of s ≡ first_run program.codes program.kinds program.main kits → KeepsRun program tables records s
-  keeps_first s kits ready numbered are checked monoids sound values is = record {
+  keeps_first s kits ready numbered are checked monoids sound values step is = record {
     sound = sound;
     values = values;
+    in_step = step;
     checked = checked;
     monoids = monoids;
     prepared = λ k. record {
@@ -79,6 +81,7 @@ module _ (program : PlainChecked) (tables : Edited) (records : List PlainRecord)
   keeps_step s t e h is = record {
     sound = h.sound;
     values = h.values;
+    in_step = h.in_step;
     checked = h.checked;
     monoids = h.monoids;
     prepared = h.prepared;
@@ -99,6 +102,7 @@ module _ (program : PlainChecked) (tables : Edited) (records : List PlainRecord)
   keeps_products s t h (inr u) = record {
     sound = h.sound;
     values = h.values;
+    in_step = h.in_step;
     checked = h.checked;
     monoids = h.monoids;
     prepared = h.prepared;

@@ -7,6 +7,7 @@ use Rattle.meaning.specs.Schedules.{RunState, end_of}
 use Rattle.linked_program.specs.Checked.{PlainChecked, IsChecked, revised_of}
 use Rattle.input_tables.specs.Edited.{Edited}
 use Rattle.rerun_records.specs.Record.{PlainRecord}
+use Rattle.rerun_records.specs.Doubted.{IsInStep}
 use Rattle.rerun_records.specs.Named.{HaveValues}
 use Rattle.rerun_records.specs.Commits.{put_records}
 use Rattle.positions.specs.Setting.{Setting, setting_with}
@@ -39,10 +40,11 @@ AreSoundFor program records = AreSound (revised_of program) program.tables progr
 abbrev pub setting_by : (program : PlainChecked) → Edited → (records : List PlainRecord) → AreSoundFor program records → Setting
 setting_by program tables records sound = setting_with program tables.tables sound.kept records
 
--- the program was checked against the tables, both keep what the theory asks for, and the records are sound; and whichever sound records they stand for, the run is one of the definitions
+-- the program was checked against the tables, both keep what the theory asks for, and the records are sound and in step with the tables; and whichever sound records they stand for, the run is one of the definitions
 pub record KeepsRun (program : PlainChecked) (tables : Edited) (records : List PlainRecord) (s : PlainStrands) : Type 0 where
   pub sound : AreSoundFor program records
   pub values : HaveValues program.kinds records
+  pub in_step : IsInStep tables.tables records
   pub checked : IsChecked program
   pub monoids : All IsMonoid program.kinds
   pub prepared : (k : AreSoundFor program records) → IsPrepared (setting_by program tables records k)

@@ -10,6 +10,7 @@ ghost use Rattle.meaning.specs.Schedules.{recording_from};
 ghost use Rattle.trail_theory.specs.Order.{Every};
 ghost use Rattle.trail_theory.specs.OpenLayers.{IsNumbered};
 ghost use Rattle.run_theory.specs.Theorems.{IsReady};
+ghost use Rattle.rerun_records.specs.Doubted.{IsInStep};
 ghost use Rattle.rerun_records.specs.Named.{HaveValues};
 ghost use Rattle.linked_program.specs.Checked.{IsChecked, revised_of};
 ghost use Rattle.linked_program.specs.TableNames.{columned_of};
@@ -77,6 +78,7 @@ impl<'a, V: View> Core<'a, V> {
         requires tables { program.now.tables ≡ columned_of tables.now.tables }
         requires sound { AreSoundFor program.now records.now }
         requires values { HaveValues program.now.kinds records.now }
+        requires in_step { IsInStep tables.now.tables records.now }
         ensures started { IfOk result (λ core.
             IsFirstCore program.now tables.now records.now pool workers core) }
         ensures beginning { IfOk result (IsBeginning (length pool.kits)) }

@@ -7,6 +7,7 @@
 ghost use Rattle.std.specs.Prelude.{◌≡◌, [], All};
 ghost use Rattle.linked_program.specs.Checked.{revised_of};
 ghost use Rattle.linked_program.specs.TableNames.{columned_of};
+ghost use Rattle.rerun_records.specs.Doubted.{IsInStep};
 ghost use Rattle.rerun_records.specs.Named.{HaveValues};
 ghost use Rattle.positions.specs.Setting.{setting_with};
 ghost use Rattle.numbered_runs.specs.News.{AreSound};
@@ -166,6 +167,7 @@ fn run_mixed<J: Run, V: View>(
     requires tables { program.now.tables ≡ columned_of tables.now.tables }
     requires sound { AreSound (revised_of program.now) program.now.tables program.now.kinds records.now }
     requires values { HaveValues program.now.kinds records.now }
+    requires in_step { IsInStep tables.now.tables records.now }
     requires first_kits { All (λ k. k ≡ program.now.kinds) pools.0.kits }
     requires second_kits { All (λ k. k ≡ program.now.kinds) pools.1.kits }
 {

@@ -145,7 +145,8 @@ pub fn answer_text(alloc: Global, answer: &RunAnswer) -> Result<String, AllocErr
 }
 
 /// A record: its procedure and arguments, its value, its contribution, how much it read, and its height.
-fn push_record(text: &mut String, record: &Record) -> Result<(), AllocError> {
+fn push_record(text: &mut String, alloc: Global, record: &Record) -> Result<(), AllocError> {
+    let notes = record.reads().notes(alloc)?;
     write!(text, "; {} of", record.procedure())?;
     push_numbers(text, record.arguments())?;
     write!(text, " gave {} with", record.value())?;
@@ -153,12 +154,7 @@ fn push_record(text: &mut String, record: &Record) -> Result<(), AllocError> {
         write!(text, " {}:", part.0)?;
         push_value(text, &part.1)?;
     }
-    write!(
-        text,
-        " read {} high {}",
-        record.read_count(),
-        record.height()
-    )
+    write!(text, " read {} high {}", notes.len(), record.height())
 }
 
 /// The answer of a run with its counts, and with its records where it has finished: nobody keeps those of another one.
@@ -169,7 +165,7 @@ pub fn end_text(alloc: Global, answer: &RunAnswer, made: &[Record]) -> Result<St
         return Ok(text);
     }
     for record in made {
-        push_record(&mut text, record)?;
+        push_record(&mut text, alloc, record)?;
     }
     Ok(text)
 }

@@ -3,6 +3,7 @@ ghost use Rattle.std.specs.Prelude.{◌≡◌, ◌∷◌, [], All, true};
 ghost use Rattle.monoid_laws.specs.declared.Kind.TheVariants.{List as ListKind};
 ghost use Rattle.linked_program.specs.Checked.{revised_of};
 ghost use Rattle.linked_program.specs.TableNames.{columned_of};
+ghost use Rattle.rerun_records.specs.Doubted.{IsInStep};
 ghost use Rattle.rerun_records.specs.Named.{HaveValues};
 ghost use Rattle.positions.specs.Setting.{setting_with};
 ghost use Rattle.numbered_runs.specs.News.{AreSound};
@@ -126,6 +127,7 @@ fn folds<J: Run, V: View>(
     requires tables { program.now.tables ≡ columned_of tables.now.tables }
     requires sound { AreSound (revised_of program.now) program.now.tables program.now.kinds records.now }
     requires values { HaveValues program.now.kinds records.now }
+    requires in_step { IsInStep tables.now.tables records.now }
     requires lists { program.now.kinds ≡ ListKind ∷ ListKind ∷ [] }
     requires kits { All (λ k. k ≡ ListKind ∷ ListKind ∷ []) pool.kits }
 {

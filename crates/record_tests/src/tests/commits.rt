@@ -1,6 +1,8 @@
 //! Which records are there after a commit.
 
-use super::making::{LINES, checked, found, record, sales};
+ghost use Rattle.rerun_records.specs.Doubted.{IsInStep};
+
+use super::making::{LINES, checked, commit_all, found, record, sales};
 use input_tables::Tables;
 use linked_program::checked::Checked;
 use rerun_records::record::Record;
@@ -28,7 +30,9 @@ fn seen(
     records: &Records,
     tables: &Tables,
     program: &Checked,
-) -> (usize, [Option<i64>; 3]) {
+) -> (usize, [Option<i64>; 3])
+    requires in_step { IsInStep tables.now.tables records.now }
+{
     let values = [
         found(rt, alloc, records, ("down", 1), 1, tables, program),
         found(rt, alloc, records, ("down", 2), 1, tables, program),
@@ -47,7 +51,7 @@ fn after(
     let program = checked(rt, alloc, LINES, &tables);
     let mut records = Records::new(alloc);
     for rows in commits {
-        records.commit(made(rt, alloc, rows)?, &tables, &program)?;
+        commit_all(rt, &mut records, made(rt, alloc, rows)?, &tables, &program);
     }
     Ok(seen(rt, alloc, &records, &tables, &program))
 }

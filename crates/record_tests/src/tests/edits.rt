@@ -1,5 +1,7 @@
 //! Records that hold while what they rest on is as it was.
 
+ghost use Rattle.rerun_records.specs.Doubted.{IsInStep};
+
 use super::making::{LINES, checked, commit, committed, found, record, sales, second_line};
 use evaluation::note::Note;
 use input_tables::Tables;
@@ -11,7 +13,9 @@ use std::alloc::Global;
 use std::process::Abort;
 
 /// The records of `line` at row 2, and of `line` at row 9, which is absent and past the limit.
-fn records_of_lines(rt: &impl Abort, alloc: Global, tables: &Tables, program: &Checked) -> Records {
+fn records_of_lines(rt: &impl Abort, alloc: Global, tables: &Tables, program: &Checked) -> Records
+    ensures in_step { IsInStep tables.now.tables result }
+{
     let absence = [
         Note::Has {
             table: 0,
@@ -33,7 +37,9 @@ fn answers(
     records: &Records,
     tables: &Tables,
     program: &Checked,
-) -> (Option<i64>, Option<i64>) {
+) -> (Option<i64>, Option<i64>)
+    requires in_step { IsInStep tables.now.tables records.now }
+{
     (
         found(rt, alloc, records, ("line", 2), 2, tables, program),
         found(rt, alloc, records, ("line", 9), 2, tables, program),
@@ -48,10 +54,10 @@ fn after_puts(
 ) -> (Option<i64>, Option<i64>) {
     let mut tables = sales(rt, alloc);
     let program = checked(rt, alloc, LINES, &tables);
-    let records = records_of_lines(rt, alloc, &tables, &program);
+    let mut records = records_of_lines(rt, alloc, &tables, &program);
     for (row, values) in rows {
-        tables
-            .put(alloc, "sales", *row, values)
+        records
+            .put(alloc, &mut tables, "sales", *row, values)
             .expect(rt, "an edit");
     }
     answers(rt, alloc, &records, &tables, &program)
@@ -81,15 +87,29 @@ fn an_absent_row_and_a_limit_count(rt: HostRuntime) {
     assert!(&rt; after_puts(&rt, alloc, &[(5, [0, 0])]) == (Some(21), None));
 }
 
-/// The row of the first record is taken out.
+/// More rows than are looked through for a reading: then all of a record is compared.
+#[test]
+fn many_changes_count(rt: HostRuntime) {
+    let alloc = rt.alloc();
+    assert!(&rt; after_puts(&rt, alloc, &[(1, [9, 9]); 20]) == (Some(21), Some(0)));
+    assert!(&rt; after_puts(&rt, alloc, &[(2, [4, 7]); 20]) == (None, Some(0)));
+}
+
+/// The row of the first record is taken out, and put in again.
 #[test]
 fn a_deleted_row_ends_a_record(rt: HostRuntime) {
     let alloc = rt.alloc();
     let mut tables = sales(&rt, alloc);
     let program = checked(&rt, alloc, LINES, &tables);
-    let records = records_of_lines(&rt, alloc, &tables, &program);
-    tables.delete("sales", 2).expect(&rt, "an edit");
+    let mut records = records_of_lines(&rt, alloc, &tables, &program);
+    records
+        .delete(&mut tables, "sales", 2)
+        .expect(&rt, "an edit");
     assert!(&rt; answers(&rt, alloc, &records, &tables, &program) == (None, Some(0)));
+    records
+        .put(alloc, &mut tables, "sales", 2, &[3, 7])
+        .expect(&rt, "an edit");
+    assert!(&rt; answers(&rt, alloc, &records, &tables, &program) == (Some(21), Some(0)));
 }
 
 /// The records' answers where the program is another.

@@ -1,4 +1,9 @@
 //! Programs, tables and records that the tests speak of.
+ghost use Rattle.std.specs.Prelude.{◌≡◌};
+ghost use Rattle.meaning.specs.Every.{every};
+ghost use Rattle.rerun_records.specs.Doubted.{IsInStep};
+ghost use Rattle.rerun_records.specs.Validity.{record_holds};
+
 use evaluation::note::Note;
 use input_tables::Tables;
 use linked_program::checked::Checked;
@@ -6,6 +11,7 @@ use monoid_laws::Val;
 use procedure_parser::parse;
 use rerun_records::key::Key;
 use rerun_records::reading::readings;
+use rerun_records::readings::Readings;
 use rerun_records::record::Record;
 use rerun_records::records::Records;
 use spawn_checker::check;
@@ -49,7 +55,7 @@ pub fn record(
 ) -> Record {
     let arguments = Vec::from_array(alloc, [argument]).expect(rt, "memory");
     let touched = Vec::from_array(alloc, [(0, Val::Int(value))]).expect(rt, "memory");
-    let reads = readings(alloc, reads).expect(rt, "memory");
+    let reads = reads_of(rt, alloc, reads, Vec::new(alloc));
     let entered = Vec::from_array(alloc, [procedure]).expect(rt, "memory");
     Record::new(
         procedure.0,
@@ -60,6 +66,12 @@ pub fn record(
         entered,
         height,
     )
+}
+
+/// What an instance has read that noted this, and that refers to what these parts have read.
+pub fn reads_of(rt: &impl Abort, alloc: Global, notes: &[Note], parts: Vec<Readings>) -> Readings {
+    let own = readings(alloc, notes).expect(rt, "memory");
+    Readings::new(alloc, own, parts).expect(rt, "memory")
 }
 
 /// The record of `line` at row 2, which holds 3 and 7.
@@ -85,13 +97,44 @@ pub fn committed(
     made: Record,
     tables: &Tables,
     program: &Checked,
-) -> Records {
+) -> Records
+    ensures in_step { IsInStep tables.now.tables result }
+{
     let mut records = Records::new(alloc);
     commit(rt, alloc, &mut records, made, tables, program);
     records
 }
 
-/// Commits one more record.
+/// Whether all of the records hold now.
+fn all_hold(records: &[Record], tables: &Tables, program: &Checked) -> bool
+    ensures hold { result ≡ every (record_holds program.now.revisions tables.now.tables) records.now }
+{
+    for record in records {
+        if !record.holds_now(tables, program) {
+            return false;
+        }
+    }
+    true
+}
+
+/// Commits records that hold now.
+pub fn commit_all(
+    rt: &impl Abort,
+    records: &mut Records,
+    made: Vec<Record>,
+    tables: &Tables,
+    program: &Checked,
+)
+    requires in_step { IsInStep tables.now.tables records.old }
+    ensures in_step { IsInStep tables.now.tables records.new }
+{
+    if !all_hold(&made, tables, program) {
+        panic!(rt; "a record that doesn't hold");
+    }
+    records.commit(made, tables, program).expect(rt, "memory");
+}
+
+/// Commits one more record, which holds now.
 pub fn commit(
     rt: &impl Abort,
     alloc: Global,
@@ -99,9 +142,12 @@ pub fn commit(
     made: Record,
     tables: &Tables,
     program: &Checked,
-) {
+)
+    requires in_step { IsInStep tables.now.tables records.old }
+    ensures in_step { IsInStep tables.now.tables records.new }
+{
     let made = Vec::from_array(alloc, [made]).expect(rt, "memory");
-    records.commit(made, tables, program).expect(rt, "memory");
+    commit_all(rt, records, made, tables, program);
 }
 
 /// The value that is looked up for a procedure and one argument at a depth.
@@ -113,7 +159,9 @@ pub fn found(
     depth: u32,
     tables: &Tables,
     program: &Checked,
-) -> Option<i64> {
+) -> Option<i64>
+    requires in_step { IsInStep tables.now.tables records.now }
+{
     let name = String::from_str(alloc, instance.0).expect(rt, "memory");
     let arguments = Vec::from_slice(alloc, &[instance.1]).expect(rt, "memory");
     let key = Key::new(name, arguments);

@@ -20,11 +20,14 @@ fn is_second_line(record: &Record) -> bool {
     let numbers = record.procedure() == 0 && record.value() == 21 && record.height() == 1;
     let lists = record.arguments() == [2].as_slice() && record.entered() == [(0, 0)].as_slice();
     let touched = record.contribution();
-    numbers && lists && touched.len() == 1 && adds(&touched[0], 0, 21) && reads_second_line(record)
+    numbers && lists && touched.len() == 1 && adds(&touched[0], 0, 21)
 }
 
-fn reads_second_line(record: &Record) -> bool {
-    record.read_count() == 2 && record.read(0) == cell(2, 0, 3) && record.read(1) == cell(2, 1, 7)
+fn reads_second_line(alloc: Global, record: &Record) -> bool {
+    match record.reads().notes(alloc) {
+        Ok(notes) => notes.len() == 2 && notes[0] == cell(2, 0, 3) && notes[1] == cell(2, 1, 7),
+        Err(_) => false,
+    }
 }
 
 /// Whether the record of `line` at row 2 is found, by the procedure's number, as it was committed.
@@ -33,7 +36,11 @@ fn comes_back(rt: &impl Abort, alloc: Global) -> bool {
     let program = checked(rt, alloc, LINES, &tables);
     let records = committed(rt, alloc, second_line(rt, alloc), &tables, &program);
     match records.valid(0, &[2], 64, &tables, &program) {
-        Some(record) => is_second_line(record) && are_second_line(records.as_slice()),
+        Some(record) => {
+            is_second_line(record)
+                && reads_second_line(alloc, record)
+                && are_second_line(records.as_slice())
+        }
         None => false,
     }
 }

@@ -305,6 +305,7 @@ fn height_at<V: View>(
     depth: u32,
 ) -> Option<u32> {
     let key = key_of_the_first(alloc).expect(rt, "memory");
+    session.kept();
     let (tables, program) = (session.tables(), session.checked());
     match session.records().lookup(&key, depth, tables, program) {
         Some(record) => Some(record.height()),

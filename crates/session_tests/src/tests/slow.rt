@@ -147,9 +147,10 @@ fn reading(alloc: Global, tables: &Tables, note: &Note) -> Result<Reading, Alloc
 
 /// What a record has read.
 fn readings(alloc: Global, tables: &Tables, record: &Record) -> Result<Vec<Reading>, AllocError> {
+    let notes = record.reads().notes(alloc)?;
     let mut read = Vec::new(alloc);
-    for index in 0..record.read_count() {
-        read.push(reading(alloc, tables, &record.read(index))?)?;
+    for note in &notes {
+        read.push(reading(alloc, tables, note)?)?;
     }
     Ok(read)
 }

@@ -1,5 +1,6 @@
 //! Programs that end with a fault.
 
+use super::ahead::run_far;
 use super::answers::{SALES, is_faulted, is_slow_answer};
 use super::driving::{Child, checked, run};
 use input_tables::Tables;
@@ -70,7 +71,8 @@ fn faults_with(
             return Ok(false);
         }
     }
-    Ok(true)
+    let (answer, _) = run_far(alloc, &program, &tables)?;
+    Ok(is_faulted(&program, &answer, kind, procedure, statement))
 }
 
 #[test]

@@ -1,5 +1,6 @@
 //! Records on one strand: calls that make them in layers of their own and that they answer, and layers that a fault leaves open.
-ghost use Rattle.std.specs.Prelude.{◌≡◌, ◌+◌, ◌≤◌, suc, length, All, IfOk};
+ghost use Rattle.std.specs.Prelude.{◌≡◌, ◌+◌, ◌≤◌, suc, true, [], length, All, IfOk};
+ghost use Rattle.rerun_records.specs.Doubted.{IsInStep, ReadNow};
 ghost use Rattle.rerun_records.specs.Named.{HaveValues};
 
 use super::driving::{Child, STEPS, are_monoids, begin, checked, kit, run as run_without};
@@ -8,6 +9,7 @@ use frames::strand::Strand;
 use input_tables::Tables;
 use linked_program::checked::Checked;
 use positions::phase::{Paused, Phase};
+use rerun_records::record::Record;
 use rerun_records::records::Records;
 use std::alloc::{AllocError, Global};
 use std::test::Fail;
@@ -44,6 +46,7 @@ fn advance(
 ) -> Result<(), AllocError>
     requires kinds { strand.old.layer.kinds ≡ program.now.kinds }
     requires values { HaveValues program.now.kinds records.now }
+    requires in_step { IsInStep [] records.now }
     requires given { All (λ k. k ≡ program.now.kinds) pool.old.kits }
     requires room { suc (length strand.old.lower) + length pool.old.kits ≤ pool.old.total }
     ensures kinds { strand.new.layer.kinds ≡ strand.old.layer.kinds }
@@ -66,6 +69,7 @@ fn go_on(
 ) -> Result<(), AllocError>
     requires kinds { strand.old.layer.kinds ≡ program.now.kinds }
     requires values { HaveValues program.now.kinds records.now }
+    requires in_step { IsInStep [] records.now }
     requires given { All (λ k. k ≡ program.now.kinds) pool.old.kits }
     requires room { suc (length strand.old.lower) + length pool.old.kits ≤ pool.old.total }
     ensures kinds { strand.new.layer.kinds ≡ strand.old.layer.kinds }
@@ -79,6 +83,18 @@ fn go_on(
     Ok(())
 }
 
+/// Whether each of these records holds now.
+fn hold_now(made: &[Record], tables: &Tables, program: &Checked) -> bool
+    ensures read { result ≡ true → ReadNow tables.now.tables made.now }
+{
+    for record in made {
+        if !record.holds_now(tables, program) {
+            return false;
+        }
+    }
+    true
+}
+
 /// A run over these records, to which it adds its own; and how many kits are free then.
 fn run(
     alloc: Global,
@@ -86,14 +102,20 @@ fn run(
     records: &mut Records,
 ) -> Result<(RunAnswer, usize), AllocError>
     requires values { HaveValues program.now.kinds records.old }
+    requires in_step { IsInStep [] records.old }
     ensures values { HaveValues program.now.kinds records.new }
+    ensures in_step { IsInStep [] records.new }
 {
     let mut pool = one_kit(alloc, program)?;
     let mut strand = begin(alloc, program)?;
     go_on(alloc, program, records, &mut strand, &mut pool)?;
     strand.layered();
     let (answer, made) = strand.end(alloc, &mut pool);
-    records.commit(made, &Tables::new(alloc), program)?;
+    let tables = Tables::new(alloc);
+    if !hold_now(&made, &tables, program) {
+        return Err(AllocError);
+    }
+    records.commit(made, &tables, program)?;
     Ok((answer, pool.free()))
 }
 

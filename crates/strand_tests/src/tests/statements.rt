@@ -1,5 +1,6 @@
 //! Programs that end with a value: each kind of statement.
 
+use super::ahead::run_far;
 use super::answers::{SALES, Wanted, is_finished, is_slow_answer};
 use super::driving::{Child, checked, run};
 use input_tables::Tables;
@@ -17,7 +18,8 @@ fn ends_with(alloc: Global, text: &str, wanted: i64, reducers: &[Wanted]) -> Res
             return Ok(false);
         }
     }
-    Ok(true)
+    let (answer, _) = run_far(alloc, &program, &tables)?;
+    Ok(is_finished(&answer, wanted, reducers))
 }
 
 /// Programs of one kind of statement after another, with the result and the reducers' values that each ends with.

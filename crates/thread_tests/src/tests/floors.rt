@@ -2,6 +2,7 @@
 ghost use Rattle.std.specs.Prelude.{◌≡◌, ◌<◌, ◌≤◌, [], All, length};
 ghost use Rattle.linked_program.specs.Checked.{revised_of};
 ghost use Rattle.linked_program.specs.TableNames.{columned_of};
+ghost use Rattle.rerun_records.specs.Doubted.{IsInStep};
 ghost use Rattle.rerun_records.specs.Named.{HaveValues};
 ghost use Rattle.positions.specs.Setting.{setting_with};
 ghost use Rattle.numbered_runs.specs.News.{AreSound};
@@ -88,6 +89,7 @@ where
     requires names { program.now.tables ≡ columned_of tables.now.tables }
     requires sound { AreSound (revised_of program.now) program.now.tables program.now.kinds records.now }
     requires values { HaveValues program.now.kinds records.now }
+    requires in_step { IsInStep tables.now.tables records.now }
     requires kinds { All (λ k. k ≡ J.setting.kinds) pool.kits }
     requires total { pool.total ≡ J.total }
     requires named { D.deques ≡ deques }
@@ -124,6 +126,7 @@ where
     requires names { program.now.tables ≡ columned_of tables.now.tables }
     requires sound { AreSound (revised_of program.now) program.now.tables program.now.kinds records.now }
     requires values { HaveValues program.now.kinds records.now }
+    requires in_step { IsInStep tables.now.tables records.now }
     requires kinds { All (λ k. k ≡ J.setting.kinds) pool.kits }
     requires total { pool.total ≡ J.total }
     requires name { blank.name ≡ J.name }

@@ -1,5 +1,5 @@
 use Rattle.std.proofs.Common.{◌≡◌, drop}
-use Rattle.positions.specs.Tallies.{once, once_behind}
+use Rattle.positions.specs.Values.{once, once_behind}
 use Rattle.frames.proofs.recording.distinct.Given as goal
 
 abbrev pub invariant-loop-note : goal.invariant-loop-note

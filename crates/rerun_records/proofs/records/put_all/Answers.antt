@@ -1,8 +1,12 @@
-use Rattle.rerun_records.proofs.Puts.{still_put, room_before, room_after}
+use Rattle.rerun_records.proofs.Puts.{still_put, room_before, room_after, place_before, places_after, still_put_settled}
 use Rattle.rerun_records.proofs.records.put_all.Goals as goal
 
 pub put-requires : goal.put-requires
-put-requires c = record { room = room_before _ _ _ _ c.loop-record.invariant.room c.in-Some.ensures.steps.0 }
+put-requires c = record {
+  room = room_before _ _ _ _ c.loop-record.invariant.room c.in-Some.ensures.steps.0;
+  place = place_before _ _ _ _ _ c.loop-record.invariant.places c.in-Some.ensures.steps.0;
+  standing = c.loop-record.invariant.standing_are;
+}
 
 pub loop-record-preserved : goal.loop-record-preserved
 loop-record-preserved c =
@@ -10,7 +14,9 @@ loop-record-preserved c =
     record {
       can_next = tt;
       is_finite = tt;
-      put = still_put _ _ _ _ _ _ c.loop-record.invariant.put s c.put.ensures.put;
       room = room_after _ _ _ _ _ c.loop-record.invariant.room s c.put.ensures.room;
-      single = c.put.ensures.single;
+      places = places_after _ _ _ _ _ _ _ c.loop-record.invariant.places s c.put.ensures.places c.put.ensures.capacity;
+      standing_are = c.put.ensures.standing;
+      put = still_put _ _ _ _ _ _ c.loop-record.invariant.put s c.put.ensures.put;
+      settled_are = still_put_settled _ _ _ _ _ _ c.loop-record.invariant.settled_are s c.put.ensures.put c.put.ensures.made;
     }

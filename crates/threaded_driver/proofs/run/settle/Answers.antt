@@ -1,4 +1,5 @@
 use Rattle.reuse_planner.proofs.Keeping.{news_of}
+use Rattle.reuse_planner.proofs.Outcomes.{leaves_records}
 use Rattle.threaded_driver.proofs.Settling.{recorded_by, quiet_whatever_kits}
 use Rattle.threaded_driver.proofs.run.settle.Goals as goal
 
@@ -14,4 +15,10 @@ returns-in-Ok-clause-quiet g c =
     let s = c.args.session.now in
     let e = c.args.ended in
     let recorded = recorded_by s e.answer e.made.items c.requires.end.recorded c.requires.end.alone in
-    quiet_whatever_kits s c.settle.new.self c.args.pool e.answer e.made.items c.kept.ensures.sound recorded c.in-Ok.ensures.settled
+    quiet_whatever_kits s c.settle.new.self c.args.pool e.answer e.made.items c.kept.ensures.sound recorded c.in-Ok.ensures.settled c.in-Ok.ensures.records
+
+pub returns-in-Ok-clause-recorded : goal.returns-in-Ok-clause-recorded
+returns-in-Ok-clause-recorded g c =
+    let s = c.args.session.now in
+    let e = c.args.ended in
+    leaves_records s e.answer e.made.items c.settle.new.self.records (recorded_by s e.answer e.made.items c.requires.end.recorded c.requires.end.alone) c.in-Ok.ensures.records

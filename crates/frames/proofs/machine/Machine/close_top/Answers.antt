@@ -32,7 +32,7 @@ returns-in-Ok-clause-closed g c =
     let new : PlainStrand = record s { layer = c.replace-upper.new.dest; lower = reverse c.pop.new.self.items; phase = Leaving (to_z w64 (of_z w64 c.args.value)); tally = c.close.new.self } in
     subst (λ (z : PlainStrand). new ≡ closed (lent c.args.setting) c.args.value z) c.self.view_is
     (closed_popped (lent c.args.setting) s c.self.inside.lower.items c.pop.new.self.items c.in-Some.outer c.replace-upper.new.dest c.close.new.self c.args.value (to_z w64 (of_z w64 c.args.value))
-    refl c.in-Some.ensures.items (c.replace-upper.ensures.after ∙ c.in-Ok.ensures.multiplied) c.in-Ok.ensures.closed (to_z-of_z c.ranges.value))
+    refl c.in-Some.ensures.items (c.replace-upper.ensures.after ∙ c.in-Ok.ensures.covered) c.in-Ok.ensures.closed (to_z-of_z c.ranges.value))
 
 pub returns-in-Ok-clause-made : goal.returns-in-Ok-clause-made
 returns-in-Ok-clause-made g c =

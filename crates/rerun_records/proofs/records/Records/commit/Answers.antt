@@ -1,23 +1,44 @@
-use Rattle.std.proofs.Common.{ap, sym, subst, ◌∙◌, ◌≡◌}
+use Rattle.std.proofs.Common.{◌≡◌, sym, subst, ◌∙◌}
 use Rattle.meaning.specs.Commits.{committed}
-use Rattle.rerun_records.specs.Commits.{put_records}
-use Rattle.rerun_records.specs.Named.{AreKept, AreValuesFrom, HaveValues}
-use Rattle.rerun_records.proofs.Puts.{all_put_in}
 use Rattle.linked_program.specs.Checked.{revised_of}
-use Rattle.rerun_records.proofs.Lookups.{put_all}
+use Rattle.rerun_records.specs.Commits.{put_records}
+use Rattle.rerun_records.specs.Doubted.{IsInStep}
+use Rattle.rerun_records.specs.Moments.{standing}
+use Rattle.rerun_records.specs.Named.{AreKept, AreValuesFrom, HaveValues}
+use Rattle.rerun_records.proofs.Puts.{all_put_in, same_values}
+use Rattle.rerun_records.proofs.InStep.{in_step_put}
+use Rattle.rerun_records.proofs.Standing.{put_into, settled_put_into}
+use Rattle.rerun_records.proofs.Lookups.{put_all, same_but_doubts}
 use Rattle.rerun_records.proofs.records.Records.commit.Goals as goal
 
-pub invariant_of-self-2 : goal.invariant_of-self-2
-invariant_of-self-2 c = c.put_all.ensures.single
+pub tidy-requires : goal.tidy-requires
+tidy-requires c =
+    let put : standing c.self.inside.changes.items c.put_all.new.moments.items c.put_all.new.by_instance.keys ≡ put_records c.args.self.now c.args.records.items =
+    put_into c.self.inside.changes.items _ c.self.inside.moments.items _ c.put_all.new.moments.items c.self.inside.by_instance.keys _ c.put_all.new.by_instance.keys c.args.self.now c.args.records.items
+    c.deref.ensures.value c.reserve-2.ensures.items c.reserve.ensures.keys c.self.view_is c.put_all.ensures.put in
+    record {
+      in_step = subst (IsInStep c.args.tables.now.tables) (sym put) (in_step_put c.args.tables.now.tables c.args.self.now c.args.records.items c.requires.in_step c.requires.read_now);
+    }
+
+pub returns-clause-committed : goal.returns-clause-committed
+returns-clause-committed c =
+    c.tidy.ensures.same
+    ∙ settled_put_into c.self.inside.changes.items _ c.self.inside.moments.items _ c.put_all.new.moments.items c.self.inside.by_instance.keys _ c.put_all.new.by_instance.keys c.args.self.now
+    c.args.records.items c.deref.ensures.value c.reserve-2.ensures.items c.reserve.ensures.keys c.self.view_is c.put_all.ensures.settled
 
 pub returns-clause-named : goal.returns-clause-named
 returns-clause-named c = λ ks js kept made.
-    let put : c.put_all.new.by_instance.keys ≡ put_records c.args.self.now c.args.records.items =
-    c.put_all.ensures.put ∙ ap (λ rs. put_records rs c.args.records.items) (c.reserve.ensures.keys ∙ c.self.view_is) in
-    subst (AreKept c.args.program.now (committed ks js)) (sym put) (put_all (revised_of c.args.program.now) c.args.program.now.tables c.args.program.now.kinds ks js c.args.self.now c.args.records.items kept made)
+    let program = c.args.program.now in
+    let put : standing c.self.inside.changes.items c.put_all.new.moments.items c.put_all.new.by_instance.keys ≡ put_records c.args.self.now c.args.records.items =
+    put_into c.self.inside.changes.items _ c.self.inside.moments.items _ c.put_all.new.moments.items c.self.inside.by_instance.keys _ c.put_all.new.by_instance.keys c.args.self.now c.args.records.items
+    c.deref.ensures.value c.reserve-2.ensures.items c.reserve.ensures.keys c.self.view_is c.put_all.ensures.put in
+    same_but_doubts (revised_of program) program.tables program.kinds (committed ks js) (standing c.self.inside.changes.items c.put_all.new.moments.items c.put_all.new.by_instance.keys) c.tidy.new.self c.tidy.ensures.same
+    (subst (AreKept program (committed ks js)) (sym put) (put_all (revised_of program) program.tables program.kinds ks js c.args.self.now c.args.records.items kept made))
 
 pub returns-clause-values : goal.returns-clause-values
 returns-clause-values c = λ kinds old made.
-    let put : c.put_all.new.by_instance.keys ≡ put_records c.args.self.now c.args.records.items =
-    c.put_all.ensures.put ∙ ap (λ rs. put_records rs c.args.records.items) (c.reserve.ensures.keys ∙ c.self.view_is) in
-    subst (HaveValues kinds) (sym put) (all_put_in (λ x. AreValuesFrom 0 kinds x.contribution) c.args.self.now c.args.records.items old made)
+    let put : standing c.self.inside.changes.items c.put_all.new.moments.items c.put_all.new.by_instance.keys ≡ put_records c.args.self.now c.args.records.items =
+    put_into c.self.inside.changes.items _ c.self.inside.moments.items _ c.put_all.new.moments.items c.self.inside.by_instance.keys _ c.put_all.new.by_instance.keys c.args.self.now c.args.records.items
+    c.deref.ensures.value c.reserve-2.ensures.items c.reserve.ensures.keys c.self.view_is c.put_all.ensures.put in
+    same_values kinds (standing c.self.inside.changes.items c.put_all.new.moments.items c.put_all.new.by_instance.keys) c.tidy.new.self c.tidy.ensures.same
+    (subst (HaveValues kinds) (sym put) (all_put_in (λ x. AreValuesFrom 0 kinds x.contribution) c.args.self.now c.args.records.items old made))

@@ -13,5 +13,6 @@ invariant_of-self g c =
       kept = defined_keeps s.checked new s.records c.in-Ok.ensures.places c.in-Ok.ensures.sound (c.in-Ok.ensures.tables ∙ sym keeps.columns) c.in-Ok.ensures.kinds keeps.kept;
       values = subst (λ (ks : List Kind). HaveValues ks s.records) (sym c.in-Ok.ensures.kinds) keeps.values;
       columns = c.in-Ok.ensures.tables;
+      in_step = keeps.in_step;
       kinds = subst (λ (ks : List Kind). All (λ k. k ≡ ks) s.kits.kits) (sym c.in-Ok.ensures.kinds) keeps.kinds;
     }

@@ -4,16 +4,19 @@ use Rattle.meaning.specs.Edits.{Delete, after_delete}
 use Rattle.reuse_planner.specs.declared.refusal.ApplyError.{ApplyError}
 use Rattle.reuse_planner.specs.Sessions.{PlainSession, standing_of}
 use Rattle.reuse_planner.specs.Applied.{IsApplyCause, of_table}
+use Rattle.rerun_records.proofs.Puts.{same_values}
+use Rattle.reuse_planner.proofs.Doubts.{kept_so}
 use Rattle.reuse_planner.proofs.Refusals.{delete_refused, delete_columns}
 use Rattle.reuse_planner.proofs.session.Session.delete.Goals as goal
 use Rattle.reuse_planner.proofs.session.Session.delete.Goals.{in-Ok, in-Err}
 
 pub invariant_of-self : goal.invariant_of-self
 invariant_of-self g c = record {
-  kept = c.self.invariant.kept;
-  values = c.self.invariant.values;
-  columns = c.self.invariant.columns ∙ sym (delete_columns c.delete.result c.self.inside.tables c.delete.new.self c.args.table.now (to_z w64 (of_z w64 c.args.row)) c.delete.ensures.deleted c.delete.ensures.same);
+  kept = kept_so c.self.inside.checked c.self.inside.records c.delete.new.self c.delete.ensures.records c.self.invariant.kept;
+  values = same_values c.self.inside.checked.kinds c.self.inside.records c.delete.new.self c.delete.ensures.records c.self.invariant.values;
+  columns = c.self.invariant.columns ∙ sym (delete_columns c.delete.result c.self.inside.tables c.delete.new.tables c.args.table.now (to_z w64 (of_z w64 c.args.row)) c.delete.ensures.deleted c.delete.ensures.same);
   kinds = c.self.invariant.kinds;
+  in_step = c.delete.ensures.in_step;
 }
 
 pub returns-clause-refused : goal.returns-clause-refused

@@ -2,8 +2,17 @@ use Rattle.std.proofs.Common.{◌≡◌, All, sym, subst}
 use Rattle.linked_program.specs.Checked.{IsChecked}
 use Rattle.rerun_records.specs.Named.{HaveValues}
 use Rattle.reuse_planner.specs.Sessions.{PlainSession, AreNewFor}
+use Rattle.reuse_planner.proofs.Doubts.{made_read_now, stay_in_step}
 use Rattle.reuse_planner.proofs.Keeping.{settled_keeps, settled_values}
 use Rattle.reuse_planner.proofs.session.Session.settle.Goals as goal
+
+pub commit-requires : goal.commit-requires
+commit-requires g c =
+    let s = c.self.inside in
+    record {
+      in_step = c.self.invariant.in_step;
+      read_now = made_read_now s.checked s.tables c.args.made.items c.self.invariant.columns (subst (λ (x : PlainSession). AreNewFor x.checked x.tables c.args.made.items) (sym c.self.view_is) c.requires.new);
+    }
 
 pub invariant_of-self : goal.invariant_of-self
 invariant_of-self g c =
@@ -22,6 +31,7 @@ invariant_of-self g c =
           (subst (λ (x : PlainSession). AreNewFor x.checked x.tables c.args.made.items) (sym c.self.view_is) c.requires.new);
       values = settled_values c.commit.result s.checked.kinds s.records c.args.made.items c.commit.new.self c.commit.ensures.values c.commit.ensures.same keeps.values
           (subst (λ (x : PlainSession). HaveValues x.checked.kinds c.args.made.items) (sym c.self.view_is) c.requires.values);
+      in_step = stay_in_step c.commit.result s.tables.tables s.records c.commit.new.self c.commit.ensures.in_step c.commit.ensures.same keeps.in_step;
       columns = keeps.columns;
       kinds = subst (λ (x : PlainSession). All (λ k. k ≡ x.checked.kinds) c.args.pool.kits) (sym c.self.view_is) c.requires.kinds;
     }

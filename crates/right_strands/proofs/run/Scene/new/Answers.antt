@@ -13,6 +13,7 @@ invariant_of-result g c = record {
   names = c.requires.names;
   sound = subst Remembers c.requires.same c.requires.sound;
   values = c.requires.values;
+  in_step = c.requires.in_step;
   ready = subst (λ (j : Setting). (k : Remembers j) → IsReady j.program j.tables (recording_from k.kept)) c.requires.same (λ k. c.are_ready.ensures.ready k.kept k.sound);
   numbered = subst (λ (j : Setting). IsNumbered j.program) c.requires.same c.are_ready.ensures.numbered;
   monoids = subst (λ (j : Setting). All IsMonoid j.kinds) c.requires.same c.are_ready.ensures.monoids;

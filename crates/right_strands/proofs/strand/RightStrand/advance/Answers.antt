@@ -16,6 +16,9 @@ advance-requires-clause-monoids g c κs within = subst (All IsMonoid) (sym (kind
 pub advance-requires-clause-values : goal.advance-requires-clause-values
 advance-requires-clause-values g c κs within = c.scene.invariant.values
 
+pub advance-requires-clause-in_step : goal.advance-requires-clause-in_step
+advance-requires-clause-in_step g c κs within = c.scene.invariant.in_step
+
 pub advance-requires-clause-given_kinds : goal.advance-requires-clause-given_kinds
 advance-requires-clause-given_kinds g c κs within k h = c.requires.given_kinds k h ∙ sym (kinds_are g.J.Run.setting c.scene.inside.program.now c.scene.inside.tables.now c.scene.inside.records.now c.scene.invariant)
 

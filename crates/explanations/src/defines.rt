@@ -1,0 +1,125 @@
+//! Why a text that defines procedures is refused.
+
+use crate::expected::push_expected;
+use crate::programs::{LOOKED_FOR, line_at, push_shown, wrong_byte};
+use crate::rules::{push_line, push_rule};
+use crate::statements::{procedure_called, push_statement, statement_on};
+use linked_program::violation::Rule;
+use procedure_parser::parse;
+use program_tree::Program;
+use std::alloc::{AllocError, Global};
+use std::fmt::Write;
+use token_scanner::{LONGEST_TEXT, Mark, Placed, Token, tokens};
+
+/// Puts the line of a text at which it can't go on as one of procedures, and what is wrong or was expected there, at the end of the text.
+/// Line 0 is a text that is too long. Want of memory is the only error.
+pub fn push_bad_define(
+    alloc: Global,
+    text: &mut String,
+    define: &[u8],
+    line: u32,
+) -> Result<(), AllocError> {
+    if line == 0 {
+        return push_line(text, "The text has more than 1,048,576 bytes.");
+    }
+    push_shown(text, define, line)?;
+    if let Some(wrong) = wrong_byte(line_at(define, line)) {
+        return push_line(text, wrong);
+    }
+    if let Some(wrong) = wrong_for_a_define(alloc, define, line)? {
+        return push_line(text, wrong);
+    }
+    if push_expected(alloc, text, define, line)? {
+        return Ok(());
+    }
+    push_line(text, LOOKED_FOR)
+}
+
+// What is said of a text that a program could have, but no define.
+fn wrong_for_a_define(
+    alloc: Global,
+    define: &[u8],
+    line: u32,
+) -> Result<Option<&'static str>, AllocError> {
+    if define.len() > LONGEST_TEXT {
+        return Ok(None);
+    }
+    let tokens = tokens(alloc, define)?;
+    if tokens.is_empty() {
+        return Ok(Some(
+            "A `define` holds one procedure or more, between its line and that of `end`.",
+        ));
+    }
+    if tokens.iter().any(|placed| is_reducer_on(*placed, line)) {
+        return Ok(Some("A `define` holds procedures alone: a session keeps the reducers it has."));
+    }
+    if parse(alloc, define).is_ok() {
+        return Ok(Some("With this procedure the program would have more than 256."));
+    }
+    Ok(None)
+}
+
+// Whether a token is the word `reducer` on that line.
+fn is_reducer_on(placed: Placed<'_>, line: u32) -> bool {
+    matches!(placed.token, Token::Sign(Mark::Reducer)) && placed.line == line
+}
+
+/// Puts the line by which a define would break a rule, what the rule asks for and how to mend it at the end of the text. It is a line of
+/// the define, or of the text that a procedure of the program has come from. Want of memory is the only error.
+pub fn push_broken(
+    alloc: Global,
+    text: &mut String,
+    define: &[u8],
+    program: &Program,
+    rule: Rule,
+    holder: &str,
+    line: u32,
+) -> Result<(), AllocError> {
+    if defines(alloc, define, holder)? {
+        push_shown(text, define, line)?;
+    } else {
+        push_older(text, program, holder, line)?;
+    }
+    push_rule(text, rule)
+}
+
+// Whether a text defines the procedure of that name.
+fn defines(alloc: Global, define: &[u8], name: &str) -> Result<bool, AllocError> {
+    if define.len() > LONGEST_TEXT {
+        return Ok(false);
+    }
+    let mut is_next = false;
+    for placed in tokens(alloc, define)?.iter() {
+        match placed.token {
+            Token::Name(found) if is_next && found == name => return Ok(true),
+            Token::Sign(Mark::Proc) => is_next = true,
+            _ => is_next = false,
+        }
+    }
+    Ok(false)
+}
+
+// Puts the statement on that line of a procedure which the program has already.
+fn push_older(
+    text: &mut String,
+    program: &Program,
+    holder: &str,
+    line: u32,
+) -> Result<(), AllocError> {
+    write!(
+        text,
+        "  It is `{holder}`, which stays as it is, that would break a rule"
+    )?;
+    let Some(procedure) = procedure_called(program, holder) else {
+        return text.push_str(".\n");
+    };
+    text.push_str(":\n")?;
+    match statement_on(procedure, line) {
+        None => Ok(()),
+        Some(statement) => {
+            write!(text, "  {line} | ")?;
+            push_statement(text, procedure, &statement.action)?;
+            text.push_str("\n")
+        }
+    }
+}

@@ -1,0 +1,67 @@
+//! Why a line of a script is no command.
+
+use crate::programs::{line_at, push_shown, wrong_byte};
+use crate::rules::push_line;
+use std::alloc::AllocError;
+
+/// Puts a line of a script that is no command, and what is wrong with it, at the end of the text. Want of memory is the only error.
+pub fn push_unknown(text: &mut String, script: &[u8], line: u32) -> Result<(), AllocError> {
+    push_shown(text, script, line)?;
+    let words = line_at(script, line);
+    match wrong_byte(words) {
+        Some(wrong) => push_line(text, wrong),
+        None => push_line(text, wrong_with(words)),
+    }
+}
+
+// What is wrong with a line that has no wrong byte.
+fn wrong_with(words: &[u8]) -> &'static str {
+    let first = first_word(words);
+    if first == b"put".as_slice() {
+        return "Write `put TABLE ROW V ..`: a table's name, and at least two whole numbers of 64 bits.";
+    }
+    if first == b"del".as_slice() {
+        return "Write `del TABLE ROW`: a table's name, and a whole number of 64 bits.";
+    }
+    if first == b"run".as_slice() {
+        return "Write `run` alone on a line.";
+    }
+    if first == b"end".as_slice() {
+        return "No `define` is open that this could end.";
+    }
+    if first != b"define".as_slice() {
+        return "A line begins with `run`, `put`, `del` or `define`, in lower case; a comment begins with `#`.";
+    }
+    if is_alone(words) {
+        return "No line `end` follows, so the script ends here. Write `end` alone on a line behind the procedures.";
+    }
+    "Write `define` alone on a line, then procedures on lines of their own, and then `end`."
+}
+
+// The first word of a line.
+fn first_word(words: &[u8]) -> &[u8] {
+    for word in words.split(|byte| is_blank(*byte)) {
+        if !word.is_empty() {
+            return word;
+        }
+    }
+    &[]
+}
+
+// Whether a line has one word and no more.
+fn is_alone(words: &[u8]) -> bool {
+    let mut found = false;
+    for word in words.split(|byte| is_blank(*byte)) {
+        if !word.is_empty() {
+            if found {
+                return false;
+            }
+            found = true;
+        }
+    }
+    found
+}
+
+fn is_blank(byte: u8) -> bool {
+    byte == b' ' || byte == b'\t'
+}

@@ -1,0 +1,81 @@
+-- Many small steps of a strand for which it doesn't matter whether a kit is free.
+use Rattle.std.specs.Prelude.{◌≡◌, ℕ, ℤ, Bool, true, false, List, Option, Some, None}
+use Rattle.monoid_laws.specs.declared.Kind.{Kind}
+use Rattle.monoid_laws.specs.Kinds.{names_element}
+use Rattle.positions.specs.declared.phase.Phase.{Phase}
+use Rattle.positions.specs.declared.phase.Phase.TheVariants.{Running, Returning}
+use Rattle.positions.specs.Setting.{Setting}
+use Rattle.positions.specs.Activations.{PlainActivation}
+use Rattle.positions.specs.Layers.{PlainLayer, updating}
+use Rattle.positions.specs.Strands.{PlainStrand, is_entry}
+use Rattle.positions.specs.Advance.{advanced}
+use Rattle.frames.specs.declared.leaf.Did.{Did}
+use Rattle.frames.specs.declared.leaf.Did.TheVariants.{Nothing, Step, Gave}
+use Rattle.frames.specs.Steps.{IsStepOf}
+
+-- one small step, with a free kit as without one
+abbrev pub IsNext : Setting → PlainStrand → PlainStrand → Type 0
+IsNext setting s t = (kit : Bool) → t ≡ advanced setting kit s
+
+-- such small steps lead from the one to the other
+pub data IsPath (setting : Setting) (s : PlainStrand) : PlainStrand → Type 0 where
+  here : IsPath setting s s
+  on : (t u : PlainStrand) → IsPath setting s t → IsNext setting t u → IsPath setting s u
+
+-- the same, where each small step is that of the definitions, and takes as many kits as it does
+pub data IsPathOf (setting : Setting) (s : PlainStrand) : PlainStrand → Type 0 where
+  here : IsPathOf setting s s
+  on : (t u : PlainStrand) → IsPathOf setting s t → IsNext setting t u → ((kit : Bool) → IsStepOf setting kit t u) → IsPathOf setting s u
+
+-- ---- an instance that runs over a layer, in whatever strand
+
+-- a strand with that topmost instance and that topmost layer, at a phase
+abbrev pub topped : Phase → PlainActivation → PlainLayer → PlainStrand → PlainStrand
+topped phase a l s = record s { top = a; layer = l; phase = phase }
+
+-- it goes on, or gives a value back
+abbrev pub phase_by : Option ℤ → Phase
+phase_by None = Running
+phase_by (Some v) = Returning v
+
+-- in the instance in which a strand begins no sync is passed
+abbrev pub MayPass : Bool → PlainStrand → Type 0
+MayPass passes s = passes ≡ true → is_entry s ≡ false
+
+-- the instance comes so far in any strand, where syncs may be passed
+abbrev pub ComesTo : Setting → Bool → PlainActivation → PlainLayer → Option ℤ → PlainActivation → PlainLayer → Type 0
+ComesTo setting passes a l given b m = (s : PlainStrand) → MayPass passes s → IsPath setting (topped Running a l s) (topped (phase_by given) b m s)
+
+-- the value that it gave back, if it did
+abbrev pub value_by : Did → Option ℤ
+value_by Nothing = None
+value_by Step = None
+value_by (Gave v) = Some v
+
+-- what was done of a statement with that meaning: nothing, or all of it
+abbrev pub Does : Bool → (Bool → PlainStrand → PlainStrand) → PlainActivation → PlainLayer → Did → PlainActivation → PlainLayer → Type 0
+Does passes meaning a l Nothing b m = (b ≡ a) × (m ≡ l)
+Does passes meaning a l Step b m = (s : PlainStrand) → MayPass passes s → (kit : Bool) → topped Running b m s ≡ meaning kit (topped Running a l s)
+Does passes meaning a l (Gave v) b m = (s : PlainStrand) → MayPass passes s → (kit : Bool) → topped (Returning v) b m s ≡ meaning kit (topped Running a l s)
+
+-- the element that numbers name is combined with a reducer's value, where there is such a reducer
+abbrev pub Combines : Option Kind → ℕ → List ℤ → PlainLayer → PlainLayer → Type 0
+Combines None r vs l m = m ≡ l
+Combines (Some kind) r vs l m = (names_element kind vs ≡ true) × (m ≡ updating r kind vs l)
+
+-- ---- a strand that goes ahead
+
+-- small steps lead from the one to the other, and the layers below the topmost one, the kinds and what is counted and recorded stay
+pub record IsAhead (setting : Setting) (s t : PlainStrand) : Type 0 where
+  pub path : IsPath setting s t
+  pub lower : t.lower ≡ s.lower
+  pub kinds : t.layer.kinds ≡ s.layer.kinds
+  pub tally : t.tally ≡ s.tally
+
+-- the strand goes ahead where its next small step has that meaning
+abbrev pub GoesAhead : Setting → (PlainStrand → PlainStrand) → PlainStrand → PlainStrand → Type 0
+GoesAhead setting meaning s t = ((kit : Bool) → meaning s ≡ advanced setting kit s) → IsAhead setting s t
+
+-- the same, of a meaning that a free kit may matter for
+abbrev pub GoesAheadBy : Setting → (Bool → PlainStrand → PlainStrand) → PlainStrand → PlainStrand → Type 0
+GoesAheadBy setting meaning s t = ((kit : Bool) → meaning kit s ≡ advanced setting kit s) → IsAhead setting s t

@@ -1,0 +1,136 @@
+//! Values on the way of a serial run, which ends at the first row that isn't there.
+
+use crate::cells::{Halt, searched};
+use evaluation::entry::entry_slots;
+use evaluation::note::Note;
+use evaluation::ranges::{LoopRange, bounds};
+use evaluation::slot::Slot;
+use evaluation::values::value;
+use input_tables::Tables;
+use linked_program::checked::Checked;
+use linked_program::code::Expression;
+use std::alloc::Global;
+
+// How many values are asked for at most, so that the search takes no more than a second or so.
+const MOST_VALUES: u32 = 20_000_000;
+
+/// What a walk goes by.
+#[derive(Clone, Copy)]
+pub struct Ground<'a> {
+    pub alloc: Global,
+    pub checked: &'a Checked,
+    pub tables: &'a Tables,
+}
+
+/// What a walk has asked for.
+#[derive(Drop)]
+pub struct Asked {
+    notes: Vec<Note>,
+    values: u32,
+}
+
+impl Asked {
+    /// Nothing yet.
+    pub fn new(alloc: Global) -> Asked {
+        Asked {
+            notes: Vec::new(alloc),
+            values: 0,
+        }
+    }
+
+    // Counts one more value, and forgets what the ones before have read.
+    fn begin(&mut self) -> Result<(), Halt> {
+        if self.values >= MOST_VALUES {
+            return Err(Halt::Unknown);
+        }
+        self.values += 1;
+        self.notes.clear();
+        Ok(())
+    }
+
+    // Why the first of these expressions that has no value has none.
+    fn halted(&mut self, ground: Ground<'_>, slots: &[Slot], expressions: &[&Expression]) -> Halt {
+        for expression in expressions {
+            if let Err(halt) = searched(ground.tables, slots, expression, &mut self.notes) {
+                return halt;
+            }
+        }
+        Halt::Unknown
+    }
+}
+
+/// The value of an expression.
+pub fn value_of(
+    ground: Ground<'_>,
+    expression: &Expression,
+    slots: &[Slot],
+    asked: &mut Asked,
+) -> Result<i64, Halt> {
+    asked.begin()?;
+    match value(expression, slots, ground.tables, &mut asked.notes) {
+        Ok(value) => Ok(value),
+        Err(_) => Err(asked.halted(ground, slots, &[expression])),
+    }
+}
+
+/// Asks for the values of expressions, from left to right.
+pub fn ask_all(
+    ground: Ground<'_>,
+    expressions: &[Expression],
+    slots: &[Slot],
+    asked: &mut Asked,
+) -> Result<(), Halt> {
+    for expression in expressions {
+        value_of(ground, expression, slots, asked)?;
+    }
+    Ok(())
+}
+
+/// The range of a loop.
+pub fn range_of(
+    ground: Ground<'_>,
+    low: &Expression,
+    high: &Expression,
+    slots: &[Slot],
+    asked: &mut Asked,
+) -> Result<LoopRange, Halt> {
+    asked.begin()?;
+    match bounds(low, high, slots, ground.tables, &mut asked.notes) {
+        Ok(range) => Ok(range),
+        Err(_) => Err(asked.halted(ground, slots, &[low, high])),
+    }
+}
+
+/// The slots with which an instance of the procedure of that number begins.
+pub fn slots_of(
+    ground: Ground<'_>,
+    procedure: usize,
+    arguments: &[Expression],
+    slots: &[Slot],
+    asked: &mut Asked,
+) -> Result<Vec<Slot>, Halt> {
+    asked.begin()?;
+    let room = Vec::new(ground.alloc);
+    let size = ground.checked.slots(procedure);
+    match entry_slots(
+        room,
+        size,
+        arguments,
+        slots,
+        ground.tables,
+        &mut asked.notes,
+    ) {
+        Ok(slots) => Ok(slots),
+        Err(_) => {
+            ask_all(ground, arguments, slots, asked)?;
+            Err(Halt::Unknown)
+        }
+    }
+}
+
+/// Gives a slot its value.
+pub fn put(slots: &mut Vec<Slot>, number: usize, value: i64) {
+    if number < slots.len() {
+        slots[number] = Slot::Has(value);
+    }
+}

@@ -1,0 +1,230 @@
+-- Spans of rows hold what was put into them.
+use Rattle.std.proofs.Common.{◌≡◌, ℕ, zero, suc, ◌<◌, ◌≤ℤ◌, ℤ, Bool, true, false, true≢false, T, cond, List, [], ◌∷◌, ◌++◌, take, drop, length, map, refl, sym, ap, ◌∙◌, subst, arith}
+use Rattle.std.proofs.lemmas.Int.{ints, clamps}
+use Rattle.std.specs.Prelude.{◌&&◌, ◌||◌, not, nat_eq, int_le, get_or, slice_set}
+use Rattle.std.specs.Int.{int_min, int_max}
+use Rattle.std.specs.Int.Signed.{le_z_yes}
+use Rattle.std.specs.List.{list_any}
+use Rattle.std.specs.Ordering.{int_eq}
+use Rattle.std.proofs.lemmas.Bool.Decides.{Decides-eqb, Decides-int_eq}
+use Rattle.evaluation.specs.declared.note.Note.{Note}
+use Rattle.evaluation.specs.declared.note.Note.TheVariants.{Cell, Has, Limit}
+use Rattle.meaning.specs.Every.{every}
+use Rattle.meaning.specs.Tables.{Tables}
+use Rattle.rerun_records.specs.declared.reading.Reading.{Reading}
+use Rattle.rerun_records.specs.declared.reading.Reading.TheVariants as r
+use Rattle.rerun_records.specs.declared.spans.Span.{Span}
+use Rattle.rerun_records.specs.Record.{note_of, rows}
+use Rattle.rerun_records.specs.Validity.{note_agrees}
+use Rattle.rerun_records.specs.Spans.{span_of, has_row, covers, is_covered_by, lies_in, is_touched, joined, put_span, put_spans}
+use Rattle.rerun_records.specs.Doubted.{rests_on, in_step, agrees_if_changed}
+use Rattle.rerun_records.proofs.Members.{left_is, right_is, both, every_weaker}
+
+-- ---- a span in its place
+
+-- where the first of the span's table is
+pub found_is : (xs : List Span) (i : ℕ) (x y s : Span) → i < length xs → x ≡ get_or xs i x → y ≡ get_or xs i y → y.table ≡ s.table → slice_set xs i (joined x s) ≡ take i xs ++ put_span (drop i xs) s
+found_is [] i x y s l e f t = absurd (omega (arith, l))
+found_is (z ∷ zs) zero x y s l e f t =
+    let same : nat_eq z.table s.table ≡ true = (Decides-eqb z.table s.table).1 (ap (λ (w : Span). w.table) (sym f) ∙ t) in
+    rw same (ap (λ w. joined w s ∷ zs) e)
+found_is (z ∷ zs) (suc i) x y s l e f t = ap (λ ys. z ∷ ys) (found_is zs i x y s (omega (arith, l)) e f t)
+
+-- ---- tests
+
+of_t : (b : Bool) → T b → b ≡ true
+of_t true t = refl
+of_t false t = absurd t
+
+le_is : (a b : ℤ) → a ≤ℤ b → int_le a b ≡ true
+le_is a b h = of_t (int_le a b) h.le
+
+is_le : (a b : ℤ) → int_le a b ≡ true → a ≤ℤ b
+is_le a b e = le_z_yes (subst T (sym e) tt)
+
+or_left : (a b : Bool) → a ≡ true → a || b ≡ true
+or_left a b e = ap (λ x. x || b) e
+
+or_right : (a b : Bool) → b ≡ true → a || b ≡ true
+or_right true b e = refl
+or_right false b e = e
+
+on_left : (a b c : Bool) → (a ≡ true → b ≡ true) → a || c ≡ true → b || c ≡ true
+on_left true b c f e = or_left b c (f refl)
+on_left false b c f e = or_right b c e
+
+on_right : (a b c : Bool) → (b ≡ true → c ≡ true) → a || b ≡ true → a || c ≡ true
+on_right true b c f e = refl
+on_right false b c f e = f e
+
+left_not : (a b : Bool) → a || b ≡ false → a ≡ false
+left_not true b e = absurd (true≢false e)
+left_not false b e = refl
+
+right_not : (a b : Bool) → a || b ≡ false → b ≡ false
+right_not true b e = absurd (true≢false e)
+right_not false b e = e
+
+-- ---- the rows of both
+
+min_left : (a b r : ℤ) → int_le a r ≡ true → int_le (int_min a b) r ≡ true
+min_left a b r e = let h = is_le a r e in le_is (int_min a b) r (omega (arith, ints, clamps, h))
+
+min_right : (a b r : ℤ) → int_le b r ≡ true → int_le (int_min a b) r ≡ true
+min_right a b r e = let h = is_le b r e in le_is (int_min a b) r (omega (arith, ints, clamps, h))
+
+max_left : (a b r : ℤ) → int_le r a ≡ true → int_le r (int_max a b) ≡ true
+max_left a b r e = let h = is_le r a e in le_is r (int_max a b) (omega (arith, ints, clamps, h))
+
+max_right : (a b r : ℤ) → int_le r b ≡ true → int_le r (int_max a b) ≡ true
+max_right a b r e = let h = is_le r b e in le_is r (int_max a b) (omega (arith, ints, clamps, h))
+
+more_left : (v w p q : Bool) → (p ≡ true → q ≡ true) → v || p ≡ true → (v || w) || q ≡ true
+more_left true w p q f e = refl
+more_left false true p q f e = refl
+more_left false false p q f e = f e
+
+more_right : (v w p q : Bool) → (p ≡ true → q ≡ true) → w || p ≡ true → (v || w) || q ≡ true
+more_right true w p q f e = refl
+more_right false true p q f e = refl
+more_right false false p q f e = f e
+
+rows_left : (a b : Span) (row : ℤ) → has_row a row ≡ true → has_row (joined a b) row ≡ true
+rows_left a b row =
+    more_left a.whole b.whole (int_le a.low row && int_le row a.high) (int_le (int_min a.low b.low) row && int_le row (int_max a.high b.high))
+    (λ e. both (int_le (int_min a.low b.low) row) (int_le row (int_max a.high b.high))
+    (min_left a.low b.low row (left_is (int_le a.low row) (int_le row a.high) e))
+    (max_left a.high b.high row (right_is (int_le a.low row) (int_le row a.high) e)))
+
+rows_right : (a b : Span) (row : ℤ) → has_row b row ≡ true → has_row (joined a b) row ≡ true
+rows_right a b row =
+    more_right a.whole b.whole (int_le b.low row && int_le row b.high) (int_le (int_min a.low b.low) row && int_le row (int_max a.high b.high))
+    (λ e. both (int_le (int_min a.low b.low) row) (int_le row (int_max a.high b.high))
+    (min_right a.low b.low row (left_is (int_le b.low row) (int_le row b.high) e))
+    (max_right a.high b.high row (right_is (int_le b.low row) (int_le row b.high) e)))
+
+covers_left : (note : Note) (a b : Span) → covers note a ≡ true → covers note (joined a b) ≡ true
+covers_left (Cell t row c v) a b e = both (nat_eq a.table t) (has_row (joined a b) row) (left_is (nat_eq a.table t) (has_row a row) e) (rows_left a b row (right_is (nat_eq a.table t) (has_row a row) e))
+covers_left (Has t row there) a b e = both (nat_eq a.table t) (has_row (joined a b) row) (left_is (nat_eq a.table t) (has_row a row) e) (rows_left a b row (right_is (nat_eq a.table t) (has_row a row) e))
+covers_left (Limit t v) a b e = both (nat_eq a.table t) (a.whole || b.whole) (left_is (nat_eq a.table t) a.whole e) (or_left a.whole b.whole (right_is (nat_eq a.table t) a.whole e))
+
+covers_right : (note : Note) (a b : Span) → a.table ≡ b.table → covers note b ≡ true → covers note (joined a b) ≡ true
+covers_right (Cell t row c v) a b s e =
+    both (nat_eq a.table t) (has_row (joined a b) row) (ap (λ n. nat_eq n t) s ∙ left_is (nat_eq b.table t) (has_row b row) e) (rows_right a b row (right_is (nat_eq b.table t) (has_row b row) e))
+covers_right (Has t row there) a b s e =
+    both (nat_eq a.table t) (has_row (joined a b) row) (ap (λ n. nat_eq n t) s ∙ left_is (nat_eq b.table t) (has_row b row) e) (rows_right a b row (right_is (nat_eq b.table t) (has_row b row) e))
+covers_right (Limit t v) a b s e =
+    both (nat_eq a.table t) (a.whole || b.whole) (ap (λ n. nat_eq n t) s ∙ left_is (nat_eq b.table t) b.whole e) (or_right a.whole b.whole (right_is (nat_eq b.table t) b.whole e))
+
+-- ---- what was covered stays so, and what is put in is covered
+
+keeps : (xs : List Span) (s : Span) (note : Note) → is_covered_by xs note ≡ true → is_covered_by (put_span xs s) note ≡ true
+keeps [] s note e = absurd (true≢false (sym e))
+keeps (x ∷ xs) s note e =
+    elim (nat_eq x.table s.table) as (λ b. is_covered_by (cond b (joined x s ∷ xs) (x ∷ put_span xs s)) note ≡ true) [
+      | true ↦ on_left (covers note x) (covers note (joined x s)) (is_covered_by xs note) (covers_left note x s) e
+      | false ↦ on_right (covers note x) (is_covered_by xs note) (is_covered_by (put_span xs s) note) (keeps xs s note) e
+    ]
+
+adds : (xs : List Span) (s : Span) (note : Note) → covers note s ≡ true → is_covered_by (put_span xs s) note ≡ true
+adds [] s note e = or_left (covers note s) false e
+adds (x ∷ xs) s note e =
+    elim (nat_eq x.table s.table) as (λ b. nat_eq x.table s.table ≡ b → is_covered_by (cond b (joined x s ∷ xs) (x ∷ put_span xs s)) note ≡ true) [
+      | true ↦ λ t. or_left (covers note (joined x s)) (is_covered_by xs note) (covers_right note x s ((Decides-eqb x.table s.table).0 t) e)
+      | false ↦ λ t. or_right (covers note x) (is_covered_by (put_span xs s) note) (adds xs s note e)
+    ] refl
+
+pub keeps_all : (ss xs : List Span) (note : Note) → is_covered_by xs note ≡ true → is_covered_by (put_spans xs ss) note ≡ true
+keeps_all [] xs note e = e
+keeps_all (s ∷ ss) xs note e = keeps_all ss (put_span xs s) note (keeps xs s note e)
+
+pub adds_all : (ss xs : List Span) (note : Note) → is_covered_by ss note ≡ true → is_covered_by (put_spans xs ss) note ≡ true
+adds_all [] xs note e = absurd (true≢false (sym e))
+adds_all (s ∷ ss) xs note e =
+    elim (covers note s) as (λ b. covers note s ≡ b → b || is_covered_by ss note ≡ true → is_covered_by (put_spans (put_span xs s) ss) note ≡ true) [
+      | true ↦ λ c h. keeps_all ss (put_span xs s) note (adds xs s note c)
+      | false ↦ λ c h. adds_all ss (put_span xs s) note h
+    ] refl e
+
+same_number : (n : ℕ) → nat_eq n n ≡ true
+same_number n = (Decides-eqb n n).1 refl
+
+one_row : (row : ℤ) → int_le row row && int_le row row ≡ true
+one_row row = let h : row ≤ℤ row = omega (arith, ints) in both (int_le row row) (int_le row row) (le_is row row h) (le_is row row h)
+
+read_covered : (reading : Reading) → covers (note_of reading) (span_of reading) ≡ true
+read_covered (r.Cell t c row v) = both (nat_eq t t) (int_le row row && int_le row row) (same_number t) (one_row row)
+read_covered (r.Has t row there) = both (nat_eq t t) (int_le row row && int_le row row) (same_number t) (one_row row)
+read_covered (r.Limit t v) = both (nat_eq t t) true (same_number t) refl
+
+pub adds_read : (own : List Reading) (xs : List Span) → every (is_covered_by (put_spans xs (map span_of own))) (map note_of own) ≡ true
+adds_read [] xs = refl
+adds_read (x ∷ own) xs =
+    both (is_covered_by (put_spans (put_span xs (span_of x)) (map span_of own)) (note_of x)) (every (is_covered_by (put_spans (put_span xs (span_of x)) (map span_of own))) (map note_of own))
+    (keeps_all (map span_of own) (put_span xs (span_of x)) (note_of x) (adds xs (span_of x) (note_of x) (read_covered x)))
+    (adds_read own (put_span xs (span_of x)))
+
+-- ---- where no change lies in a span, none changes what is covered
+
+whole_has : (s : Span) (row : ℤ) → s.whole ≡ true → has_row s row ≡ true
+whole_has s row e = or_left s.whole (int_le s.low row && int_le row s.high) e
+
+row_in : (t : ℕ) (row : ℤ) (change : ℕ × ℤ) (s : Span) → nat_eq t change.0 && int_eq row change.1 ≡ true → nat_eq s.table t && has_row s row ≡ true → lies_in change s ≡ true
+row_in t row change s h e =
+    let table_is : t ≡ change.0 = (Decides-eqb t change.0).0 (left_is (nat_eq t change.0) (int_eq row change.1) h) in
+    let row_is : row ≡ change.1 = (Decides-int_eq row change.1).0 (right_is (nat_eq t change.0) (int_eq row change.1) h) in
+    both (nat_eq s.table change.0) (has_row s change.1)
+    (ap (nat_eq s.table) (sym table_is) ∙ left_is (nat_eq s.table t) (has_row s row) e)
+    (ap (has_row s) (sym row_is) ∙ right_is (nat_eq s.table t) (has_row s row) e)
+
+lies_there : (note : Note) (change : ℕ × ℤ) (s : Span) → rests_on note change ≡ true → covers note s ≡ true → lies_in change s ≡ true
+lies_there (Cell t row c v) change s h e = row_in t row change s h e
+lies_there (Has t row there) change s h e = row_in t row change s h e
+lies_there (Limit t v) change s h e =
+    let table_is : t ≡ change.0 = (Decides-eqb t change.0).0 h in
+    both (nat_eq s.table change.0) (has_row s change.1)
+    (ap (nat_eq s.table) (sym table_is) ∙ left_is (nat_eq s.table t) s.whole e)
+    (whole_has s change.1 (right_is (nat_eq s.table t) s.whole e))
+
+none_rests : (note : Note) (s : Span) (changes : List (ℕ × ℤ)) → covers note s ≡ true → list_any (λ c. lies_in c s) changes ≡ false → list_any (rests_on note) changes ≡ false
+none_rests note s [] e h = refl
+none_rests note s (c ∷ cs) e h =
+    elim (rests_on note c) as (λ b. rests_on note c ≡ b → b || list_any (rests_on note) cs ≡ false) [
+      | true ↦ λ r. absurd (true≢false (sym (or_left (lies_in c s) (list_any (λ c. lies_in c s) cs) (lies_there note c s r e)) ∙ h))
+      | false ↦ λ r. none_rests note s cs e (right_not (lies_in c s) (list_any (λ c. lies_in c s) cs) h)
+    ] refl
+
+untouched : (spans : List Span) (changes : List (ℕ × ℤ)) (note : Note) → is_touched spans changes ≡ false → is_covered_by spans note ≡ true → list_any (rests_on note) changes ≡ false
+untouched [] changes note h e = absurd (true≢false (sym e))
+untouched (s ∷ ss) changes note h e =
+    elim (covers note s) as (λ b. covers note s ≡ b → b || is_covered_by ss note ≡ true → list_any (rests_on note) changes ≡ false) [
+      | true ↦ λ c f. none_rests note s changes c (left_not (list_any (λ c. lies_in c s) changes) (is_touched ss changes) h)
+      | false ↦ λ c f. untouched ss changes note (right_not (list_any (λ c. lies_in c s) changes) (is_touched ss changes) h) f
+    ] refl e
+
+-- what is covered needn't be looked at
+pub passed_over : (tables : Tables) (spans : List Span) (changes : List (ℕ × ℤ)) (notes : List Note) → is_touched spans changes ≡ false → every (is_covered_by spans) notes ≡ true → every (agrees_if_changed tables changes) notes ≡ true
+passed_over tables spans changes notes h =
+    every_weaker (is_covered_by spans) (agrees_if_changed tables changes) notes
+    (λ note e. ap (λ b. not b || note_agrees tables note) (untouched spans changes note h e))
+
+-- where nothing was changed, nothing needs to be looked at
+none_changed : (tables : Tables) (notes : List Note) → every (agrees_if_changed tables []) notes ≡ true
+none_changed tables [] = refl
+none_changed tables (n ∷ ns) = none_changed tables ns
+
+pub none_listed : (tables : Tables) (changes : List (ℕ × ℤ)) (notes : List Note) → nat_eq (length changes) 0 ≡ true → every (agrees_if_changed tables changes) notes ≡ true
+none_listed tables [] notes e = none_changed tables notes
+none_listed tables (c ∷ cs) notes e = let none : suc (length cs) ≡ 0 = (Decides-eqb (suc (length cs)) 0).0 e in absurd (omega (arith, none))
+
+if_in_step : (listed agrees : Bool) → listed || agrees ≡ true → (not listed || agrees) ≡ agrees
+if_in_step true agrees e = refl
+if_in_step false agrees e = sym e
+
+-- where the tables hold what no change may have changed, they hold all if they hold the rest
+pub all_in_step : (tables : Tables) (changes : List (ℕ × ℤ)) (notes : List Note) → every (in_step tables (rows changes)) notes ≡ true → every (agrees_if_changed tables changes) notes ≡ every (note_agrees tables) notes
+all_in_step tables changes [] e = refl
+all_in_step tables changes (n ∷ ns) e =
+    let one : agrees_if_changed tables changes n ≡ note_agrees tables n = if_in_step (list_any (rests_on n) changes) (note_agrees tables n) (left_is (in_step tables (rows changes) n) (every (in_step tables (rows changes)) ns) e) in
+    ap (λ b. b && every (agrees_if_changed tables changes) ns) one
+    ∙ ap (λ b. note_agrees tables n && b) (all_in_step tables changes ns (right_is (in_step tables (rows changes) n) (every (in_step tables (rows changes)) ns) e))

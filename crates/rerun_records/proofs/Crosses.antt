@@ -1,0 +1,51 @@
+-- Records may go from thread to thread, and be shared by threads.
+use denote.Param.Send.{IsSend, IsSync, sendable}
+use Rattle.std.proofs.Crossing.{crosses, Vec-send, Vec-sync}
+use Rattle.indexmap.proofs.set.IndexSet.TheSendSync as sets
+use Rattle.std.proofs.hash.FoldHasher.TheSendSync as folds
+use Rattle.monoid_laws.proofs.Val.TheSendSync as vals
+use Rattle.rerun_records.proofs.reading.Reading.TheSendSync as reading
+use Rattle.rerun_records.proofs.spans.Span.TheSendSync as spans
+use Rattle.rerun_records.specs.contracts.readings.Node as Node
+use Rattle.rerun_records.specs.contracts.readings.Readings as Readings
+use Rattle.rerun_records.specs.contracts.record.Record as Record
+use Rattle.rerun_records.specs.contracts.records.Records as Records
+use Rattle.rerun_records.proofs.readings.Below.TheLaws.TheKnot.{both_send-Node, both_sync-Node}
+
+node_send : IsSend (Node.the_field).row
+node_send =
+    both_send-Node
+    (λ h s y. search (sendable, crosses) depth 20)
+    (λ h s y. search (sendable, crosses) depth 20)
+    (Vec-send _ spans.the_send) (Vec-sync _ spans.the_sync)
+    (Vec-send _ reading.the_send) (Vec-sync _ reading.the_sync)
+    (λ h s y. search (sendable, crosses) depth 20)
+    (λ h s y. search (sendable, crosses) depth 20)
+
+node_sync : IsSync (Node.the_field).row
+node_sync =
+    both_sync-Node
+    (λ h s y. search (sendable, crosses) depth 20)
+    (λ h s y. search (sendable, crosses) depth 20)
+    (Vec-send _ spans.the_send) (Vec-sync _ spans.the_sync)
+    (Vec-send _ reading.the_send) (Vec-sync _ reading.the_sync)
+    (λ h s y. search (sendable, crosses) depth 20)
+    (λ h s y. search (sendable, crosses) depth 20)
+
+pub readings_send : IsSend (Readings.the_field).row
+readings_send = let s = node_send in let y = node_sync in search (sendable, crosses) depth 20
+
+pub readings_sync : IsSync (Readings.the_field).row
+readings_sync = let s = node_send in let y = node_sync in search (sendable, crosses) depth 20
+
+pub record_send : IsSend (Record.the_field).row
+record_send = let s = readings_send in search (sendable, crosses, vals.the_send) depth 20
+
+pub record_sync : IsSync (Record.the_field).row
+record_sync = let y = readings_sync in search (sendable, crosses, vals.the_sync) depth 20
+
+pub records_send : IsSend (Records.the_field).row
+records_send = let s = record_send in search (sendable, crosses, sets.the_send, folds.the_send) depth 20
+
+pub records_sync : IsSync (Records.the_field).row
+records_sync = let y = record_sync in search (sendable, crosses, sets.the_sync, folds.the_sync) depth 20

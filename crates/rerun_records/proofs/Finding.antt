@@ -1,0 +1,54 @@
+-- How a record is found among those that stand, and whether it is valid.
+use Rattle.std.proofs.Common.{◌≡◌, ℕ, ℤ, Bool, true, false, cond, List, [], ◌∷◌, length, Some, None, sym, ap, ◌∙◌, subst}
+use Rattle.std.specs.Prelude.{slice_get, nat_lt}
+use Rattle.std.specs.List.{find, position, position_or_len}
+use Rattle.program_tree.specs.Plain.{Name}
+use Rattle.meaning.specs.Every.{every}
+use Rattle.meaning.specs.Tables.{Tables}
+use Rattle.rerun_records.specs.Record.{PlainRecord, Doubts, is_of, settled}
+use Rattle.rerun_records.specs.Validity.{record_valid, only_valid, valid_at}
+use Rattle.rerun_records.specs.Doubted.{in_step, reads_in_step, IsInStep}
+use Rattle.rerun_records.specs.Moments.{doubts_at, doubted_by, standing}
+use Rattle.rerun_records.proofs.Members.{left_is, right_is}
+use Rattle.rerun_records.proofs.Standing.{found_stands, none_stands}
+
+place_of : (b : Bool) (i n : ℕ) → Some i ≡ cond b (Some n) None → n ≡ i
+place_of true i n e = cc
+place_of false i n e = absurd cc
+
+passes_found : (p q : PlainRecord → Bool) (rs : List PlainRecord) (r : PlainRecord) → every q rs ≡ true → find p rs ≡ Some r → q r ≡ true
+passes_found p q [] r e f = absurd cc
+passes_found p q (x ∷ xs) r e f =
+    elim (p x) as (λ b. cond b (Some x) (find p xs) ≡ Some r → q r ≡ true) [
+      | true ↦ λ g. (let same : x ≡ r = cc (g) in subst (λ y. q y ≡ true) same (left_is (q x) (every q xs) e))
+      | false ↦ λ g. passes_found p q xs r (right_is (q x) (every q xs) e) g
+    ] f
+
+module _ (changes : List (ℕ × ℤ)) (ns : List ℕ) (rs : List PlainRecord) (procedure : ℕ) (arguments : List ℤ) where
+  module _ (place : ℕ) (k : PlainRecord) (at : Some place ≡ position (is_of procedure arguments) rs) (is : Some k ≡ find (is_of procedure arguments) rs) where
+    found_so : find (is_of procedure arguments) (standing changes ns rs) ≡ Some (doubted_by (doubts_at changes (slice_get ns place)) k)
+    found_so = found_stands changes procedure arguments ns rs place k (place_of (nat_lt (position_or_len (is_of procedure arguments) rs) (length rs)) place (position_or_len (is_of procedure arguments) rs) at) (sym is)
+
+    pub found_in_step : (tables : Tables) (now : List PlainRecord) (doubts : Doubts) → standing changes ns rs ≡ now → IsInStep tables now → doubts ≡ doubts_at changes (slice_get ns place)
+        → every (in_step tables doubts) k.reads ≡ true
+    found_in_step tables now doubts n h d =
+        rw d
+        (passes_found (is_of procedure arguments) (reads_in_step tables) (standing changes ns rs) (doubted_by (doubts_at changes (slice_get ns place)) k)
+        (subst (IsInStep tables) (sym n) h) found_so)
+
+    module _ (revisions : List (Name × ℕ)) (tables : Tables) (depth : ℕ) (now : List PlainRecord) (n : standing changes ns rs ≡ now) where
+      pub found_stale : record_valid revisions tables depth k ≡ false → None ≡ valid_at revisions tables depth now procedure arguments
+      found_stale e =
+          subst (λ xs. None ≡ valid_at revisions tables depth xs procedure arguments) n
+          (rw found_so (ap (λ b. cond b (Some (settled k)) None) (sym e)))
+
+      pub found_valid : record_valid revisions tables depth k ≡ true → settled k ≡ k → Some k ≡ valid_at revisions tables depth now procedure arguments
+      found_valid e s =
+          subst (λ xs. Some k ≡ valid_at revisions tables depth xs procedure arguments) n
+          (rw found_so (ap Some (sym s) ∙ ap (λ b. cond b (Some (settled k)) None) (sym e)))
+
+  pub found_none : (revisions : List (Name × ℕ)) (tables : Tables) (depth : ℕ) (now : List PlainRecord) → standing changes ns rs ≡ now → None ≡ find (is_of procedure arguments) rs
+      → None ≡ valid_at revisions tables depth now procedure arguments
+  found_none revisions tables depth now n e =
+      subst (λ xs. None ≡ valid_at revisions tables depth xs procedure arguments) n
+      (ap (only_valid revisions tables depth) (sym (none_stands changes procedure arguments ns rs (sym e))))

@@ -1,0 +1,25 @@
+use Rattle.std.proofs.Common.{rules, ◌≡◌, ◌∙◌, ap, sym, length, map, subst, List, ℕ, ℤ}
+use Rattle.std.specs.Vec.{vec_len}
+use Rattle.rerun_records.specs.Record.{settled}
+use Rattle.rerun_records.specs.Doubted.{IsInStep}
+use Rattle.rerun_records.specs.Moments.{AreStanding, standing}
+use Rattle.rerun_records.proofs.Standing.{standing_settled}
+use Rattle.rerun_records.proofs.Marks.{all_doubted_step, all_doubted_stand}
+use Rattle.rerun_records.proofs.records.Records.doubt_all.Goals as goal
+
+pub invariant_of-self : goal.invariant_of-self
+invariant_of-self c =
+    let long : vec_len c.self.inside.moments ≡ length c.self.inside.moments.items = search rules in
+    subst (λ (cs : List (ℕ × ℤ)). AreStanding cs c.fill.new.self.items c.self.inside.by_instance.keys) (sym c.clear.ensures.items)
+    (all_doubted_stand c.self.inside.changes.items c.self.inside.moments.items c.fill.new.self.items (vec_len c.self.inside.moments) c.self.inside.by_instance.keys (c.fill.ensures.items (λ y e. e)) long c.self.invariant)
+
+pub returns-clause-in_step : goal.returns-clause-in_step
+returns-clause-in_step c = λ tables.
+    subst (λ (cs : List (ℕ × ℤ)). IsInStep tables (standing cs c.fill.new.self.items c.self.inside.by_instance.keys)) (sym c.clear.ensures.items)
+    (all_doubted_step tables c.fill.new.self.items (vec_len c.self.inside.moments) c.self.inside.by_instance.keys (c.fill.ensures.items (λ y e. e)))
+
+pub returns-clause-same : goal.returns-clause-same
+returns-clause-same c =
+    standing_settled c.clear.new.self.items c.fill.new.self.items c.self.inside.by_instance.keys
+    ∙ sym (standing_settled c.self.inside.changes.items c.self.inside.moments.items c.self.inside.by_instance.keys)
+    ∙ ap (map settled) c.self.view_is

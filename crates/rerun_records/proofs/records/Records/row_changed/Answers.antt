@@ -1,0 +1,37 @@
+use Rattle.std.proofs.Common.{◌≡◌, List, [], ◌∷◌, ◌++◌, ℕ, ℤ, map, sym, ap, ◌∙◌, subst, w64}
+use Rattle.std.proofs.lemmas.Int.{to_z-of_z}
+use Rattle.rerun_records.specs.Record.{settled}
+use Rattle.rerun_records.specs.Doubted.{IsInStep}
+use Rattle.rerun_records.specs.Moments.{AreStanding}
+use Rattle.rerun_records.proofs.Standing.{standing_settled}
+use Rattle.rerun_records.proofs.Marks.{listed_stand, listed_marked}
+use Rattle.rerun_records.proofs.records.Records.row_changed.Goals as goal
+
+pub invariant_of-self : goal.invariant_of-self
+invariant_of-self c =
+    subst (λ (cs : List (ℕ × ℤ)). AreStanding cs c.self.inside.moments.items c.self.inside.by_instance.keys) (sym (c.is_listed.ensures.unlisted c.if-not-is_listed.true)) c.self.invariant
+
+pub invariant_of-self-else-not-is_listed : goal.invariant_of-self-else-not-is_listed
+invariant_of-self-else-not-is_listed c =
+    listed_stand c.self.inside.changes.items c.is_listed.new.changes.items (c.args.table, c.args.row) c.self.inside.moments.items c.self.inside.by_instance.keys
+    (subst (λ (z : ℤ). c.is_listed.new.changes.items ≡ c.self.inside.changes.items ++ (c.args.table, z) ∷ []) (to_z-of_z w64 _ c.ranges.row) (c.is_listed.ensures.listed c.if-not-is_listed.false))
+    (c.is_listed.ensures.few c.if-not-is_listed.false) c.self.invariant
+
+pub returns-then-not-is_listed-clause-same : goal.returns-then-not-is_listed-clause-same
+returns-then-not-is_listed-clause-same c =
+    c.doubt_all.ensures.same
+    ∙ standing_settled c.is_listed.new.changes.items c.self.inside.moments.items c.self.inside.by_instance.keys
+    ∙ sym (standing_settled c.self.inside.changes.items c.self.inside.moments.items c.self.inside.by_instance.keys)
+    ∙ ap (map settled) c.self.view_is
+
+pub returns-else-not-is_listed-clause-marked : goal.returns-else-not-is_listed-clause-marked
+returns-else-not-is_listed-clause-marked c = λ before after same step.
+    listed_marked c.self.inside.changes.items c.is_listed.new.changes.items c.args.table c.args.row c.self.inside.moments.items c.self.inside.by_instance.keys
+    (subst (λ (z : ℤ). c.is_listed.new.changes.items ≡ c.self.inside.changes.items ++ (c.args.table, z) ∷ []) (to_z-of_z w64 _ c.ranges.row) (c.is_listed.ensures.listed c.if-not-is_listed.false))
+    (c.is_listed.ensures.few c.if-not-is_listed.false) c.self.invariant before after same (subst (IsInStep before) (sym c.self.view_is) step)
+
+pub returns-else-not-is_listed-clause-same : goal.returns-else-not-is_listed-clause-same
+returns-else-not-is_listed-clause-same c =
+    standing_settled c.is_listed.new.changes.items c.self.inside.moments.items c.self.inside.by_instance.keys
+    ∙ sym (standing_settled c.self.inside.changes.items c.self.inside.moments.items c.self.inside.by_instance.keys)
+    ∙ ap (map settled) c.self.view_is

@@ -1,0 +1,49 @@
+-- Which readings of a record are in doubt, after rows of the tables were changed.
+use Rattle.std.specs.Prelude.{◌≡◌, ℕ, nat_eq, ℤ, Bool, true, false, not, ◌&&◌, ◌||◌, List}
+use Rattle.std.specs.List.{list_any}
+use Rattle.std.specs.Ordering.{int_eq}
+use Rattle.meaning.specs.Every.{every}
+use Rattle.meaning.specs.Tables.{Tables}
+use Rattle.input_tables.specs.Edited.{cell_at, has_at, limit_at}
+use Rattle.evaluation.specs.declared.note.Note.{Note}
+use Rattle.evaluation.specs.declared.note.Note.TheVariants.{Cell, Has, Limit}
+use Rattle.rerun_records.specs.Record.{PlainRecord, Doubts, everything, rows}
+use Rattle.rerun_records.specs.Validity.{note_agrees}
+
+-- the change of a row, given by its table's number and its own, may change what is read so
+abbrev pub rests_on : Note → ℕ × ℤ → Bool
+rests_on (Cell t row c v) change = nat_eq t change.0 && int_eq row change.1
+rests_on (Has t row there) change = nat_eq t change.0 && int_eq row change.1
+rests_on (Limit t v) change = nat_eq t change.0
+
+abbrev pub is_doubted : Doubts → Note → Bool
+is_doubted everything note = true
+is_doubted (rows changes) note = list_any (rests_on note) changes
+
+-- the reading is in doubt, or the tables hold it
+abbrev pub in_step : Tables → Doubts → Note → Bool
+in_step tables doubts note = is_doubted doubts note || note_agrees tables note
+
+-- none of the changes may have changed what is read so, or the tables hold it
+abbrev pub agrees_if_changed : Tables → List (ℕ × ℤ) → Note → Bool
+agrees_if_changed tables changes note = not (list_any (rests_on note) changes) || note_agrees tables note
+
+-- the tables hold each reading that is not in doubt
+abbrev pub reads_in_step : Tables → PlainRecord → Bool
+reads_in_step tables r = every (in_step tables r.doubted) r.reads
+
+abbrev pub IsInStep : Tables → List PlainRecord → Type 0
+IsInStep tables records = every (reads_in_step tables) records ≡ true
+
+-- the tables hold all that was read
+abbrev pub reads_agree : Tables → PlainRecord → Bool
+reads_agree tables r = every (note_agrees tables) r.reads
+
+abbrev pub ReadNow : Tables → List PlainRecord → Type 0
+ReadNow tables records = every (reads_agree tables) records ≡ true
+
+-- what is read of the tables is the same but for one row, given by its table's number and its own
+pub record IsSameBut (table : ℕ) (row : ℤ) (before after : Tables) : Type 0 where
+  pub cells : (t : ℕ) (r : ℤ) (c : ℕ) → nat_eq t table && int_eq r row ≡ false → cell_at after t r c ≡ cell_at before t r c
+  pub there : (t : ℕ) (r : ℤ) → nat_eq t table && int_eq r row ≡ false → has_at after t r ≡ has_at before t r
+  pub limits : (t : ℕ) → nat_eq t table ≡ false → limit_at after t ≡ limit_at before t

@@ -1,0 +1,89 @@
+// Rows that were changed, and since when records stand.
+ghost use Rattle.std.specs.Prelude.{◌≡◌, ◌<◌, ◌≤◌, ◌++◌, ◌∷◌, [], true, false, length, map, option_copied, replicate, slice_get, vec_capacity, cond};
+ghost use Rattle.std.specs.List.{list_any};
+ghost use Rattle.meaning.specs.Every.{every};
+ghost use Rattle.rerun_records.specs.Record.{note_of};
+ghost use Rattle.rerun_records.specs.Doubted.{rests_on};
+ghost use Rattle.rerun_records.specs.Moments.{doubts_by, doubts_since, doubts_at, stamped, never};
+
+use crate::reading::Reading;
+
+/// No moment: all of a record is in doubt.
+pub(crate) const NEVER: u32 = u32::MAX;
+
+/// How many changes are listed at most, which is fewer than that.
+const MOST: usize = 1_000_000_000;
+
+/// Whether one of the changes, each given by its table's number and the row, may have changed what is read so.
+pub(crate) fn is_among(reading: &Reading, changes: &[(usize, i64)]) -> bool
+    ensures among { result ≡ list_any (rests_on (note_of reading.now)) changes.now }
+{
+    for change in changes {
+        if rests_on(reading, change) {
+            return true;
+        }
+    }
+    false
+}
+
+// Whether the change may have changed what is read so.
+fn rests_on(reading: &Reading, change: &(usize, i64)) -> bool
+    ensures rests { result ≡ rests_on (note_of reading.now) change.now }
+{
+    match reading {
+        Reading::Cell { table, row, .. } => usize::from(*table) == change.0 && *row == change.1,
+        Reading::Has { table, row, .. } => usize::from(*table) == change.0 && *row == change.1,
+        Reading::Limit { table, .. } => usize::from(*table) == change.0,
+    }
+}
+
+/// The changes since the record at that place stands; none where all of it is in doubt.
+pub(crate) fn changes_since<'a>(
+    changes: &'a [(usize, i64)],
+    moments: &[u32],
+    place: usize,
+) -> Option<&'a [(usize, i64)]>
+    ensures since { doubts_by (option_copied result)
+        ≡ doubts_at changes.now (slice_get moments.now place) }
+{
+    match moments.get(place) {
+        Some(moment) => after(changes, *moment as usize),
+        None => None,
+    }
+}
+
+// The changes after the first so many, where there are that many.
+fn after<'a>(changes: &'a [(usize, i64)], first: usize) -> Option<&'a [(usize, i64)]>
+    ensures after { doubts_by (option_copied result) ≡ doubts_since changes.now first }
+{
+    if first <= changes.len() {
+        Some(&changes[first..])
+    } else {
+        None
+    }
+}
+
+/// Lists one more change: whether that was done, for which memory may be refused.
+pub(crate) fn is_listed(changes: &mut Vec<(usize, i64)>, table: usize, row: i64) -> bool
+    ensures listed { result ≡ true
+        → changes.new.items ≡ changes.old.items ++ (table, row) ∷ [] }
+    ensures few { result ≡ true → length changes.new.items < never }
+    ensures unlisted { result ≡ false → changes.new.items ≡ changes.old.items }
+{
+    changes.len() < MOST && changes.push((table, row)).is_ok()
+}
+
+/// Has the record at that place, or one behind the others, stand since now, when there are so many changes.
+pub(crate) fn stand(moments: &mut Vec<u32>, place: usize, now: usize)
+    requires few { now < never }
+    requires within { place ≤ length moments.old.items }
+    requires room { length moments.old.items < vec_capacity moments.old }
+    ensures stamped { moments.new.items ≡ stamped moments.old.items place now }
+    ensures room { vec_capacity moments.new ≡ vec_capacity moments.old }
+{
+    if place < moments.len() {
+        moments[place] = now as u32;
+    } else {
+        moments.push_reserved(now as u32);
+    }
+}

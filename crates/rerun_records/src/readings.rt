@@ -1,0 +1,310 @@
+//! What instances have read, each by reference to what the instances below it have.
+ghost use Rattle.std.specs.Prelude.{◌≡◌, ◌++◌, IfOk, OnOk, map, true};
+ghost use Rattle.std.specs.List.{flat_map};
+ghost use Rattle.meaning.specs.Every.{every};
+ghost use Rattle.evaluation.specs.declared.note.Note.{Note as PlainNote};
+ghost use Rattle.rerun_records.specs.Record.{note_of, rows};
+ghost use Rattle.rerun_records.specs.Spans.{is_covered_by};
+ghost use Rattle.rerun_records.specs.Readings.{all_of, node_notes, shared_notes, held_notes, is_covered, is_covered_share, is_covered_below};
+ghost use Rattle.rerun_records.specs.Validity.{note_agrees};
+ghost use Rattle.rerun_records.specs.Doubted.{agrees_if_changed, in_step};
+
+use crate::changes::is_among;
+use crate::reading::Reading;
+use crate::spans::{Span, are_touched, put_read, put_spans};
+use evaluation::note::Note;
+use input_tables::Tables;
+use std::alloc::{AllocError, Global};
+use std::marker::Model;
+use std::sync::Arc;
+
+/// So many changes are looked through before the tables are.
+const FEW: usize = 8;
+
+// Most have nothing below, so that lies by itself.
+#[cycle(parts)]
+#[derive(Drop)]
+struct Node {
+    own: Vec<Reading>,
+    below: Option<Box<Below>>,
+}
+
+// The parts, which are some, and spans of rows that hold all that they and those below them have read.
+#[cycle(parts)]
+#[derive(Drop)]
+struct Below {
+    parts: Vec<Arc<Node>>,
+    spans: Vec<Span>,
+}
+
+/// What an instance and those below it have read: its own readings, and those of instances below it by reference, so that none of
+/// these is copied.
+#[derive(Drop)]
+pub struct Readings {
+    node: Arc<Node>,
+}
+
+impl Model for Readings {
+    ghost use Rattle.std.specs.Prelude.{◌≡◌, true, List};
+    ghost use Rattle.evaluation.specs.declared.note.Note.{Note};
+    ghost use Rattle.rerun_records.specs.Readings.{shared_notes, is_covered_share};
+
+    ghost Value = { List Note };
+
+    ghost view = { λ r. shared_notes r.node };
+
+    ghost invariant = { λ r. is_covered_share r.node ≡ true };
+}
+
+impl Readings {
+    /// An instance's own readings, then those of the parts. Nothing keeps spare room.
+    pub fn new(
+        alloc: Global,
+        mut own: Vec<Reading>,
+        parts: Vec<Readings>,
+    ) -> Result<Readings, AllocError>
+        ensures made { IfOk result (λ r. r ≡ map note_of own.items ++ all_of parts.items) }
+    {
+        own.shrink_to_fit();
+        let node = Node {
+            own,
+            below: make_below(alloc, parts)?,
+        };
+        Ok(Readings {
+            node: Arc::new(alloc, node)?,
+        })
+    }
+
+    /// The same readings once more, without a copy.
+    pub fn share(&self) -> Result<Readings, AllocError>
+        ensures same { IfOk result (λ r. r ≡ self.now) }
+    {
+        Ok(Readings {
+            node: Arc::try_clone(&self.node)?,
+        })
+    }
+
+    /// Whether the tables hold what was read. It takes no memory.
+    pub fn agree(&self, tables: &Tables) -> bool
+        ensures agree { result ≡ every (note_agrees tables.now.tables) self.now }
+    {
+        node_agrees(&self.node, tables)
+    }
+
+    /// Whether the tables hold what was read of the rows that were changed, each given by its table's number and its own, and each
+    /// limit of their tables. It takes no memory, and passes over parts that read none of these.
+    pub fn doubted_agree(&self, changes: &[(usize, i64)], tables: &Tables) -> bool
+        ensures agree { result
+            ≡ every (agrees_if_changed tables.now.tables changes.now) self.now }
+        ensures in_step { every (in_step tables.now.tables (rows changes.now)) self.now ≡ true
+            → result ≡ every (note_agrees tables.now.tables) self.now }
+    {
+        if changes.is_empty() {
+            return true;
+        }
+        node_doubted_agrees(&self.node, changes, tables)
+    }
+
+    /// Copies of all of them, in order: for who looks at a record from outside.
+    pub fn notes(&self, alloc: Global) -> Result<Vec<Note>, AllocError>
+        ensures notes { IfOk result (λ ns. ns.items ≡ self.now) }
+    {
+        let mut notes = Vec::new(alloc);
+        put_notes(&self.node, &mut notes)?;
+        Ok(notes)
+    }
+}
+
+// These readings below an instance, if there are any.
+fn make_below(alloc: Global, parts: Vec<Readings>) -> Result<Option<Box<Below>>, AllocError>
+    ensures below { IfOk result (λ b. held_notes b ≡ all_of parts.items) }
+    ensures covered { IfOk result (λ b. is_covered_below b ≡ true) }
+{
+    if parts.is_empty() {
+        return Ok(None);
+    }
+    let mut spans = Vec::new(alloc);
+    let parts = nodes(alloc, parts, &mut spans)?;
+    spans.shrink_to_fit();
+    Ok(Some(Box::new(alloc, Below { parts, spans })?))
+}
+
+// The nodes of these readings, without spare room; the rows of all that was read there are put into the spans.
+fn nodes(
+    alloc: Global,
+    parts: Vec<Readings>,
+    spans: &mut Vec<Span>,
+) -> Result<Vec<Arc<Node>>, AllocError>
+    ensures nodes { IfOk result (λ ns. flat_map shared_notes ns.items ≡ all_of parts.items) }
+    ensures each { IfOk result (λ ns. every is_covered_share ns.items ≡ true) }
+    ensures spans { IfOk result (λ ns.
+        every (is_covered_by spans.new.items) (flat_map shared_notes ns.items) ≡ true) }
+{
+    let mut nodes = Vec::new(alloc);
+    nodes.reserve_exact(parts.len())?;
+    for part in parts {
+        put_node(&part.node, spans)?;
+        nodes.push(part.node)?;
+    }
+    Ok(nodes)
+}
+
+// Joins spans with the rows of what was read there and below: its parts aren't asked, since their rows lie in its own spans.
+fn put_node(node: &Node, spans: &mut Vec<Span>) -> Result<(), AllocError>
+    requires covered { is_covered node.now ≡ true }
+    ensures kept { OnOk result ((note : PlainNote) → is_covered_by spans.old.items note ≡ true
+        → is_covered_by spans.new.items note ≡ true) }
+    ensures put { OnOk result (every (is_covered_by spans.new.items) (node_notes node.now) ≡ true) }
+{
+    put_read(&node.own, spans)?;
+    match &node.below {
+        Some(below) => put_spans(&below.spans, spans),
+        None => Ok(()),
+    }
+}
+
+// Whether the tables hold what was read there and below.
+#[cycle(agreeing)]
+fn node_agrees(node: &Node, tables: &Tables) -> bool
+    ensures agrees { result ≡ every (note_agrees tables.now.tables) (node_notes node.now) }
+{
+    if !reads_agree(&node.own, tables) {
+        return false;
+    }
+    match &node.below {
+        Some(below) => parts_agree(&below.parts, tables),
+        None => true,
+    }
+}
+
+#[cycle(agreeing)]
+fn parts_agree(parts: &[Arc<Node>], tables: &Tables) -> bool
+    ensures agree { result ≡ every (note_agrees tables.now.tables) (flat_map shared_notes parts.now) }
+{
+    for part in parts {
+        if !node_agrees(part, tables) {
+            return false;
+        }
+    }
+    true
+}
+
+// Whether the tables hold what was read there and below and a change may have changed. Where no changed row lies in the spans, the
+// parts aren't asked.
+#[cycle(doubting)]
+fn node_doubted_agrees(node: &Node, changes: &[(usize, i64)], tables: &Tables) -> bool
+    requires covered { is_covered node.now ≡ true }
+    ensures agrees { result
+        ≡ every (agrees_if_changed tables.now.tables changes.now) (node_notes node.now) }
+{
+    if !doubted_reads_agree(&node.own, changes, tables) {
+        return false;
+    }
+    match &node.below {
+        Some(below) => {
+            if are_touched(&below.spans, changes) {
+                doubted_parts_agree(&below.parts, changes, tables)
+            } else {
+                true
+            }
+        }
+        None => true,
+    }
+}
+
+#[cycle(doubting)]
+fn doubted_parts_agree(parts: &[Arc<Node>], changes: &[(usize, i64)], tables: &Tables) -> bool
+    requires covered { every is_covered_share parts.now ≡ true }
+    ensures agree { result
+        ≡ every (agrees_if_changed tables.now.tables changes.now) (flat_map shared_notes parts.now) }
+{
+    for part in parts {
+        if !node_doubted_agrees(part, changes, tables) {
+            return false;
+        }
+    }
+    true
+}
+
+// Puts the notes of a node and of those below it behind others.
+#[cycle(putting)]
+fn put_notes(node: &Node, notes: &mut Vec<Note>) -> Result<(), AllocError>
+    ensures put { OnOk result (notes.new.items ≡ notes.old.items ++ node_notes node.now) }
+{
+    put_own(&node.own, notes)?;
+    match &node.below {
+        Some(below) => put_parts(&below.parts, notes),
+        None => Ok(()),
+    }
+}
+
+#[cycle(putting)]
+fn put_parts(parts: &[Arc<Node>], notes: &mut Vec<Note>) -> Result<(), AllocError>
+    ensures put { OnOk result (notes.new.items ≡ notes.old.items ++ flat_map shared_notes parts.now) }
+{
+    for part in parts {
+        put_notes(part, notes)?;
+    }
+    Ok(())
+}
+
+fn put_own(own: &[Reading], notes: &mut Vec<Note>) -> Result<(), AllocError>
+    ensures put { OnOk result (notes.new.items ≡ notes.old.items ++ map note_of own.now) }
+{
+    for reading in own {
+        notes.push(reading.note())?;
+    }
+    Ok(())
+}
+
+// Whether the tables hold those of the readings that a change may have changed.
+fn doubted_reads_agree(reads: &[Reading], changes: &[(usize, i64)], tables: &Tables) -> bool
+    ensures agree { result
+        ≡ every (agrees_if_changed tables.now.tables changes.now) (map note_of reads.now) }
+{
+    for reading in reads {
+        if !agrees_if_changed(reading, changes, tables) {
+            return false;
+        }
+    }
+    true
+}
+
+// Whether no change may have changed what is read so, or the tables hold it: what takes less is asked first.
+fn agrees_if_changed(reading: &Reading, changes: &[(usize, i64)], tables: &Tables) -> bool
+    ensures agrees { result
+        ≡ agrees_if_changed tables.now.tables changes.now (note_of reading.now) }
+{
+    if changes.len() <= FEW {
+        !is_among(reading, changes) || agrees(&reading.note(), tables)
+    } else {
+        agrees(&reading.note(), tables) || !is_among(reading, changes)
+    }
+}
+
+// Whether the tables hold what was read.
+fn reads_agree(reads: &[Reading], tables: &Tables) -> bool
+    ensures agree { result ≡ every (note_agrees tables.now.tables) (map note_of reads.now) }
+{
+    for reading in reads {
+        if !agrees(&reading.note(), tables) {
+            return false;
+        }
+    }
+    true
+}
+
+fn agrees(note: &Note, tables: &Tables) -> bool
+    ensures agrees { result ≡ note_agrees tables.now.tables note.now }
+{
+    match note {
+        Note::Cell {
+            table,
+            row,
+            column,
+            value,
+        } => tables.cell(*table, *row, *column) == Some(*value),
+        Note::Has { table, row, found } => tables.has(*table, *row) == *found,
+        Note::Limit { table, value } => tables.limit(*table) == *value,
+    }
+}

@@ -1,0 +1,123 @@
+// Stretches of rows in which what was read lies, one for each table.
+ghost use Rattle.std.specs.Prelude.{◌≡◌, OnOk, map, false};
+ghost use Rattle.std.specs.List.{list_any};
+ghost use Rattle.rerun_records.specs.Spans.{span_of, lies_in, joined, put_span, put_spans, is_touched};
+
+use crate::reading::Reading;
+use std::alloc::AllocError;
+
+/// The rows of a table from the lowest that was read to the greatest; all of them, where its limit was.
+#[derive(Clone, Copy)]
+pub(crate) struct Span {
+    table: u16,
+    whole: bool,
+    low: i64,
+    high: i64,
+}
+
+impl Span {
+    // The rows that a reading rests on.
+    fn new(reading: &Reading) -> Span
+        ensures span { result ≡ span_of reading.now }
+    {
+        match reading {
+            Reading::Cell { table, row, .. } => Span::one(*table, *row),
+            Reading::Has { table, row, .. } => Span::one(*table, *row),
+            Reading::Limit { table, .. } => Span {
+                table: *table,
+                whole: true,
+                low: 0,
+                high: 0,
+            },
+        }
+    }
+
+    // One row.
+    fn one(table: u16, row: i64) -> Span
+        ensures one { result ≡ record { table = table; whole = false; low = row; high = row } }
+    {
+        Span {
+            table,
+            whole: false,
+            low: row,
+            high: row,
+        }
+    }
+
+    // The rows of both, and those between.
+    fn joined(&self, other: &Span) -> Span
+        ensures joined { result ≡ joined self.now other.now }
+    {
+        Span {
+            table: self.table,
+            whole: self.whole || other.whole,
+            low: self.low.min(other.low),
+            high: self.high.max(other.high),
+        }
+    }
+
+    // Whether the changed row, given by its table's number and its own, is one of these.
+    fn has(&self, change: &(usize, i64)) -> bool
+        ensures has { result ≡ lies_in change.now self.now }
+    {
+        usize::from(self.table) == change.0
+            && (self.whole || self.low <= change.1 && change.1 <= self.high)
+    }
+}
+
+// Joins it with the span of its table, where there is one.
+fn put_span(span: &Span, spans: &mut Vec<Span>) -> Result<(), AllocError>
+    ensures put { OnOk result (spans.new.items ≡ put_span spans.old.items span.now) }
+{
+    for place in 0..spans.len() {
+        if spans[place].table == span.table {
+            spans[place] = spans[place].joined(span);
+            return Ok(());
+        }
+    }
+    spans.push(*span)?;
+    Ok(())
+}
+
+/// Joins spans with others.
+pub(crate) fn put_spans(more: &[Span], spans: &mut Vec<Span>) -> Result<(), AllocError>
+    ensures put { OnOk result (spans.new.items ≡ put_spans spans.old.items more.now) }
+{
+    for span in more {
+        put_span(span, spans)?;
+    }
+    Ok(())
+}
+
+/// Joins spans with the rows that were read.
+pub(crate) fn put_read(own: &[Reading], spans: &mut Vec<Span>) -> Result<(), AllocError>
+    ensures put { OnOk result (spans.new.items ≡ put_spans spans.old.items (map span_of own.now)) }
+{
+    for reading in own {
+        put_span(&Span::new(reading), spans)?;
+    }
+    Ok(())
+}
+
+/// Whether one of the changed rows lies in one of the spans.
+pub(crate) fn are_touched(spans: &[Span], changes: &[(usize, i64)]) -> bool
+    ensures touched { result ≡ is_touched spans.now changes.now }
+{
+    for span in spans {
+        if has_one(span, changes) {
+            return true;
+        }
+    }
+    false
+}
+
+fn has_one(span: &Span, changes: &[(usize, i64)]) -> bool
+    ensures has { result ≡ list_any (λ c. lies_in c span.now) changes.now }
+{
+    for change in changes {
+        if span.has(change) {
+            return true;
+        }
+    }
+    false
+}
