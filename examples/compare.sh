@@ -1,5 +1,5 @@
 #!/usr/bin/env bash
-# Runs each example by one worker and by four, and compares with its file `answers`. It says what differs, and ends with 1.
+# Runs each example by 1, 2, 4 and 16 workers, and compares with its file `answers`. It says what differs, and ends with 1.
 #
 # usage: examples/compare.sh [PROGRAM WORD ..]    PROGRAM, with words before its own, is ./cilkreport where none is given
 set -u
@@ -11,7 +11,7 @@ same=0
 different=0
 for folder in "$here"/*/; do
   name=$(basename "$folder")
-  for workers in 1 4; do
+  for workers in 1 2 4 16; do
     if "$@" "$folder$name.cilk" "$folder"tables.toml --workers "$workers" <"$folder"script >"$said" &&
       diff -u --label "$name: answers" --label "$name: said by $workers" "$folder"answers "$said"; then
       same=$((same + 1))

@@ -129,7 +129,7 @@ def main():
     os.makedirs(os.path.dirname(LOG), exist_ok=True)
     os.makedirs(out, exist_ok=True)
     print(
-        f"building {PROGRAM}, once: {len(crates)} crates are proved first, which takes some minutes; the log is {LOG}",
+        f"building {PROGRAM}, once: {len(crates)} crates are proved first, which takes about half an hour; the log is {LOG}",
         file=sys.stderr,
         flush=True,
     )

@@ -2,6 +2,15 @@
 # Runs cilkreport with the words given, compiled with run-time checks, and proves nothing. It takes one to two minutes each time.
 set -u
 top=$(cd "$(dirname "$(readlink -f "$0")")/.." && pwd)
+# The program writes into a folder that is thrown away after it, and a trace with it.
+for word in "$@"; do
+  case $word in
+    --trace | --trace=*)
+      echo "quick: a trace isn't kept: leave --trace out, or run without --quick" >&2
+      exit 2
+      ;;
+  esac
+done
 if ! command -v rt >/dev/null; then
   echo "cilkreport is built by the Rattle kit, and its command rt is not on the path" >&2
   exit 69

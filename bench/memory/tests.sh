@@ -1,8 +1,11 @@
 #!/usr/bin/env bash
 # Refuses each allocation of each test in turn, of the crates named or of all whose tests were built by `rt test`. A test may pass, or stop by
 # an assertion of its own or the error that it hands on; a run that stops elsewhere, hangs or ends by another signal is told. At the end, the
-# assertions and errors of tests that were stopped, each once: no assertion may be one that compares an answer. MOST bounds the
-# allocations of a test that are refused.
+# assertions and errors of tests that were stopped, each once: no assertion may be one that compares an answer.
+#
+# usage: [ONLY=WORD] [MOST=NUMBER] tests.sh [CRATE ..]      ONLY=word MOST=5000 tests.sh thread_tests
+# ONLY names tests: those whose names it is found in by grep, else all. MOST bounds the allocations of a test that are refused, by default
+# the first 400.
 set -eu
 here=$(cd "$(dirname "$0")" && pwd)
 folder=$(mktemp -d)
@@ -12,6 +15,7 @@ cd "$here/../../crates"
 if [ $# -eq 0 ]; then set -- $(for tests in */out/*_tests; do echo "${tests%%/*}"; done); fi
 runs=0
 wrong=0
+: > "$folder/assertions"
 
 # Whether a test passed, stopped in a file of tests, or handed an error on.
 is_right() { # its status
@@ -46,7 +50,7 @@ sweep() { # crate, test
 }
 for crate in "$@"; do
   before=$runs
-  for test in $("$crate/out/${crate}_tests" --list | sed -n 's/: test$//p'); do sweep "$crate" "$test"; done
+  for test in $("$crate/out/${crate}_tests" --list | sed -n 's/: test$//p' | grep -e "${ONLY:-}"); do sweep "$crate" "$test"; done
   echo "$crate: $((runs - before)) runs"
 done
 sort -u "$folder/assertions"

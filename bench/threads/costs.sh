@@ -1,7 +1,9 @@
 #!/usr/bin/env bash
 # Prints what a spawn and a steal cost, in instructions (callgrind): a spawn that isn't stolen, with its sync, beyond a call in its place;
 # and a steal with its fold, by runs with 2 and 4 workers of so many more pairs of instances that the steals differ, beyond the same runs
-# with one worker. The second holds what a worker does to find something to steal. Takes valgrind.
+# with one worker. The second holds what a worker does to find something to steal. Below it stands what a steal takes in the functions
+# that begin a stolen strand, and a fold in those that fold a pair, each with what it calls: those that the compiler hasn't put into
+# their callers. Takes valgrind.
 #
 # usage: costs.sh [PROGRAM]      by default ./cilkreport as it is built
 set -eu
@@ -13,6 +15,9 @@ source "$here/../speed/reports.sh"
 fib=24
 spawned=75024 # by fib(24)
 few=2000 many=8000
+# Parts of the names of the functions that begin a stolen strand, and of those that fold a pair.
+beginning='Desk::begin_stolen|Desk::split|Book::split|Chronicle::split|Strand::stolen|Machine::stolen'
+folding='Book::fold_pair|Book::fold_at|fold_kept|Pair::join|Strand::join|Machine::join|Hypermap::fold'
 echo run > "$room/once"
 : > "$room/tables"
 calls $fib > "$room/calls"
@@ -28,26 +33,36 @@ pairs() {
 }
 for count in $few $many; do pairs $count > "$room/pairs$count"; done
 
-# The instructions and the steals of a run.
+# The steals, the folds and the instructions of a run, in the order in which they are told. Its functions are kept.
 counts() { # the report, how many workers
-    valgrind --tool=callgrind --fair-sched=yes --callgrind-out-file=/dev/null \
+    valgrind --tool=callgrind --fair-sched=yes --callgrind-out-file="$room/functions" \
         "$program" "$room/$1" "$room/tables" --workers "$2" --stats < "$room/once" 2>&1 > "$room/answers" |
-        sed -nE 's/.*Collected : //p; s/^stats .* steals ([0-9]+) .*/\1/p' | sort -n | xargs
+        sed -nE 's/^stats .* steals ([0-9]+) folds ([0-9]+) .*/\1 \2/p; s/.*Collected : //p' | xargs
 }
 
-read -r _ called < <(counts calls 1)
-read -r _ all < <(counts spawns 1)
+# What the functions of the last run take whose names have one of the parts, with what they call, for one of so many.
+parts() { # the parts, how many, what they are
+    if [ "$2" = 0 ]; then return; fi
+    callgrind_annotate --inclusive=yes --threshold=100 --auto=no "$room/functions" |
+        sed -nE 's/^ *([0-9,]+) \([^)]*\) +[^ :]*:([^ ].*)$/\1 \2/p' | sed -E 's/ \[[^]]*\]$//; s/::<#[0-9a-f]+>//' |
+        grep -E "$1" | while read -r number name; do echo "    $((${number//,/} / $2)) a $3: $name"; done || true
+}
+
+read -r _ _ called < <(counts calls 1)
+read -r _ _ all < <(counts spawns 1)
 echo "a spawn that isn't stolen, with its sync: $(((all - called) / spawned)) instructions more than a call"
-read -r _ few_alone < <(counts pairs$few 1)
-read -r _ many_alone < <(counts pairs$many 1)
+read -r _ _ few_alone < <(counts pairs$few 1)
+read -r _ _ many_alone < <(counts pairs$many 1)
 for workers in 2 4; do
-    read -r few_steals few_all < <(counts pairs$few $workers)
-    read -r many_steals many_all < <(counts pairs$many $workers)
+    read -r few_steals _ few_all < <(counts pairs$few $workers)
+    read -r many_steals many_folds many_all < <(counts pairs$many $workers)
     more=$((many_all - many_alone - few_all + few_alone))
     steals=$((many_steals - few_steals))
     if [ $steals = 0 ]; then
         echo "$workers workers: nothing was stolen"
     else
         echo "a steal with its fold, by $workers workers: $((more / steals)) instructions, the search for it among them ($steals steals)"
+        parts "$beginning" "$many_steals" steal
+        parts "$folding" "$many_folds" fold
     fi
 done

@@ -1,7 +1,7 @@
 #!/usr/bin/env bash
 # Prints a table of how long runs take by 1, 2 and 4 workers, in milliseconds: the least of five sessions with one run, less that of
-# the session without it. Rows of 24 steps of a generator of numbers each, light rows with grain 1, 64 and 1024, and fib(24) with
-# spawns. Takes ./cilkreport as it is built, or another program of that kind as its first word, and a quiet machine.
+# the session without it. Rows of 78 steps of a generator of numbers each (some 2 us), light rows with grain 1, 64 and 1024, and
+# fib(24) with spawns. Takes ./cilkreport as it is built, or another program of that kind as its first word, and a quiet machine.
 set -eu
 program=$(realpath "${1:-$(dirname "$0")/../../crates/cilkreport/out/cilkreport}")
 room=$(mktemp -d)
@@ -22,7 +22,7 @@ rows() { # how many, the grain, how many steps
     echo "proc main() { cilk_for i in 0 .. $1 grain $2 : row(i); t = read total; return t; }"
 }
 
-rows 100000 16 24 > "$room/heavy"
+rows 100000 16 78 > "$room/heavy"
 rows 1000000 1 0 > "$room/light1"
 rows 1000000 64 0 > "$room/light64"
 rows 1000000 1024 0 > "$room/light1024"
@@ -52,7 +52,7 @@ least() { # the report, the script, how many workers
 echo '| ms | 1 worker | 2 workers | 4 workers |'
 echo '|---|---|---|---|'
 declare -A title=(
-    [heavy]='100,000 rows of 24 steps, grain 16' [light1]='1,000,000 light rows, grain 1' [light64]='the same, grain 64'
+    [heavy]='100,000 rows of 78 steps, grain 16' [light1]='1,000,000 light rows, grain 1' [light64]='the same, grain 64'
     [light1024]='the same, grain 1024' [fib]='fib(24) with spawns'
 )
 for report in heavy light1 light64 light1024 fib; do

@@ -10,6 +10,7 @@ mod programs;
 mod refusals;
 mod replays;
 mod runs;
+mod short;
 mod stubborn;
 mod supply;
 mod tries;

@@ -3,12 +3,10 @@ ghost use Rattle.std.specs.Prelude.{◌≡◌, true, false};
 ghost use Rattle.threaded_driver.specs.Come.{HasEnded};
 
 use crate::notes::{NoNotes, Notes};
-use frames::answer::RunAnswer;
 use input_tables::Tables;
 use linked_program::checked::Checked;
-use positions::phase::Fault;
 use session_edits::{Edit, EditError};
-use worker_core::BookStep;
+use worker_core::{BookStep, Fault, RunAnswer};
 
 /// What is explained.
 #[derive(Clone, Copy)]

@@ -3,10 +3,9 @@ ghost use Rattle.std.specs.Prelude.{◌≡◌, Bool, true, false};
 ghost use Rattle.threaded_driver.specs.Come.{HasEnded};
 
 use crate::explained::Cause;
-use frames::answer::RunAnswer;
 use input_tables::Tables;
 use linked_program::checked::Checked;
-use worker_core::BookStep;
+use worker_core::{BookStep, RunAnswer};
 
 /// Who is told of each run that came to a result or a fault, and of what is refused.
 pub trait Notes {

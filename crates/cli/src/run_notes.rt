@@ -1,5 +1,5 @@
 // Notes of runs, written: the history of each to the trace, and what is counted of each beside it.
-ghost use Rattle.std.specs.Prelude.{◌≡◌, ◌⊎◌, ℕ, List, None, Some, true, false, IfErr, OnOk};
+ghost use Rattle.std.specs.Prelude.{◌≡◌, ◌⊎◌, ℕ, List, None, Some, true, false, IfErr, IfOk, IsSome, OnOk, string_bytes};
 ghost use Rattle.std.specs.Io.KnownBytes.{Appends};
 ghost use Rattle.numbered_runs.specs.Named.{history as steps_of};
 ghost use Rattle.trace_report.specs.Traces.{stats_text, trace_text};
@@ -9,12 +9,11 @@ ghost use Rattle.cli.specs.Noted.{Noted, has_failed, known_of, run_counts_text};
 
 use crate::notes::Notes;
 use crate::streams::{Failures, SessionError, flush, write_whole};
-use frames::answer::RunAnswer;
 use std::alloc::{AllocError, Global};
 use std::io::Write;
 use std::marker::Model;
 use trace_report::trace::{RunCounts, folds, history_text, stats_text, steals};
-use worker_core::BookStep;
+use worker_core::{BookStep, RunAnswer};
 
 /// Why a run couldn't be noted: memory was refused, or a write of its history or of its counts failed.
 #[derive(Clone, Copy, Debug)]
@@ -74,7 +73,7 @@ impl<T: Write + Drop, C: Write + Drop> RunNotes<T, C> {
         self.failure
     }
 
-    // Notes a run that came to its end.
+    // Notes a run that came to its end. Both texts are made before one is written: a run for which memory is refused here has neither.
     fn note(
         &mut self,
         number: usize,
@@ -88,8 +87,10 @@ impl<T: Write + Drop, C: Write + Drop> RunNotes<T, C> {
             (run_counts_text number answer.now (steps_of history.now) kits)) }
         ensures unmarked { self.new.failure ≡ self.old.failure }
     {
-        write_trace(self.alloc, &mut self.trace, number, history)?;
-        write_counts(self.alloc, &mut self.counts, number, answer, history, kits)
+        let trace = trace_for(self.alloc, &self.trace, number, history)?;
+        let counts = counts_for(self.alloc, &self.counts, number, answer, history, kits)?;
+        write_noted(&mut self.trace, trace.as_str(), NotesError::Trace)?;
+        write_noted(&mut self.counts, counts.as_str(), NotesError::Counts)
     }
 }
 
@@ -121,44 +122,52 @@ impl<T: Write + Drop, C: Write + Drop> Notes for RunNotes<T, C> {
     }
 }
 
-// Writes the history of a run, if there is a trace.
-fn write_trace<T: Write>(
+// The text of a run's history, if there is a trace for it.
+fn trace_for<T: Write>(
     alloc: Global,
-    trace: &mut Option<T>,
+    trace: &Option<T>,
     number: usize,
     history: &[BookStep],
-) -> Result<(), NotesError>
-    ensures written { OnOk result (Appends (known_of T.contents trace.old)
-        (known_of T.contents trace.new) (trace_text number (steps_of history.now))) }
+) -> Result<String, NotesError>
+    ensures { IfOk result (λ text. IsSome trace.now
+        → string_bytes text ≡ trace_text number (steps_of history.now)) }
 {
     match trace {
-        None => Ok(()),
-        Some(to) => {
-            let text = history_text(alloc, number, history)?;
-            write_text(to, text.as_str(), NotesError::Trace)
-        }
+        None => Ok(String::new(alloc)),
+        Some(_) => Ok(history_text(alloc, number, history)?),
     }
 }
 
-// Writes what is counted of a run, if there is a stream for it.
-fn write_counts<C: Write>(
+// The line of what is counted of a run, if there is a stream for it.
+fn counts_for<C: Write>(
     alloc: Global,
-    counts: &mut Option<C>,
+    counts: &Option<C>,
     number: usize,
     answer: &RunAnswer,
     history: &[BookStep],
     kits: (usize, usize),
-) -> Result<(), NotesError>
-    ensures written { OnOk result (Appends (known_of C.contents counts.old)
-        (known_of C.contents counts.new)
-        (run_counts_text number answer.now (steps_of history.now) kits)) }
+) -> Result<String, NotesError>
+    ensures { IfOk result (λ text. IsSome counts.now
+        → string_bytes text ≡ run_counts_text number answer.now (steps_of history.now) kits) }
 {
     match counts {
+        None => Ok(String::new(alloc)),
+        Some(_) => Ok(stats_text(alloc, number, counts_of(answer, history, kits))?),
+    }
+}
+
+// Writes a text, if there is a writer for it.
+fn write_noted<W: Write>(
+    to: &mut Option<W>,
+    text: &str,
+    failed: NotesError,
+) -> Result<(), NotesError>
+    ensures written { OnOk result
+        (Appends (known_of W.contents to.old) (known_of W.contents to.new) text.now) }
+{
+    match to {
         None => Ok(()),
-        Some(to) => {
-            let text = stats_text(alloc, number, counts_of(answer, history, kits))?;
-            write_text(to, text.as_str(), NotesError::Counts)
-        }
+        Some(to) => write_text(to, text, failed),
     }
 }
 

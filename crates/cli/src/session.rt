@@ -15,7 +15,6 @@ ghost use Rattle.cli.specs.Written.{HasBeginning, WritesAll, WritesBeginning};
 use crate::explained::Cause;
 use crate::notes::Notes;
 use crate::streams::{Failures, SessionError, flush, read_all, write_whole};
-use frames::answer::RunAnswer;
 use input_tables::Tables;
 use linked_program::checked::Checked;
 use reuse_planner::{ApplyError, Session};
@@ -30,6 +29,7 @@ use threaded_driver::{Gate, run_threads};
 use trace_report::answers::{answer_text, push_unknown};
 use trace_report::edits::{push_accepted, push_edit_refusal};
 use view_pool::View;
+use worker_core::RunAnswer;
 
 /// Answers the script that a reader has, all of it read before anything runs. Each run is by that many threads, 1 to 16,
 /// which the gate watches; the notes are told of each that comes to a result or a fault, and of what is refused. It ends early where memory is

@@ -1,8 +1,8 @@
 // Reports whose texts and answers are those of the files in examples/.
-ghost use Rattle.std.specs.Prelude.{◌<◌, ◌≤◌};
+ghost use Rattle.std.specs.Prelude.{◌<◌, ◌≤◌, false};
 
 use cli::beginning::begin;
-use cli::notes::NoNotes;
+use cli::notes::{NoNotes, Notes};
 use cli::session::session_text;
 use cli::streams::Failures;
 use monoid_laws::Kind;
@@ -12,6 +12,59 @@ use std::sync::Wait;
 use std::thread::Threads;
 use threaded_driver::NoGate;
 use view_pool::PlainView;
+use worker_core::{BookStep, RunAnswer};
+
+const SALES: &[u8] =
+    b"# Each line of the table is worth its quantity times its price. The lines are added up, and the best one is kept with its row.
+reducer total : add;
+reducer top : argmax;
+memo proc line(r) { v = sales[r].qty * sales[r].price; update total v; update top v, r; return v; }
+proc main() { cilk_for r in 1 .. limit sales : line(r); t = read total; return t; }
+";
+
+const SALES_TABLES: &str = "# Each row: its number, then its columns.
+[sales]
+columns = [\"qty\", \"price\"]
+rows = [[1, 2, 5], [2, 3, 7], [3, 1, 100]]
+";
+
+const SALES_SCRIPT: &[u8] = b"run
+# Row 2's price rises from 7 to 9: the run calls `line` for that row alone.
+put sales 2 3 9
+run
+# One row more: the loop goes one further, and calls `line` for row 4 alone.
+put sales 4 10 20
+run
+# Without row 2 the run faults, and leaves the records as they are.
+del sales 2
+run
+put sales 2 3 9
+run
+";
+
+const SALES_ANSWERS: &[u8] = b"run 1
+result 131
+total 131
+top 100 3
+ok
+run 2
+result 137
+total 137
+top 100 3
+ok
+run 3
+result 337
+total 337
+top 200 4
+ok
+run 4
+fault missing row in line at 1
+ok
+run 5
+result 337
+total 337
+top 200 4
+";
 
 const LATENCY: &[u8] =
     b"# Requests by how long they took, in classes of 10 milliseconds; the slowest with its row; for each service how many took
@@ -343,14 +396,43 @@ badge 2
 inside 0
 ";
 
-// What a script is answered.
-fn answers(
+// How many recorded calls the first run has executed, and the second.
+#[derive(Clone, Copy)]
+struct Executed {
+    first: u64,
+    second: u64,
+}
+
+impl Notes for Executed {
+    ghost failed = { λ _. false };
+
+    fn run(
+        &mut self,
+        number: usize,
+        answer: &RunAnswer,
+        _history: &[BookStep],
+        _kits: (usize, usize),
+    ) -> bool {
+        if let RunAnswer::Finished { executed, .. } = answer {
+            match number {
+                1 => self.first = *executed,
+                2 => self.second = *executed,
+                _ => {}
+            }
+        }
+        true
+    }
+}
+
+// What a script is answered; the notes are told of its runs.
+fn answers<N: Notes>(
     rt: &(impl Abort + Threads + Wait + Sync),
     alloc: Global,
     program: &[u8],
     tables: &str,
     script: &[u8],
     workers: usize,
+    notes: &mut N,
 ) -> Vec<u8>
     requires workers { (0 < workers) × (workers ≤ 16) }
 {
@@ -364,7 +446,7 @@ fn answers(
         alloc,
         session,
         workers,
-        &mut NoNotes,
+        notes,
         &NoGate,
         &mut reader,
         &mut written,
@@ -377,14 +459,43 @@ fn answers(
 #[test]
 fn examples_by_one_worker_and_by_more(rt: HostRuntime) {
     for (program, tables, script, wanted) in [
+        (SALES, SALES_TABLES, SALES_SCRIPT, SALES_ANSWERS),
         (LATENCY, LATENCY_TABLES, LATENCY_SCRIPT, LATENCY_ANSWERS),
         (BALANCES, BALANCES_TABLES, BALANCES_SCRIPT, BALANCES_ANSWERS),
         (STOCK, STOCK_TABLES, STOCK_SCRIPT, STOCK_ANSWERS),
         (DOOR, DOOR_TABLES, DOOR_SCRIPT, DOOR_ANSWERS),
     ] {
         for workers in 1..5 {
-            let written = answers(&rt, rt.alloc(), program, tables, script, workers);
+            let written = answers(
+                &rt,
+                rt.alloc(),
+                program,
+                tables,
+                script,
+                workers,
+                &mut NoNotes,
+            );
             assert_eq!(&rt; written.as_slice(), wanted);
         }
     }
+}
+
+// One row changes between the two runs.
+#[test]
+fn calls_of_a_tree_of_ranges(rt: HostRuntime) {
+    let mut executed = Executed {
+        first: 0,
+        second: 0,
+    };
+    let written = answers(
+        &rt,
+        rt.alloc(),
+        STOCK,
+        STOCK_TABLES,
+        STOCK_SCRIPT,
+        1,
+        &mut executed,
+    );
+    assert_eq!(&rt; written.as_slice(), STOCK_ANSWERS);
+    assert_eq!(&rt; (executed.first, executed.second), (38, 5));
 }

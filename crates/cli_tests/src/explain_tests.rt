@@ -152,6 +152,7 @@ define: refused E9 C4 main 5
   A procedure is entered with as many arguments as it has parameters.
   Compare the call with the procedure's parameters.
 define: refused E9 C3 price 3
+  It is `price` that breaks a rule:
   3 | return x;
   A name that a `spawn` binds has its value only after a `sync`.
   Put `sync;` in front of this line, outside any `if`, or use `call` in place of `spawn`.

@@ -18,6 +18,8 @@ mod notes_tests;
 #[cfg(test)]
 mod program_tests;
 #[cfg(test)]
+mod reason_tests;
+#[cfg(test)]
 mod row_tests;
 #[cfg(test)]
 mod script_tests;

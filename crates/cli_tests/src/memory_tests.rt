@@ -8,8 +8,9 @@ use command_line::options::{Options, OptionsError};
 use monoid_laws::Kind;
 use program_reasons::script::Explainer;
 use std::alloc::{AllocError, Global};
+use std::cell::Cell;
 use std::io;
-use std::io::{ErrorKind, Sink, Write};
+use std::io::{ErrorKind, Write};
 use std::process::Abort;
 use std::sync::Wait;
 use std::thread::Threads;
@@ -22,22 +23,40 @@ proc main() { x = spawn leaf(1); y = spawn leaf(2); update total 9; sync; return
 
 const DEEP: &[u8] = b"proc f() { call f(); } proc main() { call f(); }";
 
-// A program's file; that of the tables is empty.
+// A program's file; that of the tables is empty. How long a trace gets is counted.
 #[derive(Clone, Copy)]
 struct Program<'a> {
     text: &'a [u8],
+    trace: &'a Cell<usize>,
 }
 
 impl<'a> FileSource for Program<'a> {
-    type Made = Sink;
+    type Made = Length<'a>;
 
     fn read(&self, alloc: Global, path: &str) -> io::Result<Vec<u8>> {
         let text = if path == "p" { self.text } else { b"" };
         Ok(Vec::from_slice(alloc, text)?)
     }
 
-    fn make(&self, _path: &str) -> io::Result<Sink> {
-        Ok(io::sink())
+    fn make(&self, _path: &str) -> io::Result<Length<'a>> {
+        Ok(Length { bytes: self.trace })
+    }
+}
+
+// A writer that counts its bytes, and takes no memory.
+#[derive(Clone, Copy)]
+struct Length<'a> {
+    bytes: &'a Cell<usize>,
+}
+
+impl<'a> Write for Length<'a> {
+    fn write(&mut self, buf: &[u8]) -> io::Result<usize> {
+        self.bytes.set(self.bytes.get().saturating_add(buf.len()));
+        Ok(buf.len())
+    }
+
+    fn flush(&mut self) -> io::Result<()> {
+        Ok(())
     }
 }
 
@@ -63,7 +82,8 @@ impl Write for Page {
     }
 }
 
-// Whether all of these answers are written, or a beginning of them and then memory was refused.
+// Whether all of these answers are written, or a beginning of them and then memory was refused. The script's one run has a trace and
+// counts, or neither.
 fn is_written(
     rt: &(impl Abort + Threads + Wait + Sync),
     alloc: Global,
@@ -86,19 +106,26 @@ fn is_written(
         bytes: [0; 64],
         len: 0,
     };
+    let (trace, counts) = (Cell::new(0), Cell::new(0));
     let ended = report_on(
         rt,
         alloc,
         options,
         &make,
-        &Program { text },
+        &Program {
+            text,
+            trace: &trace,
+        },
         &mut reader,
         &mut page,
-        io::sink(),
+        Length { bytes: &counts },
         Explainer::new(alloc, io::sink()),
         &mut Failures::none(),
     );
     let written = &page.bytes[..page.len.min(64)];
+    if (trace.get() == 0) != (counts.get() == 0) {
+        return false;
+    }
     match ended {
         Ok(()) => written == answers,
         Err(error) => status(&error) == 3 && answers.starts_with(written),

@@ -1,4 +1,6 @@
 // The trace and the counts of a program's runs, and a trace that fails.
+ghost use Rattle.std.specs.Prelude.{◌<◌, ◌≤◌};
+
 use cli::files::FileSource;
 use cli::notes::NoNotes;
 use cli::program::{report_on, status};
@@ -26,16 +28,6 @@ rows = [[1, 2, 5], [2, 3, 7], [3, 1, 100]]
 ";
 
 const TOO_DEEP: &[u8] = b"proc f() { call f(); } proc main() { call f(); }";
-
-const ASKED: Options<'static> = Options {
-    program: "p",
-    tables: "t",
-    workers: 1,
-    kits: 64,
-    trace: Some("T"),
-    stats: true,
-    explain: false,
-};
 
 // A program, the tables of sales, and the trace `T` in memory, which takes so many bytes; without any it can't be made.
 #[derive(Clone, Copy)]
@@ -97,13 +89,27 @@ struct Report {
     status: u8,
 }
 
+// What comes of a script by so many workers with so many kits, with the trace `T` and counts.
 fn reported(
     rt: &(impl Abort + Threads + Wait + Sync),
     alloc: Global,
     program: &[u8],
     script: &[u8],
+    workers: usize,
+    kits: usize,
     room: Option<usize>,
-) -> Report {
+) -> Report
+    requires workers { (0 < workers) × (workers ≤ 16) }
+{
+    let options = Options {
+        program: "p",
+        tables: "t",
+        workers,
+        kits,
+        trace: Some("T"),
+        stats: true,
+        explain: false,
+    };
     let make = |kind: Kind| -> Result<PlainView, AllocError> { Ok(PlainView::new(alloc, kind)) };
     let trace = RefCell::new(Vec::new(alloc));
     let files = Files {
@@ -117,7 +123,7 @@ fn reported(
     let ended = report_on(
         rt,
         alloc,
-        ASKED,
+        options,
         &make,
         &files,
         &mut reader,
@@ -152,7 +158,7 @@ finish root
 
 #[test]
 fn two_runs(rt: HostRuntime) {
-    let report = reported(&rt, rt.alloc(), LINES, b"run\nrun\n", Some(1000));
+    let report = reported(&rt, rt.alloc(), LINES, b"run\nrun\n", 1, 64, Some(1000));
     assert_eq!(&rt; report.status, 0);
     assert_eq!(&rt; report.trace.as_slice(), TRACE_OF_TWO_RUNS.as_bytes());
     assert_eq!(&rt; report.counts.as_slice(), COUNTS_OF_TWO_RUNS.as_bytes());
@@ -160,7 +166,7 @@ fn two_runs(rt: HostRuntime) {
 
 #[test]
 fn a_fault(rt: HostRuntime) {
-    let report = reported(&rt, rt.alloc(), TOO_DEEP, b"run\n", Some(1000));
+    let report = reported(&rt, rt.alloc(), TOO_DEEP, b"run\n", 1, 64, Some(1000));
     let answers = b"run 1\nfault too deep in f at 1\n".as_slice();
     assert_eq!(&rt; report.status, 0);
     assert_eq!(&rt; report.written.as_slice(), answers);
@@ -171,7 +177,7 @@ fn a_fault(rt: HostRuntime) {
 // A line that is refused is no run.
 #[test]
 fn a_line_with_a_carriage_return(rt: HostRuntime) {
-    let report = reported(&rt, rt.alloc(), LINES, b"run\r\n", Some(1000));
+    let report = reported(&rt, rt.alloc(), LINES, b"run\r\n", 1, 64, Some(1000));
     assert_eq!(&rt; report.written.as_slice(), b"refused E19 1\n".as_slice());
     assert_eq!(&rt; report.trace.len(), 0);
     assert_eq!(&rt; report.counts.len(), 0);
@@ -180,7 +186,7 @@ fn a_line_with_a_carriage_return(rt: HostRuntime) {
 // The answer to the run that couldn't be noted isn't written, nor are its counts.
 #[test]
 fn a_trace_that_fails(rt: HostRuntime) {
-    let report = reported(&rt, rt.alloc(), LINES, b"here\nrun\n", Some(7));
+    let report = reported(&rt, rt.alloc(), LINES, b"here\nrun\n", 1, 64, Some(7));
     assert_eq!(&rt; report.status, 1);
     assert_eq!(&rt; report.said.as_str(), "failed T");
     assert_eq!(&rt; report.written.as_slice(), b"refused E19 1\n".as_slice());
@@ -190,7 +196,7 @@ fn a_trace_that_fails(rt: HostRuntime) {
 
 #[test]
 fn a_trace_that_cannot_be_made(rt: HostRuntime) {
-    let report = reported(&rt, rt.alloc(), LINES, b"here\nrun\n", None);
+    let report = reported(&rt, rt.alloc(), LINES, b"here\nrun\n", 1, 64, None);
     assert_eq!(&rt; report.status, 1);
     assert_eq!(&rt; report.said.as_str(), "failed T");
     assert_eq!(&rt; report.written.len(), 0);
@@ -200,6 +206,129 @@ fn a_trace_that_cannot_be_made(rt: HostRuntime) {
 // A program that is refused is told of before the trace's file.
 #[test]
 fn a_program_before_the_trace(rt: HostRuntime) {
-    let report = reported(&rt, rt.alloc(), b"proc", b"run\n", None);
+    let report = reported(&rt, rt.alloc(), b"proc", b"run\n", 1, 64, None);
     assert_eq!(&rt; report.said.as_str(), "refused E8 1");
+}
+
+const NESTED_READS: &[u8] = b"reducer total : add;
+memo proc line(r) { if has sales[r] { v = sales[r].qty * sales[r].price; update total v; } }
+memo proc all() { cilk_for r in 1 .. limit sales : line(r); }
+proc main() { call all(); t = read total; return t; }
+";
+
+const COUNTDOWN: &[u8] = b"reducer steps : add;
+memo proc down(n) { update steps 1; if n > 0 { call down(n - 1); } return n; }
+proc main() { v = call down(60); return v; }
+";
+
+// A program, how many kits there are, a script, its answers, and the lines of its counts by one worker.
+type Row = (
+    &'static [u8],
+    usize,
+    &'static str,
+    &'static str,
+    &'static str,
+);
+
+const RERUN_ONE_LINE: Row = (
+    LINES,
+    64,
+    "run\nput sales 2 4 7\nrun\n",
+    "run 1\nresult 131\ntotal 131\ntop 100 3\nok\nrun 2\nresult 138\ntotal 138\ntop 100 3\n",
+    "stats 1 executed 3 reused 0 unrecorded 0 steals 0 folds 0 kits 64 of 64
+stats 2 executed 1 reused 2 unrecorded 0 steals 0 folds 0 kits 64 of 64
+",
+);
+
+const ABSENT_ROW: Row = (
+    LINES,
+    64,
+    "run\nput sales 5 1 1\nrun\n",
+    "run 1\nresult 131\ntotal 131\ntop 100 3\nok\nrun 2\nfault missing row in line at 1\n",
+    "stats 1 executed 3 reused 0 unrecorded 0 steals 0 folds 0 kits 64 of 64\nstats 2 none\n",
+);
+
+const THERE_AND_BACK: Row = (
+    LINES,
+    64,
+    "run\nput sales 2 4 7\nput sales 2 3 7\nrun\n",
+    "run 1\nresult 131\ntotal 131\ntop 100 3\nok\nok\nrun 2\nresult 131\ntotal 131\ntop 100 3\n",
+    COUNTS_OF_TWO_RUNS,
+);
+
+// The loop's instance has read which row is the last; each line has read its own row.
+const NESTED_MEMO_READS: Row = (
+    NESTED_READS,
+    64,
+    "run\nput sales 5 1 1\nrun\nput sales 4 2 2\nrun\nput sales 1 2 6\nrun\n",
+    "run 1\nresult 131\ntotal 131
+ok\nrun 2\nresult 132\ntotal 132
+ok\nrun 3\nresult 136\ntotal 136
+ok\nrun 4\nresult 138\ntotal 138\n",
+    "stats 1 executed 4 reused 0 unrecorded 0 steals 0 folds 0 kits 64 of 64
+stats 2 executed 3 reused 3 unrecorded 0 steals 0 folds 0 kits 64 of 64
+stats 3 executed 2 reused 4 unrecorded 0 steals 0 folds 0 kits 64 of 64
+stats 4 executed 2 reused 4 unrecorded 0 steals 0 folds 0 kits 64 of 64
+",
+);
+
+// A record fits where its height does: entered by `b` it begins at depth 4, by `c` at depth 5.
+const HEIGHTS: Row = (
+    COUNTDOWN,
+    64,
+    "run
+define
+proc b() { v = call down(60); return v; }
+proc a() { v = call b(); return v; }
+proc main() { v = call a(); return v; }
+end
+run
+define
+proc c() { v = call down(60); return v; }
+proc b() { v = call c(); return v; }
+end
+run
+",
+    "run 1\nresult 60\nsteps 61\nok\nrun 2\nresult 60\nsteps 61\nok\nrun 3\nfault too deep in down at 3\n",
+    "stats 1 executed 61 reused 0 unrecorded 0 steals 0 folds 0 kits 64 of 64
+stats 2 executed 0 reused 1 unrecorded 0 steals 0 folds 0 kits 64 of 64
+stats 3 none
+",
+);
+
+const FEW_KITS: Row = (
+    LINES,
+    8,
+    "run\nrun\n",
+    "run 1\nresult 131\ntotal 131\ntop 100 3\nrun 2\nresult 131\ntotal 131\ntop 100 3\n",
+    "stats 1 executed 3 reused 0 unrecorded 0 steals 0 folds 0 kits 8 of 8
+stats 2 executed 0 reused 3 unrecorded 0 steals 0 folds 0 kits 8 of 8
+",
+);
+
+const ROWS: [Row; 6] = [
+    RERUN_ONE_LINE,
+    ABSENT_ROW,
+    THERE_AND_BACK,
+    NESTED_MEMO_READS,
+    HEIGHTS,
+    FEW_KITS,
+];
+
+// Whether a row has its answers and its counts by one worker, and its answers by four.
+fn is_reported(rt: &(impl Abort + Threads + Wait + Sync), alloc: Global, row: Row) -> bool {
+    let (program, kits, script, answers, counts) = row;
+    let alone = reported(rt, alloc, program, script.as_bytes(), 1, kits, Some(100000));
+    let by_four = reported(rt, alloc, program, script.as_bytes(), 4, kits, Some(100000));
+    alone.written.as_slice() == answers.as_bytes()
+        && alone.counts.as_slice() == counts.as_bytes()
+        && by_four.written.as_slice() == answers.as_bytes()
+}
+
+#[test]
+fn rows_by_one_worker_and_by_four(rt: HostRuntime) {
+    for row in ROWS {
+        let (_, _, script, _, _) = row;
+        assert!(&rt; is_reported(&rt, rt.alloc(), row), "{script}");
+    }
 }

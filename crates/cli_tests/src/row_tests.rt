@@ -112,6 +112,20 @@ fn is_answered(
     assert_eq!(rt; written.as_slice(), answer.as_bytes());
 }
 
+// By one worker, and by two, four and sixteen.
+fn is_always_answered(
+    rt: &(impl Abort + Threads + Wait + Sync),
+    alloc: Global,
+    program: &str,
+    kits: usize,
+    answer: &str,
+) {
+    is_answered(rt, alloc, program, 1, kits, answer);
+    is_answered(rt, alloc, program, 2, kits, answer);
+    is_answered(rt, alloc, program, 4, kits, answer);
+    is_answered(rt, alloc, program, 16, kits, answer);
+}
+
 #[test]
 fn by_each_number_of_workers(rt: HostRuntime) {
     for workers in 1..17 {
@@ -136,14 +150,7 @@ fn by_each_number_of_workers(rt: HostRuntime) {
 
 #[test]
 fn without_a_kit_to_steal_with(rt: HostRuntime) {
-    is_answered(
-        &rt,
-        rt.alloc(),
-        LISTS,
-        16,
-        1,
-        "run 1\nresult 3\nseen 1 2 9\n",
-    );
+    is_always_answered(&rt, rt.alloc(), LISTS, 1, "run 1\nresult 3\nseen 1 2 9\n");
 }
 
 #[test]
@@ -173,7 +180,7 @@ fn values_of_each_kind(rt: HostRuntime) {
         (SUM_OF_THREE, "run 1\nresult 0\nm 1\n"),
         (NO_ELEMENT, "run 1\nfault bad element in main at 1\n"),
     ] {
-        is_answered(&rt, rt.alloc(), program, 2, 64, answer);
+        is_always_answered(&rt, rt.alloc(), program, 64, answer);
     }
 }
 
@@ -181,15 +188,14 @@ fn values_of_each_kind(rt: HostRuntime) {
 fn quotients_wrap(rt: HostRuntime) {
     let quotient = "proc main() { return (-9223372036854775807 - 1) / -1; }";
     let rest = "proc main() { return (-9223372036854775807 - 1) % -1; }";
-    is_answered(
+    is_always_answered(
         &rt,
         rt.alloc(),
         quotient,
         1,
-        1,
         "run 1\nresult -9223372036854775808\n",
     );
-    is_answered(&rt, rt.alloc(), rest, 1, 1, "run 1\nresult 0\n");
+    is_always_answered(&rt, rt.alloc(), rest, 1, "run 1\nresult 0\n");
 }
 
 #[test]
@@ -199,17 +205,16 @@ fn ranges_of_loops(rt: HostRuntime) {
         (TOO_LONG, "run 1\nfault range too long in main at 1\n"),
         (FAR_TOO_LONG, "run 1\nfault range too long in main at 1\n"),
     ] {
-        is_answered(&rt, rt.alloc(), program, 4, 64, answer);
+        is_always_answered(&rt, rt.alloc(), program, 64, answer);
     }
 }
 
 #[test]
 fn the_longest_loop(rt: HostRuntime) {
-    is_answered(
+    is_always_answered(
         &rt,
         rt.alloc(),
         LONGEST_LOOP,
-        1,
         64,
         "run 1\nresult 0\nn 1048576\n",
     );
@@ -217,11 +222,10 @@ fn the_longest_loop(rt: HostRuntime) {
 
 #[test]
 fn the_first_fault_in_serial_order(rt: HostRuntime) {
-    is_answered(
+    is_always_answered(
         &rt,
         rt.alloc(),
         TWO_FAULTS,
-        2,
         64,
         "run 1\nfault divide by zero in bad at 1\n",
     );

@@ -10,7 +10,7 @@ use linked_program::checked::Checked;
 use meaning::FaultKind;
 use missing_rows::first_missing;
 use positions::phase::Fault;
-use session_edits::Edit;
+use session_edits::{Edit, EditError};
 use std::alloc::{AllocError, Global};
 use std::fmt::Write;
 use trace_report::answers;
@@ -18,6 +18,9 @@ use trace_report::edits::push_edit_refusal;
 
 // How many values of a put are shown.
 const MOST_SHOWN: usize = 10;
+
+// How the lines under a refusal begin where they say whose the broken rule is.
+const HOLDER: &str = "  It is `";
 
 /// What is said of a cause: a line with what was asked for and its answer, and lines in plain words under it. Want of memory is the only
 /// error.
@@ -32,7 +35,7 @@ pub fn explanation(
         Cause::Edit(edit, error) => {
             push_edit(&mut text, edit)?;
             push_edit_refusal(&mut text, error)?;
-            push_refused(alloc, &mut text, edit, error, checked.program(), tables)?;
+            push_under_edit(alloc, &mut text, edit, error, checked, tables)?;
         }
         Cause::Line(script, line) => {
             answers::push_unknown(&mut text, line)?;
@@ -41,6 +44,34 @@ pub fn explanation(
         Cause::Fault(number, fault) => push_run(alloc, &mut text, number, *fault, checked, tables)?,
     }
     Ok(text)
+}
+
+/// Puts who breaks a rule, a procedure or a reducer by its name, at the end of the text; nothing where there is no name. Want of memory is
+/// the only error.
+pub fn push_holder(text: &mut String, name: &str) -> Result<(), AllocError> {
+    if name.is_empty() {
+        return Ok(());
+    }
+    write!(text, "  It is `{name}` that breaks a rule:\n")
+}
+
+// Puts the lines under an edit that is refused. Those of a procedure that stays as it is say its name themselves.
+fn push_under_edit(
+    alloc: Global,
+    text: &mut String,
+    edit: &Edit<'_>,
+    error: &EditError,
+    checked: &Checked,
+    tables: &Tables,
+) -> Result<(), AllocError> {
+    let mut under = String::new(alloc);
+    push_refused(alloc, &mut under, edit, error, checked.program(), tables)?;
+    if let EditError::Broken { holder, .. } = error {
+        if !under.as_str().starts_with(HOLDER) {
+            push_holder(text, holder.as_str())?;
+        }
+    }
+    text.push_str(under.as_str())
 }
 
 // Puts an edit as it stands in a script, and a colon; of a define its first word.

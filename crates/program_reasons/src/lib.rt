@@ -4,6 +4,7 @@
 pub mod causes;
 pub mod script;
 
+use crate::causes::push_holder;
 use cli::files::{FileSource, SystemFiles};
 use cli::prepare::PrepareError;
 use cli::program::ProgramError;
@@ -65,7 +66,8 @@ pub fn reasons(
         PrepareError::Text { line } => push_bad_program(alloc, &mut text, program, *line)?,
         PrepareError::NotToml => push_bad_toml(alloc, &mut text, tables)?,
         PrepareError::Shape { table } => push_bad_table(alloc, &mut text, tables, table.as_str())?,
-        PrepareError::Check { rule, line, .. } => {
+        PrepareError::Check { rule, name, line } => {
+            push_holder(&mut text, name.as_str())?;
             push_shown(&mut text, program, *line)?;
             push_rule(&mut text, *rule)?;
         }

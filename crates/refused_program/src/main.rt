@@ -1,9 +1,11 @@
 //! The program as `cilkreport` is, stored with a run whose program is refused: it ends with status 1.
 #![tactic(auto)]
 
-use cli::notes::NoNotes;
+use cli::files::StandardError;
 use cli::program::{ending, report};
 use monoid_laws::Kind;
+use program_reasons::script::Explainer;
+use program_reasons::{reasons_of, show};
 use std::alloc::AllocError;
 use std::process::ExitCode;
 use view_pool::{PlainView, View};
@@ -13,5 +15,10 @@ fn main(rt: HostRuntime) -> ExitCode {
     let make = |kind: Kind| -> Result<Box<dyn View>, AllocError> {
         Ok(Box::new(alloc, PlainView::new(alloc, kind))?)
     };
-    ending(&rt, report(&rt, alloc, &make, NoNotes))
+    let explainer = Explainer::new(alloc, StandardError { rt: &rt });
+    let reported = report(&rt, alloc, &make, explainer);
+    let reasons = reasons_of(&rt, alloc, &reported);
+    let status = ending(&rt, reported);
+    show(&rt, reasons.as_str());
+    status
 }

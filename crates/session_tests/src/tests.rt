@@ -2,11 +2,13 @@
 
 mod beginning;
 mod drawn;
+mod exhausted;
 mod fitting;
 mod model;
 mod playing;
 mod programs;
 mod random;
+mod refused;
 mod rows;
 mod scripts;
 mod sessions;

@@ -8,6 +8,8 @@ mod floors;
 mod meeting;
 mod programs;
 mod refusals;
+mod refused_folds;
 mod reruns;
 mod strands;
+mod stubborn;
 mod views;

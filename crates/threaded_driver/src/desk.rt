@@ -1,10 +1,11 @@
 //! What stands under the one lock.
-ghost use Rattle.std.specs.Prelude.{◌≡◌, ◌<◌, ◌==◌, ◌||◌, true, false, None, All, length, IfSome, IfOk, IfErr};
+ghost use Rattle.std.specs.Prelude.{◌≡◌, ◌<◌, ◌==◌, ◌||◌, true, false, None, Some, All, length, IfSome, IfOk, IfErr};
 ghost use Rattle.sync_fold.specs.Books.{is_ended};
 ghost use Rattle.threaded_driver.specs.Come.{HasEnded};
 ghost use Rattle.threaded_driver.specs.Ends.{IsEnd};
 ghost use Rattle.threaded_driver.specs.Finds.{is_left};
-ghost use Rattle.threaded_driver.specs.Over.{is_over, is_right, is_refusal, is_noted};
+ghost use Rattle.threaded_driver.specs.Over.{is_over, is_right, is_refusal, is_noted, has_failed};
+ghost use Rattle.threaded_driver.specs.declared.failure.Failure.TheVariants as reason;
 
 use crate::beginning::NewDeques;
 use crate::ended::{Ended, kept_of};
@@ -109,6 +110,7 @@ fn oldest_among<J: Run + Send, D: Deques>(
 /// Why a run gives up that was refused a step so.
 fn failure_of(refusal: BookError) -> Failure
     ensures right { is_right result ≡ true }
+    ensures kept { is_refusal refusal ≡ true → result ≡ reason.Refused refusal }
 {
     match refusal {
         BookError::NoMemory => Failure::NoMemory,
@@ -193,6 +195,7 @@ impl<J: Run + Ledger + Stocked + Send, D: Deques, V: View> Desk<J, D, V> {
         requires left { 0 < seat.left }
         ensures end { IfOk result.0 (IsEnd J.setting) }
         ensures refusal { IfErr result.0 (λ m. is_refusal m.refusal ≡ true) }
+        ensures noted { IfErr result.0 (λ m. self.failure ≡ Some (reason.Refused m.refusal)) }
         ensures home { IfOk result.0 (λ e. HasEnded e.answer → result.1 ≡ kits) }
     {
         seat.audit(&mut self.leavers);
@@ -209,6 +212,7 @@ impl<J: Run + Ledger + Stocked + Send, D: Deques, V: View> Desk<J, D, V> {
         requires over { is_over self.book self.failure ≡ true }
         ensures end { IfOk result.0 (IsEnd J.setting) }
         ensures refusal { IfErr result.0 (λ m. is_refusal m.refusal ≡ true) }
+        ensures noted { IfErr result.0 (λ m. self.failure ≡ Some (reason.Refused m.refusal)) }
         ensures home { IfOk result.0 (λ e. HasEnded e.answer → result.1 ≡ kits) }
     {
         let Desk {
@@ -238,6 +242,8 @@ impl<J: Run + Ledger + Stocked + Send, D: Deques, V: View> Desk<J, D, V> {
     pub(crate) fn fail(&mut self, failure: Failure)
         requires right { is_right failure ≡ true }
         ensures left { self.new.left ≡ self.old.left }
+        ensures first { self.old.failure ≡ None → self.new.failure ≡ Some failure }
+        ensures stays { has_failed self.old.failure ≡ true → self.new.failure ≡ self.old.failure }
     {
         if self.failure.is_none() {
             self.failure = Some(failure);
@@ -247,6 +253,8 @@ impl<J: Run + Ledger + Stocked + Send, D: Deques, V: View> Desk<J, D, V> {
     /// The same for a step that was refused so.
     fn refuse(&mut self, refusal: BookError)
         ensures left { self.new.left ≡ self.old.left }
+        ensures noted { is_refusal refusal ≡ true → self.old.failure ≡ None
+            → self.new.failure ≡ Some (reason.Refused refusal) }
     {
         self.fail(failure_of(refusal));
     }

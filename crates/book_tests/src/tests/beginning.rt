@@ -49,10 +49,20 @@ pub fn kits(rt: &impl Abort, alloc: Global, kinds: &[Kind], count: usize) -> Vec
     kits
 }
 
-/// The session of the program that a text is, on the sales, with many kits.
-pub fn session(rt: &impl Abort, alloc: Global, text: &str) -> Session<PlainView> {
+/// The session of the program that a text is, on the sales, with so many kits.
+pub fn session_with(
+    rt: &impl Abort,
+    alloc: Global,
+    text: &str,
+    count: usize,
+) -> Session<PlainView> {
     let tables = sales(rt, alloc);
     let program = checked(rt, alloc, text, &tables);
-    let kits = kits(rt, alloc, program.kinds(), 64);
+    let kits = kits(rt, alloc, program.kinds(), count);
     Session::new(alloc, program, tables, kits).expect(rt, "a session")
+}
+
+/// The same with many kits.
+pub fn session(rt: &impl Abort, alloc: Global, text: &str) -> Session<PlainView> {
+    session_with(rt, alloc, text, 64)
 }

@@ -8,13 +8,14 @@ ghost use Rattle.rerun_records.specs.Named.{HaveValues};
 ghost use Rattle.positions.specs.Setting.{setting_with};
 ghost use Rattle.numbered_runs.specs.News.{AreSound};
 
-use super::beginning::session;
+use super::beginning::session_with;
 use super::crew::Crew;
 use super::mixed::{go_on, standing};
 use super::printing::answer_text;
 use super::programs::TWO_LISTS;
 use super::stubborn::Stubborn;
 use super::words::place;
+use frames::answer::RunAnswer;
 use input_tables::Tables;
 use linked_program::checked::Checked;
 use monoid_laws::Kind;
@@ -38,12 +39,17 @@ fn are_two_lists(kinds: &[Kind]) -> bool
     }
 }
 
-/// A kit of two lists; the second one refuses once, if it is to.
-fn kit(rt: &impl Abort, alloc: Global, refuses: bool, drops: &Arc<AtomicUsize>) -> Kit<Stubborn>
+/// A kit of two lists, of which those refuse once that are to.
+fn kit(
+    rt: &impl Abort,
+    alloc: Global,
+    refuses: (bool, bool),
+    drops: &Arc<AtomicUsize>,
+) -> Kit<Stubborn>
     ensures kinds { result ≡ ListKind ∷ ListKind ∷ [] }
 {
-    let one = Stubborn::new(alloc, false, drops.clone().expect(rt, "memory"));
-    let two = Stubborn::new(alloc, refuses, drops.clone().expect(rt, "memory"));
+    let one = Stubborn::new(alloc, refuses.0, drops.clone().expect(rt, "memory"));
+    let two = Stubborn::new(alloc, refuses.1, drops.clone().expect(rt, "memory"));
     let mut views = Vec::new(alloc);
     if views.push(one).is_err() || views.push(two).is_err() {
         panic!(rt; "memory");
@@ -51,12 +57,17 @@ fn kit(rt: &impl Abort, alloc: Global, refuses: bool, drops: &Arc<AtomicUsize>) 
     Kit::reset(views)
 }
 
-/// Two such kits. The second one, whose second list refuses once, is taken first.
-fn pool(rt: &impl Abort, alloc: Global, drops: &Arc<AtomicUsize>) -> Pool<Kit<Stubborn>>
+/// Two such kits. The second one, of which these lists refuse once, is taken first.
+fn pool(
+    rt: &impl Abort,
+    alloc: Global,
+    second: (bool, bool),
+    drops: &Arc<AtomicUsize>,
+) -> Pool<Kit<Stubborn>>
     ensures kits { All (λ k. k ≡ ListKind ∷ ListKind ∷ []) result.kits }
 {
     let mut kits = Vec::new(alloc);
-    for refuses in [false, true] {
+    for refuses in [(false, false), second] {
         if kits.push(kit(rt, alloc, refuses, drops)).is_err() {
             panic!(rt; "memory");
         }
@@ -66,12 +77,28 @@ fn pool(rt: &impl Abort, alloc: Global, drops: &Arc<AtomicUsize>) -> Pool<Kit<St
 
 /// The child of `main` is at its end, and `main` is at its sync: the first strand is worker 0's, the other worker 1's. Both are
 /// laid down.
-fn lead<J: Run, V: View>(rt: &impl Abort, crew: &mut Crew<'_, J, V>) {
+pub fn lead<J: Run, V: View>(rt: &impl Abort, crew: &mut Crew<'_, J, V>) {
     go_on(rt, crew, 0);
     assert!(rt; crew.push(rt, 0) && crew.steal(rt, 1, 0));
     go_on(rt, crew, 0);
     go_on(rt, crew, 1);
     assert!(rt; crew.stall(rt, 0) && crew.stall(rt, 1));
+}
+
+/// The answer of the run once its two strands are one; both kits are home.
+pub fn finished<J: Run, V: View>(
+    rt: &impl Abort,
+    alloc: Global,
+    mut crew: Crew<'_, J, V>,
+) -> String {
+    go_on(rt, &mut crew, 2);
+    assert!(rt; crew.stall(rt, 2));
+    let ended = crew.end(rt);
+    if matches!(ended.answer, RunAnswer::NoMemory) {
+        panic!(rt; "memory");
+    }
+    assert_eq!(rt; ended.kits, (2, 2));
+    answer_text(alloc, &ended.answer).expect(rt, "memory")
 }
 
 /// A fold that is refused leaves the list and the history.
@@ -91,26 +118,28 @@ enum Again {
     Never,
 }
 
-/// The answer of the run, whose one fold is refused once.
+/// The answer of the run, whose one fold is refused once for each list that refuses.
 fn folded<J: Run, V: View>(
     rt: &impl Abort,
     alloc: Global,
     mut crew: Crew<'_, J, V>,
+    refuses: (bool, bool),
     again: Again,
 ) -> String {
     lead(rt, &mut crew);
-    is_refused(rt, alloc, &mut crew);
+    if refuses.0 {
+        is_refused(rt, alloc, &mut crew);
+    }
+    if refuses.1 {
+        is_refused(rt, alloc, &mut crew);
+    }
     let (left, right) = (place(rt, alloc, b'r'), place(rt, alloc, b'1'));
     match again {
         Again::Pair => assert!(rt; crew.fold_pair(&left, &right, 2).is_ok()),
         Again::Any => assert_eq!(rt; crew.fold_any(2), Some(Ok(()))),
         Again::Never => return String::new(alloc),
     }
-    go_on(rt, &mut crew, 2);
-    assert!(rt; crew.stall(rt, 2));
-    let ended = crew.end(rt);
-    assert_eq!(rt; ended.kits, (2, 2));
-    answer_text(alloc, &ended.answer).expect(rt, "memory")
+    finished(rt, alloc, crew)
 }
 
 /// The same of a program with two lists.
@@ -121,6 +150,7 @@ fn folds<J: Run, V: View>(
     tables: &Tables,
     records: &Records,
     pool: Pool<Kit<V>>,
+    refuses: (bool, bool),
     again: Again,
 ) -> String
     requires same { setting_with program.now tables.now.tables [] records.now ≡ J.setting }
@@ -132,32 +162,57 @@ fn folds<J: Run, V: View>(
     requires kits { All (λ k. k ≡ ListKind ∷ ListKind ∷ []) pool.kits }
 {
     let scene = Scene::<J>::new(program, tables, records);
-    folded(rt, alloc, Crew::start(rt, alloc, scene, pool, 3), again)
+    let crew = Crew::start(rt, alloc, scene, pool, 3);
+    folded(rt, alloc, crew, refuses, again)
 }
 
-/// The answer of the run that is tried again so, and how many views were dropped at its end.
-fn tried(rt: &impl Abort, alloc: Global, again: Again) -> (String, usize) {
+/// The answer of the run in which these lists refuse, and whose fold is tried again so, and how many views were dropped at its end.
+fn tried(
+    rt: &impl Abort,
+    alloc: Global,
+    refuses: (bool, bool),
+    again: Again,
+) -> (String, usize) {
     let drops = Arc::new(alloc, AtomicUsize::new(0)).expect(rt, "memory");
-    let session = session(rt, alloc, TWO_LISTS);
+    let session = session_with(rt, alloc, TWO_LISTS, 1);
     session.kept();
     let (program, tables, records) = (session.checked(), session.tables(), session.records());
     if !are_two_lists(program.kinds()) {
         panic!(rt; "other kinds");
     }
-    let pool = pool(rt, alloc, &drops);
-    let text = folds::<Brand, Stubborn>(rt, alloc, program, tables, records, pool, again);
+    let pool = pool(rt, alloc, refuses, &drops);
+    let text = folds::<Brand, Stubborn>(
+        rt, alloc, program, tables, records, pool, refuses, again,
+    );
     (text, drops.load(Ordering::Relaxed))
 }
 
 /// Two kits of two views are dropped, each view once; also where the run is given up with the fold refused.
-#[test]
-fn refused_fold_is_tried_again(rt: HostRuntime) {
+fn all_tries(rt: &impl Abort, alloc: Global, refuses: (bool, bool)) {
     for (again, wanted) in [
         (Again::Pair, "result 1; 1 2; 1 2"),
         (Again::Any, "result 1; 1 2; 1 2"),
         (Again::Never, ""),
     ] {
-        let (text, drops) = tried(&rt, rt.alloc(), again);
-        assert_eq!(&rt; (text.as_str(), drops), (wanted, 4), "{again:?}");
+        let (text, drops) = tried(rt, alloc, refuses, again);
+        assert_eq!(rt; (text.as_str(), drops), (wanted, 4), "{again:?}");
     }
+}
+
+/// Nothing has moved to the left by then.
+#[test]
+fn first_list_refuses(rt: HostRuntime) {
+    all_tries(&rt, rt.alloc(), (true, false));
+}
+
+/// The first list has moved to the left by then.
+#[test]
+fn second_list_refuses(rt: HostRuntime) {
+    all_tries(&rt, rt.alloc(), (false, true));
+}
+
+/// The fold is refused twice; each try gets further.
+#[test]
+fn both_lists_refuse(rt: HostRuntime) {
+    all_tries(&rt, rt.alloc(), (true, true));
 }

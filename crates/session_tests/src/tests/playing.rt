@@ -2,7 +2,7 @@
 ghost use Rattle.std.specs.Prelude.{◌<◌, ◌≤◌};
 
 use linked_program::checked::Checked;
-use reuse_planner::{ApplyError, Session};
+use reuse_planner::{Answer, ApplyError, Command as SessionCommand, Session};
 use script_reader::command::Command;
 use script_reader::script::commands;
 use session_edits::Edit;
@@ -14,7 +14,7 @@ use threaded_driver::{NoGate, run_threads};
 use trace_report::answers::{push_outcome, push_unknown};
 use trace_report::edits::{push_accepted, push_edit_refusal};
 use view_pool::View;
-use worker_core::RunAnswer;
+use worker_core::{RunAnswer, Step};
 
 /// What a script was answered.
 #[derive(Drop)]
@@ -85,6 +85,39 @@ impl Answers {
         push_counts(&mut self.counts, answer)
     }
 
+    /// Notes what a command of the session was answered.
+    fn note_one(
+        &mut self,
+        alloc: Global,
+        program: &Checked,
+        answer: &Answer,
+    ) -> Result<(), AllocError> {
+        match answer {
+            Answer::Edit(edited) => push_edited(&mut self.lines, edited),
+            Answer::Run(came) => self.note(alloc, program, came),
+        }
+    }
+
+    /// Notes what the commands of a script were answered, and where a line of it is none.
+    fn note_all(
+        &mut self,
+        alloc: Global,
+        program: &Checked,
+        script: &[Command<'_>],
+        answers: &[Answer],
+    ) -> Result<(), AllocError> {
+        let mut next = 0;
+        for command in script {
+            if let Command::Unknown(line) = command {
+                push_unknown(&mut self.lines, *line)?;
+            } else if next < answers.len() {
+                self.note_one(alloc, program, &answers[next])?;
+                next += 1;
+            }
+        }
+        Ok(())
+    }
+
     /// Runs the session by so many threads.
     fn run<V: View>(
         &mut self,
@@ -143,5 +176,53 @@ pub fn play<V: View>(
     for command in commands.iter() {
         answers.answer(rt, alloc, session, workers, command)?;
     }
+    Ok(answers)
+}
+
+/// Steps of one worker, which goes on until it can't; a child that it spawns becomes a call.
+fn steps_alone(alloc: Global) -> Result<Vec<Step>, AllocError> {
+    let mut steps = Vec::new(alloc);
+    for _ in 0..50 {
+        for _ in 0..30 {
+            steps.push(Step::Work(0))?;
+        }
+        steps.push(Step::Inline(0))?;
+        steps.push(Step::Pop(0))?;
+        steps.push(Step::Stall(0))?;
+    }
+    Ok(steps)
+}
+
+/// What a script asks of a session, each run by the steps of one worker. A line that is no command asks for nothing.
+pub fn session_commands<'a>(
+    alloc: Global,
+    script: &'a [u8],
+) -> Result<Vec<SessionCommand<'a>>, AllocError> {
+    let script = commands(alloc, script)?;
+    let mut asked = Vec::new(alloc);
+    for command in script {
+        match command {
+            Command::Unknown(_) => {}
+            Command::Change(edit) => asked.push(SessionCommand::Edit(edit))?,
+            Command::Run => {
+                let steps = steps_alone(alloc)?;
+                asked.push(SessionCommand::Run { workers: 1, steps })?;
+            }
+        }
+    }
+    Ok(asked)
+}
+
+/// Plays a script by one call of the session, with runs by the steps of one worker.
+pub fn play_at_once<V: View>(
+    alloc: Global,
+    session: &mut Session<V>,
+    script: &[u8],
+) -> Result<Answers, AllocError> {
+    let asked = session_commands(alloc, script)?;
+    let given = session.play(alloc, &asked)?;
+    let mut answers = no_answers(alloc);
+    let script = commands(alloc, script)?;
+    answers.note_all(alloc, session.checked(), &script, &given)?;
     Ok(answers)
 }

@@ -1,8 +1,8 @@
-//! Scripts whose answers were found by hand, in sessions with few kits and many, and by one worker and more.
+//! Scripts whose answers were found by hand, in sessions with few kits and many, by one worker and more, and by one call.
 ghost use Rattle.std.specs.Prelude.{◌<◌, ◌≤◌};
 
 use super::beginning::session;
-use super::playing::{Answers, play};
+use super::playing::{Answers, play, play_at_once};
 use super::programs::LINES;
 use super::rows::{ROWS, Row};
 use std::alloc::Global;
@@ -71,14 +71,44 @@ fn all_answers(
     }
 }
 
+/// The fewest of which one can steal.
+#[test]
+fn by_two_workers(rt: HostRuntime) {
+    all_answers(&rt, rt.alloc(), 2, 64);
+}
+
 #[test]
 fn by_four_workers(rt: HostRuntime) {
     all_answers(&rt, rt.alloc(), 4, 64);
 }
 
+/// Most of them find nothing to steal.
+#[test]
+fn by_sixteen_workers(rt: HostRuntime) {
+    all_answers(&rt, rt.alloc(), 16, 64);
+}
+
 #[test]
 fn by_sixteen_workers_with_one_kit(rt: HostRuntime) {
     all_answers(&rt, rt.alloc(), 16, 1);
+}
+
+/// Compares the answers of a row and its counts, where all of its commands are played by one call.
+fn is_played_at_once(rt: &impl Abort, alloc: Global, row: Row) {
+    let (text, script, lines, counts) = row;
+    let mut session = session(rt, alloc, text, 64);
+    let found = play_at_once(alloc, &mut session, script.as_bytes()).expect(rt, "memory");
+    assert_eq!(rt; found.lines.as_str(), lines, "{script}");
+    assert_eq!(rt; found.counts.as_str(), counts, "{script}");
+    assert_eq!(rt; session.kits(), (64, 64));
+}
+
+/// The same answers and counts as those of runs by a thread.
+#[test]
+fn all_commands_by_one_call(rt: HostRuntime) {
+    for row in ROWS {
+        is_played_at_once(&rt, rt.alloc(), row);
+    }
 }
 
 const TWO_RUNS: &str = "result 131\ntotal 131\ntop 100 3\nresult 131\ntotal 131\ntop 100 3\n";

@@ -1,4 +1,4 @@
-//! Each call of a session: runs by lines of steps, commands, the pool, and what is lent.
+//! Each call of a session: runs by lines of steps, commands, the pool, what is lent, and what many edits leave.
 //!
 //! A line has a word for each step, with the worker's number: `W0` is a small step, `W0*` a hundred of them, `P0` a push, `O0` pops,
 //! `L0` lays the strand down, `S10` steals for worker 1 from worker 0, and `F0@1` folds at the place 1.
@@ -12,6 +12,8 @@ use reuse_planner::{Answer, Command, Session};
 use session_edits::Edit;
 use std::alloc::{AllocError, Global};
 use std::process::Abort;
+use std::sync::Wait;
+use std::thread::Threads;
 use view_pool::{Kit, PlainView, Pool, View};
 use worker_core::{Record, StartError, Step};
 
@@ -321,4 +323,71 @@ fn records_fit_as_deep_as_they_are_high(rt: HostRuntime) {
     assert_eq!(&rt; found.counts.as_str(), "61 0 0; ");
     assert_eq!(&rt; height_at(&rt, rt.alloc(), &session, 4), Some(61));
     assert_eq!(&rt; height_at(&rt, rt.alloc(), &session, 5), None);
+}
+
+/// Plays a script three hundred times in a session, each time with these answers and counts. At the end each row has one record,
+/// all kits are free, and the program is as long as it was.
+fn stays_level(
+    rt: &(impl Abort + Threads + Wait + Sync),
+    alloc: Global,
+    script: &[u8],
+    lines: &str,
+    counts: &str,
+) {
+    let mut session = session(rt, alloc, LINES, 3);
+    play(rt, alloc, &mut session, 1, b"run\n").expect(rt, "memory");
+    for _ in 0..300 {
+        let found = play(rt, alloc, &mut session, 1, script).expect(rt, "memory");
+        assert_eq!(rt; found.lines.as_str(), lines);
+        assert_eq!(rt; found.counts.as_str(), counts);
+    }
+    assert_eq!(rt; session.records().len(), 3);
+    assert_eq!(rt; session.kits(), (3, 3));
+    assert_eq!(rt; session.checked().program().declarations.len(), 4);
+}
+
+/// Rows there and back, and a procedure in other spaces.
+const SAME_AGAIN: &[u8] = b"put sales 2 4 7
+put sales 2 3 7
+put sales 4 1 1
+del sales 4
+define
+memo  proc line ( r ) {
+  v = sales[ r ].qty * sales[ r ].price; # in other spaces
+  update total v;
+  update top v, r;
+  return v;
+}
+end
+run
+";
+
+/// More rows are changed than are listed before the records are compared with the tables: all of them stay valid.
+#[test]
+fn many_edits_that_change_nothing(rt: HostRuntime) {
+    let lines = "ok\nok\nok\nok\nok\nresult 131\ntotal 131\ntop 100 3\n";
+    stays_level(&rt, rt.alloc(), SAME_AGAIN, lines, "0 3 0; ");
+}
+
+/// A procedure there and back, and a row.
+const OTHER_AND_BACK: &[u8] = b"define
+memo proc line(r) { update total r; update top r, r; return r; }
+end
+run
+put sales 2 4 7
+define
+memo proc line(r) { v = sales[r].qty * sales[r].price; update total v; update top v, r; return v; }
+end
+run
+put sales 2 3 7
+";
+
+const OTHER_ANSWERS: &str = "ok\nresult 6\ntotal 6\ntop 3 3
+ok\nok\nresult 138\ntotal 138\ntop 100 3\nok\n";
+
+/// New records take the places of those that no longer hold.
+#[test]
+fn many_edits_that_change_all_records(rt: HostRuntime) {
+    let alloc = rt.alloc();
+    stays_level(&rt, alloc, OTHER_AND_BACK, OTHER_ANSWERS, "3 0 0; 3 0 0; ");
 }

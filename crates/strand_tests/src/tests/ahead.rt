@@ -37,6 +37,29 @@ fn step_ahead(
     step(alloc, program, tables, strand, pool, Child::Called, parents)
 }
 
+/// How many steps by themselves the strand takes to its end, where it does what it can in one go.
+fn go_far(
+    alloc: Global,
+    program: &Checked,
+    tables: &Tables,
+    strand: &mut Strand<PlainView>,
+) -> Result<usize, AllocError>
+    requires kinds { strand.old.layer.kinds ≡ program.now.kinds }
+    requires lower { strand.old.lower ≡ [] }
+    ensures kinds { strand.new.layer.kinds ≡ strand.old.layer.kinds }
+    ensures lower { strand.new.lower ≡ [] }
+{
+    let mut pool = no_kits(alloc)?;
+    let mut parents = Vec::new(alloc);
+    for i in 0..STEPS {
+        match strand.pause(program) {
+            Paused::Finished | Paused::Faulted => return Ok(i),
+            _ => step_ahead(alloc, program, tables, strand, &mut pool, &mut parents)?,
+        }
+    }
+    Ok(STEPS)
+}
+
 /// The answer of a program on one strand that does what it can in one go; and how many steps it did by themselves.
 pub fn run_far(
     alloc: Global,
@@ -45,17 +68,7 @@ pub fn run_far(
 ) -> Result<(RunAnswer, usize), AllocError> {
     let mut pool = no_kits(alloc)?;
     let mut strand = begin(alloc, program)?;
-    let mut parents = Vec::new(alloc);
-    let mut steps = STEPS;
-    for i in 0..STEPS {
-        match strand.pause(program) {
-            Paused::Finished | Paused::Faulted => {
-                steps = i;
-                break;
-            }
-            _ => step_ahead(alloc, program, tables, &mut strand, &mut pool, &mut parents)?,
-        }
-    }
+    let steps = go_far(alloc, program, tables, &mut strand)?;
     let (answer, _) = strand.end(alloc, &mut pool);
     Ok((answer, steps))
 }
