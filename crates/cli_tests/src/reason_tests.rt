@@ -76,6 +76,9 @@ fn lines_under_refusals(rt: HostRuntime) {
         (NO_UNIT, SALES, "refused E9 C9 later 2", UNDER_A_REDUCER),
         ("", SALES, "refused E9 C7 main 0", UNDER_NO_MAIN),
     ] {
-        assert!(&rt; is_told(rt.alloc(), program, tables, refusal, told), "{refusal}");
+        assert!(&rt;
+            is_told(rt.alloc(), program, tables, refusal, told),
+            "{refusal}"
+        );
     }
 }

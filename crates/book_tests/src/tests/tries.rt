@@ -167,12 +167,7 @@ fn folds<J: Run, V: View>(
 }
 
 /// The answer of the run in which these lists refuse, and whose fold is tried again so, and how many views were dropped at its end.
-fn tried(
-    rt: &impl Abort,
-    alloc: Global,
-    refuses: (bool, bool),
-    again: Again,
-) -> (String, usize) {
+fn tried(rt: &impl Abort, alloc: Global, refuses: (bool, bool), again: Again) -> (String, usize) {
     let drops = Arc::new(alloc, AtomicUsize::new(0)).expect(rt, "memory");
     let session = session_with(rt, alloc, TWO_LISTS, 1);
     session.kept();
@@ -181,9 +176,7 @@ fn tried(
         panic!(rt; "other kinds");
     }
     let pool = pool(rt, alloc, refuses, &drops);
-    let text = folds::<Brand, Stubborn>(
-        rt, alloc, program, tables, records, pool, refuses, again,
-    );
+    let text = folds::<Brand, Stubborn>(rt, alloc, program, tables, records, pool, refuses, again);
     (text, drops.load(Ordering::Relaxed))
 }
 

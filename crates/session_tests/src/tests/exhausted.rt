@@ -103,7 +103,13 @@ run
 /// The program is as it was.
 #[test]
 fn no_number_is_left(rt: HostRuntime) {
-    is_answered(&rt, rt.alloc(), u64::MAX, CHANGED, "refused E18\nresult 0\n");
+    is_answered(
+        &rt,
+        rt.alloc(),
+        u64::MAX,
+        CHANGED,
+        "refused E18\nresult 0\n",
+    );
 }
 
 /// Where no procedure is changed no number is needed.

@@ -137,7 +137,11 @@ fn is_done<V: View>(
     let before = standing(rt, alloc, session);
     if lacks_memory(alloc, session, one, is_played) {
         let after = standing(rt, alloc, session);
-        assert_eq!(rt; after.as_str(), before.as_str(), "changed by what was refused");
+        assert_eq!(rt;
+            after.as_str(),
+            before.as_str(),
+            "changed by what was refused"
+        );
         let lacks_again = lacks_memory(alloc, session, one, is_played);
         assert!(rt; !lacks_again, "refused once more");
     }
