@@ -23,6 +23,16 @@ proc main() { x = spawn leaf(1); y = spawn leaf(2); update total 9; sync; return
 
 const DEEP: &[u8] = b"proc f() { call f(); } proc main() { call f(); }";
 
+const ASKED: Options<'static> = Options {
+    program: "p",
+    tables: "t",
+    workers: 1,
+    kits: 2,
+    trace: Some("T"),
+    stats: true,
+    explain: true,
+};
+
 // A program's file; that of the tables is empty. How long a trace gets is counted.
 #[derive(Clone, Copy)]
 struct Program<'a> {
@@ -91,15 +101,6 @@ fn is_written(
     script: &[u8],
     answers: &[u8],
 ) -> bool {
-    let options = Options {
-        program: "p",
-        tables: "t",
-        workers: 1,
-        kits: 2,
-        trace: Some("T"),
-        stats: true,
-        explain: true,
-    };
     let make = |kind: Kind| -> Result<PlainView, AllocError> { Ok(PlainView::new(alloc, kind)) };
     let mut reader = script;
     let mut page = Page {
@@ -110,7 +111,7 @@ fn is_written(
     let ended = report_on(
         rt,
         alloc,
-        options,
+        ASKED,
         &make,
         &Program {
             text,

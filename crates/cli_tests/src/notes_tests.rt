@@ -3,7 +3,7 @@ ghost use Rattle.std.specs.Prelude.{◌<◌, ◌≤◌};
 
 use cli::files::FileSource;
 use cli::notes::NoNotes;
-use cli::program::{report_on, status};
+use cli::program::{ProgramError, report_on, status};
 use cli::streams::Failures;
 use command_line::options::Options;
 use monoid_laws::Kind;
@@ -89,16 +89,17 @@ struct Report {
     status: u8,
 }
 
-// What comes of a script by so many workers with so many kits, with the trace `T` and counts.
-fn reported(
-    rt: &(impl Abort + Threads + Wait + Sync),
+// Does a script by so many workers with so many kits, with the trace `T` and counts.
+fn run_over(
+    rt: &(impl Threads + Wait + Sync),
     alloc: Global,
-    program: &[u8],
+    files: &Files<'_>,
     script: &[u8],
     workers: usize,
     kits: usize,
-    room: Option<usize>,
-) -> Report
+    written: &mut Vec<u8>,
+    counts: &mut Vec<u8>,
+) -> Result<(), ProgramError>
     requires workers { (0 < workers) × (workers ≤ 16) }
 {
     let options = Options {
@@ -111,26 +112,48 @@ fn reported(
         explain: false,
     };
     let make = |kind: Kind| -> Result<PlainView, AllocError> { Ok(PlainView::new(alloc, kind)) };
+    let mut reader = script;
+    report_on(
+        rt,
+        alloc,
+        options,
+        &make,
+        files,
+        &mut reader,
+        written,
+        counts,
+        NoNotes,
+        &mut Failures::none(),
+    )
+}
+
+fn reported(
+    rt: &(impl Abort + Threads + Wait + Sync),
+    alloc: Global,
+    program: &[u8],
+    script: &[u8],
+    workers: usize,
+    kits: usize,
+    room: Option<usize>,
+) -> Report
+    requires workers { (0 < workers) × (workers ≤ 16) }
+{
     let trace = RefCell::new(Vec::new(alloc));
     let files = Files {
         program,
         room,
         trace: &trace,
     };
-    let mut reader = script;
-    let mut written = Vec::new(alloc);
-    let mut counts = Vec::new(alloc);
-    let ended = report_on(
+    let (mut written, mut counts) = (Vec::new(alloc), Vec::new(alloc));
+    let ended = run_over(
         rt,
         alloc,
-        options,
-        &make,
         &files,
-        &mut reader,
+        script,
+        workers,
+        kits,
         &mut written,
         &mut counts,
-        NoNotes,
-        &mut Failures::none(),
     );
     let (said, status) = match ended {
         Ok(()) => (String::new(alloc), 0),
@@ -318,8 +341,8 @@ const ROWS: [Row; 6] = [
 // Whether a row has its answers and its counts by one worker, and its answers by four.
 fn is_reported(rt: &(impl Abort + Threads + Wait + Sync), alloc: Global, row: Row) -> bool {
     let (program, kits, script, answers, counts) = row;
-    let alone = reported(rt, alloc, program, script.as_bytes(), 1, kits, Some(100000));
-    let by_four = reported(rt, alloc, program, script.as_bytes(), 4, kits, Some(100000));
+    let alone = reported(rt, alloc, program, script.as_bytes(), 1, kits, Some(50000));
+    let by_four = reported(rt, alloc, program, script.as_bytes(), 4, kits, Some(50000));
     alone.written.as_slice() == answers.as_bytes()
         && alone.counts.as_slice() == counts.as_bytes()
         && by_four.written.as_slice() == answers.as_bytes()
