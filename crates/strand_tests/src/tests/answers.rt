@@ -7,7 +7,6 @@ use monoid_laws::Val;
 use program_tree::{Declaration, Program};
 use serial_oracle::{Answer, Row, TableRows, from_scratch};
 use std::alloc::{AllocError, Global};
-use std::test::Fail;
 
 /// Sales: for each row its number, a quantity and a price.
 pub const SALES: &str =
@@ -112,9 +111,16 @@ fn sales(alloc: Global) -> Result<TableRows, AllocError> {
 }
 
 /// Whether the answer is the plain slow program's, on the sales.
-pub fn is_slow_answer(alloc: Global, program: &Checked, answer: &RunAnswer) -> Result<bool, Fail> {
+pub fn is_slow_answer(
+    alloc: Global,
+    program: &Checked,
+    answer: &RunAnswer,
+) -> Result<bool, AllocError> {
     let tables = vec![in alloc; sales(alloc)?]?;
-    match from_scratch(alloc, program.program(), &tables)? {
+    let Ok(slow) = from_scratch(alloc, program.program(), &tables) else {
+        return Err(AllocError);
+    };
+    match slow {
         Answer::Finished(wanted, reducers) => Ok(match answer {
             RunAnswer::Finished { result, values, .. } => *result == wanted && *values == reducers,
             _ => false,

@@ -1,108 +1,110 @@
 //! Continuations that are stolen: each strand has a kit of its own, and neighbours become one strand again.
-ghost use Rattle.std.specs.Prelude.{◌≡◌, [], All, IfOk};
+ghost use Rattle.std.specs.Prelude.{◌≡◌, [], All};
 ghost use Rattle.monoid_laws.specs.Kinds.{IsMonoid};
 
 use super::answers::{SALES, Wanted, is_faulted, is_finished, is_slow_answer};
-use super::driving::{Child, are_monoids, checked, go_on, kit, parent, to_pause};
+use super::driving::{Child, are_monoids, go_on, kit, parent, to_pause};
 use frames::answer::RunAnswer;
 use frames::strand::Strand;
 use input_tables::Tables;
 use linked_program::checked::Checked;
 use meaning::FaultKind;
 use positions::phase::{Paused, Phase};
-use std::alloc::{AllocError, Global};
-use std::test::Fail;
+use procedure_parser::parse;
+use spawn_checker::check;
+use std::alloc::Global;
+use std::process::Abort;
 use view_pool::{Kit, PlainView, Pool};
 
 // How many kits there are: one for each strand, and one more.
 const KITS: usize = 4;
 
 // So many kits of a program, all free.
-fn pool_of(
-    alloc: Global,
-    program: &Checked,
-    count: usize,
-) -> Result<Pool<Kit<PlainView>>, AllocError>
-    ensures kits { IfOk result (λ pool. All (λ k. k ≡ program.now.kinds) pool.kits) }
+fn pool_of(rt: &impl Abort, alloc: Global, program: &Checked, count: usize) -> Pool<Kit<PlainView>>
+    ensures kits { All (λ k. k ≡ program.now.kinds) result.kits }
 {
     let mut kits = Vec::new(alloc);
     for i in 0..count {
-        kits.push(kit(alloc, program.kinds())?)?;
+        let kit = kit(alloc, program.kinds()).expect(rt, "memory");
+        kits.push(kit).expect(rt, "memory");
     }
-    Ok(Pool::new(kits))
+    Pool::new(kits)
 }
 
-// A free kit; an error where there is none.
-fn taken(program: &Checked, pool: &mut Pool<Kit<PlainView>>) -> Result<Kit<PlainView>, AllocError>
+// A free kit.
+fn taken(rt: &impl Abort, program: &Checked, pool: &mut Pool<Kit<PlainView>>) -> Kit<PlainView>
     requires kits { All (λ k. k ≡ program.now.kinds) pool.old.kits }
     ensures kits { All (λ k. k ≡ program.now.kinds) pool.new.kits }
-    ensures kinds { IfOk result (λ kit. kit ≡ program.now.kinds) }
+    ensures kinds { result ≡ program.now.kinds }
 {
     match pool.take() {
-        Some(kit) => Ok(kit),
-        None => Err(AllocError),
+        Some(kit) => kit,
+        None => panic!(rt; "no kit is free"),
     }
 }
 
 // The strand of a program's beginning, with a kit of the pool.
 fn begin(
+    rt: &impl Abort,
     alloc: Global,
     program: &Checked,
     pool: &mut Pool<Kit<PlainView>>,
-) -> Result<Strand<PlainView>, AllocError>
+) -> Strand<PlainView>
     requires kits { All (λ k. k ≡ program.now.kinds) pool.old.kits }
     ensures kits { All (λ k. k ≡ program.now.kinds) pool.new.kits }
-    ensures kinds { IfOk result (λ strand. strand.layer.kinds ≡ program.now.kinds) }
-    ensures lower { IfOk result (λ strand. strand.lower ≡ []) }
+    ensures kinds { result.layer.kinds ≡ program.now.kinds }
+    ensures lower { result.lower ≡ [] }
 {
-    let kit = taken(program, pool)?;
+    let kit = taken(rt, program, pool);
     match Strand::first(alloc, program, kit) {
-        Ok(strand) => Ok(strand),
-        Err(_) => Err(AllocError),
+        Ok(strand) => strand,
+        Err(_) => panic!(rt; "memory"),
     }
 }
 
 // The strand of the continuation at a spawn, with a kit of the pool; the other strand is left with the child.
 fn steal(
+    rt: &impl Abort,
     alloc: Global,
     program: &Checked,
     victim: &mut Strand<PlainView>,
     pool: &mut Pool<Kit<PlainView>>,
-) -> Result<Strand<PlainView>, AllocError>
+) -> Strand<PlainView>
     requires kits { All (λ k. k ≡ program.now.kinds) pool.old.kits }
     ensures kits { All (λ k. k ≡ program.now.kinds) pool.new.kits }
-    ensures kinds { IfOk result (λ thief. thief.layer.kinds ≡ program.now.kinds) }
-    ensures lower { IfOk result (λ thief. thief.lower ≡ []) }
+    ensures kinds { result.layer.kinds ≡ program.now.kinds }
+    ensures lower { result.lower ≡ [] }
     ensures victim_kinds { victim.new.layer.kinds ≡ victim.old.layer.kinds }
     ensures victim_lower { victim.new.lower ≡ victim.old.lower }
 {
-    let task = parent(alloc, victim)?;
-    let kit = taken(program, pool)?;
+    let task = parent(alloc, victim).expect(rt, "a continuation");
+    let kit = taken(rt, program, pool);
     match Strand::stolen(alloc, program, task, kit) {
-        Ok(thief) => Ok(thief),
-        Err(_) => Err(AllocError),
+        Ok(thief) => thief,
+        Err(_) => panic!(rt; "memory"),
     }
 }
 
 // The victim goes on to its next spawn, where its continuation is stolen.
 fn rob(
+    rt: &impl Abort,
     alloc: Global,
     program: &Checked,
     tables: &Tables,
     victim: &mut Strand<PlainView>,
     pool: &mut Pool<Kit<PlainView>>,
-) -> Result<Strand<PlainView>, AllocError>
+) -> Strand<PlainView>
     requires kits { All (λ k. k ≡ program.now.kinds) pool.old.kits }
     requires kinds { victim.old.layer.kinds ≡ program.now.kinds }
     requires lower { victim.old.lower ≡ [] }
     ensures kits { All (λ k. k ≡ program.now.kinds) pool.new.kits }
-    ensures kinds { IfOk result (λ thief. thief.layer.kinds ≡ program.now.kinds) }
-    ensures lower { IfOk result (λ thief. thief.lower ≡ []) }
+    ensures kinds { result.layer.kinds ≡ program.now.kinds }
+    ensures lower { result.lower ≡ [] }
     ensures victim_kinds { victim.new.layer.kinds ≡ victim.old.layer.kinds }
     ensures victim_lower { victim.new.lower ≡ [] }
 {
-    to_pause(alloc, program, tables, victim)?;
-    steal(alloc, program, victim, pool)
+    to_pause(alloc, program, tables, victim).expect(rt, "memory");
+    steal(rt, alloc, program, victim, pool)
 }
 
 // Whether the left strand is through, and the right one waits for it.
@@ -126,13 +128,14 @@ fn give_up(strand: &mut Strand<PlainView>, pool: &mut Pool<Kit<PlainView>>)
     }
 }
 
-// Puts the right neighbour behind the left strand and sends its kit home; an error where that can't be.
+// Puts the right neighbour behind the left strand and sends its kit home.
 fn fold(
+    rt: &impl Abort,
     program: &Checked,
     left: &mut Strand<PlainView>,
     mut right: Strand<PlainView>,
     pool: &mut Pool<Kit<PlainView>>,
-) -> Result<(), AllocError>
+)
     requires kinds { left.old.layer.kinds ≡ program.now.kinds }
     requires lower { left.old.lower ≡ [] }
     requires right_kinds { right.layer.kinds ≡ program.now.kinds }
@@ -142,19 +145,18 @@ fn fold(
 {
     give_up(left, pool);
     give_up(&mut right, pool);
-    if !are_neighbours(program, left, &right) {
-        return Err(AllocError);
-    }
+    assert!(rt; are_neighbours(program, left, &right));
     are_monoids(program);
-    join(left, right, pool)
+    join(rt, left, right, pool);
 }
 
 // The same, of neighbours.
 fn join(
+    rt: &impl Abort,
     left: &mut Strand<PlainView>,
     right: Strand<PlainView>,
     pool: &mut Pool<Kit<PlainView>>,
-) -> Result<(), AllocError>
+)
     requires monoids { All IsMonoid left.old.layer.kinds }
     requires kinds { left.old.layer.kinds ≡ right.layer.kinds }
     requires lower { right.lower ≡ [] }
@@ -163,18 +165,16 @@ fn join(
 {
     match left.phase() {
         Phase::Leaving(_) | Phase::Broken(_) => match left.join(right) {
-            Ok(kit) => match pool.give(kit) {
-                Ok(()) => Ok(()),
-                Err(_) => Err(AllocError),
-            },
-            Err(_) => Err(AllocError),
+            Ok(kit) => assert!(rt; pool.give(kit).is_ok()),
+            Err(_) => panic!(rt; "memory"),
         },
-        _ => Err(AllocError),
+        _ => panic!(rt; "the left strand isn't through"),
     }
 }
 
 // Two neighbours, the right one first, go on as far as each can alone, and become one strand.
 fn put_behind(
+    rt: &impl Abort,
     alloc: Global,
     program: &Checked,
     tables: &Tables,
@@ -182,7 +182,7 @@ fn put_behind(
     mut right: Strand<PlainView>,
     pool: &mut Pool<Kit<PlainView>>,
     child: Child,
-) -> Result<(), AllocError>
+)
     requires kinds { left.old.layer.kinds ≡ program.now.kinds }
     requires lower { left.old.lower ≡ [] }
     requires right_kinds { right.layer.kinds ≡ program.now.kinds }
@@ -190,14 +190,15 @@ fn put_behind(
     ensures kinds { left.new.layer.kinds ≡ left.old.layer.kinds }
     ensures lower { left.new.lower ≡ [] }
 {
-    go_on(alloc, program, tables, &mut right, child)?;
-    go_on(alloc, program, tables, left, child)?;
-    fold(program, left, right, pool)
+    go_on(alloc, program, tables, &mut right, child).expect(rt, "memory");
+    go_on(alloc, program, tables, left, child).expect(rt, "memory");
+    fold(rt, program, left, right, pool);
 }
 
 // A strand is robbed, the thief is robbed in turn, and so on, so many times; then all go on, the last one first, and become one
 // strand again.
 fn play(
+    rt: &impl Abort,
     alloc: Global,
     program: &Checked,
     tables: &Tables,
@@ -205,7 +206,7 @@ fn play(
     pool: &mut Pool<Kit<PlainView>>,
     thefts: usize,
     child: Child,
-) -> Result<(), AllocError>
+)
     requires kits { All (λ k. k ≡ program.now.kinds) pool.old.kits }
     requires kinds { victim.old.layer.kinds ≡ program.now.kinds }
     requires lower { victim.old.lower ≡ [] }
@@ -213,24 +214,35 @@ fn play(
     ensures lower { victim.new.lower ≡ [] }
 {
     if thefts == 0 {
-        return Ok(());
+        return;
     }
-    let mut thief = rob(alloc, program, tables, victim, pool)?;
-    play(alloc, program, tables, &mut thief, pool, thefts - 1, child)?;
-    put_behind(alloc, program, tables, victim, thief, pool, child)
+    let mut thief = rob(rt, alloc, program, tables, victim, pool);
+    play(
+        rt,
+        alloc,
+        program,
+        tables,
+        &mut thief,
+        pool,
+        thefts - 1,
+        child,
+    );
+    put_behind(rt, alloc, program, tables, victim, thief, pool, child);
 }
 
 // The answer of a program with so many thefts, each at the next spawn, and how many kits are home then.
 fn run(
+    rt: &impl Abort,
     alloc: Global,
     program: &Checked,
     tables: &Tables,
     thefts: usize,
     child: Child,
-) -> Result<(RunAnswer, usize), AllocError> {
-    let mut pool = pool_of(alloc, program, KITS)?;
-    let mut strand = begin(alloc, program, &mut pool)?;
+) -> (RunAnswer, usize) {
+    let mut pool = pool_of(rt, alloc, program, KITS);
+    let mut strand = begin(rt, alloc, program, &mut pool);
     play(
+        rt,
         alloc,
         program,
         tables,
@@ -238,46 +250,59 @@ fn run(
         &mut pool,
         thefts,
         child,
-    )?;
-    go_on(alloc, program, tables, &mut strand, child)?;
+    );
+    go_on(alloc, program, tables, &mut strand, child).expect(rt, "memory");
     let (answer, _) = strand.end(alloc, &mut pool);
-    Ok((answer, pool.free()))
+    (answer, pool.free())
+}
+
+// The program that a text is, checked against these tables.
+fn program_of(rt: &impl Abort, alloc: Global, text: &str, tables: &Tables) -> Checked {
+    let program = parse(alloc, text.as_bytes()).expect(rt, "a program");
+    check(alloc, program, tables).expect(rt, "no violation")
+}
+
+// The tables of which the programs speak, and the program that a text is.
+fn prepared(rt: &impl Abort, alloc: Global, text: &str) -> (Tables, Checked) {
+    let tables = Tables::from_toml(alloc, SALES).expect(rt, "tables");
+    let program = program_of(rt, alloc, text, &tables);
+    (tables, program)
 }
 
 // Whether a program with so many thefts ends with that result and these values, whichever way the other children go.
 fn ends_with(
+    rt: &impl Abort,
     alloc: Global,
     text: &str,
     thefts: usize,
     wanted: i64,
     reducers: &[Wanted],
-) -> Result<bool, Fail> {
-    let tables = Tables::from_toml(alloc, SALES)?;
-    let program = checked(alloc, text, &tables)?;
+) -> bool {
+    let (tables, program) = prepared(rt, alloc, text);
     for child in [Child::Called, Child::PutBack, Child::Alone] {
-        let (answer, kits) = run(alloc, &program, &tables, thefts, child)?;
-        let right = is_finished(&answer, wanted, reducers);
-        if !right || kits != KITS || !is_slow_answer(alloc, &program, &answer)? {
-            return Ok(false);
+        let (answer, kits) = run(rt, alloc, &program, &tables, thefts, child);
+        let right = is_finished(&answer, wanted, reducers) && kits == KITS;
+        if !right || !is_slow_answer(alloc, &program, &answer).expect(rt, "memory") {
+            return false;
         }
     }
-    Ok(true)
+    true
 }
 
 // Whether a program with so many thefts ends with that fault.
 fn faults_with(
+    rt: &impl Abort,
     alloc: Global,
     text: &str,
     thefts: usize,
     kind: FaultKind,
     procedure: &str,
     statement: u32,
-) -> Result<bool, Fail> {
-    let tables = Tables::from_toml(alloc, SALES)?;
-    let program = checked(alloc, text, &tables)?;
-    let (answer, kits) = run(alloc, &program, &tables, thefts, Child::Called)?;
+) -> bool {
+    let (tables, program) = prepared(rt, alloc, text);
+    let (answer, kits) = run(rt, alloc, &program, &tables, thefts, Child::Called);
     let right = is_faulted(&program, &answer, kind, procedure, statement);
-    Ok(right && kits == KITS && is_slow_answer(alloc, &program, &answer)?)
+    right && kits == KITS && is_slow_answer(alloc, &program, &answer).expect(rt, "memory")
 }
 
 /// Programs with the result and the reducers' values that each ends with, however often its continuations are stolen.
@@ -310,16 +335,15 @@ const ENDING: [(&str, i64, &[Wanted]); 4] = [
 ];
 
 #[test]
-fn values_in_the_order_of_the_text(rt: HostRuntime) -> Result<(), Fail> {
+fn values_in_the_order_of_the_text(rt: HostRuntime) {
     for (text, wanted, reducers) in ENDING {
         for thefts in 0..3 {
-            assert!(rt;
-                ends_with(rt.alloc(), text, thefts, wanted, reducers)?,
+            assert!(&rt;
+                ends_with(&rt, rt.alloc(), text, thefts, wanted, reducers),
                 "{text}"
             );
         }
     }
-    Ok(())
 }
 
 /// Programs with so many thefts, and the fault that each ends with: its kind, its procedure and its statement.
@@ -370,15 +394,14 @@ const FAULTY: [(&str, usize, FaultKind, &str, u32); 6] = [
 ];
 
 #[test]
-fn the_first_fault_of_the_text(rt: HostRuntime) -> Result<(), Fail> {
+fn the_first_fault_of_the_text(rt: HostRuntime) {
     let alloc = rt.alloc();
     for (text, thefts, kind, procedure, statement) in FAULTY {
-        assert!(rt;
-            faults_with(alloc, text, thefts, kind, procedure, statement)?,
+        assert!(&rt;
+            faults_with(&rt, alloc, text, thefts, kind, procedure, statement),
             "{text}"
         );
     }
-    Ok(())
 }
 
 /// A program whose last strand waits for both children.
@@ -387,21 +410,20 @@ const TWO_CHILDREN: &str =
 
 // Whether main, which waits for two children, waits for none but the second one behind that, and for the second one behind the
 // first one, whose strand begins before both.
-fn waits_for_its_neighbour(alloc: Global) -> Result<bool, Fail> {
+fn waits_for_its_neighbour(rt: &impl Abort, alloc: Global) -> bool {
     let tables = Tables::new(alloc);
-    let program = checked(alloc, TWO_CHILDREN, &tables)?;
-    let mut pool = pool_of(alloc, &program, KITS)?;
-    let mut first = begin(alloc, &program, &mut pool)?;
-    let mut second = rob(alloc, &program, &tables, &mut first, &mut pool)?;
-    let mut last = rob(alloc, &program, &tables, &mut second, &mut pool)?;
-    to_pause(alloc, &program, &tables, &mut first)?;
-    to_pause(alloc, &program, &tables, &mut second)?;
-    to_pause(alloc, &program, &tables, &mut last)?;
-    Ok(last.leaves_none_waiting(&second) && !last.leaves_none_waiting(&first))
+    let program = program_of(rt, alloc, TWO_CHILDREN, &tables);
+    let mut pool = pool_of(rt, alloc, &program, KITS);
+    let mut first = begin(rt, alloc, &program, &mut pool);
+    let mut second = rob(rt, alloc, &program, &tables, &mut first, &mut pool);
+    let mut last = rob(rt, alloc, &program, &tables, &mut second, &mut pool);
+    to_pause(alloc, &program, &tables, &mut first).expect(rt, "memory");
+    to_pause(alloc, &program, &tables, &mut second).expect(rt, "memory");
+    to_pause(alloc, &program, &tables, &mut last).expect(rt, "memory");
+    last.leaves_none_waiting(&second) && !last.leaves_none_waiting(&first)
 }
 
 #[test]
-fn a_strand_that_waits_for_its_neighbour(rt: HostRuntime) -> Result<(), Fail> {
-    assert!(rt; waits_for_its_neighbour(rt.alloc())?);
-    Ok(())
+fn a_strand_that_waits_for_its_neighbour(rt: HostRuntime) {
+    assert!(&rt; waits_for_its_neighbour(&rt, rt.alloc()));
 }
