@@ -20,6 +20,7 @@ sed 's/^memo //' "$room/memo" > "$room/plain"
 printf '' > "$room/script0"
 printf 'run\n' > "$room/script1"
 printf 'run\nrun\n' > "$room/script2"
+printf 'run\nput sales 5 9 7\nrun\n' > "$room/script3"
 
 # The instructions of a session of that report with so many runs.
 instructions() {
@@ -33,6 +34,7 @@ for rows in "$@"; do
         begun=$(instructions $report 0)
         first=$(instructions $report 1)
         both=$(instructions $report 2)
-        echo "$rows rows, $report: first run $(((first - begun) / rows)) instructions a row, run again $(((both - first) / rows))"
+        edited=$(instructions $report 3)
+        echo "$rows rows, $report: first run $(((first - begun) / rows)) instructions a row, run again $(((both - first) / rows)), behind a put of one row $(((edited - first) / rows))"
     done
 done
