@@ -35,7 +35,7 @@ answers_from = text.answers_from reads_text checks_rules
 
 -- the answers to a script
 abbrev pub answers_text : Standing → List ℕ → List ℕ
-answers_text = text.answers_text reads_text checks_rules true
+answers_text = text.answers_text reads_text checks_rules
 
 -- the answers to a session's script
 abbrev pub answers_of : PlainSession → List ℕ → List ℕ

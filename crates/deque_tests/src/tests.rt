@@ -75,7 +75,7 @@ fn own<D: Deques>(owner: OwnerEnd<Link, D>) -> (OwnerEnd<Link, D>, u64, u64, boo
 {
     let mut owner = owner;
     let pushed = push_all(&mut owner);
-    let held = owner.held();
+    let held = owner.held_count();
     let (popped, in_order) = pop_all(&mut owner);
     (
         owner,

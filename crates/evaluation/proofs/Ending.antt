@@ -5,7 +5,7 @@ use Rattle.std.proofs.Math.Seq.{take-append_seam}
 use Rattle.evaluation.specs.declared.note.Note.{Note}
 use Rattle.evaluation.specs.declared.stop.Stop.{Stop}
 use Rattle.evaluation.specs.declared.stop.Stop.TheVariants.{NoMemory, Fault}
-use Rattle.evaluation.specs.Values.{NumberedOut, ◌>>=◌, onward}
+use Rattle.evaluation.specs.Values.{NumberedOut, ◌>>=◌, onward, changed, mapped}
 use Rattle.evaluation.specs.Ends.{Stops}
 
 -- what begins with more begins with less
@@ -29,3 +29,9 @@ pub first_stops : {A B C D : Type 0} (u : C → A) (v : D → B) (m : NumberedOu
     → Stops u m old new (Err s) → Stops v (m >>= f) old new (Err s)
 first_stops u v m f old new (Fault k) h = subst (λ r. Stops v (onward m.notes r f) old new (Err (Fault k))) (sym h.0) (refl, h.1)
 first_stops u v m f old new NoMemory h = h
+
+-- what stops, stops whatever would be made of its answer
+pub mapped_stops : {A B C D : Type 0} (u : C → A) (v : D → B) (m : NumberedOut A) (f : A → B) (old new : List Note) (s : Stop)
+    → Stops u m old new (Err s) → Stops v (mapped f m) old new (Err s)
+mapped_stops u v m f old new (Fault k) h = (ap (changed f) h.0, h.1)
+mapped_stops u v m f old new NoMemory h = h

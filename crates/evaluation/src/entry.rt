@@ -26,9 +26,30 @@ pub fn entry_slots(
     ensures ends { Ends (λ v. v.items) (entry_at tables.now.tables slots.now size
         (map plain arguments.now)) notes.old.items notes.new.items result }
 {
+    let mut made = room;
+    match fill_slots(&mut made, size, arguments, slots, tables, notes) {
+        Ok(()) => Ok(made),
+        Err(stop) => Err(stop),
+    }
+}
+
+/// Puts the slots of an instance of `size` names that is entered with these arguments in place of what `made` held: their values,
+/// and then no values; or finds the first fault. What they read is noted. Where memory is refused the notes are as they were.
+pub fn fill_slots(
+    made: &mut Vec<Slot>,
+    size: usize,
+    arguments: &[Expression],
+    slots: &[Slot],
+    tables: &Tables,
+    notes: &mut Vec<Note>,
+) -> Result<(), Stop>
+    ensures ends { Ends (λ u. made.new.items) (entry_at tables.now.tables slots.now size
+        (map plain arguments.now)) notes.old.items notes.new.items result }
+{
     let before = notes.len();
-    match slots_of(room, size, arguments, slots, tables, notes) {
-        Ok(made) => Ok(made),
+    made.clear();
+    match put_values(made, size, arguments, slots, tables, notes) {
+        Ok(()) => Ok(()),
         Err(Stop::Fault(kind)) => Err(Stop::Fault(kind)),
         Err(Stop::NoMemory) => {
             notes.truncate(before);
@@ -37,19 +58,19 @@ pub fn entry_slots(
     }
 }
 
-// The slots of a new instance; where memory is refused, the notes so far stay.
-fn slots_of(
-    room: Vec<Slot>,
+// The slots of a new instance in an empty list; where memory is refused, the notes so far stay.
+#[inline(always)]
+fn put_values(
+    made: &mut Vec<Slot>,
     size: usize,
     arguments: &[Expression],
     slots: &[Slot],
     tables: &Tables,
     notes: &mut Vec<Note>,
-) -> Result<Vec<Slot>, Stop>
-    requires empty { room.items ≡ [] }
-    ensures stops { Stops (λ v. v.items) (entry_at tables.now.tables slots.now size (map plain arguments.now)) notes.old.items notes.new.items result }
+) -> Result<(), Stop>
+    requires empty { made.old.items ≡ [] }
+    ensures stops { Stops (λ u. made.new.items) (entry_at tables.now.tables slots.now size (map plain arguments.now)) notes.old.items notes.new.items result }
 {
-    let mut made = room;
     if made.reserve(size).is_err() {
         return Err(Stop::NoMemory);
     }
@@ -66,5 +87,5 @@ fn slots_of(
     if made.resize(size, Slot::Unset).is_err() {
         return Err(Stop::NoMemory);
     }
-    Ok(made)
+    Ok(())
 }

@@ -14,6 +14,7 @@ pub(crate) fn one_if(holds: bool) -> i64
 }
 
 /// An operator's value, wrapped to 64 bits; a fault where the divisor is 0.
+#[inline(always)]
 pub(crate) fn apply(operator: Operator, left: i64, right: i64) -> Result<i64, FaultKind>
     ensures { result ≡ (apply operator left right).answer }
 {

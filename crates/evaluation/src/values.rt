@@ -19,6 +19,7 @@ use meaning::FaultKind;
 use program_tree::Operator;
 
 /// The value of an expression, or its fault; what it reads is noted. Where memory is refused the notes are as they were.
+#[inline(always)]
 pub fn value(
     expression: &Expression,
     slots: &[Slot],
@@ -28,8 +29,23 @@ pub fn value(
     ensures ends { Ends (λ v. v) (value_at tables.now.tables slots.now (plain expression.now))
         notes.old.items notes.new.items result }
 {
+    match without_reading(expression, slots) {
+        Some(value) => Ok(value),
+        None => noted_value(expression, slots, tables, notes),
+    }
+}
+
+// The same, of whatever expression.
+fn noted_value(
+    expression: &Expression,
+    slots: &[Slot],
+    tables: &Tables,
+    notes: &mut Vec<Note>,
+) -> Result<i64, Stop>
+    ensures ends { Ends (λ v. v) (value_at tables.now.tables slots.now (plain expression.now)) notes.old.items notes.new.items result }
+{
     let before = notes.len();
-    match evaluated(expression, slots, tables, notes) {
+    match evaluate(expression, slots, tables, notes) {
         Ok(value) => Ok(value),
         Err(Stop::Fault(kind)) => Err(Stop::Fault(kind)),
         Err(Stop::NoMemory) => {
@@ -61,6 +77,51 @@ pub fn values(
             notes.truncate(before);
             Err(Stop::NoMemory)
         }
+    }
+}
+
+/// The values of two expressions, from left to right, or the first fault; what they read is noted. Where memory is refused the
+/// notes are as they were.
+#[inline(always)]
+pub fn two_values(
+    first: &Expression,
+    second: &Expression,
+    slots: &[Slot],
+    tables: &Tables,
+    notes: &mut Vec<Note>,
+) -> Result<(i64, i64), Stop>
+    ensures ends { Ends (λ p. p.0 ∷ p.1 ∷ [])
+        (values_at tables.now.tables slots.now (plain first.now ∷ plain second.now ∷ []))
+        notes.old.items notes.new.items result }
+{
+    let before = notes.len();
+    match both(first, second, slots, tables, notes) {
+        Ok(pair) => Ok(pair),
+        Err(Stop::Fault(kind)) => Err(Stop::Fault(kind)),
+        Err(Stop::NoMemory) => {
+            notes.truncate(before);
+            Err(Stop::NoMemory)
+        }
+    }
+}
+
+// The values of two expressions; where memory is refused, the notes so far stay.
+#[inline(always)]
+fn both(
+    first: &Expression,
+    second: &Expression,
+    slots: &[Slot],
+    tables: &Tables,
+    notes: &mut Vec<Note>,
+) -> Result<(i64, i64), Stop>
+    ensures stops { Stops (λ p. p.0 ∷ p.1 ∷ []) (values_at tables.now.tables slots.now (plain first.now ∷ plain second.now ∷ [])) notes.old.items notes.new.items result }
+{
+    match evaluated(first, slots, tables, notes) {
+        Ok(left) => match evaluated(second, slots, tables, notes) {
+            Ok(right) => Ok((left, right)),
+            Err(stop) => Err(stop),
+        },
+        Err(stop) => Err(stop),
     }
 }
 
@@ -138,7 +199,7 @@ pub(crate) fn evaluate(
     }
 }
 
-/// The same; that of a number or a slot without a call.
+/// The same; that of numbers and slots, and of an operator on two of them, without a call.
 #[inline(always)]
 pub(crate) fn evaluated(
     expression: &Expression,
@@ -148,9 +209,35 @@ pub(crate) fn evaluated(
 ) -> Result<i64, Stop>
     ensures stops { Stops (λ v. v) (value_at tables.now.tables slots.now (plain expression.now)) notes.old.items notes.new.items result }
 {
-    match at_once(expression, slots) {
+    match without_reading(expression, slots) {
         Some(value) => Ok(value),
         None => evaluate(expression, slots, tables, notes),
+    }
+}
+
+// The value of a number, of a slot, or of an operator on two of them, where it has one; none of any other expression.
+#[inline(always)]
+fn without_reading(expression: &Expression, slots: &[Slot]) -> Option<i64>
+    ensures value { IfSome result (λ v. (all : TableList) → value_at all slots.now (plain expression.now) ≡ pure v) }
+{
+    match expression {
+        Expression::Number(number) => Some(*number),
+        Expression::Slot(number) => Some(number_in(slots, *number)),
+        Expression::Binary(operator, left, right) => {
+            joined(*operator, at_once(left, slots)?, at_once(right, slots)?)
+        }
+        _ => None,
+    }
+}
+
+// An operator's value, where it has one.
+#[inline(always)]
+fn joined(operator: Operator, left: i64, right: i64) -> Option<i64>
+    ensures value { IfSome result (λ v. applied_to operator left right ≡ pure v) }
+{
+    match apply(operator, left, right) {
+        Ok(value) => Some(value),
+        Err(_) => None,
     }
 }
 

@@ -22,3 +22,4 @@ pub mod Whole
 pub mod Memories
 pub mod Paths
 pub mod Traces
+pub mod Ones

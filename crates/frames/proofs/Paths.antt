@@ -15,22 +15,24 @@ use Rattle.evaluation.specs.Values.{NumberedOut, entry_at}
 use Rattle.linked_program.specs.declared.code.Instruction.{Instruction}
 use Rattle.positions.specs.declared.work.Position.{Position}
 use Rattle.positions.specs.declared.work.Work.{Work}
-use Rattle.positions.specs.declared.work.Work.TheVariants.{Block, Over}
+use Rattle.positions.specs.declared.work.Work.TheVariants.{Block, Over, Turns}
 use Rattle.positions.specs.declared.work.Loop.{Loop}
 use Rattle.positions.specs.declared.work.Share.{Share}
 use Rattle.positions.specs.Code.{instruction_inside, loop_at}
 use Rattle.positions.specs.declared.phase.Phase.{Phase}
 use Rattle.positions.specs.declared.phase.Phase.TheVariants.{Entering, Running, Returning, Leaving}
 use Rattle.positions.specs.Setting.{Setting}
-use Rattle.positions.specs.Activations.{PlainActivation, bound, waiting, outside}
+use Rattle.positions.specs.Activations.{PlainActivation, bound, waiting, outside, at, next_of}
 use Rattle.positions.specs.Layers.{PlainLayer, noting, entering}
 use Rattle.positions.specs.Strands.{PlainStrand, is_entry}
 use Rattle.positions.specs.Advance.{noted, answered, evaluated, performed, gone_by, gone, worked, advanced, advanced_at, closed, owns_top, started_as, called_as, called, in_phase, giving, turned, turn_by, left_to, pushed, faulted, child_of}
 use Rattle.frames.specs.Ends.{Notes}
 use Rattle.frames.specs.Steps.{nested_plain, entered_plain}
 use Rattle.frames.specs.declared.leaf.Did.{Did}
-use Rattle.frames.specs.declared.leaf.Did.TheVariants.{Nothing, Step, Gave}
-use Rattle.frames.specs.Paths.{IsNext, IsPath, here, on, IsAhead, MayPass, topped, ComesTo, Does, value_by}
+use Rattle.frames.specs.declared.leaf.Did.TheVariants.{Nothing, Next, Moved, Gave}
+use Rattle.frames.specs.declared.ahead.Came.{Came}
+use Rattle.frames.specs.declared.ahead.Came.TheVariants.{Nowhere, Back, Stays}
+use Rattle.frames.specs.Paths.{IsNext, IsPath, here, on, IsAhead, MayPass, topped, ComesTo, Does, CameBy}
 use Rattle.frames.proofs.Refusals.{path_back}
 
 -- readings that are forgotten again
@@ -52,6 +54,12 @@ same_parts s l p q a b u v f g path top below phase =
     ap (λ xs. record s { layer = l; path = xs; top = a; below = u; phase = f }) path ∙ ap (λ (x : PlainActivation). record s { layer = l; path = q; top = x; below = u; phase = f }) top
     ∙ ap (λ xs. record s { layer = l; path = q; top = b; below = xs; phase = f }) below ∙ ap (λ x. record s { layer = l; path = q; top = b; below = v; phase = x }) phase
 
+-- what is known of the one is known of the other
+pub came_as : (r : Came) (P A B : Type 0) → (A → B) → CameBy r P A → CameBy r P B
+came_as Nowhere P A B f h = h
+came_as Back P A B f h = f h
+came_as Stays P A B f h = f h
+
 module _ (setting : Setting) where
   -- one path behind another
   pub path_join : (s t u : PlainStrand) → IsPath setting s t → IsPath setting t u → IsPath setting s u
@@ -70,31 +78,58 @@ module _ (setting : Setting) where
   -- ---- the statements of an instance, in whatever strand
 
   -- two meanings that say the same of the instance
-  pub does_as : (passes : Bool) (f g : Bool → PlainStrand → PlainStrand) (a : PlainActivation) (l : PlainLayer) (did : Did) (b : PlainActivation) (m : PlainLayer)
-      → ((kit : Bool) (s : PlainStrand) → f kit (topped Running a l s) ≡ g kit (topped Running a l s)) → Does passes f a l did b m → Does passes g a l did b m
-  does_as passes f g a l Nothing b m e h = h
-  does_as passes f g a l Step b m e h = λ s may kit. h s may kit ∙ e kit s
-  does_as passes f g a l (Gave v) b m e h = λ s may kit. h s may kit ∙ e kit s
+  pub does_as : (passes : Bool) (p : Position) (f g : Bool → PlainStrand → PlainStrand) (a : PlainActivation) (l : PlainLayer) (did : Did) (b : PlainActivation) (m : PlainLayer)
+      → ((kit : Bool) (s : PlainStrand) → f kit (topped Running (at (Block p) a) l s) ≡ g kit (topped Running (at (Block p) a) l s)) → Does passes p f a l did b m → Does passes p g a l did b m
+  does_as passes p f g a l Nothing b m e h = h
+  does_as passes p f g a l Next b m e h = λ s may kit. h s may kit ∙ e kit s
+  does_as passes p f g a l Moved b m e h = λ s may kit. h s may kit ∙ e kit s
+  does_as passes p f g a l (Gave v) b m e h = λ s may kit. h s may kit ∙ e kit s
 
-  -- a block's end
-  pub does_end : (passes : Bool) (p : Position) (a : PlainActivation) (l : PlainLayer) (b : PlainActivation) → None ≡ instruction_inside setting.codes a.procedure (length a.outer) p → b ≡ outside a
-      → Does passes (λ kit. gone setting kit p) a l Step b l
-  does_end passes p a l b found is s may kit = ap (λ c. topped Running c l s) is ∙ ap (λ o. gone_by setting kit p o (topped Running a l s)) found
+  -- an instance goes behind its block, whatever it has left
+  outside_at : (w : Work) (left children procedure : ℕ) (slots : List Slot) (outer : List Position) (v : Work) (spawned : Bool) (into : Option ℕ)
+      → outside (record { left = left; children = children; procedure = procedure; slots = slots; outer = outer; work = w; spawned = spawned; into = into })
+      ≡ outside (record { left = left; children = children; procedure = procedure; slots = slots; outer = outer; work = v; spawned = spawned; into = into })
+  outside_at w left children procedure slots [] v spawned into = refl
+  outside_at w left children procedure slots (p ∷ rest) v spawned into = refl
 
-  -- a statement
-  pub does_there : (passes : Bool) (p : Position) (i : Instruction) (a : PlainActivation) (l : PlainLayer) (did : Did) (b : PlainActivation) (m : PlainLayer) → Some i ≡ instruction_inside setting.codes a.procedure (length a.outer) p
-      → Does passes (λ kit. performed setting kit p i.number i.operation) a l did b m → Does passes (λ kit. gone setting kit p) a l did b m
-  does_there passes p i a l did b m found =
-      does_as passes (λ kit. performed setting kit p i.number i.operation) (λ kit. gone setting kit p) a l did b m (λ kit s. ap (λ o. gone_by setting kit p o (topped Running a l s)) found)
+  module _ (passes : Bool) (a : PlainActivation) (l : PlainLayer) where
+    -- one stretch behind another
+    pub come_join : (b : PlainActivation) (m : PlainLayer) (given : Option ℤ) (c : PlainActivation) (n : PlainLayer) → ComesTo setting passes a l None b m → ComesTo setting passes b m given c n → ComesTo setting passes a l given c n
+    come_join b m given c n h k s may = path_join (topped Running a l s) (topped Running b m s) _ (h s may) (k s may)
 
-  module _ (passes : Bool) (a : PlainActivation) (l : PlainLayer) (b : PlainActivation) (m : PlainLayer) (come : ComesTo setting passes a l None b m) where
-    pub come_over : b.work ≡ Over → ComesTo setting passes a l (Some (pos 0)) b m
-    come_over over s may = on (topped Running b m s) (topped (Returning (pos 0)) b m s) (come s may) (λ kit. sym (ap (λ w. worked setting kit w (topped Running b m s)) over))
+    pub come_over : (b : PlainActivation) (m : PlainLayer) → ComesTo setting passes a l None b m → b.work ≡ Over → ComesTo setting passes a l (Some (pos 0)) b m
+    come_over b m come over s may = on (topped Running b m s) (topped (Returning (pos 0)) b m s) (come s may) (λ kit. sym (ap (λ w. worked setting kit w (topped Running b m s)) over))
 
-    pub come_by : (p : Position) (did : Did) (c : PlainActivation) (n : PlainLayer) → b.work ≡ Block p → Does passes (λ kit. gone setting kit p) b m did c n → ComesTo setting passes a l (value_by did) c n
-    come_by p Nothing c n work h s may = subst (λ (y : PlainActivation). IsPath setting (topped Running a l s) (topped Running y n s)) (sym h.0) (subst (λ (z : PlainLayer). IsPath setting (topped Running a l s) (topped Running b z s)) (sym h.1) (come s may))
-    come_by p Step c n work h s may = on (topped Running b m s) (topped Running c n s) (come s may) (λ kit. h s may kit ∙ sym (ap (λ w. worked setting kit w (topped Running b m s)) work))
-    come_by p (Gave v) c n work h s may = on (topped Running b m s) (topped (Returning v) c n s) (come s may) (λ kit. h s may kit ∙ sym (ap (λ w. worked setting kit w (topped Running b m s)) work))
+    -- a stretch within a block, so far
+    module _ (p : Position) (b : PlainActivation) (m : PlainLayer) (come : ComesTo setting passes a l None (at (Block p) b) m) where
+      -- the block's end
+      pub come_out : (c : PlainActivation) → None ≡ instruction_inside setting.codes b.procedure (length b.outer) p → c ≡ outside b → ComesTo setting passes a l None c m
+      come_out c found is s may =
+          let x = topped Running (at (Block p) b) m s in
+          let same : topped Running c m s ≡ topped Running (outside (at (Block p) b)) m s = ap (λ (y : PlainActivation). topped Running y m s) (is ∙ outside_at b.work b.left b.children b.procedure b.slots b.outer (Block p) b.spawned b.into) in
+          on x (topped Running c m s) (come s may) (λ kit. same ∙ ap (λ o. gone_by setting kit p o x) found)
+
+      module _ (i : Instruction) (found : Some i ≡ instruction_inside setting.codes b.procedure (length b.outer) p) (c : PlainActivation) (n : PlainLayer) where
+        abbrev pub meaning_there : Bool → PlainStrand → PlainStrand
+        meaning_there kit = performed setting kit p i.number i.operation
+
+        -- the meaning of the statement there is the next small step
+        is_step : (kit : Bool) (s : PlainStrand) → meaning_there kit (topped Running (at (Block p) b) m s) ≡ advanced setting kit (topped Running (at (Block p) b) m s)
+        is_step kit s = ap (λ o. gone_by setting kit p o (topped Running (at (Block p) b) m s)) found
+
+        pub come_next : Does passes p meaning_there b m Next c n → ComesTo setting passes a l None (at (Block (next_of p)) c) n
+        come_next h s may = on (topped Running (at (Block p) b) m s) (topped Running (at (Block (next_of p)) c) n s) (come s may) (λ kit. h s may kit ∙ is_step kit s)
+
+        pub come_moved : Does passes p meaning_there b m Moved c n → ComesTo setting passes a l None c n
+        come_moved h s may = on (topped Running (at (Block p) b) m s) (topped Running c n s) (come s may) (λ kit. h s may kit ∙ is_step kit s)
+
+        pub come_gave : (v : ℤ) → Does passes p meaning_there b m (Gave v) c n → ComesTo setting passes a l (Some v) (at (Block p) c) n
+        come_gave v h s may = on (topped Running (at (Block p) b) m s) (topped (Returning v) (at (Block p) c) n s) (come s may) (λ kit. h s may kit ∙ is_step kit s)
+
+        pub come_none : Does passes p meaning_there b m Nothing c n → ComesTo setting passes a l None (at (Block p) c) n
+        come_none h s may =
+            subst (λ (y : PlainActivation). IsPath setting (topped Running a l s) (topped Running (at (Block p) y) n s)) (sym h.0)
+            (subst (λ (z : PlainLayer). IsPath setting (topped Running a l s) (topped Running (at (Block p) b) z s)) (sym h.1) (come s may))
 
   -- ---- steps
 
@@ -122,6 +157,10 @@ module _ (setting : Setting) where
       let step : IsNext setting s (in_phase (Leaving v) s) = λ kit.
       sym (ap (λ ph. advanced_at setting kit ph s) phase ∙ ap (λ c. if c then s else if owns_top s then closed setting v s else in_phase (Leaving v) s) entry ∙ ap (λ c. if c then closed setting v s else in_phase (Leaving v) s) own) in
       record { path = on s (in_phase (Leaving v) s) here step; lower = refl; kinds = refl; tally = refl }
+
+  -- a loop's next iteration is the next small step
+  pub turned_next : (kit : Bool) (l : Loop) (h : Share) (s : PlainStrand) → s.phase ≡ Running → s.top.work ≡ Turns l h → turned setting kit l h s ≡ advanced setting kit s
+  turned_next kit l h s running there = sym (ap (λ ph. advanced_at setting kit ph s) running ∙ ap (λ w. worked setting kit w s) there)
 
   -- a loop is over
   pub loop_over : (l : Loop) (h : Share) (s t : PlainStrand) → (h.count == 0) ≡ true → t ≡ giving (pos 0) s → ((kit : Bool) → turned setting kit l h s ≡ advanced setting kit s) → IsAhead setting s t

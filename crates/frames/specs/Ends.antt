@@ -13,6 +13,10 @@ Notes view o old new (Ok b) = (o.answer ≡ Ok (view b)) × (new ≡ noting o.no
 Notes view o old new (Err (Fault k)) = (o.answer ≡ Err k) × (new ≡ noting o.notes old)
 Notes view o old new (Err NoMemory) = new ≡ old
 
+-- a layer has noted what the evaluation read, which has that answer
+abbrev pub Fills : {A : Type 0} → NumberedOut A → A → PlainLayer → PlainLayer → Type 0
+Fills o a old new = (o.answer ≡ Ok a) × (new ≡ noting o.notes old)
+
 -- a strand has evaluated at that statement: it goes on with a value, or it is faulted
 abbrev pub Evaluates : {A B : Type 0} → (B → A) → ℕ → NumberedOut A → PlainStrand → PlainStrand → Option B → Type 0
 Evaluates {A} view n o old new (Some b) = (o.answer ≡ Ok (view b)) × (new ≡ noted o.notes old)

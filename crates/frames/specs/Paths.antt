@@ -1,16 +1,21 @@
 -- Many small steps of a strand for which it doesn't matter whether a kit is free.
-use Rattle.std.specs.Prelude.{◌≡◌, ℕ, ℤ, Bool, true, false, List, Option, Some, None}
+use Rattle.std.specs.Prelude.{◌≡◌, ℕ, ℤ, Bool, true, false, List, Option, Some, None, slice_get}
 use Rattle.monoid_laws.specs.declared.Kind.{Kind}
-use Rattle.monoid_laws.specs.Kinds.{names_element}
+use Rattle.monoid_laws.specs.Kinds.{names_element, arity}
 use Rattle.positions.specs.declared.phase.Phase.{Phase}
 use Rattle.positions.specs.declared.phase.Phase.TheVariants.{Running, Returning}
 use Rattle.positions.specs.Setting.{Setting}
-use Rattle.positions.specs.Activations.{PlainActivation}
+use Rattle.positions.specs.declared.work.Position.{Position}
+use Rattle.positions.specs.declared.work.Work.{Work}
+use Rattle.positions.specs.declared.work.Work.TheVariants.{Block}
+use Rattle.positions.specs.Activations.{PlainActivation, at, next_of}
 use Rattle.positions.specs.Layers.{PlainLayer, updating}
 use Rattle.positions.specs.Strands.{PlainStrand, is_entry}
 use Rattle.positions.specs.Advance.{advanced}
 use Rattle.frames.specs.declared.leaf.Did.{Did}
-use Rattle.frames.specs.declared.leaf.Did.TheVariants.{Nothing, Step, Gave}
+use Rattle.frames.specs.declared.leaf.Did.TheVariants.{Nothing, Next, Moved, Gave}
+use Rattle.frames.specs.declared.ahead.Came.{Came}
+use Rattle.frames.specs.declared.ahead.Came.TheVariants.{Nowhere, Back, Stays}
 use Rattle.frames.specs.Steps.{IsStepOf}
 
 -- one small step, with a free kit as without one
@@ -49,14 +54,34 @@ ComesTo setting passes a l given b m = (s : PlainStrand) → MayPass passes s �
 -- the value that it gave back, if it did
 abbrev pub value_by : Did → Option ℤ
 value_by Nothing = None
-value_by Step = None
+value_by Next = None
+value_by Moved = None
 value_by (Gave v) = Some v
 
--- what was done of a statement with that meaning: nothing, or all of it
-abbrev pub Does : Bool → (Bool → PlainStrand → PlainStrand) → PlainActivation → PlainLayer → Did → PlainActivation → PlainLayer → Type 0
-Does passes meaning a l Nothing b m = (b ≡ a) × (m ≡ l)
-Does passes meaning a l Step b m = (s : PlainStrand) → MayPass passes s → (kit : Bool) → topped Running b m s ≡ meaning kit (topped Running a l s)
-Does passes meaning a l (Gave v) b m = (s : PlainStrand) → MayPass passes s → (kit : Bool) → topped (Returning v) b m s ≡ meaning kit (topped Running a l s)
+-- the same procedure, and as many blocks around
+abbrev pub IsInBlock : PlainActivation → PlainActivation → Type 0
+IsInBlock a b = (b.procedure ≡ a.procedure) × (b.outer ≡ a.outer)
+
+-- where the next statement of the block is next
+abbrev pub OnNext : Did → Type 0 → Type 0
+OnNext Next P = P
+OnNext _ P = Unit {0}
+
+-- what was done of the statement at a place, with that meaning: nothing, or all of it. What the instance has left isn't looked at: it stands at
+-- that place, or at the next one
+abbrev pub Does : Bool → Position → (Bool → PlainStrand → PlainStrand) → PlainActivation → PlainLayer → Did → PlainActivation → PlainLayer → Type 0
+Does passes p meaning a l Nothing b m = (b ≡ a) × (m ≡ l)
+Does passes p meaning a l Next b m = (s : PlainStrand) → MayPass passes s → (kit : Bool) → topped Running (at (Block (next_of p)) b) m s ≡ meaning kit (topped Running (at (Block p) a) l s)
+Does passes p meaning a l Moved b m = (s : PlainStrand) → MayPass passes s → (kit : Bool) → topped Running b m s ≡ meaning kit (topped Running (at (Block p) a) l s)
+Does passes p meaning a l (Gave v) b m = (s : PlainStrand) → MayPass passes s → (kit : Bool) → topped (Returning v) (at (Block p) b) m s ≡ meaning kit (topped Running (at (Block p) a) l s)
+
+-- a reducer takes so many numbers
+abbrev pub TakesBy : ℕ → Option Kind → Type 0
+TakesBy count None = Unit {0}
+TakesBy count (Some kind) = count ≡ arity kind
+
+abbrev pub Takes : List Kind → ℕ → ℕ → Type 0
+Takes kinds r count = TakesBy count (slice_get kinds r)
 
 -- the element that numbers name is combined with a reducer's value, where there is such a reducer
 abbrev pub Combines : Option Kind → ℕ → List ℤ → PlainLayer → PlainLayer → Type 0
@@ -79,3 +104,20 @@ GoesAhead setting meaning s t = ((kit : Bool) → meaning s ≡ advanced setting
 -- the same, of a meaning that a free kit may matter for
 abbrev pub GoesAheadBy : Setting → (Bool → PlainStrand → PlainStrand) → PlainStrand → PlainStrand → Type 0
 GoesAheadBy setting meaning s t = ((kit : Bool) → meaning kit s ≡ advanced setting kit s) → IsAhead setting s t
+
+-- ---- an instance that was to be called
+
+-- where nothing was done, and else
+abbrev pub CameBy : Came → Type 0 → Type 0 → Type 0
+CameBy Nowhere same ahead = same
+CameBy Back same ahead = ahead
+CameBy Stays same ahead = ahead
+
+-- where it is over and its value went back
+abbrev pub OnBack : Came → Type 0 → Type 0
+OnBack Back P = P
+OnBack _ P = Unit {0}
+
+-- the one that called it goes on, with that left
+abbrev pub IsBackWith : Work → PlainStrand → PlainStrand → Type 0
+IsBackWith w s t = (t.phase ≡ Running) × (t.top.work ≡ w) × (t.top.procedure ≡ s.top.procedure)

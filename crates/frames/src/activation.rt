@@ -1,11 +1,20 @@
 //! An instance of a procedure or of a loop, by numbers.
 ghost use Rattle.std.specs.Prelude.{◌≡◌, ◌+◌, ◌-◌, ◌<◌, ◌^◌, length, OnErr, OnOk, None, IfOk, map, [], slice_get, slice_set};
 ghost use Rattle.evaluation.specs.declared.slot.Slot.TheVariants.{Has, Waits};
-ghost use Rattle.positions.specs.Activations.{WorkFits, bound, at, waiting, made, inside, outside, next_of};
+ghost use Rattle.linked_program.specs.CodeView.{expression as plain};
+ghost use Rattle.evaluation.specs.Ends.{Ends};
+ghost use Rattle.evaluation.specs.Values.{entry_at};
+ghost use Rattle.positions.specs.Activations.{WorkFits, bound, at, waiting, made, first_of, inside, outside, next_of};
 ghost use Rattle.frames.specs.Ready.{restored_slots};
 ghost use Rattle.positions.specs.Moves.{settled, settled_slot};
 
+use crate::entering::FIRST;
+use evaluation::entry::fill_slots;
+use evaluation::note::Note;
 use evaluation::slot::Slot;
+use evaluation::stop::Stop;
+use input_tables::Tables;
+use linked_program::code::Expression;
 use positions::work::{Position, Work};
 use std::alloc::{AllocError, Global};
 use std::marker::Model;
@@ -67,6 +76,35 @@ impl Activation {
             spawned: false,
             into: None,
         }
+    }
+
+    /// Puts its slots in place: the values of those arguments over slots, as those of an instance of `size` names.
+    #[inline(always)]
+    pub(crate) fn fill(
+        &mut self,
+        size: usize,
+        arguments: &[Expression],
+        slots: &[Slot],
+        tables: &Tables,
+        notes: &mut Vec<Note>,
+    ) -> Result<(), Stop>
+        ensures ends { Ends (λ u. self.new.slots) (entry_at tables.now.tables slots.now size (map plain arguments.now)) notes.old.items notes.new.items result }
+    {
+        fill_slots(&mut self.slots, size, arguments, slots, tables, notes)
+    }
+
+    /// Begins as an instance of that procedure, with the slots that it has.
+    #[inline(always)]
+    pub(crate) fn begin(&mut self, procedure: usize, left: u32)
+        ensures begun { self.new ≡ made procedure self.old.slots (Work.Block (first_of 0)) left }
+    {
+        self.left = left;
+        self.children = 0;
+        self.procedure = procedure;
+        self.outer.clear();
+        self.work = Work::Block(FIRST);
+        self.spawned = false;
+        self.into = None;
     }
 
     /// How many levels there are below it.

@@ -11,16 +11,16 @@ ghost use Rattle.positions.specs.Activations.{ShareFits, WorkFits, next_of as pl
 ghost use Rattle.positions.specs.Setting.{Setting as PlainSetting};
 ghost use Rattle.positions.specs.Strands.{entry_by};
 ghost use Rattle.positions.specs.Tallies.{is_own};
-ghost use Rattle.positions.specs.Advance.{called, evaluated, performed, turned, turn_slots, rest_of as later_of};
+ghost use Rattle.positions.specs.Advance.{called, evaluated, performed, turn_slots, rest_of as later_of};
+ghost use Rattle.frames.specs.Ready.{laid_over};
 ghost use Rattle.frames.specs.Given.{given, lent};
 ghost use Rattle.frames.specs.Steps.{nested_plain};
-ghost use Rattle.frames.specs.Paths.{IsPath, IsPathOf, IsAhead, GoesAhead, GoesAheadBy, phase_by};
+ghost use Rattle.frames.specs.Paths.{IsPath, IsPathOf, IsAhead, GoesAhead, GoesAheadBy, CameBy, OnBack, IsBackWith, phase_by};
 
-use crate::activation::{Activation, next_of};
+use crate::activation::next_of;
 use crate::code::{LoopCode, instruction, loop_code};
-use crate::entering::FIRST;
 use crate::loops::{number_of, rest_of};
-use crate::machine::{DEEPEST, Machine};
+use crate::machine::Machine;
 use crate::setting::Setting;
 use crate::strand::Strand;
 use evaluation::slot::Slot;
@@ -36,8 +36,19 @@ use std::alloc::Global;
 use std::mem;
 use view_pool::View;
 
-// How many stretches of small steps are done in one go.
+// How many stretches of small steps, and how many iterations of a loop, are done in one go.
 const STRETCHES: u32 = 1024;
+
+const ITERATIONS: u32 = 1024;
+
+/// What came of an instance that was to be called: nothing was done; it is over, and its value went to the one that called it; or
+/// it stands on the strand and has more to do.
+#[derive(Clone, Copy)]
+pub enum Came {
+    Nowhere,
+    Back,
+    Stays,
+}
 
 impl<V: View> Strand<V> {
     /// Does small steps, some or none: those of instances that no kit is asked for, as far as they spawn nothing, read no reducer,
@@ -93,7 +104,7 @@ impl<V: View> Machine<V> {
             Phase::Running => match self.top.work() {
                 Work::Block(_) => self.block_ahead(alloc, setting),
                 Work::Over => self.block_ahead(alloc, setting),
-                Work::Turns(site, share) => self.turn_ahead(alloc, setting, site, share),
+                Work::Turns(site, share) => self.turns_ahead(alloc, setting, site, share),
                 _ => false,
             },
             Phase::Returning(value) => self.sync_ahead(value),
@@ -257,83 +268,134 @@ impl<V: View> Machine<V> {
         requires running { self.old.phase ≡ Phase.Running }
         ensures ahead { GoesAhead (lent setting.entry) (evaluated statement (entry_at setting.entry.tables.now.tables self.old.top.slots (slots_of setting.entry.program.now.codes callee) (map plain arguments.now)) (nested_plain statement Call into (Work.Block (place_after place)) callee)) self.old self.new }
     {
-        let before = self.layer.readings();
-        let size = setting.program.slots(callee);
-        let room = self.spares.slots(alloc);
-        match self
-            .layer
-            .entry(room, size, arguments, self.top.slots(), setting.tables)
-        {
-            Ok(slots) => {
-                let work = Work::Block(next_of(place));
-                if self.nest_ahead(alloc, setting, into, work, callee, slots) {
-                    return true;
-                }
-                self.forget(before);
-                false
-            }
-            Err(_) => {
-                self.forget(before);
-                false
-            }
+        let work = Work::Block(next_of(place));
+        match self.child_ahead(alloc, setting, into, work, callee, arguments, None) {
+            Came::Nowhere => false,
+            Came::Back => true,
+            Came::Stays => true,
         }
     }
 
-    /// Enters the next iteration of a loop, where its procedure isn't marked memo, and does its statements; or ends the loop.
-    fn turn_ahead(&mut self, alloc: Global, setting: Setting<'_>, site: Loop, share: Share) -> bool
+    /// Enters the iterations of a loop that has so many left, one after another, where their procedure isn't marked memo, and does
+    /// their statements; or ends the loop. False where nothing is left that could be done so.
+    fn turns_ahead(&mut self, alloc: Global, setting: Setting<'_>, site: Loop, share: Share) -> bool
         requires fits { ShareFits site share }
+        requires there { self.old.top.work ≡ Work.Turns site share }
         requires kinds { self.old.layer.kinds ≡ setting.program.now.kinds }
         requires running { self.old.phase ≡ Phase.Running }
-        ensures ahead { GoesAheadBy (lent setting.entry) (λ kit. turned (lent setting.entry) kit site share) self.old self.new }
+        ensures ahead { IsAhead (lent setting.entry) self.old self.new }
     {
-        if share.count == 0 {
-            self.phase = Phase::Returning(0);
-            return true;
-        }
         let code = loop_code(setting.program, self.top.procedure(), site);
-        if setting.program.is_memo(code.callee) {
-            return false;
+        let is_memo = setting.program.is_memo(code.callee);
+        let mut share = share;
+        for _ in 0..ITERATIONS {
+            if share.count == 0 {
+                self.phase = Phase::Returning(0);
+                return true;
+            }
+            if is_memo {
+                return false;
+            }
+            match self.turn_ahead(alloc, setting, code, site, share) {
+                Came::Back => share = rest_of(site, share),
+                Came::Stays => return true,
+                Came::Nowhere => return false,
+            }
         }
-        self.iterate_ahead(alloc, setting, code, site, share)
+        true
     }
 
     /// Enters the next iteration of a loop that has more, of a procedure that isn't marked memo.
-    fn iterate_ahead(
+    #[inline(always)]
+    fn turn_ahead(
         &mut self,
         alloc: Global,
         setting: Setting<'_>,
         code: LoopCode,
         site: Loop,
         share: Share,
-    ) -> bool
+    ) -> Came
         requires fits { ShareFits site share }
         requires more { 0 < share.count }
         requires kinds { self.old.layer.kinds ≡ setting.program.now.kinds }
         requires running { self.old.phase ≡ Phase.Running }
-        ensures ahead { GoesAhead (lent setting.entry) (evaluated code.entry.number (entry_at setting.entry.tables.now.tables (turn_slots (record { number = code.entry.number; variable = code.entry.variable; grain = code.entry.grain; callee = code.entry.callee; arguments = code.entry.arguments.now }) site share self.old) (slots_of setting.entry.program.now.codes code.entry.callee) (map plain code.entry.arguments.now)) (nested_plain code.entry.number Call None (Work.Turns site (later_of share)) code.entry.callee)) self.old self.new }
+        ensures came { CameBy result (self.new ≡ self.old) (GoesAhead (lent setting.entry) (evaluated code.entry.number (entry_at setting.entry.tables.now.tables (turn_slots (record { number = code.entry.number; variable = code.entry.variable; grain = code.entry.grain; callee = code.entry.callee; arguments = code.entry.arguments.now }) site share self.old) (slots_of setting.entry.program.now.codes code.entry.callee) (map plain code.entry.arguments.now)) (nested_plain code.entry.number Call None (Work.Turns site (later_of share)) code.entry.callee)) self.old self.new) }
+        ensures back { OnBack result (IsBackWith (Work.Turns site (later_of share)) self.old self.new) }
     {
-        let before = self.layer.readings();
-        let size = setting.program.slots(code.callee);
+        let work = Work::Turns(site, rest_of(site, share));
         let number = Slot::Has(number_of(site, share));
-        match self.entry_with(
+        self.child_ahead(
             alloc,
-            setting.tables,
-            size,
+            setting,
+            None,
+            work,
+            code.callee,
             code.arguments,
-            code.variable,
-            number,
+            Some((code.variable, number)),
+        )
+    }
+
+    /// Calls an instance of that procedure, which isn't marked memo, with those arguments, over the topmost instance's slots, of
+    /// which one may hold something else meanwhile; and does the statements that it does by itself. What is left then is as `work`
+    /// says. It stands on the strand only where it has more to do.
+    #[inline(always)]
+    fn child_ahead(
+        &mut self,
+        alloc: Global,
+        setting: Setting<'_>,
+        into: Option<usize>,
+        work: Work,
+        callee: usize,
+        arguments: &[Expression],
+        meanwhile: Option<(usize, Slot)>,
+    ) -> Came
+        requires fits { WorkFits work }
+        requires kinds { self.old.layer.kinds ≡ setting.program.now.kinds }
+        requires running { self.old.phase ≡ Phase.Running }
+        ensures came { CameBy result (self.new ≡ self.old) ((statement : ℕ) → GoesAhead (lent setting.entry) (evaluated statement (entry_at setting.entry.tables.now.tables (laid_over meanwhile self.old.top.slots) (slots_of setting.entry.program.now.codes callee) (map plain arguments.now)) (nested_plain statement Call into work callee)) self.old self.new) }
+        ensures back { OnBack result (IsBackWith work self.old self.new) }
+    {
+        let left = self.top.left();
+        if left == 0 || self.ends_otherwise() {
+            return Came::Nowhere;
+        }
+        let Some(number) = self.top.children().checked_add(1) else {
+            return Came::Nowhere;
+        };
+        if self.path.reserve(1).is_err() || self.below.reserve(1).is_err() {
+            return Came::Nowhere;
+        }
+        let size = setting.program.slots(callee);
+        if !self.layer.fills(
+            &mut self.spares.child,
+            &mut self.top,
+            meanwhile,
+            size,
+            arguments,
+            setting.tables,
         ) {
-            Ok(slots) => {
-                let work = Work::Turns(site, rest_of(site, share));
-                if self.nest_ahead(alloc, setting, None, work, code.callee, slots) {
-                    return true;
-                }
-                self.forget(before);
-                false
+            return Came::Nowhere;
+        }
+        match self.layer.call(
+            setting,
+            callee,
+            left - 1,
+            &mut self.spares.child,
+            &mut self.numbers,
+        ) {
+            Some(value) => {
+                self.top.wait(false, into, work);
+                self.top.receive(value);
+                Came::Back
             }
-            Err(_) => {
-                self.forget(before);
-                false
+            None => {
+                let blank = self.spares.blank(alloc);
+                let child = mem::replace(&mut self.spares.child, blank);
+                self.path.push_reserved(number);
+                let mut parent = mem::replace(&mut self.top, child);
+                parent.wait(false, into, work);
+                self.below.push_reserved(parent);
+                Came::Stays
             }
         }
     }
@@ -352,52 +414,5 @@ impl<V: View> Machine<V> {
             Start::Root => false,
             Start::Behind { depth, child: _ } => depth == length,
         }
-    }
-
-    /// Calls an instance of that procedure, which isn't marked memo, with those slots, and does the statements that it does by
-    /// itself; what is left then is as `work` says. It stands on the strand only where it has more to do. False where nothing was
-    /// done.
-    fn nest_ahead(
-        &mut self,
-        alloc: Global,
-        setting: Setting<'_>,
-        into: Option<usize>,
-        work: Work,
-        callee: usize,
-        slots: Vec<Slot>,
-    ) -> bool
-        requires fits { WorkFits work }
-        requires kinds { self.old.layer.kinds ≡ setting.program.now.kinds }
-        requires running { self.old.phase ≡ Phase.Running }
-        ensures ahead { result ≡ true → (statement : ℕ) → IsAhead (lent setting.entry) (nested_plain statement Call into work callee slots.items self.old) self.new }
-        ensures unchanged { result ≡ false → self.new ≡ self.old }
-    {
-        let left = self.top.left();
-        if left == 0 || self.ends_otherwise() {
-            return false;
-        }
-        let Some(number) = self.top.children().checked_add(1) else {
-            return false;
-        };
-        if self.path.reserve(1).is_err() || self.below.reserve(1).is_err() {
-            return false;
-        }
-        let places = self.spares.places(alloc);
-        let mut child = Activation::new(callee, slots, places, Work::Block(FIRST), left - 1);
-        self.layer.enter(callee, DEEPEST.saturating_sub(left - 1));
-        match self.layer.run(setting, true, &mut child, &mut self.numbers) {
-            Some(value) => {
-                self.spares.keep(child);
-                self.top.wait(false, into, work);
-                self.top.receive(value);
-            }
-            None => {
-                self.path.push_reserved(number);
-                let mut parent = mem::replace(&mut self.top, child);
-                parent.wait(false, into, work);
-                self.below.push_reserved(parent);
-            }
-        }
-        true
     }
 }

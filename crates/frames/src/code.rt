@@ -1,5 +1,5 @@
 // What stands in the code at a place.
-ghost use Rattle.std.specs.Prelude.{◌≡◌, ◌+◌, ◌<◌, ◌^◌, option_copied, OnSome};
+ghost use Rattle.std.specs.Prelude.{◌≡◌, ◌+◌, ◌<◌, ◌^◌, ℕ, option_copied, slice_get, OnSome};
 ghost use Rattle.positions.specs.Code.{instruction_inside, loop_at, PlainLoop};
 
 use linked_program::checked::Checked;
@@ -25,6 +25,24 @@ pub(crate) fn instruction(
                 None
             }
         }
+    }
+}
+
+/// The instructions of a block that has so many blocks around it; none where there is no such block.
+pub(crate) fn instructions(
+    program: &Checked,
+    procedure: usize,
+    depth: usize,
+    block: usize,
+) -> &[Instruction]
+    ensures found { (index : ℕ) → slice_get result.now index ≡ instruction_inside program.now.codes procedure depth (record { block = block; index = index }) }
+{
+    match program.codes().get(procedure) {
+        None => &[],
+        Some(code) => match code.blocks.get(block) {
+            Some(found) if depth < code.blocks.len() => &found.instructions,
+            _ => &[],
+        },
     }
 }
 

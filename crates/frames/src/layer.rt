@@ -1,19 +1,21 @@
 //! A layer of a strand: the views of a kit, and what was read and entered since they were opened.
-ghost use Rattle.std.specs.Prelude.{◌≡◌, [], ℕ, ◌<◌, ◌+◌, ◌⊎◌, OnOk, OnErr, IfOk, IfErr, Some, All, if◌then◌else◌, true, false, length, map, take, slice_get};
+ghost use Rattle.std.specs.Prelude.{◌≡◌, ◌∷◌, [], ℕ, ◌<◌, ◌+◌, ◌⊎◌, OnOk, OnErr, IfOk, IfErr, Some, All, if◌then◌else◌, true, false, length, map, take, slice_get};
 ghost use Rattle.monoid_laws.specs.declared.Kind.{Kind};
 ghost use Rattle.monoid_laws.specs.Kinds.{IsMonoid, meaning, names_element, operate_all};
 ghost use Rattle.linked_program.specs.CodeView.{expression as plain};
 ghost use Rattle.meaning.specs.Statements.{number_of};
 ghost use Rattle.evaluation.specs.Values.{value_at, values_at, entry_at, bounds_at};
 ghost use Rattle.positions.specs.Layers.{blank, entering, updating, multiplied};
-ghost use Rattle.frames.specs.Ends.{Notes};
+ghost use Rattle.frames.specs.Ends.{Notes, Fills};
+ghost use Rattle.frames.specs.Ready.{laid_over};
 
+use crate::activation::Activation;
 use evaluation::entry::entry_slots;
 use evaluation::note::Note;
 use evaluation::ranges::{LoopRange, bounds};
 use evaluation::slot::Slot;
 use evaluation::stop::Stop;
-use evaluation::values::{value, values};
+use evaluation::values::{two_values, value, values};
 use hypermaps::Hypermap;
 use input_tables::Tables;
 use linked_program::code::Expression;
@@ -89,6 +91,7 @@ impl<V: View> Layer<V> {
     }
 
     /// The value of an expression.
+    #[inline(always)]
     pub(crate) fn value(
         &mut self,
         expression: &Expression,
@@ -98,6 +101,20 @@ impl<V: View> Layer<V> {
         ensures notes { Notes (λ v. v) (value_at tables.now.tables slots.now (plain expression.now)) self.old self.new result }
     {
         value(expression, slots, tables, &mut self.notes)
+    }
+
+    /// The values of two expressions.
+    #[inline(always)]
+    pub(crate) fn pair(
+        &mut self,
+        first: &Expression,
+        second: &Expression,
+        slots: &[Slot],
+        tables: &Tables,
+    ) -> Result<(i64, i64), Stop>
+        ensures notes { Notes (λ p. p.0 ∷ p.1 ∷ []) (values_at tables.now.tables slots.now (plain first.now ∷ plain second.now ∷ [])) self.old self.new result }
+    {
+        two_values(first, second, slots, tables, &mut self.notes)
     }
 
     /// The values of expressions, in place of what `numbers` held.
@@ -127,6 +144,72 @@ impl<V: View> Layer<V> {
         ensures notes { Notes (λ v. v.items) (entry_at tables.now.tables slots.now size (map plain arguments.now)) self.old self.new result }
     {
         entry_slots(room, size, arguments, slots, tables, &mut self.notes)
+    }
+
+    /// Puts the slots of an instance that is entered with these arguments in place, over the topmost instance's slots.
+    #[inline(always)]
+    pub(crate) fn fill(
+        &mut self,
+        child: &mut Activation,
+        top: &Activation,
+        size: usize,
+        arguments: &[Expression],
+        tables: &Tables,
+    ) -> Result<(), Stop>
+        ensures notes { Notes (λ u. child.new.slots) (entry_at tables.now.tables top.now.slots size (map plain arguments.now)) self.old self.new result }
+    {
+        child.fill(size, arguments, top.slots(), tables, &mut self.notes)
+    }
+
+    /// The same, where a slot may hold something else meanwhile.
+    #[inline(always)]
+    #[tactic(auto, using(crate::proofs::Slots::put_back))]
+    pub(crate) fn fill_over(
+        &mut self,
+        child: &mut Activation,
+        top: &mut Activation,
+        meanwhile: Option<(usize, Slot)>,
+        size: usize,
+        arguments: &[Expression],
+        tables: &Tables,
+    ) -> Result<(), Stop>
+        ensures notes { Notes (λ u. child.new.slots) (entry_at tables.now.tables (laid_over meanwhile top.old.slots) size (map plain arguments.now)) self.old self.new result }
+        ensures top { top.new ≡ top.old }
+    {
+        match meanwhile {
+            None => self.fill(child, top, size, arguments, tables),
+            Some((variable, number)) => {
+                let held = top.exchange(variable, number);
+                let outcome = self.fill(child, top, size, arguments, tables);
+                top.restore(variable, held);
+                outcome
+            }
+        }
+    }
+
+    /// The same: whether that was done, and else nothing is noted.
+    #[inline(always)]
+    pub(crate) fn fills(
+        &mut self,
+        child: &mut Activation,
+        top: &mut Activation,
+        meanwhile: Option<(usize, Slot)>,
+        size: usize,
+        arguments: &[Expression],
+        tables: &Tables,
+    ) -> bool
+        ensures filled { result ≡ true → Fills (entry_at tables.now.tables (laid_over meanwhile top.old.slots) size (map plain arguments.now)) child.new.slots self.old self.new }
+        ensures unchanged { result ≡ false → self.new ≡ self.old }
+        ensures top { top.new ≡ top.old }
+    {
+        let before = self.readings();
+        match self.fill_over(child, top, meanwhile, size, arguments, tables) {
+            Ok(()) => true,
+            Err(_) => {
+                self.forget(before);
+                false
+            }
+        }
     }
 
     /// A loop's range.

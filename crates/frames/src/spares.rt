@@ -3,12 +3,14 @@ ghost use Rattle.std.specs.Prelude.{◌≡◌, []};
 
 use crate::activation::Activation;
 use evaluation::slot::Slot;
-use positions::work::Position;
+use positions::work::{Position, Work};
 use std::alloc::Global;
 
-/// Lists of slots and of places, for instances to come. What they held doesn't matter.
+/// An instance that is over, for the next one that is called, and lists of slots and of places, for others to come. What they
+/// held doesn't matter.
 #[derive(Drop)]
 pub(crate) struct Spares {
+    pub(crate) child: Activation,
     slots: Vec<Vec<Slot>>,
     places: Vec<Vec<Position>>,
 }
@@ -17,14 +19,25 @@ impl Spares {
     /// None yet.
     pub(crate) fn new(alloc: Global) -> Spares {
         Spares {
+            child: Activation::new(0, Vec::new(alloc), Vec::new(alloc), Work::Over, 0),
             slots: Vec::new(alloc),
             places: Vec::new(alloc),
         }
     }
 
+    /// An instance in place of the one that is kept, with lists that are kept.
+    pub(crate) fn blank(&mut self, alloc: Global) -> Activation
+        ensures child { self.new.child ≡ self.old.child }
+    {
+        let slots = self.slots(alloc);
+        let places = self.places(alloc);
+        Activation::new(0, slots, places, Work::Over, 0)
+    }
+
     /// An empty list of slots.
     pub(crate) fn slots(&mut self, alloc: Global) -> Vec<Slot>
         ensures empty { result.items ≡ [] }
+        ensures child { self.new.child ≡ self.old.child }
     {
         match self.slots.pop() {
             Some(mut slots) => {
@@ -38,6 +51,7 @@ impl Spares {
     /// An empty list of places.
     pub(crate) fn places(&mut self, alloc: Global) -> Vec<Position>
         ensures empty { result.items ≡ [] }
+        ensures child { self.new.child ≡ self.old.child }
     {
         match self.places.pop() {
             Some(mut places) => {

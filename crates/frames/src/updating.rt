@@ -21,7 +21,7 @@ use std::mem;
 use view_pool::View;
 
 /// How many numbers an update takes.
-fn arity(kind: &Kind) -> usize
+pub(crate) fn arity(kind: &Kind) -> usize
     ensures arity { result ≡ arity_of kind.now }
 {
     match kind {
@@ -142,7 +142,7 @@ impl<V: View> Layer<V> {
     }
 
     /// Combines the element that as many numbers as the kind takes name on the right of the value of a reducer of that kind.
-    fn update_fitting(
+    pub(crate) fn update_fitting(
         &mut self,
         kind: &Kind,
         reducer: usize,

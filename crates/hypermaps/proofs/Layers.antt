@@ -1,6 +1,6 @@
 -- What one write of a view does to the layer.
-use Rattle.std.specs.Prelude.{◌≡◌, ◌≢◌, ℕ, ◌<◌, List, [], ◌∷◌, ◌++◌, length, map, false, true, Bool, ◌||◌, nat_eq, not, All, refl, if◌then◌else◌, Result, Ok, Err, OnOk, OnErr, IfOk, IfErr, is_err}
-use Rattle.std.specs.List.{list_any}
+use Rattle.std.specs.Prelude.{◌≡◌, ◌≢◌, ℕ, zero, suc, ◌<◌, List, [], ◌∷◌, ◌++◌, length, map, false, true, Bool, ◌||◌, nat_eq, not, All, refl, if◌then◌else◌, Some, Result, Ok, Err, OnOk, OnErr, IfOk, IfErr, is_err}
+use Rattle.std.specs.List.{list_any, slice_get}
 use Rattle.std.proofs.Common.{sym, ◌∙◌, ap, subst, arith, get_or, set}
 use Rattle.std.proofs.Math.ListN.{length-map}
 use Rattle.std.proofs.Math.Seq.{map-set_same}
@@ -192,3 +192,15 @@ module _ {X : Type 0} (kind : X → Kind) (worth : X → Worth) (ls rs : List X)
 
     pub fold-product : operate_all (map kind (set ls i ln)) (map worth (set ls i ln)) (map worth (set rs i rn)) ≡ operate_all (map kind ls) (map worth ls) (map worth rs)
     fold-product = by_result r _ _ _ _ _ product-ok product-err moved emptied left_kept right_kept
+
+-- what stands in a list is among it
+pub any_at : (xs : List ℕ) (i m n : ℕ) → slice_get xs i ≡ Some m → nat_eq m n ≡ true → list_any (nat_eq n) xs ≡ true
+any_at [] i m n e h = cc
+any_at (x ∷ xs) zero m n e h =
+    let same : x ≡ m = cc in
+    ap (λ b. b || list_any (nat_eq n) xs) (eq_swap n x ∙ ap (λ y. nat_eq y n) same ∙ h)
+any_at (x ∷ xs) (suc i) m n e h = either (nat_eq n x) (any_at xs i m n e h)
+  where
+    either : (b : Bool) {c : Bool} → c ≡ true → (b || c) ≡ true
+    either true k = refl
+    either false k = k

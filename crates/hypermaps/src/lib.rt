@@ -39,12 +39,24 @@ fn is_used(used: &[usize], reducer: usize) -> bool
     used.contains(&reducer)
 }
 
+/// Whether a reducer stands among the used ones at its own number's place, as all do in a program that uses them in order.
+#[inline(always)]
+fn is_in_order(used: &[usize], reducer: usize) -> bool
+    ensures used { result ≡ true → list_any (nat_eq reducer) used.now ≡ true }
+{
+    match used.get(reducer) {
+        Some(there) => *there == reducer,
+        None => false,
+    }
+}
+
 /// Notes that a reducer is used.
+#[inline(always)]
 fn note_use(used: &mut Vec<usize>, reducer: usize) -> Result<(), AllocError>
     ensures keys { OnOk result (used.new.items ≡ used_also used.old.items reducer) }
     ensures same { OnErr result (used.new.items ≡ used.old.items) }
 {
-    if is_used(used, reducer) {
+    if is_in_order(used, reducer) || is_used(used, reducer) {
         return Ok(());
     }
     match used.push(reducer) {

@@ -4,7 +4,7 @@ use Rattle.std.proofs.lemmas.Int.{ints}
 use Rattle.std.specs.Prelude.{int_lt, slice_get, slice_set}
 use Rattle.std.specs.List.{insert, remove}
 use Rattle.std.specs.Ordering.{int_eq}
-use Rattle.input_tables.specs.Pages.{place_of, AreOver, AreRising, put_entry, gone_entry, entry_of, IsOf, IsAbsent}
+use Rattle.input_tables.specs.Pages.{lower_count, AreOver, AreRising, put_entry, gone_entry, entry_of, IsOf, IsAbsent}
 
 pub differ : (a b : ℤ) → int_lt a b ≡ true → b ≡ a → ⊥
 differ a b h g = absurd (grind (arith, ints))
@@ -45,7 +45,7 @@ module _ {A : Type 0} where
   over_more m n (e ∷ es) h over = (lt_trans m n e.0 h over.0, over_more m n es h over.1)
 
   -- an entry of this number stands at its place
-  pub place_there : (n : ℤ) (es : List (ℤ × A)) (i : ℕ) (e : ℤ × A) → AreRising es → slice_get es i ≡ Some e → e.0 ≡ n → place_of n es ≡ i
+  pub place_there : (n : ℤ) (es : List (ℤ × A)) (i : ℕ) (e : ℤ × A) → AreRising es → slice_get es i ≡ Some e → e.0 ≡ n → lower_count n es ≡ i
   place_there n [] i e rising at is = absurd cc
   place_there n (f ∷ es) zero e rising at is =
       let first : f ≡ e = cc in
@@ -55,58 +55,58 @@ module _ {A : Type 0} where
       rw below (ap suc (place_there n es i e rising.1 at is))
 
   -- the place is past each entry of a lower number, and not past the others
-  pub place_past : (n : ℤ) (es : List (ℤ × A)) (i : ℕ) (e : ℤ × A) → AreRising es → slice_get es i ≡ Some e → int_lt e.0 n ≡ true → i < place_of n es
+  pub place_past : (n : ℤ) (es : List (ℤ × A)) (i : ℕ) (e : ℤ × A) → AreRising es → slice_get es i ≡ Some e → int_lt e.0 n ≡ true → i < lower_count n es
   place_past n [] i e rising at below = absurd cc
   place_past n (f ∷ es) zero e rising at below =
       let first : f ≡ e = cc in
       rw (first, below) (omega arith)
   place_past n (f ∷ es) (suc i) e rising at below =
       let before : int_lt f.0 n ≡ true = lt_trans f.0 e.0 n (over_at f.0 es i e rising.0 at) below in
-      let more : i < place_of n es = place_past n es i e rising.1 at below in
+      let more : i < lower_count n es = place_past n es i e rising.1 at below in
       rw before (omega (arith, more))
 
-  pub place_upto : (n : ℤ) (es : List (ℤ × A)) (i : ℕ) (e : ℤ × A) → slice_get es i ≡ Some e → int_lt e.0 n ≡ false → place_of n es ≤ i
+  pub place_upto : (n : ℤ) (es : List (ℤ × A)) (i : ℕ) (e : ℤ × A) → slice_get es i ≡ Some e → int_lt e.0 n ≡ false → lower_count n es ≤ i
   place_upto n [] i e at upper = absurd cc
   place_upto n (f ∷ es) zero e at upper =
       let first : f ≡ e = cc in
       rw (first, upper) (omega arith)
   place_upto n (f ∷ es) (suc i) e at upper = by (int_lt f.0 n) (place_upto n es i e at upper)
     where
-      by : (b : Bool) → place_of n es ≤ i → cond b (suc (place_of n es)) 0 ≤ suc i
+      by : (b : Bool) → lower_count n es ≤ i → cond b (suc (lower_count n es)) 0 ≤ suc i
       by true h = omega (arith, h)
       by false h = omega arith
 
-  pub place_within : (n : ℤ) (es : List (ℤ × A)) → place_of n es ≤ length es
+  pub place_within : (n : ℤ) (es : List (ℤ × A)) → lower_count n es ≤ length es
   place_within n [] = omega arith
   place_within n (f ∷ es) = by (int_lt f.0 n) (place_within n es)
     where
-      by : (b : Bool) → place_of n es ≤ length es → cond b (suc (place_of n es)) 0 ≤ suc (length es)
+      by : (b : Bool) → lower_count n es ≤ length es → cond b (suc (lower_count n es)) 0 ≤ suc (length es)
       by true h = omega (arith, h)
       by false h = omega arith
 
   -- what is put at the place of a number
-  pub put_over : (n : ℤ) (x : A) (es : List (ℤ × A)) → IsOf n (slice_get es (place_of n es)) → slice_set es (place_of n es) (n, x) ≡ put_entry n x es
+  pub put_over : (n : ℤ) (x : A) (es : List (ℤ × A)) → IsOf n (slice_get es (lower_count n es)) → slice_set es (lower_count n es) (n, x) ≡ put_entry n x es
   put_over n x [] is = absurd is
   put_over n x (f ∷ es) is = elim (compared f.0 n) [
-    | lower h ↦ (let there : IsOf n (slice_get es (place_of n es)) = rw h at is in
+    | lower h ↦ (let there : IsOf n (slice_get es (lower_count n es)) = rw h at is in
         rw (h, lt_not f.0 n h) (ap (λ l. f ∷ l) (put_over n x es there)))
     | same h ↦ rw (h, lt_self n) refl
     | higher h ↦ (let there : f.0 ≡ n = rw (lt_not n f.0 h) at is in absurd (differ n f.0 h there))
   ]
 
-  pub put_new : (n : ℤ) (x : A) (es : List (ℤ × A)) → IsAbsent n (slice_get es (place_of n es)) → insert es (place_of n es) (n, x) ≡ put_entry n x es
+  pub put_new : (n : ℤ) (x : A) (es : List (ℤ × A)) → IsAbsent n (slice_get es (lower_count n es)) → insert es (lower_count n es) (n, x) ≡ put_entry n x es
   put_new n x [] new = refl
   put_new n x (f ∷ es) new = elim (compared f.0 n) [
-    | lower h ↦ (let there : IsAbsent n (slice_get es (place_of n es)) = rw h at new in
+    | lower h ↦ (let there : IsAbsent n (slice_get es (lower_count n es)) = rw h at new in
         rw (h, lt_not f.0 n h) (ap (λ l. f ∷ l) (put_new n x es there)))
     | same h ↦ (let there : ¬ (n ≡ n) = rw (h, lt_self n) at new in absurd (there refl))
     | higher h ↦ rw (h, lt_not n f.0 h) refl
   ]
 
-  pub gone_there : (n : ℤ) (es : List (ℤ × A)) → IsOf n (slice_get es (place_of n es)) → remove es (place_of n es) ≡ gone_entry n es
+  pub gone_there : (n : ℤ) (es : List (ℤ × A)) → IsOf n (slice_get es (lower_count n es)) → remove es (lower_count n es) ≡ gone_entry n es
   gone_there n [] is = absurd is
   gone_there n (f ∷ es) is = elim (compared f.0 n) [
-    | lower h ↦ (let there : IsOf n (slice_get es (place_of n es)) = rw h at is in
+    | lower h ↦ (let there : IsOf n (slice_get es (lower_count n es)) = rw h at is in
         rw h (ap (λ l. f ∷ l) (gone_there n es there)))
     | same h ↦ rw (h, lt_self n) refl
     | higher h ↦ (let there : f.0 ≡ n = rw (lt_not n f.0 h) at is in absurd (differ n f.0 h there))
@@ -117,10 +117,10 @@ module _ {A : Type 0} where
   entry_over n [] over = refl
   entry_over n (e ∷ es) over = rw (lt_not n e.0 over.0, over.0) (entry_over n es over.1)
 
-  pub entry_there : (n : ℤ) (es : List (ℤ × A)) (e : ℤ × A) → slice_get es (place_of n es) ≡ Some e → e.0 ≡ n → entry_of n es ≡ Some e.1
+  pub entry_there : (n : ℤ) (es : List (ℤ × A)) (e : ℤ × A) → slice_get es (lower_count n es) ≡ Some e → e.0 ≡ n → entry_of n es ≡ Some e.1
   entry_there n [] e at is = absurd cc
   entry_there n (f ∷ es) e at is = elim (compared f.0 n) [
-    | lower h ↦ (let there : slice_get es (place_of n es) ≡ Some e = rw h at at in rw h (entry_there n es e there is))
+    | lower h ↦ (let there : slice_get es (lower_count n es) ≡ Some e = rw h at at in rw h (entry_there n es e there is))
     | same h ↦ (let there : Some (n, f.1) ≡ Some e = rw (h, lt_self n) at at in
         let pair : (n, f.1) ≡ e = cc in
         rw (h, lt_self n) (ap (λ d. Some d.1) pair))
@@ -129,10 +129,10 @@ module _ {A : Type 0} where
         absurd (differ n f.0 h (ap (λ d. d.0) one ∙ is)))
   ]
 
-  pub entry_absent : (n : ℤ) (es : List (ℤ × A)) → AreRising es → IsAbsent n (slice_get es (place_of n es)) → entry_of n es ≡ None
+  pub entry_absent : (n : ℤ) (es : List (ℤ × A)) → AreRising es → IsAbsent n (slice_get es (lower_count n es)) → entry_of n es ≡ None
   entry_absent n [] rising absent = refl
   entry_absent n (f ∷ es) rising absent = elim (compared f.0 n) [
-    | lower h ↦ (let there : IsAbsent n (slice_get es (place_of n es)) = rw h at absent in rw h (entry_absent n es rising.1 there))
+    | lower h ↦ (let there : IsAbsent n (slice_get es (lower_count n es)) = rw h at absent in rw h (entry_absent n es rising.1 there))
     | same h ↦ (let there : ¬ (n ≡ n) = rw (h, lt_self n) at absent in absurd (there refl))
     | higher h ↦ entry_over n (f ∷ es) (h, over_more n f.0 es h rising.0)
   ]

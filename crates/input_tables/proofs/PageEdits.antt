@@ -8,7 +8,7 @@ use Rattle.meaning.specs.Edits.{row_put, row_gone, in_range}
 use Rattle.monoid_laws.specs.Kinds.{Fits}
 use Rattle.input_tables.specs.Edited.{RowsFit}
 use Rattle.input_tables.specs.Rows.{Row, AreCells}
-use Rattle.input_tables.specs.Pages.{place_of, AreRising, page_of, Page, AreOn, HasRows, ArePages, all_of, put_entry, gone_entry, IsOf, IsAbsent, last_of}
+use Rattle.input_tables.specs.Pages.{lower_count, AreRising, page_of, Page, AreOn, HasRows, ArePages, all_of, put_entry, gone_entry, IsOf, IsAbsent, last_of}
 use Rattle.input_tables.proofs.Orders.{entry_there, entry_absent, put_over, put_new, gone_there, rising_put, rising_gone}
 use Rattle.input_tables.proofs.Paging.{rows_in, rows_on, row_on_page, put_on_page, gone_on_page, none_left, page_at, row_gone_absent}
 
@@ -76,15 +76,15 @@ pages_gone k (p ∷ ps) pages = by (int_eq p.0 k) (gone_entry k ps) (pages_gone 
 
 -- ---- a page that was found by its number, and one that wasn't
 
-module _ (ps : List Page) (m n : ℤ) (i : ℕ) (number : m ≡ page_of n) (rising : AreRising ps) (pages : ArePages ps) (place : i ≡ place_of m ps) where
-  at_place : (q : Page) → slice_get ps i ≡ Some q → slice_get ps (place_of (page_of n) ps) ≡ Some q
-  at_place q at = subst (λ (k : ℕ). slice_get ps k ≡ Some q) (place ∙ ap (λ k. place_of k ps) number) at
+module _ (ps : List Page) (m n : ℤ) (i : ℕ) (number : m ≡ page_of n) (rising : AreRising ps) (pages : ArePages ps) (place : i ≡ lower_count m ps) where
+  at_place : (q : Page) → slice_get ps i ≡ Some q → slice_get ps (lower_count (page_of n) ps) ≡ Some q
+  at_place q at = subst (λ (k : ℕ). slice_get ps k ≡ Some q) (place ∙ ap (λ k. lower_count k ps) number) at
 
-  of_page : IsOf m (slice_get ps i) → IsOf (page_of n) (slice_get ps (place_of (page_of n) ps))
-  of_page is = subst (λ (k : ℤ). IsOf k (slice_get ps (place_of k ps))) number (subst (λ (k : ℕ). IsOf m (slice_get ps k)) place is)
+  of_page : IsOf m (slice_get ps i) → IsOf (page_of n) (slice_get ps (lower_count (page_of n) ps))
+  of_page is = subst (λ (k : ℤ). IsOf k (slice_get ps (lower_count k ps))) number (subst (λ (k : ℕ). IsOf m (slice_get ps k)) place is)
 
-  not_page : IsAbsent m (slice_get ps i) → IsAbsent (page_of n) (slice_get ps (place_of (page_of n) ps))
-  not_page is = subst (λ (k : ℤ). IsAbsent k (slice_get ps (place_of k ps))) number (subst (λ (k : ℕ). IsAbsent m (slice_get ps k)) place is)
+  not_page : IsAbsent m (slice_get ps i) → IsAbsent (page_of n) (slice_get ps (lower_count (page_of n) ps))
+  not_page is = subst (λ (k : ℤ). IsAbsent k (slice_get ps (lower_count k ps))) number (subst (λ (k : ℕ). IsAbsent m (slice_get ps k)) place is)
 
   key_of : (q : Page) → slice_get ps i ≡ Some q → IsOf m (slice_get ps i) → q.0 ≡ page_of n
   key_of q at is = rw at at is ∙ number
@@ -106,12 +106,12 @@ module _ (ps : List Page) (m n : ℤ) (i : ℕ) (number : m ≡ page_of n) (risi
 
   set_page : (q : Page) (rows : List Row) → slice_get ps i ≡ Some q → IsOf m (slice_get ps i) → slice_set ps i (q.0, rows) ≡ put_entry (page_of n) rows ps
   set_page q rows at is =
-      ap (λ (k : ℤ). slice_set ps i (k, rows)) (key_of q at is) ∙ ap (λ k. slice_set ps k (page_of n, rows)) (place ∙ ap (λ k. place_of k ps) number)
+      ap (λ (k : ℤ). slice_set ps i (k, rows)) (key_of q at is) ∙ ap (λ k. slice_set ps k (page_of n, rows)) (place ∙ ap (λ k. lower_count k ps) number)
       ∙ put_over (page_of n) rows ps (of_page is)
 
   add_page : (rows : List Row) → IsAbsent m (slice_get ps i) → insert ps i (m, rows) ≡ put_entry (page_of n) rows ps
   add_page rows is =
-      ap (λ (k : ℤ). insert ps i (k, rows)) number ∙ ap (λ k. insert ps k (page_of n, rows)) (place ∙ ap (λ k. place_of k ps) number)
+      ap (λ (k : ℤ). insert ps i (k, rows)) number ∙ ap (λ k. insert ps k (page_of n, rows)) (place ∙ ap (λ k. lower_count k ps) number)
       ∙ put_new (page_of n) rows ps (not_page is)
 
   pub put_page : (q : Page) (vs : List ℤ) (rows : List Row) → slice_get ps i ≡ Some q → IsOf m (slice_get ps i) → rows ≡ row_put n vs q.1
@@ -138,7 +138,7 @@ module _ (ps : List Page) (m n : ℤ) (i : ℕ) (number : m ≡ page_of n) (risi
   no_rows (r ∷ rs) last = absurd cc
 
   less_page : (x : Page) → IsOf m (slice_get ps i) → remove (slice_set ps i x) i ≡ gone_entry (page_of n) ps
-  less_page x is = remove_set ps i x ∙ ap (remove ps) (place ∙ ap (λ k. place_of k ps) number) ∙ gone_there (page_of n) ps (of_page is)
+  less_page x is = remove_set ps i x ∙ ap (remove ps) (place ∙ ap (λ k. lower_count k ps) number) ∙ gone_there (page_of n) ps (of_page is)
 
   pub empty_page : (q : Page) (rows : List Row) → slice_get ps i ≡ Some q → IsOf m (slice_get ps i) → rows ≡ row_gone n q.1 → is_some (last_of rows) ≡ false
       → all_of (remove (slice_set ps i (q.0, rows)) i) ≡ row_gone n (all_of ps)

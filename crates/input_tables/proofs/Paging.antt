@@ -8,7 +8,7 @@ use Rattle.std.specs.Ordering.{int_eq}
 use Rattle.meaning.specs.Tables.{row_of, above_all}
 use Rattle.meaning.specs.Edits.{row_put, row_gone, in_range}
 use Rattle.input_tables.specs.Rows.{Row, seen}
-use Rattle.input_tables.specs.Pages.{place_of, AreOver, AreUnder, AreRising, page_of, Page, AreOn, HasRows, ArePages, all_of, put_entry, gone_entry, entry_of, IsOf, IsAbsent, last_or, last_of}
+use Rattle.input_tables.specs.Pages.{lower_count, AreOver, AreUnder, AreRising, page_of, Page, AreOn, HasRows, ArePages, all_of, put_entry, gone_entry, entry_of, IsOf, IsAbsent, last_or, last_of}
 use Rattle.input_tables.proofs.Orders.{lt_self, lt_not, lower, same, higher, compared, over_more, entry_over, entry_there, entry_absent, put_over, put_new, gone_there, differ}
 
 -- the rows of the page of a number
@@ -127,11 +127,11 @@ put_on_page n vs (p ∷ ps) more rising pages is = elim (compared p.0 (page_of n
 
 -- a page that keeps a row, or goes where none is left
 pub gone_on_page : (n : ℤ) (ps : List Page) (less : List Row) (q : Page) → AreRising ps → ArePages ps
-    → slice_get ps (place_of (page_of n) ps) ≡ Some q → q.0 ≡ page_of n → less ≡ row_gone n q.1
+    → slice_get ps (lower_count (page_of n) ps) ≡ Some q → q.0 ≡ page_of n → less ≡ row_gone n q.1
     → all_of (put_entry (page_of n) less ps) ≡ row_gone n (all_of ps)
 gone_on_page n [] less q rising pages at number is = absurd cc
 gone_on_page n (p ∷ ps) less q rising pages at number is = elim (compared p.0 (page_of n)) [
-  | lower h ↦ (let there : slice_get ps (place_of (page_of n) ps) ≡ Some q = rw h at at in
+  | lower h ↦ (let there : slice_get ps (lower_count (page_of n) ps) ≡ Some q = rw h at at in
       rw (h, lt_not p.0 (page_of n) h)
       (ap (λ l. p.1 ++ l) (gone_on_page n ps less q rising.1 pages.3 there number is) ∙ sym (row_gone_behind n p.1 (all_of ps) (rows_under n p.0 p.1 pages.0 h))))
   | same h ↦ (let over = all_over n ps pages.3 (subst (λ (k : ℤ). AreOver k ps) h rising.0) in
@@ -145,10 +145,10 @@ gone_on_page n (p ∷ ps) less q rising pages at number is = elim (compared p.0 
 ]
 
 -- a page without rows may as well not be there
-pub none_left : (k : ℤ) (ps : List Page) → IsOf k (slice_get ps (place_of k ps)) → all_of (gone_entry k ps) ≡ all_of (put_entry k [] ps)
+pub none_left : (k : ℤ) (ps : List Page) → IsOf k (slice_get ps (lower_count k ps)) → all_of (gone_entry k ps) ≡ all_of (put_entry k [] ps)
 none_left k [] is = absurd is
 none_left k (p ∷ ps) is = elim (compared p.0 k) [
-  | lower h ↦ (let there : IsOf k (slice_get ps (place_of k ps)) = rw h at is in
+  | lower h ↦ (let there : IsOf k (slice_get ps (lower_count k ps)) = rw h at is in
       rw (h, lt_not p.0 k h) (ap (λ l. p.1 ++ l) (none_left k ps there)))
   | same h ↦ rw (h, lt_self k) refl
   | higher h ↦ (let there : p.0 ≡ k = rw (lt_not k p.0 h) at is in absurd (differ k p.0 h there))
@@ -164,9 +164,9 @@ row_gone_absent n (r ∷ rs) at = by (int_eq r.0 n) at (row_gone_absent n rs)
 
 -- ---- a page's list of rows
 
-pub place_of-seen : (n : ℤ) (es : List (ℤ × Vec ℤ Global)) → place_of n (seen es) ≡ place_of n es
-place_of-seen n [] = refl
-place_of-seen n (e ∷ es) = ap (λ i. cond (int_lt e.0 n) (suc i) 0) (place_of-seen n es)
+pub lower_count-seen : (n : ℤ) (es : List (ℤ × Vec ℤ Global)) → lower_count n (seen es) ≡ lower_count n es
+lower_count-seen n [] = refl
+lower_count-seen n (e ∷ es) = ap (λ i. cond (int_lt e.0 n) (suc i) 0) (lower_count-seen n es)
 
 over_seen : (n : ℤ) (es : List (ℤ × Vec ℤ Global)) → AreOver n (seen es) → AreOver n es
 over_seen n [] over = tt
@@ -207,35 +207,35 @@ row_gone-seen n (e ∷ es) = by (int_eq e.0 n) (gone_entry n es) (row_gone-seen 
 
 -- ---- what a page's calls give
 
-pub found_row : (es : List (ℤ × Vec ℤ Global)) (m n : ℤ) (i : ℕ) (e : ℤ × Vec ℤ Global) → m ≡ n → i ≡ place_of m es → IsOf m (slice_get es i)
+pub found_row : (es : List (ℤ × Vec ℤ Global)) (m n : ℤ) (i : ℕ) (e : ℤ × Vec ℤ Global) → m ≡ n → i ≡ lower_count m es → IsOf m (slice_get es i)
     → slice_get es i ≡ Some e → row_of (seen es) n ≡ Some e.1.items
 found_row es m n i e is_n place is at =
     let key : e.0 ≡ n = rw at at is ∙ is_n in
-    let there : slice_get es (place_of n es) ≡ Some e = subst (λ (k : ℕ). slice_get es k ≡ Some e) (place ∙ ap (λ k. place_of k es) is_n) at in
+    let there : slice_get es (lower_count n es) ≡ Some e = subst (λ (k : ℕ). slice_get es k ≡ Some e) (place ∙ ap (λ k. lower_count k es) is_n) at in
     row_of-seen n es ∙ ap (option_map (λ v. v.items)) (entry_there n es e there key)
 
-pub missed_row : (es : List (ℤ × Vec ℤ Global)) (m n : ℤ) (i : ℕ) → m ≡ n → AreRising es → i ≡ place_of m es → IsAbsent m (slice_get es i) → row_of (seen es) n ≡ None
+pub missed_row : (es : List (ℤ × Vec ℤ Global)) (m n : ℤ) (i : ℕ) → m ≡ n → AreRising es → i ≡ lower_count m es → IsAbsent m (slice_get es i) → row_of (seen es) n ≡ None
 missed_row es m n i is_n rising place absent =
-    let there : IsAbsent m (slice_get es (place_of m es)) = subst (λ (k : ℕ). IsAbsent m (slice_get es k)) place absent in
+    let there : IsAbsent m (slice_get es (lower_count m es)) = subst (λ (k : ℕ). IsAbsent m (slice_get es k)) place absent in
     row_of-seen n es ∙ ap (option_map (λ v. v.items)) (ap (λ k. entry_of k es) (sym is_n) ∙ entry_absent m es rising there)
 
-pub put_found : (es : List (ℤ × Vec ℤ Global)) (m n : ℤ) (i : ℕ) (v : Vec ℤ Global) → m ≡ n → i ≡ place_of m es → IsOf m (slice_get es i)
+pub put_found : (es : List (ℤ × Vec ℤ Global)) (m n : ℤ) (i : ℕ) (v : Vec ℤ Global) → m ≡ n → i ≡ lower_count m es → IsOf m (slice_get es i)
     → seen (slice_set es i (m, v)) ≡ row_put n v.items (seen es)
 put_found es m n i v is_n place is =
-    let there : IsOf n (slice_get es (place_of n es)) = subst (λ (k : ℤ). IsOf k (slice_get es (place_of k es))) is_n (subst (λ (k : ℕ). IsOf m (slice_get es k)) place is) in
-    ap (λ (k : ℤ). seen (slice_set es i (k, v))) is_n ∙ ap (λ k. seen (slice_set es k (n, v))) (place ∙ ap (λ k. place_of k es) is_n) ∙ ap seen (put_over n v es there) ∙ row_put-seen n v es
+    let there : IsOf n (slice_get es (lower_count n es)) = subst (λ (k : ℤ). IsOf k (slice_get es (lower_count k es))) is_n (subst (λ (k : ℕ). IsOf m (slice_get es k)) place is) in
+    ap (λ (k : ℤ). seen (slice_set es i (k, v))) is_n ∙ ap (λ k. seen (slice_set es k (n, v))) (place ∙ ap (λ k. lower_count k es) is_n) ∙ ap seen (put_over n v es there) ∙ row_put-seen n v es
 
-pub put_missed : (es : List (ℤ × Vec ℤ Global)) (m n : ℤ) (i : ℕ) (v : Vec ℤ Global) → m ≡ n → i ≡ place_of m es → IsAbsent m (slice_get es i)
+pub put_missed : (es : List (ℤ × Vec ℤ Global)) (m n : ℤ) (i : ℕ) (v : Vec ℤ Global) → m ≡ n → i ≡ lower_count m es → IsAbsent m (slice_get es i)
     → seen (insert es i (m, v)) ≡ row_put n v.items (seen es)
 put_missed es m n i v is_n place is =
-    let there : IsAbsent n (slice_get es (place_of n es)) = subst (λ (k : ℤ). IsAbsent k (slice_get es (place_of k es))) is_n (subst (λ (k : ℕ). IsAbsent m (slice_get es k)) place is) in
-    ap (λ (k : ℤ). seen (insert es i (k, v))) is_n ∙ ap (λ k. seen (insert es k (n, v))) (place ∙ ap (λ k. place_of k es) is_n) ∙ ap seen (put_new n v es there) ∙ row_put-seen n v es
+    let there : IsAbsent n (slice_get es (lower_count n es)) = subst (λ (k : ℤ). IsAbsent k (slice_get es (lower_count k es))) is_n (subst (λ (k : ℕ). IsAbsent m (slice_get es k)) place is) in
+    ap (λ (k : ℤ). seen (insert es i (k, v))) is_n ∙ ap (λ k. seen (insert es k (n, v))) (place ∙ ap (λ k. lower_count k es) is_n) ∙ ap seen (put_new n v es there) ∙ row_put-seen n v es
 
-pub gone_found : (es : List (ℤ × Vec ℤ Global)) (m n : ℤ) (i : ℕ) → m ≡ n → i ≡ place_of m es → IsOf m (slice_get es i)
+pub gone_found : (es : List (ℤ × Vec ℤ Global)) (m n : ℤ) (i : ℕ) → m ≡ n → i ≡ lower_count m es → IsOf m (slice_get es i)
     → seen (remove es i) ≡ row_gone n (seen es)
 gone_found es m n i is_n place is =
-    let there : IsOf n (slice_get es (place_of n es)) = subst (λ (k : ℤ). IsOf k (slice_get es (place_of k es))) is_n (subst (λ (k : ℕ). IsOf m (slice_get es k)) place is) in
-    ap (λ k. seen (remove es k)) (place ∙ ap (λ k. place_of k es) is_n) ∙ ap seen (gone_there n es there) ∙ row_gone-seen n es
+    let there : IsOf n (slice_get es (lower_count n es)) = subst (λ (k : ℤ). IsOf k (slice_get es (lower_count k es))) is_n (subst (λ (k : ℕ). IsOf m (slice_get es k)) place is) in
+    ap (λ k. seen (remove es k)) (place ∙ ap (λ k. lower_count k es) is_n) ∙ ap seen (gone_there n es there) ∙ row_gone-seen n es
 
 last_there : (es : List (ℤ × Vec ℤ Global)) (i : ℕ) (e : ℤ × Vec ℤ Global) → length es ≡ suc i → slice_get es i ≡ Some e → last_of (seen es) ≡ Some e.0
 last_there [] i e long at = absurd cc

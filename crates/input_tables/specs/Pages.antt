@@ -5,9 +5,9 @@ use Rattle.meaning.specs.Edits.{in_range}
 use Rattle.input_tables.specs.Rows.{Row, AreCells}
 
 -- how many entries at the front have lower numbers
-abbrev pub place_of : {A : Type 0} → ℤ → List (ℤ × A) → ℕ
-place_of n [] = 0
-place_of n (e ∷ es) = cond (int_lt e.0 n) (suc (place_of n es)) 0
+abbrev pub lower_count : {A : Type 0} → ℤ → List (ℤ × A) → ℕ
+lower_count n [] = 0
+lower_count n (e ∷ es) = cond (int_lt e.0 n) (suc (lower_count n es)) 0
 
 -- all numbers are greater than this one, or lower
 abbrev pub AreOver : {A : Type 0} → ℤ → List (ℤ × A) → Type 0

@@ -1,7 +1,7 @@
 // Where a number stands among entries by rising numbers, and which page covers a row.
 
 ghost use Rattle.std.specs.Prelude.{◌≡◌, ◌<◌, ◌≤◌, IfOk, IfErr, slice_get, length};
-ghost use Rattle.input_tables.specs.Pages.{place_of, page_of, AreRising, IsOf, IsAbsent};
+ghost use Rattle.input_tables.specs.Pages.{lower_count, page_of, AreRising, IsOf, IsAbsent};
 
 const PAGE_ROWS: i64 = 64;
 
@@ -29,14 +29,14 @@ pub fn place_among_pages(page: i64) -> usize {
 /// Where the entry of this number stands, or else where it is to be put. It is quick where the entry stands at `guess`.
 pub fn find<T>(entries: &[(i64, T)], number: i64, guess: usize) -> Result<usize, usize>
     requires { AreRising entries.now }
-    ensures place { IfOk result (λ place. place ≡ place_of number entries.now) }
+    ensures place { IfOk result (λ place. place ≡ lower_count number entries.now) }
     ensures within { IfOk result (λ place. place < length entries.now) }
     ensures there { IfOk result (λ place. IsOf number (slice_get entries.now place)) }
-    ensures new_place { IfErr result (λ place. place ≡ place_of number entries.now) }
+    ensures new_place { IfErr result (λ place. place ≡ lower_count number entries.now) }
     ensures upto_end { IfErr result (λ place. place ≤ length entries.now) }
     ensures absent { IfErr result (λ place. IsAbsent number (slice_get entries.now place)) }
 {
-    let place = place_of(entries, number, guess);
+    let place = lower_count(entries, number, guess);
     match entries.get(place) {
         Some(entry) => {
             if entry.0 == number {
@@ -50,9 +50,9 @@ pub fn find<T>(entries: &[(i64, T)], number: i64, guess: usize) -> Result<usize,
 }
 
 // How many entries have lower numbers.
-fn place_of<T>(entries: &[(i64, T)], number: i64, guess: usize) -> usize
+fn lower_count<T>(entries: &[(i64, T)], number: i64, guess: usize) -> usize
     requires { AreRising entries.now }
-    ensures { result ≡ place_of number entries.now }
+    ensures { result ≡ lower_count number entries.now }
 {
     match entries.get(guess) {
         Some(entry) if entry.0 == number => guess,
@@ -62,7 +62,7 @@ fn place_of<T>(entries: &[(i64, T)], number: i64, guess: usize) -> usize
 
 fn search<T>(entries: &[(i64, T)], number: i64) -> usize
     requires { AreRising entries.now }
-    ensures { result ≡ place_of number entries.now }
+    ensures { result ≡ lower_count number entries.now }
 {
     let mut low = 0;
     let mut high = entries.len();

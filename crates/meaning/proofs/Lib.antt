@@ -4,4 +4,3 @@ pub mod Runs
 pub mod Reruns
 pub mod Recordings
 pub mod Texts
-pub mod WithoutEdits

@@ -16,23 +16,19 @@ use Rattle.meaning.proofs.Samples.{first_program, faulty, lines, sales, row, pro
 
 -- ---- commands
 
--- without edits each line of one is refused
-plain_commands : commands false (codes "run\nput sales 1 2\n\n# run\ndefine\n run\t\nend") ≡ Run ∷ Unknown 2 ∷ Unknown 5 ∷ Run ∷ Unknown 7 ∷ []
-plain_commands = refl
-
 -- a define has each line up to its `end`, comments and all
-edit_commands : commands true (codes "put sales 1 -2 03\n# x\ndel\tsales 7 \ndefine\n# y\n\n\tend \nrun") ≡ Change (Put n_sales (pos 1) (negsuc 1 ∷ pos 3 ∷ [])) ∷ Change (Delete n_sales (pos 7)) ∷ Change (Define (codes "# y\n\n")) ∷ Run ∷ []
+edit_commands : commands (codes "put sales 1 -2 03\n# x\ndel\tsales 7 \ndefine\n# y\n\n\tend \nrun") ≡ Change (Put n_sales (pos 1) (negsuc 1 ∷ pos 3 ∷ [])) ∷ Change (Delete n_sales (pos 7)) ∷ Change (Define (codes "# y\n\n")) ∷ Run ∷ []
 edit_commands = refl
 
 -- a define without an end takes the rest of the script with it
-endless_define : commands true (codes "run\ndefine\nrun\nend x\n") ≡ Run ∷ Unknown 2 ∷ []
+endless_define : commands (codes "run\ndefine\nrun\nend x\n") ≡ Run ∷ Unknown 2 ∷ []
 endless_define = refl
 
-no_commands : commands true (codes "put sales 1\ndel sales\ndel sales 1 1\nput sales 1 +2\nput sales - 1\nput sales x 1\nrun 1\nend\ndefine x\n") ≡ Unknown 1 ∷ Unknown 2 ∷ Unknown 3 ∷ Unknown 4 ∷ Unknown 5 ∷ Unknown 6 ∷ Unknown 7 ∷ Unknown 8 ∷ Unknown 9 ∷ []
+no_commands : commands (codes "put sales 1\ndel sales\ndel sales 1 1\nput sales 1 +2\nput sales - 1\nput sales x 1\nrun 1\nend\ndefine x\n") ≡ Unknown 1 ∷ Unknown 2 ∷ Unknown 3 ∷ Unknown 4 ∷ Unknown 5 ∷ Unknown 6 ∷ Unknown 7 ∷ Unknown 8 ∷ Unknown 9 ∷ []
 no_commands = refl
 
 -- a byte that isn't shown makes a line no command, but not a comment
-hidden_bytes : commands true (codes "del a" ++ 200 ∷ codes " 1\n#" ++ 127 ∷ codes "\ndel a" ++ 13 ∷ codes " 1\n") ≡ Unknown 1 ∷ Unknown 3 ∷ []
+hidden_bytes : commands (codes "del a" ++ 200 ∷ codes " 1\n#" ++ 127 ∷ codes "\ndel a" ++ 13 ∷ codes " 1\n") ≡ Unknown 1 ∷ Unknown 3 ∷ []
 hidden_bytes = refl
 
 least_number : number_of (codes "-9223372036854775808") ≡ Some (negsuc 9223372036854775807)
@@ -55,15 +51,15 @@ standing tree tables = record { program = record { tree = tree; revisions = []; 
 abbrev three_lines : Standing
 three_lines = standing lines (sales (row 1 2 5 ∷ row 2 3 7 ∷ row 3 1 100 ∷ []))
 
-plain_run : (reads : TextReader) (checks : Checker) → answers_text reads checks false (standing first_program []) (codes "hello\n# x\n\nrun\n") ≡ codes "refused E19 1\nrun 1\nresult 3\ntotal 12\n"
+plain_run : (reads : TextReader) (checks : Checker) → answers_text reads checks (standing first_program []) (codes "hello\n# x\n\nrun\n") ≡ codes "refused E19 1\nrun 1\nresult 3\ntotal 12\n"
 unfolding elide from_scratch needing int_wrap digits
 plain_run reads checks = refl
 
-faulty_run : (reads : TextReader) (checks : Checker) → answers_text reads checks false (standing faulty (sales [])) (codes "run") ≡ codes "run 1\nfault divide by zero in b at 1\n"
+faulty_run : (reads : TextReader) (checks : Checker) → answers_text reads checks (standing faulty (sales [])) (codes "run") ≡ codes "run 1\nfault divide by zero in b at 1\n"
 unfolding elide from_scratch needing int_wrap digits
 faulty_run reads checks = refl
 
-put_and_run : (reads : TextReader) (checks : Checker) → answers_text reads checks true three_lines (codes "run\nput sales 2 4 7\nrun\ndel sales 1\nrun\n") ≡ codes "run 1\nresult 131\ntotal 131\ntop 100 3\nok\nrun 2\nresult 138\ntotal 138\ntop 100 3\nok\nrun 3\nfault missing row in line at 1\n"
+put_and_run : (reads : TextReader) (checks : Checker) → answers_text reads checks three_lines (codes "run\nput sales 2 4 7\nrun\ndel sales 1\nrun\n") ≡ codes "run 1\nresult 131\ntotal 131\ntop 100 3\nok\nrun 2\nresult 138\ntotal 138\ntop 100 3\nok\nrun 3\nfault missing row in line at 1\n"
 unfolding all_turns elide from_scratch needing int_wrap digits
 put_and_run reads checks = refl
 
@@ -80,7 +76,7 @@ waits = record { rule = 3; holder = n_main; line = 1 }
 abbrev checks_waiting : Checker
 checks_waiting tree ls tables = Some waits
 
-refused_edits : answers_text reads_waiting checks_waiting true three_lines (codes "put stock 1 2\nput sales 1 2\nput sales 2147483648 1 1\ndel sales 9\nhello\ndefine\n" ++ waiting ++ codes "end\ndefine\nx\nend\nrun\n") ≡ codes "refused E4\nrefused E5\nrefused E6\nrefused E7\nrefused E19 5\nrefused E9 C3 main 1\nrefused E8 2\nrun 1\nresult 131\ntotal 131\ntop 100 3\n"
+refused_edits : answers_text reads_waiting checks_waiting three_lines (codes "put stock 1 2\nput sales 1 2\nput sales 2147483648 1 1\ndel sales 9\nhello\ndefine\n" ++ waiting ++ codes "end\ndefine\nx\nend\nrun\n") ≡ codes "refused E4\nrefused E5\nrefused E6\nrefused E7\nrefused E19 5\nrefused E9 C3 main 1\nrefused E8 2\nrun 1\nresult 131\ntotal 131\ntop 100 3\n"
 unfolding all_turns elide from_scratch needing int_wrap digits
 refused_edits = refl
 

@@ -95,30 +95,30 @@ abbrev pub edit_or_unknown : ℕ → Option Edit → Command
 edit_or_unknown n None = Unknown n
 edit_or_unknown n (Some e) = Change e
 
--- ---- commands: `edits` says whether the scripts have edits; where they haven't, each edit's line is none
+-- ---- commands
 
 -- the command of these words, on a line of this number; no words are none
-abbrev pub command_of : Bool → ℕ → List (List ℕ) → Option Command
-command_of edits n [] = None
-command_of edits n (w ∷ []) = Some (if bytes_eq w (codes "run") then Run else Unknown n)
-command_of edits n (w ∷ v ∷ rest) = Some (cond edits (edit_or_unknown n (edit_of (w ∷ v ∷ rest))) (Unknown n))
+abbrev pub command_of : ℕ → List (List ℕ) → Option Command
+command_of n [] = None
+command_of n (w ∷ []) = Some (if bytes_eq w (codes "run") then Run else Unknown n)
+command_of n (w ∷ v ∷ rest) = Some (edit_or_unknown n (edit_of (w ∷ v ∷ rest)))
 
 -- outside a define: a comment is passed over, and any other line with a byte that isn't shown is no command
-abbrev pub line_command : Bool → ℕ → List ℕ → Option Command
-line_command edits n line = if is_comment line then None else cond (edits && not (every is_shown line)) (Some (Unknown n)) (command_of edits n (words line))
+abbrev pub line_command : ℕ → List ℕ → Option Command
+line_command n line = if is_comment line then None else cond (not (every is_shown line)) (Some (Unknown n)) (command_of n (words line))
 
 abbrev mutual
   -- the commands of lines of which the first has this number
-  pub commands_from : Bool → ℕ → List (List ℕ) → List Command
-  commands_from edits n [] = []
-  commands_from edits n (line ∷ rest) =
-      cond (edits && are_only (codes "define") (words line)) (define_from edits n [] (n + 1) rest) (option_to_list (line_command edits n line) ++ commands_from edits (n + 1) rest)
+  pub commands_from : ℕ → List (List ℕ) → List Command
+  commands_from n [] = []
+  commands_from n (line ∷ rest) =
+      cond (are_only (codes "define") (words line)) (define_from n [] (n + 1) rest) (option_to_list (line_command n line) ++ commands_from (n + 1) rest)
 
   -- the same in a define, by the number of its line and its text so far: without an `end` that line is no command, and the script ends
-  pub define_from : Bool → ℕ → List ℕ → ℕ → List (List ℕ) → List Command
-  define_from edits begun text n [] = Unknown begun ∷ []
-  define_from edits begun text n (line ∷ rest) =
-      cond (are_only (codes "end") (words line)) (Change (Define text) ∷ commands_from edits (n + 1) rest) (define_from edits begun (text ++ line ++ 10 ∷ []) (n + 1) rest)
+  pub define_from : ℕ → List ℕ → ℕ → List (List ℕ) → List Command
+  define_from begun text n [] = Unknown begun ∷ []
+  define_from begun text n (line ∷ rest) =
+      cond (are_only (codes "end") (words line)) (Change (Define text) ∷ commands_from (n + 1) rest) (define_from begun (text ++ line ++ 10 ∷ []) (n + 1) rest)
 
-abbrev pub commands : Bool → List ℕ → List Command
-commands edits script = commands_from edits 1 (lines script)
+abbrev pub commands : List ℕ → List Command
+commands script = commands_from 1 (lines script)

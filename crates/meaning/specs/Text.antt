@@ -113,6 +113,6 @@ module _ (reads : TextReader) (checks : Checker) where
   answers_from s runs [] = []
   answers_from s runs (c ∷ cs) = answer_text s runs c ++ answers_from (standing_after s c) (runs_after runs c) cs
 
-  -- the answers to a script, in a language that has edits or has none
-  abbrev pub answers_text : Bool → Standing → List ℕ → List ℕ
-  answers_text edits s script = answers_from s 0 (commands edits script)
+  -- the answers to a script
+  abbrev pub answers_text : Standing → List ℕ → List ℕ
+  answers_text s script = answers_from s 0 (commands script)

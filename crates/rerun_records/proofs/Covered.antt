@@ -1,5 +1,5 @@
 -- Spans of rows hold what was put into them.
-use Rattle.std.proofs.Common.{◌≡◌, ℕ, zero, suc, ◌<◌, ◌≤ℤ◌, ℤ, Bool, true, false, true≢false, T, cond, List, [], ◌∷◌, ◌++◌, take, drop, length, map, refl, sym, ap, ◌∙◌, subst, arith}
+use Rattle.std.proofs.Common.{◌≡◌, ℕ, zero, suc, ◌<◌, ◌≤ℤ◌, ℤ, pos, Bool, true, false, true≢false, T, cond, List, [], ◌∷◌, ◌++◌, take, drop, length, map, refl, sym, ap, ◌∙◌, subst, arith}
 use Rattle.std.proofs.lemmas.Int.{ints, clamps}
 use Rattle.std.specs.Prelude.{◌&&◌, ◌||◌, not, nat_eq, int_le, get_or, slice_set}
 use Rattle.std.specs.Int.{int_min, int_max}
@@ -153,8 +153,8 @@ one_row : (row : ℤ) → int_le row row && int_le row row ≡ true
 one_row row = let h : row ≤ℤ row = omega (arith, ints) in both (int_le row row) (int_le row row) (le_is row row h) (le_is row row h)
 
 read_covered : (reading : Reading) → covers (note_of reading) (span_of reading) ≡ true
-read_covered (r.Cell t c row v) = both (nat_eq t t) (int_le row row && int_le row row) (same_number t) (one_row row)
-read_covered (r.Has t row there) = both (nat_eq t t) (int_le row row && int_le row row) (same_number t) (one_row row)
+read_covered (r.Cell c t row v) = both (nat_eq t t) (int_le (pos row) (pos row) && int_le (pos row) (pos row)) (same_number t) (one_row (pos row))
+read_covered (r.Has there t row) = both (nat_eq t t) (int_le row row && int_le row row) (same_number t) (one_row row)
 read_covered (r.Limit t v) = both (nat_eq t t) true (same_number t) refl
 
 pub adds_read : (own : List Reading) (xs : List Span) → every (is_covered_by (put_spans xs (map span_of own))) (map note_of own) ≡ true

@@ -6,6 +6,7 @@ use Rattle.std.proofs.hash.FoldHasher.TheSendSync as folds
 use Rattle.monoid_laws.proofs.Val.TheSendSync as vals
 use Rattle.rerun_records.proofs.reading.Reading.TheSendSync as reading
 use Rattle.rerun_records.proofs.spans.Span.TheSendSync as spans
+use Rattle.rerun_records.proofs.nested.Nested.TheSendSync as nested
 use Rattle.rerun_records.specs.contracts.readings.Node as Node
 use Rattle.rerun_records.specs.contracts.readings.Readings as Readings
 use Rattle.rerun_records.specs.contracts.record.Record as Record
@@ -39,10 +40,10 @@ pub readings_sync : IsSync (Readings.the_field).row
 readings_sync = let s = node_send in let y = node_sync in search (sendable, crosses) depth 20
 
 pub record_send : IsSend (Record.the_field).row
-record_send = let s = readings_send in search (sendable, crosses, vals.the_send) depth 20
+record_send = let s = readings_send in search (sendable, crosses, vals.the_send, nested.the_send) depth 20
 
 pub record_sync : IsSync (Record.the_field).row
-record_sync = let y = readings_sync in search (sendable, crosses, vals.the_sync) depth 20
+record_sync = let y = readings_sync in search (sendable, crosses, vals.the_sync, nested.the_sync) depth 20
 
 pub records_send : IsSend (Records.the_field).row
 records_send = let s = record_send in search (sendable, crosses, sets.the_send, folds.the_send) depth 20

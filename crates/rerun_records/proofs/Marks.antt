@@ -1,5 +1,5 @@
 -- Records stay in step with the tables while rows are changed and the changes listed.
-use Rattle.std.proofs.Common.{◌≡◌, ℕ, zero, suc, inl, inr, ◌+◌, ◌<◌, ℤ, Bool, true, false, cond, List, [], ◌∷◌, ◌++◌, map, length, drop, replicate, refl, ap, ◌∙◌, arith}
+use Rattle.std.proofs.Common.{◌≡◌, ℕ, zero, suc, inl, inr, ◌+◌, ◌<◌, ℤ, Bool, true, false, cond, List, [], ◌∷◌, ◌++◌, map, length, drop, replicate, refl, sym, ap, ◌∙◌, arith}
 use Rattle.std.specs.Prelude.{◌||◌, nat_le, nat_eq}
 use Rattle.std.specs.List.{list_any}
 use Rattle.std.specs.Ordering.{int_eq}
@@ -12,7 +12,7 @@ use Rattle.meaning.specs.Records.{same_number, same_bool}
 use Rattle.meaning.specs.Tables.{Tables}
 use Rattle.evaluation.specs.declared.note.Note.{Note}
 use Rattle.evaluation.specs.declared.note.Note.TheVariants.{Cell, Has, Limit}
-use Rattle.rerun_records.specs.Record.{PlainRecord, everything, rows, settled}
+use Rattle.rerun_records.specs.Record.{PlainRecord, Doubts, everything, rows, settled}
 use Rattle.rerun_records.specs.Validity.{note_agrees}
 use Rattle.rerun_records.specs.Doubted.{rests_on, in_step, reads_in_step, IsInStep, reads_agree, IsSameBut}
 use Rattle.rerun_records.specs.Moments.{doubts_since, doubted_by, standing, never, is_moment, AreStanding, first_moment}
@@ -128,6 +128,20 @@ nevers_doubt tables (suc k) (r ∷ rs) =
 
 pub all_doubted_step : (tables : Tables) (ns : List ℕ) (k : ℕ) (rs : List PlainRecord) → ns ≡ replicate k never → IsInStep tables (standing [] ns rs)
 all_doubted_step tables ns k rs e = rw e (nevers_doubt tables k rs)
+
+-- what was in doubt before doesn't count
+doubted_anew : (doubts : Doubts) (changes : List (ℕ × ℤ)) (ns : List ℕ) (rs : List PlainRecord) → map (doubted_by doubts) (standing changes ns rs) ≡ map (doubted_by doubts) rs
+doubted_anew doubts changes ns [] = refl
+doubted_anew doubts changes [] (r ∷ rs) = ap (λ xs. doubted_by doubts r ∷ xs) (doubted_anew doubts changes [] rs)
+doubted_anew doubts changes (n ∷ ns) (r ∷ rs) = ap (λ xs. doubted_by doubts r ∷ xs) (doubted_anew doubts changes ns rs)
+
+nevers_are : (k : ℕ) (rs : List PlainRecord) → standing [] (replicate k never) rs ≡ map (doubted_by everything) rs
+nevers_are k [] = refl
+nevers_are zero (r ∷ rs) = ap (λ xs. doubted_by everything r ∷ xs) (nevers_are zero rs)
+nevers_are (suc k) (r ∷ rs) = ap (λ xs. doubted_by everything r ∷ xs) (nevers_are k rs)
+
+pub all_doubted_are : (changes : List (ℕ × ℤ)) (ms ns : List ℕ) (k : ℕ) (rs : List PlainRecord) → ns ≡ replicate k never → standing [] ns rs ≡ map (doubted_by everything) (standing changes ms rs)
+all_doubted_are changes ms ns k rs e = ap (λ is. standing [] is rs) e ∙ nevers_are k rs ∙ sym (doubted_anew everything changes ms rs)
 
 never_moments : (k : ℕ) → every (is_moment 0) (replicate k never) ≡ true
 never_moments zero = refl

@@ -6,3 +6,4 @@ pub mod Commits
 pub mod Doubted
 pub mod Moments
 pub mod Named
+pub mod Nested

@@ -1,5 +1,5 @@
 -- Records as plain values: everything in them goes by number.
-use Rattle.std.specs.Prelude.{ℕ, nat_eq, nat_le, ℤ, Bool, ◌&&◌, List, [], map}
+use Rattle.std.specs.Prelude.{ℕ, nat_eq, nat_le, ℤ, pos, negsuc, Bool, false, ◌&&◌, List, [], map}
 use Rattle.std.specs.Cmp.Lexicographic.{pointwise}
 use Rattle.std.specs.Ordering.{int_eq}
 use Rattle.monoid_laws.specs.Worth.{Worth}
@@ -30,13 +30,18 @@ pub record PlainRecord : Type 0 where
 
 -- the note that was put into fewer bytes
 abbrev pub note_of : Reading → Note
-note_of (r.Cell t c row v) = n.Cell t row c v
-note_of (r.Has t row there) = n.Has t row there
+note_of (r.Cell c t row v) = n.Cell t (pos row) c v
+note_of (r.Has there t row) = n.Has t row there
 note_of (r.Limit t v) = n.Limit t v
 
--- the numbers of its table and column take two bytes each at most
+-- the number of a row takes four bytes at most
+abbrev pub fits_row : ℤ → Bool
+fits_row (pos n) = nat_le n 4294967295
+fits_row (negsuc n) = false
+
+-- the number of its table takes two bytes at most, that of a cell's column one and that of its row four
 abbrev pub is_short : Note → Bool
-is_short (n.Cell t row c v) = nat_le t 65535 && nat_le c 65535
+is_short (n.Cell t row c v) = nat_le c 255 && nat_le t 65535 && fits_row row
 is_short (n.Has t row there) = nat_le t 65535
 is_short (n.Limit t v) = nat_le t 65535
 

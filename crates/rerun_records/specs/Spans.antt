@@ -10,8 +10,8 @@ use Rattle.rerun_records.specs.declared.spans.Span.{Span}
 
 -- the rows that a reading rests on
 abbrev pub span_of : Reading → Span
-span_of (r.Cell t c row v) = record { table = t; whole = false; low = row; high = row }
-span_of (r.Has t row there) = record { table = t; whole = false; low = row; high = row }
+span_of (r.Cell c t row v) = record { table = t; whole = false; low = pos row; high = pos row }
+span_of (r.Has there t row) = record { table = t; whole = false; low = row; high = row }
 span_of (r.Limit t v) = record { table = t; whole = true; low = pos 0; high = pos 0 }
 
 -- the row of the span's table is one of these

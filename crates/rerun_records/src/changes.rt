@@ -31,7 +31,9 @@ fn rests_on(reading: &Reading, change: &(usize, i64)) -> bool
     ensures rests { result ≡ rests_on (note_of reading.now) change.now }
 {
     match reading {
-        Reading::Cell { table, row, .. } => usize::from(*table) == change.0 && *row == change.1,
+        Reading::Cell { table, row, .. } => {
+            usize::from(*table) == change.0 && i64::from(*row) == change.1
+        }
         Reading::Has { table, row, .. } => usize::from(*table) == change.0 && *row == change.1,
         Reading::Limit { table, .. } => usize::from(*table) == change.0,
     }

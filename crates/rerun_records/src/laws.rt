@@ -13,8 +13,8 @@ ghost use Rattle.rerun_records.specs.Named.{LooksUp, CommitsNamed};
 /// What is looked up by number stands for what the definitions look up by name, and records put in by number stand for those that
 /// the definitions put in by name.
 pub fn records_are_the_definitions()
-    ensures lookup { (program : Revised) (names : List Columned) (kinds : List Kind) (tables : Tables)
-        → (depth : ℕ) (f : Name) (args : List ℤ)
+    ensures lookup { (program : Revised) (names : List Columned) (kinds : List Kind)
+        → (tables : Tables) (depth : ℕ) (f : Name) (args : List ℤ)
         → LooksUp program names kinds tables depth f args }
     ensures commit { (program : PlainChecked) (rs ss : List PlainRecord)
         → CommitsNamed program rs ss (put_records rs ss) }

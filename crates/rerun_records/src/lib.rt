@@ -5,6 +5,7 @@ mod changes;
 pub mod edits;
 pub mod key;
 pub mod laws;
+mod nested;
 pub mod reading;
 pub mod readings;
 pub mod record;

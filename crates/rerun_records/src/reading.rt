@@ -1,23 +1,23 @@
 // Readings in fewer bytes.
-ghost use Rattle.std.specs.Prelude.{◌≡◌, IfOk, IfSome, is_some, nat_le, map};
-ghost use Rattle.rerun_records.specs.Record.{note_of, is_short};
+ghost use Rattle.std.specs.Prelude.{◌≡◌, IfOk, IfSome, is_some, nat_le, map, pos};
+ghost use Rattle.rerun_records.specs.Record.{note_of, is_short, fits_row};
 
 use evaluation::note::Note;
 use std::alloc::{AllocError, Global};
 
-/// A note as a record keeps it: the numbers of a table and of a column take two bytes each.
+/// A note as a record keeps it, in 16 bytes: the number of a table takes two of them, a column's one, and a cell's row four.
 #[derive(Clone, Copy)]
 pub enum Reading {
     Cell {
+        column: u8,
         table: u16,
-        column: u16,
-        row: i64,
+        row: u32,
         value: i64,
     },
     Has {
+        found: bool,
         table: u16,
         row: i64,
-        found: bool,
     },
     Limit {
         table: u16,
@@ -25,8 +25,8 @@ pub enum Reading {
     },
 }
 
-// The number in two bytes, where it fits.
-fn short(number: usize) -> Option<u16>
+// A table's number in two bytes, where it fits.
+fn short_table(number: usize) -> Option<u16>
     ensures same { IfSome result (λ n. n ≡ number) }
     ensures there { is_some result ≡ nat_le number 65535 }
 {
@@ -37,8 +37,32 @@ fn short(number: usize) -> Option<u16>
     }
 }
 
+// A column's number in one byte, where it fits.
+fn short_column(number: usize) -> Option<u8>
+    ensures same { IfSome result (λ n. n ≡ number) }
+    ensures there { is_some result ≡ nat_le number 255 }
+{
+    if number <= 255 {
+        Some(number as u8)
+    } else {
+        None
+    }
+}
+
+// A row's number in four bytes, where it fits.
+fn short_row(row: i64) -> Option<u32>
+    ensures same { IfSome result (λ n. pos n ≡ row) }
+    ensures there { is_some result ≡ fits_row row }
+{
+    if 0 <= row && row <= 4_294_967_295 {
+        Some(row as u32)
+    } else {
+        None
+    }
+}
+
 impl Reading {
-    /// The note in fewer bytes; none where the number of a table or column is too large, which no program's is.
+    /// The note in fewer bytes; none where the number of a table, a column or a cell's row is too large, which no program's is.
     pub fn new(note: &Note) -> Option<Reading>
         ensures made { IfSome result (λ r. note_of r ≡ note.now) }
         ensures there { is_some result ≡ is_short note.now }
@@ -50,18 +74,18 @@ impl Reading {
                 column,
                 value,
             } => Some(Reading::Cell {
-                table: short(*table)?,
-                column: short(*column)?,
-                row: *row,
+                column: short_column(*column)?,
+                table: short_table(*table)?,
+                row: short_row(*row)?,
                 value: *value,
             }),
             Note::Has { table, row, found } => Some(Reading::Has {
-                table: short(*table)?,
-                row: *row,
                 found: *found,
+                table: short_table(*table)?,
+                row: *row,
             }),
             Note::Limit { table, value } => Some(Reading::Limit {
-                table: short(*table)?,
+                table: short_table(*table)?,
                 value: *value,
             }),
         }
@@ -73,17 +97,17 @@ impl Reading {
     {
         match self {
             Reading::Cell {
-                table,
                 column,
+                table,
                 row,
                 value,
             } => Note::Cell {
                 table: usize::from(*table),
-                row: *row,
+                row: i64::from(*row),
                 column: usize::from(*column),
                 value: *value,
             },
-            Reading::Has { table, row, found } => Note::Has {
+            Reading::Has { found, table, row } => Note::Has {
                 table: usize::from(*table),
                 row: *row,
                 found: *found,

@@ -179,7 +179,8 @@ fn node_agrees(node: &Node, tables: &Tables) -> bool
 
 #[cycle(agreeing)]
 fn parts_agree(parts: &[Arc<Node>], tables: &Tables) -> bool
-    ensures agree { result ≡ every (note_agrees tables.now.tables) (flat_map shared_notes parts.now) }
+    ensures agree { result
+        ≡ every (note_agrees tables.now.tables) (flat_map shared_notes parts.now) }
 {
     for part in parts {
         if !node_agrees(part, tables) {
@@ -215,8 +216,8 @@ fn node_doubted_agrees(node: &Node, changes: &[(usize, i64)], tables: &Tables) -
 #[cycle(doubting)]
 fn doubted_parts_agree(parts: &[Arc<Node>], changes: &[(usize, i64)], tables: &Tables) -> bool
     requires covered { every is_covered_share parts.now ≡ true }
-    ensures agree { result
-        ≡ every (agrees_if_changed tables.now.tables changes.now) (flat_map shared_notes parts.now) }
+    ensures agree { result ≡ every (agrees_if_changed tables.now.tables changes.now)
+        (flat_map shared_notes parts.now) }
 {
     for part in parts {
         if !node_doubted_agrees(part, changes, tables) {
@@ -240,7 +241,8 @@ fn put_notes(node: &Node, notes: &mut Vec<Note>) -> Result<(), AllocError>
 
 #[cycle(putting)]
 fn put_parts(parts: &[Arc<Node>], notes: &mut Vec<Note>) -> Result<(), AllocError>
-    ensures put { OnOk result (notes.new.items ≡ notes.old.items ++ flat_map shared_notes parts.now) }
+    ensures put { OnOk result
+        (notes.new.items ≡ notes.old.items ++ flat_map shared_notes parts.now) }
 {
     for part in parts {
         put_notes(part, notes)?;

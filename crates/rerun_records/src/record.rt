@@ -12,18 +12,14 @@ ghost use Rattle.rerun_records.specs.Doubted.{in_step, reads_agree};
 ghost use Rattle.rerun_records.specs.Moments.{doubts_by};
 ghost use Rattle.rerun_records.specs.Validity.{note_agrees, has_revision, record_holds, record_valid};
 
+use crate::nested::Nested;
 use crate::readings::Readings;
 use input_tables::Tables;
 use linked_program::checked::Checked;
+use meaning::DEPTH_LIMIT;
 use monoid_laws::Val;
 use std::hash::{Hash, Hasher};
 use std::marker::Model;
-
-/// How many instances may be nested, as the language has it.
-const DEPTH_LIMIT: u64 = 64;
-
-/// How many changes of rows are few enough to look through them for each reading, which is quicker than to look it up.
-const FEW: usize = 16;
 
 /// What a memo instance came to, and what that rests on. Records are equal where they are of one procedure with the same
 /// arguments, whatever else they hold.
@@ -34,17 +30,17 @@ pub struct Record {
     value: i64,
     contribution: Vec<(usize, Val)>,
     reads: Readings,
-    entered: Vec<(usize, u64)>,
-    height: u32,
+    nested: Nested,
 }
 
 impl Model for Record {
     ghost use Rattle.std.specs.Prelude.{[], map};
     ghost use Rattle.rerun_records.specs.Record.{PlainRecord, rows, touched};
+    ghost use Rattle.rerun_records.specs.Nested.{entered_in, height_in};
 
     ghost Value = { PlainRecord };
 
-    ghost view = { λ r. record { procedure = r.procedure; arguments = r.arguments.items; value = r.value; contribution = map touched r.contribution.items; reads = r.reads; entered = r.entered.items; height = r.height; doubted = rows [] } };
+    ghost view = { λ r. record { procedure = r.procedure; arguments = r.arguments.items; value = r.value; contribution = map touched r.contribution.items; reads = r.reads; entered = entered_in r.nested; height = height_in r.nested; doubted = rows [] } };
 }
 
 impl Record {
@@ -57,23 +53,21 @@ impl Record {
         value: i64,
         mut contribution: Vec<(usize, Val)>,
         reads: Readings,
-        mut entered: Vec<(usize, u64)>,
+        entered: Vec<(usize, u64)>,
         height: u32,
     ) -> Record
-        ensures made { result
-            ≡ made_of procedure arguments.items value contribution.items reads entered.items height }
+        ensures made { result ≡ made_of procedure arguments.items value contribution.items reads
+            entered.items height }
     {
         arguments.shrink_to_fit();
         contribution.shrink_to_fit();
-        entered.shrink_to_fit();
         Record {
             procedure,
             arguments,
             value,
             contribution,
             reads,
-            entered,
-            height,
+            nested: Nested::new(entered, height),
         }
     }
 
@@ -81,7 +75,7 @@ impl Record {
     pub fn settled(&self)
         ensures settled { settled self.now ≡ self.now }
     {
-        let _ = &self.height;
+        let _ = &self.value;
     }
 
     /// The number of the procedure.
@@ -123,21 +117,21 @@ impl Record {
     pub fn entered(&self) -> &[(usize, u64)]
         ensures entered { result.now ≡ self.now.entered }
     {
-        &self.entered
+        self.nested.entered()
     }
 
     /// How many instances were nested at most, this one counted.
     pub fn height(&self) -> u32
         ensures height { result ≡ self.now.height }
     {
-        self.height
+        self.nested.height()
     }
 
     /// Whether the tables hold what was read, and the procedures entered are as they were.
     pub fn holds_now(&self, tables: &Tables, program: &Checked) -> bool
         ensures holds { result ≡ record_holds program.now.revisions tables.now.tables self.now }
     {
-        self.reads.agree(tables) && are_current(&self.entered, program)
+        self.reads.agree(tables) && are_current(self.nested.entered(), program)
     }
 
     /// Whether the record holds now, and an instance at that depth with as many nested in it stays within the limit, where the
@@ -149,13 +143,14 @@ impl Record {
         tables: &Tables,
         program: &Checked,
     ) -> bool
-        requires in_step { every (in_step tables.now.tables (doubts_by (option_copied changes))) self.now.reads ≡ true }
+        requires in_step { every (in_step tables.now.tables (doubts_by (option_copied changes)))
+            self.now.reads ≡ true }
         ensures valid { result
             ≡ record_valid program.now.revisions tables.now.tables depth self.now }
     {
         doubted_agree(&self.reads, changes, tables)
-            && are_current(&self.entered, program)
-            && fits(depth, self.height)
+            && are_current(self.nested.entered(), program)
+            && fits(depth, self.nested.height())
     }
 
     /// Whether the tables hold what was read.
@@ -170,12 +165,13 @@ impl Record {
 fn fits(depth: u32, height: u32) -> bool
     ensures fits { result ≡ nat_le (depth + height) (suc depth_limit) }
 {
-    u64::from(depth) + u64::from(height) <= DEPTH_LIMIT + 1
+    u64::from(depth) + u64::from(height) <= u64::from(DEPTH_LIMIT) + 1
 }
 
 // Whether the tables hold what was read, where they held each reading that those changes of rows, or any, don't put in doubt.
 fn doubted_agree(reads: &Readings, changes: Option<&[(usize, i64)]>, tables: &Tables) -> bool
-    requires in_step { every (in_step tables.now.tables (doubts_by (option_copied changes))) reads.now ≡ true }
+    requires in_step { every (in_step tables.now.tables (doubts_by (option_copied changes)))
+        reads.now ≡ true }
     ensures agree { result ≡ every (note_agrees tables.now.tables) reads.now }
 {
     match changes {

@@ -3,10 +3,10 @@ ghost use Rattle.std.specs.Prelude.{◌≡◌, ◌↔◌, IsTrue, List, [], leng
 ghost use Rattle.std.specs.Cmp.Rules.{comparing, hashing};
 ghost use Rattle.indexmap.specs.IndexSet.{spare};
 ghost use Rattle.std.proofs.Common.{rules};
-ghost use Rattle.rerun_records.specs.Record.{is_of, settled};
+ghost use Rattle.rerun_records.specs.Record.{is_of, settled, everything};
 ghost use Rattle.rerun_records.specs.Validity.{valid_at};
 ghost use Rattle.rerun_records.specs.Doubted.{IsInStep, ReadNow, IsSameBut};
-ghost use Rattle.rerun_records.specs.Moments.{standing, AreStanding, first_moment};
+ghost use Rattle.rerun_records.specs.Moments.{standing, AreStanding, first_moment, doubted_by};
 ghost use Rattle.meaning.specs.Tables.{Tables as PlainTables};
 ghost use Rattle.rerun_records.specs.Commits.{put_record, put_records, AreSingle};
 ghost use Rattle.rerun_records.specs.Named.{looked_up, FindsNamed, CommitsNamed, HaveValues};
@@ -121,8 +121,8 @@ impl Records {
         program: &Checked,
     ) -> Option<&Record>
         requires in_step { IsInStep tables.now.tables self.now }
-        ensures valid { option_copied result
-            ≡ valid_at program.now.revisions tables.now.tables depth self.now procedure arguments.now }
+        ensures valid { option_copied result ≡ valid_at program.now.revisions tables.now.tables depth
+            self.now procedure arguments.now }
     {
         match self.by_instance.get_full(Asked {
             procedure,
@@ -151,7 +151,8 @@ impl Records {
         requires in_step { IsInStep tables.now.tables self.now }
         ensures numbered { option_copied result
             ≡ looked_up program.now tables.now.tables depth self.now key.now }
-        ensures named { FindsNamed program.now tables.now.tables depth self.now key.now (option_copied result) }
+        ensures named { FindsNamed program.now tables.now.tables depth self.now key.now
+            (option_copied result) }
     {
         program.revised();
         match program.procedure(key.procedure()) {
@@ -202,8 +203,9 @@ impl Records {
         }
     }
 
-    // Puts all of each record in doubt.
-    fn doubt_all(&mut self)
+    /// Puts all of each record in doubt, so that the tables may be any others from then on. It takes no memory.
+    pub fn doubt_all(&mut self)
+        ensures doubted { self.new ≡ map (doubted_by everything) self.old }
         ensures in_step { (tables : PlainTables) → IsInStep tables self.new }
         ensures same { map settled self.new ≡ map settled self.old }
     {
@@ -270,7 +272,8 @@ fn put_all(
         ≡ put_records (standing changes.now moments.old.items by_instance.old.keys) records.items }
     ensures standing { AreStanding changes.now moments.new.items by_instance.new.keys }
     ensures settled { map settled (standing changes.now moments.new.items by_instance.new.keys)
-        ≡ put_records (map settled (standing changes.now moments.old.items by_instance.old.keys)) records.items }
+        ≡ put_records (map settled (standing changes.now moments.old.items by_instance.old.keys))
+        records.items }
 {
     for record in records {
         put(by_instance, moments, changes, record);

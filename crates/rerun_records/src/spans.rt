@@ -21,7 +21,7 @@ impl Span {
         ensures span { result ≡ span_of reading.now }
     {
         match reading {
-            Reading::Cell { table, row, .. } => Span::one(*table, *row),
+            Reading::Cell { table, row, .. } => Span::one(*table, i64::from(*row)),
             Reading::Has { table, row, .. } => Span::one(*table, *row),
             Reading::Limit { table, .. } => Span {
                 table: *table,

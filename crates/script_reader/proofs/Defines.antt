@@ -18,7 +18,7 @@ going_on script begin begun line (Some m) is le rest number starts text other =
     let joined : take (line.begin - begin) (drop begin script) ++ (text_of script line ++ 10 ∷ []) ≡ take (m.begin - begin) (drop begin script) =
     rw text (stretches script begin line.begin m.begin le (omega (arith, starts, is.ends))) in
     let line_by_line = append_assoc (take (line.begin - begin) (drop begin script)) (text_of script line) (10 ∷ []) in
-    rw (rest, other, ← number) (ap (λ t. define_from true begun t m.number (lines (drop m.begin script))) (line_by_line ∙ joined))
+    rw (rest, other, ← number) (ap (λ t. define_from begun t m.number (lines (drop m.begin script))) (line_by_line ∙ joined))
 
 -- the line behind a line of the text is one behind its beginning too
 pub further_on : (script : List ℕ) (begin : ℕ) (line : Line) (next : Option Line) → IsLine script line → begin ≤ line.begin → IfSome next (λ m. m.begin ≡ line.end + 1) → IfSome next (λ m. begin < m.begin)

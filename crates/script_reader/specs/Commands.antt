@@ -6,16 +6,16 @@ use Rattle.script_reader.specs.declared.lines.Line.{Line}
 
 abbrev pub commands_at : List ℕ → Option Line → List Command
 commands_at script None = []
-commands_at script (Some line) = commands_from true line.number (lines (drop line.begin script))
+commands_at script (Some line) = commands_from line.number (lines (drop line.begin script))
 
 -- the commands from a define on that began on the line of this number, with its text from this place on and its `end` on this line
 abbrev pub defined_at : List ℕ → ℕ → ℕ → Option Line → List Command
 defined_at script begin begun None = Unknown begun ∷ []
 defined_at script begin begun (Some end) =
-    Change (Define (take (end.begin - begin) (drop begin script))) ∷ commands_from true (end.number + 1) (drop 1 (lines (drop end.begin script)))
+    Change (Define (take (end.begin - begin) (drop begin script))) ∷ commands_from (end.number + 1) (drop 1 (lines (drop end.begin script)))
 
 -- the same, where the text has been read up to this line
 abbrev pub define_going : List ℕ → ℕ → ℕ → Option Line → List Command
 define_going script begin begun None = Unknown begun ∷ []
 define_going script begin begun (Some line) =
-    define_from true begun (take (line.begin - begin) (drop begin script)) line.number (lines (drop line.begin script))
+    define_from begun (take (line.begin - begin) (drop begin script)) line.number (lines (drop line.begin script))

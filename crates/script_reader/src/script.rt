@@ -22,7 +22,7 @@ fn words_command<'a>(
 ) -> Result<Option<Command<'a>>, AllocError>
     requires { every (every is_shown) (bytes_of words.now) ≡ true }
     ensures { IfOk result (λ found.
-        maybe_said found ≡ command_of true number (bytes_of words.now)) }
+        maybe_said found ≡ command_of number (bytes_of words.now)) }
 {
     if words.is_empty() {
         return Ok(None);
@@ -44,7 +44,7 @@ fn line_command<'a>(
     words: &[&'a [u8]],
 ) -> Result<Option<Command<'a>>, AllocError>
     requires { bytes_of words.now ≡ words_of line.now }
-    ensures { IfOk result (λ found. maybe_said found ≡ command_in true number line.now) }
+    ensures { IfOk result (λ found. maybe_said found ≡ command_in number line.now) }
 {
     if is_comment(line) {
         return Ok(None);
@@ -61,7 +61,7 @@ fn end_of_define(alloc: Global, script: &[u8], first: Line) -> Result<Option<Lin
     ensures line { IfOk result (λ end. IfSome end (IsLine script.now)) }
     ensures further { IfOk result (λ end. IfSome end (λ line. first.begin ≤ line.begin)) }
     ensures found { IfOk result (λ end. (begun : ℕ)
-        → define_from true begun [] first.number (lines_at script.now (Some first))
+        → define_from begun [] first.number (lines_at script.now (Some first))
         ≡ defined_at script.now first.begin begun end) }
 {
     let mut next = Some(first);
@@ -139,7 +139,7 @@ fn push_some<'a>(
 
 /// The commands of a script, in order. Want of memory is the only error.
 pub fn commands<'a>(alloc: Global, script: &'a [u8]) -> Result<Vec<Command<'a>>, AllocError>
-    ensures { IfOk result (λ found. map said found.items ≡ commands_of true script.now) }
+    ensures { IfOk result (λ found. map said found.items ≡ commands_of script.now) }
 {
     let mut found = Vec::new(alloc);
     let mut next = Some(first_line(script));

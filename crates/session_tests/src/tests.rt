@@ -1,5 +1,6 @@
 //! Whole scripts and single calls. What is wanted was found by hand, or is the answer of the slow serial program.
 
+mod anew;
 mod beginning;
 mod drawn;
 mod exhausted;

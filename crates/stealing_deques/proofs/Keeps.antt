@@ -8,7 +8,7 @@ use Rattle.crossbeam_deque.proofs.Lists.{at_set, at_snoc}
 use Rattle.stealing_deques.specs.declared.entry.Spot.{Spot}
 use Rattle.stealing_deques.specs.declared.entry.PlainEntry.{PlainEntry}
 use Rattle.stealing_deques.specs.declared.entry.Knowledge.{Knowledge}
-use Rattle.stealing_deques.specs.Order.{times, held, once_below, GoesOn, IsChained, EndsAt, IsBoundTo, PlacesRise, AreSeen, AreCounted, FitsOwner, FitsThief, IsInOrder, knowing, after_push, after_pop, after_steal, IfOne}
+use Rattle.stealing_deques.specs.Order.{times, count_held, once_below, GoesOn, IsChained, EndsAt, IsBoundTo, PlacesRise, AreSeen, AreCounted, FitsOwner, FitsThief, IsInOrder, knowing, after_push, after_pop, after_steal, IfOne}
 
 at_end : (l : List Knowledge) (a b : Knowledge) (j : ℕ) → get_elem? l j ≢ some b → get_elem? (l ++ a ∷ []) j ≡ some b → j ≡ length l
 at_end [] a b zero n e = refl
@@ -26,9 +26,9 @@ each_set F views port w mine others j u e = ⊎_elim (λ (x : (j ≡ port) × (w
 abbrev one : ℕ → ℕ → ℕ
 one x n = if n == x then 1 else 0
 
-held_snoc : (x : ℕ) (cs : List PlainEntry) (c : PlainEntry) → held x (cs ++ c ∷ []) ≡ held x cs + (if c.number == x then 1 else 0)
-held_snoc x [] c = omega arith
-held_snoc x (d ∷ cs) c = omega (arith, held_snoc x cs c)
+count_held_snoc : (x : ℕ) (cs : List PlainEntry) (c : PlainEntry) → count_held x (cs ++ c ∷ []) ≡ count_held x cs + (if c.number == x then 1 else 0)
+count_held_snoc x [] c = omega arith
+count_held_snoc x (d ∷ cs) c = omega (arith, count_held_snoc x cs c)
 
 below_more : (x n : ℕ) → once_below x (n + 1) ≡ once_below x n + (if n == x then 1 else 0)
 below_more x n = grind (arith, nat_tests)
@@ -101,7 +101,7 @@ pushes port v c may number goes_on fits items views h at =
         h.4,
         (λ x.
             let e : one x c.number ≡ one x h.2 = ap (one x) (number ∙ o.1) in
-            omega (arith, h.5 x, held_snoc x items c, below_more x h.2, e)),
+            omega (arith, h.5 x, count_held_snoc x items c, below_more x h.2, e)),
         omega (arith, h.6, length-append items (c ∷ [])),
         each_set F views port w
             ((λ _. (o.0, ap (λ (m : ℕ). m + 1) o.1, o.2, chain_push v.here items c o.3 goes_on fits)), mine.1)
@@ -124,7 +124,7 @@ pops port v may x items views h at =
         h.2,
         popped,
         h.4,
-        (λ y. omega (arith, h.5 y, held_snoc y items x)),
+        (λ y. omega (arith, h.5 y, count_held_snoc y items x)),
         omega (arith, h.6, length-append items (x ∷ [])),
         each_set F views port w
             ((λ _. (o.0, o.1, ap (λ (l : List ℕ). x.number ∷ l) o.2, (chain_pop v.here items x o.3).0)), mine.1)
@@ -232,8 +232,8 @@ learns port v may items views h at =
       (
         h.4,
         (λ x.
-            subst (λ (p : List ℕ). (times x p + times x h.4) + held x items ≡ once_below x v.pushed) (sym o.2)
-            (subst (λ (m : ℕ). (times x h.3 + times x h.4) + held x items ≡ once_below x m) (sym o.1) (h.5 x))),
+            subst (λ (p : List ℕ). (times x p + times x h.4) + count_held x items ≡ once_below x v.pushed) (sym o.2)
+            (subst (λ (m : ℕ). (times x h.3 + times x h.4) + count_held x items ≡ once_below x m) (sym o.1) (h.5 x))),
         omega (arith, h.6, o.1, ap (λ (l : List ℕ). length l) o.2),
       ),
     )
@@ -244,9 +244,9 @@ counts port v may both items views h at =
     let o = (h.7 port v at).0 may in
     let t = (h.7 port v at).1 both in (
       (λ x.
-          subst (λ (p : List ℕ). (times x p + times x v.stolen) + held x items ≡ once_below x v.pushed) (sym o.2)
-          (subst (λ (s : List ℕ). (times x h.3 + times x s) + held x items ≡ once_below x v.pushed) (sym t.1)
-          (subst (λ (m : ℕ). (times x h.3 + times x h.4) + held x items ≡ once_below x m) (sym o.1) (h.5 x)))),
+          subst (λ (p : List ℕ). (times x p + times x v.stolen) + count_held x items ≡ once_below x v.pushed) (sym o.2)
+          (subst (λ (s : List ℕ). (times x h.3 + times x s) + count_held x items ≡ once_below x v.pushed) (sym t.1)
+          (subst (λ (m : ℕ). (times x h.3 + times x h.4) + count_held x items ≡ once_below x m) (sym o.1) (h.5 x)))),
       omega (arith, h.6, o.1, ap (λ (l : List ℕ). length l) o.2, ap (λ (l : List ℕ). length l) t.1),
     )
 

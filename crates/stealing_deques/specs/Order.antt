@@ -16,9 +16,9 @@ times x [] = 0
 times x (y ∷ ys) = (if y == x then 1 else 0) + times x ys
 
 -- how often x is the number of an entry
-abbrev pub held : ℕ → List PlainEntry → ℕ
-held x [] = 0
-held x (c ∷ cs) = (if c.number == x then 1 else 0) + held x cs
+abbrev pub count_held : ℕ → List PlainEntry → ℕ
+count_held x [] = 0
+count_held x (c ∷ cs) = (if c.number == x then 1 else 0) + count_held x cs
 
 abbrev pub once_below : ℕ → ℕ → ℕ
 once_below x n = if nat_lt x n then 1 else 0
@@ -54,7 +54,7 @@ FitsThief thief stolen port v = v.steals ≡ true → (port ≡ thief) × (v.sto
 abbrev pub IsInOrder : List PlainEntry → List Knowledge → Type 0
 IsInOrder items views =
     (owner : ℕ) × (thief : ℕ) × (n : ℕ) × (popped : List ℕ) × (stolen : List ℕ)
-    × ((x : ℕ) → (times x popped + times x stolen) + held x items ≡ once_below x n)
+    × ((x : ℕ) → (times x popped + times x stolen) + count_held x items ≡ once_below x n)
     × ((length popped + length stolen) + length items ≡ n)
     × ((port : ℕ) (v : Knowledge) → get_elem? views port ≡ some v → FitsOwner owner n popped items port v × FitsThief thief stolen port v)
 
@@ -97,10 +97,10 @@ PlacesRise (c ∷ d ∷ cs) = GoesOn c.at.name d.at.name × PlacesRise (d ∷ cs
 abbrev pub AreSeen : Knowledge → List PlainEntry → Type 0
 AreSeen v items = PlacesRise items × EndsAt items v.here
     × ((stolen : List ℕ)
-    × ((x : ℕ) → (times x v.popped + times x stolen) + held x items ≡ once_below x v.pushed)
+    × ((x : ℕ) → (times x v.popped + times x stolen) + count_held x items ≡ once_below x v.pushed)
     × ((length v.popped + length stolen) + length items ≡ v.pushed))
 
 -- each number below the count of pushes is held or was taken, once
 abbrev pub AreCounted : Knowledge → List PlainEntry → Type 0
-AreCounted v items = ((x : ℕ) → (times x v.popped + times x v.stolen) + held x items ≡ once_below x v.pushed)
+AreCounted v items = ((x : ℕ) → (times x v.popped + times x v.stolen) + count_held x items ≡ once_below x v.pushed)
     × ((length v.popped + length v.stolen) + length items ≡ v.pushed)

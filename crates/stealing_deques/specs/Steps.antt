@@ -4,7 +4,7 @@ use Rattle.stealing_deques.specs.declared.entry.Spot.{Spot}
 use Rattle.stealing_deques.specs.declared.entry.PlainEntry.{PlainEntry}
 use Rattle.stealing_deques.specs.declared.entry.PlainOwner.{PlainOwner}
 use Rattle.stealing_deques.specs.declared.entry.PlainThief.{PlainThief}
-use Rattle.stealing_deques.specs.Order.{PlacesRise, EndsAt, times, held, once_below}
+use Rattle.stealing_deques.specs.Order.{PlacesRise, EndsAt, times, count_held, once_below}
 
 -- one of some number was popped, and the owner has come to that spot
 abbrev pub WasPopped : PlainOwner → Spot → PlainOwner → Type 0
@@ -19,7 +19,7 @@ abbrev pub HoldsInOrder : PlainOwner → ℕ → Type 0
 HoldsInOrder o count =
     (items : List PlainEntry) × (length items ≡ count) × PlacesRise items × EndsAt items o.here
     × ((stolen : List ℕ)
-    × ((x : ℕ) → (times x o.popped + times x stolen) + held x items ≡ once_below x o.pushed)
+    × ((x : ℕ) → (times x o.popped + times x stolen) + count_held x items ≡ once_below x o.pushed)
     × ((length o.popped + length stolen) + length items ≡ o.pushed))
 
 abbrev pub unused_owner : ℕ → PlainOwner

@@ -2,7 +2,7 @@
 
 ghost use Rattle.rerun_records.specs.Doubted.{IsInStep};
 
-use super::making::{LINES, checked, commit, committed, found, record, sales, second_line};
+use super::making::{LINES, SALES, checked, commit, committed, found, record, sales, second_line};
 use evaluation::note::Note;
 use input_tables::Tables;
 use linked_program::checked::Checked;
@@ -110,6 +110,28 @@ fn a_deleted_row_ends_a_record(rt: HostRuntime) {
         .put(alloc, &mut tables, "sales", 2, &[3, 7])
         .expect(&rt, "an edit");
     assert!(&rt; answers(&rt, alloc, &records, &tables, &program) == (Some(21), Some(0)));
+}
+
+/// What the two records answer where all of them was put in doubt and the tables were read anew.
+fn read_anew(rt: &impl Abort, alloc: Global, text: &str) -> (Option<i64>, Option<i64>) {
+    let before = sales(rt, alloc);
+    let program = checked(rt, alloc, LINES, &before);
+    let mut records = records_of_lines(rt, alloc, &before, &program);
+    records.doubt_all();
+    let after = Tables::from_toml(alloc, text).expect(rt, "tables");
+    answers(rt, alloc, &records, &after, &program)
+}
+
+/// Row 2 has another price here.
+const OTHER_SALES: &str = "[sales]
+columns = [\"qty\", \"price\"]
+rows = [[1, 2, 5], [2, 3, 8], [3, 1, 100]]
+";
+
+#[test]
+fn tables_read_anew_are_compared(rt: HostRuntime) {
+    assert!(&rt; read_anew(&rt, rt.alloc(), SALES) == (Some(21), Some(0)));
+    assert!(&rt; read_anew(&rt, rt.alloc(), OTHER_SALES) == (None, Some(0)));
 }
 
 /// The records' answers where the program is another.

@@ -19,7 +19,7 @@ use std::alloc::Global;
 use std::process::Abort;
 
 /// Three lines with quantities and prices.
-const SALES: &str = "[sales]
+pub const SALES: &str = "[sales]
 columns = [\"qty\", \"price\"]
 rows = [[1, 2, 5], [2, 3, 7], [3, 1, 100]]
 ";

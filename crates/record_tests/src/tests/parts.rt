@@ -1,6 +1,6 @@
 //! What a record gives back.
 
-use super::making::{LINES, cell, checked, committed, sales, second_line};
+use super::making::{LINES, cell, checked, committed, reads_of, sales, second_line};
 use evaluation::note::Note;
 use monoid_laws::Val;
 use rerun_records::reading::readings;
@@ -55,14 +55,43 @@ fn a_record_comes_back(rt: HostRuntime) {
     assert!(&rt; comes_back(&rt, rt.alloc()));
 }
 
-/// Whether a reading of that table can be kept in a record.
-fn is_kept(alloc: Global, table: usize) -> bool {
-    readings(alloc, &[Note::Limit { table, value: 4 }]).is_ok()
+/// Whether a record gives back the height and these procedures.
+fn gives_back(rt: &impl Abort, alloc: Global, entered: &[(usize, u64)]) -> bool {
+    let reads = reads_of(rt, alloc, &[], Vec::new(alloc));
+    let listed = Vec::from_slice(alloc, entered).expect(rt, "memory");
+    let made = Record::new(0, Vec::new(alloc), 0, Vec::new(alloc), reads, listed, 3);
+    made.height() == 3 && *made.entered() == *entered
 }
 
-/// Two bytes hold numbers up to 65535.
 #[test]
-fn a_number_past_two_bytes_is_refused(rt: HostRuntime) {
-    let made = [is_kept(rt.alloc(), 65535), is_kept(rt.alloc(), 65536)];
-    assert!(&rt; made == [true, false]);
+fn several_procedures_come_back(rt: HostRuntime) {
+    assert!(&rt; gives_back(&rt, rt.alloc(), &[]));
+    assert!(&rt; gives_back(&rt, rt.alloc(), &[(1, 7)]));
+    assert!(&rt; gives_back(&rt, rt.alloc(), &[(1, 7), (0, 8)]));
+}
+
+/// Whether a reading can be kept in a record.
+fn is_kept(alloc: Global, note: Note) -> bool {
+    readings(alloc, &[note]).is_ok()
+}
+
+/// Two bytes hold a table's number up to 65535.
+#[test]
+fn a_table_past_two_bytes_is_refused(rt: HostRuntime) {
+    for (table, kept) in [(65535, true), (65536, false)] {
+        assert!(&rt; is_kept(rt.alloc(), Note::Limit { table, value: 4 }) == kept);
+    }
+}
+
+/// One byte holds a column's number up to 255, and four a row's up to 4294967295.
+#[test]
+fn a_cell_past_its_bytes_is_refused(rt: HostRuntime) {
+    for (row, column, kept) in [
+        (4_294_967_295, 255, true),
+        (4_294_967_296, 255, false),
+        (-1, 255, false),
+        (0, 256, false),
+    ] {
+        assert!(&rt; is_kept(rt.alloc(), cell(row, column, 4)) == kept);
+    }
 }

@@ -180,7 +180,7 @@ pub fn play<V: View>(
 }
 
 /// Steps of one worker, which goes on until it can't; a child that it spawns becomes a call.
-fn steps_alone(alloc: Global) -> Result<Vec<Step>, AllocError> {
+pub fn steps_alone(alloc: Global) -> Result<Vec<Step>, AllocError> {
     let mut steps = Vec::new(alloc);
     for _ in 0..50 {
         for _ in 0..30 {

@@ -1,17 +1,18 @@
 //! Expressions over the table of the examples: three rows of a quantity and a price.
 
 use super::documents::SALES;
-use evaluation::entry::entry_slots;
+use evaluation::entry::{entry_slots, fill_slots};
 use evaluation::note::Note;
 use evaluation::ranges::bounds;
 use evaluation::slot::Slot;
 use evaluation::stop::Stop;
-use evaluation::values::{value, values};
+use evaluation::values::{two_values, value, values};
 use input_tables::Tables;
 use linked_program::code::Expression;
 use meaning::FaultKind;
 use program_tree::Operator;
 use std::alloc::{AllocError, Global};
+use std::process::Abort;
 use std::test::Fail;
 
 const BY_ZERO: Result<i64, Stop> = Err(Stop::Fault(FaultKind::DivideByZero));
@@ -167,6 +168,35 @@ fn values_from_left_to_right(rt: HostRuntime) -> Result<(), Fail> {
     Ok(())
 }
 
+/// Whether two expressions have these values, or this fault, and these readings are noted.
+fn give_two(
+    alloc: Global,
+    first: &Expression,
+    second: &Expression,
+    tables: &Tables,
+    wanted: Result<(i64, i64), Stop>,
+    readings: &[Note],
+) -> bool {
+    let mut notes = Vec::new(alloc);
+    let ended = two_values(first, second, &[Slot::Has(2)], tables, &mut notes);
+    ended == wanted && notes.as_slice() == readings
+}
+
+/// A fault in the second expression leaves what the first one has read noted.
+#[test]
+fn two_values_from_left_to_right(rt: HostRuntime) {
+    let alloc = rt.alloc();
+    let tables = Tables::from_toml(alloc, SALES).expect(&rt, "tables");
+    let price = cell(alloc, 1).expect(&rt, "memory");
+    let slot = Expression::Slot(0);
+    let less = on(alloc, Operator::Subtract, slot, Expression::Number(9)).expect(&rt, "memory");
+    let faulty = of_numbers(alloc, Operator::Divide, 1, 0).expect(&rt, "memory");
+    let by_zero = Err(Stop::Fault(FaultKind::DivideByZero));
+    let noted = &[read(1, 7)];
+    assert!(&rt; give_two(alloc, &price, &less, &tables, Ok((7, -7)), noted));
+    assert!(&rt; give_two(alloc, &price, &faulty, &tables, by_zero, noted));
+}
+
 /// Whether an instance of so many names that is entered with 5 and a limit has these slots, and so many readings are noted.
 fn enters(alloc: Global, size: usize, tables: &Tables, slots: &[Slot], readings: usize) -> bool {
     let mut notes = Vec::new(alloc);
@@ -190,6 +220,42 @@ fn a_new_instance(rt: HostRuntime) -> Result<(), Fail> {
         assert!(rt; enters(rt.alloc(), size, &tables, slots, 1));
     }
     Ok(())
+}
+
+/// Whether an instance of three names that is entered with these arguments has these slots in place of what a longer list held,
+/// and these readings are noted behind what was noted before.
+fn fills(
+    rt: &impl Abort,
+    alloc: Global,
+    arguments: &[Expression],
+    slots: &[Slot],
+    readings: &[Note],
+) -> bool {
+    let tables = Tables::from_toml(alloc, SALES).expect(rt, "tables");
+    let longer = [Slot::Has(9), Slot::Waits(1), Slot::Has(8), Slot::Unset];
+    let mut made = Vec::from_slice(alloc, &longer).expect(rt, "memory");
+    let mut notes = Vec::from_slice(alloc, &[found(4, false)]).expect(rt, "memory");
+    let ended = fill_slots(
+        &mut made,
+        3,
+        arguments,
+        &[Slot::Has(2)],
+        &tables,
+        &mut notes,
+    );
+    ended.is_ok() && made.as_slice() == slots && notes.as_slice() == readings
+}
+
+/// Its arguments are five more than a slot, and a cell.
+#[test]
+fn slots_in_place_of_others(rt: HostRuntime) {
+    let alloc = rt.alloc();
+    let slot = Expression::Slot(0);
+    let more = on(alloc, Operator::Add, slot, Expression::Number(5)).expect(&rt, "memory");
+    let quantity = cell(alloc, 0).expect(&rt, "memory");
+    let slots = [Slot::Has(7), Slot::Has(3), Slot::Unset];
+    let readings = [found(4, false), read(0, 3)];
+    assert!(&rt; fills(&rt, alloc, &[more, quantity], &slots, &readings));
 }
 
 /// Whether a loop between two numbers has so many iterations from the lower one on, or this fault.

@@ -6,11 +6,11 @@ use Rattle.input_tables.proofs.Orders.{place_within}
 use Rattle.input_tables.proofs.places.find.Goals as goal
 
 pub returns-in-None-clause-upto_end : goal.returns-in-None-clause-upto_end
-returns-in-None-clause-upto_end g c = rw c.place_of-place.ensures (place_within _ c.args.entries.now)
+returns-in-None-clause-upto_end g c = rw c.lower_count-place.ensures (place_within _ c.args.entries.now)
 
 pub returns-in-None-clause-absent : goal.returns-in-None-clause-absent
 returns-in-None-clause-absent g c =
-    let test : ltb c.place_of-place.result (length c.args.entries.now) ≡ false = sym c.in-None.ensures.lookup.0 in
-    let past : length c.args.entries.now ≤ c.place_of-place.result = grind (arith, nat_tests) in
-    let none : slice_get c.args.entries.now c.place_of-place.result ≡ None = slice_get_past c.args.entries.now c.place_of-place.result past in
+    let test : ltb c.lower_count-place.result (length c.args.entries.now) ≡ false = sym c.in-None.ensures.lookup.0 in
+    let past : length c.args.entries.now ≤ c.lower_count-place.result = grind (arith, nat_tests) in
+    let none : slice_get c.args.entries.now c.lower_count-place.result ≡ None = slice_get_past c.args.entries.now c.lower_count-place.result past in
     rw none tt

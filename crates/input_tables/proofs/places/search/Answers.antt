@@ -2,7 +2,7 @@ use Rattle.std.proofs.Common.{rules, ◌≡◌, ℕ, ◌+◌, ◌-◌, ◌/◌, 
 use Rattle.std.proofs.lemmas.Int.{to_z-of_z}
 use Rattle.std.proofs.lemmas.Option.{slice_get_read}
 use Rattle.std.specs.Prelude.{slice_get, int_lt}
-use Rattle.input_tables.specs.Pages.{place_of}
+use Rattle.input_tables.specs.Pages.{lower_count}
 use Rattle.input_tables.proofs.Orders.{place_past, place_upto, place_within}
 use Rattle.input_tables.proofs.places.search.Goals as goal
 
@@ -25,7 +25,7 @@ loop-low-preserved-then-entries-middle g c =
     let is : e ≡ get_or xs middle e = c.index-entries-middle.is in
     let test = rw (← is) at c.if-entries-middle.true in
     let below : int_lt e.0 (to_z w64 (of_z w64 c.args.number)) ≡ true = rw (to_z-of_z w64 e.0 fits) at test in
-    let past : middle < place_of (to_z w64 (of_z w64 c.args.number)) xs = place_past (to_z w64 (of_z w64 c.args.number)) xs middle e c.requires there below in
+    let past : middle < lower_count (to_z w64 (of_z w64 c.args.number)) xs = place_past (to_z w64 (of_z w64 c.args.number)) xs middle e c.requires there below in
     record {
       order = omega (arith, c.loop-low-test.true);
       within = c.loop-low.invariant.within;

@@ -8,7 +8,7 @@ use Rattle.script_reader.proofs.script.commands.Given as goal
 abbrev pub invariant-loop-next : goal.invariant-loop-next
 invariant-loop-next l = record {
   line : IfSome l.next (IsLine l.script);
-  found : map said l.found.items ++ commands_at l.script l.next ≡ commands true l.script;
+  found : map said l.found.items ++ commands_at l.script l.next ≡ commands l.script;
 }
 
 abbrev pub decreases-loop-next : goal.decreases-loop-next

@@ -8,7 +8,7 @@ abbrev pub invariant-loop-next : goal.invariant-loop-next
 invariant-loop-next l = record {
   line : IfSome l.next (IsLine l.script);
   further : IfSome l.next (λ line. l.fn.first.begin ≤ line.begin);
-  going : (begun : ℕ) → define_from true begun [] l.fn.first.number (lines (drop l.fn.first.begin l.script)) ≡ define_going l.script l.fn.first.begin begun l.next;
+  going : (begun : ℕ) → define_from begun [] l.fn.first.number (lines (drop l.fn.first.begin l.script)) ≡ define_going l.script l.fn.first.begin begun l.next;
 }
 
 abbrev pub decreases-loop-next : goal.decreases-loop-next

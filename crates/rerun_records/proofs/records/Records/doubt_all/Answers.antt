@@ -1,10 +1,10 @@
 use Rattle.std.proofs.Common.{rules, ◌≡◌, ◌∙◌, ap, sym, length, map, subst, List, ℕ, ℤ}
 use Rattle.std.specs.Vec.{vec_len}
-use Rattle.rerun_records.specs.Record.{settled}
+use Rattle.rerun_records.specs.Record.{settled, everything}
 use Rattle.rerun_records.specs.Doubted.{IsInStep}
-use Rattle.rerun_records.specs.Moments.{AreStanding, standing}
+use Rattle.rerun_records.specs.Moments.{AreStanding, standing, doubted_by}
 use Rattle.rerun_records.proofs.Standing.{standing_settled}
-use Rattle.rerun_records.proofs.Marks.{all_doubted_step, all_doubted_stand}
+use Rattle.rerun_records.proofs.Marks.{all_doubted_step, all_doubted_stand, all_doubted_are}
 use Rattle.rerun_records.proofs.records.Records.doubt_all.Goals as goal
 
 pub invariant_of-self : goal.invariant_of-self
@@ -12,6 +12,12 @@ invariant_of-self c =
     let long : vec_len c.self.inside.moments ≡ length c.self.inside.moments.items = search rules in
     subst (λ (cs : List (ℕ × ℤ)). AreStanding cs c.fill.new.self.items c.self.inside.by_instance.keys) (sym c.clear.ensures.items)
     (all_doubted_stand c.self.inside.changes.items c.self.inside.moments.items c.fill.new.self.items (vec_len c.self.inside.moments) c.self.inside.by_instance.keys (c.fill.ensures.items (λ y e. e)) long c.self.invariant)
+
+pub returns-clause-doubted : goal.returns-clause-doubted
+returns-clause-doubted c =
+    subst (λ (cs : List (ℕ × ℤ)). standing cs c.fill.new.self.items c.self.inside.by_instance.keys ≡ map (doubted_by everything) c.args.self.now) (sym c.clear.ensures.items)
+    (all_doubted_are c.self.inside.changes.items c.self.inside.moments.items c.fill.new.self.items (vec_len c.self.inside.moments) c.self.inside.by_instance.keys (c.fill.ensures.items (λ y e. e))
+    ∙ ap (map (doubted_by everything)) c.self.view_is)
 
 pub returns-clause-in_step : goal.returns-clause-in_step
 returns-clause-in_step c = λ tables.

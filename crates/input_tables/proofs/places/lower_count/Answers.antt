@@ -4,7 +4,7 @@ use Rattle.std.proofs.lemmas.Option.{slice_get_read}
 use Rattle.std.specs.Int.{cast_signed}
 use Rattle.std.specs.Prelude.{slice_get}
 use Rattle.input_tables.proofs.Orders.{place_there}
-use Rattle.input_tables.proofs.places.place_of.Goals as goal
+use Rattle.input_tables.proofs.places.lower_count.Goals as goal
 
 pub returns-in-Some : goal.returns-in-Some
 returns-in-Some g c =

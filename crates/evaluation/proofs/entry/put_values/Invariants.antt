@@ -3,7 +3,7 @@ use Rattle.linked_program.specs.CodeView.{expression as plain}
 use Rattle.evaluation.specs.declared.slot.Slot.TheVariants.{Has}
 use Rattle.evaluation.specs.Slots.{padded, slots_for}
 use Rattle.evaluation.specs.Values.{values_at, changed}
-use Rattle.evaluation.proofs.entry.slots_of.Given as goal
+use Rattle.evaluation.proofs.entry.put_values.Given as goal
 
 abbrev pub invariant-loop-argument : goal.invariant-loop-argument
 invariant-loop-argument l = record {
