@@ -60,17 +60,24 @@ fn go_far(
     Ok(STEPS)
 }
 
-/// The answer of a program on one strand that does what it can in one go; and how many steps it did by themselves.
+/// What a run came to, and how many steps it did by themselves.
+#[derive(Drop)]
+pub struct Far {
+    pub answer: RunAnswer,
+    pub steps: usize,
+}
+
+/// The answer of a program on one strand that does what it can in one go.
 pub fn run_far(
     alloc: Global,
     program: &Checked,
     tables: &Tables,
-) -> Result<(RunAnswer, usize), AllocError> {
+) -> Result<Far, AllocError> {
     let mut pool = no_kits(alloc)?;
     let mut strand = begin(alloc, program)?;
     let steps = go_far(alloc, program, tables, &mut strand)?;
     let (answer, _) = strand.end(alloc, &mut pool);
-    Ok((answer, steps))
+    Ok(Far { answer, steps })
 }
 
 /// A hundred iterations, each of which calls two instances, and two more calls.
@@ -85,9 +92,9 @@ fn most_steps_are_done_in_one_go(rt: HostRuntime) -> Result<(), Fail> {
     let alloc = rt.alloc();
     let tables = Tables::from_toml(alloc, SALES)?;
     let program = checked(alloc, MANY, &tables)?;
-    let (answer, steps) = run_far(alloc, &program, &tables)?;
+    let far = run_far(alloc, &program, &tables)?;
     let values = [Wanted::Number(2454 + 51 * 7), Wanted::List(&[99, 5])];
-    assert!(&rt; is_finished(&answer, 35, &values));
-    assert!(&rt; steps <= 10);
+    assert!(&rt; is_finished(&far.answer, 35, &values));
+    assert!(&rt; far.steps <= 10);
     Ok(())
 }

@@ -224,16 +224,26 @@ pub fn go_on(
     Ok(())
 }
 
+/// What a run came to, and how many kits have come home.
+#[derive(Drop)]
+pub struct Ran {
+    pub answer: RunAnswer,
+    pub kits: usize,
+}
+
 /// The answer of a program on one strand, whose kit comes home.
 pub fn run(
     alloc: Global,
     program: &Checked,
     tables: &Tables,
     child: Child,
-) -> Result<(RunAnswer, usize), AllocError> {
+) -> Result<Ran, AllocError> {
     let mut pool = no_kits(alloc)?;
     let mut strand = begin(alloc, program)?;
     go_on(alloc, program, tables, &mut strand, child)?;
     let (answer, _) = strand.end(alloc, &mut pool);
-    Ok((answer, pool.free()))
+    Ok(Ran {
+        answer,
+        kits: pool.free(),
+    })
 }

@@ -65,14 +65,20 @@ fn faults_with(
     let tables = Tables::from_toml(alloc, SALES)?;
     let program = checked(alloc, text, &tables)?;
     for child in [Child::Called, Child::PutBack, Child::Alone] {
-        let (answer, kits) = run(alloc, &program, &tables, child)?;
-        let right = is_faulted(&program, &answer, kind, procedure, statement);
-        if !right || kits != 1 || !is_slow_answer(alloc, &program, &answer)? {
+        let ran = run(alloc, &program, &tables, child)?;
+        let right = is_faulted(&program, &ran.answer, kind, procedure, statement);
+        if !right || ran.kits != 1 || !is_slow_answer(alloc, &program, &ran.answer)? {
             return Ok(false);
         }
     }
-    let (answer, _) = run_far(alloc, &program, &tables)?;
-    Ok(is_faulted(&program, &answer, kind, procedure, statement))
+    let far = run_far(alloc, &program, &tables)?;
+    Ok(is_faulted(
+        &program,
+        &far.answer,
+        kind,
+        procedure,
+        statement,
+    ))
 }
 
 #[test]

@@ -33,21 +33,18 @@ fn paused(
 
 // The strand of a continuation.
 fn thief(alloc: Global, program: &Checked, parent: Task) -> Result<Strand<PlainView>, AllocError> {
-    match Strand::stolen(alloc, program, parent, kit(alloc, program.kinds())?) {
-        Ok(thief) => Ok(thief),
-        Err(_) => Err(AllocError),
-    }
+    let kit = kit(alloc, program.kinds())?;
+    Strand::stolen(alloc, program, parent, kit).map_err(|_| AllocError)
 }
 
-// The program, and its strand at its first spawn.
-fn at_spawn(alloc: Global) -> Result<(Checked, Strand<PlainView>), Fail>
-    ensures kinds { IfOk result (λ found. found.1.layer.kinds ≡ found.0.kinds) }
-    ensures lower { IfOk result (λ found. found.1.lower ≡ []) }
+// The program's strand at its first spawn.
+fn at_spawn(alloc: Global, program: &Checked) -> Result<Strand<PlainView>, AllocError>
+    ensures kinds { IfOk result (λ strand. strand.layer.kinds ≡ program.now.kinds) }
+    ensures lower { IfOk result (λ strand. strand.lower ≡ []) }
 {
-    let program = checked(alloc, LEAVES, &Tables::new(alloc))?;
-    let mut strand = begin(alloc, &program)?;
-    let _ = paused(alloc, &program, &mut strand)?;
-    Ok((program, strand))
+    let mut strand = begin(alloc, program)?;
+    paused(alloc, program, &mut strand)?;
+    Ok(strand)
 }
 
 // Whether a strand is known as the first one, which has done nothing.
@@ -125,7 +122,8 @@ fn child_alone(
 #[test]
 fn the_child_at_a_spawn(rt: HostRuntime) -> Result<(), Fail> {
     let alloc = rt.alloc();
-    let (program, mut strand) = at_spawn(alloc)?;
+    let program = checked(alloc, LEAVES, &Tables::new(alloc))?;
+    let mut strand = at_spawn(alloc, &program)?;
     assert!(rt; child_alone(alloc, &program, &mut strand)?);
     Ok(())
 }
@@ -133,7 +131,8 @@ fn the_child_at_a_spawn(rt: HostRuntime) -> Result<(), Fail> {
 #[test]
 fn the_strand_of_a_stolen_continuation(rt: HostRuntime) -> Result<(), Fail> {
     let alloc = rt.alloc();
-    let (program, mut strand) = at_spawn(alloc)?;
+    let program = checked(alloc, LEAVES, &Tables::new(alloc))?;
+    let mut strand = at_spawn(alloc, &program)?;
     let parent = parent(alloc, &mut strand)?;
     let thief = thief(alloc, &program, parent)?;
     assert!(rt; is_behind_first(alloc, &thief));

@@ -3,7 +3,7 @@ ghost use Rattle.std.specs.Prelude.{◌≡◌, ◌+◌, ◌≤◌, suc, true, []
 ghost use Rattle.rerun_records.specs.Doubted.{IsInStep, ReadNow};
 ghost use Rattle.rerun_records.specs.Named.{HaveValues};
 
-use super::driving::{Child, STEPS, are_monoids, begin, checked, kit, run as run_without};
+use super::driving::{Child, Ran, STEPS, are_monoids, begin, checked, kit, run as run_without};
 use frames::answer::RunAnswer;
 use frames::strand::Strand;
 use input_tables::Tables;
@@ -100,7 +100,7 @@ fn run(
     alloc: Global,
     program: &Checked,
     records: &mut Records,
-) -> Result<(RunAnswer, usize), AllocError>
+) -> Result<Ran, AllocError>
     requires values { HaveValues program.now.kinds records.old }
     requires in_step { IsInStep [] records.old }
     ensures values { HaveValues program.now.kinds records.new }
@@ -116,7 +116,10 @@ fn run(
         return Err(AllocError);
     }
     records.commit(made, &tables, program)?;
-    Ok((answer, pool.free()))
+    Ok(Ran {
+        answer,
+        kits: pool.free(),
+    })
 }
 
 /// Whether a run ended with 55, and with so many memo instances executed, answered by a record, and executed without one.
@@ -139,11 +142,12 @@ fn are_reused(alloc: Global) -> Result<bool, Fail> {
     let tables = Tables::new(alloc);
     let program = checked(alloc, CALLS, &tables)?;
     let mut records = Records::new(alloc);
-    let (first, kits) = run(alloc, &program, &mut records)?;
-    let (second, again) = run(alloc, &program, &mut records)?;
-    let (without, _) = run_without(alloc, &program, &tables, Child::Called)?;
-    let runs = is_counted(&first, [2, 0, 0]) && is_counted(&second, [0, 2, 0]);
-    Ok(runs && is_counted(&without, [2, 0, 2]) && [kits, again, records.len()] == [2, 2, 1])
+    let first = run(alloc, &program, &mut records)?;
+    let second = run(alloc, &program, &mut records)?;
+    let without = run_without(alloc, &program, &tables, Child::Called)?;
+    let runs = is_counted(&first.answer, [2, 0, 0]) && is_counted(&second.answer, [0, 2, 0]);
+    let kept = [first.kits, second.kits, records.len()] == [2, 2, 1];
+    Ok(runs && kept && is_counted(&without.answer, [2, 0, 2]))
 }
 
 #[test]

@@ -12,14 +12,14 @@ fn ends_with(alloc: Global, text: &str, wanted: i64, reducers: &[Wanted]) -> Res
     let tables = Tables::from_toml(alloc, SALES)?;
     let program = checked(alloc, text, &tables)?;
     for child in [Child::Called, Child::PutBack, Child::Alone] {
-        let (answer, kits) = run(alloc, &program, &tables, child)?;
-        let right = is_finished(&answer, wanted, reducers);
-        if !right || kits != 1 || !is_slow_answer(alloc, &program, &answer)? {
+        let ran = run(alloc, &program, &tables, child)?;
+        let right = is_finished(&ran.answer, wanted, reducers);
+        if !right || ran.kits != 1 || !is_slow_answer(alloc, &program, &ran.answer)? {
             return Ok(false);
         }
     }
-    let (answer, _) = run_far(alloc, &program, &tables)?;
-    Ok(is_finished(&answer, wanted, reducers))
+    let far = run_far(alloc, &program, &tables)?;
+    Ok(is_finished(&far.answer, wanted, reducers))
 }
 
 /// Programs of one kind of statement after another, with the result and the reducers' values that each ends with.
