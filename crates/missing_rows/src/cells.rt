@@ -1,5 +1,12 @@
 //! The cells of an expression that aren't there.
 
+ghost use Rattle.std.specs.Prelude.{◌≡◌, ℤ, IfErr, OnOk, IsOk};
+ghost use Rattle.linked_program.specs.CodeView.{expression as plain};
+ghost use Rattle.linked_program.specs.Linked.{cell_at};
+ghost use Rattle.evaluation.specs.Values.{value_at};
+ghost use Rattle.missing_rows.specs.declared.cells.Halt.TheVariants.{Unknown};
+ghost use Rattle.missing_rows.specs.Absent.{EndsAbsent, EndsMissing, with_right};
+
 use evaluation::note::Note;
 use evaluation::slot::Slot;
 use evaluation::values::value;
@@ -30,7 +37,13 @@ pub fn searched(
     slots: &[Slot],
     expression: &Expression,
     notes: &mut Vec<Note>,
-) -> Result<(), Halt> {
+) -> Result<(), Halt>
+    ensures value { OnOk result (IsOk (value_at tables.now.tables slots.now
+        (plain expression.now)).answer) }
+    ensures missing { IfErr result (EndsMissing (value_at tables.now.tables slots.now
+        (plain expression.now)).answer) }
+    ensures absent { IfErr result (EndsAbsent tables.now.tables) }
+{
     match expression {
         Expression::Number(_) | Expression::Slot(_) | Expression::Limit(_) => Ok(()),
         Expression::Cell(table, row, column) => {
@@ -47,7 +60,8 @@ pub fn searched(
     }
 }
 
-// The row of a cell, where it isn't there.
+// The row of a cell, where it isn't there. A cell has no value either where its table hasn't the column: no checked program has such a
+// cell, but nothing here says so, and so the row is asked for too.
 fn searched_cell(
     tables: &Tables,
     slots: &[Slot],
@@ -55,13 +69,21 @@ fn searched_cell(
     row: &Expression,
     column: usize,
     notes: &mut Vec<Note>,
-) -> Result<(), Halt> {
+) -> Result<(), Halt>
+    ensures value { OnOk result (IsOk (value_at tables.now.tables slots.now (cell_at table (plain row.now) column)).answer) }
+    ensures missing { IfErr result (EndsMissing (value_at tables.now.tables slots.now (cell_at table (plain row.now) column)).answer) }
+    ensures absent { IfErr result (EndsAbsent tables.now.tables) }
+{
     let Ok(row) = value(row, slots, tables, notes) else {
         return Err(Halt::Unknown);
     };
-    match tables.cell(table, row, column) {
-        Some(_) => Ok(()),
-        None => Err(Halt::Missed(Missed { table, row })),
+    if tables.cell(table, row, column).is_some() {
+        return Ok(());
+    }
+    if tables.has(table, row) {
+        Err(Halt::Unknown)
+    } else {
+        Err(Halt::Missed(Missed { table, row }))
     }
 }
 
@@ -72,7 +94,10 @@ fn searched_division(
     operator: Operator,
     right: &Expression,
     notes: &mut Vec<Note>,
-) -> Result<(), Halt> {
+) -> Result<(), Halt>
+    ensures value { (x : ℤ) → IsOk (value_at tables.now.tables slots.now (plain right.now)).answer → OnOk result (IsOk (with_right operator x (value_at tables.now.tables slots.now (plain right.now))).answer) }
+    ensures unknown { IfErr result (λ halt. halt ≡ Unknown) }
+{
     if !matches!(operator, Operator::Divide | Operator::Remainder) {
         return Ok(());
     }

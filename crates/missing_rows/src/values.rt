@@ -1,5 +1,12 @@
 //! Values on the way of a serial run, which ends at the first row that isn't there.
 
+ghost use Rattle.std.specs.Prelude.{◌≡◌, ◌+◌, [], map, slice_set, IfOk, IfErr, OnOk, IsOk, Ok};
+ghost use Rattle.linked_program.specs.CodeView.{expression as plain, slots_of as slot_count};
+ghost use Rattle.evaluation.specs.Values.{value_at, values_at, bounds_at, entry_at};
+ghost use Rattle.evaluation.specs.declared.slot.Slot.TheVariants.{Has};
+ghost use Rattle.missing_rows.specs.Absent.{EndsAbsent, EndsMissing};
+ghost use Rattle.missing_rows.specs.declared.cells.Halt.TheVariants.{Unknown};
+
 use crate::cells::{Halt, searched};
 use evaluation::entry::entry_slots;
 use evaluation::note::Note;
@@ -31,7 +38,10 @@ pub struct Asked {
 
 impl Asked {
     /// Nothing yet.
-    pub fn new(alloc: Global) -> Asked {
+    pub fn new(alloc: Global) -> Asked
+        ensures unread { result.notes.items ≡ [] }
+        ensures uncounted { result.values ≡ 0 }
+    {
         Asked {
             notes: Vec::new(alloc),
             values: 0,
@@ -39,7 +49,11 @@ impl Asked {
     }
 
     // Counts one more value, and forgets what the ones before have read.
-    fn begin(&mut self) -> Result<(), Halt> {
+    fn begin(&mut self) -> Result<(), Halt>
+        ensures unread { OnOk result (self.new.notes.items ≡ []) }
+        ensures counted { OnOk result (self.new.values ≡ self.old.values + 1) }
+        ensures unknown { IfErr result (λ halt. halt ≡ Unknown) }
+    {
         if self.values >= MOST_VALUES {
             return Err(Halt::Unknown);
         }
@@ -49,7 +63,10 @@ impl Asked {
     }
 
     // Why the first of these expressions that has no value has none.
-    fn halted(&mut self, ground: Ground<'_>, slots: &[Slot], expressions: &[&Expression]) -> Halt {
+    fn halted(&mut self, ground: Ground<'_>, slots: &[Slot], expressions: &[&Expression]) -> Halt
+        ensures missing { EndsMissing (values_at ground.entry.tables.now.tables slots.now (map (λ e. plain e.now) expressions.now)).answer result }
+        ensures absent { EndsAbsent ground.entry.tables.now.tables result }
+    {
         for expression in expressions {
             if let Err(halt) = searched(ground.tables, slots, expression, &mut self.notes) {
                 return halt;
@@ -65,7 +82,13 @@ pub fn value_of(
     expression: &Expression,
     slots: &[Slot],
     asked: &mut Asked,
-) -> Result<i64, Halt> {
+) -> Result<i64, Halt>
+    ensures value { IfOk result (λ v. (value_at ground.entry.tables.now.tables slots.now
+        (plain expression.now)).answer ≡ Ok v) }
+    ensures missing { IfErr result (EndsMissing (value_at ground.entry.tables.now.tables slots.now
+        (plain expression.now)).answer) }
+    ensures absent { IfErr result (EndsAbsent ground.entry.tables.now.tables) }
+{
     asked.begin()?;
     match value(expression, slots, ground.tables, &mut asked.notes) {
         Ok(value) => Ok(value),
@@ -79,7 +102,13 @@ pub fn ask_all(
     expressions: &[Expression],
     slots: &[Slot],
     asked: &mut Asked,
-) -> Result<(), Halt> {
+) -> Result<(), Halt>
+    ensures values { OnOk result (IsOk (values_at ground.entry.tables.now.tables slots.now
+        (map plain expressions.now)).answer) }
+    ensures missing { IfErr result (EndsMissing (values_at ground.entry.tables.now.tables slots.now
+        (map plain expressions.now)).answer) }
+    ensures absent { IfErr result (EndsAbsent ground.entry.tables.now.tables) }
+{
     for expression in expressions {
         value_of(ground, expression, slots, asked)?;
     }
@@ -93,7 +122,13 @@ pub fn range_of(
     high: &Expression,
     slots: &[Slot],
     asked: &mut Asked,
-) -> Result<LoopRange, Halt> {
+) -> Result<LoopRange, Halt>
+    ensures range { IfOk result (λ r. (bounds_at ground.entry.tables.now.tables slots.now
+        (plain low.now) (plain high.now)).answer ≡ Ok (r.low, r.count)) }
+    ensures missing { IfErr result (EndsMissing (bounds_at ground.entry.tables.now.tables slots.now
+        (plain low.now) (plain high.now)).answer) }
+    ensures absent { IfErr result (EndsAbsent ground.entry.tables.now.tables) }
+{
     asked.begin()?;
     match bounds(low, high, slots, ground.tables, &mut asked.notes) {
         Ok(range) => Ok(range),
@@ -108,7 +143,14 @@ pub fn slots_of(
     arguments: &[Expression],
     slots: &[Slot],
     asked: &mut Asked,
-) -> Result<Vec<Slot>, Halt> {
+) -> Result<Vec<Slot>, Halt>
+    ensures slots { IfOk result (λ own. (entry_at ground.entry.tables.now.tables slots.now
+        (slot_count ground.entry.checked.now.codes procedure) (map plain arguments.now)).answer
+        ≡ Ok own.items) }
+    ensures missing { IfErr result (EndsMissing (entry_at ground.entry.tables.now.tables slots.now
+        (slot_count ground.entry.checked.now.codes procedure) (map plain arguments.now)).answer) }
+    ensures absent { IfErr result (EndsAbsent ground.entry.tables.now.tables) }
+{
     asked.begin()?;
     let room = Vec::new(ground.alloc);
     let size = ground.checked.slots(procedure);
@@ -129,7 +171,9 @@ pub fn slots_of(
 }
 
 /// Gives a slot its value.
-pub fn put(slots: &mut Vec<Slot>, number: usize, value: i64) {
+pub fn put(slots: &mut Vec<Slot>, number: usize, value: i64)
+    ensures put { slots.new.items ≡ slice_set slots.old.items number (Has value) }
+{
     if number < slots.len() {
         slots[number] = Slot::Has(value);
     }

@@ -1,5 +1,9 @@
 //! The serial run of a program's code, as far as the first row that isn't there.
 
+ghost use Rattle.std.specs.Prelude.{◌≡◌, IfErr, IfSome, option_copied, slice_get};
+ghost use Rattle.linked_program.specs.CodeView.{blocks_in};
+ghost use Rattle.missing_rows.specs.Absent.{EndsAbsent, IsAbsent, put_at};
+
 use crate::cells::{Halt, Missed};
 use crate::values::{Asked, Ground, ask_all, put, range_of, slots_of, value_of};
 use evaluation::ranges::LoopRange;
@@ -15,7 +19,9 @@ const LEVELS: u32 = 99;
 
 /// The first row that a program's run on these tables, done serially and from scratch, reads and that isn't there. None where the run
 /// ends otherwise, reads a reducer before, or asks for too many values.
-pub fn first_missing(alloc: Global, checked: &Checked, tables: &Tables) -> Option<Missed> {
+pub fn first_missing(alloc: Global, checked: &Checked, tables: &Tables) -> Option<Missed>
+    ensures absent { IfSome result (IsAbsent tables.now.tables) }
+{
     let ground = Ground {
         alloc,
         checked,
@@ -37,7 +43,9 @@ fn entered(
     arguments: &[Expression],
     slots: &[Slot],
     asked: &mut Asked,
-) -> Result<i64, Halt> {
+) -> Result<i64, Halt>
+    ensures absent { IfErr result (EndsAbsent ground.entry.tables.now.tables) }
+{
     if depth == 0 {
         return Err(Halt::Unknown);
     }
@@ -59,7 +67,9 @@ fn done(
     number: usize,
     slots: &mut Vec<Slot>,
     asked: &mut Asked,
-) -> Result<Option<i64>, Halt> {
+) -> Result<Option<i64>, Halt>
+    ensures absent { IfErr result (EndsAbsent ground.entry.tables.now.tables) }
+{
     let Some(block) = block_of(ground.checked, procedure, number) else {
         return Ok(None);
     };
@@ -85,7 +95,9 @@ fn done(
 }
 
 // The block of that number of a procedure.
-fn block_of(checked: &Checked, procedure: usize, number: usize) -> Option<&CodeBlock> {
+fn block_of(checked: &Checked, procedure: usize, number: usize) -> Option<&CodeBlock>
+    ensures block { option_copied result ≡ slice_get (blocks_in (slice_get checked.now.codes procedure)) number }
+{
     match checked.codes().get(procedure) {
         Some(code) => code.blocks.get(number),
         None => None,
@@ -102,7 +114,9 @@ fn step(
     operation: &Operation,
     slots: &mut Vec<Slot>,
     asked: &mut Asked,
-) -> Result<Option<i64>, Halt> {
+) -> Result<Option<i64>, Halt>
+    ensures absent { IfErr result (EndsAbsent ground.entry.tables.now.tables) }
+{
     if levels == 0 {
         return Err(Halt::Unknown);
     }
@@ -143,7 +157,9 @@ fn step(
 }
 
 // Gives a slot its value, if there is one that takes it.
-fn put_into(slots: &mut Vec<Slot>, number: Option<usize>, value: i64) {
+fn put_into(slots: &mut Vec<Slot>, number: Option<usize>, value: i64)
+    ensures put { slots.new.items ≡ put_at number value slots.old.items }
+{
     if let Some(number) = number {
         put(slots, number, value);
     }
@@ -161,7 +177,9 @@ fn turns(
     arguments: &[Expression],
     slots: &mut Vec<Slot>,
     asked: &mut Asked,
-) -> Result<(), Halt> {
+) -> Result<(), Halt>
+    ensures absent { IfErr result (EndsAbsent ground.entry.tables.now.tables) }
+{
     if levels == 0 {
         return Err(Halt::Unknown);
     }
