@@ -1,4 +1,4 @@
-"""Runs `rt ci` and samples the processor time of the prover's processes, each of which names its crate."""
+"""Runs `.ci/run` and samples the processor time of the prover's processes, each of which names its crate."""
 import os
 import re
 import subprocess
@@ -73,7 +73,7 @@ def table(samples):
 def main():
     samples = Samples()
     # (the gate's output goes where this one's errors go, so that the table can be kept by itself)
-    gate = subprocess.Popen(["rt", "ci"], cwd=TOP, stdin=subprocess.DEVNULL, stdout=sys.stderr)
+    gate = subprocess.Popen([f"{TOP}/.ci/run"], cwd=TOP, stdin=subprocess.DEVNULL, stdout=sys.stderr)
     while gate.poll() is None:
         samples.take()
         time.sleep(0.25)

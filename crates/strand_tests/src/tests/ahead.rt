@@ -68,11 +68,7 @@ pub struct Far {
 }
 
 /// The answer of a program on one strand that does what it can in one go.
-pub fn run_far(
-    alloc: Global,
-    program: &Checked,
-    tables: &Tables,
-) -> Result<Far, AllocError> {
+pub fn run_far(alloc: Global, program: &Checked, tables: &Tables) -> Result<Far, AllocError> {
     let mut pool = no_kits(alloc)?;
     let mut strand = begin(alloc, program)?;
     let steps = go_far(alloc, program, tables, &mut strand)?;

@@ -72,13 +72,7 @@ fn faults_with(
         }
     }
     let far = run_far(alloc, &program, &tables)?;
-    Ok(is_faulted(
-        &program,
-        &far.answer,
-        kind,
-        procedure,
-        statement,
-    ))
+    Ok(is_faulted(&program, &far.answer, kind, procedure, statement))
 }
 
 #[test]

@@ -96,11 +96,7 @@ fn hold_now(made: &[Record], tables: &Tables, program: &Checked) -> bool
 }
 
 /// A run over these records, to which it adds its own; and how many kits are free then.
-fn run(
-    alloc: Global,
-    program: &Checked,
-    records: &mut Records,
-) -> Result<Ran, AllocError>
+fn run(alloc: Global, program: &Checked, records: &mut Records) -> Result<Ran, AllocError>
     requires values { HaveValues program.now.kinds records.old }
     requires in_step { IsInStep [] records.old }
     ensures values { HaveValues program.now.kinds records.new }
@@ -136,41 +132,57 @@ fn is_counted(answer: &RunAnswer, wanted: [u64; 3]) -> bool {
     }
 }
 
-/// Whether a run answers no call by what it has recorded itself, and a second run answers each call by it; and whether nothing is
-/// recorded where no kit is free.
-fn are_reused(alloc: Global) -> Result<bool, Fail> {
-    let tables = Tables::new(alloc);
-    let program = checked(alloc, CALLS, &tables)?;
+/// Whether a run answers no call by what it has recorded itself, and a second run answers each call by it.
+fn are_reused(alloc: Global, program: &Checked) -> Result<bool, AllocError> {
     let mut records = Records::new(alloc);
-    let first = run(alloc, &program, &mut records)?;
-    let second = run(alloc, &program, &mut records)?;
-    let without = run_without(alloc, &program, &tables, Child::Called)?;
+    let first = run(alloc, program, &mut records)?;
+    let second = run(alloc, program, &mut records)?;
     let runs = is_counted(&first.answer, [2, 0, 0]) && is_counted(&second.answer, [0, 2, 0]);
-    let kept = [first.kits, second.kits, records.len()] == [2, 2, 1];
-    Ok(runs && kept && is_counted(&without.answer, [2, 0, 2]))
+    Ok(runs && [first.kits, second.kits, records.len()] == [2, 2, 1])
+}
+
+/// Whether nothing is recorded where no kit is free.
+fn is_unrecorded(alloc: Global, program: &Checked) -> Result<bool, AllocError> {
+    let without = run_without(alloc, program, &Tables::new(alloc), Child::Called)?;
+    Ok(is_counted(&without.answer, [2, 0, 2]))
 }
 
 #[test]
 fn what_a_run_recorded_answers_the_next(rt: HostRuntime) -> Result<(), Fail> {
-    assert!(rt; are_reused(rt.alloc())?);
+    let program = checked(rt.alloc(), CALLS, &Tables::new(rt.alloc()))?;
+    assert!(rt; are_reused(rt.alloc(), &program)?);
+    assert!(rt; is_unrecorded(rt.alloc(), &program)?);
     Ok(())
+}
+
+/// A program's strand at its fault.
+fn at_fault(
+    alloc: Global,
+    program: &Checked,
+    pool: &mut Pool<Kit<PlainView>>,
+) -> Result<Strand<PlainView>, AllocError>
+    requires given { All (λ k. k ≡ program.now.kinds) pool.old.kits }
+    requires room { 1 + length pool.old.kits ≤ pool.old.total }
+{
+    let records = Records::new(alloc);
+    let mut strand = begin(alloc, program)?;
+    go_on(alloc, program, &records, &mut strand, pool)?;
+    Ok(strand)
 }
 
 /// How many kits are free, and how many the strand has, at a fault in a memo instance and after its upper layer is closed; and how
 /// many are free at the strand's end.
 fn kits_at_fault(alloc: Global) -> Result<[usize; 5], Fail> {
     let program = checked(alloc, FAULTY, &Tables::new(alloc))?;
-    let records = Records::new(alloc);
     let mut pool = one_kit(alloc, &program)?;
-    let mut strand = begin(alloc, &program)?;
-    go_on(alloc, &program, &records, &mut strand, &mut pool)?;
-    let (free_at_fault, at_fault) = (pool.free(), strand.kits());
+    let mut strand = at_fault(alloc, &program, &mut pool)?;
+    let before = [pool.free(), strand.kits()];
     if let Phase::Broken(_) = strand.phase() {
         strand.close_upper(&mut pool);
     }
-    let (free, closed) = (pool.free(), strand.kits());
+    let closed = [pool.free(), strand.kits()];
     let _ = strand.end(alloc, &mut pool);
-    Ok([free_at_fault, at_fault, free, closed, pool.free()])
+    Ok([before[0], before[1], closed[0], closed[1], pool.free()])
 }
 
 #[test]
