@@ -8,6 +8,7 @@ use script_reader::script::commands;
 use session_edits::Edit;
 use std::alloc::{AllocError, Global};
 use std::fmt::Write;
+use std::process::Abort;
 use std::sync::Wait;
 use std::thread::Threads;
 use threaded_driver::{NoGate, run_threads};
@@ -177,6 +178,22 @@ pub fn play<V: View>(
         answers.answer(rt, alloc, session, workers, command)?;
     }
     Ok(answers)
+}
+
+/// Compares the lines of what a script is answered, with runs by so many threads; gives the counts.
+pub fn counts<V: View>(
+    rt: &(impl Abort + Threads + Wait + Sync),
+    alloc: Global,
+    session: &mut Session<V>,
+    workers: usize,
+    script: &[u8],
+    lines: &str,
+) -> String
+    requires workers { (0 < workers) × (workers ≤ 16) }
+{
+    let found = play(rt, alloc, session, workers, script).expect(rt, "memory");
+    assert_eq!(rt; found.lines.as_str(), lines, "{workers} workers");
+    found.counts
 }
 
 /// Steps of one worker, which goes on until it can't; a child that it spawns becomes a call.

@@ -6,14 +6,15 @@ use super::beginning::session;
 use super::drawn::{Dice, any_steps};
 use super::model::Model;
 use super::playing::{no_answers, play};
-use super::slow::{needs_of, scratch_text};
+use super::slow::{Needed, needs_of, scratch_text};
+use linked_program::checked::Checked;
 use reuse_planner::Session;
 use std::alloc::Global;
 use std::process::Abort;
 use std::sync::Wait;
 use std::thread::Threads;
 use threaded_driver::{NoGate, run_threads};
-use view_pool::View;
+use view_pool::{PlainView, View};
 use worker_core::RunAnswer;
 
 /// Runs a session by threads, or by any steps.
@@ -48,24 +49,24 @@ fn edit<V: View>(
     assert_eq!(rt; found.lines.as_str(), drawn.answer, "{}", drawn.script);
 }
 
-/// Runs a session once, beside its model.
-fn run_beside<V: View>(
-    rt: &(impl Abort + Threads + Wait + Sync),
-    alloc: Global,
-    session: &mut Session<V>,
-    model: &Model,
-    dice: &mut Dice,
-) -> Seen {
+/// What the model comes to, from scratch as by the session's records.
+fn needed<V: View>(rt: &impl Abort, alloc: Global, session: &Session<V>, model: &Model) -> Needed {
     let wanted = scratch_text(rt, alloc, model);
     let needed = needs_of(rt, alloc, session, model);
     assert_eq!(rt; needed.text.as_str(), wanted.as_str());
-    let answer = any_run(rt, alloc, session, dice);
+    needed
+}
+
+/// Compares the lines of an answer.
+fn is_noted(rt: &impl Abort, alloc: Global, program: &Checked, answer: &RunAnswer, wanted: &str) {
     let mut answers = no_answers(alloc);
-    answers
-        .note(alloc, session.checked(), &answer)
-        .expect(rt, "memory");
-    assert_eq!(rt; answers.lines.as_str(), wanted.as_str());
-    match &answer {
+    answers.note(alloc, program, answer).expect(rt, "memory");
+    assert_eq!(rt; answers.lines.as_str(), wanted);
+}
+
+/// Compares the counts of a run that has finished.
+fn seen(rt: &impl Abort, answer: &RunAnswer, needed: &Needed) -> Seen {
+    match answer {
         RunAnswer::Finished {
             executed,
             reused,
@@ -77,6 +78,20 @@ fn run_beside<V: View>(
         }
         _ => (false, true),
     }
+}
+
+/// Runs a session once, beside its model.
+fn run_beside<V: View>(
+    rt: &(impl Abort + Threads + Wait + Sync),
+    alloc: Global,
+    session: &mut Session<V>,
+    model: &Model,
+    dice: &mut Dice,
+) -> Seen {
+    let needed = needed(rt, alloc, session, model);
+    let answer = any_run(rt, alloc, session, dice);
+    is_noted(rt, alloc, session.checked(), &answer, &needed.text);
+    seen(rt, &answer, &needed)
 }
 
 /// Edits a session some times, and then runs it.
@@ -93,6 +108,29 @@ fn go_on<V: View>(
     run_beside(rt, alloc, session, model, dice)
 }
 
+/// A dozen runs of a session.
+fn any_runs<V: View>(
+    rt: &(impl Abort + Threads + Wait + Sync),
+    alloc: Global,
+    session: &mut Session<V>,
+    model: &mut Model,
+    seed: u64,
+) -> Seen {
+    let mut dice = Dice { state: seed };
+    let mut seen = (false, false);
+    for _ in 0..12 {
+        let (reused, faulted) = go_on(rt, alloc, session, model, &mut dice);
+        seen = (seen.0 | reused, seen.1 | faulted);
+    }
+    seen
+}
+
+/// The session of a model's program, with so many kits.
+fn session_of(rt: &impl Abort, alloc: Global, model: &Model, count: usize) -> Session<PlainView> {
+    let text = model.text(alloc).expect(rt, "memory");
+    session(rt, alloc, &text, count)
+}
+
 /// A session of a dozen runs with so many kits.
 fn any_session(
     rt: &(impl Abort + Threads + Wait + Sync),
@@ -101,14 +139,8 @@ fn any_session(
     seed: u64,
 ) -> Seen {
     let mut model = Model::new(alloc).expect(rt, "memory");
-    let text = model.text(alloc).expect(rt, "memory");
-    let mut session = session(rt, alloc, &text, count);
-    let mut dice = Dice { state: seed };
-    let mut seen = (false, false);
-    for _ in 0..12 {
-        let (reused, faulted) = go_on(rt, alloc, &mut session, &mut model, &mut dice);
-        seen = (seen.0 | reused, seen.1 | faulted);
-    }
+    let mut session = session_of(rt, alloc, &model, count);
+    let seen = any_runs(rt, alloc, &mut session, &mut model, seed);
     assert_eq!(rt; session.kits(), (count, count));
     seen
 }

@@ -166,13 +166,18 @@ line 2 of 3
 0: 3 is 100
 3 of 3 kits";
 
-/// What the script leaves, one command after another.
-fn left(rt: &impl Abort, alloc: Global, are_played: bool) -> String {
-    let mut session = session(rt, alloc, LINES, 3);
+/// Does the script, one command after another.
+fn are_done<V: View>(rt: &impl Abort, alloc: Global, session: &mut Session<V>, are_played: bool) {
     let commands = session_commands(alloc, SCRIPT).expect(rt, "memory");
     for one in commands.chunks(1) {
-        is_done(rt, alloc, &mut session, one, are_played);
+        is_done(rt, alloc, session, one, are_played);
     }
+}
+
+/// What the script leaves.
+fn left(rt: &impl Abort, alloc: Global, are_played: bool) -> String {
+    let mut session = session(rt, alloc, LINES, 3);
+    are_done(rt, alloc, &mut session, are_played);
     standing(rt, alloc, &session)
 }
 

@@ -2,30 +2,15 @@
 ghost use Rattle.std.specs.Prelude.{◌<◌, ◌≤◌};
 
 use super::beginning::session;
-use super::playing::{Answers, play, play_at_once};
+use super::playing::{counts, play_at_once};
 use super::programs::LINES;
 use super::rows::{ROWS, Row};
+use reuse_planner::Session;
 use std::alloc::Global;
 use std::process::Abort;
 use std::sync::Wait;
 use std::thread::Threads;
-
-/// What a script is answered in a new session.
-fn answers(
-    rt: &(impl Abort + Threads + Wait + Sync),
-    alloc: Global,
-    text: &str,
-    count: usize,
-    workers: usize,
-    script: &str,
-) -> Answers
-    requires workers { (0 < workers) × (workers ≤ 16) }
-{
-    let mut session = session(rt, alloc, text, count);
-    let answers = play(rt, alloc, &mut session, workers, script.as_bytes()).expect(rt, "memory");
-    assert_eq!(rt; session.kits(), (count, count));
-    answers
-}
+use view_pool::View;
 
 /// Compares the answers of a row, and gives the counts.
 fn counts_of(
@@ -37,10 +22,10 @@ fn counts_of(
 ) -> String
     requires workers { (0 < workers) × (workers ≤ 16) }
 {
-    let (text, script, lines, _) = row;
-    let found = answers(rt, alloc, text, count, workers, script);
-    assert_eq!(rt; found.lines.as_str(), lines, "{workers} workers: {script}");
-    found.counts
+    let mut session = session(rt, alloc, row.0, count);
+    let found = counts(rt, alloc, &mut session, workers, row.1.as_bytes(), row.2);
+    assert_eq!(rt; session.kits(), (count, count));
+    found
 }
 
 /// Compares the answers of a row and its counts.
@@ -93,13 +78,18 @@ fn by_sixteen_workers_with_one_kit(rt: HostRuntime) {
     all_answers(&rt, rt.alloc(), 16, 1);
 }
 
-/// Compares the answers of a row and its counts, where all of its commands are played by one call.
-fn is_played_at_once(rt: &impl Abort, alloc: Global, row: Row) {
-    let (text, script, lines, counts) = row;
-    let mut session = session(rt, alloc, text, 64);
-    let found = play_at_once(alloc, &mut session, script.as_bytes()).expect(rt, "memory");
+/// Compares the answers and counts of a row, where all of its commands are played by one call.
+fn is_played_so<V: View>(rt: &impl Abort, alloc: Global, session: &mut Session<V>, row: Row) {
+    let (_, script, lines, counts) = row;
+    let found = play_at_once(alloc, session, script.as_bytes()).expect(rt, "memory");
     assert_eq!(rt; found.lines.as_str(), lines, "{script}");
     assert_eq!(rt; found.counts.as_str(), counts, "{script}");
+}
+
+/// The same in a new session.
+fn is_played_at_once(rt: &impl Abort, alloc: Global, row: Row) {
+    let mut session = session(rt, alloc, row.0, 64);
+    is_played_so(rt, alloc, &mut session, row);
     assert_eq!(rt; session.kits(), (64, 64));
 }
 

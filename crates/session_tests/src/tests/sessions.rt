@@ -5,7 +5,7 @@
 ghost use Rattle.std.specs.Prelude.{◌≡◌, All};
 
 use super::beginning::{checked, sales, session};
-use super::playing::{no_answers, play, push_answer, push_edited};
+use super::playing::{counts, no_answers, play, push_answer, push_edited};
 use super::programs::{COUNTDOWN, FIRST_LIST, LINES, MEMO_LIST};
 use rerun_records::key::Key;
 use reuse_planner::{Answer, Command, Session};
@@ -84,6 +84,19 @@ fn played<V: View>(
     text.expect(rt, "memory")
 }
 
+/// Compares what a run by the steps of a line comes to.
+fn comes_to<V: View>(
+    rt: &impl Abort,
+    alloc: Global,
+    session: &mut Session<V>,
+    workers: usize,
+    line: &str,
+    wanted: &str,
+) {
+    let came = played(rt, alloc, session, workers, line);
+    assert_eq!(rt; came.as_str(), wanted, "after {line}");
+}
+
 /// A program, how many workers and kits, a line, and what two runs by it come to.
 type Row = (
     &'static str,
@@ -143,14 +156,17 @@ const ROWS: [Row; 7] = [
 ];
 
 /// Compares what two runs come to; after each all kits are free.
-fn two_runs(rt: &impl Abort, alloc: Global, row: Row) {
-    let (text, workers, count, line, first, second) = row;
-    let mut session = session(rt, alloc, text, count);
+fn come_to<V: View>(rt: &impl Abort, alloc: Global, session: &mut Session<V>, row: Row) {
+    let (_, workers, count, line, first, second) = row;
     for wanted in [first, second] {
-        let came = played(rt, alloc, &mut session, workers, line);
-        assert_eq!(rt; came.as_str(), wanted, "after {line}");
+        comes_to(rt, alloc, session, workers, line, wanted);
         assert_eq!(rt; session.kits(), (count, count));
     }
+}
+
+fn two_runs(rt: &impl Abort, alloc: Global, row: Row) {
+    let mut session = session(rt, alloc, row.0, row.2);
+    come_to(rt, alloc, &mut session, row);
 }
 
 #[test]
@@ -161,31 +177,37 @@ fn runs_by_steps(rt: HostRuntime) {
 }
 
 /// A run that is given up leaves its kit for the next one.
+fn run_again<V: View>(rt: &impl Abort, alloc: Global, session: &mut Session<V>) {
+    comes_to(rt, alloc, session, 1, "W0* P0 W0*", "unfinished\n");
+    assert_eq!(rt; session.kits(), (1, 1));
+    comes_to(
+        rt,
+        alloc,
+        session,
+        1,
+        ALONE,
+        "result 3\nseen 1 2 9\n0 0 0; ",
+    );
+}
+
 #[test]
 fn unfinished_and_then_finished(rt: HostRuntime) {
     let mut session = session(&rt, rt.alloc(), FIRST_LIST, 1);
-    let came = played(&rt, rt.alloc(), &mut session, 1, "W0* P0 W0*");
-    assert_eq!(&rt; came.as_str(), "unfinished\n");
-    assert_eq!(&rt; session.kits(), (1, 1));
-    let came = played(&rt, rt.alloc(), &mut session, 1, ALONE);
-    assert_eq!(&rt; came.as_str(), "result 3\nseen 1 2 9\n0 0 0; ");
+    run_again(&rt, rt.alloc(), &mut session);
+}
+
+/// Why no session begins without a kit.
+fn refusal_without_kits(rt: &impl Abort, alloc: Global) -> Option<StartError> {
+    let tables = sales(rt, alloc);
+    let program = checked(rt, alloc, FIRST_LIST, &tables);
+    let none: Vec<Kit<PlainView>> = Vec::new(alloc);
+    Session::new(alloc, program, tables, none).err()
 }
 
 #[test]
 fn no_kits_to_begin_with(rt: HostRuntime) {
-    let alloc = rt.alloc();
-    let tables = sales(&rt, alloc);
-    let program = checked(&rt, alloc, FIRST_LIST, &tables);
-    let begun: Result<Session<PlainView>, StartError> = Session::new(
-        alloc,
-        program,
-        tables,
-        Vec::new(alloc),
-    );
-    match begun {
-        Ok(_) => assert!(&rt; false),
-        Err(error) => assert_eq!(&rt; error, StartError::NoKit),
-    }
+    let refusal = refusal_without_kits(&rt, rt.alloc());
+    assert_eq!(&rt; refusal, Some(StartError::NoKit));
 }
 
 /// Puts a pool back, with no new records.
@@ -196,27 +218,54 @@ fn put_back<V: View>(rt: &impl Abort, alloc: Global, session: &mut Session<V>, p
     assert!(rt; session.settle(pool, none).is_ok());
 }
 
+/// Takes the pool out and puts it back.
+fn out_and_back<V: View>(rt: &impl Abort, alloc: Global, session: &mut Session<V>) {
+    session.kept();
+    let pool = session.take_pool(alloc);
+    put_back(rt, alloc, session, pool);
+}
+
+fn run_with_pool<V: View>(rt: &impl Abort, alloc: Global, session: &mut Session<V>) {
+    assert_eq!(rt; session.kits(), (2, 2));
+    comes_to(
+        rt,
+        alloc,
+        session,
+        2,
+        STOLEN,
+        "result 3\nseen 1 2 9\n0 0 0; ",
+    );
+}
+
 #[test]
 fn pool_put_back(rt: HostRuntime) {
     let mut session = session(&rt, rt.alloc(), FIRST_LIST, 2);
-    session.kept();
-    let pool = session.take_pool(rt.alloc());
-    put_back(&rt, rt.alloc(), &mut session, pool);
-    assert_eq!(&rt; session.kits(), (2, 2));
-    let came = played(&rt, rt.alloc(), &mut session, 2, STOLEN);
-    assert_eq!(&rt; came.as_str(), "result 3\nseen 1 2 9\n0 0 0; ");
+    out_and_back(&rt, rt.alloc(), &mut session);
+    run_with_pool(&rt, rt.alloc(), &mut session);
+}
+
+/// Takes the pool out: how many of its kits are free, and how many it has.
+fn kits_taken_out<V: View>(alloc: Global, session: &mut Session<V>) -> (usize, usize) {
+    let pool = session.take_pool(alloc);
+    (pool.free(), pool.total())
+}
+
+fn run_without_pool<V: View>(
+    rt: &(impl Abort + Threads + Wait + Sync),
+    alloc: Global,
+    session: &mut Session<V>,
+) {
+    assert_eq!(rt; session.kits(), (0, 0));
+    comes_to(rt, alloc, session, 1, ALONE, "no kit\n");
+    counts(rt, alloc, session, 1, b"run\n", "no kit\n");
 }
 
 #[test]
 fn pool_taken_out(rt: HostRuntime) {
     let mut session = session(&rt, rt.alloc(), FIRST_LIST, 2);
-    let pool = session.take_pool(rt.alloc());
-    assert_eq!(&rt; (pool.free(), pool.total()), (2, 2));
-    assert_eq!(&rt; session.kits(), (0, 0));
-    let came = played(&rt, rt.alloc(), &mut session, 1, ALONE);
-    assert_eq!(&rt; came.as_str(), "no kit\n");
-    let found = play(&rt, rt.alloc(), &mut session, 1, b"run\n").expect(&rt, "memory");
-    assert_eq!(&rt; found.lines.as_str(), "no kit\n");
+    let taken = kits_taken_out(rt.alloc(), &mut session);
+    assert_eq!(&rt; taken, (2, 2));
+    run_without_pool(&rt, rt.alloc(), &mut session);
 }
 
 const OTHER_LEAF: &[u8] = b"proc leaf(v) { update seen v + 10; return v; }";
@@ -267,30 +316,46 @@ fn answers_text<V: View>(
     Ok(text)
 }
 
+/// What those commands are answered.
+fn some_answers<V: View>(rt: &impl Abort, alloc: Global, session: &mut Session<V>) -> String {
+    let commands = some_commands(alloc).expect(rt, "memory");
+    answers_text(alloc, session, &commands).expect(rt, "memory")
+}
+
+fn are_answered<V: View>(rt: &impl Abort, alloc: Global, session: &mut Session<V>) {
+    let text = some_answers(rt, alloc, session);
+    let wanted = "result 3\nseen 1 2 9\nok\nok\nresult 3\nseen 11 12 9\nrefused E4\nunfinished\n";
+    assert_eq!(rt; text.as_str(), wanted);
+    assert_eq!(rt; session.tables().edit_number(), 1);
+}
+
 #[test]
 fn commands_one_after_another(rt: HostRuntime) {
     let mut session = session(&rt, rt.alloc(), FIRST_LIST, 2);
-    let commands = some_commands(rt.alloc()).expect(&rt, "memory");
-    let text = answers_text(rt.alloc(), &mut session, &commands).expect(&rt, "memory");
-    let wanted = "result 3\nseen 1 2 9\nok\nok\nresult 3\nseen 11 12 9\nrefused E4\nunfinished\n";
-    assert_eq!(&rt; text.as_str(), wanted);
-    assert_eq!(&rt; session.tables().edit_number(), 1);
+    are_answered(&rt, rt.alloc(), &mut session);
+}
+
+fn is_lent<V: View>(rt: &impl Abort, session: &Session<V>) {
+    assert_eq!(rt; session.tables().limit(0), 3);
+    assert!(rt; !session.records().is_empty());
+    assert_eq!(rt; session.checked().revision("line"), Some(0));
+    assert_eq!(rt; session.kits(), (3, 3));
+    assert_eq!(rt; session.last_inlined(), 0);
 }
 
 #[test]
 fn what_a_session_lends(rt: HostRuntime) {
     let mut session = session(&rt, rt.alloc(), LINES, 3);
-    let script = b"del sales 3\nrun\n";
-    let found = play(&rt, rt.alloc(), &mut session, 2, script).expect(&rt, "memory");
-    assert_eq!(&rt; found.lines.as_str(), "ok\nresult 31\ntotal 31\ntop 21 2\n");
-    let (tables, records, program) = (session.tables(), session.records(), session.checked());
-    let lent = (
-        tables.limit(0),
-        records.is_empty(),
-        program.revision("line"),
+    let lines = "ok\nresult 31\ntotal 31\ntop 21 2\n";
+    counts(
+        &rt,
+        rt.alloc(),
+        &mut session,
+        2,
+        b"del sales 3\nrun\n",
+        lines,
     );
-    assert_eq!(&rt; lent, (3, false, Some(0)));
-    assert_eq!(&rt; (session.kits(), session.last_inlined()), ((3, 3), 0));
+    is_lent(&rt, &session);
 }
 
 /// The key of the instance that the countdown begins with.
@@ -315,18 +380,49 @@ fn height_at<V: View>(
     }
 }
 
+fn are_recorded<V: View>(
+    rt: &(impl Abort + Threads + Wait + Sync),
+    alloc: Global,
+    session: &mut Session<V>,
+) {
+    let found = play(rt, alloc, session, 1, b"run\n").expect(rt, "memory");
+    assert_eq!(rt; found.counts.as_str(), "61 0 0; ");
+}
+
+fn fit<V: View>(rt: &impl Abort, alloc: Global, session: &Session<V>) {
+    assert_eq!(rt; height_at(rt, alloc, session, 4), Some(61));
+    assert_eq!(rt; height_at(rt, alloc, session, 5), None);
+}
+
 /// A record fits where its height does: at depth 4 sixty-one instances reach the deepest level, at depth 5 they don't fit.
 #[test]
 fn records_fit_as_deep_as_they_are_high(rt: HostRuntime) {
     let mut session = session(&rt, rt.alloc(), COUNTDOWN, 62);
-    let found = play(&rt, rt.alloc(), &mut session, 1, b"run\n").expect(&rt, "memory");
-    assert_eq!(&rt; found.counts.as_str(), "61 0 0; ");
-    assert_eq!(&rt; height_at(&rt, rt.alloc(), &session, 4), Some(61));
-    assert_eq!(&rt; height_at(&rt, rt.alloc(), &session, 5), None);
+    are_recorded(&rt, rt.alloc(), &mut session);
+    fit(&rt, rt.alloc(), &session);
 }
 
-/// Plays a script three hundred times in a session, each time with these answers and counts. At the end each row has one record,
-/// all kits are free, and the program is as long as it was.
+/// Compares what a script is answered, and the counts.
+fn is_answered<V: View>(
+    rt: &(impl Abort + Threads + Wait + Sync),
+    alloc: Global,
+    session: &mut Session<V>,
+    script: &[u8],
+    lines: &str,
+    wanted: &str,
+) {
+    let found = counts(rt, alloc, session, 1, script, lines);
+    assert_eq!(rt; found.as_str(), wanted);
+}
+
+/// Each row has one record, all kits are free, and the program is as long as it was.
+fn is_level<V: View>(rt: &impl Abort, session: &Session<V>) {
+    assert_eq!(rt; session.records().len(), 3);
+    assert_eq!(rt; session.kits(), (3, 3));
+    assert_eq!(rt; session.checked().program().declarations.len(), 4);
+}
+
+/// Plays a script three hundred times in a session, each time with these answers and counts.
 fn stays_level(
     rt: &(impl Abort + Threads + Wait + Sync),
     alloc: Global,
@@ -337,13 +433,9 @@ fn stays_level(
     let mut session = session(rt, alloc, LINES, 3);
     play(rt, alloc, &mut session, 1, b"run\n").expect(rt, "memory");
     for _ in 0..300 {
-        let found = play(rt, alloc, &mut session, 1, script).expect(rt, "memory");
-        assert_eq!(rt; found.lines.as_str(), lines);
-        assert_eq!(rt; found.counts.as_str(), counts);
+        is_answered(rt, alloc, &mut session, script, lines, counts);
     }
-    assert_eq!(rt; session.records().len(), 3);
-    assert_eq!(rt; session.kits(), (3, 3));
-    assert_eq!(rt; session.checked().program().declarations.len(), 4);
+    is_level(rt, &session);
 }
 
 /// Rows there and back, and a procedure in other spaces.
