@@ -8,7 +8,7 @@ ghost use Rattle.positions.specs.Setting.{setting_with};
 ghost use Rattle.numbered_runs.specs.News.{AreSound};
 
 use super::beginning::kits;
-use super::crew::Crew;
+use super::crew::{Crew, Ended};
 use super::drawn::Dice;
 use super::printing::{answer_text, end_text, standing_text};
 use input_tables::Tables;
@@ -57,10 +57,9 @@ impl<J: Run, V: View> Both<'_, J, V> {
     /// The strands and the history of both.
     fn standings(&self, rt: &impl Abort) -> (String, String) {
         let lines = self.core.strands(self.alloc).expect(rt, "memory");
-        let wanted = standing_text(self.alloc, &lines, self.core.history()).expect(rt, "memory");
+        let wanted = standing_text(rt, self.alloc, &lines, self.core.history());
         let (lines, history) = self.crew.standing();
-        let found = standing_text(self.alloc, lines, history).expect(rt, "memory");
-        (found, wanted)
+        (standing_text(rt, self.alloc, lines, history), wanted)
     }
 
     /// Both take a step, or both are refused it, and stand the same afterwards. Whether it was taken.
@@ -147,26 +146,47 @@ impl<J: Run, V: View> Both<'_, J, V> {
     /// How both have ended, which is the same.
     fn end(self, rt: &impl Abort) -> Told {
         let Both { alloc, core, crew } = self;
-        let steals = core
-            .history()
-            .iter()
-            .any(|step| matches!(step, BookStep::Split(..)));
-        let folds = core
-            .history()
-            .iter()
-            .any(|step| matches!(step, BookStep::Fold(..)));
-        let (answer, _, made) = core.finish(alloc);
-        let wanted = end_text(alloc, &answer, &made).expect(rt, "memory");
-        let ended = crew.end(rt);
-        let end = end_text(alloc, &ended.answer, &ended.made).expect(rt, "memory");
-        assert_eq!(rt; end.as_str(), wanted.as_str());
-        assert_eq!(rt; ended.kits.0, ended.kits.1);
-        Told {
-            answer: answer_text(alloc, &ended.answer).expect(rt, "memory"),
-            end,
-            steals,
-            folds,
+        let seen = seen(core.history());
+        let wanted = core_text(rt, alloc, core);
+        told_of(rt, alloc, &crew.end(rt), wanted.as_str(), seen)
+    }
+}
+
+/// Whether there were a steal and a fold.
+fn seen(history: &[BookStep]) -> (bool, bool) {
+    let (mut steals, mut folds) = (false, false);
+    for step in history {
+        match step {
+            BookStep::Split(..) => steals = true,
+            BookStep::Fold(..) => folds = true,
+            _ => {}
         }
+    }
+    (steals, folds)
+}
+
+/// How the run of a `Core` has ended.
+fn core_text<V: View>(rt: &impl Abort, alloc: Global, core: Core<'_, V>) -> String {
+    let ended = core.finish(alloc);
+    end_text(rt, alloc, &ended.0, &ended.2)
+}
+
+/// What a run has come to, which ends by the wanted text. All kits are home.
+fn told_of(
+    rt: &impl Abort,
+    alloc: Global,
+    ended: &Ended,
+    wanted: &str,
+    seen: (bool, bool),
+) -> Told {
+    let end = end_text(rt, alloc, &ended.answer, &ended.made);
+    assert_eq!(rt; end.as_str(), wanted);
+    assert_eq!(rt; ended.kits.0, ended.kits.1);
+    Told {
+        answer: answer_text(alloc, &ended.answer).expect(rt, "memory"),
+        end,
+        steals: seen.0,
+        folds: seen.1,
     }
 }
 
@@ -177,7 +197,8 @@ fn run_beside<J: Run, V: View>(
     program: &Checked,
     tables: &Tables,
     records: &Records,
-    pools: (Pool<Kit<V>>, Pool<Kit<V>>),
+    first: Pool<Kit<V>>,
+    second: Pool<Kit<V>>,
     workers: usize,
     seed: u64,
 ) -> Told
@@ -186,11 +207,10 @@ fn run_beside<J: Run, V: View>(
     requires sound { AreSound (revised_of program.now) program.now.tables program.now.kinds records.now }
     requires values { HaveValues program.now.kinds records.now }
     requires in_step { IsInStep tables.now.tables records.now }
-    requires first_kits { All (λ k. k ≡ program.now.kinds) pools.0.kits }
-    requires second_kits { All (λ k. k ≡ program.now.kinds) pools.1.kits }
+    requires first_kits { All (λ k. k ≡ program.now.kinds) first.kits }
+    requires second_kits { All (λ k. k ≡ program.now.kinds) second.kits }
     requires workers { 0 < workers }
 {
-    let (first, second) = pools;
     let Ok(core) = Core::start(alloc, program, tables, records, first, workers) else {
         panic!(rt; "not started");
     };
@@ -218,13 +238,6 @@ pub fn beside(
     let first = Pool::new(kits(rt, alloc, program.kinds(), count));
     let second = Pool::new(kits(rt, alloc, program.kinds(), count));
     run_beside::<Brand, PlainView>(
-        rt,
-        alloc,
-        program,
-        tables,
-        records,
-        (first, second),
-        workers,
-        seed,
+        rt, alloc, program, tables, records, first, second, workers, seed,
     )
 }

@@ -51,9 +51,7 @@ fn workers<J: Run, V: View>(rt: &impl Abort, alloc: Global, count: usize) -> Vec
             strand: None,
             deque: VecDeque::new(alloc),
         };
-        if workers.push(worker).is_err() {
-            panic!(rt; "memory");
-        }
+        workers.push(worker).expect(rt, "memory");
     }
     workers
 }
@@ -83,6 +81,111 @@ fn is_inlined<J: Run, V: View>(strand: &mut RightStrand<J, V>) -> bool {
     }
 }
 
+/// One small step of a strand, where it is not at a point.
+fn advances<J: Run, V: View>(
+    rt: &impl Abort,
+    alloc: Global,
+    scene: &Scene<'_, J>,
+    kits: &mut RunKits<J, V>,
+    strand: &mut RightStrand<J, V>,
+) -> bool {
+    if !kits.lacks(strand.kits()) {
+        panic!(rt; "a kit too many");
+    }
+    match strand.advance(alloc, scene, kits) {
+        Ok(Paused::Working) => true,
+        Ok(_) => false,
+        Err(_) => panic!(rt; "memory"),
+    }
+}
+
+/// Goes on with the newest continuation, which has to be the one that waits for the child.
+fn resumes<J: Run, V: View>(
+    rt: &impl Abort,
+    strand: &mut RightStrand<J, V>,
+    deque: &mut VecDeque<RightTask<J>>,
+) -> bool {
+    let Some(task) = deque.pop_back() else {
+        return false;
+    };
+    if !strand.fits(&task) {
+        panic!(rt; "a continuation that waits for another child");
+    }
+    strand.resume(task);
+    true
+}
+
+/// A thief takes what begins at a place from the strand of a victim. The book has to allow that.
+fn split<J: Run, V: View>(
+    rt: &impl Abort,
+    alloc: Global,
+    book: &mut Book<J, V>,
+    victim: usize,
+    place: &[usize],
+    thief: usize,
+) {
+    let from = match book.held_by(victim) {
+        Some(from) => Vec::from_slice(alloc, from).expect(rt, "memory"),
+        None => panic!(rt; "a victim that holds nothing"),
+    };
+    if let Err(refusal) = book.split(alloc, &from, place, thief) {
+        panic!(rt; "{refusal}");
+    }
+}
+
+/// The first strand of a run.
+fn first<J: Run, V: View>(
+    rt: &impl Abort,
+    alloc: Global,
+    scene: &Scene<'_, J>,
+    kits: &mut RunKits<J, V>,
+) -> RightStrand<J, V> {
+    let Some(kit) = kits.take() else {
+        panic!(rt; "no kit");
+    };
+    match RightStrand::first(alloc, scene, kit) {
+        Ok(strand) => strand,
+        Err(_) => panic!(rt; "memory"),
+    }
+}
+
+impl<J: Run, V: View> Worker<J, V> {
+    /// At a spawn: puts the continuation to the others.
+    fn push(&mut self, rt: &impl Abort, alloc: Global) -> bool {
+        let Some(strand) = &mut self.strand else {
+            return false;
+        };
+        let Some(task) = detached(alloc, strand) else {
+            return false;
+        };
+        if self.deque.push_back(task).is_err() {
+            panic!(rt; "memory");
+        }
+        true
+    }
+
+    /// Where the child has returned: goes on with the newest continuation.
+    fn pop(&mut self, rt: &impl Abort, scene: &Scene<'_, J>) -> bool {
+        let Some(strand) = &mut self.strand else {
+            return false;
+        };
+        match strand.pause(scene) {
+            Paused::Returned => resumes(rt, strand, &mut self.deque),
+            _ => false,
+        }
+    }
+
+    /// Whether the worker has nothing to do with its strand.
+    fn is_at_rest(&self, scene: &Scene<'_, J>) -> bool {
+        match &self.strand {
+            Some(strand) => {
+                self.deque.is_empty() || matches!(strand.pause(scene), Paused::Faulted)
+            }
+            None => false,
+        }
+    }
+}
+
 impl<'a, J: Run, V: View> Crew<'a, J, V> {
     /// So many workers, of whom the first holds the first strand.
     pub fn start(
@@ -94,25 +197,14 @@ impl<'a, J: Run, V: View> Crew<'a, J, V> {
     ) -> Crew<'a, J, V>
         requires kits { All (λ k. k ≡ J.setting.kinds) pool.kits }
     {
-        let mut kits = RunKits::new(pool);
-        let Some(kit) = kits.take() else {
-            panic!(rt; "no kit");
-        };
-        let Ok(strand) = RightStrand::first(alloc, &scene, kit) else {
-            panic!(rt; "memory");
-        };
-        let Ok(book) = Book::start(alloc) else {
-            panic!(rt; "memory");
-        };
-        let workers = workers(rt, alloc, count);
         let mut crew = Crew {
             alloc,
             scene,
-            book,
-            workers,
-            kits,
+            book: Book::start(alloc).expect(rt, "memory"),
+            workers: workers(rt, alloc, count),
+            kits: RunKits::new(pool),
         };
-        crew.give(0, strand);
+        crew.begin(rt);
         crew
     }
 
@@ -125,14 +217,26 @@ impl<'a, J: Run, V: View> Crew<'a, J, V> {
 impl<J: Run, V: View> Crew<'_, J, V> {
     /// Gives a worker a strand.
     fn give(&mut self, worker: usize, strand: RightStrand<J, V>) {
-        if let Some(worker) = self.workers.get_mut(worker) {
-            worker.strand = Some(strand);
+        match self.workers.get_mut(worker) {
+            Some(worker) => worker.strand = Some(strand),
+            None => drop(strand),
         }
+    }
+
+    /// Gives the first worker the first strand.
+    fn begin(&mut self, rt: &impl Abort) {
+        let strand = first(rt, self.alloc, &self.scene, &mut self.kits);
+        self.give(0, strand);
     }
 
     /// Takes the strand of a worker.
     fn take(&mut self, worker: usize) -> Option<RightStrand<J, V>> {
         self.workers.get_mut(worker)?.strand.take()
+    }
+
+    /// The strand of a worker.
+    fn strand(&mut self, worker: usize) -> Option<&mut RightStrand<J, V>> {
+        self.workers.get_mut(worker)?.strand.as_mut()
     }
 
     /// Whether the worker holds a strand.
@@ -151,99 +255,60 @@ impl<J: Run, V: View> Crew<'_, J, V> {
         }
     }
 
-    /// One small step of a strand, where it is not at a point.
-    fn advance(&mut self, rt: &impl Abort, strand: &mut RightStrand<J, V>) -> bool {
-        if !self.kits.lacks(strand.kits()) {
-            panic!(rt; "a kit too many");
-        }
-        match strand.advance(self.alloc, &self.scene, &mut self.kits) {
-            Ok(Paused::Working) => true,
-            Ok(_) => false,
-            Err(_) => panic!(rt; "memory"),
-        }
-    }
-
     /// One small step of a worker. Whether there was one, like the answer of each step.
     pub fn work(&mut self, rt: &impl Abort, worker: usize) -> bool {
-        let Some(mut strand) = self.take(worker) else {
+        let Some(worker) = self.workers.get_mut(worker) else {
             return false;
         };
-        let works = self.advance(rt, &mut strand);
-        self.give(worker, strand);
-        works
-    }
-
-    /// At a spawn: the worker puts the continuation off.
-    pub fn push(&mut self, rt: &impl Abort, worker: usize) -> bool {
-        let Some(mut strand) = self.take(worker) else {
-            return false;
-        };
-        let task = detached(self.alloc, &mut strand);
-        self.give(worker, strand);
-        match task {
-            Some(task) => self.put_off(rt, worker, task),
+        match &mut worker.strand {
+            Some(strand) => advances(rt, self.alloc, &self.scene, &mut self.kits, strand),
             None => false,
         }
     }
 
-    /// Puts a continuation to the others of a worker.
-    fn put_off(&mut self, rt: &impl Abort, worker: usize, task: RightTask<J>) -> bool {
-        let Some(worker) = self.workers.get_mut(worker) else {
-            return false;
-        };
-        if worker.deque.push_back(task).is_err() {
-            panic!(rt; "memory");
+    /// At a spawn: the worker puts the continuation off.
+    pub fn push(&mut self, rt: &impl Abort, worker: usize) -> bool {
+        match self.workers.get_mut(worker) {
+            Some(worker) => worker.push(rt, self.alloc),
+            None => false,
         }
-        true
     }
 
     /// At a spawn: the child is a call.
     pub fn inline(&mut self, worker: usize) -> bool {
-        let Some(mut strand) = self.take(worker) else {
-            return false;
-        };
-        let is_call = is_inlined(&mut strand);
-        self.give(worker, strand);
-        is_call
+        match self.strand(worker) {
+            Some(strand) => is_inlined(strand),
+            None => false,
+        }
     }
 
     /// Where the child has returned: the worker goes on with the continuation that it pushed last.
     pub fn pop(&mut self, rt: &impl Abort, worker: usize) -> bool {
-        let Some(mut strand) = self.take(worker) else {
-            return false;
-        };
-        let goes_on = match strand.pause(&self.scene) {
-            Paused::Returned => self.resume(rt, worker, &mut strand),
-            _ => false,
-        };
-        self.give(worker, strand);
-        goes_on
+        match self.workers.get_mut(worker) {
+            Some(worker) => worker.pop(rt, &self.scene),
+            None => false,
+        }
     }
 
-    /// Goes on with the newest continuation, which has to be the one that waits for the child.
-    fn resume(&mut self, rt: &impl Abort, worker: usize, strand: &mut RightStrand<J, V>) -> bool {
-        let Some(worker) = self.workers.get_mut(worker) else {
-            return false;
-        };
-        let Some(task) = worker.deque.pop_back() else {
-            return false;
-        };
-        if !strand.fits(&task) {
-            panic!(rt; "a continuation that waits for another child");
+    /// Whether the worker has nothing to do with its strand.
+    fn is_at_rest(&self, worker: usize) -> bool {
+        match self.workers.get(worker) {
+            Some(worker) => worker.is_at_rest(&self.scene),
+            None => false,
         }
-        strand.resume(task);
-        true
     }
 
     /// The strand of a worker as a piece, where the worker has nothing to do with it.
     pub fn piece(&mut self, worker: usize) -> Option<Piece<J, V>> {
-        let strand = self.take(worker)?;
-        let is_at_rest = self.has_none(worker)
-            || matches!(strand.pause(&self.scene), Paused::Faulted);
-        if !is_at_rest {
-            self.give(worker, strand);
+        if !self.is_at_rest(worker) {
             return None;
         }
+        self.laid(worker)
+    }
+
+    /// The strand of a worker as a piece, where it is one.
+    fn laid(&mut self, worker: usize) -> Option<Piece<J, V>> {
+        let strand = self.take(worker)?;
         match Piece::lay(&self.scene, strand, &mut self.kits) {
             Ok(piece) => Some(piece),
             Err(strand) => {
@@ -258,12 +323,21 @@ impl<J: Run, V: View> Crew<'_, J, V> {
         self.book.lay(self.alloc, piece)
     }
 
+    /// Lays the strand of a worker down, or drops it with a refusal; None where the worker has something to do with it.
+    pub fn lay_strand(&mut self, worker: usize) -> Option<Result<(), BookError>> {
+        let piece = self.piece(worker)?;
+        match self.lay(piece) {
+            Ok(()) => Some(Ok(())),
+            Err((refusal, _)) => Some(Err(refusal)),
+        }
+    }
+
     /// Lays the strand of a worker down, where the worker has nothing to do with it. The book has to allow that.
     pub fn stall(&mut self, rt: &impl Abort, worker: usize) -> bool {
-        let Some(piece) = self.piece(worker) else {
+        let Some(answer) = self.lay_strand(worker) else {
             return false;
         };
-        if let Err((refusal, _)) = self.lay(piece) {
+        if let Err(refusal) = answer {
             panic!(rt; "{refusal}");
         }
         if let Some(worker) = self.workers.get_mut(worker) {
@@ -277,43 +351,30 @@ impl<J: Run, V: View> Crew<'_, J, V> {
         if self.is_busy(thief) || !self.is_busy(victim) || self.has_none(victim) {
             return false;
         }
-        let Some(kit) = self.kits.take() else {
-            return false;
-        };
-        match self.oldest(victim) {
-            Some(task) => self.begin(rt, thief, victim, task, kit),
+        match self.kits.take() {
+            Some(kit) => self.steal_with(rt, thief, victim, kit),
             None => false,
         }
     }
 
-    /// Takes the oldest continuation of a worker.
-    fn oldest(&mut self, worker: usize) -> Option<RightTask<J>> {
-        self.workers.get_mut(worker)?.deque.pop_front()
-    }
-
-    /// A thief begins with a continuation. The book has to allow that.
-    fn begin(
-        &mut self,
-        rt: &impl Abort,
-        thief: usize,
-        victim: usize,
-        task: RightTask<J>,
-        kit: Kit<V>,
-    ) -> bool
+    /// The same with a kit.
+    fn steal_with(&mut self, rt: &impl Abort, thief: usize, victim: usize, kit: Kit<V>) -> bool
         requires kit { kit ≡ J.setting.kinds }
     {
-        let from = match self.book.held_by(victim) {
-            Some(from) => Vec::from_slice(self.alloc, from).expect(rt, "memory"),
-            None => panic!(rt; "a victim that holds nothing"),
+        let Some(task) = self.oldest(victim) else {
+            return false;
         };
-        if let Err(refusal) = self.book.split(self.alloc, &from, task.place(), thief) {
-            panic!(rt; "{refusal}");
-        }
+        split(rt, self.alloc, &mut self.book, victim, task.place(), thief);
         match RightStrand::stolen(self.alloc, &self.scene, task, kit) {
             Ok(strand) => self.give(thief, strand),
             Err(_) => panic!(rt; "memory"),
         }
         true
+    }
+
+    /// Takes the oldest continuation of a worker.
+    fn oldest(&mut self, worker: usize) -> Option<RightTask<J>> {
+        self.workers.get_mut(worker)?.deque.pop_front()
     }
 
     /// The places of the strand that begins there and of its left neighbour, with the left one first.
@@ -347,6 +408,15 @@ impl<J: Run, V: View> Crew<'_, J, V> {
         panic!(rt; "memory")
     }
 
+    /// A worker holds the strand of a fold, and the kit is free.
+    fn hold(&mut self, worker: usize, folded: (RightStrand<J, V>, Kit<V>))
+        requires kit { folded.1 ≡ J.setting.kinds }
+    {
+        let (strand, kit) = folded;
+        self.give(worker, strand);
+        let _ = self.kits.give(kit);
+    }
+
     /// A worker folds two strands, or is refused that.
     pub fn fold_pair(
         &mut self,
@@ -358,9 +428,8 @@ impl<J: Run, V: View> Crew<'_, J, V> {
             .book
             .fold_pair(self.alloc, &self.scene, left, right, worker)
         {
-            Ok((strand, kit)) => {
-                self.give(worker, strand);
-                let _ = self.kits.give(kit);
+            Ok(folded) => {
+                self.hold(worker, folded);
                 Ok(())
             }
             Err(refusal) => Err(refusal),
@@ -370,9 +439,8 @@ impl<J: Run, V: View> Crew<'_, J, V> {
     /// A worker folds the first two strands that may be folded; None where there are none.
     pub fn fold_any(&mut self, worker: usize) -> Option<Result<(), BookError>> {
         match self.book.fold_any(self.alloc, &self.scene, worker)? {
-            Ok((strand, kit)) => {
-                self.give(worker, strand);
-                let _ = self.kits.give(kit);
+            Ok(folded) => {
+                self.hold(worker, folded);
                 Some(Ok(()))
             }
             Err(refusal) => Some(Err(refusal)),
@@ -381,6 +449,9 @@ impl<J: Run, V: View> Crew<'_, J, V> {
 
     /// How the run has ended, where one strand is left that ends it.
     pub fn end(self, rt: &impl Abort) -> Ended {
+        if !self.book.is_at_end() {
+            panic!(rt; "the run goes on");
+        }
         let Crew {
             alloc,
             scene,
@@ -388,9 +459,6 @@ impl<J: Run, V: View> Crew<'_, J, V> {
             workers: _,
             mut kits,
         } = self;
-        if !book.is_at_end() {
-            panic!(rt; "the run goes on");
-        }
         let (answer, made, steps) = book.end(&scene, alloc, &mut kits);
         Ended {
             answer,

@@ -19,6 +19,7 @@ use super::words::{digit, place};
 use input_tables::Tables;
 use linked_program::checked::Checked;
 use rerun_records::records::Records;
+use reuse_planner::Session;
 use right_strands::laid::Piece;
 use right_strands::run::{Run, Scene};
 use std::alloc::Global;
@@ -71,19 +72,23 @@ fn piece<J: Run, V: View>(
     }
 }
 
+/// Lays down a piece, which the book has to allow.
+fn lays<J: Run, V: View>(rt: &impl Abort, crew: &mut Crew<'_, J, V>, piece: Piece<J, V>) {
+    assert!(rt; crew.lay(piece).is_ok());
+}
+
 /// The text of a run's strands and history.
 pub fn standing<J: Run, V: View>(rt: &impl Abort, alloc: Global, crew: &Crew<'_, J, V>) -> String {
     let (lines, history) = crew.standing();
-    standing_text(alloc, lines, history).expect(rt, "memory")
+    standing_text(rt, alloc, lines, history)
 }
 
 impl<J: Run, V: View> Mixed<'_, J, V> {
     /// Lays down the strand of a worker of the first run.
     fn lay(&mut self, rt: &impl Abort, worker: usize) -> Result<(), BookError> {
-        let piece = piece(rt, &mut self.first, worker);
-        match self.first.lay(piece) {
-            Ok(()) => Ok(()),
-            Err((refusal, _)) => Err(refusal),
+        match self.first.lay_strand(worker) {
+            Some(answer) => answer,
+            None => panic!(rt; "no piece of {worker}"),
         }
     }
 
@@ -93,7 +98,7 @@ impl<J: Run, V: View> Mixed<'_, J, V> {
         match self.first.lay(piece) {
             Ok(()) => Ok(()),
             Err((refusal, piece)) => {
-                assert!(rt; self.second.lay(piece).is_ok());
+                lays(rt, &mut self.second, piece);
                 Err(refusal)
             }
         }
@@ -160,7 +165,8 @@ fn run_mixed<J: Run, V: View>(
     program: &Checked,
     tables: &Tables,
     records: &Records,
-    pools: (Pool<Kit<V>>, Pool<Kit<V>>),
+    first: Pool<Kit<V>>,
+    second: Pool<Kit<V>>,
     line: String,
 ) -> String
     requires same { setting_with program.now tables.now.tables [] records.now ≡ J.setting }
@@ -168,38 +174,37 @@ fn run_mixed<J: Run, V: View>(
     requires sound { AreSound (revised_of program.now) program.now.tables program.now.kinds records.now }
     requires values { HaveValues program.now.kinds records.now }
     requires in_step { IsInStep tables.now.tables records.now }
-    requires first_kits { All (λ k. k ≡ program.now.kinds) pools.0.kits }
-    requires second_kits { All (λ k. k ≡ program.now.kinds) pools.1.kits }
+    requires first_kits { All (λ k. k ≡ program.now.kinds) first.kits }
+    requires second_kits { All (λ k. k ≡ program.now.kinds) second.kits }
 {
-    let (first, second) = pools;
+    let one = Scene::<J>::new(program, tables, records);
+    let two = Scene::<J>::new(program, tables, records);
     let mut mixed = Mixed {
         alloc,
-        first: Crew::start(
-            rt,
-            alloc,
-            Scene::<J>::new(program, tables, records),
-            first,
-            4,
-        ),
-        second: Crew::start(
-            rt,
-            alloc,
-            Scene::<J>::new(program, tables, records),
-            second,
-            4,
-        ),
+        first: Crew::start(rt, alloc, one, first, 4),
+        second: Crew::start(rt, alloc, two, second, 4),
     };
     mixed.play(rt, &line)
 }
 
-/// What is refused of a line with runs of the program that a text is.
-pub fn refused(rt: &impl Abort, alloc: Global, text: &str, line: &str) -> String {
-    let session = session(rt, alloc, text);
+/// What is refused of a line with runs of a session's program.
+fn refused_with(
+    rt: &impl Abort,
+    alloc: Global,
+    session: &Session<PlainView>,
+    line: &str,
+) -> String {
     session.kept();
     let (program, tables, records) = (session.checked(), session.tables(), session.records());
     let first = Pool::new(kits(rt, alloc, program.kinds(), 6));
     let second = Pool::new(kits(rt, alloc, program.kinds(), 6));
     // Rattle picks no run at a call with a text that is lent.
     let line = String::from_str(alloc, line).expect(rt, "memory");
-    run_mixed::<Brand, PlainView>(rt, alloc, program, tables, records, (first, second), line)
+    run_mixed::<Brand, PlainView>(rt, alloc, program, tables, records, first, second, line)
+}
+
+/// What is refused of a line with runs of the program that a text is.
+pub fn refused(rt: &impl Abort, alloc: Global, text: &str, line: &str) -> String {
+    let session = session(rt, alloc, text);
+    refused_with(rt, alloc, &session, line)
 }

@@ -6,6 +6,7 @@ use numbered_runs::step::{BookStep, State, StrandLine};
 use rerun_records::record::Record;
 use std::alloc::{AllocError, Global};
 use std::fmt::Write;
+use std::process::Abort;
 
 /// A place: its numbers with points between them, or `root`.
 fn push_place(text: &mut String, place: &[usize]) -> Result<(), AllocError> {
@@ -52,15 +53,14 @@ fn push_step(text: &mut String, step: &BookStep) -> Result<(), AllocError> {
 }
 
 /// The steps of a history, with commas between them.
-fn history_text(alloc: Global, history: &[BookStep]) -> Result<String, AllocError> {
-    let mut text = String::new(alloc);
+fn push_history(text: &mut String, history: &[BookStep]) -> Result<(), AllocError> {
     for (i, step) in history.iter().enumerate() {
         if i > 0 {
             text.push_str(", ")?;
         }
-        push_step(&mut text, step)?;
+        push_step(text, step)?;
     }
-    Ok(text)
+    Ok(())
 }
 
 fn push_state(text: &mut String, state: State) -> Result<(), AllocError> {
@@ -74,16 +74,15 @@ fn push_state(text: &mut String, state: State) -> Result<(), AllocError> {
 }
 
 /// The strands in serial order, with commas between them.
-fn strands_text(alloc: Global, strands: &[StrandLine]) -> Result<String, AllocError> {
-    let mut text = String::new(alloc);
+fn push_strands(text: &mut String, strands: &[StrandLine]) -> Result<(), AllocError> {
     for (i, strand) in strands.iter().enumerate() {
         if i > 0 {
             text.push_str(", ")?;
         }
-        push_place(&mut text, &strand.place)?;
-        push_state(&mut text, strand.state)?;
+        push_place(text, &strand.place)?;
+        push_state(text, strand.state)?;
     }
-    Ok(text)
+    Ok(())
 }
 
 fn push_numbers(text: &mut String, numbers: &[i64]) -> Result<(), AllocError> {
@@ -144,40 +143,78 @@ pub fn answer_text(alloc: Global, answer: &RunAnswer) -> Result<String, AllocErr
     }
 }
 
-/// A record: its procedure and arguments, its value, its contribution, how much it read, and its height.
-fn push_record(text: &mut String, alloc: Global, record: &Record) -> Result<(), AllocError> {
-    let notes = record.reads().notes(alloc)?;
-    write!(text, "; {} of", record.procedure())?;
-    push_numbers(text, record.arguments())?;
-    write!(text, " gave {} with", record.value())?;
+/// The parts of a record's contribution, each with its reducer's number.
+fn push_contribution(text: &mut String, record: &Record) -> Result<(), AllocError> {
     for part in record.contribution() {
         write!(text, " {}:", part.0)?;
         push_value(text, &part.1)?;
     }
-    write!(text, " read {} high {}", notes.len(), record.height())
+    Ok(())
 }
 
-/// The answer of a run with its counts, and with its records where it has finished: nobody keeps those of another one.
-pub fn end_text(alloc: Global, answer: &RunAnswer, made: &[Record]) -> Result<String, AllocError> {
-    let mut text = answer_text(alloc, answer)?;
-    push_counts(&mut text, answer)?;
-    if !matches!(answer, RunAnswer::Finished { .. }) {
-        return Ok(text);
-    }
+/// How much a record has read, and its height.
+fn push_readings(text: &mut String, alloc: Global, record: &Record) -> Result<(), AllocError> {
+    let count = record.reads().notes(alloc)?.len();
+    write!(text, " read {count} high {}", record.height())
+}
+
+/// A record: its procedure and arguments, its value, its contribution, how much it read, and its height.
+fn push_record(text: &mut String, alloc: Global, record: &Record) -> Result<(), AllocError> {
+    write!(text, "; {} of", record.procedure())?;
+    push_numbers(text, record.arguments())?;
+    write!(text, " gave {} with", record.value())?;
+    push_contribution(text, record)?;
+    push_readings(text, alloc, record)
+}
+
+/// The records of a run.
+fn push_records(text: &mut String, alloc: Global, made: &[Record]) -> Result<(), AllocError> {
     for record in made {
-        push_record(&mut text, alloc, record)?;
+        push_record(text, alloc, record)?;
     }
-    Ok(text)
+    Ok(())
+}
+
+/// The counts of a run, and its records where it has finished: nobody keeps those of another one.
+fn push_end(
+    text: &mut String,
+    alloc: Global,
+    answer: &RunAnswer,
+    made: &[Record],
+) -> Result<(), AllocError> {
+    push_counts(text, answer)?;
+    match answer {
+        RunAnswer::Finished { .. } => push_records(text, alloc, made),
+        _ => Ok(()),
+    }
+}
+
+/// The answer of a run with its counts, and with its records where it has finished.
+pub fn end_text(rt: &impl Abort, alloc: Global, answer: &RunAnswer, made: &[Record]) -> String {
+    let mut text = answer_text(alloc, answer).expect(rt, "memory");
+    push_end(&mut text, alloc, answer, made).expect(rt, "memory");
+    text
+}
+
+/// The strands, and the steps that made their list.
+fn push_standing(
+    text: &mut String,
+    strands: &[StrandLine],
+    history: &[BookStep],
+) -> Result<(), AllocError> {
+    push_strands(text, strands)?;
+    text.push_str(" by ")?;
+    push_history(text, history)
 }
 
 /// The strands, and the steps that made their list.
 pub fn standing_text(
+    rt: &impl Abort,
     alloc: Global,
     strands: &[StrandLine],
     history: &[BookStep],
-) -> Result<String, AllocError> {
-    let mut text = strands_text(alloc, strands)?;
-    text.push_str(" by ")?;
-    text.push_str(&history_text(alloc, history)?)?;
-    Ok(text)
+) -> String {
+    let mut text = String::new(alloc);
+    push_standing(&mut text, strands, history).expect(rt, "memory");
+    text
 }

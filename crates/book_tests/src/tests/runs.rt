@@ -57,28 +57,35 @@ fn any_runs(
     seen
 }
 
-/// Runs of the program that a text is.
-fn all_runs(rt: &impl Abort, alloc: Global, text: &str, wanted: &str) -> Seen {
-    let session = session(rt, alloc, text);
+/// Runs by one to five workers with one to six kits or many.
+fn runs_of(rt: &impl Abort, alloc: Global, session: &Session<PlainView>, wanted: &str) -> Seen {
     let mut seen = (false, false);
     for workers in 1..6 {
         for count in [1, 2, 3, 6, 64] {
-            let (steals, folds) = any_runs(rt, alloc, &session, workers, count, wanted);
+            let (steals, folds) = any_runs(rt, alloc, session, workers, count, wanted);
             seen = (seen.0 | steals, seen.1 | folds);
         }
     }
     seen
 }
 
+/// The same of the program that a text is.
+fn all_runs(rt: &impl Abort, alloc: Global, text: &str, wanted: &str) -> Seen {
+    let session = session(rt, alloc, text);
+    runs_of(rt, alloc, &session, wanted)
+}
+
+/// Runs of all programs; each is stolen from and folded.
+fn all_programs(rt: &impl Abort, alloc: Global, programs: &[(&str, &str)]) {
+    for (text, wanted) in programs {
+        let seen = all_runs(rt, alloc, *text, *wanted);
+        assert_eq!(rt; seen, (true, true), "{text}");
+    }
+}
+
 #[test]
 fn any_steps(rt: HostRuntime) {
-    for (text, wanted) in PROGRAMS {
-        assert_eq!(&rt;
-            all_runs(&rt, rt.alloc(), text, wanted),
-            (true, true),
-            "{text}"
-        );
-    }
+    all_programs(&rt, rt.alloc(), &PROGRAMS);
 }
 
 /// Steps by which one worker goes to the end of each of the programs.
@@ -92,9 +99,8 @@ fn steps(rt: &impl Abort, alloc: Global) -> Vec<Step> {
     steps
 }
 
-/// The session of a program that was run once, with the second row put anew.
-fn run_session(rt: &impl Abort, alloc: Global, text: &str) -> Session<PlainView> {
-    let mut session = session(rt, alloc, text);
+/// Runs the session of a program once, and then puts the second row anew.
+fn run_once(rt: &impl Abort, alloc: Global, session: &mut Session<PlainView>) {
     let _ = session.run(alloc, 1, &steps(rt, alloc));
     let put = Edit::Put {
         table: "sales",
@@ -102,7 +108,28 @@ fn run_session(rt: &impl Abort, alloc: Global, text: &str) -> Session<PlainView>
         values: vec![in alloc; 4, 7].expect(rt, "memory"),
     };
     assert!(rt; session.apply(alloc, &put).is_ok());
-    session
+}
+
+/// Runs of that session, by one to five workers.
+fn runs_again(rt: &impl Abort, alloc: Global, session: &Session<PlainView>, wanted: &str) {
+    for workers in 1..6 {
+        let told = beside(rt, alloc, session, workers, 64, workers as u64);
+        assert_eq!(rt; told.end.as_str(), wanted);
+    }
+}
+
+/// Runs of a program over the records of its first run.
+fn rerun(rt: &impl Abort, alloc: Global, text: &str, wanted: &str) {
+    let mut session = session(rt, alloc, text);
+    run_once(rt, alloc, &mut session);
+    runs_again(rt, alloc, &session, wanted);
+}
+
+/// The same of all programs.
+fn all_reruns(rt: &impl Abort, alloc: Global, rows: &[(&str, &str)]) {
+    for (text, wanted) in rows {
+        rerun(rt, alloc, *text, *wanted);
+    }
 }
 
 /// Programs, and what they come to over the records of their first run: the answer, the counts, and the new records.
@@ -123,11 +150,5 @@ const RERUNS: [(&str, &str); 3] = [
 
 #[test]
 fn reruns(rt: HostRuntime) {
-    for (text, wanted) in RERUNS {
-        let session = run_session(&rt, rt.alloc(), text);
-        for workers in 1..6 {
-            let told = beside(&rt, rt.alloc(), &session, workers, 64, workers as u64);
-            assert_eq!(&rt; told.end.as_str(), wanted);
-        }
-    }
+    all_reruns(&rt, rt.alloc(), &RERUNS);
 }

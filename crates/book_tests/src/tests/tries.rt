@@ -9,7 +9,7 @@ ghost use Rattle.positions.specs.Setting.{setting_with};
 ghost use Rattle.numbered_runs.specs.News.{AreSound};
 
 use super::beginning::session_with;
-use super::crew::Crew;
+use super::crew::{Crew, Ended};
 use super::mixed::{go_on, standing};
 use super::printing::answer_text;
 use super::programs::TWO_LISTS;
@@ -93,7 +93,11 @@ pub fn finished<J: Run, V: View>(
 ) -> String {
     go_on(rt, &mut crew, 2);
     assert!(rt; crew.stall(rt, 2));
-    let ended = crew.end(rt);
+    ended_text(rt, alloc, &crew.end(rt))
+}
+
+/// The answer of a run that has ended; both kits are home.
+fn ended_text(rt: &impl Abort, alloc: Global, ended: &Ended) -> String {
     if matches!(ended.answer, RunAnswer::NoMemory) {
         panic!(rt; "memory");
     }
@@ -118,7 +122,31 @@ enum Again {
     Never,
 }
 
-/// The answer of the run, whose one fold is refused once for each list that refuses.
+/// The one fold of the run is refused once for each list that refuses, and then tried again so; whether it is done.
+fn is_folded<J: Run, V: View>(
+    rt: &impl Abort,
+    alloc: Global,
+    crew: &mut Crew<'_, J, V>,
+    refuses: (bool, bool),
+    again: Again,
+) -> bool {
+    lead(rt, crew);
+    if refuses.0 {
+        is_refused(rt, alloc, crew);
+    }
+    if refuses.1 {
+        is_refused(rt, alloc, crew);
+    }
+    let (left, right) = (place(rt, alloc, b'r'), place(rt, alloc, b'1'));
+    match again {
+        Again::Pair => assert!(rt; crew.fold_pair(&left, &right, 2).is_ok()),
+        Again::Any => assert_eq!(rt; crew.fold_any(2), Some(Ok(()))),
+        Again::Never => return false,
+    }
+    true
+}
+
+/// The answer of the run, which is over with its fold.
 fn folded<J: Run, V: View>(
     rt: &impl Abort,
     alloc: Global,
@@ -126,20 +154,11 @@ fn folded<J: Run, V: View>(
     refuses: (bool, bool),
     again: Again,
 ) -> String {
-    lead(rt, &mut crew);
-    if refuses.0 {
-        is_refused(rt, alloc, &mut crew);
+    if is_folded(rt, alloc, &mut crew, refuses, again) {
+        finished(rt, alloc, crew)
+    } else {
+        String::new(alloc)
     }
-    if refuses.1 {
-        is_refused(rt, alloc, &mut crew);
-    }
-    let (left, right) = (place(rt, alloc, b'r'), place(rt, alloc, b'1'));
-    match again {
-        Again::Pair => assert!(rt; crew.fold_pair(&left, &right, 2).is_ok()),
-        Again::Any => assert_eq!(rt; crew.fold_any(2), Some(Ok(()))),
-        Again::Never => return String::new(alloc),
-    }
-    finished(rt, alloc, crew)
 }
 
 /// The same of a program with two lists.
