@@ -170,9 +170,7 @@ impl<V: View> Machine<V> {
             Ok(opened) => opened,
             Err(error) => return Err((error, kit)),
         };
-        let notes = self.spares.notes(alloc);
-        let flags = self.spares.flags(alloc);
-        let layer = match Layer::open_in(alloc, kit, program.codes().len(), notes, flags) {
+        let layer = match Layer::open(alloc, kit, program.codes().len()) {
             Ok(layer) => layer,
             Err(refused) => return Err(refused),
         };
@@ -250,7 +248,7 @@ impl<V: View> Machine<V> {
             Ok(()) => {
                 let upper = mem::replace(&mut self.layer, outer);
                 self.phase = Phase::Leaving(value);
-                Ok(upper.close_in(&mut self.spares))
+                Ok(upper.close())
             }
             Err(error) => {
                 self.lower.push_reserved(outer);
