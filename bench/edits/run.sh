@@ -1,5 +1,5 @@
 #!/usr/bin/env bash
-# Tries the must-fail edits of crates whose edits the gate has no time for: an edit begins with a check of its crate from nothing, and in
+# Tries the must-fail edits for which the gate has no time: an edit begins with a check of its crate from nothing, and in
 # these it is a dear one. They stand in folders beside this file, and are refused here as those of the gate are: the prover must refuse each.
 # Libraries are kept by their content, as tools/check.py does; a copy of the crates is used, and thrown away.
 #
