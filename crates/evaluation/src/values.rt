@@ -150,6 +150,7 @@ fn evaluate_all(
 }
 
 /// The value of an expression, or why there is none; where memory is refused, the notes so far stay.
+#[cycle(evaluate)]
 pub(crate) fn evaluate(
     expression: &Expression,
     slots: &[Slot],
@@ -177,25 +178,37 @@ pub(crate) fn evaluate(
             Ok(number) => Ok(number.wrapping_neg()),
             Err(stop) => Err(stop),
         },
-        Expression::Binary(operator, left, right) => match at_once(left, slots) {
-            Some(left) => match at_once(right, slots) {
-                Some(right) => applied(*operator, left, right),
-                None => match evaluate(right, slots, tables, notes) {
+        Expression::Binary(operator, left, right) => {
+            match operand(left, slots, tables, notes) {
+                Ok(left) => match operand(right, slots, tables, notes) {
                     Ok(right) => applied(*operator, left, right),
                     Err(stop) => Err(stop),
                 },
-            },
-            None => match evaluate(left, slots, tables, notes) {
-                Ok(left) => match at_once(right, slots) {
-                    Some(right) => applied(*operator, left, right),
-                    None => match evaluate(right, slots, tables, notes) {
-                        Ok(right) => applied(*operator, left, right),
-                        Err(stop) => Err(stop),
-                    },
-                },
                 Err(stop) => Err(stop),
-            },
+            }
+        }
+    }
+}
+
+/// The same of an operand; that of a number, of a slot, and of a cell whose row is one of these, without a call of itself.
+#[inline(always)]
+#[cycle(evaluate)]
+fn operand(
+    expression: &Expression,
+    slots: &[Slot],
+    tables: &Tables,
+    notes: &mut Vec<Note>,
+) -> Result<i64, Stop>
+    ensures stops { Stops (λ v. v) (value_at tables.now.tables slots.now (plain expression.now)) notes.old.items notes.new.items result }
+{
+    match expression {
+        Expression::Number(number) => Ok(*number),
+        Expression::Slot(number) => Ok(number_in(slots, *number)),
+        Expression::Cell(table, row, column) => match at_once(row, slots) {
+            Some(row) => cell(tables, *table, row, *column, notes),
+            None => evaluate(expression, slots, tables, notes),
         },
+        _ => evaluate(expression, slots, tables, notes),
     }
 }
 

@@ -89,7 +89,8 @@ impl<V: View> Strand<V> {
     /// for them all.
     pub fn end<K: KitSource<Kit<V>>>(self, alloc: Global, kits: &mut K) -> (RunAnswer, Vec<Record>)
         requires fits { K.fits self.layer.kinds kits.old }
-        ensures answer { IsAnswer (ending_of self) (lowest_of self.layer self.lower).worths self.tally result.0 }
+        ensures answer { IsAnswer (ending_of self) (lowest_of self.layer self.lower).worths
+            self.tally result.0 }
         ensures definition { (setting : Setting) → IsAnswerOf setting self result.0 }
         ensures records { result.1.items ≡ self.tally.made }
         ensures fitting { (k : List Kind) → K.fits k kits.old → K.fits k kits.new }
@@ -130,7 +131,8 @@ impl<V: View> Machine<V> {
     fn end<K: KitSource<Kit<V>>>(mut self, alloc: Global, kits: &mut K) -> (RunAnswer, Vec<Record>)
         requires kinds { All (λ l. l.kinds ≡ self.layer.kinds) self.lower }
         requires fits { K.fits self.layer.kinds kits.old }
-        ensures answer { IsAnswer (ending_of self) (lowest_of self.layer self.lower).worths self.tally result.0 }
+        ensures answer { IsAnswer (ending_of self) (lowest_of self.layer self.lower).worths
+            self.tally result.0 }
         ensures records { result.1.items ≡ self.tally.made }
         ensures fitting { (k : List Kind) → K.fits k kits.old → K.fits k kits.new }
         ensures kept { (k : List Kind) → K.gives k kits.new → K.gives k kits.old ⊎ self.layer.kinds ≡ k }

@@ -10,6 +10,7 @@ ghost use Rattle.frames.specs.Ends.{Notes, Fills};
 ghost use Rattle.frames.specs.Ready.{laid_over};
 
 use crate::activation::Activation;
+use crate::spares::Spares;
 use evaluation::entry::entry_slots;
 use evaluation::note::Note;
 use evaluation::ranges::{LoopRange, bounds};
@@ -56,13 +57,28 @@ impl<V: View> Layer<V> {
         ensures open { IfOk result (λ layer. layer ≡ blank kit procedures) }
         ensures handed_back { IfErr result (λ e. e.1 ≡ kit) }
     {
-        let mut entered = Vec::new(alloc);
+        Layer::open_in(alloc, kit, procedures, Vec::new(alloc), Vec::new(alloc))
+    }
+
+    /// The same, in those empty lists.
+    pub(crate) fn open_in(
+        alloc: Global,
+        kit: Kit<V>,
+        procedures: usize,
+        notes: Vec<Note>,
+        mut entered: Vec<bool>,
+    ) -> Result<Layer<V>, (AllocError, Kit<V>)>
+        requires no_notes { notes.items ≡ [] }
+        requires no_flags { entered.items ≡ [] }
+        ensures open { IfOk result (λ layer. layer ≡ blank kit procedures) }
+        ensures handed_back { IfErr result (λ e. e.1 ≡ kit) }
+    {
         if entered.resize(procedures, false).is_err() {
             return Err((AllocError, kit));
         }
         Ok(Layer {
             hypermap: Hypermap::open(alloc, kit),
-            notes: Vec::new(alloc),
+            notes,
             shared: Vec::new(alloc),
             entered,
             deepest: 0,
@@ -74,6 +90,20 @@ impl<V: View> Layer<V> {
         ensures kit { result ≡ self.kinds }
     {
         self.hypermap.close()
+    }
+
+    /// The same; its lists of notes and of flags are kept.
+    pub(crate) fn close_in(self, spares: &mut Spares) -> Kit<V>
+        ensures kit { result ≡ self.kinds }
+    {
+        let Layer {
+            hypermap,
+            notes,
+            entered,
+            ..
+        } = self;
+        spares.keep_layer(notes, entered);
+        hypermap.close()
     }
 
     /// How many readings it has noted.

@@ -170,7 +170,9 @@ impl<V: View> Machine<V> {
             Ok(opened) => opened,
             Err(error) => return Err((error, kit)),
         };
-        let layer = match Layer::open(alloc, kit, program.codes().len()) {
+        let notes = self.spares.notes(alloc);
+        let flags = self.spares.flags(alloc);
+        let layer = match Layer::open_in(alloc, kit, program.codes().len(), notes, flags) {
             Ok(layer) => layer,
             Err(refused) => return Err(refused),
         };
@@ -248,7 +250,7 @@ impl<V: View> Machine<V> {
             Ok(()) => {
                 let upper = mem::replace(&mut self.layer, outer);
                 self.phase = Phase::Leaving(value);
-                Ok(upper.close())
+                Ok(upper.close_in(&mut self.spares))
             }
             Err(error) => {
                 self.lower.push_reserved(outer);

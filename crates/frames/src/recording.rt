@@ -1,5 +1,5 @@
 //! What is kept of a memo instance whose layer is open, and what a record keeps of the layer once it is over.
-ghost use Rattle.std.specs.Prelude.{◌≡◌, ◌<◌, ◌++◌, IfOk, OnOk, length, map, slice_get};
+ghost use Rattle.std.specs.Prelude.{true, ◌≡◌, ◌<◌, ◌++◌, IfOk, OnOk, length, map, slice_get};
 ghost use Rattle.std.specs.List.{list_any};
 ghost use Rattle.monoid_laws.specs.Worth.{Worth};
 ghost use Rattle.monoid_laws.specs.Kinds.{meaning};
@@ -170,17 +170,19 @@ fn contribution<V: View>(
     let _ = hypermap.len();
     let mut values = Vec::new(alloc);
     for reducer in 0..kinds.len() {
-        push_touched(&mut values, hypermap, reducer, &kinds[reducer])?;
+        let room = kinds.len() - reducer;
+        push_touched(&mut values, hypermap, reducer, &kinds[reducer], room)?;
     }
     Ok(values)
 }
 
-/// Puts a copy of a reducer's value behind the others, unless it is the identity.
+/// Puts a copy of a reducer's value behind the others, unless it is the identity; the first makes room for so many.
 fn push_touched<V: View>(
     values: &mut Vec<(usize, Val)>,
     hypermap: &Hypermap<V>,
     reducer: usize,
     kind: &Kind,
+    room: usize,
 ) -> Result<(), AllocError>
     requires there { reducer < length hypermap.now.kinds }
     requires kind { IsAt hypermap.now.kinds reducer kind.now }
@@ -189,22 +191,26 @@ fn push_touched<V: View>(
 {
     let _ = hypermap.len();
     match hypermap.used_value(reducer)? {
-        Some(value) => push_value(values, reducer, kind, value),
+        Some(value) => push_value(values, reducer, kind, value, room),
         None => Ok(()),
     }
 }
 
-/// Puts a value behind the others, unless it is the identity.
+/// Puts a value behind the others, unless it is the identity; the first makes room for so many.
 fn push_value(
     values: &mut Vec<(usize, Val)>,
     reducer: usize,
     kind: &Kind,
     value: Val,
+    room: usize,
 ) -> Result<(), AllocError>
     ensures pushed { OnOk result (map touched values.new.items
         ≡ map touched values.old.items ++ touched_at reducer kind.now (meaning value)) }
 {
     if !is_identity(kind, &value) {
+        if values.is_empty() {
+            values.reserve_exact(room)?;
+        }
         values.push((reducer, value))?;
     }
     Ok(())
@@ -239,12 +245,27 @@ fn distinct_readings(alloc: Global, notes: &[Note]) -> Result<Vec<Reading>, Allo
     ensures once { IfOk result (λ rs. map note_of rs.items ≡ once notes.now) }
 {
     if notes.len() <= FEW {
+        if are_distinct(notes) {
+            return readings(alloc, notes);
+        }
         let seen = distinct_of_few(alloc, notes)?;
         readings(alloc, &seen)
     } else {
         let seen = distinct(alloc, notes)?;
         readings(alloc, seen.as_slice())
     }
+}
+
+/// Whether no note stands twice among these, which are few.
+fn are_distinct(notes: &[Note]) -> bool
+    ensures distinct { result ≡ true → once notes.now ≡ notes.now }
+{
+    for i in 0..notes.len() {
+        if is_among(&notes[..i], &notes[i]) {
+            return false;
+        }
+    }
+    true
 }
 
 /// The notes, each once; by looking through those before it.

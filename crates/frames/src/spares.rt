@@ -1,18 +1,21 @@
-//! Lists that instances which are over no longer need, for those that begin: most instances then take no memory.
+//! Lists that instances and layers which are over no longer need, for those that begin: most instances then take no memory.
 ghost use Rattle.std.specs.Prelude.{◌≡◌, []};
 
 use crate::activation::Activation;
+use evaluation::note::Note;
 use evaluation::slot::Slot;
 use positions::work::{Position, Work};
 use std::alloc::Global;
 
-/// An instance that is over, for the next one that is called, and lists of slots and of places, for others to come. What they
-/// held doesn't matter.
+/// An instance that is over, for the next one that is called, and lists of slots and of places, for others to come; and lists of
+/// notes and of flags for layers. What they held doesn't matter.
 #[derive(Drop)]
 pub(crate) struct Spares {
     pub(crate) child: Activation,
     slots: Vec<Vec<Slot>>,
     places: Vec<Vec<Position>>,
+    notes: Vec<Vec<Note>>,
+    flags: Vec<Vec<bool>>,
 }
 
 impl Spares {
@@ -22,6 +25,8 @@ impl Spares {
             child: Activation::new(0, Vec::new(alloc), Vec::new(alloc), Work::Over, 0),
             slots: Vec::new(alloc),
             places: Vec::new(alloc),
+            notes: Vec::new(alloc),
+            flags: Vec::new(alloc),
         }
     }
 
@@ -60,6 +65,38 @@ impl Spares {
             }
             None => Vec::new(alloc),
         }
+    }
+
+    /// An empty list of notes.
+    pub(crate) fn notes(&mut self, alloc: Global) -> Vec<Note>
+        ensures empty { result.items ≡ [] }
+    {
+        match self.notes.pop() {
+            Some(mut notes) => {
+                notes.clear();
+                notes
+            }
+            None => Vec::new(alloc),
+        }
+    }
+
+    /// An empty list of flags.
+    pub(crate) fn flags(&mut self, alloc: Global) -> Vec<bool>
+        ensures empty { result.items ≡ [] }
+    {
+        match self.flags.pop() {
+            Some(mut flags) => {
+                flags.clear();
+                flags
+            }
+            None => Vec::new(alloc),
+        }
+    }
+
+    /// Keeps the lists of a layer that is closed. Where memory is refused for that they are let go.
+    pub(crate) fn keep_layer(&mut self, notes: Vec<Note>, flags: Vec<bool>) {
+        let _ = self.notes.push(notes);
+        let _ = self.flags.push(flags);
     }
 
     /// Keeps the lists of an instance that is over. Where memory is refused for that they are let go.

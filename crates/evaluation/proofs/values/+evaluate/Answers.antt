@@ -6,19 +6,19 @@ use Rattle.evaluation.specs.Ends.{Stops}
 use Rattle.evaluation.proofs.Ending.{second_ends, first_stops}
 use Rattle.evaluation.proofs.values.+evaluate.Goals as goal
 
-pub returns-in-Err-evaluate-5 : goal.returns-in-Err-evaluate-5
-returns-in-Err-evaluate-5 t c =
+pub evaluate-returns-in-Err-operand-2 : goal.evaluate-returns-in-Err-operand-2
+evaluate-returns-in-Err-operand-2 t c =
     let at = λ (e : Expression). value_at c.args.tables.now.tables c.args.slots.now (plain e) in
     let old = c.args.notes.now.items in
-    let mid = c.evaluate-in-None-at_once.new.notes.items in
-    let new = c.evaluate-in-None-at_once-3.new.notes.items in
-    let x = c.in-Ok-evaluate-4.left in
-    let s = c.in-Err-evaluate-5.stop in
+    let mid = c.operand.new.notes.items in
+    let new = c.operand-in-Ok-operand.new.notes.items in
+    let x = c.in-Ok-operand.left in
+    let s = c.in-Err-operand-2.stop in
     let op = c.in-Binary.operator in
     let first : Stops (λ v. v) (at c.in-Binary.left.value) old mid (Ok x) =
-    subst (λ e. Stops (λ v. v) (at e) old mid (Ok x)) c.deref-in-None-at_once.ensures c.in-Ok-evaluate-4.ensures.stops in
+    subst (λ e. Stops (λ v. v) (at e) old mid (Ok x)) c.deref-in-Binary.ensures c.in-Ok-operand.ensures.stops in
     let second : Stops (λ v. v) (at c.in-Binary.right.value) mid new (Err s) =
-    subst (λ e. Stops (λ v. v) (at e) mid new (Err s)) c.deref-in-None-at_once-3.ensures c.in-Err-evaluate-5.ensures.stops in
+    subst (λ e. Stops (λ v. v) (at e) mid new (Err s)) c.deref-in-Ok-operand.ensures c.in-Err-operand-2.ensures.stops in
     record {
       stops = subst (λ e. Stops (λ v. v) (at e) old new (Err s)) (sym c.in-Binary.is)
           (second_ends (λ v. v) (at c.in-Binary.left.value) (λ w. at c.in-Binary.right.value >>= (λ y. applied op w y)) old mid new x (Err s) first.0 first.1

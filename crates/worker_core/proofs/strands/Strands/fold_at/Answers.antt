@@ -9,6 +9,12 @@ use Rattle.worker_core.specs.Strands.{PlainStrands, run_of, kits_in, layers_in, 
 use Rattle.worker_core.proofs.Folded.{folds_at, folds_fit, home_fits, halves_keep, halves_fit, folds_layers, halves_layers, some_layers, right_bare}
 use Rattle.worker_core.proofs.strands.Strands.fold_at.Goals as goal
 
+pub fold-requires-clause-one_layer : goal.fold-requires-clause-one_layer
+fold-requires-clause-one_layer g c κs ends =
+    let within : c.args.number + 1 < length c.self.inside.pieces.items = subst (λ (s : PlainStrands). c.args.number + 1 < length s.pieces) (sym c.self.view_is) c.requires.number in
+    right_bare c.args.worker c.args.number c.self.inside.pieces.items c.remove-taken.new.self.items c.index_mut.result.now c.remove-taken.result within c.remove-taken.ensures.items c.index_mut.ensures.value c.remove-taken.ensures.value (subst (λ (s : PlainStrands). MayFoldAt c.args.number s.pieces) (sym c.self.view_is) c.requires.may)
+    (subst (λ (s : PlainStrands). All HasOneLayer s.pieces) (sym c.self.view_is) c.requires.layered)
+
 pub returns-in-Ok-fold-clause-folded : goal.returns-in-Ok-fold-clause-folded
 returns-in-Ok-fold-clause-folded g c =
     let within : c.args.number + 1 < length c.self.inside.pieces.items = subst (λ (s : PlainStrands). c.args.number + 1 < length s.pieces) (sym c.self.view_is) c.requires.number in
