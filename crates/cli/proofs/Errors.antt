@@ -1,8 +1,8 @@
 -- Which errors a session is not ended by.
 use Rattle.std.proofs.Common.{◌≡◌, Result, Err, OnErr, inl, inr, sym, ◌∙◌}
-use Rattle.cli.specs.declared.streams.SessionError.{SessionError}
-use Rattle.cli.specs.declared.streams.SessionError.TheVariants.{Read}
-use Rattle.cli.specs.Endings.{IsAnswerError, IsWriterError}
+use Rattle.program_endings.specs.declared.session_error.SessionError.{SessionError}
+use Rattle.program_endings.specs.declared.session_error.SessionError.TheVariants.{Read}
+use Rattle.program_endings.specs.Endings.{IsAnswerError, IsWriterError}
 
 pub answer_not_read : (e : SessionError) → IsAnswerError e → e ≡ Read → ⊥
 answer_not_read e (inl (inl is)) h = absurd cc

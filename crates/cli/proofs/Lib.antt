@@ -2,4 +2,3 @@ pub mod Answering
 pub mod Errors
 pub mod Opening
 pub mod SameKind
-pub mod Written

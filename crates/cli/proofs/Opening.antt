@@ -3,8 +3,8 @@ use Rattle.std.proofs.Common.{◌≡◌, ℕ, List, Option, Some, None, option_m
 use Rattle.meaning.specs.Tables.{Tables}
 use Rattle.linked_program.specs.Checked.{PlainChecked}
 use Rattle.command_line.specs.declared.options.Options.{Options}
-use Rattle.cli.specs.declared.program.ProgramError.{ProgramError}
-use Rattle.cli.specs.declared.program.ProgramError.TheVariants.{Line, File, Prepare, Session, Trace}
+use Rattle.program_endings.specs.declared.program_error.ProgramError.{ProgramError}
+use Rattle.program_endings.specs.declared.program_error.ProgramError.TheVariants.{Line, File, Prepare, Session, Trace}
 use Rattle.cli.specs.Reports.{IsOpened, IsUnopened, IsUnmade, IsLate, ReadsNothing}
 
 -- the trace's file can't be made, once the session is begun

@@ -2,7 +2,7 @@
 use Rattle.std.specs.Prelude.{◌≡◌, ℕ, List}
 use Rattle.cli.specs.declared.beginning.BeginError.{BeginError}
 use Rattle.cli.specs.declared.beginning.BeginError.TheVariants.{Prepare, NoKit}
-use Rattle.cli.specs.Preparing.{IsRefused}
+use Rattle.prepared_program.specs.Preparing.{IsRefused}
 
 -- the texts are refused, or it was to have no kits
 abbrev pub IsUnbegun : List ℕ → List ℕ → ℕ → BeginError → Type 0

@@ -1,9 +1,4 @@
 pub mod Answers
 pub mod Begun
-pub mod Endings
-pub mod Failed
 pub mod Noted
-pub mod Preparing
 pub mod Reports
-pub mod Statuses
-pub mod Written

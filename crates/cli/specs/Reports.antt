@@ -4,13 +4,13 @@ use Rattle.std.specs.Io.KnownBytes.{Appends, Keeps}
 use Rattle.meaning.specs.Tables.{Tables}
 use Rattle.linked_program.specs.Checked.{PlainChecked}
 use Rattle.command_line.specs.declared.options.Options.{Options}
-use Rattle.cli.specs.declared.streams.SessionError.TheVariants as s
-use Rattle.cli.specs.declared.program.ProgramError.{ProgramError}
-use Rattle.cli.specs.declared.program.ProgramError.TheVariants.{Line, File, Prepare, Session, Trace}
+use Rattle.program_endings.specs.declared.session_error.SessionError.TheVariants as s
+use Rattle.program_endings.specs.declared.program_error.ProgramError.{ProgramError}
+use Rattle.program_endings.specs.declared.program_error.ProgramError.TheVariants.{Line, File, Prepare, Session, Trace}
 use Rattle.cli.specs.Answers.{first_answers}
-use Rattle.cli.specs.Endings.{CarriesRefusal}
-use Rattle.cli.specs.Written.{HasBeginning}
-use Rattle.cli.specs.Preparing.{IsPrepared, IsRefused}
+use Rattle.program_endings.specs.Endings.{CarriesRefusal}
+use Rattle.program_endings.specs.Written.{HasBeginning}
+use Rattle.prepared_program.specs.Preparing.{IsPrepared, IsRefused}
 
 -- the program and the tables are those of the files that the options name, and that of the tables is text
 abbrev pub IsOpened : (List ℕ → Option (List ℕ)) → Options → PlainChecked → Tables → Type 0

@@ -1,11 +1,11 @@
 // The beginning of a session: its program and tables, and its kits.
 ghost use Rattle.std.specs.Prelude.{◌≡◌, IfOk, IfErr, length};
-ghost use Rattle.cli.specs.Preparing.{IsPrepared};
+ghost use Rattle.prepared_program.specs.Preparing.{IsPrepared};
 ghost use Rattle.cli.specs.Begun.{IsUnbegun};
 
 use crate::kits::kits_for;
-use crate::prepare::{PrepareError, prepare};
 use monoid_laws::Kind;
+use prepared_program::prepare::{PrepareError, prepare};
 use reuse_planner::Session;
 use std::alloc::{AllocError, Global};
 use thiserror::Error;

@@ -6,8 +6,6 @@ pub mod explained;
 pub mod files;
 pub mod kits;
 pub mod notes;
-pub mod prepare;
 pub mod program;
 pub mod run_notes;
 pub mod session;
-pub mod streams;

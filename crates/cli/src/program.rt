@@ -3,20 +3,21 @@ ghost use Rattle.std.specs.Prelude.{◌≡◌, ◌≢◌, ◌↔◌, ◌<◌, �
 ghost use Rattle.std.specs.Io.KnownBytes.{Keeps, IsAtEnd};
 ghost use Rattle.std.specs.IoError.{error_kind};
 ghost use Rattle.std.specs.Process.{exit_status};
-ghost use Rattle.cli.specs.Endings.{CarriesRefusal};
-ghost use Rattle.cli.specs.Statuses.{status_of};
+ghost use Rattle.program_endings.specs.Endings.{CarriesRefusal};
+ghost use Rattle.program_endings.specs.Statuses.{status_of};
 ghost use Rattle.cli.specs.Reports.{IsOpened, IsUnopened, IsFailed, IsUnmade, IsLate, IsReportedOver, IsBegunOver, ReadsNothing, ReportsRefusal, WritesNothing};
 
 use crate::beginning::{BeginError, begin};
 use crate::explained::{Explain, Explained};
 use crate::files::{FileSource, StandardError, SystemFiles};
-use crate::prepare::PrepareError;
 use crate::run_notes::{NotesError, RunNotes};
 use crate::session::session_text;
-use crate::streams::{Failures, SessionError};
 use command_line::line::options;
 use command_line::options::{Options, OptionsError};
 use monoid_laws::Kind;
+use program_endings::program_error::{ProgramError, status};
+use program_endings::session_error::SessionError;
+use program_endings::streams::Failures;
 use reuse_planner::Session;
 use std::alloc::{AllocError, Global};
 use std::io::{BufReader, BufWriter, ErrorKind, Read, Write};
@@ -25,45 +26,8 @@ use std::rt::Runtime;
 use std::sync::Wait;
 use std::thread::Threads;
 use std::{env, io};
-use thiserror::Error;
 use threaded_driver::NoGate;
 use view_pool::View;
-
-/// Why the program ended before its script did.
-#[derive(Debug, Drop, Error)]
-pub enum ProgramError {
-    #[error("{0}")]
-    Line(OptionsError),
-    #[error("failed {0}")]
-    File(String),
-    #[error("{0}")]
-    Prepare(PrepareError),
-    #[error("{0}")]
-    Session(SessionError),
-    /// The trace's file failed after it was made.
-    #[error("failed {0}")]
-    Trace(String),
-}
-
-/// The program's exit status: 0 where its line asks for a text alone, 1 where its program, its tables, a file or a stream
-/// failed, 2 for another line, 3 where memory, kits or a run's list of strands did.
-pub fn status(error: &ProgramError) -> u8
-    ensures { result ≡ status_of error.now }
-{
-    match error {
-        ProgramError::Line(OptionsError::Help | OptionsError::Version) => 0,
-        ProgramError::Line(OptionsError::Usage) => 2,
-        ProgramError::Line(OptionsError::NoMemory)
-        | ProgramError::Prepare(PrepareError::NoMemory)
-        | ProgramError::Session(
-            SessionError::NoMemory | SessionError::NoKit | SessionError::Mismatch(_),
-        ) => 3,
-        ProgramError::File(_)
-        | ProgramError::Prepare(_)
-        | ProgramError::Session(_)
-        | ProgramError::Trace(_) => 1,
-    }
-}
 
 /// How the program ends after its report: with status 0, or an error's text on standard error and its status; a text that
 /// the line asks for is on standard output. That a text can't be written changes nothing.

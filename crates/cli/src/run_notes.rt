@@ -8,7 +8,8 @@ ghost use Rattle.cli.specs.declared.run_notes.NotesError.TheVariants as notes;
 ghost use Rattle.cli.specs.Noted.{Noted, has_failed, known_of, run_counts_text};
 
 use crate::notes::Notes;
-use crate::streams::{Failures, SessionError, flush, write_whole};
+use program_endings::session_error::SessionError;
+use program_endings::streams::{Failures, flush, write_whole};
 use std::alloc::{AllocError, Global};
 use std::io::Write;
 use std::marker::Model;

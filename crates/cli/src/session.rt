@@ -9,14 +9,15 @@ ghost use Rattle.reuse_planner.specs.Applied.{edited};
 ghost use Rattle.trace_report.specs.Outcomes.{Extends};
 ghost use Rattle.cli.specs.Answers.{answer_text, answers_of, left_by_edit, run_answer, standing_after};
 ghost use Rattle.threaded_driver.specs.Come.{HasCome, HasEnded};
-ghost use Rattle.cli.specs.Endings.{CarriesRefusal, IsAnswerError, IsRunError};
-ghost use Rattle.cli.specs.Written.{HasBeginning, WritesAll, WritesBeginning};
+ghost use Rattle.program_endings.specs.Endings.{CarriesRefusal, IsAnswerError, IsRunError};
+ghost use Rattle.program_endings.specs.Written.{HasBeginning, WritesAll, WritesBeginning};
 
 use crate::explained::Cause;
 use crate::notes::Notes;
-use crate::streams::{Failures, SessionError, flush, read_all, write_whole};
 use input_tables::Tables;
 use linked_program::checked::Checked;
+use program_endings::session_error::SessionError;
+use program_endings::streams::{Failures, flush, read_all, write_whole};
 use reuse_planner::{ApplyError, Session};
 use script_reader::command::Command;
 use script_reader::script::commands;

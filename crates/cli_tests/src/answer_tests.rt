@@ -1,10 +1,10 @@
 // Each line of an answer, and each part of a session on its own.
 use cli::beginning::begin;
 use cli::kits::kits_for;
-use cli::prepare::prepare;
-use cli::streams::{Failures, flush, read_all, write_whole};
 use meaning::FaultKind;
 use monoid_laws::{Kind, Val};
+use prepared_program::prepare::prepare;
+use program_endings::streams::{Failures, flush, read_all, write_whole};
 use program_tree::Reducer;
 use reuse_planner::Session;
 use std::alloc::{AllocError, Global};

@@ -1,9 +1,9 @@
 // Explanations of what a script is refused and of its faults, beside answers that stay as they are.
 use cli::files::FileSource;
 use cli::program::report_on;
-use cli::streams::Failures;
 use command_line::options::Options;
 use monoid_laws::Kind;
+use program_endings::streams::Failures;
 use program_reasons::script::Explainer;
 use std::alloc::{AllocError, Global};
 use std::io;

@@ -1,11 +1,12 @@
 // Where memory is refused, a report ends by want of memory after a beginning of its answers, or is as it should be.
 use cli::files::FileSource;
-use cli::prepare::{PrepareError, prepare};
-use cli::program::{report_on, status};
-use cli::streams::Failures;
+use cli::program::report_on;
 use command_line::line::options;
 use command_line::options::{Options, OptionsError};
 use monoid_laws::Kind;
+use prepared_program::prepare::{PrepareError, prepare};
+use program_endings::program_error::status;
+use program_endings::streams::Failures;
 use program_reasons::script::Explainer;
 use std::alloc::{AllocError, Global};
 use std::cell::Cell;

@@ -3,10 +3,11 @@ ghost use Rattle.std.specs.Prelude.{◌<◌, ◌≤◌};
 
 use cli::files::FileSource;
 use cli::notes::NoNotes;
-use cli::program::{ProgramError, report_on, status};
-use cli::streams::Failures;
+use cli::program::report_on;
 use command_line::options::Options;
 use monoid_laws::Kind;
+use program_endings::program_error::{ProgramError, status};
+use program_endings::streams::Failures;
 use std::alloc::{AllocError, Global};
 use std::cell::RefCell;
 use std::io;

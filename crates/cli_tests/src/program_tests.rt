@@ -1,12 +1,14 @@
 // The program over two files in memory: what is written, what is said of an error, and the status.
 use cli::files::{FileSource, SystemFiles};
 use cli::notes::NoNotes;
-use cli::prepare::PrepareError;
-use cli::program::{ProgramError, report_on, status};
-use cli::streams::{Failures, SessionError};
+use cli::program::report_on;
 use command_line::line::options;
 use command_line::options::OptionsError;
 use monoid_laws::Kind;
+use prepared_program::prepare::PrepareError;
+use program_endings::program_error::{ProgramError, status};
+use program_endings::session_error::SessionError;
+use program_endings::streams::Failures;
 use std::alloc::{AllocError, Global};
 use std::io;
 use std::io::{ErrorKind, Sink, Write};

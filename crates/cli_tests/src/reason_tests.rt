@@ -1,5 +1,5 @@
 // The lines under the refusal of a program or of its tables.
-use cli::prepare::prepare;
+use prepared_program::prepare::prepare;
 use program_reasons::reasons;
 use std::alloc::Global;
 

@@ -3,10 +3,11 @@ ghost use Rattle.std.specs.Prelude.{◌<◌, ◌≤◌};
 
 use cli::beginning::{BeginError, begin};
 use cli::notes::NoNotes;
-use cli::prepare::{PrepareError, prepare};
 use cli::session::session_text;
-use cli::streams::{Failures, SessionError};
 use monoid_laws::Kind;
+use prepared_program::prepare::{PrepareError, prepare};
+use program_endings::session_error::SessionError;
+use program_endings::streams::Failures;
 use reuse_planner::Session;
 use std::alloc::{AllocError, Global};
 use std::io;

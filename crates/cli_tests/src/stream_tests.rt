@@ -2,8 +2,9 @@
 use cli::beginning::begin;
 use cli::notes::NoNotes;
 use cli::session::session_text;
-use cli::streams::{Failures, SessionError, read_all, write_whole};
 use monoid_laws::Kind;
+use program_endings::session_error::SessionError;
+use program_endings::streams::{Failures, read_all, write_whole};
 use reuse_planner::Session;
 use std::alloc::{AllocError, Global};
 use std::io;

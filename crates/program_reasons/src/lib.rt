@@ -6,12 +6,12 @@ pub mod script;
 
 use crate::causes::push_holder;
 use cli::files::{FileSource, SystemFiles};
-use cli::prepare::PrepareError;
-use cli::program::ProgramError;
 use command_line::line::options;
 use explanations::programs::{push_bad_program, push_shown};
 use explanations::rules::push_rule;
 use explanations::tables::{push_bad_table, push_bad_toml};
+use prepared_program::prepare::PrepareError;
+use program_endings::program_error::ProgramError;
 use std::alloc::{AllocError, Global};
 use std::env;
 use std::rt::Runtime;

@@ -2,9 +2,9 @@
 
 use crate::causes::explanation;
 use cli::explained::{Cause, Explain};
-use cli::streams::{Failures, flush, write_whole};
 use input_tables::Tables;
 use linked_program::checked::Checked;
+use program_endings::streams::{Failures, flush, write_whole};
 use std::alloc::Global;
 use std::io::Write;
 

@@ -2,9 +2,10 @@
 #![tactic(auto)]
 
 use cli::beginning::{BeginError, begin};
-use cli::program::{ProgramError, ending};
-use cli::streams::SessionError;
+use cli::program::ending;
 use monoid_laws::Kind;
+use program_endings::program_error::ProgramError;
+use program_endings::session_error::SessionError;
 use std::alloc::AllocError;
 use std::process::ExitCode;
 use view_pool::PlainView;

@@ -1,5 +1,5 @@
 use Rattle.cli.specs.Answers.{answers_of}
-use Rattle.cli.proofs.Written.{nothing_written}
+use Rattle.program_endings.proofs.Written.{nothing_written}
 use Rattle.cli.proofs.session.session_text.Goals as goal
 
 pub returns-in_err-script-clause-beginning : goal.returns-in_err-script-clause-beginning

@@ -1,6 +1,6 @@
 use Rattle.std.proofs.Common.{◌≡◌, ◌≤◌, length, take}
 use Rattle.std.specs.Io.KnownBytes.{Appends}
-use Rattle.cli.proofs.streams.write_whole.Given as goal
+use Rattle.program_endings.proofs.streams.write_whole.Given as goal
 
 -- the bytes up to `at` are written, and nothing is noted
 abbrev pub invariant-loop : goal.invariant-loop

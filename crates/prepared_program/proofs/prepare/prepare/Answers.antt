@@ -1,5 +1,5 @@
 use Rattle.program_tree.specs.View.{tree, lines}
-use Rattle.cli.proofs.prepare.prepare.Goals as goal
+use Rattle.prepared_program.proofs.prepare.prepare.Goals as goal
 
 pub returns-in-Err-clause-refused : goal.returns-in-Err-clause-refused
 returns-in-Err-clause-refused c =

@@ -1,6 +1,6 @@
 use Rattle.std.proofs.Common.{◌∙◌, arith, length-drop, length-take}
-use Rattle.cli.proofs.Written.{Appends-next}
-use Rattle.cli.proofs.streams.write_whole.Goals as goal
+use Rattle.program_endings.proofs.Written.{Appends-next}
+use Rattle.program_endings.proofs.streams.write_whole.Goals as goal
 
 pub loop-preserved : goal.loop-preserved
 loop-preserved g c = record {

@@ -2,8 +2,8 @@
 use Rattle.std.specs.Prelude.{◌≡◌, ◌⊎◌}
 use Rattle.sync_fold.specs.declared.error.BookError.TheVariants as refusal
 use Rattle.threaded_driver.specs.declared.failure.Mismatch as declared
-use Rattle.cli.specs.declared.streams.SessionError.{SessionError}
-use Rattle.cli.specs.declared.streams.SessionError.TheVariants.{NoMemory, NoKit, Mismatch, Read, Write, Notes}
+use Rattle.program_endings.specs.declared.session_error.SessionError.{SessionError}
+use Rattle.program_endings.specs.declared.session_error.SessionError.TheVariants.{NoMemory, NoKit, Mismatch, Read, Write, Notes}
 
 abbrev pub IsReaderError : SessionError → Type 0
 IsReaderError error = (error ≡ NoMemory) ⊎ (error ≡ Read)

@@ -1,10 +1,10 @@
 -- The program's exit status.
 use Rattle.std.specs.Prelude.{ℕ}
 use Rattle.command_line.specs.declared.options.OptionsError.TheVariants as o
-use Rattle.cli.specs.declared.prepare.PrepareError.TheVariants as p
-use Rattle.cli.specs.declared.streams.SessionError.TheVariants as s
-use Rattle.cli.specs.declared.program.ProgramError.{ProgramError}
-use Rattle.cli.specs.declared.program.ProgramError.TheVariants.{Line, File, Prepare, Session, Trace}
+use Rattle.prepared_program.specs.declared.prepare.PrepareError.TheVariants as p
+use Rattle.program_endings.specs.declared.session_error.SessionError.TheVariants as s
+use Rattle.program_endings.specs.declared.program_error.ProgramError.{ProgramError}
+use Rattle.program_endings.specs.declared.program_error.ProgramError.TheVariants.{Line, File, Prepare, Session, Trace}
 
 abbrev pub status_of : ProgramError → ℕ
 status_of (Line o.Usage) = 2

@@ -2,52 +2,14 @@
 ghost use Rattle.std.specs.Prelude.{◌≡◌, ◌≢◌, ◌<◌, ◌≤◌, Err, false, true, length, take, IfOk, IfErr, OnOk, OnErr, IfSome, IfNone};
 ghost use Rattle.std.specs.Io.KnownBytes.{Appends, Keeps, Consumes, IsAtEnd};
 ghost use Rattle.std.specs.IoError.{error_kind};
-ghost use Rattle.cli.specs.declared.streams.SessionError.TheVariants.{NoMemory};
-ghost use Rattle.cli.specs.declared.streams.SessionError.TheVariants as ended;
-ghost use Rattle.cli.specs.Endings.{IsReaderError, IsWriterError};
-ghost use Rattle.cli.specs.Written.{HasBeginning};
+ghost use Rattle.program_endings.specs.Endings.{IsReaderError, IsWriterError};
+ghost use Rattle.program_endings.specs.Written.{HasBeginning};
 
-use std::alloc::{AllocError, Global};
+use crate::session_error::SessionError;
+use std::alloc::Global;
 use std::io;
 use std::io::{ErrorKind, Read, Write};
 use std::marker::Model;
-use thiserror::Error;
-use threaded_driver::Mismatch;
-
-/// Why a session ended before its script did.
-#[derive(Debug, Drop, Error)]
-pub enum SessionError {
-    #[error("out of memory")]
-    NoMemory,
-    #[error("no kit")]
-    NoKit,
-    /// A run's list of strands refused one of its workers.
-    #[error("worker mismatch")]
-    Mismatch(Mismatch),
-    #[error("failed input")]
-    Read,
-    #[error("failed output")]
-    Write,
-    /// A run couldn't be noted.
-    #[error("failed output")]
-    Notes,
-}
-
-impl From<AllocError> for SessionError {
-    ghost from_gives = { λ _ e. e ≡ NoMemory };
-
-    fn from(_e: AllocError) -> SessionError {
-        SessionError::NoMemory
-    }
-}
-
-impl From<Mismatch> for SessionError {
-    ghost from_gives = { λ m e. e ≡ ended.Mismatch m };
-
-    fn from(mismatch: Mismatch) -> SessionError {
-        SessionError::Mismatch(mismatch)
-    }
-}
 
 /// Which streams failed: the reader, where a read of it answered an error or no end came of 2^64 - 1 reads; the writer,
 /// where a write or a flush answered an error, a write took nothing, or 2^64 - 1 writes or flushes were not enough. An
@@ -59,7 +21,7 @@ pub struct Failures {
 }
 
 impl Model for Failures {
-    ghost use Rattle.cli.specs.Failed.{Failed};
+    ghost use Rattle.program_endings.specs.Failed.{Failed};
 
     ghost Value = { Failed };
 

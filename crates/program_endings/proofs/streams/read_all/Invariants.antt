@@ -1,6 +1,6 @@
 use Rattle.std.proofs.Common.{◌≡◌}
 use Rattle.std.specs.Io.KnownBytes.{Consumes}
-use Rattle.cli.proofs.streams.read_all.Given as goal
+use Rattle.program_endings.proofs.streams.read_all.Given as goal
 
 -- what was taken is the script so far, and nothing is noted
 abbrev pub invariant-loop : goal.invariant-loop

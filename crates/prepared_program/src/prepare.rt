@@ -8,7 +8,7 @@ ghost use Rattle.input_tables.specs.Document.{reading, HasCause};
 ghost use Rattle.procedure_parser.specs.Correct.{IsText, IsSource, IsFault, Answers};
 ghost use Rattle.linked_program.specs.TableNames.{columned_of};
 ghost use Rattle.spawn_checker.specs.Refused.{IsRefused as IsRefusedBy};
-ghost use Rattle.cli.specs.Preparing.{IsPrepared, IsProgram, IsRefused};
+ghost use Rattle.prepared_program.specs.Preparing.{IsPrepared, IsProgram, IsRefused};
 
 use input_tables::{Tables, TablesError};
 use linked_program::checked::Checked;

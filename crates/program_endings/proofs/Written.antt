@@ -4,7 +4,7 @@ use Rattle.std.proofs.Math.Seq.{take-add, take-append_seam}
 use Rattle.std.proofs.lemmas.List.{take_all, take-append-drop}
 use Rattle.std.specs.Prelude.{IfSome}
 use Rattle.std.specs.Io.KnownBytes.{Appends, Keeps}
-use Rattle.cli.specs.Written.{HasBeginning}
+use Rattle.program_endings.specs.Written.{HasBeginning}
 
 pub Appends-nothing : (a : Option (List ℕ)) → Appends a a []
 Appends-nothing None = tt

@@ -1,6 +1,6 @@
 use Rattle.std.proofs.Common.{◌≡◌}
 use Rattle.std.specs.Io.KnownBytes.{Keeps}
-use Rattle.cli.proofs.streams.flush.Given as goal
+use Rattle.program_endings.proofs.streams.flush.Given as goal
 
 -- the writer has what it had, and nothing is noted
 abbrev pub invariant-loop : goal.invariant-loop

@@ -13,8 +13,8 @@ use Rattle.linked_program.specs.Declarations.{violations}
 use Rattle.linked_program.specs.Checked.{PlainChecked, revised_of, nothing}
 use Rattle.spawn_checker.specs.Refused as checker
 use Rattle.spawn_checker.specs.declared.violation.CheckError.TheVariants as check
-use Rattle.cli.specs.declared.prepare.PrepareError.{PrepareError}
-use Rattle.cli.specs.declared.prepare.PrepareError.TheVariants.{NoMemory, Text, NotToml, Shape, Check}
+use Rattle.prepared_program.specs.declared.prepare.PrepareError.{PrepareError}
+use Rattle.prepared_program.specs.declared.prepare.PrepareError.TheVariants.{NoMemory, Text, NotToml, Shape, Check}
 
 -- the program is that of the text, whatever source tree the text has, and breaks no rule; the tables are those of their text,
 -- the program was checked against them, and its procedures have their first revision numbers

@@ -1,0 +1,4 @@
+pub mod Endings
+pub mod Failed
+pub mod Statuses
+pub mod Written
