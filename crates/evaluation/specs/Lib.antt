@@ -2,3 +2,4 @@ pub mod Slots
 pub mod Values
 pub mod Ends
 pub mod Numbers
+pub mod Short

@@ -5,7 +5,7 @@ ghost use Rattle.linked_program.specs.CodeView.{expression as plain};
 ghost use Rattle.evaluation.specs.Values.{entry_at};
 ghost use Rattle.evaluation.specs.Ends.{Ends, Stops};
 
-use crate::note::Note;
+use crate::notes::Notes;
 use crate::slot::Slot;
 use crate::stop::Stop;
 use crate::values::evaluated;
@@ -20,11 +20,11 @@ pub fn entry_slots(
     arguments: &[Expression],
     slots: &[Slot],
     tables: &Tables,
-    notes: &mut Vec<Note>,
+    notes: &mut Notes,
 ) -> Result<Vec<Slot>, Stop>
     requires empty { room.items ≡ [] }
     ensures ends { Ends (λ v. v.items) (entry_at tables.now.tables slots.now size
-        (map plain arguments.now)) notes.old.items notes.new.items result }
+        (map plain arguments.now)) notes.old notes.new result }
 {
     let mut made = room;
     match fill_slots(&mut made, size, arguments, slots, tables, notes) {
@@ -41,10 +41,10 @@ pub fn fill_slots(
     arguments: &[Expression],
     slots: &[Slot],
     tables: &Tables,
-    notes: &mut Vec<Note>,
+    notes: &mut Notes,
 ) -> Result<(), Stop>
     ensures ends { Ends (λ u. made.new.items) (entry_at tables.now.tables slots.now size
-        (map plain arguments.now)) notes.old.items notes.new.items result }
+        (map plain arguments.now)) notes.old notes.new result }
 {
     let before = notes.len();
     made.clear();
@@ -66,10 +66,10 @@ fn put_values(
     arguments: &[Expression],
     slots: &[Slot],
     tables: &Tables,
-    notes: &mut Vec<Note>,
+    notes: &mut Notes,
 ) -> Result<(), Stop>
     requires empty { made.old.items ≡ [] }
-    ensures stops { Stops (λ u. made.new.items) (entry_at tables.now.tables slots.now size (map plain arguments.now)) notes.old.items notes.new.items result }
+    ensures stops { Stops (λ u. made.new.items) (entry_at tables.now.tables slots.now size (map plain arguments.now)) notes.old notes.new result }
 {
     if made.reserve(size).is_err() {
         return Err(Stop::NoMemory);

@@ -4,8 +4,10 @@
 pub mod entry;
 pub mod laws;
 pub mod note;
+pub mod notes;
 mod operators;
 pub mod ranges;
+pub mod reading;
 pub mod slot;
 pub mod stop;
 pub mod values;

@@ -7,7 +7,7 @@ ghost use Rattle.meaning.specs.Statements.{most_iterations, span};
 ghost use Rattle.evaluation.specs.Values.{bounds_at};
 ghost use Rattle.evaluation.specs.Ends.{Ends, Stops};
 
-use crate::note::Note;
+use crate::notes::Notes;
 use crate::slot::Slot;
 use crate::stop::Stop;
 use crate::values::evaluate;
@@ -53,10 +53,10 @@ pub fn bounds(
     high: &Expression,
     slots: &[Slot],
     tables: &Tables,
-    notes: &mut Vec<Note>,
+    notes: &mut Notes,
 ) -> Result<LoopRange, Stop>
     ensures ends { Ends (λ r. (r.low, r.count)) (bounds_at tables.now.tables slots.now
-        (plain low.now) (plain high.now)) notes.old.items notes.new.items result }
+        (plain low.now) (plain high.now)) notes.old notes.new result }
 {
     let before = notes.len();
     match range(low, high, slots, tables, notes) {
@@ -75,9 +75,9 @@ fn range(
     high: &Expression,
     slots: &[Slot],
     tables: &Tables,
-    notes: &mut Vec<Note>,
+    notes: &mut Notes,
 ) -> Result<LoopRange, Stop>
-    ensures stops { Stops (λ r. (r.low, r.count)) (bounds_at tables.now.tables slots.now (plain low.now) (plain high.now)) notes.old.items notes.new.items result }
+    ensures stops { Stops (λ r. (r.low, r.count)) (bounds_at tables.now.tables slots.now (plain low.now) (plain high.now)) notes.old notes.new result }
 {
     match evaluate(low, slots, tables, notes) {
         Ok(low) => match evaluate(high, slots, tables, notes) {

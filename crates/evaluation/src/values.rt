@@ -10,6 +10,7 @@ ghost use Rattle.meaning.specs.Tables.{Tables as TableList};
 ghost use Rattle.evaluation.specs.Ends.{Ends, Stops};
 
 use crate::note::Note;
+use crate::notes::Notes;
 use crate::operators::{apply, one_if};
 use crate::slot::Slot;
 use crate::stop::Stop;
@@ -24,10 +25,10 @@ pub fn value(
     expression: &Expression,
     slots: &[Slot],
     tables: &Tables,
-    notes: &mut Vec<Note>,
+    notes: &mut Notes,
 ) -> Result<i64, Stop>
     ensures ends { Ends (λ v. v) (value_at tables.now.tables slots.now (plain expression.now))
-        notes.old.items notes.new.items result }
+        notes.old notes.new result }
 {
     match without_reading(expression, slots) {
         Some(value) => Ok(value),
@@ -40,9 +41,9 @@ fn noted_value(
     expression: &Expression,
     slots: &[Slot],
     tables: &Tables,
-    notes: &mut Vec<Note>,
+    notes: &mut Notes,
 ) -> Result<i64, Stop>
-    ensures ends { Ends (λ v. v) (value_at tables.now.tables slots.now (plain expression.now)) notes.old.items notes.new.items result }
+    ensures ends { Ends (λ v. v) (value_at tables.now.tables slots.now (plain expression.now)) notes.old notes.new result }
 {
     let before = notes.len();
     match evaluate(expression, slots, tables, notes) {
@@ -62,11 +63,11 @@ pub fn values(
     slots: &[Slot],
     tables: &Tables,
     numbers: &mut Vec<i64>,
-    notes: &mut Vec<Note>,
+    notes: &mut Notes,
 ) -> Result<(), Stop>
     ensures ends { Ends (λ u. numbers.new.items)
-        (values_at tables.now.tables slots.now (map plain expressions.now)) notes.old.items
-        notes.new.items result }
+        (values_at tables.now.tables slots.now (map plain expressions.now)) notes.old
+        notes.new result }
 {
     let before = notes.len();
     numbers.clear();
@@ -88,11 +89,11 @@ pub fn two_values(
     second: &Expression,
     slots: &[Slot],
     tables: &Tables,
-    notes: &mut Vec<Note>,
+    notes: &mut Notes,
 ) -> Result<(i64, i64), Stop>
     ensures ends { Ends (λ p. p.0 ∷ p.1 ∷ [])
         (values_at tables.now.tables slots.now (plain first.now ∷ plain second.now ∷ []))
-        notes.old.items notes.new.items result }
+        notes.old notes.new result }
 {
     let before = notes.len();
     match both(first, second, slots, tables, notes) {
@@ -112,9 +113,9 @@ fn both(
     second: &Expression,
     slots: &[Slot],
     tables: &Tables,
-    notes: &mut Vec<Note>,
+    notes: &mut Notes,
 ) -> Result<(i64, i64), Stop>
-    ensures stops { Stops (λ p. p.0 ∷ p.1 ∷ []) (values_at tables.now.tables slots.now (plain first.now ∷ plain second.now ∷ [])) notes.old.items notes.new.items result }
+    ensures stops { Stops (λ p. p.0 ∷ p.1 ∷ []) (values_at tables.now.tables slots.now (plain first.now ∷ plain second.now ∷ [])) notes.old notes.new result }
 {
     match evaluated(first, slots, tables, notes) {
         Ok(left) => match evaluated(second, slots, tables, notes) {
@@ -131,10 +132,10 @@ fn evaluate_all(
     slots: &[Slot],
     tables: &Tables,
     numbers: &mut Vec<i64>,
-    notes: &mut Vec<Note>,
+    notes: &mut Notes,
 ) -> Result<(), Stop>
     requires { numbers.old.items ≡ [] }
-    ensures stops { Stops (λ u. numbers.new.items) (values_at tables.now.tables slots.now (map plain expressions.now)) notes.old.items notes.new.items result }
+    ensures stops { Stops (λ u. numbers.new.items) (values_at tables.now.tables slots.now (map plain expressions.now)) notes.old notes.new result }
 {
     for expression in expressions {
         match evaluated(expression, slots, tables, notes) {
@@ -155,9 +156,9 @@ pub(crate) fn evaluate(
     expression: &Expression,
     slots: &[Slot],
     tables: &Tables,
-    notes: &mut Vec<Note>,
+    notes: &mut Notes,
 ) -> Result<i64, Stop>
-    ensures stops { Stops (λ v. v) (value_at tables.now.tables slots.now (plain expression.now)) notes.old.items notes.new.items result }
+    ensures stops { Stops (λ v. v) (value_at tables.now.tables slots.now (plain expression.now)) notes.old notes.new result }
 {
     match expression {
         Expression::Number(number) => Ok(*number),
@@ -197,9 +198,9 @@ fn operand(
     expression: &Expression,
     slots: &[Slot],
     tables: &Tables,
-    notes: &mut Vec<Note>,
+    notes: &mut Notes,
 ) -> Result<i64, Stop>
-    ensures stops { Stops (λ v. v) (value_at tables.now.tables slots.now (plain expression.now)) notes.old.items notes.new.items result }
+    ensures stops { Stops (λ v. v) (value_at tables.now.tables slots.now (plain expression.now)) notes.old notes.new result }
 {
     match expression {
         Expression::Number(number) => Ok(*number),
@@ -218,9 +219,9 @@ pub(crate) fn evaluated(
     expression: &Expression,
     slots: &[Slot],
     tables: &Tables,
-    notes: &mut Vec<Note>,
+    notes: &mut Notes,
 ) -> Result<i64, Stop>
-    ensures stops { Stops (λ v. v) (value_at tables.now.tables slots.now (plain expression.now)) notes.old.items notes.new.items result }
+    ensures stops { Stops (λ v. v) (value_at tables.now.tables slots.now (plain expression.now)) notes.old notes.new result }
 {
     match without_reading(expression, slots) {
         Some(value) => Ok(value),
@@ -280,27 +281,15 @@ fn number_in(slots: &[Slot], number: usize) -> i64
     }
 }
 
-// Adds a note.
-fn add(notes: &mut Vec<Note>, note: Note) -> Result<(), Stop>
-    ensures added { OnOk result (notes.new.items ≡ notes.old.items ++ note ∷ []) }
-    ensures cause { IfErr result (λ stop. stop ≡ Stop.NoMemory) }
-    ensures same { OnErr result (notes.new.items ≡ notes.old.items) }
-{
-    match notes.push(note) {
-        Ok(()) => Ok(()),
-        Err(_) => Err(Stop::NoMemory),
-    }
-}
-
 // The value of a cell.
 fn cell(
     tables: &Tables,
     table: usize,
     row: i64,
     column: usize,
-    notes: &mut Vec<Note>,
+    notes: &mut Notes,
 ) -> Result<i64, Stop>
-    ensures { Ends (λ v. v) (looked table row column (read.cell_at tables.now.tables table row column)) notes.old.items notes.new.items result }
+    ensures { Ends (λ v. v) (looked table row column (read.cell_at tables.now.tables table row column)) notes.old notes.new result }
 {
     match tables.cell(table, row, column) {
         None => Err(Stop::Fault(FaultKind::MissingRow)),
@@ -311,7 +300,7 @@ fn cell(
                 column,
                 value,
             };
-            match add(notes, note) {
+            match notes.add(&note) {
                 Ok(()) => Ok(value),
                 Err(_) => Err(Stop::NoMemory),
             }
@@ -320,22 +309,22 @@ fn cell(
 }
 
 // 1 where there is such a row, or 0.
-fn has(tables: &Tables, table: usize, row: i64, notes: &mut Vec<Note>) -> Result<i64, Stop>
-    ensures { Ends (λ v. v) (reading (Note.Has table row (read.has_at tables.now.tables table row)) (one_for (read.has_at tables.now.tables table row))) notes.old.items notes.new.items result }
+fn has(tables: &Tables, table: usize, row: i64, notes: &mut Notes) -> Result<i64, Stop>
+    ensures { Ends (λ v. v) (reading (Note.Has table row (read.has_at tables.now.tables table row)) (one_for (read.has_at tables.now.tables table row))) notes.old notes.new result }
 {
     let found = tables.has(table, row);
-    match add(notes, Note::Has { table, row, found }) {
+    match notes.add(&Note::Has { table, row, found }) {
         Ok(()) => Ok(one_if(found)),
         Err(_) => Err(Stop::NoMemory),
     }
 }
 
 // One more than the greatest number of a row.
-fn limit(tables: &Tables, table: usize, notes: &mut Vec<Note>) -> Result<i64, Stop>
-    ensures { Ends (λ v. v) (reading (Note.Limit table (read.limit_at tables.now.tables table)) (read.limit_at tables.now.tables table)) notes.old.items notes.new.items result }
+fn limit(tables: &Tables, table: usize, notes: &mut Notes) -> Result<i64, Stop>
+    ensures { Ends (λ v. v) (reading (Note.Limit table (read.limit_at tables.now.tables table)) (read.limit_at tables.now.tables table)) notes.old notes.new result }
 {
     let value = tables.limit(table);
-    match add(notes, Note::Limit { table, value }) {
+    match notes.add(&Note::Limit { table, value }) {
         Ok(()) => Ok(value),
         Err(_) => Err(Stop::NoMemory),
     }

@@ -2,7 +2,7 @@
 use denote.RattleType.{RattleType}
 use denote.Param.Send.{IsSend, sendable}
 use Rattle.std.proofs.Crossing.{crosses}
-use Rattle.evaluation.proofs.note.Note.TheSendSync as notes
+use Rattle.evaluation.proofs.notes.Notes.TheSendSync as notes
 use Rattle.hypermaps.proofs.Hypermap.TheSendSync as hypermaps
 use Rattle.rerun_records.proofs.Crosses.{readings_send, record_send}
 use Rattle.view_pool.specs.declared.view.View as View

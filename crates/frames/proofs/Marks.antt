@@ -1,10 +1,12 @@
 -- Readings that are put in once.
-use Rattle.std.proofs.Common.{◌≡◌, ℕ, ◌+◌, ◌<◌, Bool, true, false, cond, if◌then◌else◌, ◌||◌, List, [], ◌∷◌, ◌++◌, length, drop, refl, sym, ap, ◌∙◌, get_or}
+use Rattle.std.proofs.Common.{◌≡◌, ℕ, ◌+◌, ◌<◌, Bool, true, false, cond, if◌then◌else◌, ◌||◌, List, [], ◌∷◌, ◌++◌, length, drop, map, refl, sym, ap, ◌∙◌, get_or}
 use Rattle.std.specs.List.{list_any}
 use Rattle.std.proofs.lemmas.List.{drop_more}
 use Rattle.indexmap.specs.IndexSet.{insert_key}
 use Rattle.evaluation.specs.declared.note.Note.{Note}
 use Rattle.evaluation.specs.declared.note.Note.TheVariants as n
+use Rattle.evaluation.specs.declared.reading.Reading.{Reading}
+use Rattle.evaluation.specs.Short.{note_of}
 use Rattle.evaluation.specs.contracts.note.NotePartialEq.TheImpl as notes
 use Rattle.positions.specs.Values.{same_note, once, once_behind, put_note}
 
@@ -38,7 +40,7 @@ derived_same (n.Limit t v) (n.Has u s d) = refl
 pub inserted_is : (seen : List Note) (n : Note) → insert_key (notes.ghosts).eq seen n ≡ put_note seen n
 inserted_is seen n = put_as_key (notes.ghosts).eq derived_same seen n
 
-pub still_once : (seen more : List Note) (ns : List Note) (i : ℕ) (n : Note) → i < length ns → more ≡ put_note seen (get_or ns i n)
-    → once_behind seen (drop i ns) ≡ once ns → once_behind more (drop (i + 1) ns) ≡ once ns
-still_once seen more ns i n l put so_far =
-    ap (λ s. once_behind s (drop (i + 1) ns)) put ∙ ap (once_behind seen) (sym (drop_more ns i n l)) ∙ so_far
+pub still_once : (seen more : List Note) (rs : List Reading) (i : ℕ) (r : Reading) → i < length rs → more ≡ put_note seen (note_of (get_or rs i r))
+    → once_behind seen (map note_of (drop i rs)) ≡ once (map note_of rs) → once_behind more (map note_of (drop (i + 1) rs)) ≡ once (map note_of rs)
+still_once seen more rs i r l put so_far =
+    ap (λ s. once_behind s (map note_of (drop (i + 1) rs))) put ∙ ap (λ xs. once_behind seen (map note_of xs)) (sym (drop_more rs i r l)) ∙ so_far

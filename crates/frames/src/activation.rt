@@ -10,7 +10,7 @@ ghost use Rattle.positions.specs.Moves.{settled, settled_slot};
 
 use crate::entering::FIRST;
 use evaluation::entry::fill_slots;
-use evaluation::note::Note;
+use evaluation::notes::Notes;
 use evaluation::slot::Slot;
 use evaluation::stop::Stop;
 use input_tables::Tables;
@@ -86,9 +86,9 @@ impl Activation {
         arguments: &[Expression],
         slots: &[Slot],
         tables: &Tables,
-        notes: &mut Vec<Note>,
+        notes: &mut Notes,
     ) -> Result<(), Stop>
-        ensures ends { Ends (λ u. self.new.slots) (entry_at tables.now.tables slots.now size (map plain arguments.now)) notes.old.items notes.new.items result }
+        ensures ends { Ends (λ u. self.new.slots) (entry_at tables.now.tables slots.now size (map plain arguments.now)) notes.old notes.new result }
     {
         fill_slots(&mut self.slots, size, arguments, slots, tables, notes)
     }

@@ -34,7 +34,7 @@ impl<V: View> Layer<V> {
         self.notes.reserve(right.notes.len())?;
         self.shared.reserve(right.shared.len())?;
         self.hypermap.fold(&mut right.hypermap)?;
-        let _ = self.notes.extend_from_slice(&right.notes);
+        let _ = self.notes.add_all(&right.notes);
         append_shared(&mut self.shared, &mut right.shared);
         flag_all(&mut self.entered, &right.entered);
         self.deepest = self.deepest.max(right.deepest);

@@ -12,7 +12,7 @@ ghost use Rattle.frames.specs.Ready.{laid_over};
 use crate::activation::Activation;
 use crate::spares::Spares;
 use evaluation::entry::entry_slots;
-use evaluation::note::Note;
+use evaluation::notes::Notes;
 use evaluation::ranges::{LoopRange, bounds};
 use evaluation::slot::Slot;
 use evaluation::stop::Stop;
@@ -31,7 +31,7 @@ use view_pool::{Kit, View};
 #[derive(Drop)]
 pub struct Layer<V: View = Box<dyn View>> {
     pub(crate) hypermap: Hypermap<V>,
-    pub(crate) notes: Vec<Note>,
+    pub(crate) notes: Notes,
     pub(crate) shared: Vec<Readings>,
     pub(crate) entered: Vec<bool>,
     pub(crate) deepest: u32,
@@ -43,7 +43,7 @@ impl<V: View> Model for Layer<V> {
 
     ghost Value = { PlainLayer };
 
-    ghost view = { λ l. record { kinds = l.hypermap.kinds; worths = l.hypermap.worths; notes = l.notes.items; shared = all_of l.shared.items; entered = l.entered.items; deepest = l.deepest } };
+    ghost view = { λ l. record { kinds = l.hypermap.kinds; worths = l.hypermap.worths; notes = l.notes; shared = all_of l.shared.items; entered = l.entered.items; deepest = l.deepest } };
 }
 
 impl<V: View> Layer<V> {
@@ -57,7 +57,7 @@ impl<V: View> Layer<V> {
         ensures open { IfOk result (λ layer. layer ≡ blank kit procedures) }
         ensures handed_back { IfErr result (λ e. e.1 ≡ kit) }
     {
-        Layer::open_in(alloc, kit, procedures, Vec::new(alloc), Vec::new(alloc))
+        Layer::open_in(alloc, kit, procedures, Notes::new(alloc), Vec::new(alloc))
     }
 
     /// The same, in those empty lists.
@@ -65,10 +65,10 @@ impl<V: View> Layer<V> {
         alloc: Global,
         kit: Kit<V>,
         procedures: usize,
-        notes: Vec<Note>,
+        notes: Notes,
         mut entered: Vec<bool>,
     ) -> Result<Layer<V>, (AllocError, Kit<V>)>
-        requires no_notes { notes.items ≡ [] }
+        requires no_notes { notes ≡ [] }
         requires no_flags { entered.items ≡ [] }
         ensures open { IfOk result (λ layer. layer ≡ blank kit procedures) }
         ensures handed_back { IfErr result (λ e. e.1 ≡ kit) }

@@ -4,7 +4,8 @@ ghost use Rattle.std.specs.List.{list_any};
 ghost use Rattle.monoid_laws.specs.Worth.{Worth};
 ghost use Rattle.monoid_laws.specs.Kinds.{meaning};
 ghost use Rattle.hypermaps.specs.Layer.{IsAt};
-ghost use Rattle.rerun_records.specs.Record.{touched, note_of};
+ghost use Rattle.evaluation.specs.Short.{note_of};
+ghost use Rattle.rerun_records.specs.Record.{touched};
 ghost use Rattle.rerun_records.specs.Named.{AreValuesFrom};
 ghost use Rattle.rerun_records.specs.Readings.{all_of};
 ghost use Rattle.positions.specs.Values.{same_note, once, put_note};
@@ -15,11 +16,12 @@ use crate::identities::is_identity;
 use crate::layer::Layer;
 use crate::machine::DEEPEST;
 use evaluation::note::Note;
+use evaluation::notes::Notes;
+use evaluation::reading::{Reading, readings};
 use hypermaps::Hypermap;
 use indexmap::IndexSet;
 use linked_program::checked::Checked;
 use monoid_laws::{Kind, Val};
-use rerun_records::reading::{Reading, readings};
 use rerun_records::readings::Readings;
 use rerun_records::record::Record;
 use std::alloc::{AllocError, Global};
@@ -217,13 +219,13 @@ fn push_value(
 }
 
 /// A layer's own readings, each once, and then those that it shares. Those of one instance alone are handed on as they are.
-fn kept_reads(alloc: Global, notes: &[Note], shared: &[Readings]) -> Result<Readings, AllocError>
+fn kept_reads(alloc: Global, notes: &Notes, shared: &[Readings]) -> Result<Readings, AllocError>
     ensures kept { IfOk result (λ r. r ≡ once notes.now ++ all_of shared.now) }
 {
     if notes.is_empty() && shared.len() == 1 {
         return shared[0].share();
     }
-    let own = distinct_readings(alloc, notes)?;
+    let own = distinct_readings(alloc, notes.readings())?;
     let parts = shares(alloc, shared)?;
     Readings::new(alloc, own, parts)
 }
@@ -241,93 +243,92 @@ fn shares(alloc: Global, shared: &[Readings]) -> Result<Vec<Readings>, AllocErro
 }
 
 /// Each reading once, in the order in which they were first made.
-fn distinct_readings(alloc: Global, notes: &[Note]) -> Result<Vec<Reading>, AllocError>
-    ensures once { IfOk result (λ rs. map note_of rs.items ≡ once notes.now) }
+fn distinct_readings(alloc: Global, found: &[Reading]) -> Result<Vec<Reading>, AllocError>
+    ensures once { IfOk result (λ rs. map note_of rs.items ≡ once (map note_of found.now)) }
 {
-    if notes.len() <= FEW {
-        if are_distinct(notes) {
-            return readings(alloc, notes);
-        }
-        let seen = distinct_of_few(alloc, notes)?;
-        readings(alloc, &seen)
-    } else {
-        let seen = distinct(alloc, notes)?;
-        readings(alloc, seen.as_slice())
+    if found.len() > FEW {
+        let seen = distinct(alloc, found)?;
+        return readings(alloc, seen.as_slice());
     }
+    if are_distinct(found) {
+        return Vec::from_slice(alloc, found);
+    }
+    distinct_of_few(alloc, found)
 }
 
-/// Whether no note stands twice among these, which are few.
-fn are_distinct(notes: &[Note]) -> bool
-    ensures distinct { result ≡ true → once notes.now ≡ notes.now }
+/// Whether no reading stands twice among these, which are few.
+fn are_distinct(found: &[Reading]) -> bool
+    ensures distinct { result ≡ true → once (map note_of found.now) ≡ map note_of found.now }
 {
-    for i in 0..notes.len() {
-        if is_among(&notes[..i], &notes[i]) {
+    for i in 0..found.len() {
+        if is_among(&found[..i], &found[i]) {
             return false;
         }
     }
     true
 }
 
-/// The notes, each once; by looking through those before it.
-fn distinct_of_few(alloc: Global, notes: &[Note]) -> Result<Vec<Note>, AllocError>
-    ensures once { IfOk result (λ seen. seen.items ≡ once notes.now) }
+/// The readings, each once; by looking through those before it.
+fn distinct_of_few(alloc: Global, found: &[Reading]) -> Result<Vec<Reading>, AllocError>
+    ensures once { IfOk result (λ seen. map note_of seen.items ≡ once (map note_of found.now)) }
 {
     let mut seen = Vec::new(alloc);
-    for note in notes {
-        mark_few(&mut seen, note)?;
+    for reading in found {
+        mark_few(&mut seen, reading)?;
     }
     Ok(seen)
 }
 
-/// Puts in a note, unless it is there.
-fn mark_few(seen: &mut Vec<Note>, note: &Note) -> Result<(), AllocError>
-    ensures put { OnOk result (seen.new.items ≡ put_note seen.old.items note.now) }
+/// Puts in a reading, unless it is there.
+fn mark_few(seen: &mut Vec<Reading>, reading: &Reading) -> Result<(), AllocError>
+    ensures put { OnOk result
+        (map note_of seen.new.items ≡ put_note (map note_of seen.old.items) (note_of reading.now)) }
 {
-    if is_among(seen, note) {
+    if is_among(seen, reading) {
         return Ok(());
     }
-    match seen.push(*note) {
+    match seen.push(*reading) {
         Ok(()) => Ok(()),
         Err(_) => Err(AllocError),
     }
 }
 
-/// Whether a note is among those.
-fn is_among(seen: &[Note], note: &Note) -> bool
-    ensures among { result ≡ list_any (same_note note.now) seen.now }
+/// Whether a reading is among those.
+fn is_among(seen: &[Reading], reading: &Reading) -> bool
+    ensures among { result ≡ list_any (same_note (note_of reading.now)) (map note_of seen.now) }
 {
     for other in seen {
-        if is_same(note, other) {
+        if is_same(reading, other) {
             return true;
         }
     }
     false
 }
 
-/// Whether two notes are the same.
+/// Whether two readings are the same.
 #[tactic(auto, using(crate::proofs::Marks::derived_same))]
-fn is_same(left: &Note, right: &Note) -> bool
-    ensures same { result ≡ same_note left.now right.now }
+fn is_same(left: &Reading, right: &Reading) -> bool
+    ensures same { result ≡ same_note (note_of left.now) (note_of right.now) }
 {
-    left == right
+    left.note() == right.note()
 }
 
-/// The notes, each once.
-fn distinct(alloc: Global, notes: &[Note]) -> Result<IndexSet<Note>, AllocError>
-    ensures once { IfOk result (λ seen. seen.keys ≡ once notes.now) }
+/// The readings, each once, as notes.
+fn distinct(alloc: Global, found: &[Reading]) -> Result<IndexSet<Note>, AllocError>
+    ensures once { IfOk result (λ seen. seen.keys ≡ once (map note_of found.now)) }
 {
     let mut seen = IndexSet::new(alloc);
-    for note in notes {
-        mark(&mut seen, note)?;
+    for reading in found {
+        mark(&mut seen, reading.note())?;
     }
     Ok(seen)
 }
 
 /// Puts in a note, unless it is there.
-fn mark(seen: &mut IndexSet<Note>, note: &Note) -> Result<(), AllocError>
-    ensures put { OnOk result (seen.new.keys ≡ put_note seen.old.keys note.now) }
+fn mark(seen: &mut IndexSet<Note>, note: Note) -> Result<(), AllocError>
+    ensures put { OnOk result (seen.new.keys ≡ put_note seen.old.keys note) }
 {
-    match seen.insert(*note) {
+    match seen.insert(note) {
         Ok(_) => Ok(()),
         Err(_) => Err(AllocError),
     }

@@ -2,7 +2,7 @@
 ghost use Rattle.std.specs.Prelude.{◌≡◌, []};
 
 use crate::activation::Activation;
-use evaluation::note::Note;
+use evaluation::notes::Notes;
 use evaluation::slot::Slot;
 use positions::work::{Position, Work};
 use std::alloc::Global;
@@ -14,7 +14,7 @@ pub(crate) struct Spares {
     pub(crate) child: Activation,
     slots: Vec<Vec<Slot>>,
     places: Vec<Vec<Position>>,
-    notes: Vec<Vec<Note>>,
+    notes: Vec<Notes>,
     flags: Vec<Vec<bool>>,
 }
 
@@ -68,15 +68,15 @@ impl Spares {
     }
 
     /// An empty list of notes.
-    pub(crate) fn notes(&mut self, alloc: Global) -> Vec<Note>
-        ensures empty { result.items ≡ [] }
+    pub(crate) fn notes(&mut self, alloc: Global) -> Notes
+        ensures empty { result ≡ [] }
     {
         match self.notes.pop() {
             Some(mut notes) => {
                 notes.clear();
                 notes
             }
-            None => Vec::new(alloc),
+            None => Notes::new(alloc),
         }
     }
 
@@ -94,7 +94,7 @@ impl Spares {
     }
 
     /// Keeps the lists of a layer that is closed. Where memory is refused for that they are let go.
-    pub(crate) fn keep_layer(&mut self, notes: Vec<Note>, flags: Vec<bool>) {
+    pub(crate) fn keep_layer(&mut self, notes: Notes, flags: Vec<bool>) {
         let _ = self.notes.push(notes);
         let _ = self.flags.push(flags);
     }

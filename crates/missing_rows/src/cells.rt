@@ -7,7 +7,7 @@ ghost use Rattle.evaluation.specs.Values.{value_at};
 ghost use Rattle.missing_rows.specs.declared.cells.Halt.TheVariants.{Unknown};
 ghost use Rattle.missing_rows.specs.Absent.{EndsAbsent, EndsMissing, with_right};
 
-use evaluation::note::Note;
+use evaluation::notes::Notes;
 use evaluation::slot::Slot;
 use evaluation::values::value;
 use input_tables::Tables;
@@ -36,7 +36,7 @@ pub fn searched(
     tables: &Tables,
     slots: &[Slot],
     expression: &Expression,
-    notes: &mut Vec<Note>,
+    notes: &mut Notes,
 ) -> Result<(), Halt>
     ensures value { OnOk result (IsOk (value_at tables.now.tables slots.now
         (plain expression.now)).answer) }
@@ -68,7 +68,7 @@ fn searched_cell(
     table: usize,
     row: &Expression,
     column: usize,
-    notes: &mut Vec<Note>,
+    notes: &mut Notes,
 ) -> Result<(), Halt>
     ensures value { OnOk result (IsOk (value_at tables.now.tables slots.now (cell_at table (plain row.now) column)).answer) }
     ensures missing { IfErr result (EndsMissing (value_at tables.now.tables slots.now (cell_at table (plain row.now) column)).answer) }
@@ -93,7 +93,7 @@ fn searched_division(
     slots: &[Slot],
     operator: Operator,
     right: &Expression,
-    notes: &mut Vec<Note>,
+    notes: &mut Notes,
 ) -> Result<(), Halt>
     ensures value { (x : ℤ) → IsOk (value_at tables.now.tables slots.now (plain right.now)).answer → OnOk result (IsOk (with_right operator x (value_at tables.now.tables slots.now (plain right.now))).answer) }
     ensures unknown { IfErr result (λ halt. halt ≡ Unknown) }

@@ -9,7 +9,7 @@ ghost use Rattle.missing_rows.specs.declared.cells.Halt.TheVariants.{Unknown};
 
 use crate::cells::{Halt, searched};
 use evaluation::entry::entry_slots;
-use evaluation::note::Note;
+use evaluation::notes::Notes;
 use evaluation::ranges::{LoopRange, bounds};
 use evaluation::slot::Slot;
 use evaluation::values::value;
@@ -32,25 +32,25 @@ pub struct Ground<'a> {
 /// What a walk has asked for.
 #[derive(Drop)]
 pub struct Asked {
-    notes: Vec<Note>,
+    notes: Notes,
     values: u32,
 }
 
 impl Asked {
     /// Nothing yet.
     pub fn new(alloc: Global) -> Asked
-        ensures unread { result.notes.items ≡ [] }
+        ensures unread { result.notes ≡ [] }
         ensures uncounted { result.values ≡ 0 }
     {
         Asked {
-            notes: Vec::new(alloc),
+            notes: Notes::new(alloc),
             values: 0,
         }
     }
 
     // Counts one more value, and forgets what the ones before have read.
     fn begin(&mut self) -> Result<(), Halt>
-        ensures unread { OnOk result (self.new.notes.items ≡ []) }
+        ensures unread { OnOk result (self.new.notes ≡ []) }
         ensures counted { OnOk result (self.new.values ≡ self.old.values + 1) }
         ensures unknown { IfErr result (λ halt. halt ≡ Unknown) }
     {

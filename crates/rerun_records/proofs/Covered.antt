@@ -11,10 +11,11 @@ use Rattle.evaluation.specs.declared.note.Note.{Note}
 use Rattle.evaluation.specs.declared.note.Note.TheVariants.{Cell, Has, Limit}
 use Rattle.meaning.specs.Every.{every}
 use Rattle.meaning.specs.Tables.{Tables}
-use Rattle.rerun_records.specs.declared.reading.Reading.{Reading}
-use Rattle.rerun_records.specs.declared.reading.Reading.TheVariants as r
+use Rattle.evaluation.specs.declared.reading.Reading.{Reading}
+use Rattle.evaluation.specs.declared.reading.Reading.TheVariants as r
 use Rattle.rerun_records.specs.declared.spans.Span.{Span}
-use Rattle.rerun_records.specs.Record.{note_of, rows}
+use Rattle.rerun_records.specs.Record.{rows}
+use Rattle.evaluation.specs.Short.{note_of}
 use Rattle.rerun_records.specs.Validity.{note_agrees}
 use Rattle.rerun_records.specs.Spans.{span_of, has_row, covers, is_covered_by, lies_in, is_touched, joined, put_span, put_spans}
 use Rattle.rerun_records.specs.Doubted.{rests_on, in_step, agrees_if_changed}

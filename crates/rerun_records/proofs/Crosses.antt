@@ -4,7 +4,7 @@ use Rattle.std.proofs.Crossing.{crosses, Vec-send, Vec-sync}
 use Rattle.indexmap.proofs.set.IndexSet.TheSendSync as sets
 use Rattle.std.proofs.hash.FoldHasher.TheSendSync as folds
 use Rattle.monoid_laws.proofs.Val.TheSendSync as vals
-use Rattle.rerun_records.proofs.reading.Reading.TheSendSync as reading
+use Rattle.evaluation.proofs.reading.Reading.TheSendSync as reading
 use Rattle.rerun_records.proofs.spans.Span.TheSendSync as spans
 use Rattle.rerun_records.proofs.nested.Nested.TheSendSync as nested
 use Rattle.rerun_records.specs.contracts.readings.Node as Node

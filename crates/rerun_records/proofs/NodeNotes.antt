@@ -11,8 +11,8 @@ use Rattle.evaluation.specs.declared.note.Note.{Note}
 use Rattle.meaning.specs.Every.{every}
 use Rattle.rerun_records.specs.declared.readings.Node.{Node, out-Node, roll-Node, roll-out-Node, fold-roll-Node}
 use Rattle.rerun_records.specs.declared.readings.Below.{Below, Below-F, out-Below, roll-Below, roll-out-Below, fold-roll-Below}
-use Rattle.rerun_records.specs.Record.{note_of}
-use Rattle.rerun_records.specs.declared.reading.Reading.{Reading}
+use Rattle.evaluation.specs.Short.{note_of}
+use Rattle.evaluation.specs.declared.reading.Reading.{Reading}
 use Rattle.rerun_records.specs.declared.spans.Span.{Span}
 use Rattle.meaning.specs.Tables.{Tables}
 use Rattle.rerun_records.specs.Spans.{is_covered_by, is_touched, span_of, put_spans}

@@ -8,7 +8,7 @@ use Rattle.evaluation.specs.declared.note.Note.{Note}
 use Rattle.meaning.specs.Every.{every}
 use Rattle.rerun_records.specs.declared.readings.Node.{Node, Node-F, fold-Node}
 use Rattle.rerun_records.specs.declared.readings.Below.{Below, Below-F, fold-Below}
-use Rattle.rerun_records.specs.Record.{note_of}
+use Rattle.evaluation.specs.Short.{note_of}
 use Rattle.rerun_records.specs.Spans.{is_covered_by}
 
 -- lists one after another

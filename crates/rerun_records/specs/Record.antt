@@ -1,14 +1,11 @@
 -- Records as plain values: everything in them goes by number.
-use Rattle.std.specs.Prelude.{ℕ, nat_eq, nat_le, ℤ, pos, negsuc, Bool, false, ◌&&◌, List, [], map}
+use Rattle.std.specs.Prelude.{ℕ, nat_eq, ℤ, Bool, ◌&&◌, List, [], map}
 use Rattle.std.specs.Cmp.Lexicographic.{pointwise}
 use Rattle.std.specs.Ordering.{int_eq}
 use Rattle.monoid_laws.specs.Worth.{Worth}
 use Rattle.monoid_laws.specs.declared.Val.{Val}
 use Rattle.monoid_laws.specs.Kinds.{meaning}
 use Rattle.evaluation.specs.declared.note.Note.{Note}
-use Rattle.evaluation.specs.declared.note.Note.TheVariants as n
-use Rattle.rerun_records.specs.declared.reading.Reading.{Reading}
-use Rattle.rerun_records.specs.declared.reading.Reading.TheVariants as r
 
 -- which readings of a record may no longer agree with the tables: any, or those of rows that were changed, each with its table's number
 pub data Doubts : Type 0 where
@@ -27,23 +24,6 @@ pub record PlainRecord : Type 0 where
   pub entered : List (ℕ × ℕ)
   pub height : ℕ
   pub doubted : Doubts
-
--- the note that was put into fewer bytes
-abbrev pub note_of : Reading → Note
-note_of (r.Cell c t row v) = n.Cell t (pos row) c v
-note_of (r.Has there t row) = n.Has t row there
-note_of (r.Limit t v) = n.Limit t v
-
--- the number of a row takes four bytes at most
-abbrev pub fits_row : ℤ → Bool
-fits_row (pos n) = nat_le n 4294967295
-fits_row (negsuc n) = false
-
--- the number of its table takes two bytes at most, that of a cell's column one and that of its row four
-abbrev pub is_short : Note → Bool
-is_short (n.Cell t row c v) = nat_le c 255 && nat_le t 65535 && fits_row row
-is_short (n.Has t row there) = nat_le t 65535
-is_short (n.Limit t v) = nat_le t 65535
 
 -- a reducer's number and its value
 abbrev pub touched : ℕ × Val → ℕ × Worth

@@ -4,8 +4,8 @@ use Rattle.std.specs.Int.{int_min, int_max}
 use Rattle.std.specs.List.{list_any}
 use Rattle.evaluation.specs.declared.note.Note.{Note}
 use Rattle.evaluation.specs.declared.note.Note.TheVariants as n
-use Rattle.rerun_records.specs.declared.reading.Reading.{Reading}
-use Rattle.rerun_records.specs.declared.reading.Reading.TheVariants as r
+use Rattle.evaluation.specs.declared.reading.Reading.{Reading}
+use Rattle.evaluation.specs.declared.reading.Reading.TheVariants as r
 use Rattle.rerun_records.specs.declared.spans.Span.{Span}
 
 -- the rows that a reading rests on

@@ -2,11 +2,11 @@
 ghost use Rattle.std.specs.Prelude.{◌≡◌, ◌<◌, ◌≤◌, ◌++◌, ◌∷◌, [], true, false, length, map, option_copied, replicate, slice_get, vec_capacity, cond};
 ghost use Rattle.std.specs.List.{list_any};
 ghost use Rattle.meaning.specs.Every.{every};
-ghost use Rattle.rerun_records.specs.Record.{note_of};
+ghost use Rattle.evaluation.specs.Short.{note_of};
 ghost use Rattle.rerun_records.specs.Doubted.{rests_on};
 ghost use Rattle.rerun_records.specs.Moments.{doubts_by, doubts_since, doubts_at, stamped, never};
 
-use crate::reading::Reading;
+use evaluation::reading::Reading;
 
 /// No moment: all of a record is in doubt.
 pub(crate) const NEVER: u32 = u32::MAX;

@@ -6,7 +6,6 @@ pub mod edits;
 pub mod key;
 pub mod laws;
 mod nested;
-pub mod reading;
 pub mod readings;
 pub mod record;
 pub mod records;

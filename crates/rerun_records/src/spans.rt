@@ -3,7 +3,7 @@ ghost use Rattle.std.specs.Prelude.{◌≡◌, OnOk, map, false};
 ghost use Rattle.std.specs.List.{list_any};
 ghost use Rattle.rerun_records.specs.Spans.{span_of, lies_in, joined, put_span, put_spans, is_touched};
 
-use crate::reading::Reading;
+use evaluation::reading::Reading;
 use std::alloc::AllocError;
 
 /// The rows of a table from the lowest that was read to the greatest; all of them, where its limit was.

@@ -8,6 +8,6 @@ use Rattle.evaluation.proofs.entry.put_values.Given as goal
 abbrev pub invariant-loop-argument : goal.invariant-loop-argument
 invariant-loop-argument l = record {
   answer : changed (slots_for l.size) (values_at l.tables.tables l.slots (map plain l.arguments)).answer ≡ changed (λ vs. padded l.size (l.made.items ++ map Has vs)) (values_at l.tables.tables l.slots (map plain (drop l.argument-index l.arguments))).answer;
-  notes : l.fn.notes.items ++ (values_at l.tables.tables l.slots (map plain l.arguments)).notes ≡ l.notes.items ++ (values_at l.tables.tables l.slots (map plain (drop l.argument-index l.arguments))).notes;
-  front : take (length l.fn.notes.items) l.notes.items ≡ l.fn.notes.items;
+  notes : l.fn.notes ++ (values_at l.tables.tables l.slots (map plain l.arguments)).notes ≡ l.notes ++ (values_at l.tables.tables l.slots (map plain (drop l.argument-index l.arguments))).notes;
+  front : take (length l.fn.notes) l.notes ≡ l.fn.notes;
 }

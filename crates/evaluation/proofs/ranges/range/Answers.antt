@@ -8,9 +8,9 @@ use Rattle.evaluation.proofs.ranges.range.Goals as goal
 
 pub returns-in-Err-evaluate : goal.returns-in-Err-evaluate
 returns-in-Err-evaluate c =
-    let old = c.args.notes.now.items in
-    let mid = c.evaluate.new.notes.items in
-    let new = c.evaluate-in-Ok.new.notes.items in
+    let old = c.args.notes.now in
+    let mid = c.evaluate.new.notes in
+    let new = c.evaluate-in-Ok.new.notes in
     let low = value_at c.args.tables.now.tables c.args.slots.now (plain c.args.low.now) in
     let high = value_at c.args.tables.now.tables c.args.slots.now (plain c.args.high.now) in
     let stop = c.in-Err-evaluate.stop in

@@ -9,9 +9,9 @@ use Rattle.evaluation.proofs.values.+evaluate.Goals as goal
 pub evaluate-returns-in-Err-operand-2 : goal.evaluate-returns-in-Err-operand-2
 evaluate-returns-in-Err-operand-2 t c =
     let at = λ (e : Expression). value_at c.args.tables.now.tables c.args.slots.now (plain e) in
-    let old = c.args.notes.now.items in
-    let mid = c.operand.new.notes.items in
-    let new = c.operand-in-Ok-operand.new.notes.items in
+    let old = c.args.notes.now in
+    let mid = c.operand.new.notes in
+    let new = c.operand-in-Ok-operand.new.notes in
     let x = c.in-Ok-operand.left in
     let s = c.in-Err-operand-2.stop in
     let op = c.in-Binary.operator in

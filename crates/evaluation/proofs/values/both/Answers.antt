@@ -6,9 +6,9 @@ use Rattle.evaluation.proofs.values.both.Goals as goal
 
 pub returns-in-Err-evaluated : goal.returns-in-Err-evaluated
 returns-in-Err-evaluated c =
-    let old = c.args.notes.now.items in
-    let mid = c.evaluated.new.notes.items in
-    let new = c.evaluated-in-Ok.new.notes.items in
+    let old = c.args.notes.now in
+    let mid = c.evaluated.new.notes in
+    let new = c.evaluated-in-Ok.new.notes in
     let first = value_at c.args.tables.now.tables c.args.slots.now (plain c.args.first.now) in
     let second = value_at c.args.tables.now.tables c.args.slots.now (plain c.args.second.now) in
     let stop = c.in-Err-evaluated.stop in

@@ -7,6 +7,6 @@ use Rattle.evaluation.proofs.values.evaluate_all.Given as goal
 abbrev pub invariant-loop-expression : goal.invariant-loop-expression
 invariant-loop-expression l = record {
   answer : (values_at l.tables.tables l.slots (map plain l.expressions)).answer ≡ before l.numbers.items (values_at l.tables.tables l.slots (map plain (drop l.expression-index l.expressions))).answer;
-  notes : l.fn.notes.items ++ (values_at l.tables.tables l.slots (map plain l.expressions)).notes ≡ l.notes.items ++ (values_at l.tables.tables l.slots (map plain (drop l.expression-index l.expressions))).notes;
-  front : take (length l.fn.notes.items) l.notes.items ≡ l.fn.notes.items;
+  notes : l.fn.notes ++ (values_at l.tables.tables l.slots (map plain l.expressions)).notes ≡ l.notes ++ (values_at l.tables.tables l.slots (map plain (drop l.expression-index l.expressions))).notes;
+  front : take (length l.fn.notes) l.notes ≡ l.fn.notes;
 }

@@ -3,4 +3,4 @@ use Rattle.frames.proofs.Marks.{inserted_is}
 use Rattle.frames.proofs.recording.mark.Goals as goal
 
 pub returns-in-Ok : goal.returns-in-Ok
-returns-in-Ok c = search (rules, inserted_is c.args.seen.now.keys c.args.note.now)
+returns-in-Ok c = search (rules, inserted_is c.args.seen.now.keys c.args.note)

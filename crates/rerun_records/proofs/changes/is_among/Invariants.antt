@@ -1,6 +1,6 @@
 use Rattle.std.proofs.Common.{◌≡◌, drop}
 use Rattle.std.specs.List.{list_any}
-use Rattle.rerun_records.specs.Record.{note_of}
+use Rattle.evaluation.specs.Short.{note_of}
 use Rattle.rerun_records.specs.Doubted.{rests_on}
 use Rattle.rerun_records.proofs.changes.is_among.Given as goal
 

@@ -2,7 +2,7 @@ use Rattle.std.proofs.Common.{ap, sym, map, ◌∙◌}
 use Rattle.std.specs.List.{flat_map}
 use Rattle.meaning.specs.Every.{every}
 use Rattle.rerun_records.specs.declared.readings.Below.{out-Below}
-use Rattle.rerun_records.specs.Record.{note_of}
+use Rattle.evaluation.specs.Short.{note_of}
 use Rattle.rerun_records.specs.Readings.{shared_notes}
 use Rattle.rerun_records.specs.Validity.{note_agrees}
 use Rattle.rerun_records.proofs.NodeNotes.{every_with_parts}

@@ -3,7 +3,7 @@ use Rattle.std.specs.List.{flat_map}
 use Rattle.meaning.specs.Every.{every}
 use Rattle.rerun_records.specs.declared.readings.Below.{out-Below}
 use Rattle.rerun_records.specs.declared.readings.Below.TheViews.{the_lemmas}
-use Rattle.rerun_records.specs.Record.{note_of}
+use Rattle.evaluation.specs.Short.{note_of}
 use Rattle.rerun_records.specs.Spans.{is_touched}
 use Rattle.rerun_records.specs.Readings.{shared_notes, is_covered_share}
 use Rattle.rerun_records.specs.Doubted.{agrees_if_changed}

@@ -1,7 +1,7 @@
 use Rattle.std.proofs.Common.{ap, map, ◌++◌, ◌∙◌}
 use Rattle.std.specs.List.{flat_map}
 use Rattle.rerun_records.specs.declared.readings.Below.{out-Below}
-use Rattle.rerun_records.specs.Record.{note_of}
+use Rattle.evaluation.specs.Short.{note_of}
 use Rattle.rerun_records.specs.Readings.{shared_notes}
 use Rattle.rerun_records.proofs.NodeNotes.{on_ok, put_with_parts}
 use Rattle.rerun_records.proofs.readings.+putting.Goals as goal

@@ -1,6 +1,6 @@
 use Rattle.std.proofs.Common.{◌≡◌, map, drop}
 use Rattle.meaning.specs.Every.{every}
-use Rattle.rerun_records.specs.Record.{note_of}
+use Rattle.evaluation.specs.Short.{note_of}
 use Rattle.rerun_records.specs.Doubted.{agrees_if_changed}
 use Rattle.rerun_records.proofs.readings.doubted_reads_agree.Given as goal
 

@@ -1,6 +1,6 @@
 use Rattle.std.proofs.Common.{◌≡◌, drop, map}
 use Rattle.meaning.specs.Every.{every}
-use Rattle.rerun_records.specs.Record.{note_of}
+use Rattle.evaluation.specs.Short.{note_of}
 use Rattle.rerun_records.specs.Validity.{note_agrees}
 use Rattle.rerun_records.proofs.readings.reads_agree.Given as goal
 

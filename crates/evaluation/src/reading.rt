@@ -1,11 +1,11 @@
 // Readings in fewer bytes.
 ghost use Rattle.std.specs.Prelude.{◌≡◌, IfOk, IfSome, is_some, nat_le, map, pos};
-ghost use Rattle.rerun_records.specs.Record.{note_of, is_short, fits_row};
+ghost use Rattle.evaluation.specs.Short.{note_of, is_short, fits_row};
 
-use evaluation::note::Note;
+use crate::note::Note;
 use std::alloc::{AllocError, Global};
 
-/// A note as a record keeps it, in 16 bytes: the number of a table takes two of them, a column's one, and a cell's row four.
+/// A note in 16 bytes: the number of a table takes two of them, a column's one, and a cell's row four.
 #[derive(Clone, Copy)]
 pub enum Reading {
     Cell {
