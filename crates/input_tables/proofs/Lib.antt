@@ -1,5 +1,6 @@
 pub mod Accepted
 pub mod Counts
+pub mod Laid
 pub mod Listed
 pub mod Numbered
 pub mod Ordered

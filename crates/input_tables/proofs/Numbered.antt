@@ -61,6 +61,9 @@ changed_at-place f (x ∷ xs) t = changed_either (bytes_eq x.called t) f x xs (i
 pub table_of-at : (ts : Tables) (t : Name) (n : ℕ) (x : Listed) → n ≡ index_of (names_of ts) t → slice_get ts n ≡ Some x → table_of ts t ≡ Some x
 table_of-at ts t n x place at = sym (table_of-place ts t) ∙ subst (λ k. slice_get ts k ≡ Some x) place at
 
+pub columns_at-named : (ts : Tables) (t : Name) (n : ℕ) (x : Listed) → n ≡ index_of (names_of ts) t → Some x ≡ table_of ts t → columns_at ts n ≡ x.columns
+columns_at-named ts t n x place found = columns_at-there ts n x (ap (slice_get ts) place ∙ table_of-place ts t ∙ sym found)
+
 pub table_of-absent : (ts : Tables) (t : Name) → index_of (names_of ts) t ≡ length ts → table_of ts t ≡ None
 table_of-absent ts t place = sym (table_of-place ts t) ∙ ap (slice_get ts) place ∙ past ts
   where

@@ -10,15 +10,7 @@ use Rattle.input_tables.specs.Edited.{RowsFit}
 use Rattle.input_tables.specs.Rows.{Row, AreCells}
 use Rattle.input_tables.specs.Pages.{lower_count, AreRising, page_of, Page, AreOn, HasRows, ArePages, all_of, put_entry, gone_entry, IsOf, IsAbsent, last_of}
 use Rattle.input_tables.proofs.Orders.{entry_there, entry_absent, put_over, put_new, gone_there, rising_put, rising_gone}
-use Rattle.input_tables.proofs.Paging.{rows_in, rows_on, row_on_page, put_on_page, gone_on_page, none_left, page_at, row_gone_absent}
-
-row_put-entry : (n : ℤ) (vs : List ℤ) (rows : List Row) → put_entry n vs rows ≡ row_put n vs rows
-row_put-entry n vs [] = refl
-row_put-entry n vs (r ∷ rs) = ap (λ l. cond (int_lt n r.0) ((n, vs) ∷ r ∷ rs) (cond (int_lt r.0 n) (r ∷ l) ((n, vs) ∷ rs))) (row_put-entry n vs rs)
-
-row_gone-entry : (n : ℤ) (rows : List Row) → gone_entry n rows ≡ row_gone n rows
-row_gone-entry n [] = refl
-row_gone-entry n (r ∷ rs) = ap (λ l. cond (int_eq r.0 n) rs (r ∷ l)) (row_gone-entry n rs)
+use Rattle.input_tables.proofs.Paging.{rows_in, rows_on, row_on_page, put_on_page, gone_on_page, none_left, page_at, row_gone_absent, row_put-entry, row_gone-entry}
 
 -- ---- what one page keeps
 
@@ -150,6 +142,9 @@ module _ (ps : List Page) (m n : ℤ) (i : ℕ) (number : m ≡ page_of n) (risi
   pub rising_of : (q : Page) → slice_get ps i ≡ Some q → AreRising q.1
   rising_of q at = (page_at ps i q pages at).1
 
+  pub has_of : (q : Page) → slice_get ps i ≡ Some q → HasRows q.1
+  has_of q at = (page_at ps i q pages at).2
+
   old_page : (q : Page) → slice_get ps i ≡ Some q → IsOf m (slice_get ps i) → IsPage (page_of n) q.1
   old_page q at is = subst (λ (k : ℤ). IsPage k q.1) (key_of q at is) (page_at ps i q pages at)
 
@@ -195,6 +190,15 @@ module _ (ps : List Page) (m n : ℤ) (i : ℕ) (number : m ≡ page_of n) (risi
 pub inserted : {A B : Type 0} {X : Type 0} (r : Result A B) (b : Bool) (new x y : X) → b ≡ is_err r → b ≡ false → new ≡ cond (is_ok r) x y → new ≡ x
 inserted (Ok a) b new x y is not put = put
 inserted (Err e) b new x y is not put = absurd cc
+
+-- what a call says that was refused, and one that wasn't
+pub refused : {A B : Type 0} {P : Type 0} (r : Result A B) (b : Bool) → b ≡ is_err r → b ≡ true → OnErr r P → P
+refused (Ok a) b is not p = absurd cc
+refused (Err e) b is not p = p
+
+pub accepted : {A B : Type 0} {P : Type 0} (r : Result A B) (b : Bool) → b ≡ is_err r → b ≡ false → OnOk r P → P
+accepted (Ok a) b is not p = p
+accepted (Err e) b is not p = absurd cc
 
 pub on_ok : {A B : Type 0} {P Q : Type 0} (r : Result A B) → OnOk r P → (P → Q) → OnOk r Q
 on_ok (Ok a) p f = f p

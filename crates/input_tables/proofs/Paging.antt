@@ -1,13 +1,13 @@
 -- What pages hold of a table's rows, and what an edit of one page makes of all rows.
-use Rattle.std.proofs.Common.{◌≡◌, ℕ, zero, suc, ℤ, pos, negsuc, List, [], ◌∷◌, ◌++◌, Option, Some, None, Bool, true, false, cond, refl, ap, sym, ◌∙◌, subst, arith, length, ◌≤◌, Vec, Global, option_map, ◌+◌, ◌-◌, leb-true, FitsSigned}
+use Rattle.std.proofs.Common.{◌≡◌, ℕ, zero, suc, ℤ, pos, negsuc, List, [], ◌∷◌, ◌++◌, Option, Some, None, Bool, true, false, cond, refl, ap, sym, ◌∙◌, subst, arith, length, ◌≤◌, option_map, ◌+◌, ◌-◌, leb-true, FitsSigned}
 use Rattle.std.proofs.lemmas.Int.{ints, wrapping_add_is, int_wrap_fits}
 use Rattle.std.specs.Int.{w64, int_wrapping_add}
 use Rattle.std.specs.List.{insert, remove}
 use Rattle.std.specs.Prelude.{int_lt, slice_get, slice_set}
 use Rattle.std.specs.Ordering.{int_eq}
-use Rattle.meaning.specs.Tables.{row_of, above_all}
+use Rattle.meaning.specs.Tables.{row_of, above_all, is_there}
 use Rattle.meaning.specs.Edits.{row_put, row_gone, in_range}
-use Rattle.input_tables.specs.Rows.{Row, seen}
+use Rattle.input_tables.specs.Rows.{Row}
 use Rattle.input_tables.specs.Pages.{lower_count, AreOver, AreUnder, AreRising, page_of, Page, AreOn, HasRows, ArePages, all_of, put_entry, gone_entry, entry_of, IsOf, IsAbsent, last_or, last_of}
 use Rattle.input_tables.proofs.Orders.{lt_self, lt_not, lower, same, higher, compared, over_more, entry_over, entry_there, entry_absent, put_over, put_new, gone_there, differ}
 
@@ -162,95 +162,49 @@ row_gone_absent n (r ∷ rs) at = by (int_eq r.0 n) at (row_gone_absent n rs)
     by true absent more = absurd cc
     by false absent more = ap (λ l. r ∷ l) (more absent)
 
--- ---- a page's list of rows
-
-pub lower_count-seen : (n : ℤ) (es : List (ℤ × Vec ℤ Global)) → lower_count n (seen es) ≡ lower_count n es
-lower_count-seen n [] = refl
-lower_count-seen n (e ∷ es) = ap (λ i. cond (int_lt e.0 n) (suc i) 0) (lower_count-seen n es)
-
-over_seen : (n : ℤ) (es : List (ℤ × Vec ℤ Global)) → AreOver n (seen es) → AreOver n es
-over_seen n [] over = tt
-over_seen n (e ∷ es) over = (over.0, over_seen n es over.1)
-
-pub rising_seen : (es : List (ℤ × Vec ℤ Global)) → AreRising (seen es) → AreRising es
-rising_seen [] rising = tt
-rising_seen (e ∷ es) rising = (over_seen e.0 es rising.0, rising_seen es rising.1)
-
-pub row_of-seen : (n : ℤ) (es : List (ℤ × Vec ℤ Global)) → row_of (seen es) n ≡ option_map (λ v. v.items) (entry_of n es)
-row_of-seen n [] = refl
-row_of-seen n (e ∷ es) = by (int_eq e.0 n) e.1 (row_of (seen es) n) (entry_of n es) (row_of-seen n es)
-  where
-    by : (b : Bool) (v : Vec ℤ Global) (r : Option (List ℤ)) (o : Option (Vec ℤ Global)) → r ≡ option_map (λ w. w.items) o
-        → cond b (Some v.items) r ≡ option_map (λ w. w.items) (cond b (Some v) o)
-    by true v r o h = refl
-    by false v r o h = h
-
-pub row_put-seen : (n : ℤ) (v : Vec ℤ Global) (es : List (ℤ × Vec ℤ Global)) → seen (put_entry n v es) ≡ row_put n v.items (seen es)
-row_put-seen n v [] = refl
-row_put-seen n v (e ∷ es) = by (int_lt n e.0) (int_lt e.0 n) (put_entry n v es) (row_put-seen n v es)
-  where
-    by : (s t : Bool) (more : List (ℤ × Vec ℤ Global)) → seen more ≡ row_put n v.items (seen es)
-        → seen (cond s ((n, v) ∷ e ∷ es) (cond t (e ∷ more) ((n, v) ∷ es)))
-        ≡ cond s ((n, v.items) ∷ seen (e ∷ es)) (cond t ((e.0, e.1.items) ∷ row_put n v.items (seen es)) ((n, v.items) ∷ seen es))
-    by true t more h = refl
-    by false true more h = ap (λ l. (e.0, e.1.items) ∷ l) h
-    by false false more h = refl
-
-pub row_gone-seen : (n : ℤ) (es : List (ℤ × Vec ℤ Global)) → seen (gone_entry n es) ≡ row_gone n (seen es)
-row_gone-seen n [] = refl
-row_gone-seen n (e ∷ es) = by (int_eq e.0 n) (gone_entry n es) (row_gone-seen n es)
-  where
-    by : (b : Bool) (less : List (ℤ × Vec ℤ Global)) → seen less ≡ row_gone n (seen es)
-        → seen (cond b es (e ∷ less)) ≡ cond b (seen es) ((e.0, e.1.items) ∷ row_gone n (seen es))
-    by true less h = refl
-    by false less h = ap (λ l. (e.0, e.1.items) ∷ l) h
-
 -- ---- what a page's calls give
 
-pub found_row : (es : List (ℤ × Vec ℤ Global)) (m n : ℤ) (i : ℕ) (e : ℤ × Vec ℤ Global) → m ≡ n → i ≡ lower_count m es → IsOf m (slice_get es i)
-    → slice_get es i ≡ Some e → row_of (seen es) n ≡ Some e.1.items
-found_row es m n i e is_n place is at =
-    let key : e.0 ≡ n = rw at at is ∙ is_n in
-    let there : slice_get es (lower_count n es) ≡ Some e = subst (λ (k : ℕ). slice_get es k ≡ Some e) (place ∙ ap (λ k. lower_count k es) is_n) at in
-    row_of-seen n es ∙ ap (option_map (λ v. v.items)) (entry_there n es e there key)
+row_of-entry : (n : ℤ) (rows : List Row) → row_of rows n ≡ entry_of n rows
+row_of-entry n [] = refl
+row_of-entry n (r ∷ rs) = ap (cond (int_eq r.0 n) (Some r.1)) (row_of-entry n rs)
 
-pub missed_row : (es : List (ℤ × Vec ℤ Global)) (m n : ℤ) (i : ℕ) → m ≡ n → AreRising es → i ≡ lower_count m es → IsAbsent m (slice_get es i) → row_of (seen es) n ≡ None
-missed_row es m n i is_n rising place absent =
-    let there : IsAbsent m (slice_get es (lower_count m es)) = subst (λ (k : ℕ). IsAbsent m (slice_get es k)) place absent in
-    row_of-seen n es ∙ ap (option_map (λ v. v.items)) (ap (λ k. entry_of k es) (sym is_n) ∙ entry_absent m es rising there)
+pub row_put-entry : (n : ℤ) (vs : List ℤ) (rows : List Row) → put_entry n vs rows ≡ row_put n vs rows
+row_put-entry n vs [] = refl
+row_put-entry n vs (r ∷ rs) = ap (λ l. cond (int_lt n r.0) ((n, vs) ∷ r ∷ rs) (cond (int_lt r.0 n) (r ∷ l) ((n, vs) ∷ rs))) (row_put-entry n vs rs)
 
-pub put_found : (es : List (ℤ × Vec ℤ Global)) (m n : ℤ) (i : ℕ) (v : Vec ℤ Global) → m ≡ n → i ≡ lower_count m es → IsOf m (slice_get es i)
-    → seen (slice_set es i (m, v)) ≡ row_put n v.items (seen es)
-put_found es m n i v is_n place is =
-    let there : IsOf n (slice_get es (lower_count n es)) = subst (λ (k : ℤ). IsOf k (slice_get es (lower_count k es))) is_n (subst (λ (k : ℕ). IsOf m (slice_get es k)) place is) in
-    ap (λ (k : ℤ). seen (slice_set es i (k, v))) is_n ∙ ap (λ k. seen (slice_set es k (n, v))) (place ∙ ap (λ k. lower_count k es) is_n) ∙ ap seen (put_over n v es there) ∙ row_put-seen n v es
+pub row_gone-entry : (n : ℤ) (rows : List Row) → gone_entry n rows ≡ row_gone n rows
+row_gone-entry n [] = refl
+row_gone-entry n (r ∷ rs) = ap (λ l. cond (int_eq r.0 n) rs (r ∷ l)) (row_gone-entry n rs)
 
-pub put_missed : (es : List (ℤ × Vec ℤ Global)) (m n : ℤ) (i : ℕ) (v : Vec ℤ Global) → m ≡ n → i ≡ lower_count m es → IsAbsent m (slice_get es i)
-    → seen (insert es i (m, v)) ≡ row_put n v.items (seen es)
-put_missed es m n i v is_n place is =
-    let there : IsAbsent n (slice_get es (lower_count n es)) = subst (λ (k : ℤ). IsAbsent k (slice_get es (lower_count k es))) is_n (subst (λ (k : ℕ). IsAbsent m (slice_get es k)) place is) in
-    ap (λ (k : ℤ). seen (insert es i (k, v))) is_n ∙ ap (λ k. seen (insert es k (n, v))) (place ∙ ap (λ k. lower_count k es) is_n) ∙ ap seen (put_new n v es there) ∙ row_put-seen n v es
+module _ (rows : List Row) (n : ℤ) (i : ℕ) (place : i ≡ lower_count n rows) where
+  at_its_place : (P : Option Row → Type 0) → P (slice_get rows i) → P (slice_get rows (lower_count n rows))
+  at_its_place P h = subst (λ (k : ℕ). P (slice_get rows k)) place h
 
-pub gone_found : (es : List (ℤ × Vec ℤ Global)) (m n : ℤ) (i : ℕ) → m ≡ n → i ≡ lower_count m es → IsOf m (slice_get es i)
-    → seen (remove es i) ≡ row_gone n (seen es)
-gone_found es m n i is_n place is =
-    let there : IsOf n (slice_get es (lower_count n es)) = subst (λ (k : ℤ). IsOf k (slice_get es (lower_count k es))) is_n (subst (λ (k : ℕ). IsOf m (slice_get es k)) place is) in
-    ap (λ k. seen (remove es k)) (place ∙ ap (λ k. lower_count k es) is_n) ∙ ap seen (gone_there n es there) ∙ row_gone-seen n es
+  pub found_row : IsOf n (slice_get rows i) → (vs : List ℤ) → option_map (λ r. r.1) (slice_get rows i) ≡ Some vs → row_of rows n ≡ Some vs
+  found_row is vs at = by (slice_get rows i) refl is at
+    where
+      by : (o : Option Row) → slice_get rows i ≡ o → IsOf n o → option_map (λ r. r.1) o ≡ Some vs → row_of rows n ≡ Some vs
+      by None here is at = absurd is
+      by (Some r) here is at = row_of-entry n rows ∙ entry_there n rows r (at_its_place (λ o. o ≡ Some r) here) is ∙ at
 
-last_there : (es : List (ℤ × Vec ℤ Global)) (i : ℕ) (e : ℤ × Vec ℤ Global) → length es ≡ suc i → slice_get es i ≡ Some e → last_of (seen es) ≡ Some e.0
-last_there [] i e long at = absurd cc
-last_there (f ∷ []) zero e long at =
-    let first : f ≡ e = cc in
-    ap (λ d. Some d.0) first
-last_there (f ∷ []) (suc i) e long at = absurd (omega (arith, long))
-last_there (f ∷ g ∷ es) zero e long at = absurd (omega (arith, long))
-last_there (f ∷ g ∷ es) (suc i) e long at = last_there (g ∷ es) i e (omega (arith, long)) at
+  pub there_row : IsOf n (slice_get rows i) → is_there (row_of rows n) ≡ true
+  there_row is = by (slice_get rows i) refl is
+    where
+      by : (o : Option Row) → slice_get rows i ≡ o → IsOf n o → is_there (row_of rows n) ≡ true
+      by None here is = absurd is
+      by (Some r) here is = ap is_there (row_of-entry n rows ∙ entry_there n rows r (at_its_place (λ o. o ≡ Some r) here) is)
 
-pub last_seen : (es : List (ℤ × Vec ℤ Global)) (e : ℤ × Vec ℤ Global) → slice_get es (length es - 1) ≡ Some e → last_of (seen es) ≡ Some e.0
-last_seen [] e at = absurd cc
-last_seen (f ∷ es) e at =
-    let before : suc (length es) - 1 ≡ length es = omega arith in
-    last_there (f ∷ es) (length es) e refl (subst (λ (k : ℕ). slice_get (f ∷ es) k ≡ Some e) before at)
+  pub missed_row : AreRising rows → IsAbsent n (slice_get rows i) → row_of rows n ≡ None
+  missed_row rising absent = row_of-entry n rows ∙ entry_absent n rows rising (at_its_place (IsAbsent n) absent)
+
+  pub put_found : (vs : List ℤ) → IsOf n (slice_get rows i) → slice_set rows i (n, vs) ≡ row_put n vs rows
+  put_found vs is = ap (λ k. slice_set rows k (n, vs)) place ∙ put_over n vs rows (at_its_place (IsOf n) is) ∙ row_put-entry n vs rows
+
+  pub put_missed : (vs : List ℤ) → IsAbsent n (slice_get rows i) → insert rows i (n, vs) ≡ row_put n vs rows
+  put_missed vs absent = ap (λ k. insert rows k (n, vs)) place ∙ put_new n vs rows (at_its_place (IsAbsent n) absent) ∙ row_put-entry n vs rows
+
+  pub gone_found : IsOf n (slice_get rows i) → remove rows i ≡ row_gone n rows
+  gone_found is = ap (λ k. remove rows k) place ∙ gone_there n rows (at_its_place (IsOf n) is) ∙ row_gone-entry n rows
 
 -- ---- the greatest number
 

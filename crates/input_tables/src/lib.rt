@@ -1,6 +1,7 @@
 //! The tables that a program reads, from the text of a TOML document.
 #![tactic(auto)]
 
+mod cells;
 mod document;
 mod names;
 mod page;

@@ -1,48 +1,62 @@
 // The rows of one page.
 
-ghost use Rattle.std.specs.Prelude.{◌≡◌, ◌∷◌, [], IfOk, OnOk, OnErr, option_map};
+ghost use Rattle.std.specs.Prelude.{◌≡◌, ◌∷◌, ◌<◌, ◌≤◌, ℤ, [], IfOk, IfErr, OnOk, OnErr, Some, length, option_map, slice_get, slice_set};
+ghost use Rattle.std.specs.List.{insert, remove};
 ghost use Rattle.meaning.specs.Tables.{row_of, is_there};
 ghost use Rattle.meaning.specs.Edits.{row_put, row_gone};
-ghost use Rattle.input_tables.specs.Pages.{AreRising, last_of};
+ghost use Rattle.input_tables.specs.Pages.{lower_count, AreRising, HasRows, IsOf, IsAbsent, last_of};
+ghost use Rattle.input_tables.specs.Rows.{AreWide};
 
+use crate::cells::{cells_at, insert_row, remove_row, replace_row};
 use crate::places::{find, place_on_page};
 use std::alloc::{AllocError, Global};
 use std::marker::Model;
 
-/// Rows with their values, by rising numbers.
+/// Rows with their values, by rising numbers. The cells of all rows stand in one list, row behind row, so that a cell is one
+/// load away once its row is found, and a row takes no memory of its own.
 #[derive(Drop)]
 pub struct Page {
-    rows: Vec<(i64, Vec<i64>)>,
+    width: usize,
+    numbers: Vec<(i64, ())>,
+    cells: Vec<i64>,
 }
 
 impl Model for Page {
-    ghost use Rattle.std.specs.Prelude.{List};
-    ghost use Rattle.input_tables.specs.Rows.{Row, seen};
+    ghost use Rattle.std.specs.Prelude.{◌≡◌, ◌*◌, List, length};
+    ghost use Rattle.input_tables.specs.Rows.{Row, rows_of};
 
     ghost Value = { List Row };
 
-    ghost view = { λ page. seen page.rows.items };
+    ghost view = { λ page. rows_of page.width page.numbers.items page.cells.items };
+
+    ghost invariant = { λ page. length page.cells.items ≡ length page.numbers.items * page.width };
 }
 
 impl Page {
     /// A page of one row.
-    pub fn of_row(alloc: Global, number: i64, values: Vec<i64>) -> Result<Page, AllocError>
-        ensures { IfOk result (λ page. page ≡ (number, values.items) ∷ []) }
+    pub fn of_row(alloc: Global, number: i64, values: &[i64]) -> Result<Page, AllocError>
+        ensures { IfOk result (λ page. page ≡ (number, values.now) ∷ []) }
     {
-        let mut rows = Vec::new(alloc);
-        match rows.push((number, values)) {
-            Ok(()) => Ok(Page { rows }),
+        let cells = Vec::from_slice(alloc, values)?;
+        let mut numbers = Vec::new(alloc);
+        match numbers.push((number, ())) {
+            Ok(()) => Ok(Page {
+                width: values.len(),
+                numbers,
+                cells,
+            }),
             Err(_) => Err(AllocError),
         }
     }
 
     /// The values of the row of this number.
+    #[inline(always)]
     pub fn get(&self, number: i64) -> Option<&[i64]>
         requires { AreRising self.now }
         ensures { option_map (λ values. values.now) result ≡ row_of self.now number }
     {
-        match find(&self.rows, number, place_on_page(number)) {
-            Ok(place) => Some(&self.rows[place].1),
+        match self.find(number) {
+            Ok(place) => Some(self.values_at(place)),
             Err(_) => None,
         }
     }
@@ -51,28 +65,28 @@ impl Page {
     pub fn last(&self) -> Option<i64>
         ensures { result ≡ last_of self.now }
     {
-        match self.rows.last() {
+        match self.numbers.last() {
             Some(row) => Some(row.0),
             None => None,
         }
     }
 
     /// Puts a row in the place of the one of its number, and says whether there was one.
-    pub fn put(&mut self, number: i64, values: Vec<i64>) -> Result<bool, AllocError>
-        requires { AreRising self.old }
+    pub fn put(&mut self, number: i64, values: &[i64]) -> Result<bool, AllocError>
+        requires rising { AreRising self.old }
+        requires rows { HasRows self.old }
+        requires wide { AreWide (length values.now) self.old }
         ensures there { IfOk result (λ there. there ≡ is_there (row_of self.old number)) }
-        ensures put { OnOk result (self.new ≡ row_put number values.items self.old) }
+        ensures put { OnOk result (self.new ≡ row_put number values.now self.old) }
         ensures same { OnErr result (self.new ≡ self.old) }
     {
-        match find(&self.rows, number, place_on_page(number)) {
+        match self.find(number) {
             Ok(place) => {
-                self.rows[place] = (number, values);
+                self.replace_at(place, values);
                 Ok(true)
             }
             Err(place) => {
-                if self.rows.insert(place, (number, values)).is_err() {
-                    return Err(AllocError);
-                }
+                self.insert_at(place, number, values)?;
                 Ok(false)
             }
         }
@@ -84,12 +98,71 @@ impl Page {
         ensures there { result ≡ is_there (row_of self.old number) }
         ensures gone { self.new ≡ row_gone number self.old }
     {
-        match find(&self.rows, number, place_on_page(number)) {
+        match self.find(number) {
             Ok(place) => {
-                self.rows.remove(place);
+                self.remove_at(place);
                 true
             }
             Err(_) => false,
         }
+    }
+
+    // Where the row of this number stands, or else where it is to be put.
+    #[inline(always)]
+    fn find(&self, number: i64) -> Result<usize, usize>
+        requires { AreRising self.now }
+        ensures place { IfOk result (λ place. place ≡ lower_count number self.now) }
+        ensures within { IfOk result (λ place. place < length self.now) }
+        ensures there { IfOk result (λ place. IsOf number (slice_get self.now place)) }
+        ensures new_place { IfErr result (λ place. place ≡ lower_count number self.now) }
+        ensures upto_end { IfErr result (λ place. place ≤ length self.now) }
+        ensures absent { IfErr result (λ place. IsAbsent number (slice_get self.now place)) }
+    {
+        find(&self.numbers, number, place_on_page(number))
+    }
+
+    // The values of the row at a place.
+    #[inline(always)]
+    fn values_at(&self, place: usize) -> &[i64]
+        requires { place < length self.now }
+        ensures { option_map (λ row. row.1) (slice_get self.now place) ≡ Some result.now }
+    {
+        cells_at(&self.cells, place, self.width)
+    }
+
+    // Other values for the row at a place.
+    fn replace_at(&mut self, place: usize, values: &[i64])
+        requires within { place < length self.old }
+        requires wide { AreWide (length values.now) self.old }
+        ensures { (number : ℤ) → IsOf number (slice_get self.old place) → self.new ≡ slice_set self.old place (number, values.now) }
+    {
+        replace_row(&mut self.cells, place, values);
+    }
+
+    // One more row, in front of those from a place on.
+    fn insert_at(&mut self, place: usize, number: i64, values: &[i64]) -> Result<(), AllocError>
+        requires upto_end { place ≤ length self.old }
+        requires rows { HasRows self.old }
+        requires wide { AreWide (length values.now) self.old }
+        ensures put { OnOk result (self.new ≡ insert self.old place (number, values.now)) }
+        ensures same { OnErr result (self.new ≡ self.old) }
+    {
+        if self.numbers.insert(place, (number, ())).is_err() {
+            return Err(AllocError);
+        }
+        if insert_row(&mut self.cells, place, values).is_err() {
+            self.numbers.remove(place);
+            return Err(AllocError);
+        }
+        Ok(())
+    }
+
+    // The row at a place goes.
+    fn remove_at(&mut self, place: usize)
+        requires { place < length self.old }
+        ensures { self.new ≡ remove self.old place }
+    {
+        self.numbers.remove(place);
+        remove_row(&mut self.cells, place, self.width);
     }
 }

@@ -6,6 +6,7 @@ ghost use Rattle.input_tables.specs.Pages.{lower_count, page_of, AreRising, IsOf
 const PAGE_ROWS: i64 = 64;
 
 /// The number of the page that covers a row. No row has a number below 0, so there is no page of those.
+#[inline(always)]
 pub fn page_of(row: i64) -> i64
     ensures { result ≡ page_of row }
 {
@@ -13,6 +14,7 @@ pub fn page_of(row: i64) -> i64
 }
 
 /// Where a row stands in its page, if those before it on the page are all there.
+#[inline(always)]
 pub fn place_on_page(row: i64) -> usize {
     if row < 0 {
         0
@@ -22,11 +24,13 @@ pub fn place_on_page(row: i64) -> usize {
 }
 
 /// Where a page stands, if those before it are all there.
+#[inline(always)]
 pub fn place_among_pages(page: i64) -> usize {
     if page < 0 { 0 } else { page as usize }
 }
 
 /// Where the entry of this number stands, or else where it is to be put. It is quick where the entry stands at `guess`.
+#[inline(always)]
 pub fn find<T>(entries: &[(i64, T)], number: i64, guess: usize) -> Result<usize, usize>
     requires { AreRising entries.now }
     ensures place { IfOk result (λ place. place ≡ lower_count number entries.now) }
@@ -50,6 +54,7 @@ pub fn find<T>(entries: &[(i64, T)], number: i64, guess: usize) -> Result<usize,
 }
 
 // How many entries have lower numbers.
+#[inline(always)]
 fn lower_count<T>(entries: &[(i64, T)], number: i64, guess: usize) -> usize
     requires { AreRising entries.now }
     ensures { result ≡ lower_count number entries.now }

@@ -1,10 +1,10 @@
 // The rows of a table by their numbers.
 
-ghost use Rattle.std.specs.Prelude.{◌≡◌, pos, [], true, IfOk, OnOk, OnErr, option_map};
+ghost use Rattle.std.specs.Prelude.{◌≡◌, pos, [], true, IfOk, OnOk, OnErr, length, option_map};
 ghost use Rattle.meaning.specs.Tables.{row_of, above_all, is_there};
 ghost use Rattle.monoid_laws.specs.Kinds.{Fits};
 ghost use Rattle.meaning.specs.Edits.{row_put, row_gone, in_range};
-ghost use Rattle.input_tables.specs.Rows.{AreCells};
+ghost use Rattle.input_tables.specs.Rows.{AreCells, AreWide};
 ghost use Rattle.input_tables.specs.Edited.{RowsFit};
 
 use crate::page::Page;
@@ -59,6 +59,7 @@ impl Rows {
     }
 
     /// The values of the row of this number.
+    #[inline(always)]
     pub fn get(&self, number: i64) -> Option<&[i64]>
         ensures { option_map (λ values. values.now) result ≡ row_of self.now number }
     {
@@ -97,13 +98,14 @@ impl Rows {
     }
 
     /// Puts a row in the place of the one of its number, and says whether there was one.
-    pub fn put(&mut self, number: i64, values: Vec<i64>) -> Result<bool, AllocError>
-        requires { in_range number ≡ true }
+    pub fn put(&mut self, number: i64, values: &[i64]) -> Result<bool, AllocError>
+        requires range { in_range number ≡ true }
+        requires wide { AreWide (length values.now) self.old }
         ensures there { IfOk result (λ there. there ≡ is_there (row_of self.old number)) }
-        ensures put { OnOk result (self.new ≡ row_put number values.items self.old) }
+        ensures put { OnOk result (self.new ≡ row_put number values.now self.old) }
         ensures same { OnErr result (self.new ≡ self.old) }
     {
-        values_fit(&values);
+        values_fit(values);
         let page = page_of(number);
         match find(&self.pages, page, place_among_pages(page)) {
             Ok(place) => self.pages[place].1.put(number, values),

@@ -1,10 +1,11 @@
 // The columns and rows of a table in a document.
 
-ghost use Rattle.std.specs.Prelude.{◌≡◌, [], true, IfOk, IfErr, IfSome, Some, map, string_bytes, option_map, ◌++◌, ◌∷◌, OnOk};
+ghost use Rattle.std.specs.Prelude.{◌≡◌, [], true, IfOk, IfErr, IfSome, Some, map, string_bytes, option_map, ◌++◌, ◌∷◌, OnOk, length};
 ghost use Rattle.toml.specs.View.{view, items_view, array_view, table_view};
 ghost use Rattle.meaning.specs.Edits.{in_range};
 ghost use Rattle.input_tables.specs.Shapes.{new_column, columns_from, columns_in, integers_from, number_in, values_in, row_in, row_at, with_row, rows_from, array_at, given};
 ghost use Rattle.input_tables.specs.Faults.{IsFaulty};
+ghost use Rattle.input_tables.specs.Rows.{AreWide};
 ghost use Rattle.toml.specs.Data.{as_str, as_array};
 
 use crate::names::{index_of, is_name};
@@ -80,40 +81,46 @@ pub fn is_row_number(number: i64) -> bool
 }
 
 // The integers that an array holds.
-fn integers_in(alloc: Global, items: &[Value]) -> Result<Vec<i64>, Fault>
-    ensures read { IfOk result (λ numbers. integers_from [] (items_view items.now) ≡ Some numbers.items) }
+fn integers_in(numbers: &mut Vec<i64>, items: &[Value]) -> Result<(), Fault>
+    ensures read { OnOk result (integers_from [] (items_view items.now) ≡ Some numbers.new.items) }
+    ensures many { OnOk result (length numbers.new.items ≡ length items.now) }
     ensures refused { IfErr result (IsFaulty (integers_from [] (items_view items.now))) }
 {
-    let mut numbers = Vec::with_capacity(alloc, items.len())?;
+    numbers.clear();
     for item in items {
         match item.as_integer() {
             Some(number) => numbers.push(number)?,
             None => return Err(Fault::Shape),
         }
     }
-    Ok(numbers)
+    Ok(())
 }
 
-// One value for each of so many columns.
-fn values_in(alloc: Global, items: &[Value], columns: usize) -> Result<Vec<i64>, Fault>
-    ensures read { IfOk result (λ values. values_in columns (items_view items.now) ≡ Some values.items) }
+// One value for each of so many columns, in the list that is handed in: all rows of a table are read through one list.
+fn values_in(values: &mut Vec<i64>, items: &[Value], columns: usize) -> Result<(), Fault>
+    ensures read { OnOk result (values_in columns (items_view items.now) ≡ Some values.new.items) }
+    ensures wide { OnOk result (length values.new.items ≡ columns) }
     ensures refused { IfErr result (IsFaulty (values_in columns (items_view items.now))) }
 {
     if items.len() != columns {
         return Err(Fault::Shape);
     }
-    integers_in(alloc, items)
+    integers_in(values, items)
 }
 
-// The number of a row and its values.
-fn row_in(alloc: Global, items: &[Value], columns: usize) -> Result<(i64, Vec<i64>), Fault>
-    ensures read { IfOk result (λ row. row_in columns (items_view items.now) ≡ Some (row.0, row.1.items)) }
-    ensures number { IfOk result (λ row. in_range row.0 ≡ true) }
+// The number of a row, and its values in the list that is handed in.
+fn row_in(values: &mut Vec<i64>, items: &[Value], columns: usize) -> Result<i64, Fault>
+    ensures read { IfOk result (λ number. row_in columns (items_view items.now) ≡ Some (number, values.new.items)) }
+    ensures number { IfOk result (λ number. in_range number ≡ true) }
+    ensures wide { OnOk result (length values.new.items ≡ columns) }
     ensures refused { IfErr result (IsFaulty (row_in columns (items_view items.now))) }
 {
     match items.split_first() {
         Some((first, rest)) => match number_in(first) {
-            Some(number) => Ok((number, values_in(alloc, rest, columns)?)),
+            Some(number) => {
+                values_in(values, rest, columns)?;
+                Ok(number)
+            }
             None => Err(Fault::Shape),
         },
         None => Err(Fault::Shape),
@@ -121,22 +128,25 @@ fn row_in(alloc: Global, items: &[Value], columns: usize) -> Result<(i64, Vec<i6
 }
 
 // The row that an item of a table's rows is.
-fn row_at(alloc: Global, item: &Value, columns: usize) -> Result<(i64, Vec<i64>), Fault>
-    ensures read { IfOk result (λ row. row_at columns (view item.now) ≡ Some (row.0, row.1.items)) }
-    ensures number { IfOk result (λ row. in_range row.0 ≡ true) }
+fn row_at(values: &mut Vec<i64>, item: &Value, columns: usize) -> Result<i64, Fault>
+    ensures read { IfOk result (λ number. row_at columns (view item.now) ≡ Some (number, values.new.items)) }
+    ensures number { IfOk result (λ number. in_range number ≡ true) }
+    ensures wide { OnOk result (length values.new.items ≡ columns) }
     ensures refused { IfErr result (IsFaulty (row_at columns (view item.now))) }
 {
     match item.as_array() {
-        Some(items) => row_in(alloc, items, columns),
+        Some(items) => row_in(values, items, columns),
         None => Err(Fault::Shape),
     }
 }
 
 // One more row, whose number is new.
-fn add_row(rows: &mut Rows, number: i64, values: Vec<i64>) -> Result<(), Fault>
-    requires { in_range number ≡ true }
-    ensures read { OnOk result (with_row rows.old (number, values.items) ≡ Some rows.new) }
-    ensures refused { IfErr result (IsFaulty (with_row rows.old (number, values.items))) }
+fn add_row(rows: &mut Rows, number: i64, values: &[i64]) -> Result<(), Fault>
+    requires range { in_range number ≡ true }
+    requires wide { AreWide (length values.now) rows.old }
+    ensures read { OnOk result (with_row rows.old (number, values.now) ≡ Some rows.new) }
+    ensures wide { OnOk result (AreWide (length values.now) rows.new) }
+    ensures refused { IfErr result (IsFaulty (with_row rows.old (number, values.now))) }
 {
     if rows.put(number, values)? {
         return Err(Fault::Shape);
@@ -144,15 +154,32 @@ fn add_row(rows: &mut Rows, number: i64, values: Vec<i64>) -> Result<(), Fault>
     Ok(())
 }
 
+// One more row out of an item of a table's rows.
+fn add_item(
+    rows: &mut Rows,
+    values: &mut Vec<i64>,
+    item: &Value,
+    columns: usize,
+) -> Result<(), Fault>
+    requires { AreWide columns rows.old }
+    ensures read { OnOk result (given (row_at columns (view item.now)) (with_row rows.old) ≡ Some rows.new) }
+    ensures wide { OnOk result (AreWide columns rows.new) }
+    ensures refused { IfErr result (IsFaulty (given (row_at columns (view item.now)) (with_row rows.old))) }
+{
+    let number = row_at(values, item, columns)?;
+    add_row(rows, number, values)
+}
+
 /// The rows that an array holds, each with so many values.
 pub fn rows_in(alloc: Global, items: &[Value], columns: usize) -> Result<Rows, Fault>
     ensures read { IfOk result (λ rows. rows_from columns [] (items_view items.now) ≡ Some rows) }
+    ensures wide { IfOk result (λ rows. AreWide columns rows) }
     ensures refused { IfErr result (IsFaulty (rows_from columns [] (items_view items.now))) }
 {
     let mut rows = Rows::new(alloc);
+    let mut values = Vec::with_capacity(alloc, columns)?;
     for item in items {
-        let (number, values) = row_at(alloc, item, columns)?;
-        add_row(&mut rows, number, values)?;
+        add_item(&mut rows, &mut values, item, columns)?;
     }
     Ok(rows)
 }

@@ -26,12 +26,15 @@ pub struct Table {
 }
 
 impl Model for Table {
-    ghost use Rattle.std.specs.Prelude.{map, string_bytes};
+    ghost use Rattle.std.specs.Prelude.{length, map, string_bytes};
+    ghost use Rattle.input_tables.specs.Rows.{AreWide};
     ghost use Rattle.meaning.specs.Tables.{Listed};
 
     ghost Value = { Listed };
 
     ghost view = { λ t. record { called = string_bytes t.name; columns = map string_bytes t.columns.items; rows = t.rows } };
+
+    ghost invariant = { λ t. AreWide (length t.columns.items) t.rows };
 }
 
 impl Table {
@@ -79,6 +82,7 @@ impl Table {
     }
 
     /// The value of a row in the column of this number.
+    #[inline(always)]
     pub fn cell(&self, row: i64, column: usize) -> Option<i64>
         ensures { result ≡ at_column (row_of self.now.rows row) column }
     {
@@ -110,10 +114,11 @@ impl Table {
     }
 
     /// Puts a row in the place of the one of its number.
-    pub fn put(&mut self, row: i64, values: Vec<i64>) -> Result<(), AllocError>
-        requires { in_range row ≡ true }
+    pub fn put(&mut self, row: i64, values: &[i64]) -> Result<(), AllocError>
+        requires range { in_range row ≡ true }
+        requires wide { length values.now ≡ length self.old.columns }
         ensures put { OnOk result (self.new ≡ with_rows self.old
-            (row_put row values.items self.old.rows)) }
+            (row_put row values.now self.old.rows)) }
         ensures same { OnErr result (self.new ≡ self.old) }
     {
         self.rows.put(row, values)?;

@@ -195,7 +195,8 @@ impl Tables {
     {
         match self.table_to_put(table, row, values.len()) {
             Ok(number) => {
-                let values = Vec::from_slice(alloc, values)?;
+                // Pages take their memory where their table's rows do, so no list is made here.
+                let _ = alloc;
                 self.put_at(number, row, values)?;
                 Ok(())
             }
@@ -226,6 +227,7 @@ impl Tables {
     fn table_to_put(&self, name: &str, row: i64, values: usize) -> Result<usize, EditError>
         ensures found { IfOk result (λ number. number ≡ index_of (names_of self.now.tables) name.now) }
         ensures within { IfOk result (λ number. number < length self.now.tables) }
+        ensures wide { IfOk result (λ number. values ≡ length (columns_at self.now.tables number)) }
         ensures range { OnOk result (in_range row ≡ true) }
         ensures room { OnOk result (self.now.edits < 18446744073709551615) }
         ensures allowed { OnOk result ((program : Revised) (lines : List Lined) (vs : List ℤ) → length vs ≡ values
@@ -275,11 +277,12 @@ impl Tables {
     }
 
     // Puts a row into the table of a number, and counts the edit.
-    fn put_at(&mut self, number: usize, row: i64, values: Vec<i64>) -> Result<(), AllocError>
+    fn put_at(&mut self, number: usize, row: i64, values: &[i64]) -> Result<(), AllocError>
         requires within { number < length self.old.tables }
+        requires wide { length values.now ≡ length (columns_at self.old.tables number) }
         requires range { in_range row ≡ true }
         requires room { self.old.edits < 18446744073709551615 }
-        ensures tables { OnOk result (self.new.tables ≡ changed_at (row_into row values.items) self.old.tables number) }
+        ensures tables { OnOk result (self.new.tables ≡ changed_at (row_into row values.now) self.old.tables number) }
         ensures edits { OnOk result (self.new.edits ≡ suc self.old.edits) }
         ensures same { OnErr result (self.new ≡ self.old) }
     {
