@@ -86,13 +86,6 @@ impl Notes {
         self.readings.clear();
     }
 
-    /// Makes room for so many more.
-    pub fn reserve(&mut self, more: usize) -> Result<(), AllocError>
-        ensures same { self.new ≡ self.old }
-    {
-        self.readings.reserve(more)
-    }
-
     /// Adds copies of others; where memory is refused none.
     pub fn add_all(&mut self, others: &Notes) -> Result<(), AllocError>
         ensures added { OnOk result (self.new ≡ self.old ++ others.now) }

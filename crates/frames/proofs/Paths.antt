@@ -26,7 +26,7 @@ use Rattle.positions.specs.Activations.{PlainActivation, bound, waiting, outside
 use Rattle.positions.specs.Layers.{PlainLayer, noting, entering}
 use Rattle.positions.specs.Strands.{PlainStrand, is_entry}
 use Rattle.positions.specs.Advance.{noted, answered, evaluated, performed, gone_by, gone, worked, advanced, advanced_at, closed, owns_top, started_as, called_as, called, in_phase, giving, turned, turn_by, left_to, pushed, faulted, child_of}
-use Rattle.frames.specs.Ends.{Notes}
+use Rattle.frames.specs.Ends.{HasNoted}
 use Rattle.frames.specs.Steps.{nested_plain, entered_plain}
 use Rattle.frames.specs.declared.leaf.Did.{Did}
 use Rattle.frames.specs.declared.leaf.Did.TheVariants.{Nothing, Next, Moved, Gave}
@@ -43,7 +43,7 @@ take_all (x ∷ xs) = ap (λ ys. x ∷ ys) (take_all xs)
 pub forget_noted : (ns : List Note) (l m : PlainLayer) → m ≡ noting ns l → record m { notes = take (length l.notes) m.notes } ≡ l
 forget_noted ns l m e = ap (λ (k : PlainLayer). record k { notes = take (length l.notes) k.notes }) e ∙ ap (λ xs. record l { notes = xs }) (take-append_seam l.notes ns)
 
-pub forget_stopped : {A B : Type 0} (view : B → A) (o : NumberedOut A) (l m : PlainLayer) (e : Stop) → Notes view o l m (Err e) → record m { notes = take (length l.notes) m.notes } ≡ l
+pub forget_stopped : {A B : Type 0} (view : B → A) (o : NumberedOut A) (l m : PlainLayer) (e : Stop) → HasNoted view o l m (Err e) → record m { notes = take (length l.notes) m.notes } ≡ l
 forget_stopped view o l m (Fault k) h = forget_noted o.notes l m h.1
 forget_stopped view o l m NoMemory h = ap (λ (k : PlainLayer). record k { notes = take (length l.notes) k.notes }) h ∙ ap (λ xs. record l { notes = xs }) (take_all l.notes)
 

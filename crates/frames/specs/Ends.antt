@@ -8,10 +8,10 @@ use Rattle.positions.specs.Strands.{PlainStrand}
 use Rattle.positions.specs.Advance.{noted, evaluated}
 
 -- a layer has noted what the evaluation read, which ends as that; where memory is refused it is as it was
-abbrev pub Notes : {A B : Type 0} → (B → A) → NumberedOut A → PlainLayer → PlainLayer → Result B Stop → Type 0
-Notes view o old new (Ok b) = (o.answer ≡ Ok (view b)) × (new ≡ noting o.notes old)
-Notes view o old new (Err (Fault k)) = (o.answer ≡ Err k) × (new ≡ noting o.notes old)
-Notes view o old new (Err NoMemory) = new ≡ old
+abbrev pub HasNoted : {A B : Type 0} → (B → A) → NumberedOut A → PlainLayer → PlainLayer → Result B Stop → Type 0
+HasNoted view o old new (Ok b) = (o.answer ≡ Ok (view b)) × (new ≡ noting o.notes old)
+HasNoted view o old new (Err (Fault k)) = (o.answer ≡ Err k) × (new ≡ noting o.notes old)
+HasNoted view o old new (Err NoMemory) = new ≡ old
 
 -- a layer has noted what the evaluation read, which has that answer
 abbrev pub Fills : {A : Type 0} → NumberedOut A → A → PlainLayer → PlainLayer → Type 0

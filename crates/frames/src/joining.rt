@@ -31,10 +31,13 @@ impl<V: View> Layer<V> {
         ensures right_kept { OnErr result (right.new ≡ record right.old { worths = right.new.worths }) }
         ensures product { OnErr result (operate_all self.old.kinds self.new.worths right.new.worths ≡ operate_all self.old.kinds self.old.worths right.old.worths) }
     {
-        self.notes.reserve(right.notes.len())?;
         self.shared.reserve(right.shared.len())?;
-        self.hypermap.fold(&mut right.hypermap)?;
-        let _ = self.notes.add_all(&right.notes);
+        let before = self.notes.len();
+        self.notes.add_all(&right.notes)?;
+        if self.hypermap.fold(&mut right.hypermap).is_err() {
+            self.notes.truncate(before);
+            return Err(AllocError);
+        }
         append_shared(&mut self.shared, &mut right.shared);
         flag_all(&mut self.entered, &right.entered);
         self.deepest = self.deepest.max(right.deepest);

@@ -6,7 +6,7 @@ ghost use Rattle.linked_program.specs.CodeView.{expression as plain};
 ghost use Rattle.meaning.specs.Statements.{number_of};
 ghost use Rattle.evaluation.specs.Values.{value_at, values_at, entry_at, bounds_at};
 ghost use Rattle.positions.specs.Layers.{blank, entering, updating, multiplied};
-ghost use Rattle.frames.specs.Ends.{Notes, Fills};
+ghost use Rattle.frames.specs.Ends.{Fills, HasNoted};
 ghost use Rattle.frames.specs.Ready.{laid_over};
 
 use crate::activation::Activation;
@@ -128,7 +128,7 @@ impl<V: View> Layer<V> {
         slots: &[Slot],
         tables: &Tables,
     ) -> Result<i64, Stop>
-        ensures notes { Notes (λ v. v) (value_at tables.now.tables slots.now (plain expression.now)) self.old self.new result }
+        ensures notes { HasNoted (λ v. v) (value_at tables.now.tables slots.now (plain expression.now)) self.old self.new result }
     {
         value(expression, slots, tables, &mut self.notes)
     }
@@ -142,7 +142,7 @@ impl<V: View> Layer<V> {
         slots: &[Slot],
         tables: &Tables,
     ) -> Result<(i64, i64), Stop>
-        ensures notes { Notes (λ p. p.0 ∷ p.1 ∷ []) (values_at tables.now.tables slots.now (plain first.now ∷ plain second.now ∷ [])) self.old self.new result }
+        ensures notes { HasNoted (λ p. p.0 ∷ p.1 ∷ []) (values_at tables.now.tables slots.now (plain first.now ∷ plain second.now ∷ [])) self.old self.new result }
     {
         two_values(first, second, slots, tables, &mut self.notes)
     }
@@ -155,7 +155,7 @@ impl<V: View> Layer<V> {
         tables: &Tables,
         numbers: &mut Vec<i64>,
     ) -> Result<(), Stop>
-        ensures notes { Notes (λ u. numbers.new.items) (values_at tables.now.tables slots.now (map plain expressions.now)) self.old self.new result }
+        ensures notes { HasNoted (λ u. numbers.new.items) (values_at tables.now.tables slots.now (map plain expressions.now)) self.old self.new result }
     {
         values(expressions, slots, tables, numbers, &mut self.notes)
     }
@@ -171,7 +171,7 @@ impl<V: View> Layer<V> {
         tables: &Tables,
     ) -> Result<Vec<Slot>, Stop>
         requires empty { room.items ≡ [] }
-        ensures notes { Notes (λ v. v.items) (entry_at tables.now.tables slots.now size (map plain arguments.now)) self.old self.new result }
+        ensures notes { HasNoted (λ v. v.items) (entry_at tables.now.tables slots.now size (map plain arguments.now)) self.old self.new result }
     {
         entry_slots(room, size, arguments, slots, tables, &mut self.notes)
     }
@@ -186,7 +186,7 @@ impl<V: View> Layer<V> {
         arguments: &[Expression],
         tables: &Tables,
     ) -> Result<(), Stop>
-        ensures notes { Notes (λ u. child.new.slots) (entry_at tables.now.tables top.now.slots size (map plain arguments.now)) self.old self.new result }
+        ensures notes { HasNoted (λ u. child.new.slots) (entry_at tables.now.tables top.now.slots size (map plain arguments.now)) self.old self.new result }
     {
         child.fill(size, arguments, top.slots(), tables, &mut self.notes)
     }
@@ -203,7 +203,7 @@ impl<V: View> Layer<V> {
         arguments: &[Expression],
         tables: &Tables,
     ) -> Result<(), Stop>
-        ensures notes { Notes (λ u. child.new.slots) (entry_at tables.now.tables (laid_over meanwhile top.old.slots) size (map plain arguments.now)) self.old self.new result }
+        ensures notes { HasNoted (λ u. child.new.slots) (entry_at tables.now.tables (laid_over meanwhile top.old.slots) size (map plain arguments.now)) self.old self.new result }
         ensures top { top.new ≡ top.old }
     {
         match meanwhile {
@@ -250,7 +250,7 @@ impl<V: View> Layer<V> {
         slots: &[Slot],
         tables: &Tables,
     ) -> Result<LoopRange, Stop>
-        ensures notes { Notes (λ r. (r.low, r.count)) (bounds_at tables.now.tables slots.now (plain low.now) (plain high.now)) self.old self.new result }
+        ensures notes { HasNoted (λ r. (r.low, r.count)) (bounds_at tables.now.tables slots.now (plain low.now) (plain high.now)) self.old self.new result }
     {
         bounds(low, high, slots, tables, &mut self.notes)
     }

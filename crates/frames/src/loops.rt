@@ -8,7 +8,7 @@ ghost use Rattle.positions.specs.Activations.{ShareFits};
 ghost use Rattle.positions.specs.Code.{loop_at, PlainLoop};
 ghost use Rattle.positions.specs.Advance.{evaluated, looping, split, halved, second_half, nested_memo, turned, turn_by, turn_slots, left_of as first_half_of, right_of as second_half_of, rest_of as later_of};
 ghost use Rattle.frames.specs.Given.{lent};
-ghost use Rattle.frames.specs.Ends.{Evaluates, Notes};
+ghost use Rattle.frames.specs.Ends.{Evaluates, HasNoted};
 ghost use Rattle.frames.specs.Steps.{GivesNone, HoldsBy, IsSupplied, IsValued, KeepsKits, nested_plain};
 
 use crate::activation::{Activation, next_of};
@@ -402,7 +402,7 @@ impl<V: View> Machine<V> {
         number: Slot,
         numbers: &mut Vec<i64>,
     ) -> Result<(), Stop>
-        ensures notes { Notes (λ u. numbers.new.items) (values_at tables.now.tables (slice_set self.old.top.slots variable number) (map plain arguments.now)) self.old.layer self.new.layer result }
+        ensures notes { HasNoted (λ u. numbers.new.items) (values_at tables.now.tables (slice_set self.old.top.slots variable number) (map plain arguments.now)) self.old.layer self.new.layer result }
         ensures rest { self.new ≡ record self.old { layer = self.new.layer } }
     {
         let held = self.top.exchange(variable, number);
@@ -449,7 +449,7 @@ impl<V: View> Machine<V> {
         variable: usize,
         number: Slot,
     ) -> Result<Vec<Slot>, Stop>
-        ensures notes { Notes (λ v. v.items) (entry_at tables.now.tables (slice_set self.old.top.slots variable number) size (map plain arguments.now)) self.old.layer self.new.layer result }
+        ensures notes { HasNoted (λ v. v.items) (entry_at tables.now.tables (slice_set self.old.top.slots variable number) size (map plain arguments.now)) self.old.layer self.new.layer result }
         ensures rest { self.new ≡ record self.old { layer = self.new.layer } }
     {
         let room = self.spares.slots(alloc);
