@@ -4,6 +4,7 @@ Rows are light or heavy: a row's value is its quantity times its price, or what 
 the quantity, times the price.
 """
 import dataclasses
+import os
 
 STEPS = 24
 # How many turns of a put and a run a session has: fewer for who does all rows at each run, and over many rows.
@@ -131,6 +132,13 @@ def askers_of(program, by_hand, rows, weight, room):
     def hand(title, how, turns):
         return Asker(f"Rust, {title}", how, (by_hand, how, weight, tables), turns)
 
+    def rayon():
+        """main.rt.txt, where run.sh has built it. It starts its threads anew at each run, and none over fewer than 2,048 rows."""
+        program = f"{room}/rayon"
+        if os.path.exists(program):
+            title = "rayon (the kit's port), up to two threads a processor"
+            yield Asker(title, "rayon", (program, weight, tables), FEW_TURNS)
+
     def sqlite(title, name, turns):
         return Asker(f"sqlite3, {title}", name, ("sqlite3", "-batch", ":memory:"), turns, is_sqlite=True)
 
@@ -140,6 +148,7 @@ def askers_of(program, by_hand, rows, weight, room):
         hand("a loop over all rows", "loop", FEW_TURNS),
         hand("the same by 2 threads", "threads=2", FEW_TURNS),
         hand("the same by 4 threads", "threads=4", FEW_TURNS),
+        *rayon(),
         hand("a HashMap of the rows' values", "memo", FEW_TURNS),
         hand("a tree of sums", "tree", turns_of_some),
         sqlite("a query of all rows", "query", FEW_TURNS),
