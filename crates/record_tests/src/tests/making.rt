@@ -5,12 +5,12 @@ ghost use Rattle.rerun_records.specs.Doubted.{IsInStep};
 ghost use Rattle.rerun_records.specs.Validity.{record_holds};
 
 use evaluation::note::Note;
+use evaluation::reading::readings;
 use input_tables::Tables;
 use linked_program::checked::Checked;
 use monoid_laws::Val;
 use procedure_parser::parse;
 use rerun_records::key::Key;
-use rerun_records::reading::readings;
 use rerun_records::readings::Readings;
 use rerun_records::record::Record;
 use rerun_records::records::Records;

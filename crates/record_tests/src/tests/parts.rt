@@ -2,8 +2,8 @@
 
 use super::making::{LINES, cell, checked, committed, reads_of, sales, second_line};
 use evaluation::note::Note;
+use evaluation::reading::readings;
 use monoid_laws::Val;
-use rerun_records::reading::readings;
 use rerun_records::record::Record;
 use std::alloc::Global;
 use std::process::Abort;

@@ -1,8 +1,8 @@
 //! What a record takes.
 
 use evaluation::note::Note;
+use evaluation::reading::Reading;
 use monoid_laws::Val;
-use rerun_records::reading::Reading;
 use rerun_records::record::Record;
 use std::mem::size_of;
 

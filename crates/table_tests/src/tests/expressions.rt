@@ -3,6 +3,7 @@
 use super::documents::SALES;
 use evaluation::entry::{entry_slots, fill_slots};
 use evaluation::note::Note;
+use evaluation::notes::Notes;
 use evaluation::ranges::bounds;
 use evaluation::slot::Slot;
 use evaluation::stop::Stop;
@@ -62,8 +63,22 @@ fn gives(
     wanted: Result<i64, Stop>,
     readings: &[Note],
 ) -> bool {
-    let mut notes = Vec::new(alloc);
-    value(expression, &[slot], tables, &mut notes) == wanted && notes.as_slice() == readings
+    let mut notes = Notes::new(alloc);
+    value(expression, &[slot], tables, &mut notes) == wanted && are(&notes, readings)
+}
+
+/// Whether the notes are these.
+fn are(notes: &Notes, wanted: &[Note]) -> bool {
+    if notes.len() != wanted.len() {
+        return false;
+    }
+    for number in 0..wanted.len() {
+        match notes.readings().get(number) {
+            Some(reading) if reading.note() == wanted[number] => {}
+            _ => return false,
+        }
+    }
+    true
 }
 
 /// A cell of row 2 that was read.
@@ -146,7 +161,7 @@ fn give(
     readings: usize,
 ) -> bool {
     let mut numbers = Vec::new(alloc);
-    let mut notes = Vec::new(alloc);
+    let mut notes = Notes::new(alloc);
     let ended = values(arguments, &[Slot::Has(3)], tables, &mut numbers, &mut notes);
     let right = match wanted {
         Ok(wanted) => ended.is_ok() && numbers.as_slice() == wanted,
@@ -177,9 +192,9 @@ fn give_two(
     wanted: Result<(i64, i64), Stop>,
     readings: &[Note],
 ) -> bool {
-    let mut notes = Vec::new(alloc);
+    let mut notes = Notes::new(alloc);
     let ended = two_values(first, second, &[Slot::Has(2)], tables, &mut notes);
-    ended == wanted && notes.as_slice() == readings
+    ended == wanted && are(&notes, readings)
 }
 
 /// A fault in the second expression leaves what the first one has read noted.
@@ -199,7 +214,7 @@ fn two_values_from_left_to_right(rt: HostRuntime) {
 
 /// Whether an instance of so many names that is entered with 5 and a limit has these slots, and so many readings are noted.
 fn enters(alloc: Global, size: usize, tables: &Tables, slots: &[Slot], readings: usize) -> bool {
-    let mut notes = Vec::new(alloc);
+    let mut notes = Notes::new(alloc);
     let arguments = [Expression::Number(5), Expression::Limit(0)];
     match entry_slots(Vec::new(alloc), size, &arguments, &[], tables, &mut notes) {
         Ok(found) => found.as_slice() == slots && notes.len() == readings,
@@ -234,7 +249,8 @@ fn fills(
     let tables = Tables::from_toml(alloc, SALES).expect(rt, "tables");
     let longer = [Slot::Has(9), Slot::Waits(1), Slot::Has(8), Slot::Unset];
     let mut made = Vec::from_slice(alloc, &longer).expect(rt, "memory");
-    let mut notes = Vec::from_slice(alloc, &[found(4, false)]).expect(rt, "memory");
+    let mut notes = Notes::new(alloc);
+    notes.add(&found(4, false)).expect(rt, "memory");
     let ended = fill_slots(
         &mut made,
         3,
@@ -243,7 +259,7 @@ fn fills(
         &tables,
         &mut notes,
     );
-    ended.is_ok() && made.as_slice() == slots && notes.as_slice() == readings
+    ended.is_ok() && made.as_slice() == slots && are(&notes, readings)
 }
 
 /// Its arguments are five more than a slot, and a cell.
@@ -260,7 +276,7 @@ fn slots_in_place_of_others(rt: HostRuntime) {
 
 /// Whether a loop between two numbers has so many iterations from the lower one on, or this fault.
 fn ranges(alloc: Global, low: i64, high: i64, wanted: Result<u32, Stop>) -> bool {
-    let mut notes = Vec::new(alloc);
+    let mut notes = Notes::new(alloc);
     let from = Expression::Number(low);
     let to = Expression::Number(high);
     match bounds(&from, &to, &[], &Tables::new(alloc), &mut notes) {
@@ -282,4 +298,31 @@ fn ranges_of_loops(rt: HostRuntime) {
     ] {
         assert!(rt; ranges(rt.alloc(), low, high, wanted));
     }
+}
+
+/// Notes are kept in order: some are added, one by one and all of another list, and the last are forgotten.
+#[test]
+fn notes_are_kept_in_order(rt: HostRuntime) {
+    let mut notes = Notes::new(rt.alloc());
+    assert!(&rt; notes.is_empty());
+    notes.add(&read(0, 3)).expect(&rt, "memory");
+    notes.add(&found(4, false)).expect(&rt, "memory");
+    let mut more = Notes::new(rt.alloc());
+    more.add(&Note::Limit { table: 2, value: 9 })
+        .expect(&rt, "memory");
+    more.add_all(&notes).expect(&rt, "memory");
+    assert!(&rt;
+        are(
+            &more,
+            &[
+                Note::Limit { table: 2, value: 9 },
+                read(0, 3),
+                found(4, false)
+            ]
+        )
+    );
+    more.truncate(2);
+    assert!(&rt; are(&more, &[Note::Limit { table: 2, value: 9 }, read(0, 3)]));
+    more.clear();
+    assert!(&rt; more.is_empty() && !notes.is_empty());
 }
