@@ -4,8 +4,8 @@
 # alone and by threads; the kit's port of rayon; a HashMap in Rust of what each row came to; a tree of sums in Rust; and sqlite3, by a
 # query of all rows and by triggers that keep the total. Each ratio is that to the first line. All are run in turn, and the least is
 # taken of several sessions of each: processor time, and time by the clock, which on a busy machine is that of what else is done too.
-# The answers are compared. Takes rustc, gcc, sqlite3 and python3, and rt, without which the line of rayon is left out. That line gains
-# by rt's compiling for x86-64-v2: heavy rows take half the time there that they take with the instructions of rustc's default.
+# The answers are compared. Rust is compiled for x86-64-v2, as rt compiles: heavy rows take twice the time with the instructions of
+# rustc's default. Takes rustc, gcc, sqlite3 and python3, and rt, without which the line of rayon is left out.
 #
 # usage: run.sh [PROGRAM] [ROWS ..]      by default ./cilkreport as it is built, and 1000 10000 100000 1000000 rows
 set -eu
@@ -29,7 +29,7 @@ build_rayon() {
     )
 }
 
-rustc -O --edition 2024 -o "$room/by_hand" "$here/by_hand.rs"
+rustc -O -C target-cpu=x86-64-v2 --edition 2024 -o "$room/by_hand" "$here/by_hand.rs"
 if command -v "${RT:-rt}" > /dev/null 2>&1; then build_rayon; fi
 gcc -O2 -shared -fPIC -o "$room/marks.so" "$here/marks.c"
 echo "by $(nproc) processors, at a load of $(cut -d ' ' -f 1 /proc/loadavg)"

@@ -15,7 +15,7 @@ if [ $# -gt 0 ]; then shift; fi
 if [ $# = 0 ]; then set -- 100 1000 10000; fi
 room=$(mktemp -d)
 trap 'rm -rf "$room"' EXIT
-rustc -O --edition 2024 -o "$room/lines" "$here/lines.rs"
+rustc -O -C target-cpu=x86-64-v2 --edition 2024 -o "$room/lines" "$here/lines.rs"
 gcc -O2 -shared -fPIC -o "$room/live.so" "$here/live.c"
 source "$here/report.sh"
 report 0 0 > "$room/report"

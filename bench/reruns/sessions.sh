@@ -32,7 +32,7 @@ if [ -x "$program" ]; then askers+=(report); else echo "$program isn't there: it
 parts=(first again put line main)
 room=$(mktemp -d)
 trap 'rm -rf "$room"' EXIT
-rustc -O --edition 2024 -o "$room/lines" "$here/lines.rs"
+rustc -O -C target-cpu=x86-64-v2 --edition 2024 -o "$room/lines" "$here/lines.rs"
 source "$here/report.sh"
 report 0 0 > "$room/report"
 

@@ -12,8 +12,8 @@ if [ $# -gt 0 ]; then shift; fi
 if [ $# = 0 ]; then set -- 100000 1000000; fi
 room=$(mktemp -d)
 trap 'rm -rf "$room"' EXIT
-rustc -O --edition 2024 -o "$room/loops" "$here/loops.rs"
-rustc -O --edition 2024 -o "$room/lines" "$here/../reruns/lines.rs"
+rustc -O -C target-cpu=x86-64-v2 --edition 2024 -o "$room/loops" "$here/loops.rs"
+rustc -O -C target-cpu=x86-64-v2 --edition 2024 -o "$room/lines" "$here/../reruns/lines.rs"
 source "$here/reports.sh"
 source "$here/profile.sh"
 iterations=1000000 # of the loop without a table

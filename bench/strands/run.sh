@@ -4,7 +4,7 @@
 set -eu
 source "$(dirname "$0")/../in_a_copy.sh"
 in_a_copy strands 'frames procedure_parser spawn_checker positions view_pool linked_program input_tables monoid_laws'
-rustc -O --edition 2024 -o "$copy/strands" "$top/bench/strands/strands.rs"
+rustc -O -C target-cpu=x86-64-v2 --edition 2024 -o "$copy/strands" "$top/bench/strands/strands.rs"
 "${RT:-rt}" run # builds and proves it
 for _ in 1 2 3; do
     "$copy/strands"
