@@ -85,9 +85,9 @@ def make(crate):
 
 
 def take(folder, log):
-    """Keeps the libraries that `rt ci` has made in a clone, of each crate of which the log says that it is proved."""
+    """Keeps the libraries that `rt ci` has made in a clone, of each crate of which the log says that it is proved or kept."""
     with open(log, encoding="utf-8") as file:
-        proved = sorted(set(re.findall(r"^rt: (\w+) proved$", file.read(), re.M)))
+        proved = sorted(set(re.findall(r"^rt: (\w+) (?:proved$|is kept)", file.read(), re.M)))
     for name in proved:
         crate = rtlib.Crate(f"{folder}/crates/{name}", folder, {})
         made, room = f"{crate.folder}/out/rlib/{name}.rlib", os.path.dirname(crate.rlib)
