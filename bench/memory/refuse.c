@@ -1,13 +1,20 @@
-// A malloc before the C library's: refuses the allocation whose number REFUSED gives, and writes how many there were to the file COUNTED.
+// A malloc before the C library's: refuses the allocation whose number REFUSED gives, and makes the file REACHED then. How many there
+// were is written to the file COUNTED, where the program ends by the C library's `exit`.
 #define _GNU_SOURCE
 #include <dlfcn.h>
 #include <errno.h>
+#include <fcntl.h>
 #include <stdio.h>
 #include <stdlib.h>
+#include <unistd.h>
 static long count, refused = -1;
 static int refuses(void) {
   if (refused < 0) { const char *text = getenv("REFUSED"); refused = text ? atol(text) : 0; }
-  return ++count == refused;
+  if (++count != refused) return 0;
+  const char *name = getenv("REACHED");
+  int file = name ? open(name, O_CREAT | O_WRONLY, 0600) : -1;
+  if (file >= 0) close(file);
+  return 1;
 }
 void *malloc(size_t size) {
   static void *(*real)(size_t);
