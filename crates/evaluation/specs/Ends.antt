@@ -11,7 +11,13 @@ Ends view o old new (Ok b) = (o.answer ≡ Ok (view b)) × (new ≡ old ++ o.not
 Ends view o old new (Err (Fault k)) = (o.answer ≡ Err k) × (new ≡ old ++ o.notes)
 Ends view o old new (Err NoMemory) = new ≡ old
 
--- the same, but where memory is refused the notes are the old ones and some more
+-- an evaluation that notes nothing ends as that: with its answer or its fault; memory may be refused
+abbrev pub Answers : {A B : Type 0} → (B → A) → NumberedOut A → Result B Stop → Type 0
+Answers view o (Ok b) = o.answer ≡ Ok (view b)
+Answers view o (Err (Fault k)) = o.answer ≡ Err k
+Answers view o (Err NoMemory) = Unit {0}
+
+-- the same as Ends, but where memory is refused the notes are the old ones and some more
 abbrev pub Stops : {A B : Type 0} → (B → A) → NumberedOut A → List Note → List Note → Result B Stop → Type 0
 Stops view o old new (Ok b) = (o.answer ≡ Ok (view b)) × (new ≡ old ++ o.notes)
 Stops view o old new (Err (Fault k)) = (o.answer ≡ Err k) × (new ≡ old ++ o.notes)

@@ -10,4 +10,5 @@ pub mod ranges;
 pub mod reading;
 pub mod slot;
 pub mod stop;
+pub mod unnoted;
 pub mod values;

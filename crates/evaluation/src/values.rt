@@ -231,7 +231,7 @@ pub(crate) fn evaluated(
 
 // The value of a number, of a slot, or of an operator on two of them, where it has one; none of any other expression.
 #[inline(always)]
-fn without_reading(expression: &Expression, slots: &[Slot]) -> Option<i64>
+pub(crate) fn without_reading(expression: &Expression, slots: &[Slot]) -> Option<i64>
     ensures value { IfSome result (λ v. (all : TableList) → value_at all slots.now (plain expression.now) ≡ pure v) }
 {
     match expression {
@@ -257,7 +257,7 @@ fn joined(operator: Operator, left: i64, right: i64) -> Option<i64>
 
 // The value of a number or a slot, which reads nothing; none of any other expression.
 #[inline(always)]
-fn at_once(expression: &Expression, slots: &[Slot]) -> Option<i64>
+pub(crate) fn at_once(expression: &Expression, slots: &[Slot]) -> Option<i64>
     ensures value { IfSome result (λ v. (all : TableList) → value_at all slots.now (plain expression.now) ≡ pure v) }
 {
     match expression {
@@ -268,7 +268,7 @@ fn at_once(expression: &Expression, slots: &[Slot]) -> Option<i64>
 }
 
 // The number in a slot, and 0 where there is none.
-fn number_in(slots: &[Slot], number: usize) -> i64
+pub(crate) fn number_in(slots: &[Slot], number: usize) -> i64
     ensures { result ≡ number_of (slice_get slots.now number) }
 {
     match slots.get(number) {

@@ -1,6 +1,7 @@
 pub mod Crosses
 pub mod Worths
 pub mod Lowest
+pub mod Kept
 pub mod Slots
 pub mod Updates
 pub mod Flags

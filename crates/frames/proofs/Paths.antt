@@ -1,6 +1,5 @@
 -- Many small steps: one behind another, and what they keep.
 use Rattle.std.proofs.Common.{◌≡◌, ℕ, ◌+◌, ◌-◌, ◌==◌, ℤ, pos, Bool, true, false, if◌then◌else◌, List, [], ◌∷◌, length, take, Option, Some, None, Ok, Err, refl, sym, ap, ◌∙◌, subst}
-use Rattle.std.proofs.Math.Seq.{take-append_seam}
 use Rattle.program_tree.specs.declared.Way.TheVariants.{Call}
 use Rattle.meaning.specs.declared.FaultKind.TheVariants.{TooDeep}
 use Rattle.meaning.specs.Elision.{depth_limit}
@@ -25,7 +24,7 @@ use Rattle.positions.specs.Setting.{Setting}
 use Rattle.positions.specs.Activations.{PlainActivation, bound, waiting, outside, at, next_of}
 use Rattle.positions.specs.Layers.{PlainLayer, noting, entering}
 use Rattle.positions.specs.Strands.{PlainStrand, is_entry}
-use Rattle.positions.specs.Advance.{noted, answered, evaluated, performed, gone_by, gone, worked, advanced, advanced_at, closed, owns_top, started_as, called_as, called, in_phase, giving, turned, turn_by, left_to, pushed, faulted, child_of}
+use Rattle.positions.specs.Advance.{noted, answered, evaluated, performed, gone_by, worked, advanced, advanced_at, closed, owns_top, started_as, called_as, called, in_phase, giving, turned, turn_by, left_to, pushed, faulted, child_of}
 use Rattle.frames.specs.Ends.{HasNoted}
 use Rattle.frames.specs.Steps.{nested_plain, entered_plain}
 use Rattle.frames.specs.declared.leaf.Did.{Did}
@@ -33,15 +32,12 @@ use Rattle.frames.specs.declared.leaf.Did.TheVariants.{Nothing, Next, Moved, Gav
 use Rattle.frames.specs.declared.ahead.Came.{Came}
 use Rattle.frames.specs.declared.ahead.Came.TheVariants.{Nowhere, Back, Stays}
 use Rattle.frames.specs.Paths.{IsNext, IsPath, here, on, IsAhead, MayPass, topped, ComesTo, Does, CameBy}
+use Rattle.frames.proofs.Kept.{first_kept, take_all}
 use Rattle.frames.proofs.Refusals.{path_back}
 
 -- readings that are forgotten again
-take_all : {A : Type 0} (xs : List A) → take (length xs) xs ≡ xs
-take_all [] = refl
-take_all (x ∷ xs) = ap (λ ys. x ∷ ys) (take_all xs)
-
 pub forget_noted : (ns : List Note) (l m : PlainLayer) → m ≡ noting ns l → record m { notes = take (length l.notes) m.notes } ≡ l
-forget_noted ns l m e = ap (λ (k : PlainLayer). record k { notes = take (length l.notes) k.notes }) e ∙ ap (λ xs. record l { notes = xs }) (take-append_seam l.notes ns)
+forget_noted ns l m e = ap (λ (k : PlainLayer). record k { notes = take (length l.notes) k.notes }) e ∙ ap (λ xs. record l { notes = xs }) (first_kept l.keeps l.notes ns)
 
 pub forget_stopped : {A B : Type 0} (view : B → A) (o : NumberedOut A) (l m : PlainLayer) (e : Stop) → HasNoted view o l m (Err e) → record m { notes = take (length l.notes) m.notes } ≡ l
 forget_stopped view o l m (Fault k) h = forget_noted o.notes l m h.1

@@ -10,6 +10,7 @@ use Rattle.positions.specs.Layers.{PlainLayer}
 use Rattle.positions.specs.Strands.{PlainStrand, shorter}
 use Rattle.positions.specs.Advance.{noted, pushed, with_arguments}
 use Rattle.frames.specs.Steps.{revalued, revalued_first, IsValued, took_back}
+use Rattle.frames.proofs.Kept.{first_kept}
 
 lower_same : (ls : List PlainLayer) → ls ≡ revalued_first ls ls
 lower_same [] = refl
@@ -34,7 +35,7 @@ on_err P Q f (Err e) h = f h
 pub forgotten_valued : (s n : PlainStrand) (ns : List Note) → IsValued (noted ns s) n → IsValued s (record n { layer = record n.layer { notes = take (length s.layer.notes) n.layer.notes } })
 forgotten_valued s n ns e =
     ap (λ (u : PlainStrand). record u { layer = record u.layer { notes = take (length s.layer.notes) u.layer.notes } }) e
-    ∙ ap (λ ms. record s { layer = record s.layer { worths = n.layer.worths; notes = ms }; lower = revalued_first s.lower n.lower }) (take-append_seam s.layer.notes ns)
+    ∙ ap (λ ms. record s { layer = record s.layer { worths = n.layer.worths; notes = ms }; lower = revalued_first s.lower n.lower }) (first_kept s.layer.keeps s.layer.notes ns)
 
 -- the arguments are those of before again
 pub arguments_back : (s n : PlainStrand) (vs : List ℤ) → IsValued (with_arguments vs s) n → IsValued s (with_arguments s.arguments n)

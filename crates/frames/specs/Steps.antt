@@ -38,7 +38,7 @@ pub record IsStepOf (setting : Setting) (kit : Bool) (old new : PlainStrand) : T
 
 -- the topmost instance with a layer of its own, whose reducers are of these kinds, for a program of so many procedures
 abbrev pub opened_in : List Kind → ℕ → PlainStrand → PlainStrand
-opened_in kinds procedures s = begun (record s { layer = blank kinds procedures; lower = s.layer ∷ s.lower; tally = opening (opened_of s) s.tally })
+opened_in kinds procedures s = begun (record s { layer = blank true kinds procedures; lower = s.layer ∷ s.lower; tally = opening (opened_of s) s.tally })
 
 -- a child of a procedure that isn't marked memo is called or spawned
 abbrev pub entered_plain : Way → Option ℕ → Work → ℕ → List Slot → PlainStrand → PlainStrand

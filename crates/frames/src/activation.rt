@@ -2,7 +2,7 @@
 ghost use Rattle.std.specs.Prelude.{◌≡◌, ◌+◌, ◌-◌, ◌<◌, ◌^◌, length, OnErr, OnOk, None, IfOk, map, [], slice_get, slice_set};
 ghost use Rattle.evaluation.specs.declared.slot.Slot.TheVariants.{Has, Waits};
 ghost use Rattle.linked_program.specs.CodeView.{expression as plain};
-ghost use Rattle.evaluation.specs.Ends.{Ends};
+ghost use Rattle.evaluation.specs.Ends.{Answers, Ends};
 ghost use Rattle.evaluation.specs.Values.{entry_at};
 ghost use Rattle.positions.specs.Activations.{WorkFits, bound, at, waiting, made, first_of, inside, outside, next_of};
 ghost use Rattle.frames.specs.Ready.{restored_slots};
@@ -13,6 +13,7 @@ use evaluation::entry::fill_slots;
 use evaluation::notes::Notes;
 use evaluation::slot::Slot;
 use evaluation::stop::Stop;
+use evaluation::unnoted;
 use input_tables::Tables;
 use linked_program::code::Expression;
 use positions::work::{Position, Work};
@@ -91,6 +92,20 @@ impl Activation {
         ensures ends { Ends (λ u. self.new.slots) (entry_at tables.now.tables slots.now size (map plain arguments.now)) notes.old notes.new result }
     {
         fill_slots(&mut self.slots, size, arguments, slots, tables, notes)
+    }
+
+    /// The same, where nothing is noted.
+    #[inline(always)]
+    pub(crate) fn fill_unnoted(
+        &mut self,
+        size: usize,
+        arguments: &[Expression],
+        slots: &[Slot],
+        tables: &Tables,
+    ) -> Result<(), Stop>
+        ensures answer { Answers (λ u. self.new.slots) (entry_at tables.now.tables slots.now size (map plain arguments.now)) result }
+    {
+        unnoted::fill_slots(&mut self.slots, size, arguments, slots, tables)
     }
 
     /// Begins as an instance of that procedure, with the slots that it has.

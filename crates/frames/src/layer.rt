@@ -6,7 +6,7 @@ ghost use Rattle.linked_program.specs.CodeView.{expression as plain};
 ghost use Rattle.meaning.specs.Statements.{number_of};
 ghost use Rattle.evaluation.specs.Values.{value_at, values_at, entry_at, bounds_at};
 ghost use Rattle.positions.specs.Layers.{blank, entering, updating, multiplied};
-ghost use Rattle.frames.specs.Ends.{Fills, HasNoted};
+ghost use Rattle.frames.specs.Ends.{Fills, HasNoted, settled};
 ghost use Rattle.frames.specs.Ready.{laid_over};
 
 use crate::activation::Activation;
@@ -16,6 +16,7 @@ use evaluation::notes::Notes;
 use evaluation::ranges::{LoopRange, bounds};
 use evaluation::slot::Slot;
 use evaluation::stop::Stop;
+use evaluation::unnoted;
 use evaluation::values::{two_values, value, values};
 use hypermaps::Hypermap;
 use input_tables::Tables;
@@ -26,10 +27,11 @@ use std::alloc::{AllocError, Global};
 use std::marker::Model;
 use view_pool::{Kit, View};
 
-/// The reducers' views, what was read, what the instances have read that were recorded or answered meanwhile, for each procedure
-/// whether it was entered, and the greatest depth of an instance.
+/// Whether readings are kept, the reducers' views, what was read, what the instances have read that were recorded or answered
+/// meanwhile, for each procedure whether it was entered, and the greatest depth of an instance.
 #[derive(Drop)]
 pub struct Layer<V: View = Box<dyn View>> {
+    keeps: bool,
     pub(crate) hypermap: Hypermap<V>,
     pub(crate) notes: Notes,
     pub(crate) shared: Vec<Readings>,
@@ -43,40 +45,44 @@ impl<V: View> Model for Layer<V> {
 
     ghost Value = { PlainLayer };
 
-    ghost view = { λ l. record { kinds = l.hypermap.kinds; worths = l.hypermap.worths; notes = l.notes; shared = all_of l.shared.items; entered = l.entered.items; deepest = l.deepest } };
+    ghost view = { λ l. record { keeps = l.keeps; kinds = l.hypermap.kinds; worths = l.hypermap.worths; notes = l.notes; shared = all_of l.shared.items; entered = l.entered.items; deepest = l.deepest } };
 }
 
 impl<V: View> Layer<V> {
-    /// A layer that has noted nothing, for a program of so many procedures; refused for want of memory alone, and then the kit
-    /// is handed back.
+    /// A layer that has noted nothing, and keeps readings or not, for a program of so many procedures; refused for want of memory
+    /// alone, and then the kit is handed back.
     pub(crate) fn open(
         alloc: Global,
         kit: Kit<V>,
+        keeps: bool,
         procedures: usize,
     ) -> Result<Layer<V>, (AllocError, Kit<V>)>
-        ensures open { IfOk result (λ layer. layer ≡ blank kit procedures) }
+        ensures open { IfOk result (λ layer. layer ≡ blank keeps kit procedures) }
         ensures handed_back { IfErr result (λ e. e.1 ≡ kit) }
     {
-        Layer::open_in(alloc, kit, procedures, Notes::new(alloc), Vec::new(alloc))
+        let notes = Notes::new(alloc);
+        Layer::open_in(alloc, kit, keeps, procedures, notes, Vec::new(alloc))
     }
 
     /// The same, in those empty lists.
     pub(crate) fn open_in(
         alloc: Global,
         kit: Kit<V>,
+        keeps: bool,
         procedures: usize,
         notes: Notes,
         mut entered: Vec<bool>,
     ) -> Result<Layer<V>, (AllocError, Kit<V>)>
         requires no_notes { notes ≡ [] }
         requires no_flags { entered.items ≡ [] }
-        ensures open { IfOk result (λ layer. layer ≡ blank kit procedures) }
+        ensures open { IfOk result (λ layer. layer ≡ blank keeps kit procedures) }
         ensures handed_back { IfErr result (λ e. e.1 ≡ kit) }
     {
         if entered.resize(procedures, false).is_err() {
             return Err((AllocError, kit));
         }
         Ok(Layer {
+            keeps,
             hypermap: Hypermap::open(alloc, kit),
             notes,
             shared: Vec::new(alloc),
@@ -120,8 +126,19 @@ impl<V: View> Layer<V> {
         self.notes.truncate(readings);
     }
 
+    /// Forgets the readings behind so many first ones, unless readings are kept.
+    #[inline(always)]
+    fn settle(&mut self, before: usize)
+        ensures settled { self.new ≡ settled before self.old }
+    {
+        if !self.keeps {
+            self.notes.truncate(before);
+        }
+    }
+
     /// The value of an expression.
     #[inline(always)]
+    #[tactic(auto, using(crate::proofs::Kept::noted_is, crate::proofs::Kept::unnoted_is))]
     pub(crate) fn value(
         &mut self,
         expression: &Expression,
@@ -130,11 +147,15 @@ impl<V: View> Layer<V> {
     ) -> Result<i64, Stop>
         ensures notes { HasNoted (λ v. v) (value_at tables.now.tables slots.now (plain expression.now)) self.old self.new result }
     {
-        value(expression, slots, tables, &mut self.notes)
+        if self.keeps {
+            return value(expression, slots, tables, &mut self.notes);
+        }
+        unnoted::value(expression, slots, tables)
     }
 
     /// The values of two expressions.
     #[inline(always)]
+    #[tactic(auto, using(crate::proofs::Kept::noted_is, crate::proofs::Kept::unnoted_is))]
     pub(crate) fn pair(
         &mut self,
         first: &Expression,
@@ -144,10 +165,14 @@ impl<V: View> Layer<V> {
     ) -> Result<(i64, i64), Stop>
         ensures notes { HasNoted (λ p. p.0 ∷ p.1 ∷ []) (values_at tables.now.tables slots.now (plain first.now ∷ plain second.now ∷ [])) self.old self.new result }
     {
-        two_values(first, second, slots, tables, &mut self.notes)
+        if self.keeps {
+            return two_values(first, second, slots, tables, &mut self.notes);
+        }
+        unnoted::two_values(first, second, slots, tables)
     }
 
     /// The values of expressions, in place of what `numbers` held.
+    #[tactic(auto, using(crate::proofs::Kept::noted_settled))]
     pub(crate) fn values(
         &mut self,
         expressions: &[Expression],
@@ -157,11 +182,15 @@ impl<V: View> Layer<V> {
     ) -> Result<(), Stop>
         ensures notes { HasNoted (λ u. numbers.new.items) (values_at tables.now.tables slots.now (map plain expressions.now)) self.old self.new result }
     {
-        values(expressions, slots, tables, numbers, &mut self.notes)
+        let before = self.notes.len();
+        let outcome = values(expressions, slots, tables, numbers, &mut self.notes);
+        self.settle(before);
+        outcome
     }
 
     /// The slots of an instance that is entered with these arguments, in that empty list.
     #[inline(always)]
+    #[tactic(auto, using(crate::proofs::Kept::noted_settled))]
     pub(crate) fn entry(
         &mut self,
         room: Vec<Slot>,
@@ -173,11 +202,15 @@ impl<V: View> Layer<V> {
         requires empty { room.items ≡ [] }
         ensures notes { HasNoted (λ v. v.items) (entry_at tables.now.tables slots.now size (map plain arguments.now)) self.old self.new result }
     {
-        entry_slots(room, size, arguments, slots, tables, &mut self.notes)
+        let before = self.notes.len();
+        let outcome = entry_slots(room, size, arguments, slots, tables, &mut self.notes);
+        self.settle(before);
+        outcome
     }
 
     /// Puts the slots of an instance that is entered with these arguments in place, over the topmost instance's slots.
     #[inline(always)]
+    #[tactic(auto, using(crate::proofs::Kept::noted_is, crate::proofs::Kept::unnoted_is))]
     pub(crate) fn fill(
         &mut self,
         child: &mut Activation,
@@ -188,7 +221,10 @@ impl<V: View> Layer<V> {
     ) -> Result<(), Stop>
         ensures notes { HasNoted (λ u. child.new.slots) (entry_at tables.now.tables top.now.slots size (map plain arguments.now)) self.old self.new result }
     {
-        child.fill(size, arguments, top.slots(), tables, &mut self.notes)
+        if self.keeps {
+            return child.fill(size, arguments, top.slots(), tables, &mut self.notes);
+        }
+        child.fill_unnoted(size, arguments, top.slots(), tables)
     }
 
     /// The same, where a slot may hold something else meanwhile.
@@ -243,6 +279,7 @@ impl<V: View> Layer<V> {
     }
 
     /// A loop's range.
+    #[tactic(auto, using(crate::proofs::Kept::noted_settled))]
     pub(crate) fn bounds(
         &mut self,
         low: &Expression,
@@ -252,7 +289,10 @@ impl<V: View> Layer<V> {
     ) -> Result<LoopRange, Stop>
         ensures notes { HasNoted (λ r. (r.low, r.count)) (bounds_at tables.now.tables slots.now (plain low.now) (plain high.now)) self.old self.new result }
     {
-        bounds(low, high, slots, tables, &mut self.notes)
+        let before = self.notes.len();
+        let outcome = bounds(low, high, slots, tables, &mut self.notes);
+        self.settle(before);
+        outcome
     }
 
     /// An instance of that procedure is entered at that depth.

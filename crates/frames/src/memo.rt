@@ -172,7 +172,7 @@ impl<V: View> Machine<V> {
         };
         let notes = self.spares.notes(alloc);
         let flags = self.spares.flags(alloc);
-        let layer = match Layer::open_in(alloc, kit, program.codes().len(), notes, flags) {
+        let layer = match Layer::open_in(alloc, kit, true, program.codes().len(), notes, flags) {
             Ok(layer) => layer,
             Err(refused) => return Err(refused),
         };

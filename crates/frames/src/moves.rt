@@ -1,10 +1,12 @@
 // Strands that begin, and what is taken out of a strand and put back.
 ghost use Rattle.std.specs.Prelude.{◌≡◌, ◌∷◌, [], List, IfOk, IfErr, length};
+ghost use Rattle.std.specs.List.{list_any};
 ghost use Rattle.evaluation.specs.Slots.{slots_for};
 ghost use Rattle.meaning.specs.Tables.{Tables};
 ghost use Rattle.meaning.specs.Records.{Kept};
 ghost use Rattle.rerun_records.specs.Record.{PlainRecord};
 ghost use Rattle.positions.specs.Setting.{Setting, setting_with};
+ghost use Rattle.positions.specs.Code.{may_record};
 ghost use Rattle.positions.specs.Simulation.{IsFirst, IsStolen, IsInlined, IsDetached, IsAttached, IsResumed, IsUpdateNext};
 ghost use Rattle.positions.specs.Advance.{next_statement};
 ghost use Rattle.positions.specs.Moves.{first_strand, stolen, stolen_with, inlined, detached, attached, returned_of, resumed, is_update_there, at_update};
@@ -18,7 +20,7 @@ use crate::tally::Tally;
 use crate::task::Task;
 use evaluation::slot::Slot;
 use linked_program::checked::Checked;
-use linked_program::code::Operation;
+use linked_program::code::{Code, Operation};
 use positions::phase::Phase;
 use positions::start::Start;
 use positions::work::{Position, Work};
@@ -36,6 +38,30 @@ fn unset(alloc: Global, size: usize) -> Result<Vec<Slot>, AllocError>
     let mut slots = Vec::new(alloc);
     slots.resize(size, Slot::Unset)?;
     Ok(slots)
+}
+
+/// Whether a run may make records: some procedure is marked `memo`.
+fn may_record(program: &Checked) -> bool
+    ensures may { result ≡ may_record program.now.codes }
+{
+    is_one_recorded(program.codes())
+}
+
+fn is_one_recorded(codes: &[Code]) -> bool
+    ensures recorded { result ≡ list_any (λ c. c.memo) codes.now }
+{
+    for code in codes {
+        if is_recorded(code) {
+            return true;
+        }
+    }
+    false
+}
+
+fn is_recorded(code: &Code) -> bool
+    ensures recorded { result ≡ code.now.memo }
+{
+    code.memo
 }
 
 impl<V: View> Strand<V> {
@@ -155,7 +181,7 @@ impl<V: View> Machine<V> {
             Ok(slots) => slots,
             Err(AllocError) => return Err((AllocError, kit)),
         };
-        let layer = match Layer::open(alloc, kit, program.codes().len()) {
+        let layer = match Layer::open(alloc, kit, may_record(program), program.codes().len()) {
             Ok(layer) => layer,
             Err(refused) => return Err(refused),
         };
@@ -187,7 +213,7 @@ impl<V: View> Machine<V> {
         ensures task_back { IfErr result (λ e. e.1 ≡ task) }
         ensures kit_back { IfErr result (λ e. e.2 ≡ kit) }
     {
-        let layer = match Layer::open(alloc, kit, program.codes().len()) {
+        let layer = match Layer::open(alloc, kit, may_record(program), program.codes().len()) {
             Ok(layer) => layer,
             Err((error, kit)) => return Err((error, task, kit)),
         };

@@ -29,7 +29,7 @@ use Rattle.positions.specs.Advance.{begun, reused, passed, opened, opened_of, re
 use Rattle.positions.specs.Stands.{AreNotes, IsOpened, IsTally, IsStart, AreBodies, acts_at, IsTodo, IsTodoAt, AreParents, IsNewInstance, HasArguments, IsRunning, frame_of}
 use Rattle.positions.proofs.Evaluations.{strand_at, Comes}
 use Rattle.positions.proofs.Layering.{top_none, blank_is, notes_entered, top_noted}
-use Rattle.positions.proofs.Places.{memo_at, body_at, found_at}
+use Rattle.positions.proofs.Places.{recorded_somewhere, memo_at, body_at, found_at}
 use Rattle.positions.proofs.Products.{absorbed}
 use Rattle.positions.proofs.Recorded.{answered}
 use Rattle.positions.proofs.Starts.{start_moved}
@@ -141,13 +141,14 @@ module _ (setting : Setting) (tables : HasItsTables setting) (linked : IsLinked 
       arguments = args_are;
       left = refl;
       depth = refl;
+      recorded = recorded_somewhere setting.codes a.procedure (memo_at setting linked.codes a.procedure ∙ ap (λ p. p.memo) (found_at setting f a.procedure new.procedure) ∙ memo);
     }
 
     opened_is : Reaches (opened setting here) (moved (layer_of setting.program.tree setting.tables (lookup_of setting) true acc true) (Begins path level ∷ Marks f vs false ∷ Enters f vs level ∷ []) (with_layer true fr) (running (blocks (body ∷ []))) under)
     opened_is = record {
       start = runs_from;
       layers = (
-        notes_entered setting (blank setting.kinds (length setting.codes)) (definitions.blank setting.program.tree) f vs a.procedure level new.procedure (blank_is setting linked),
+        notes_entered setting (blank true setting.kinds (length setting.codes)) (definitions.blank setting.program.tree) f vs a.procedure level new.procedure (blank_is setting true (sym opened_one.recorded) linked),
         subst (AreNotes setting (l ∷ lower)) (sym (top_none ls)) hl,
       );
       tally = record { opened = (opened_one, counts.opened); made = counts.made; executed = ap suc counts.executed; reused = counts.reused; unrecorded = counts.unrecorded };

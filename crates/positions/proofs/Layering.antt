@@ -18,7 +18,8 @@ use Rattle.evaluation.specs.declared.note.Note.{Note}
 use Rattle.evaluation.specs.Numbers.{numbered, readings, OnlyReads}
 use Rattle.positions.specs.Setting.{Setting, IsLinked}
 use Rattle.rerun_records.specs.Named.{SameMembers}
-use Rattle.positions.specs.Layers.{PlainLayer, blank, flagged, noting, entering, updated_by, updating, lowest}
+use Rattle.positions.specs.Code.{may_record}
+use Rattle.positions.specs.Layers.{PlainLayer, blank, flagged, kept_behind, noting, entering, updated_by, updating, lowest}
 use Rattle.positions.specs.Stands.{IsNotes, AreNotes}
 use Rattle.positions.proofs.Members.{members_same, members_then, members_append, members_by_parts}
 
@@ -55,23 +56,27 @@ flagged_append flags (q ∷ ps) p = flagged_append (slice_set flags q true) ps p
 
 module _ (setting : Setting) where
   -- readings behind those that the layer has noted itself
-  more_read : (l : PlainLayer) (n : Notes) (rs : List Note) → IsNotes setting l n → SameMembers ((l.notes ++ rs) ++ l.shared) (map (numbered setting.names) n.read ++ rs)
-  more_read l n rs i =
+  more_read : (l : PlainLayer) (n : Notes) (rs : List Note) → IsNotes setting l n → l.keeps ≡ true → SameMembers ((l.notes ++ rs) ++ l.shared) (map (numbered setting.names) n.read ++ rs)
+  more_read l n rs i keeps =
       let old : List Note = map (numbered setting.names) n.read in
       members_then ((l.notes ++ rs) ++ l.shared) ((l.notes ++ l.shared) ++ rs) (old ++ rs)
       (subst (λ us. SameMembers ((l.notes ++ rs) ++ us) ((l.notes ++ l.shared) ++ rs)) (append-nil l.shared)
       (subst (λ us. SameMembers ((l.notes ++ rs) ++ (l.shared ++ [])) ((l.notes ++ l.shared) ++ us)) (append-nil rs) (members_by_parts l.notes l.shared rs [])))
-      (members_append (l.notes ++ l.shared) old rs rs i.notes (members_same rs rs refl))
+      (members_append (l.notes ++ l.shared) old rs rs (i.notes keeps) (members_same rs rs refl))
 
   pub notes_read : (l : PlainLayer) (n : Notes) (log : Log) → OnlyReads log → IsNotes setting l n
       → IsNotes setting (noting (map (numbered setting.names) (readings log)) l) (definitions.noted n log)
   notes_read l n log h i =
       subst (IsNotes setting (noting (map (numbered setting.names) (readings log)) l)) (sym (noted_reads n log h))
       (record {
+        keeps = i.keeps;
         kinds = i.kinds;
         worths = i.worths;
         each = i.each;
-        notes = subst (SameMembers ((l.notes ++ map (numbered setting.names) (readings log)) ++ l.shared)) (sym (map-append (numbered setting.names) n.read (readings log))) (more_read l n (map (numbered setting.names) (readings log)) i);
+        notes = λ keeps.
+            subst (λ b. SameMembers (kept_behind b l.notes (map (numbered setting.names) (readings log)) ++ l.shared) (map (numbered setting.names) (n.read ++ readings log))) (sym keeps)
+            (subst (SameMembers ((l.notes ++ map (numbered setting.names) (readings log)) ++ l.shared)) (sym (map-append (numbered setting.names) n.read (readings log)))
+            (more_read l n (map (numbered setting.names) (readings log)) i keeps));
         entered = i.entered;
         deepest = i.deepest;
       })
@@ -79,6 +84,7 @@ module _ (setting : Setting) where
   pub notes_entered : (l : PlainLayer) (n : Notes) (f : Name) (args : List ℤ) (p depth : ℕ) → procedure_number (procedures setting.program.tree) f ≡ p → IsNotes setting l n
       → IsNotes setting (entering p depth l) (noted_one n (Enters f args depth))
   notes_entered l n f args p depth e i = record {
+    keeps = i.keeps;
     kinds = i.kinds;
     worths = i.worths;
     each = i.each;
@@ -102,6 +108,7 @@ module _ (setting : Setting) where
   pub notes_updated : (l : PlainLayer) (n : Notes) (r : ℕ) (kind : Kind) (vs : List ℤ) → IsNotes setting l n
       → IsNotes setting (updating r kind vs l) (noted_one n (Updates r kind (element_of kind vs)))
   notes_updated l n r kind vs i = record {
+    keeps = i.keeps;
     kinds = i.kinds;
     worths = ap (λ ws. updated ws r kind (element_of kind vs) (slice_get ws r)) i.worths ∙ updated_is r kind vs l.worths (slice_get l.worths r);
     each = updated_each r kind vs l.worths (slice_get l.worths r) ∙ i.each;
@@ -147,12 +154,13 @@ module _ (setting : Setting) where
   same_identities [] = refl
   same_identities (r ∷ reds) = ap (λ ws. identity_of r.kind ∷ ws) (same_identities reds)
 
-  pub blank_is : IsLinked setting → IsNotes setting (blank setting.kinds (length setting.codes)) (definitions.blank setting.program.tree)
-  blank_is linked = record {
+  pub blank_is : (keeps : Bool) → keeps ≡ may_record setting.codes → IsLinked setting → IsNotes setting (blank keeps setting.kinds (length setting.codes)) (definitions.blank setting.program.tree)
+  blank_is keeps e linked = record {
+    keeps = e;
     kinds = linked.kinds;
     worths = same_identities (reducers setting.program.tree) ∙ ap identities (sym linked.kinds);
     each = length-map setting.kinds identity_of;
-    notes = members_same [] [] refl;
+    notes = λ k. members_same [] [] refl;
     entered = ap (λ n. replicate n false) (as_many setting.codes (procedures setting.program.tree) linked.codes);
     deepest = refl;
   }

@@ -22,6 +22,7 @@ use Rattle.positions.specs.declared.phase.Phase.{Phase}
 use Rattle.positions.specs.declared.phase.Phase.TheVariants as phase
 use Rattle.positions.specs.Setting.{Setting, IsLinked}
 use Rattle.positions.specs.Activations.{PlainActivation, bound, made, first_of}
+use Rattle.positions.specs.Code.{may_record}
 use Rattle.positions.specs.Layers.{PlainLayer, lowest}
 use Rattle.positions.specs.Tallies.{no_tally as plain_no_tally}
 use Rattle.positions.specs.Strands.{PlainStrand, PlainTask, shorter}
@@ -225,7 +226,7 @@ module _ (setting : Setting) where
     pub stolen_is : (task : PlainTask) → IsStolen setting task (stolen setting.codes setting.kinds task)
     stolen_is task k h = record {
       start = (ap (λ fr. fr.instance) h.parent.frame ∙ sym (take-take (length task.place - 1) (length task.place - 1) task.place (omega arith)), h.child, short);
-      layers = (blank_is setting linked, tt);
+      layers = (blank_is setting (may_record setting.codes) refl linked, tt);
       tally = nothing_counted;
       now = record {
         todo = k.parent.todo;
@@ -245,7 +246,7 @@ module _ (setting : Setting) where
     pub first_is : (entry : ℕ) → entry ≡ main_number setting.program.tree → IsFirst setting (first_strand setting.codes setting.kinds entry)
     first_is entry e = record {
       start = tt;
-      layers = (blank_is setting linked, tt);
+      layers = (blank_is setting (may_record setting.codes) refl linked, tt);
       tally = nothing_counted;
       now = record {
         child = instance main [];

@@ -79,10 +79,10 @@ module _ (setting : Setting) where
   none_entered = replicate (length (procedures setting.program.tree)) false
 
   -- what a record keeps of a layer's readings
-  pub kept_reads_are : (l : PlainLayer) (n : Notes) → IsNotes setting l n → SameMembers (kept_reads l) (map (numbered setting.names) n.read)
-  kept_reads_are l n h =
+  pub kept_reads_are : (l : PlainLayer) (n : Notes) → IsNotes setting l n → l.keeps ≡ true → SameMembers (kept_reads l) (map (numbered setting.names) n.read)
+  kept_reads_are l n h keeps =
       members_then (kept_reads l) (l.notes ++ l.shared) (map (numbered setting.names) n.read)
-      (members_append (once l.notes) l.notes l.shared l.shared (once_is l.notes) (members_same l.shared l.shared refl)) h.notes
+      (members_append (once l.notes) l.notes l.shared l.shared (once_is l.notes) (members_same l.shared l.shared refl)) (h.notes keeps)
 
   module _ (l : PlainLayer) (n : Notes) (h : IsNotes setting l n) where
     length_kinds : length l.kinds ≡ length (reducers setting.program.tree)
@@ -97,24 +97,29 @@ module _ (setting : Setting) where
         ∙ ap (λ ks. operate_all ks l.worths ws) (sym h.kinds)
 
     -- readings behind all that the layer has
-    read_behind : (rs us : List Note) → SameMembers rs us → SameMembers ((l.notes ++ l.shared) ++ rs) (map (numbered setting.names) n.read ++ us)
-    read_behind rs us = members_append (l.notes ++ l.shared) (map (numbered setting.names) n.read) rs us h.notes
+    read_behind : l.keeps ≡ true → (rs us : List Note) → SameMembers rs us → SameMembers ((l.notes ++ l.shared) ++ rs) (map (numbered setting.names) n.read ++ us)
+    read_behind keeps rs us = members_append (l.notes ++ l.shared) (map (numbered setting.names) n.read) rs us (h.notes keeps)
 
     -- readings that it shares
-    shared_behind : (rs : List Note) (us : List Reading) → SameMembers rs (map (numbered setting.names) us) → SameMembers (l.notes ++ (l.shared ++ rs)) (map (numbered setting.names) (n.read ++ us))
-    shared_behind rs us e =
+    shared_behind : l.keeps ≡ true → (rs : List Note) (us : List Reading) → SameMembers rs (map (numbered setting.names) us) → SameMembers (l.notes ++ (l.shared ++ rs)) (map (numbered setting.names) (n.read ++ us))
+    shared_behind keeps rs us e =
         subst (SameMembers (l.notes ++ (l.shared ++ rs))) (sym (map-append (numbered setting.names) n.read us))
-        (subst (λ vs. SameMembers vs (map (numbered setting.names) n.read ++ map (numbered setting.names) us)) (append_assoc l.notes l.shared rs) (read_behind rs (map (numbered setting.names) us) e))
+        (subst (λ vs. SameMembers vs (map (numbered setting.names) n.read ++ map (numbered setting.names) us)) (append_assoc l.notes l.shared rs) (read_behind keeps rs (map (numbered setting.names) us) e))
+
+    -- a layer behind it keeps what was read too
+    keeps_too : (r : PlainLayer) (m : Notes) → IsNotes setting r m → l.keeps ≡ true → r.keeps ≡ true
+    keeps_too r m i keeps = i.keeps ∙ sym h.keeps ∙ keeps
 
     pub notes_multiplied : (r : PlainLayer) (m : Notes) → IsNotes setting r m → IsNotes setting (multiplied l r) (definitions.multiplied setting.program.tree n m)
     notes_multiplied r m i = record {
+      keeps = h.keeps;
       kinds = h.kinds;
       worths = worths_behind r.worths m.worth i.worths (i.each ∙ ap length (i.kinds ∙ sym h.kinds));
       each = length_operated l.kinds l.worths r.worths h.each (i.each ∙ ap length (i.kinds ∙ sym h.kinds));
-      notes =
+      notes = λ keeps.
           subst (SameMembers ((l.notes ++ r.notes) ++ (l.shared ++ r.shared))) (sym (map-append (numbered setting.names) n.read m.read))
           (members_then ((l.notes ++ r.notes) ++ (l.shared ++ r.shared)) ((l.notes ++ l.shared) ++ (r.notes ++ r.shared)) (map (numbered setting.names) n.read ++ map (numbered setting.names) m.read)
-          (members_by_parts l.notes l.shared r.notes r.shared) (read_behind (r.notes ++ r.shared) (map (numbered setting.names) m.read) i.notes));
+          (members_by_parts l.notes l.shared r.notes r.shared) (read_behind keeps (r.notes ++ r.shared) (map (numbered setting.names) m.read) (i.notes (keeps_too r m i keeps))));
       entered =
           ap (λ fs. either fs r.entered) h.entered
           ∙ ap (either (flagged none_entered (map (number_of setting.program.tree) n.entered))) i.entered
@@ -128,10 +133,11 @@ module _ (setting : Setting) where
     notes_covered r m i =
         let both : IsNotes setting (multiplied l r) (definitions.multiplied setting.program.tree n m) = notes_multiplied r m i in
         record {
+          keeps = both.keeps;
           kinds = both.kinds;
           worths = both.worths;
           each = both.each;
-          notes = shared_behind (kept_reads r) m.read (kept_reads_are r m i);
+          notes = λ keeps. shared_behind keeps (kept_reads r) m.read (kept_reads_are r m i (keeps_too r m i keeps));
           entered = both.entered;
           deepest = both.deepest;
         }
@@ -146,10 +152,11 @@ module _ (setting : Setting) where
         let both : map (λ (e : ℕ × ℕ). e.0) (map (numbered_entry setting.program.tree) k.revisions) ≡ map (number_of setting.program.tree) (map (λ (e : Name × ℕ). e.0) k.revisions) =
         map_map (λ (e : ℕ × ℕ). e.0) (numbered_entry setting.program.tree) k.revisions ∙ sym (map_map (number_of setting.program.tree) (λ (e : Name × ℕ). e.0) k.revisions) in
         record {
+          keeps = h.keeps;
           kinds = h.kinds;
           worths = worths_behind values k.contribution (i.contribution ∙ ap (λ ks. filled (identities ks) r.contribution) same_kinds) long;
           each = length_operated l.kinds l.worths values h.each long;
-          notes = shared_behind r.reads k.read i.reads;
+          notes = λ keeps. shared_behind keeps r.reads k.read i.reads;
           entered =
               ap (λ fs. flagged fs (map (λ (e : ℕ × ℕ). e.0) r.entered)) h.entered
               ∙ flagged_same (flagged none_entered (map (number_of setting.program.tree) n.entered)) (map (λ (e : ℕ × ℕ). e.0) r.entered) (map (λ (e : ℕ × ℕ). e.0) (map (numbered_entry setting.program.tree) k.revisions))

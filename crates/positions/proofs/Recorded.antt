@@ -65,7 +65,7 @@ module _ (setting : Setting) where
           arguments = i.arguments;
           value = refl;
           contribution = h.worths ∙ sym (touched_is l.kinds l.worths h.each) ∙ ap (λ ks. filled (identities ks) (touched_from 0 l.kinds l.worths)) (sym same_kinds);
-          reads = kept_reads_are setting l n h;
+          reads = kept_reads_are setting l n h (h.keeps ∙ i.recorded);
           entered =
               subst (λ flags. SameMembers (entries_from 0 setting.program.revisions flags) (map (numbered_entry setting.program.tree) (definitions.record_by setting.program k n v).revisions)) (sym h.entered)
               (entries_are setting.program.tree setting.program.revisions records.in_order n.entered current);

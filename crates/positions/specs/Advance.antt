@@ -90,7 +90,7 @@ module _ (setting : Setting) where
   -- the topmost instance with a layer of its own
   abbrev pub opened : PlainStrand → PlainStrand
   opened s =
-      begun (record s { layer = blank setting.kinds (length setting.codes); lower = s.layer ∷ s.lower; tally = tallies.opening (opened_of s) s.tally })
+      begun (record s { layer = blank true setting.kinds (length setting.codes); lower = s.layer ∷ s.lower; tally = tallies.opening (opened_of s) s.tally })
 
   -- the record of a procedure and arguments that is valid at a depth; main's is 1
   abbrev pub record_for : ℕ → ℕ → List ℤ → Option PlainRecord

@@ -1,5 +1,6 @@
 -- What stands in the code at a place.
-use Rattle.std.specs.Prelude.{ℕ, nat_lt, List, [], Option, Some, None, if◌then◌else◌, slice_get, length}
+use Rattle.std.specs.Prelude.{ℕ, nat_lt, Bool, List, [], Option, Some, None, if◌then◌else◌, slice_get, length}
+use Rattle.std.specs.List.{list_any}
 use Rattle.linked_program.specs.declared.code.Expression.{Expression}
 use Rattle.linked_program.specs.declared.code.Operation.{Operation}
 use Rattle.linked_program.specs.declared.code.Operation.TheVariants as o
@@ -9,6 +10,10 @@ use Rattle.linked_program.specs.declared.code.Code.{Code}
 use Rattle.linked_program.specs.CodeView.{blocks_in, instruction_at}
 use Rattle.positions.specs.declared.work.Position.{Position}
 use Rattle.positions.specs.declared.work.Loop.{Loop}
+
+-- whether a run may make records: some procedure's instances are recorded
+abbrev pub may_record : List Code → Bool
+may_record codes = list_any (λ c. c.memo) codes
 
 -- the blocks of a procedure's code
 abbrev pub blocks_at : List Code → ℕ → List CodeBlock

@@ -8,8 +8,9 @@ use Rattle.rerun_records.specs.Record.{PlainRecord}
 use Rattle.rerun_records.specs.Named.{filled}
 use Rattle.positions.specs.Values.{once}
 
--- the reducers' kinds and values, what was read, what the instances have read that were recorded or answered meanwhile, for each procedure whether it was entered, and the greatest depth of an instance
+-- whether readings are kept, the reducers' kinds and values, what was read, what the instances have read that were recorded or answered meanwhile, for each procedure whether it was entered, and the greatest depth of an instance
 pub record PlainLayer : Type 0 where
+  pub keeps : Bool
   pub kinds : List Kind
   pub worths : List Worth
   pub notes : List Note
@@ -18,11 +19,16 @@ pub record PlainLayer : Type 0 where
   pub deepest : ℕ
 
 -- a layer that has noted nothing, for a program of so many procedures
-abbrev pub blank : List Kind → ℕ → PlainLayer
-blank kinds procedures = record { kinds = kinds; worths = identities kinds; notes = []; shared = []; entered = replicate procedures false; deepest = 0 }
+abbrev pub blank : Bool → List Kind → ℕ → PlainLayer
+blank keeps kinds procedures = record { keeps = keeps; kinds = kinds; worths = identities kinds; notes = []; shared = []; entered = replicate procedures false; deepest = 0 }
+
+-- readings, and others behind them where they are kept
+abbrev pub kept_behind : Bool → List Note → List Note → List Note
+kept_behind true ns ms = ns ++ ms
+kept_behind false ns ms = ns
 
 abbrev pub noting : List Note → PlainLayer → PlainLayer
-noting ns l = record l { notes = l.notes ++ ns }
+noting ns l = record l { notes = kept_behind l.keeps l.notes ns }
 
 -- a procedure is entered at a depth
 abbrev pub entering : ℕ → ℕ → PlainLayer → PlainLayer

@@ -18,6 +18,7 @@ use Rattle.positions.specs.declared.phase.Fault.{Fault}
 use Rattle.positions.specs.declared.start.Start.{Start}
 use Rattle.positions.specs.declared.start.Start.TheVariants.{Root, Behind}
 use Rattle.positions.specs.Activations.{PlainActivation, bound, made, first_of}
+use Rattle.positions.specs.Code.{may_record}
 use Rattle.positions.specs.Advance.{next_statement}
 use Rattle.positions.specs.Layers.{PlainLayer, blank, lowest, multiplied}
 use Rattle.positions.specs.Tallies.{no_tally, tallies_joined}
@@ -61,7 +62,7 @@ resumed task s = resumed_by (returned_of s) task s
 abbrev pub first_strand : List Code → List Kind → ℕ → PlainStrand
 first_strand codes kinds main = record {
   start = Root;
-  layer = blank kinds (length codes);
+  layer = blank (may_record codes) kinds (length codes);
   lower = [];
   path = [];
   top = made main (slots_for (slots_of codes main) []) (Block (first_of 0)) (depth_limit - 1);
@@ -90,7 +91,7 @@ stolen_with layer task = record {
 }
 
 abbrev pub stolen : List Code → List Kind → PlainTask → PlainStrand
-stolen codes kinds task = stolen_with (blank kinds (length codes)) task
+stolen codes kinds task = stolen_with (blank (may_record codes) kinds (length codes)) task
 
 -- ---- two strands become one
 

@@ -27,7 +27,7 @@ use Rattle.positions.specs.declared.start.Start.{Start}
 use Rattle.positions.specs.declared.start.Start.TheVariants.{Root, Behind}
 use Rattle.positions.specs.Setting.{Setting}
 use Rattle.positions.specs.Activations.{PlainActivation, first_of}
-use Rattle.positions.specs.Code.{blocks_at, loop_at}
+use Rattle.positions.specs.Code.{may_record, blocks_at, loop_at}
 use Rattle.positions.specs.Layers.{PlainLayer, flagged}
 use Rattle.rerun_records.specs.Named.{number_of, SameMembers, AreRecords}
 use Rattle.positions.specs.Tallies.{PlainOpened, PlainTally}
@@ -69,12 +69,13 @@ module _ (setting : Setting) where
 
   -- ---- layers
 
-  -- a layer has noted as much, by numbers
+  -- a layer has noted as much, by numbers; what was read where the program may make records
   pub record IsNotes (l : PlainLayer) (n : Notes) : Type 0 where
+    pub keeps : l.keeps ≡ may_record setting.codes
     pub kinds : l.kinds ≡ map (λ r. r.kind) (reducers setting.program.tree)
     pub worths : n.worth ≡ l.worths
     pub each : length l.worths ≡ length l.kinds
-    pub notes : SameMembers (l.notes ++ l.shared) (map (numbered setting.names) n.read)
+    pub notes : l.keeps ≡ true → SameMembers (l.notes ++ l.shared) (map (numbered setting.names) n.read)
     pub entered : l.entered ≡ flagged (replicate (length (procedures setting.program.tree)) false) (map (procedure_number (procedures setting.program.tree)) n.entered)
     pub deepest : n.deepest ≡ l.deepest
 
@@ -92,6 +93,7 @@ module _ (setting : Setting) where
     pub arguments : o.arguments ≡ k.args
     pub left : o.left ≡ k.left
     pub depth : o.depth ≡ length k.instance
+    pub recorded : may_record setting.codes ≡ true
 
   abbrev pub AreOpened : List PlainOpened → List Opened → Type 0
   AreOpened [] [] = Unit {0}

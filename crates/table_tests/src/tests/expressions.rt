@@ -7,6 +7,7 @@ use evaluation::notes::Notes;
 use evaluation::ranges::bounds;
 use evaluation::slot::Slot;
 use evaluation::stop::Stop;
+use evaluation::unnoted;
 use evaluation::values::{two_values, value, values};
 use input_tables::Tables;
 use linked_program::code::Expression;
@@ -54,7 +55,7 @@ fn of_numbers(
     on(alloc, operator, left, Expression::Number(right))
 }
 
-/// Whether an expression has this value, and these readings are noted.
+/// Whether an expression has this value, with notes and without, and these readings are noted.
 fn gives(
     alloc: Global,
     expression: &Expression,
@@ -64,7 +65,9 @@ fn gives(
     readings: &[Note],
 ) -> bool {
     let mut notes = Notes::new(alloc);
-    value(expression, &[slot], tables, &mut notes) == wanted && are(&notes, readings)
+    value(expression, &[slot], tables, &mut notes) == wanted
+        && are(&notes, readings)
+        && unnoted::value(expression, &[slot], tables) == wanted
 }
 
 /// Whether the notes are these.
@@ -183,7 +186,7 @@ fn values_from_left_to_right(rt: HostRuntime) -> Result<(), Fail> {
     Ok(())
 }
 
-/// Whether two expressions have these values, or this fault, and these readings are noted.
+/// Whether two expressions have these values, or this fault, with notes and without, and these readings are noted.
 fn give_two(
     alloc: Global,
     first: &Expression,
@@ -193,8 +196,10 @@ fn give_two(
     readings: &[Note],
 ) -> bool {
     let mut notes = Notes::new(alloc);
-    let ended = two_values(first, second, &[Slot::Has(2)], tables, &mut notes);
-    ended == wanted && are(&notes, readings)
+    let slots = &[Slot::Has(2)];
+    let ended = two_values(first, second, slots, tables, &mut notes);
+    let unnoted = unnoted::two_values(first, second, slots, tables);
+    ended == wanted && unnoted == wanted && are(&notes, readings)
 }
 
 /// A fault in the second expression leaves what the first one has read noted.
@@ -238,7 +243,7 @@ fn a_new_instance(rt: HostRuntime) -> Result<(), Fail> {
 }
 
 /// Whether an instance of three names that is entered with these arguments has these slots in place of what a longer list held,
-/// and these readings are noted behind what was noted before.
+/// with notes and without, and these readings are noted behind what was noted before.
 fn fills(
     rt: &impl Abort,
     alloc: Global,
@@ -248,17 +253,15 @@ fn fills(
 ) -> bool {
     let tables = Tables::from_toml(alloc, SALES).expect(rt, "tables");
     let longer = [Slot::Has(9), Slot::Waits(1), Slot::Has(8), Slot::Unset];
+    let slot = &[Slot::Has(2)];
     let mut made = Vec::from_slice(alloc, &longer).expect(rt, "memory");
+    let unnoted = unnoted::fill_slots(&mut made, 3, arguments, slot, &tables);
+    assert!(rt; unnoted.is_ok() && made.as_slice() == slots);
+    made.clear();
+    made.extend_from_slice(&longer).expect(rt, "memory");
     let mut notes = Notes::new(alloc);
     notes.add(&found(4, false)).expect(rt, "memory");
-    let ended = fill_slots(
-        &mut made,
-        3,
-        arguments,
-        &[Slot::Has(2)],
-        &tables,
-        &mut notes,
-    );
+    let ended = fill_slots(&mut made, 3, arguments, slot, &tables, &mut notes);
     ended.is_ok() && made.as_slice() == slots && are(&notes, readings)
 }
 

@@ -1,10 +1,9 @@
-use Rattle.std.proofs.Common.{rules, ◌≡◌, ◌∙◌, ◌<◌, ◌≤◌, ℕ, ℤ, Some, None, length, map, slice_get, refl, sym, ap, subst, to_z, of_z, w64}
+use Rattle.std.proofs.Common.{rules, ◌≡◌, ◌∙◌, ◌<◌, ◌≤◌, ℤ, Some, None, length, refl, sym, ap, subst, to_z, of_z, w64}
 use Rattle.std.proofs.lemmas.Option.{slice_get_read, slice_get_past}
 use Rattle.positions.specs.declared.work.Position.{Position}
 use Rattle.positions.specs.declared.work.Work.{Work}
-use Rattle.positions.specs.declared.work.Work.TheVariants.{Block}
 use Rattle.positions.specs.declared.phase.Phase.TheVariants.{Running}
-use Rattle.positions.specs.Activations.{PlainActivation, at, outside}
+use Rattle.positions.specs.Activations.{PlainActivation, at}
 use Rattle.positions.specs.Code.{instruction_inside}
 use Rattle.frames.specs.Given.{lent}
 use Rattle.frames.specs.Paths.{here, IsPath, ComesTo, topped}

@@ -8,7 +8,7 @@ use Rattle.frames.proofs.layer.Layer.update.Goals as goal
 
 pub returns-then-not-branch-clause-updated : goal.returns-then-not-branch-clause-updated
 returns-then-not-branch-clause-updated g c =
-    let l : PlainLayer = record { kinds = c.self.inside.hypermap.kinds; worths = c.self.inside.hypermap.worths; notes = c.self.inside.notes; shared = all_of c.self.inside.shared.items; entered = c.self.inside.entered.items; deepest = c.self.inside.deepest } in
+    let l : PlainLayer = record { keeps = c.self.inside.keeps; kinds = c.self.inside.hypermap.kinds; worths = c.self.inside.hypermap.worths; notes = c.self.inside.notes; shared = all_of c.self.inside.shared.items; entered = c.self.inside.entered.items; deepest = c.self.inside.deepest } in
     let at : IsAt l.kinds c.args.reducer c.args.kind.now = subst (λ (z : PlainLayer). IsAt z.kinds c.args.reducer c.args.kind.now) (sym c.self.view_is) c.requires.kind in
     let less : c.args.reducer < length l.kinds = subst (λ (z : PlainLayer). c.args.reducer < length z.kinds) (sym c.self.view_is) c.requires.there in
     let i : IsIdentity c.args.kind.now c.args.numbers.now.items = c.in_ok-fit.ensures.identity c.if-not-branch.true in

@@ -7,7 +7,7 @@ use Rattle.frames.proofs.layer.Layer.update_fitting.Goals as goal
 
 pub returns-clause-updated : goal.returns-clause-updated
 returns-clause-updated g c =
-    let l : PlainLayer = record { kinds = c.self.inside.hypermap.kinds; worths = c.self.inside.hypermap.worths; notes = c.self.inside.notes; shared = all_of c.self.inside.shared.items; entered = c.self.inside.entered.items; deepest = c.self.inside.deepest } in
+    let l : PlainLayer = record { keeps = c.self.inside.keeps; kinds = c.self.inside.hypermap.kinds; worths = c.self.inside.hypermap.worths; notes = c.self.inside.notes; shared = all_of c.self.inside.shared.items; entered = c.self.inside.entered.items; deepest = c.self.inside.deepest } in
     let at : IsAt l.kinds c.args.reducer c.args.kind.now = subst (λ (z : PlainLayer). IsAt z.kinds c.args.reducer c.args.kind.now) (sym c.self.view_is) c.requires.kind in
     let less : c.args.reducer < length l.kinds = subst (λ (z : PlainLayer). c.args.reducer < length z.kinds) (sym c.self.view_is) c.requires.there in
     let e : OnOk c.update.result (record l { kinds = c.update.new.self.kinds; worths = c.update.new.self.worths } ≡ updating c.args.reducer c.args.kind.now c.args.numbers.now l) =

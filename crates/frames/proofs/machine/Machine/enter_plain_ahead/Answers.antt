@@ -1,4 +1,4 @@
-use Rattle.std.proofs.Common.{◌≡◌, map, ap, subst, sym}
+use Rattle.std.proofs.Common.{map, subst, sym}
 use Rattle.program_tree.specs.declared.Way.TheVariants.{Call}
 use Rattle.linked_program.specs.CodeView.{expression, slots_of}
 use Rattle.evaluation.specs.Values.{entry_at}

@@ -1,9 +1,8 @@
-use Rattle.std.proofs.Common.{rules, ◌≡◌, ◌==◌, Bool, true, false, None, map, pos, reverse, refl, sym, ap, ◌∙◌, subst}
+use Rattle.std.proofs.Common.{rules, ◌≡◌, ◌==◌, Bool, true, false, None, map, pos, reverse, refl, sym, ap, ◌∙◌}
 use Rattle.linked_program.specs.CodeView.{expression, memo_of}
 use Rattle.positions.specs.declared.phase.Phase.TheVariants.{Returning}
 use Rattle.positions.specs.declared.work.Share.{Share}
 use Rattle.positions.specs.declared.work.Work.TheVariants.{Turns}
-use Rattle.positions.specs.Activations.{ShareFits}
 use Rattle.positions.specs.Code.{PlainLoop, loop_at}
 use Rattle.positions.specs.Strands.{PlainStrand}
 use Rattle.positions.specs.Advance.{in_phase, turn_slots, rest_of}

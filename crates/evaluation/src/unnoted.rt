@@ -1,0 +1,165 @@
+//! The values of expressions where nobody asks what they read.
+
+ghost use Rattle.std.specs.Prelude.{◌≡◌, ◌∷◌, [], map};
+ghost use Rattle.linked_program.specs.CodeView.{expression as plain};
+ghost use Rattle.evaluation.specs.Ends.{Answers};
+ghost use Rattle.input_tables.specs.Edited as read;
+ghost use Rattle.evaluation.specs.Values.{value_at, values_at, entry_at, looked, applied as applied_to};
+
+use crate::operators::{apply, one_if};
+use crate::slot::Slot;
+use crate::stop::Stop;
+use crate::values::{at_once, number_in, without_reading};
+use input_tables::Tables;
+use linked_program::code::Expression;
+use meaning::FaultKind;
+use program_tree::Operator;
+
+/// The value of an expression, or its fault.
+#[inline(always)]
+pub fn value(expression: &Expression, slots: &[Slot], tables: &Tables) -> Result<i64, Stop>
+    ensures answer { Answers (λ v. v) (value_at tables.now.tables slots.now (plain expression.now))
+        result }
+{
+    match without_reading(expression, slots) {
+        Some(value) => Ok(value),
+        None => evaluate(expression, slots, tables),
+    }
+}
+
+/// The values of two expressions, from left to right, or the first fault.
+#[inline(always)]
+pub fn two_values(
+    first: &Expression,
+    second: &Expression,
+    slots: &[Slot],
+    tables: &Tables,
+) -> Result<(i64, i64), Stop>
+    ensures answer { Answers (λ p. p.0 ∷ p.1 ∷ [])
+        (values_at tables.now.tables slots.now (plain first.now ∷ plain second.now ∷ [])) result }
+{
+    match value(first, slots, tables) {
+        Ok(left) => match value(second, slots, tables) {
+            Ok(right) => Ok((left, right)),
+            Err(stop) => Err(stop),
+        },
+        Err(stop) => Err(stop),
+    }
+}
+
+/// Puts the slots of an instance of `size` names that is entered with these arguments in place of what `made` held: their values,
+/// and then no values; or finds the first fault, or want of memory.
+#[inline(always)]
+pub fn fill_slots(
+    made: &mut Vec<Slot>,
+    size: usize,
+    arguments: &[Expression],
+    slots: &[Slot],
+    tables: &Tables,
+) -> Result<(), Stop>
+    ensures answer { Answers (λ u. made.new.items) (entry_at tables.now.tables slots.now size
+        (map plain arguments.now)) result }
+{
+    made.clear();
+    put_values(made, size, arguments, slots, tables)
+}
+
+// The same, in an empty list.
+#[inline(always)]
+fn put_values(
+    made: &mut Vec<Slot>,
+    size: usize,
+    arguments: &[Expression],
+    slots: &[Slot],
+    tables: &Tables,
+) -> Result<(), Stop>
+    requires empty { made.old.items ≡ [] }
+    ensures answer { Answers (λ u. made.new.items) (entry_at tables.now.tables slots.now size (map plain arguments.now)) result }
+{
+    if made.reserve(size).is_err() {
+        return Err(Stop::NoMemory);
+    }
+    for argument in arguments {
+        match value(argument, slots, tables) {
+            Ok(value) => {
+                if made.push(Slot::Has(value)).is_err() {
+                    return Err(Stop::NoMemory);
+                }
+            }
+            Err(stop) => return Err(stop),
+        }
+    }
+    if made.resize(size, Slot::Unset).is_err() {
+        return Err(Stop::NoMemory);
+    }
+    Ok(())
+}
+
+// The value of an expression, or its fault.
+#[cycle(evaluate)]
+fn evaluate(expression: &Expression, slots: &[Slot], tables: &Tables) -> Result<i64, Stop>
+    ensures answer { Answers (λ v. v) (value_at tables.now.tables slots.now (plain expression.now)) result }
+{
+    match expression {
+        Expression::Number(number) => Ok(*number),
+        Expression::Slot(number) => Ok(number_in(slots, *number)),
+        Expression::Cell(table, row, column) => match operand(row, slots, tables) {
+            Ok(row) => cell(tables, *table, row, *column),
+            Err(stop) => Err(stop),
+        },
+        Expression::Has(table, row) => match operand(row, slots, tables) {
+            Ok(row) => Ok(one_if(tables.has(*table, row))),
+            Err(stop) => Err(stop),
+        },
+        Expression::Limit(table) => Ok(tables.limit(*table)),
+        Expression::Negate(inner) => match operand(inner, slots, tables) {
+            Ok(number) => Ok(number.wrapping_neg()),
+            Err(stop) => Err(stop),
+        },
+        Expression::Binary(operator, left, right) => match operand(left, slots, tables) {
+            Ok(left) => match operand(right, slots, tables) {
+                Ok(right) => applied(*operator, left, right),
+                Err(stop) => Err(stop),
+            },
+            Err(stop) => Err(stop),
+        },
+    }
+}
+
+// The same of an operand; that of a number or a slot, and of a cell whose row is one of these, without a call of itself.
+#[inline(always)]
+#[cycle(evaluate)]
+fn operand(expression: &Expression, slots: &[Slot], tables: &Tables) -> Result<i64, Stop>
+    ensures answer { Answers (λ v. v) (value_at tables.now.tables slots.now (plain expression.now)) result }
+{
+    match expression {
+        Expression::Number(number) => Ok(*number),
+        Expression::Slot(number) => Ok(number_in(slots, *number)),
+        Expression::Cell(table, row, column) => match at_once(row, slots) {
+            Some(row) => cell(tables, *table, row, *column),
+            None => evaluate(expression, slots, tables),
+        },
+        _ => evaluate(expression, slots, tables),
+    }
+}
+
+// The value of a cell, or that there is no such row.
+fn cell(tables: &Tables, table: usize, row: i64, column: usize) -> Result<i64, Stop>
+    ensures answer { Answers (λ v. v) (looked table row column (read.cell_at tables.now.tables table row column)) result }
+{
+    match tables.cell(table, row, column) {
+        None => Err(Stop::Fault(FaultKind::MissingRow)),
+        Some(value) => Ok(value),
+    }
+}
+
+// The value of an operator on two numbers, or its fault.
+#[inline(always)]
+fn applied(operator: Operator, left: i64, right: i64) -> Result<i64, Stop>
+    ensures answer { Answers (λ v. v) (applied_to operator left right) result }
+{
+    match apply(operator, left, right) {
+        Ok(value) => Ok(value),
+        Err(kind) => Err(Stop::Fault(kind)),
+    }
+}
