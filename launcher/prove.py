@@ -1,10 +1,12 @@
 #!/usr/bin/env python3
-"""Runs `rt ci`, so that the processors which no proof waits for go to those that run.
+"""Runs `rt ci`, so that the processors go first to the proofs that most others wait for.
 
 `rt ci` shares idle processors among all its tasks that are ready. Those of crates without tests or edits have no work and
 are over at once, but they count, so a proof that nothing else runs beside gets one processor alone. Here such tasks come
-after all others. And a proof keeps the processors that it began with: one of the longest chain that began on the last idle
-processor keeps all crates above it waiting. Here each proof of that chain gets as many jobs as memory holds, up to four.
+after all others. And a proof keeps the processors that it began with, of which a large one gets one, since each is reckoned
+to take the memory that the first one does. Here each proof gets as many as memory holds, up to four: the further ones share
+what the first has loaded, and where there are fewer processors than jobs these share them. Those of the longest chain, and
+of chains that are nearly as long, come first, and the others give way to them.
 Where rt's files are made otherwise than this knows of, this is `rt ci` and no more.
 """
 import importlib.machinery
@@ -12,6 +14,15 @@ import importlib.util
 import os
 import shutil
 import sys
+import threading
+from concurrent.futures import ThreadPoolExecutor
+
+# What the first job of a proof takes of memory at most, and what each further one takes beside it, in bytes.
+FIRST, FURTHER = 3_500_000_000, 1_000_000_000
+# How far the proofs beside the longest chains give way to theirs.
+NICE = 4
+# What part of the longest chain's work makes another one long.
+LONG = 0.85
 
 
 def loaded(path):
@@ -23,36 +34,50 @@ def loaded(path):
     return module
 
 
-def longest_chain(tasks):
-    """The tasks of the chain with the most work, from the first; each task comes after those that it waits for."""
-    work, next_on_chain = {}, {}
+def on_long_chains(tasks):
+    """The tasks of chains with nearly as much as the longest one's work; each task comes after those that it waits for."""
+    ahead, behind = {}, {}
+    for name, (before, work, *_) in tasks.items():
+        ahead[name] = work + max((ahead[other] for other in before), default=0)
     for name in reversed([*tasks]):
-        before, own, *_ = tasks[name]
-        work[name] = work.get(name, 0) + own
+        before, work, *_ = tasks[name]
+        behind[name] = work + behind.get(name, 0)
         for other in before:
-            if work[name] > work.get(other, -1):
-                work[other], next_on_chain[other] = work[name], name
-    chain = [max(work, key=work.get)] if work else []
-    while chain and chain[-1] in next_on_chain:
-        chain.append(next_on_chain[chain[-1]])
-    return chain
+            behind[other] = max(behind.get(other, 0), behind[name])
+    longest = max(behind.values(), default=0)
+    return {name for name, (_, work, *_) in tasks.items() if ahead[name] + behind[name] - work >= LONG * longest}
 
 
-def on_chain(rt, needs, call):
+def with_jobs(rt, call):
     """The same call with up to four jobs, as many as the memory that is free now holds."""
 
     def run(given, jobs):
-        held = 1 + int((0.6 * rt.free() / needs - 1) / 0.6)
+        held = 1 + int((rt.free() - FIRST) / FURTHER)
         return call(given, max(jobs, min(4, rt.processors(), held)))
 
     return run
 
 
+def give_way():
+    """Has the thread that calls this, and what it starts, give way to others."""
+    os.setpriority(os.PRIO_PROCESS, threading.get_native_id(), NICE)
+
+
+def beside(call):
+    """The same call, which gives way to those of the chain."""
+
+    def run(given, jobs):
+        with ThreadPoolExecutor(1, initializer=give_way) as pool:
+            return pool.submit(call, given, jobs).result()
+
+    return run
+
+
 def chain_first(rt, tasks):
-    """The tasks, where the proofs of the longest chain have more jobs."""
-    chain = {name for name in longest_chain(tasks) if name[1] != "edits"}
+    """The tasks with more jobs, where those beside the longest chains give way."""
+    chains = on_long_chains(tasks)
     return {
-        name: (before, work, needs, on_chain(rt, needs, call) if name in chain else call)
+        name: (before, work, needs, with_jobs(rt, call) if name in chains else beside(with_jobs(rt, call)))
         for name, (before, work, needs, call) in tasks.items()
     }
 
