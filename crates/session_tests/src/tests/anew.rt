@@ -77,7 +77,7 @@ fn run(
     ensures read_now { ReadNow tables.now.tables result.items }
 {
     let pool = Pool::new(kits(rt, alloc, program.kinds(), 2));
-    let steps = steps_alone(alloc).expect(rt, "memory");
+    let steps = steps_alone(rt, alloc);
     let Ok(core) = Core::start(alloc, program, tables, records, pool, 1) else {
         panic!(rt; "not started");
     };

@@ -56,3 +56,17 @@ pub fn session(rt: &impl Abort, alloc: Global, text: &str, count: usize) -> Sess
     let kits = kits(rt, alloc, program.kinds(), count);
     Session::new(alloc, program, tables, kits).expect(rt, "a session")
 }
+
+/// Does this in the session of the program that a text is, on the sales, with so many kits.
+pub fn in_session<T, F: FnOnce(&mut Session<PlainView>) -> T>(
+    rt: &impl Abort,
+    alloc: Global,
+    text: &str,
+    count: usize,
+    act: F,
+) -> T
+    requires { F.IsAlwaysCallable act }
+{
+    let mut session = session(rt, alloc, text, count);
+    act(&mut session)
+}

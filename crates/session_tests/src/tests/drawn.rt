@@ -3,7 +3,7 @@ ghost use Rattle.std.specs.Prelude.{◌≡◌, ◌<◌};
 
 use super::beginning::kits;
 use reuse_planner::Session;
-use std::alloc::{AllocError, Global};
+use std::alloc::Global;
 use std::process::Abort;
 use view_pool::{Pool, View};
 use worker_core::run::Core;
@@ -31,37 +31,39 @@ impl Dice {
 
 /// The place of any strand.
 fn any_place<V: View>(
+    rt: &impl Abort,
     alloc: Global,
     core: &Core<'_, V>,
     dice: &mut Dice,
-) -> Result<Place, AllocError> {
-    let mut lines = core.strands(alloc)?;
+) -> Place {
+    let mut lines = core.strands(alloc).expect(rt, "memory");
     if lines.is_empty() {
-        return Ok(Vec::new(alloc));
+        return Vec::new(alloc);
     }
     let number = dice.below(lines.len());
     let StrandLine { place, state: _ } = lines.swap_remove(number);
-    Ok(place)
+    place
 }
 
 fn any_step<V: View>(
+    rt: &impl Abort,
     alloc: Global,
     core: &Core<'_, V>,
     dice: &mut Dice,
     workers: usize,
-) -> Result<Step, AllocError>
+) -> Step
     requires { 0 < workers }
 {
     let worker = dice.below(workers);
-    Ok(match dice.below(16) {
+    match dice.below(16) {
         0..=6 => Step::Work(worker),
         7 | 8 => Step::Push(worker),
         9 => Step::Inline(worker),
         10 => Step::Pop(worker),
         11 | 12 => Step::Stall(worker),
         13 | 14 => Step::Steal(worker, dice.below(workers)),
-        _ => Step::Fold(worker, any_place(alloc, core, dice)?),
-    })
+        _ => Step::Fold(worker, any_place(rt, alloc, core, dice)),
+    }
 }
 
 /// Takes a step, or has it refused, and writes it down.
@@ -88,7 +90,7 @@ fn go_anyhow<V: View>(
     requires { 0 < workers }
 {
     for _ in 0..300 {
-        let step = any_step(alloc, core, dice, workers).expect(rt, "memory");
+        let step = any_step(rt, alloc, core, dice, workers);
         take(rt, alloc, core, step, steps);
     }
 }

@@ -5,7 +5,7 @@ use super::drawn::Dice;
 use procedure_parser::parse;
 use program_tree::Program;
 use serial_oracle::{Row, TableRows};
-use std::alloc::{AllocError, Global};
+use std::alloc::Global;
 use std::process::Abort;
 
 const REDUCERS: &str = "reducer total : add;
@@ -123,51 +123,44 @@ pub struct Model {
     texts: [&'static str; 4],
 }
 
-fn drawn(alloc: Global, script: &str, answer: &'static str) -> Result<DrawnEdit, AllocError> {
-    let script = String::from_str(alloc, script)?;
-    Ok(DrawnEdit { script, answer })
+fn text_of(rt: &impl Abort, alloc: Global, text: &str) -> String {
+    String::from_str(alloc, text).expect(rt, "memory")
 }
 
 impl Model {
     /// A model of the first texts, with the sales.
-    pub fn new(alloc: Global) -> Result<Model, AllocError> {
+    pub fn new(rt: &impl Abort, alloc: Global) -> Model {
         let mut model = Model {
             rows: Vec::new(alloc),
             texts: [LINES[0], PAIRS[0], ALLS[0], MAINS[0]],
         };
         for (number, qty, price) in [(1, 2, 5), (2, 3, 7), (3, 1, 100)] {
-            model.put_row(alloc, number, qty, price)?;
+            model.put_row(rt, alloc, number, qty, price);
         }
-        Ok(model)
+        model
     }
 
-    fn put_row(
-        &mut self,
-        alloc: Global,
-        number: i64,
-        qty: i64,
-        price: i64,
-    ) -> Result<(), AllocError> {
-        let values = vec![in alloc; qty, price]?;
+    fn put_row(&mut self, rt: &impl Abort, alloc: Global, number: i64, qty: i64, price: i64) {
+        let values = vec![in alloc; qty, price].expect(rt, "memory");
         self.rows.retain(|row| row.number != number);
-        Ok(self.rows.push(Row { number, values })?)
+        self.rows.push(Row { number, values }).expect(rt, "memory");
     }
 
     /// Puts a row that is drawn.
-    fn put(&mut self, alloc: Global, dice: &mut Dice) -> Result<DrawnEdit, AllocError> {
+    fn put(&mut self, rt: &impl Abort, alloc: Global, dice: &mut Dice) -> DrawnEdit {
         let row = dice.below(6) as i64;
         let qty = dice.below(4) as i64;
         let price = dice.below(20) as i64;
-        self.put_row(alloc, row, qty, price)?;
-        let script = format!(in alloc; "put sales {row} {qty} {price}\n")?;
-        Ok(DrawnEdit {
-            script,
+        self.put_row(rt, alloc, row, qty, price);
+        let script = format!(in alloc; "put sales {row} {qty} {price}\n");
+        DrawnEdit {
+            script: script.expect(rt, "memory"),
             answer: "ok\n",
-        })
+        }
     }
 
     /// Deletes a row that is drawn, where there is one of its number.
-    fn delete(&mut self, alloc: Global, dice: &mut Dice) -> Result<DrawnEdit, AllocError> {
+    fn delete(&mut self, rt: &impl Abort, alloc: Global, dice: &mut Dice) -> DrawnEdit {
         let number = dice.below(6) as i64;
         let before = self.rows.len();
         self.rows.retain(|row| row.number != number);
@@ -176,12 +169,12 @@ impl Model {
         } else {
             "refused E7\n"
         };
-        let script = format!(in alloc; "del sales {number}\n")?;
-        Ok(DrawnEdit { script, answer })
+        let script = format!(in alloc; "del sales {number}\n").expect(rt, "memory");
+        DrawnEdit { script, answer }
     }
 
     /// Gives a procedure a text that is drawn.
-    fn define(&mut self, alloc: Global, dice: &mut Dice) -> Result<DrawnEdit, AllocError> {
+    fn define(&mut self, rt: &impl Abort, alloc: Global, dice: &mut Dice) -> DrawnEdit {
         let (number, text) = match dice.below(4) {
             0 => (0, LINES[dice.below(3)]),
             1 => (1, PAIRS[dice.below(3)]),
@@ -189,57 +182,61 @@ impl Model {
             _ => (3, MAINS[dice.below(2)]),
         };
         self.texts[number] = text;
-        let script = format!(in alloc; "define\n{text}end\n")?;
-        Ok(DrawnEdit {
-            script,
+        let script = format!(in alloc; "define\n{text}end\n");
+        DrawnEdit {
+            script: script.expect(rt, "memory"),
             answer: "ok\n",
-        })
+        }
     }
 
     /// An edit that is drawn.
-    pub fn edit(&mut self, alloc: Global, dice: &mut Dice) -> Result<DrawnEdit, AllocError> {
+    pub fn edit(&mut self, rt: &impl Abort, alloc: Global, dice: &mut Dice) -> DrawnEdit {
         match dice.below(8) {
-            0..=2 => self.put(alloc, dice),
-            3 => self.delete(alloc, dice),
-            4 | 5 => self.define(alloc, dice),
+            0..=2 => self.put(rt, alloc, dice),
+            3 => self.delete(rt, alloc, dice),
+            4 | 5 => self.define(rt, alloc, dice),
             _ => {
                 let (script, answer) = REFUSED[dice.below(13)];
-                drawn(alloc, script, answer)
+                let script = text_of(rt, alloc, script);
+                DrawnEdit { script, answer }
             }
         }
     }
 
     /// The program's text.
-    pub fn text(&self, alloc: Global) -> Result<String, AllocError> {
-        let mut text = String::from_str(alloc, REDUCERS)?;
+    pub fn text(&self, rt: &impl Abort, alloc: Global) -> String {
+        let mut text = text_of(rt, alloc, REDUCERS);
         for procedure in &self.texts {
-            text.push_str(procedure)?;
+            text.push_str(procedure).expect(rt, "memory");
         }
-        Ok(text)
+        text
     }
 
     /// The program, read anew.
     pub fn program(&self, rt: &impl Abort, alloc: Global) -> Program {
-        let text = self.text(alloc).expect(rt, "memory");
+        let text = self.text(rt, alloc);
         parse(alloc, text.as_bytes()).expect(rt, "a program")
     }
 
-    /// The tables as the slow program has them.
-    pub fn tables(&self, alloc: Global) -> Result<TableRows, AllocError> {
-        let qty = String::from_str(alloc, "qty")?;
-        let price = String::from_str(alloc, "price")?;
+    /// Its rows once more.
+    fn copied_rows(&self, rt: &impl Abort, alloc: Global) -> Vec<Row> {
         let mut rows = Vec::new(alloc);
         for row in &self.rows {
-            let values = row.values.clone()?;
-            rows.push(Row {
-                number: row.number,
-                values,
-            })?;
+            let values = row.values.clone().expect(rt, "memory");
+            let number = row.number;
+            rows.push(Row { number, values }).expect(rt, "memory");
         }
-        Ok(TableRows {
-            name: String::from_str(alloc, "sales")?,
-            columns: vec![in alloc; qty, price]?,
-            rows,
-        })
+        rows
+    }
+
+    /// The tables as the slow program has them.
+    pub fn tables(&self, rt: &impl Abort, alloc: Global) -> TableRows {
+        let qty = text_of(rt, alloc, "qty");
+        let price = text_of(rt, alloc, "price");
+        TableRows {
+            name: text_of(rt, alloc, "sales"),
+            columns: vec![in alloc; qty, price].expect(rt, "memory"),
+            rows: self.copied_rows(rt, alloc),
+        }
     }
 }

@@ -27,7 +27,7 @@ pub struct Answers {
 }
 
 /// Puts what a run came to at the end of the text.
-pub fn push_answer(
+fn push_answer(
     alloc: Global,
     text: &mut String,
     program: &Checked,
@@ -55,7 +55,7 @@ fn push_counts(text: &mut String, answer: &RunAnswer) -> Result<(), AllocError> 
 }
 
 /// Puts the answer to an edit at the end of the text.
-pub fn push_edited(text: &mut String, edited: &Result<(), ApplyError>) -> Result<(), AllocError> {
+fn push_edited(text: &mut String, edited: &Result<(), ApplyError>) -> Result<(), AllocError> {
     match edited {
         Ok(()) => push_accepted(text),
         Err(ApplyError::Refused(error)) => push_edit_refusal(text, error),
@@ -87,7 +87,7 @@ impl Answers {
     }
 
     /// Notes what a command of the session was answered.
-    fn note_one(
+    pub fn note_one(
         &mut self,
         alloc: Global,
         program: &Checked,
@@ -164,20 +164,21 @@ pub fn no_answers(alloc: Global) -> Answers {
 
 /// Plays a script, with runs by so many threads.
 pub fn play<V: View>(
-    rt: &(impl Threads + Wait + Sync),
+    rt: &(impl Abort + Threads + Wait + Sync),
     alloc: Global,
     session: &mut Session<V>,
     workers: usize,
     script: &[u8],
-) -> Result<Answers, AllocError>
+) -> Answers
     requires workers { (0 < workers) × (workers ≤ 16) }
 {
     let mut answers = no_answers(alloc);
-    let commands = commands(alloc, script)?;
+    let commands = commands(alloc, script).expect(rt, "memory");
     for command in commands.iter() {
-        answers.answer(rt, alloc, session, workers, command)?;
+        let answered = answers.answer(rt, alloc, session, workers, command);
+        answered.expect(rt, "memory");
     }
-    Ok(answers)
+    answers
 }
 
 /// Compares the lines of what a script is answered, with runs by so many threads; gives the counts.
@@ -191,55 +192,69 @@ pub fn counts<V: View>(
 ) -> String
     requires workers { (0 < workers) × (workers ≤ 16) }
 {
-    let found = play(rt, alloc, session, workers, script).expect(rt, "memory");
-    assert_eq!(rt; found.lines.as_str(), lines, "{workers} workers");
+    let found = play(rt, alloc, session, workers, script);
+    assert_eq!(rt; found.lines.as_str(), lines);
     found.counts
 }
 
 /// Steps of one worker, which goes on until it can't; a child that it spawns becomes a call.
-pub fn steps_alone(alloc: Global) -> Result<Vec<Step>, AllocError> {
+pub fn steps_alone(rt: &impl Abort, alloc: Global) -> Vec<Step> {
     let mut steps = Vec::new(alloc);
     for _ in 0..50 {
         for _ in 0..30 {
-            steps.push(Step::Work(0))?;
+            steps.push(Step::Work(0)).expect(rt, "memory");
         }
-        steps.push(Step::Inline(0))?;
-        steps.push(Step::Pop(0))?;
-        steps.push(Step::Stall(0))?;
+        steps.push(Step::Inline(0)).expect(rt, "memory");
+        steps.push(Step::Pop(0)).expect(rt, "memory");
+        steps.push(Step::Stall(0)).expect(rt, "memory");
     }
-    Ok(steps)
+    steps
 }
 
-/// What a script asks of a session, each run by the steps of one worker. A line that is no command asks for nothing.
+/// What a command of a script asks of a session, each run by the steps of one worker; a line that is no command asks for nothing.
+fn session_command<'a>(
+    rt: &impl Abort,
+    alloc: Global,
+    command: Command<'a>,
+) -> Option<SessionCommand<'a>> {
+    match command {
+        Command::Unknown(_) => None,
+        Command::Change(edit) => Some(SessionCommand::Edit(edit)),
+        Command::Run => Some(SessionCommand::Run {
+            workers: 1,
+            steps: steps_alone(rt, alloc),
+        }),
+    }
+}
+
+/// What a script asks of a session.
 pub fn session_commands<'a>(
+    rt: &impl Abort,
     alloc: Global,
     script: &'a [u8],
-) -> Result<Vec<SessionCommand<'a>>, AllocError> {
-    let script = commands(alloc, script)?;
+) -> Vec<SessionCommand<'a>> {
+    let script = commands(alloc, script).expect(rt, "memory");
     let mut asked = Vec::new(alloc);
     for command in script {
-        match command {
-            Command::Unknown(_) => {}
-            Command::Change(edit) => asked.push(SessionCommand::Edit(edit))?,
-            Command::Run => {
-                let steps = steps_alone(alloc)?;
-                asked.push(SessionCommand::Run { workers: 1, steps })?;
-            }
+        if let Some(command) = session_command(rt, alloc, command) {
+            asked.push(command).expect(rt, "memory");
         }
     }
-    Ok(asked)
+    asked
 }
 
 /// Plays a script by one call of the session, with runs by the steps of one worker.
 pub fn play_at_once<V: View>(
+    rt: &impl Abort,
     alloc: Global,
     session: &mut Session<V>,
     script: &[u8],
-) -> Result<Answers, AllocError> {
-    let asked = session_commands(alloc, script)?;
-    let given = session.play(alloc, &asked)?;
+) -> Answers {
+    let asked = session_commands(rt, alloc, script);
+    let given = session.play(alloc, &asked).expect(rt, "memory");
     let mut answers = no_answers(alloc);
-    let script = commands(alloc, script)?;
-    answers.note_all(alloc, session.checked(), &script, &given)?;
-    Ok(answers)
+    let script = commands(alloc, script).expect(rt, "memory");
+    let noted = answers.note_all(alloc, session.checked(), &script, &given);
+    noted.expect(rt, "memory");
+    answers
 }

@@ -2,7 +2,7 @@
 //! program from scratch, and what a run executes and has answered by records is what that one needs by the session's records.
 ghost use Rattle.std.specs.Prelude.{◌≡◌, ◌<◌};
 
-use super::beginning::session;
+use super::beginning::in_session;
 use super::drawn::{Dice, any_steps};
 use super::model::Model;
 use super::playing::{no_answers, play};
@@ -14,7 +14,7 @@ use std::process::Abort;
 use std::sync::Wait;
 use std::thread::Threads;
 use threaded_driver::{NoGate, run_threads};
-use view_pool::{PlainView, View};
+use view_pool::View;
 use worker_core::RunAnswer;
 
 /// Runs a session by threads, or by any steps.
@@ -44,8 +44,8 @@ fn edit<V: View>(
     model: &mut Model,
     dice: &mut Dice,
 ) {
-    let drawn = model.edit(alloc, dice).expect(rt, "memory");
-    let found = play(rt, alloc, session, 1, drawn.script.as_bytes()).expect(rt, "memory");
+    let drawn = model.edit(rt, alloc, dice);
+    let found = play(rt, alloc, session, 1, drawn.script.as_bytes());
     assert_eq!(rt; found.lines.as_str(), drawn.answer, "{}", drawn.script);
 }
 
@@ -108,27 +108,40 @@ fn go_on<V: View>(
     run_beside(rt, alloc, session, model, dice)
 }
 
-/// A dozen runs of a session.
+/// A dozen runs of a session of a new model.
 fn any_runs<V: View>(
     rt: &(impl Abort + Threads + Wait + Sync),
     alloc: Global,
     session: &mut Session<V>,
-    model: &mut Model,
     seed: u64,
 ) -> Seen {
+    let mut model = Model::new(rt, alloc);
     let mut dice = Dice { state: seed };
     let mut seen = (false, false);
     for _ in 0..12 {
-        let (reused, faulted) = go_on(rt, alloc, session, model, &mut dice);
+        let (reused, faulted) = go_on(rt, alloc, session, &mut model, &mut dice);
         seen = (seen.0 | reused, seen.1 | faulted);
     }
     seen
 }
 
-/// The session of a model's program, with so many kits.
-fn session_of(rt: &impl Abort, alloc: Global, model: &Model, count: usize) -> Session<PlainView> {
-    let text = model.text(alloc).expect(rt, "memory");
-    session(rt, alloc, &text, count)
+/// They leave all kits free.
+fn any_runs_with<V: View>(
+    rt: &(impl Abort + Threads + Wait + Sync),
+    alloc: Global,
+    session: &mut Session<V>,
+    count: usize,
+    seed: u64,
+) -> Seen {
+    let seen = any_runs(rt, alloc, session, seed);
+    assert_eq!(rt; session.kits(), (count, count));
+    seen
+}
+
+/// The program's text in a new model.
+fn first_text(rt: &impl Abort, alloc: Global) -> String {
+    let model = Model::new(rt, alloc);
+    model.text(rt, alloc)
 }
 
 /// A session of a dozen runs with so many kits.
@@ -138,11 +151,14 @@ fn any_session(
     count: usize,
     seed: u64,
 ) -> Seen {
-    let mut model = Model::new(alloc).expect(rt, "memory");
-    let mut session = session_of(rt, alloc, &model, count);
-    let seen = any_runs(rt, alloc, &mut session, &mut model, seed);
-    assert_eq!(rt; session.kits(), (count, count));
-    seen
+    let text = first_text(rt, alloc);
+    in_session(
+        rt,
+        alloc,
+        &text,
+        count,
+        |session| any_runs_with(rt, alloc, session, count, seed),
+    )
 }
 
 /// Sessions with so many kits.

@@ -1,7 +1,7 @@
 //! Calls that memory is refused for leave the session as it was, and are done when they are tried again. With ample memory none is
 //! refused: what refuses each allocation in turn is run over the built tests.
 
-use super::beginning::session;
+use super::beginning::in_session;
 use super::playing::session_commands;
 use super::programs::LINES;
 use input_tables::Tables;
@@ -166,31 +166,50 @@ line 2 of 3
 0: 3 is 100
 3 of 3 kits";
 
-/// Does the script, one command after another.
-fn are_done<V: View>(rt: &impl Abort, alloc: Global, session: &mut Session<V>, are_played: bool) {
-    let commands = session_commands(alloc, SCRIPT).expect(rt, "memory");
+/// Does commands, one after another.
+fn all_done<V: View>(
+    rt: &impl Abort,
+    alloc: Global,
+    session: &mut Session<V>,
+    commands: &[Command<'_>],
+    are_played: bool,
+) {
     for one in commands.chunks(1) {
         is_done(rt, alloc, session, one, are_played);
     }
 }
 
-/// What the script leaves.
-fn left(rt: &impl Abort, alloc: Global, are_played: bool) -> String {
-    let mut session = session(rt, alloc, LINES, 3);
-    are_done(rt, alloc, &mut session, are_played);
-    standing(rt, alloc, &session)
+/// Does the script.
+fn are_done<V: View>(rt: &impl Abort, alloc: Global, session: &mut Session<V>, are_played: bool) {
+    let commands = session_commands(rt, alloc, SCRIPT);
+    all_done(rt, alloc, session, &commands, are_played);
 }
 
-/// Whatever was refused, the commands have been done.
+/// Compares what the script leaves: whatever was refused, the commands have been done.
+fn is_left<V: View>(rt: &impl Abort, alloc: Global, session: &mut Session<V>, are_played: bool) {
+    are_done(rt, alloc, session, are_played);
+    let found = standing(rt, alloc, session);
+    assert_eq!(rt; found.as_str(), AFTER);
+}
+
+/// Compares it in a new session.
+fn is_left_so(rt: &impl Abort, alloc: Global, are_played: bool) {
+    in_session(
+        rt,
+        alloc,
+        LINES,
+        3,
+        |session| is_left(rt, alloc, session, are_played),
+    );
+}
+
 #[test]
 fn calls_that_are_refused(rt: HostRuntime) {
-    let found = left(&rt, rt.alloc(), false);
-    assert_eq!(&rt; found.as_str(), AFTER);
+    is_left_so(&rt, rt.alloc(), false);
 }
 
 /// Memory may be refused for the answers too, before any command is done.
 #[test]
 fn commands_that_are_refused(rt: HostRuntime) {
-    let found = left(&rt, rt.alloc(), true);
-    assert_eq!(&rt; found.as_str(), AFTER);
+    is_left_so(&rt, rt.alloc(), true);
 }

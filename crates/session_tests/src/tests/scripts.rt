@@ -1,8 +1,7 @@
 //! Scripts whose answers were found by hand, in sessions with few kits and many, by one worker and more, and by one call.
-ghost use Rattle.std.specs.Prelude.{◌<◌, ◌≤◌};
 
-use super::beginning::session;
-use super::playing::{counts, play_at_once};
+use super::beginning::in_session;
+use super::playing::{Answers, play, play_at_once};
 use super::programs::LINES;
 use super::rows::{ROWS, Row};
 use reuse_planner::Session;
@@ -12,108 +11,114 @@ use std::sync::Wait;
 use std::thread::Threads;
 use view_pool::View;
 
-/// Compares the answers of a row, and gives the counts.
-fn counts_of(
+/// How the commands of a script are played: with runs by so many threads, 1 to 16, or by one call.
+#[derive(Clone, Copy)]
+enum By {
+    Threads(usize),
+    OneCall,
+}
+
+/// Compares the answers of a row.
+fn are_lines(rt: &impl Abort, found: &Answers, row: Row) {
+    assert_eq!(rt; found.lines.as_str(), row.2, "{}", row.1);
+}
+
+/// Compares its counts too.
+fn are_counts(rt: &impl Abort, found: &Answers, row: Row) {
+    are_lines(rt, found, row);
+    assert_eq!(rt; found.counts.as_str(), row.3, "{}", row.1);
+}
+
+/// Plays a row with runs by so many threads; the counts of more than one hang on who steals what.
+fn play_by<V: View>(
+    rt: &(impl Abort + Threads + Wait + Sync),
+    alloc: Global,
+    session: &mut Session<V>,
+    row: Row,
+    workers: usize,
+) {
+    let found = play(rt, alloc, session, workers.max(1).min(16), row.1.as_bytes());
+    if workers == 1 {
+        are_counts(rt, &found, row);
+    } else {
+        are_lines(rt, &found, row);
+    }
+}
+
+/// Plays a row; all kits are free then.
+fn is_so<V: View>(
+    rt: &(impl Abort + Threads + Wait + Sync),
+    alloc: Global,
+    session: &mut Session<V>,
+    row: Row,
+    count: usize,
+    by: By,
+) {
+    match by {
+        By::Threads(workers) => play_by(rt, alloc, session, row, workers),
+        By::OneCall => {
+            let found = play_at_once(rt, alloc, session, row.1.as_bytes());
+            are_counts(rt, &found, row);
+        }
+    }
+    assert_eq!(rt; session.kits(), (count, count), "{}", row.1);
+}
+
+/// Compares them in a new session, with so many kits.
+fn is_answered(
     rt: &(impl Abort + Threads + Wait + Sync),
     alloc: Global,
     row: Row,
     count: usize,
-    workers: usize,
-) -> String
-    requires workers { (0 < workers) × (workers ≤ 16) }
-{
-    let mut session = session(rt, alloc, row.0, count);
-    let found = counts(rt, alloc, &mut session, workers, row.1.as_bytes(), row.2);
-    assert_eq!(rt; session.kits(), (count, count));
-    found
+    by: By,
+) {
+    in_session(
+        rt,
+        alloc,
+        row.0,
+        count,
+        |session| is_so(rt, alloc, session, row, count, by),
+    );
 }
 
-/// Compares the answers of a row and its counts.
-fn is_counted(rt: &(impl Abort + Threads + Wait + Sync), alloc: Global, row: Row) {
-    let (_, script, _, counts) = row;
-    let found = counts_of(rt, alloc, row, 64, 1);
-    assert_eq!(rt; found.as_str(), counts, "{script}");
+/// Compares the answers of all rows with so many kits.
+fn all_answers(rt: &(impl Abort + Threads + Wait + Sync), alloc: Global, count: usize, by: By) {
+    for row in ROWS {
+        is_answered(rt, alloc, row, count, by);
+    }
 }
 
 #[test]
 fn answers_and_counts(rt: HostRuntime) {
-    for row in ROWS {
-        is_counted(&rt, rt.alloc(), row);
-    }
+    all_answers(&rt, rt.alloc(), 64, By::Threads(1));
 }
 
-/// Compares the answers of all rows by so many workers with so many kits.
-fn all_answers(
-    rt: &(impl Abort + Threads + Wait + Sync),
-    alloc: Global,
-    workers: usize,
-    count: usize,
-)
-    requires workers { (0 < workers) × (workers ≤ 16) }
-{
-    for row in ROWS {
-        counts_of(rt, alloc, row, count, workers);
-    }
-}
-
-/// The fewest of which one can steal.
+/// By the fewest of which one can steal, and by so many that most find nothing to steal, with one kit too.
 #[test]
-fn by_two_workers(rt: HostRuntime) {
-    all_answers(&rt, rt.alloc(), 2, 64);
-}
-
-#[test]
-fn by_four_workers(rt: HostRuntime) {
-    all_answers(&rt, rt.alloc(), 4, 64);
-}
-
-/// Most of them find nothing to steal.
-#[test]
-fn by_sixteen_workers(rt: HostRuntime) {
-    all_answers(&rt, rt.alloc(), 16, 64);
-}
-
-#[test]
-fn by_sixteen_workers_with_one_kit(rt: HostRuntime) {
-    all_answers(&rt, rt.alloc(), 16, 1);
-}
-
-/// Compares the answers and counts of a row, where all of its commands are played by one call.
-fn is_played_so<V: View>(rt: &impl Abort, alloc: Global, session: &mut Session<V>, row: Row) {
-    let (_, script, lines, counts) = row;
-    let found = play_at_once(alloc, session, script.as_bytes()).expect(rt, "memory");
-    assert_eq!(rt; found.lines.as_str(), lines, "{script}");
-    assert_eq!(rt; found.counts.as_str(), counts, "{script}");
-}
-
-/// The same in a new session.
-fn is_played_at_once(rt: &impl Abort, alloc: Global, row: Row) {
-    let mut session = session(rt, alloc, row.0, 64);
-    is_played_so(rt, alloc, &mut session, row);
-    assert_eq!(rt; session.kits(), (64, 64));
+fn by_more_workers(rt: HostRuntime) {
+    let alloc = rt.alloc();
+    all_answers(&rt, alloc, 64, By::Threads(2));
+    all_answers(&rt, alloc, 64, By::Threads(4));
+    all_answers(&rt, alloc, 64, By::Threads(16));
+    all_answers(&rt, alloc, 1, By::Threads(16));
 }
 
 /// The same answers and counts as those of runs by a thread.
 #[test]
 fn all_commands_by_one_call(rt: HostRuntime) {
-    for row in ROWS {
-        is_played_at_once(&rt, rt.alloc(), row);
-    }
+    all_answers(&rt, rt.alloc(), 64, By::OneCall);
 }
 
 const TWO_RUNS: &str = "result 131\ntotal 131\ntop 100 3\nresult 131\ntotal 131\ntop 100 3\n";
 
-#[test]
-fn few_kits(rt: HostRuntime) {
-    let row = (LINES, "run\nrun\n", TWO_RUNS, "");
-    let counts = counts_of(&rt, rt.alloc(), row, 8, 1);
-    assert_eq!(&rt; counts.as_str(), "3 0 0; 0 3 0; ");
-}
+const EIGHT_KITS: Row = (LINES, "run\nrun\n", TWO_RUNS, "3 0 0; 0 3 0; ");
 
 /// With one kit nothing is recorded.
+const ONE_KIT: Row = (LINES, "run\nrun\n", TWO_RUNS, "3 0 3; 3 0 3; ");
+
 #[test]
-fn one_kit(rt: HostRuntime) {
-    let row = (LINES, "run\nrun\n", TWO_RUNS, "");
-    let counts = counts_of(&rt, rt.alloc(), row, 1, 1);
-    assert_eq!(&rt; counts.as_str(), "3 0 3; 3 0 3; ");
+fn few_kits(rt: HostRuntime) {
+    let alloc = rt.alloc();
+    is_answered(&rt, alloc, EIGHT_KITS, 8, By::Threads(1));
+    is_answered(&rt, alloc, ONE_KIT, 1, By::Threads(1));
 }

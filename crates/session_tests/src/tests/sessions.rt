@@ -4,11 +4,11 @@
 //! `L0` lays the strand down, `S10` steals for worker 1 from worker 0, and `F0@1` folds at the place 1.
 ghost use Rattle.std.specs.Prelude.{◌≡◌, All};
 
-use super::beginning::{checked, sales, session};
-use super::playing::{counts, no_answers, play, push_answer, push_edited};
+use super::beginning::{checked, in_session, sales};
+use super::playing::{counts, no_answers, play};
 use super::programs::{COUNTDOWN, FIRST_LIST, LINES, MEMO_LIST};
 use rerun_records::key::Key;
-use reuse_planner::{Answer, Command, Session};
+use reuse_planner::{Command, Session};
 use session_edits::Edit;
 use std::alloc::{AllocError, Global};
 use std::process::Abort;
@@ -58,12 +58,12 @@ fn push_steps(alloc: Global, steps: &mut Vec<Step>, word: &[u8]) -> Result<(), A
 }
 
 /// The steps of a line.
-fn steps(alloc: Global, line: &str) -> Result<Vec<Step>, AllocError> {
+fn steps(rt: &impl Abort, alloc: Global, line: &str) -> Vec<Step> {
     let mut steps = Vec::new(alloc);
     for word in line.split_ascii_whitespace() {
-        push_steps(alloc, &mut steps, word.as_bytes())?;
+        push_steps(alloc, &mut steps, word.as_bytes()).expect(rt, "memory");
     }
-    Ok(steps)
+    steps
 }
 
 /// What a run by the steps of a line comes to, with its counts.
@@ -74,7 +74,7 @@ fn played<V: View>(
     workers: usize,
     line: &str,
 ) -> String {
-    let steps = steps(alloc, line).expect(rt, "memory");
+    let steps = steps(rt, alloc, line);
     let answer = session.run(alloc, workers, &steps);
     assert_eq!(rt; session.last_inlined(), 0);
     let mut answers = no_answers(alloc);
@@ -97,7 +97,7 @@ fn comes_to<V: View>(
     assert_eq!(rt; came.as_str(), wanted, "after {line}");
 }
 
-/// A program, how many workers and kits, a line, and what two runs by it come to.
+/// A program, how many workers and kits, a line with what a run by it comes to, and a second line with what the next run comes to.
 type Row = (
     &'static str,
     usize,
@@ -105,37 +105,24 @@ type Row = (
     &'static str,
     &'static str,
     &'static str,
+    &'static str,
 );
 
-const ROWS: [Row; 7] = [
-    (
-        FIRST_LIST,
-        1,
-        1,
-        ALONE,
-        "result 3\nseen 1 2 9\n0 0 0; ",
-        "result 3\nseen 1 2 9\n0 0 0; ",
-    ),
-    (
-        FIRST_LIST,
-        2,
-        2,
-        STOLEN,
-        "result 3\nseen 1 2 9\n0 0 0; ",
-        "result 3\nseen 1 2 9\n0 0 0; ",
-    ),
+const LIST: &str = "result 3\nseen 1 2 9\n0 0 0; ";
+
+const NOT_OVER: &str = "unfinished\n";
+
+const BEGUN: &str = "W0* P0 W0*";
+
+const ROWS: [Row; 8] = [
+    (FIRST_LIST, 1, 1, ALONE, LIST, ALONE, LIST),
+    (FIRST_LIST, 2, 2, STOLEN, LIST, STOLEN, LIST),
     // Without a kit the steal is passed over, and with it what would follow from it.
-    (FIRST_LIST, 2, 1, STOLEN, "unfinished\n", "unfinished\n"),
-    // A run in the midst is given up.
-    (
-        FIRST_LIST,
-        1,
-        1,
-        "W0* P0 W0*",
-        "unfinished\n",
-        "unfinished\n",
-    ),
-    (FIRST_LIST, 1, 1, "", "unfinished\n", "unfinished\n"),
+    (FIRST_LIST, 2, 1, STOLEN, NOT_OVER, STOLEN, NOT_OVER),
+    // A run in the midst is given up, and leaves its kit for the next one.
+    (FIRST_LIST, 1, 1, BEGUN, NOT_OVER, BEGUN, NOT_OVER),
+    (FIRST_LIST, 1, 1, "", NOT_OVER, "", NOT_OVER),
+    (FIRST_LIST, 1, 1, BEGUN, NOT_OVER, ALONE, LIST),
     // The second run has both leaves answered by records.
     (
         MEMO_LIST,
@@ -143,6 +130,7 @@ const ROWS: [Row; 7] = [
         2,
         ALONE,
         "result 3\nseen 1 2 9\n2 0 0; ",
+        ALONE,
         "result 3\nseen 1 2 9\n0 2 0; ",
     ),
     (
@@ -151,22 +139,28 @@ const ROWS: [Row; 7] = [
         1,
         ALONE,
         "result 3\nseen 1 2 9\n2 0 2; ",
+        ALONE,
         "result 3\nseen 1 2 9\n2 0 2; ",
     ),
 ];
 
 /// Compares what two runs come to; after each all kits are free.
 fn come_to<V: View>(rt: &impl Abort, alloc: Global, session: &mut Session<V>, row: Row) {
-    let (_, workers, count, line, first, second) = row;
-    for wanted in [first, second] {
-        comes_to(rt, alloc, session, workers, line, wanted);
-        assert_eq!(rt; session.kits(), (count, count));
-    }
+    let (_, workers, count, first, found, second, found_next) = row;
+    comes_to(rt, alloc, session, workers, first, found);
+    assert_eq!(rt; session.kits(), (count, count));
+    comes_to(rt, alloc, session, workers, second, found_next);
+    assert_eq!(rt; session.kits(), (count, count));
 }
 
 fn two_runs(rt: &impl Abort, alloc: Global, row: Row) {
-    let mut session = session(rt, alloc, row.0, row.2);
-    come_to(rt, alloc, &mut session, row);
+    in_session(
+        rt,
+        alloc,
+        row.0,
+        row.2,
+        |session| come_to(rt, alloc, session, row),
+    );
 }
 
 #[test]
@@ -174,26 +168,6 @@ fn runs_by_steps(rt: HostRuntime) {
     for row in ROWS {
         two_runs(&rt, rt.alloc(), row);
     }
-}
-
-/// A run that is given up leaves its kit for the next one.
-fn run_again<V: View>(rt: &impl Abort, alloc: Global, session: &mut Session<V>) {
-    comes_to(rt, alloc, session, 1, "W0* P0 W0*", "unfinished\n");
-    assert_eq!(rt; session.kits(), (1, 1));
-    comes_to(
-        rt,
-        alloc,
-        session,
-        1,
-        ALONE,
-        "result 3\nseen 1 2 9\n0 0 0; ",
-    );
-}
-
-#[test]
-fn unfinished_and_then_finished(rt: HostRuntime) {
-    let mut session = session(&rt, rt.alloc(), FIRST_LIST, 1);
-    run_again(&rt, rt.alloc(), &mut session);
 }
 
 /// Why no session begins without a kit.
@@ -226,6 +200,7 @@ fn out_and_back<V: View>(rt: &impl Abort, alloc: Global, session: &mut Session<V
 }
 
 fn run_with_pool<V: View>(rt: &impl Abort, alloc: Global, session: &mut Session<V>) {
+    out_and_back(rt, alloc, session);
     assert_eq!(rt; session.kits(), (2, 2));
     comes_to(
         rt,
@@ -235,13 +210,6 @@ fn run_with_pool<V: View>(rt: &impl Abort, alloc: Global, session: &mut Session<
         STOLEN,
         "result 3\nseen 1 2 9\n0 0 0; ",
     );
-}
-
-#[test]
-fn pool_put_back(rt: HostRuntime) {
-    let mut session = session(&rt, rt.alloc(), FIRST_LIST, 2);
-    out_and_back(&rt, rt.alloc(), &mut session);
-    run_with_pool(&rt, rt.alloc(), &mut session);
 }
 
 /// Takes the pool out: how many of its kits are free, and how many it has.
@@ -255,113 +223,92 @@ fn run_without_pool<V: View>(
     alloc: Global,
     session: &mut Session<V>,
 ) {
+    assert_eq!(rt; kits_taken_out(alloc, session), (2, 2));
     assert_eq!(rt; session.kits(), (0, 0));
     comes_to(rt, alloc, session, 1, ALONE, "no kit\n");
     counts(rt, alloc, session, 1, b"run\n", "no kit\n");
 }
 
-#[test]
-fn pool_taken_out(rt: HostRuntime) {
-    let mut session = session(&rt, rt.alloc(), FIRST_LIST, 2);
-    let taken = kits_taken_out(rt.alloc(), &mut session);
-    assert_eq!(&rt; taken, (2, 2));
-    run_without_pool(&rt, rt.alloc(), &mut session);
-}
-
 const OTHER_LEAF: &[u8] = b"proc leaf(v) { update seen v + 10; return v; }";
 
 /// A run by the steps of a line, as a command.
-fn run_by(alloc: Global, workers: usize, line: &str) -> Result<Command<'static>, AllocError> {
-    Ok(Command::Run {
-        workers,
-        steps: steps(alloc, line)?,
+fn run_by(rt: &impl Abort, alloc: Global, workers: usize, line: &str) -> Command<'static> {
+    let steps = steps(rt, alloc, line);
+    Command::Run { workers, steps }
+}
+
+/// Another row in the place of the second one.
+fn put_row(rt: &impl Abort, alloc: Global) -> Command<'static> {
+    Command::Edit(Edit::Put {
+        table: "sales",
+        row: 2,
+        values: vec![in alloc; 4, 7].expect(rt, "memory"),
     })
 }
 
+const DELETE: Edit<'static> = Edit::Delete {
+    table: "stock",
+    row: 1,
+};
+
 /// Runs with edits between them, of which one is refused.
-fn some_commands(alloc: Global) -> Result<Vec<Command<'static>>, AllocError> {
-    let values = vec![in alloc; 4, 7]?;
-    let put = Edit::Put {
-        table: "sales",
-        row: 2,
-        values,
-    };
-    let delete = Edit::Delete {
-        table: "stock",
-        row: 1,
-    };
-    let mut commands = Vec::new(alloc);
-    commands.push(run_by(alloc, 1, ALONE)?)?;
-    commands.push(Command::Edit(put))?;
-    commands.push(Command::Edit(Edit::Define(OTHER_LEAF)))?;
-    commands.push(run_by(alloc, 2, STOLEN)?)?;
-    commands.push(Command::Edit(delete))?;
-    commands.push(run_by(alloc, 2, "W0* P0")?)?;
-    Ok(commands)
+fn some_commands(rt: &impl Abort, alloc: Global) -> Vec<Command<'static>> {
+    vec![in alloc;
+        run_by(rt, alloc, 1, ALONE),
+        put_row(rt, alloc),
+        Command::Edit(Edit::Define(OTHER_LEAF)),
+        run_by(rt, alloc, 2, STOLEN),
+        Command::Edit(DELETE),
+        run_by(rt, alloc, 2, "W0* P0"),
+    ]
+    .expect(rt, "memory")
 }
 
-/// The text of the answers to commands.
-fn answers_text<V: View>(
+/// What commands are answered, without counts.
+fn played_lines<V: View>(
+    rt: &impl Abort,
     alloc: Global,
     session: &mut Session<V>,
     commands: &[Command<'_>],
-) -> Result<String, AllocError> {
-    let mut text = String::new(alloc);
-    for answer in &session.play(alloc, commands)? {
-        match answer {
-            Answer::Edit(edited) => push_edited(&mut text, edited)?,
-            Answer::Run(came) => push_answer(alloc, &mut text, session.checked(), came)?,
-        }
+) -> String {
+    let given = session.play(alloc, commands).expect(rt, "memory");
+    let mut answers = no_answers(alloc);
+    for answer in &given {
+        let noted = answers.note_one(alloc, session.checked(), answer);
+        noted.expect(rt, "memory");
     }
-    Ok(text)
-}
-
-/// What those commands are answered.
-fn some_answers<V: View>(rt: &impl Abort, alloc: Global, session: &mut Session<V>) -> String {
-    let commands = some_commands(alloc).expect(rt, "memory");
-    answers_text(alloc, session, &commands).expect(rt, "memory")
+    answers.lines
 }
 
 fn are_answered<V: View>(rt: &impl Abort, alloc: Global, session: &mut Session<V>) {
-    let text = some_answers(rt, alloc, session);
+    let commands = some_commands(rt, alloc);
+    let lines = played_lines(rt, alloc, session, &commands);
     let wanted = "result 3\nseen 1 2 9\nok\nok\nresult 3\nseen 11 12 9\nrefused E4\nunfinished\n";
-    assert_eq!(rt; text.as_str(), wanted);
+    assert_eq!(rt; lines.as_str(), wanted);
     assert_eq!(rt; session.tables().edit_number(), 1);
 }
 
-#[test]
-fn commands_one_after_another(rt: HostRuntime) {
-    let mut session = session(&rt, rt.alloc(), FIRST_LIST, 2);
-    are_answered(&rt, rt.alloc(), &mut session);
-}
-
-fn is_lent<V: View>(rt: &impl Abort, session: &Session<V>) {
-    assert_eq!(rt; session.tables().limit(0), 3);
-    assert!(rt; !session.records().is_empty());
-    assert_eq!(rt; session.checked().revision("line"), Some(0));
-    assert_eq!(rt; session.kits(), (3, 3));
-    assert_eq!(rt; session.last_inlined(), 0);
-}
-
-#[test]
-fn what_a_session_lends(rt: HostRuntime) {
-    let mut session = session(&rt, rt.alloc(), LINES, 3);
+fn is_lent<V: View>(
+    rt: &(impl Abort + Threads + Wait + Sync),
+    alloc: Global,
+    session: &mut Session<V>,
+) {
     let lines = "ok\nresult 31\ntotal 31\ntop 21 2\n";
-    counts(
-        &rt,
-        rt.alloc(),
-        &mut session,
-        2,
-        b"del sales 3\nrun\n",
-        lines,
+    counts(rt, alloc, session, 2, b"del sales 3\nrun\n", lines);
+    let (tables, records, program) = (session.tables(), session.records(), session.checked());
+    let lent = (
+        tables.limit(0),
+        records.is_empty(),
+        program.revision("line"),
     );
-    is_lent(&rt, &session);
+    assert_eq!(rt; lent, (3, false, Some(0)));
+    assert_eq!(rt; (session.kits(), session.last_inlined()), ((3, 3), 0));
 }
 
 /// The key of the instance that the countdown begins with.
-fn key_of_the_first(alloc: Global) -> Result<Key, AllocError> {
-    let name = String::from_str(alloc, "down")?;
-    Ok(Key::new(name, vec![in alloc; 60]?))
+fn key_of_the_first(rt: &impl Abort, alloc: Global) -> Key {
+    let name = String::from_str(alloc, "down").expect(rt, "memory");
+    Key::new(name, vec![in alloc; 60].expect(rt, "memory"))
 }
 
 /// How high the first one's record is, where it is valid at that depth.
@@ -371,7 +318,7 @@ fn height_at<V: View>(
     session: &Session<V>,
     depth: u32,
 ) -> Option<u32> {
-    let key = key_of_the_first(alloc).expect(rt, "memory");
+    let key = key_of_the_first(rt, alloc);
     session.kept();
     let (tables, program) = (session.tables(), session.checked());
     match session.records().lookup(&key, depth, tables, program) {
@@ -380,26 +327,15 @@ fn height_at<V: View>(
     }
 }
 
-fn are_recorded<V: View>(
+fn fit<V: View>(
     rt: &(impl Abort + Threads + Wait + Sync),
     alloc: Global,
     session: &mut Session<V>,
 ) {
-    let found = play(rt, alloc, session, 1, b"run\n").expect(rt, "memory");
+    let found = play(rt, alloc, session, 1, b"run\n");
     assert_eq!(rt; found.counts.as_str(), "61 0 0; ");
-}
-
-fn fit<V: View>(rt: &impl Abort, alloc: Global, session: &Session<V>) {
     assert_eq!(rt; height_at(rt, alloc, session, 4), Some(61));
     assert_eq!(rt; height_at(rt, alloc, session, 5), None);
-}
-
-/// A record fits where its height does: at depth 4 sixty-one instances reach the deepest level, at depth 5 they don't fit.
-#[test]
-fn records_fit_as_deep_as_they_are_high(rt: HostRuntime) {
-    let mut session = session(&rt, rt.alloc(), COUNTDOWN, 62);
-    are_recorded(&rt, rt.alloc(), &mut session);
-    fit(&rt, rt.alloc(), &session);
 }
 
 /// Compares what a script is answered, and the counts.
@@ -415,27 +351,23 @@ fn is_answered<V: View>(
     assert_eq!(rt; found.as_str(), wanted);
 }
 
-/// Each row has one record, all kits are free, and the program is as long as it was.
-fn is_level<V: View>(rt: &impl Abort, session: &Session<V>) {
-    assert_eq!(rt; session.records().len(), 3);
-    assert_eq!(rt; session.kits(), (3, 3));
-    assert_eq!(rt; session.checked().program().declarations.len(), 4);
-}
-
-/// Plays a script three hundred times in a session, each time with these answers and counts.
-fn stays_level(
+/// Plays a script three hundred times in a session, each time with these answers and counts. At the end each row has one record,
+/// all kits are free, and the program is as long as it was.
+fn stays_level<V: View>(
     rt: &(impl Abort + Threads + Wait + Sync),
     alloc: Global,
+    session: &mut Session<V>,
     script: &[u8],
     lines: &str,
     counts: &str,
 ) {
-    let mut session = session(rt, alloc, LINES, 3);
-    play(rt, alloc, &mut session, 1, b"run\n").expect(rt, "memory");
+    play(rt, alloc, session, 1, b"run\n");
     for _ in 0..300 {
-        is_answered(rt, alloc, &mut session, script, lines, counts);
+        is_answered(rt, alloc, session, script, lines, counts);
     }
-    is_level(rt, &session);
+    assert_eq!(rt; session.records().len(), 3);
+    assert_eq!(rt; session.kits(), (3, 3));
+    assert_eq!(rt; session.checked().program().declarations.len(), 4);
 }
 
 /// Rows there and back, and a procedure in other spaces.
@@ -454,12 +386,7 @@ end
 run
 ";
 
-/// More rows are changed than are listed before the records are compared with the tables: all of them stay valid.
-#[test]
-fn many_edits_that_change_nothing(rt: HostRuntime) {
-    let lines = "ok\nok\nok\nok\nok\nresult 131\ntotal 131\ntop 100 3\n";
-    stays_level(&rt, rt.alloc(), SAME_AGAIN, lines, "0 3 0; ");
-}
+const SAME_ANSWERS: &str = "ok\nok\nok\nok\nok\nresult 131\ntotal 131\ntop 100 3\n";
 
 /// A procedure there and back, and a row.
 const OTHER_AND_BACK: &[u8] = b"define
@@ -477,9 +404,93 @@ put sales 2 3 7
 const OTHER_ANSWERS: &str = "ok\nresult 6\ntotal 6\ntop 3 3
 ok\nok\nresult 138\ntotal 138\ntop 100 3\nok\n";
 
+/// What is tried in a session.
+#[derive(Clone, Copy)]
+enum Trial {
+    PoolPutBack,
+    PoolTakenOut,
+    Commands,
+    Lent,
+    Heights,
+    SameAgain,
+    OtherAndBack,
+}
+
+fn try_it<V: View>(
+    rt: &(impl Abort + Threads + Wait + Sync),
+    alloc: Global,
+    session: &mut Session<V>,
+    trial: Trial,
+) {
+    match trial {
+        Trial::PoolPutBack => run_with_pool(rt, alloc, session),
+        Trial::PoolTakenOut => run_without_pool(rt, alloc, session),
+        Trial::Commands => are_answered(rt, alloc, session),
+        Trial::Lent => is_lent(rt, alloc, session),
+        Trial::Heights => fit(rt, alloc, session),
+        Trial::SameAgain => stays_level(rt, alloc, session, SAME_AGAIN, SAME_ANSWERS, "0 3 0; "),
+        Trial::OtherAndBack => stays_level(
+            rt,
+            alloc,
+            session,
+            OTHER_AND_BACK,
+            OTHER_ANSWERS,
+            "3 0 0; 3 0 0; ",
+        ),
+    }
+}
+
+/// The same in the session of the program that a text is, with so many kits.
+fn try_in(
+    rt: &(impl Abort + Threads + Wait + Sync),
+    alloc: Global,
+    text: &str,
+    count: usize,
+    trial: Trial,
+) {
+    in_session(
+        rt,
+        alloc,
+        text,
+        count,
+        |session| try_it(rt, alloc, session, trial),
+    );
+}
+
+#[test]
+fn pool_put_back(rt: HostRuntime) {
+    try_in(&rt, rt.alloc(), FIRST_LIST, 2, Trial::PoolPutBack);
+}
+
+#[test]
+fn pool_taken_out(rt: HostRuntime) {
+    try_in(&rt, rt.alloc(), FIRST_LIST, 2, Trial::PoolTakenOut);
+}
+
+#[test]
+fn commands_one_after_another(rt: HostRuntime) {
+    try_in(&rt, rt.alloc(), FIRST_LIST, 2, Trial::Commands);
+}
+
+#[test]
+fn what_a_session_lends(rt: HostRuntime) {
+    try_in(&rt, rt.alloc(), LINES, 3, Trial::Lent);
+}
+
+/// A record fits where its height does: at depth 4 sixty-one instances reach the deepest level, at depth 5 they don't fit.
+#[test]
+fn records_fit_as_deep_as_they_are_high(rt: HostRuntime) {
+    try_in(&rt, rt.alloc(), COUNTDOWN, 62, Trial::Heights);
+}
+
+/// More rows are changed than are listed before the records are compared with the tables: all of them stay valid.
+#[test]
+fn many_edits_that_change_nothing(rt: HostRuntime) {
+    try_in(&rt, rt.alloc(), LINES, 3, Trial::SameAgain);
+}
+
 /// New records take the places of those that no longer hold.
 #[test]
 fn many_edits_that_change_all_records(rt: HostRuntime) {
-    let alloc = rt.alloc();
-    stays_level(&rt, alloc, OTHER_AND_BACK, OTHER_ANSWERS, "3 0 0; 3 0 0; ");
+    try_in(&rt, rt.alloc(), LINES, 3, Trial::OtherAndBack);
 }

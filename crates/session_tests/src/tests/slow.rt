@@ -10,7 +10,9 @@ use monoid_laws::{Kind, Val};
 use program_tree::{Declaration, Program};
 use reducer_values::{copy_of, identity};
 use reuse_planner::Session;
-use serial_oracle::{Answer, Reading, Revision, Revisions, from_scratch, needed_instances};
+use serial_oracle::{
+    Answer, Reading, Revision, Revisions, TableRows, from_scratch, needed_instances,
+};
 use std::alloc::{AllocError, Global};
 use std::process::Abort;
 use trace_report::answers::{push_fault, push_result, push_values};
@@ -18,28 +20,29 @@ use view_pool::View;
 use worker_core::Record;
 
 /// The text of an answer.
-fn answer_text(alloc: Global, program: &Program, answer: &Answer) -> Result<String, AllocError> {
+fn answer_text(rt: &impl Abort, alloc: Global, program: &Program, answer: &Answer) -> String {
     let mut text = String::new(alloc);
     match answer {
         Answer::Finished(value, values) => {
-            push_result(&mut text, *value)?;
-            push_values(alloc, &mut text, program, values)?;
+            push_result(&mut text, *value).expect(rt, "memory");
+            push_values(alloc, &mut text, program, values).expect(rt, "memory");
         }
         Answer::Faulted(fault) => {
-            push_fault(&mut text, fault.kind, fault.procedure, fault.statement)?;
+            let pushed = push_fault(&mut text, fault.kind, fault.procedure, fault.statement);
+            pushed.expect(rt, "memory");
         }
     }
-    Ok(text)
+    text
 }
 
 /// The text of what the model comes to from scratch.
 pub fn scratch_text(rt: &impl Abort, alloc: Global, model: &Model) -> String {
     let program = model.program(rt, alloc);
-    let sales = model.tables(alloc).expect(rt, "memory");
+    let sales = model.tables(rt, alloc);
     let Ok(answer) = from_scratch(alloc, &program, &[sales]) else {
         panic!(rt; "memory");
     };
-    answer_text(alloc, &program, &answer).expect(rt, "memory")
+    answer_text(rt, alloc, &program, &answer)
 }
 
 /// The name of the procedure of that number.
@@ -61,41 +64,45 @@ fn procedure_name(declarations: &[Declaration], number: usize) -> &str {
 
 /// The revision number of the procedure of that number.
 fn revision(
+    rt: &impl Abort,
     alloc: Global,
     program: &Checked,
     procedure: usize,
     number: u64,
-) -> Result<Revision, AllocError> {
+) -> Revision {
     let name = procedure_name(&program.program().declarations, procedure);
-    let procedure = String::from_str(alloc, name)?;
-    Ok(Revision { procedure, number })
+    let procedure = String::from_str(alloc, name).expect(rt, "memory");
+    Revision { procedure, number }
 }
 
 /// These revision numbers, by the names of the procedures.
 fn named(
+    rt: &impl Abort,
     alloc: Global,
     program: &Checked,
     numbers: &[(usize, u64)],
-) -> Result<Vec<Revision>, AllocError> {
+) -> Vec<Revision> {
     let mut found = Vec::new(alloc);
     for entry in numbers {
-        found.push(revision(alloc, program, entry.0, entry.1)?)?;
+        let revision = revision(rt, alloc, program, entry.0, entry.1);
+        found.push(revision).expect(rt, "memory");
     }
-    Ok(found)
+    found
 }
 
 /// The revision numbers of a program.
-fn revisions(alloc: Global, program: &Checked) -> Result<Revisions, AllocError> {
+fn revisions(rt: &impl Abort, alloc: Global, program: &Checked) -> Revisions {
     let mut numbers = Vec::new(alloc);
     for procedure in 0..program.program().declarations.len() {
         if let Some(number) = program.revision_at(procedure) {
-            numbers.push(revision(alloc, program, procedure, number)?)?;
+            let revision = revision(rt, alloc, program, procedure, number);
+            numbers.push(revision).expect(rt, "memory");
         }
     }
-    Ok(Revisions {
+    Revisions {
         numbers,
         counter: program.counter(),
-    })
+    }
 }
 
 /// The name of the table of that number.
@@ -146,62 +153,74 @@ fn reading(alloc: Global, tables: &Tables, note: &Note) -> Result<Reading, Alloc
 }
 
 /// What a record has read.
-fn readings(alloc: Global, tables: &Tables, record: &Record) -> Result<Vec<Reading>, AllocError> {
-    let notes = record.reads().notes(alloc)?;
+fn readings(rt: &impl Abort, alloc: Global, tables: &Tables, record: &Record) -> Vec<Reading> {
+    let notes = record.reads().notes(alloc).expect(rt, "memory");
     let mut read = Vec::new(alloc);
     for note in &notes {
-        read.push(reading(alloc, tables, note)?)?;
+        let reading = reading(alloc, tables, note).expect(rt, "memory");
+        read.push(reading).expect(rt, "memory");
     }
-    Ok(read)
+    read
 }
 
-/// A value of each reducer: those given, and identities elsewhere.
-fn all_values(
+/// The value of the reducer of that number: the one that is given, or else its identity.
+fn value_of(
+    rt: &impl Abort,
     alloc: Global,
-    kinds: &[Kind],
+    number: usize,
+    kind: Kind,
     given: &[(usize, Val)],
-) -> Result<Vec<Val>, AllocError> {
-    let mut values = Vec::new(alloc);
-    for kind in kinds {
-        values.push(identity(alloc, *kind))?;
-    }
+) -> Val {
     for entry in given {
-        if entry.0 < values.len() {
-            values[entry.0] = copy_of(alloc, &entry.1)?;
+        if entry.0 == number {
+            return copy_of(alloc, &entry.1).expect(rt, "memory");
         }
     }
-    Ok(values)
+    identity(alloc, kind)
+}
+
+/// A value of each reducer.
+fn all_values(rt: &impl Abort, alloc: Global, kinds: &[Kind], given: &[(usize, Val)]) -> Vec<Val> {
+    let mut values = Vec::new(alloc);
+    for number in 0..kinds.len() {
+        let value = value_of(rt, alloc, number, kinds[number], given);
+        values.push(value).expect(rt, "memory");
+    }
+    values
 }
 
 /// A record by names.
 fn known(
+    rt: &impl Abort,
     alloc: Global,
     program: &Checked,
     tables: &Tables,
     record: &Record,
-) -> Result<serial_oracle::Record, AllocError> {
+) -> serial_oracle::Record {
     let name = procedure_name(&program.program().declarations, record.procedure());
-    Ok(serial_oracle::Record {
-        of: String::from_str(alloc, name)?,
-        args: Vec::from_slice(alloc, record.arguments())?,
+    serial_oracle::Record {
+        of: String::from_str(alloc, name).expect(rt, "memory"),
+        args: Vec::from_slice(alloc, record.arguments()).expect(rt, "memory"),
         value: record.value(),
-        contribution: all_values(alloc, program.kinds(), record.contribution())?,
-        read: readings(alloc, tables, record)?,
-        revisions: named(alloc, program, record.entered())?,
+        contribution: all_values(rt, alloc, program.kinds(), record.contribution()),
+        read: readings(rt, alloc, tables, record),
+        revisions: named(rt, alloc, program, record.entered()),
         height: record.height(),
-    })
+    }
 }
 
 /// The records of a session by names.
 fn all_known<V: View>(
+    rt: &impl Abort,
     alloc: Global,
     session: &Session<V>,
-) -> Result<Vec<serial_oracle::Record>, AllocError> {
+) -> Vec<serial_oracle::Record> {
     let mut found = Vec::new(alloc);
     for record in session.records().as_slice() {
-        found.push(known(alloc, session.checked(), session.tables(), record)?)?;
+        let known = known(rt, alloc, session.checked(), session.tables(), record);
+        found.push(known).expect(rt, "memory");
     }
-    Ok(found)
+    found
 }
 
 /// What the model comes to by the session's records.
@@ -214,6 +233,26 @@ pub struct Needed {
     pub reused: usize,
 }
 
+/// What a program comes to where these records answer memo instances.
+fn needed_by(
+    rt: &impl Abort,
+    alloc: Global,
+    program: &Program,
+    tables: &[TableRows],
+    revisions: &Revisions,
+    records: &[serial_oracle::Record],
+) -> Needed {
+    assert!(rt; are_fit(alloc, program, records));
+    let Ok(after) = needed_instances(alloc, program, revisions, tables, records) else {
+        panic!(rt; "memory");
+    };
+    Needed {
+        text: answer_text(rt, alloc, program, &after.answer),
+        executed: after.executed.len(),
+        reused: after.reused.len(),
+    }
+}
+
 /// What the model comes to where the session's records answer memo instances.
 pub fn needs_of<V: View>(
     rt: &impl Abort,
@@ -222,16 +261,8 @@ pub fn needs_of<V: View>(
     model: &Model,
 ) -> Needed {
     let program = model.program(rt, alloc);
-    let sales = model.tables(alloc).expect(rt, "memory");
-    let records = all_known(alloc, session).expect(rt, "memory");
-    let revisions = revisions(alloc, session.checked()).expect(rt, "memory");
-    assert!(rt; are_fit(alloc, &program, &records));
-    let Ok(after) = needed_instances(alloc, &program, &revisions, &[sales], &records) else {
-        panic!(rt; "memory");
-    };
-    Needed {
-        text: answer_text(alloc, &program, &after.answer).expect(rt, "memory"),
-        executed: after.executed.len(),
-        reused: after.reused.len(),
-    }
+    let tables = [model.tables(rt, alloc)];
+    let revisions = revisions(rt, alloc, session.checked());
+    let records = all_known(rt, alloc, session);
+    needed_by(rt, alloc, &program, &tables, &revisions, &records)
 }
