@@ -1,6 +1,7 @@
 // Each line of an answer, and each part of a session on its own.
-use cli::beginning::begin;
+use crate::running::session;
 use cli::kits::kits_for;
+use linked_program::checked::Checked;
 use meaning::FaultKind;
 use monoid_laws::{Kind, Val};
 use prepared_program::prepare::prepare;
@@ -9,22 +10,19 @@ use program_tree::Reducer;
 use reuse_planner::Session;
 use std::alloc::{AllocError, Global};
 use std::process::Abort;
+use std::sync::Wait;
+use std::thread::Threads;
 use threaded_driver::{NoGate, run_threads};
 use trace_report::amounts::merged;
 use trace_report::answers::{
     answer_text, kind_name, push_fault, push_outcome, push_reducer, push_result, push_run,
     push_unknown, push_value, push_values,
 };
-use view_pool::PlainView;
+use view_pool::{PlainView, View};
 use worker_core::{Fault, RunAnswer};
 
 const TWO_REDUCERS: &str =
     "reducer a : add; proc main() { update b 5; update a 7; return 0 - 3; } reducer b : list;";
-
-fn session(rt: &impl Abort, alloc: Global) -> Session<PlainView> {
-    let make = |kind: Kind| -> Result<PlainView, AllocError> { Ok(PlainView::new(alloc, kind)) };
-    begin(alloc, TWO_REDUCERS.as_bytes(), "", 1, &make).expect(rt, "a session")
-}
 
 #[test]
 fn lines_of_numbers(rt: HostRuntime) {
@@ -42,15 +40,17 @@ fn line_of_a_fault(rt: HostRuntime) {
     assert_eq!(&rt; text.as_str(), "fault missing row in line at 1\n");
 }
 
+const NAMES: [(FaultKind, &str); 5] = [
+    (FaultKind::DivideByZero, "divide by zero"),
+    (FaultKind::MissingRow, "missing row"),
+    (FaultKind::RangeTooLong, "range too long"),
+    (FaultKind::TooDeep, "too deep"),
+    (FaultKind::BadElement, "bad element"),
+];
+
 #[test]
 fn names_of_kinds(rt: HostRuntime) {
-    for (kind, name) in [
-        (FaultKind::DivideByZero, "divide by zero"),
-        (FaultKind::MissingRow, "missing row"),
-        (FaultKind::RangeTooLong, "range too long"),
-        (FaultKind::TooDeep, "too deep"),
-        (FaultKind::BadElement, "bad element"),
-    ] {
+    for (kind, name) in NAMES {
         assert_eq!(&rt; kind_name(kind), name);
     }
 }
@@ -67,18 +67,19 @@ fn line_of_a_reducer(rt: HostRuntime) {
     assert_eq!(&rt; text.as_str(), "total -9223372036854775808\n");
 }
 
+fn push(rt: &impl Abort, alloc: Global, text: &mut String, value: Val) {
+    push_value(alloc, text, &value).expect(rt, "memory");
+}
+
 #[test]
 fn values_that_take_no_memory(rt: HostRuntime) {
-    let mut text = String::new(rt.alloc());
-    for value in [
-        Val::Int(-1),
-        Val::Arg(None),
-        Val::Arg(Some((100, 3))),
-        Val::Pair(6, 7),
-        Val::Elem(2),
-    ] {
-        push_value(rt.alloc(), &mut text, &value).expect(&rt, "memory");
-    }
+    let alloc = rt.alloc();
+    let mut text = String::new(alloc);
+    push(&rt, alloc, &mut text, Val::Int(-1));
+    push(&rt, alloc, &mut text, Val::Arg(None));
+    push(&rt, alloc, &mut text, Val::Arg(Some((100, 3))));
+    push(&rt, alloc, &mut text, Val::Pair(6, 7));
+    push(&rt, alloc, &mut text, Val::Elem(2));
     assert_eq!(&rt; text.as_str(), " -1 none 100 3 6 7 2");
 }
 
@@ -101,44 +102,12 @@ fn values_in_pieces(rt: HostRuntime) {
 }
 
 #[test]
-fn lines_of_reducers(rt: HostRuntime) {
-    let session = session(&rt, rt.alloc());
-    let mut text = String::new(rt.alloc());
-    let values = [Val::Int(7), Val::Int(5)];
-    push_values(rt.alloc(), &mut text, session.checked().program(), &values).expect(&rt, "memory");
-    assert_eq!(&rt; text.as_str(), "a 7\nb 5\n");
-}
-
-#[test]
-fn lines_of_an_outcome(rt: HostRuntime) {
-    let session = session(&rt, rt.alloc());
-    let mut text = String::new(rt.alloc());
-    let fault = Fault {
-        kind: FaultKind::TooDeep,
-        procedure: 0,
-        statement: 2,
-    };
-    push_outcome(
-        rt.alloc(),
-        &mut text,
-        session.checked(),
-        &RunAnswer::Fault(fault),
-    )
-    .expect(&rt, "memory");
-    assert_eq!(&rt; text.as_str(), "fault too deep in main at 2\n");
-    let text = answer_text(rt.alloc(), 5, session.checked(), &RunAnswer::Fault(fault)).expect(
-        &rt, "memory",
-    );
-    assert_eq!(&rt; text.as_str(), "run 5\nfault too deep in main at 2\n");
-}
-
-#[test]
 fn a_program_and_its_tables(rt: HostRuntime) {
     let tables = "[sales]\ncolumns = [\"qty\"]\nrows = [[3, 7]]\n";
-    match prepare(rt.alloc(), TWO_REDUCERS.as_bytes(), tables) {
-        Ok((checked, tables)) => {
-            assert_eq!(&rt; checked.kinds(), [Kind::Add, Kind::List].as_slice());
-            assert_eq!(&rt; tables.limit(0), 4);
+    match &prepare(rt.alloc(), TWO_REDUCERS.as_bytes(), tables) {
+        Ok(prepared) => {
+            assert_eq!(&rt; prepared.0.kinds(), [Kind::Add, Kind::List].as_slice());
+            assert_eq!(&rt; prepared.1.limit(0), 4);
         }
         Err(_) => assert!(&rt; false),
     }
@@ -152,19 +121,48 @@ fn kits_of_a_session(rt: HostRuntime) {
     assert_eq!(&rt; kits.len(), 3);
 }
 
-#[test]
-fn a_run_gives_its_kit_back(rt: HostRuntime) {
-    let mut session = session(&rt, rt.alloc());
-    let ran = run_threads(&rt, rt.alloc(), &mut session, 1, &NoGate);
-    let (answer, _) = ran.expect(&rt, "an answer");
-    match answer {
+fn are_reducers_told(rt: &impl Abort, alloc: Global, program: &Checked) {
+    let mut text = String::new(alloc);
+    let values = [Val::Int(7), Val::Int(5)];
+    push_values(alloc, &mut text, program.program(), &values).expect(rt, "memory");
+    assert_eq!(rt; text.as_str(), "a 7\nb 5\n");
+}
+
+fn is_outcome_told(rt: &impl Abort, alloc: Global, program: &Checked) {
+    let answer = RunAnswer::Fault(Fault {
+        kind: FaultKind::TooDeep,
+        procedure: 0,
+        statement: 2,
+    });
+    let mut text = String::new(alloc);
+    push_outcome(alloc, &mut text, program, &answer).expect(rt, "memory");
+    assert_eq!(rt; text.as_str(), "fault too deep in main at 2\n");
+    let text = answer_text(alloc, 5, program, &answer).expect(rt, "memory");
+    assert_eq!(rt; text.as_str(), "run 5\nfault too deep in main at 2\n");
+}
+
+// A run gives its kit back.
+fn comes_to_its_result<V: View>(
+    rt: &(impl Abort + Threads + Wait + Sync),
+    alloc: Global,
+    session: &mut Session<V>,
+) {
+    let ran = run_threads(rt, alloc, session, 1, &NoGate).expect(rt, "an answer");
+    match &ran.0 {
         RunAnswer::Finished { result, values, .. } => {
-            assert_eq!(&rt; result, -3);
-            assert_eq!(&rt; values.len(), 2);
+            assert_eq!(rt; (*result, values.len()), (-3, 2));
         }
-        _ => assert!(&rt; false),
+        _ => assert!(rt; false),
     }
-    assert_eq!(&rt; session.kits(), (1, 1));
+    assert_eq!(rt; session.kits(), (1, 1));
+}
+
+#[test]
+fn parts_of_a_session(rt: HostRuntime) {
+    let mut session = session(&rt, rt.alloc(), TWO_REDUCERS.as_bytes(), "", 1);
+    are_reducers_told(&rt, rt.alloc(), session.checked());
+    is_outcome_told(&rt, rt.alloc(), session.checked());
+    comes_to_its_result(&rt, rt.alloc(), &mut session);
 }
 
 #[test]

@@ -1,6 +1,8 @@
 // The answers to edits.
 use linked_program::violation::Rule;
 use session_edits::EditError;
+use std::alloc::Global;
+use std::process::Abort;
 use trace_report::edits::{push_accepted, push_edit_refusal};
 
 #[test]
@@ -10,21 +12,22 @@ fn line_of_an_accepted_edit(rt: HostRuntime) {
     assert_eq!(&rt; text.as_str(), "ok\n");
 }
 
+// Compares the line of a refused edit.
+fn is_refused(rt: &impl Abort, alloc: Global, error: EditError, wanted: &str) {
+    let mut text = String::new(alloc);
+    push_edit_refusal(&mut text, &error).expect(rt, "memory");
+    assert_eq!(rt; text.as_str(), wanted);
+}
+
 #[test]
 fn lines_of_refused_edits(rt: HostRuntime) {
-    let mut text = String::new(rt.alloc());
-    for error in [
-        EditError::UnknownTable,
-        EditError::WrongColumns,
-        EditError::RowRange,
-        EditError::NoRow,
-        EditError::BadText { line: 3 },
-        EditError::Exhausted,
-    ] {
-        push_edit_refusal(&mut text, &error).expect(&rt, "memory");
-    }
-    let wanted = "refused E4\nrefused E5\nrefused E6\nrefused E7\nrefused E8 3\nrefused E18\n";
-    assert_eq!(&rt; text.as_str(), wanted);
+    let alloc = rt.alloc();
+    is_refused(&rt, alloc, EditError::UnknownTable, "refused E4\n");
+    is_refused(&rt, alloc, EditError::WrongColumns, "refused E5\n");
+    is_refused(&rt, alloc, EditError::RowRange, "refused E6\n");
+    is_refused(&rt, alloc, EditError::NoRow, "refused E7\n");
+    is_refused(&rt, alloc, EditError::BadText { line: 3 }, "refused E8 3\n");
+    is_refused(&rt, alloc, EditError::Exhausted, "refused E18\n");
 }
 
 #[test]
@@ -34,7 +37,5 @@ fn line_of_a_broken_rule(rt: HostRuntime) {
         holder: String::from_str(rt.alloc(), "main").expect(&rt, "memory"),
         line: 1,
     };
-    let mut text = String::new(rt.alloc());
-    push_edit_refusal(&mut text, &error).expect(&rt, "memory");
-    assert_eq!(&rt; text.as_str(), "refused E9 C3 main 1\n");
+    is_refused(&rt, rt.alloc(), error, "refused E9 C3 main 1\n");
 }

@@ -1,21 +1,12 @@
 // Reports whose texts and answers are those of the files in examples/.
-ghost use Rattle.std.specs.Prelude.{◌<◌, ◌≤◌, false};
+ghost use Rattle.std.specs.Prelude.{false};
 
-use cli::beginning::begin;
-use cli::notes::{NoNotes, Notes};
-use cli::session::session_text;
-use monoid_laws::Kind;
-use program_endings::streams::Failures;
-use std::alloc::{AllocError, Global};
-use std::process::Abort;
-use std::sync::Wait;
-use std::thread::Threads;
-use threaded_driver::NoGate;
-use view_pool::PlainView;
+use crate::running::{Case, answers, are_answered};
+use cli::notes::Notes;
 use worker_core::{BookStep, RunAnswer};
 
-const SALES: &[u8] =
-    b"# Each line of the table is worth its quantity times its price. The lines are added up, and the best one is kept with its row.
+const SALES: &str =
+    "# Each line of the table is worth its quantity times its price. The lines are added up, and the best one is kept with its row.
 reducer total : add;
 reducer top : argmax;
 memo proc line(r) { v = sales[r].qty * sales[r].price; update total v; update top v, r; return v; }
@@ -42,7 +33,7 @@ put sales 2 3 9
 run
 ";
 
-const SALES_ANSWERS: &[u8] = b"run 1
+const SALES_ANSWERS: &str = "run 1
 result 131
 total 131
 top 100 3
@@ -66,8 +57,8 @@ total 337
 top 200 4
 ";
 
-const LATENCY: &[u8] =
-    b"# Requests by how long they took, in classes of 10 milliseconds; the slowest with its row; for each service how many took
+const LATENCY: &str =
+    "# Requests by how long they took, in classes of 10 milliseconds; the slowest with its row; for each service how many took
 # longer than it has promised. The result is the mean.
 reducer classes : hist;
 reducer slowest : argmax;
@@ -120,7 +111,7 @@ end
 run
 ";
 
-const LATENCY_ANSWERS: &[u8] = b"run 1
+const LATENCY_ANSWERS: &str = "run 1
 result 47
 classes 10:5 30:2 40:1 50:1 80:1 90:1 140:1
 slowest 140 8
@@ -149,8 +140,8 @@ late 1:1 3:2
 total 755
 ";
 
-const BALANCES: &[u8] =
-    b"# An account's balance after each entry. An entry keeps what was there (1) or not (0, where the money was counted anew), and
+const BALANCES: &str =
+    "# An account's balance after each entry. An entry keeps what was there (1) or not (0, where the money was counted anew), and
 # adds an amount.
 reducer closing : affine;
 reducer balances : list;
@@ -207,7 +198,7 @@ del entries 5
 run
 ";
 
-const BALANCES_ANSWERS: &[u8] = b"run 1
+const BALANCES_ANSWERS: &str = "run 1
 result 1370
 closing 0 1370
 balances 1000 750 710 1010 1005 930 1430 1370
@@ -238,8 +229,8 @@ balances 1000 750 710 1010 935 1435 1375 375
 recent 1435 1375 375
 ";
 
-const STOCK: &[u8] =
-    b"# What a store holds: its worth, the item with the most in it, and the items of which there are too few; by halves of ranges.
+const STOCK: &str =
+    "# What a store holds: its worth, the item with the most in it, and the items of which there are too few; by halves of ranges.
 reducer worth : add;
 reducer most : argmax;
 reducer order : list;
@@ -299,7 +290,7 @@ run
 run
 ";
 
-const STOCK_ANSWERS: &[u8] = b"run 1
+const STOCK_ANSWERS: &str = "run 1
 result 11327
 worth 11327
 most 1650 15
@@ -329,8 +320,8 @@ most 1820 9
 order 2 18 20
 ";
 
-const DOOR: &[u8] =
-    b"# A badge at a door: who came in goes out before coming in again. An element tells how a piece of the log begins and ends:
+const DOOR: &str =
+    "# A badge at a door: who came in goes out before coming in again. An element tells how a piece of the log begins and ends:
 # 0 nothing in it, 1 in .. in, 2 in .. out, 3 out .. in, 4 out .. out, 5 somewhere the same twice in a row.
 reducer badge : table 6 unit 0 [
   0, 1, 2, 3, 4, 5,
@@ -372,7 +363,7 @@ del log 58
 run
 ";
 
-const DOOR_ANSWERS: &[u8] = b"run 1
+const DOOR_ANSWERS: &str = "run 1
 result 5
 badge 5
 inside 1
@@ -424,60 +415,23 @@ impl Notes for Executed {
     }
 }
 
-// What a script is answered; the notes are told of its runs.
-fn answers<N: Notes>(
-    rt: &(impl Abort + Threads + Wait + Sync),
-    alloc: Global,
-    program: &[u8],
-    tables: &str,
-    script: &[u8],
-    workers: usize,
-    notes: &mut N,
-) -> Vec<u8>
-    requires workers { (0 < workers) × (workers ≤ 16) }
-{
-    let make = |kind: Kind| -> Result<PlainView, AllocError> { Ok(PlainView::new(alloc, kind)) };
-    let session = begin(alloc, program, tables, 64, &make).expect(rt, "a session");
-    let mut reader = script;
-    let mut written = Vec::new(alloc);
-    let mut failures = Failures::none();
-    session_text(
-        rt,
-        alloc,
-        session,
-        workers,
-        notes,
-        &NoGate,
-        &mut reader,
-        &mut written,
-        &mut failures,
-    )
-    .expect(rt, "answers");
-    written
-}
+const EXAMPLES: [Case; 5] = [
+    (SALES, SALES_TABLES, 64, SALES_SCRIPT, SALES_ANSWERS),
+    (LATENCY, LATENCY_TABLES, 64, LATENCY_SCRIPT, LATENCY_ANSWERS),
+    (
+        BALANCES,
+        BALANCES_TABLES,
+        64,
+        BALANCES_SCRIPT,
+        BALANCES_ANSWERS,
+    ),
+    (STOCK, STOCK_TABLES, 64, STOCK_SCRIPT, STOCK_ANSWERS),
+    (DOOR, DOOR_TABLES, 64, DOOR_SCRIPT, DOOR_ANSWERS),
+];
 
 #[test]
-fn examples_by_one_worker_and_by_more(rt: HostRuntime) {
-    for (program, tables, script, wanted) in [
-        (SALES, SALES_TABLES, SALES_SCRIPT, SALES_ANSWERS),
-        (LATENCY, LATENCY_TABLES, LATENCY_SCRIPT, LATENCY_ANSWERS),
-        (BALANCES, BALANCES_TABLES, BALANCES_SCRIPT, BALANCES_ANSWERS),
-        (STOCK, STOCK_TABLES, STOCK_SCRIPT, STOCK_ANSWERS),
-        (DOOR, DOOR_TABLES, DOOR_SCRIPT, DOOR_ANSWERS),
-    ] {
-        for workers in 1..5 {
-            let written = answers(
-                &rt,
-                rt.alloc(),
-                program,
-                tables,
-                script,
-                workers,
-                &mut NoNotes,
-            );
-            assert_eq!(&rt; written.as_slice(), wanted);
-        }
-    }
+fn examples_by_each_number_of_workers(rt: HostRuntime) {
+    are_answered(&rt, rt.alloc(), &EXAMPLES);
 }
 
 // One row changes between the two runs.
@@ -487,15 +441,8 @@ fn calls_of_a_tree_of_ranges(rt: HostRuntime) {
         first: 0,
         second: 0,
     };
-    let written = answers(
-        &rt,
-        rt.alloc(),
-        STOCK,
-        STOCK_TABLES,
-        STOCK_SCRIPT,
-        1,
-        &mut executed,
-    );
-    assert_eq!(&rt; written.as_slice(), STOCK_ANSWERS);
+    let texts = (STOCK.as_bytes(), STOCK_TABLES, 64);
+    let written = answers(&rt, rt.alloc(), texts, STOCK_SCRIPT, 1, &mut executed);
+    assert_eq!(&rt; written.as_slice(), STOCK_ANSWERS.as_bytes());
     assert_eq!(&rt; (executed.first, executed.second), (38, 5));
 }

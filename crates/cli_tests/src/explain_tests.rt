@@ -1,16 +1,9 @@
 // Explanations of what a script is refused and of its faults, beside answers that stay as they are.
-use cli::files::FileSource;
-use cli::program::report_on;
-use command_line::options::Options;
-use monoid_laws::Kind;
-use program_endings::streams::Failures;
-use program_reasons::script::Explainer;
-use std::alloc::{AllocError, Global};
-use std::io;
-use std::io::{ErrorKind, Sink};
+use crate::reporting::{Texts, asked, ends_so, reported};
+use std::alloc::Global;
+use std::process::Abort;
 use std::sync::Wait;
 use std::thread::Threads;
-use view_pool::PlainView;
 
 const PROGRAM: &[u8] = b"reducer turn : table 3 unit 0 [0, 1, 2, 1, 2, 0, 2, 0, 1];
 proc price(r) { return sales[r].price; }
@@ -26,79 +19,24 @@ columns = [\"qty\", \"price\"]
 rows = [[1, 2, 5]]
 ";
 
-// The program and the tables above, by the paths `p` and `t`.
-#[derive(Clone, Copy)]
-struct Files;
-
-impl FileSource for Files {
-    type Made = Sink;
-
-    fn read(&self, alloc: Global, path: &str) -> io::Result<Vec<u8>> {
-        let text = if path == "p" { PROGRAM } else { SALES };
-        Ok(Vec::from_slice(alloc, text)?)
-    }
-
-    fn make(&self, _path: &str) -> io::Result<Sink> {
-        Err(io::Error::from(ErrorKind::PermissionDenied))
-    }
-}
-
-// What a script is answered, and what is explained beside it.
-fn told(
-    rt: &(impl Threads + Wait + Sync),
-    alloc: Global,
-    script: &[u8],
-    explain: bool,
-) -> Option<(Vec<u8>, Vec<u8>)> {
-    let options = Options {
-        program: "p",
-        tables: "t",
-        workers: 2,
-        kits: 8,
-        trace: None,
-        stats: false,
-        explain,
-    };
-    let make = |kind: Kind| -> Result<PlainView, AllocError> { Ok(PlainView::new(alloc, kind)) };
-    let mut reader = script;
-    let mut written = Vec::new(alloc);
-    let mut explained = Vec::new(alloc);
-    let ended = report_on(
-        rt,
-        alloc,
-        options,
-        &make,
-        &Files,
-        &mut reader,
-        &mut written,
-        io::sink(),
-        Explainer::new(alloc, &mut explained),
-        &mut Failures::none(),
-    );
-    match ended {
-        Ok(()) => Some((written, explained)),
-        Err(_) => None,
-    }
-}
-
-// Whether a script has these answers whether or not it is explained, and these explanations where it is.
+// Compares the answers to a script and what is explained beside them, which is nothing where that isn't asked for.
 fn is_told(
-    rt: &(impl Threads + Wait + Sync),
+    rt: &(impl Abort + Threads + Wait + Sync),
     alloc: Global,
     script: &str,
     answers: &str,
     explanations: &str,
-) -> bool {
-    let Some((written, explained)) = told(rt, alloc, script.as_bytes(), true) else {
-        return false;
+    explain: bool,
+) {
+    let texts = Texts {
+        program: Some(PROGRAM),
+        tables: Some(SALES),
+        room: None,
     };
-    let Some((plain, nothing)) = told(rt, alloc, script.as_bytes(), false) else {
-        return false;
-    };
-    written.as_slice() == answers.as_bytes()
-        && plain.as_slice() == answers.as_bytes()
-        && explained.as_slice() == explanations.as_bytes()
-        && nothing.is_empty()
+    let options = asked(2, 8, false, explain);
+    let report = reported(rt, alloc, texts, options, script.as_bytes());
+    ends_so(rt, &report, answers, "", 0);
+    assert_eq!(rt; report.explained.as_slice(), explanations.as_bytes());
 }
 
 const EDITS: &str = "put stock 1 2
@@ -163,7 +101,9 @@ refused E19 17
 
 #[test]
 fn refusals_are_explained(rt: HostRuntime) {
-    assert!(&rt; is_told(&rt, rt.alloc(), EDITS, EDITS_ANSWERED, EDITS_EXPLAINED));
+    let alloc = rt.alloc();
+    is_told(&rt, alloc, EDITS, EDITS_ANSWERED, EDITS_EXPLAINED, true);
+    is_told(&rt, alloc, EDITS, EDITS_ANSWERED, "", false);
 }
 
 const FAULTS: &str = "define
@@ -229,5 +169,7 @@ run 5: fault bad element in main at 1
 
 #[test]
 fn faults_are_explained(rt: HostRuntime) {
-    assert!(&rt; is_told(&rt, rt.alloc(), FAULTS, FAULTS_ANSWERED, FAULTS_EXPLAINED));
+    let alloc = rt.alloc();
+    is_told(&rt, alloc, FAULTS, FAULTS_ANSWERED, FAULTS_EXPLAINED, true);
+    is_told(&rt, alloc, FAULTS, FAULTS_ANSWERED, "", false);
 }

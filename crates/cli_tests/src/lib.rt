@@ -20,7 +20,11 @@ mod program_tests;
 #[cfg(test)]
 mod reason_tests;
 #[cfg(test)]
+mod reporting;
+#[cfg(test)]
 mod row_tests;
+#[cfg(test)]
+mod running;
 #[cfg(test)]
 mod script_tests;
 #[cfg(test)]

@@ -1,7 +1,11 @@
-// The words of the program's line, with the texts for lines that give no options.
+// The words of the program's line, and what is said of lines that give no options.
 use command_line::line::options;
-use command_line::options::OptionsError;
-use std::alloc::Global;
+use command_line::options::{Options, OptionsError};
+use std::alloc::{AllocError, Global};
+use std::process::Abort;
+
+const USAGE: &str =
+    "usage: cilkreport PROGRAM TABLES [--workers 1..16] [--kits 1..4096] [--trace FILE] [--stats] [--explain]";
 
 const HELP: &str = "Runs a report program over tables, by the commands of a script.
 
@@ -23,116 +27,105 @@ The script is read from standard input, and its answers are written to standard 
 
 docs/LANGUAGE.md describes programs, tables and scripts.";
 
+const VERSION: &str = "cilkreport 0.1.0";
+
+// What a line gives: the two files, workers and kits, the trace, and whether runs are counted and refusals explained.
+fn given_text(alloc: Global, given: Options<'_>) -> Result<String, AllocError> {
+    let trace = given.trace.unwrap_or("nowhere");
+    format!(in alloc;
+        "{} {} {} {} {trace} {} {}",
+        given.program, given.tables, given.workers, given.kits, given.stats, given.explain
+    )
+}
+
+// The same, or what is said of a line that gives no options.
+fn said<'a>(alloc: Global, words: &'a [&'a str]) -> Result<String, AllocError> {
+    match options(alloc, words) {
+        Ok(given) => given_text(alloc, given),
+        Err(refusal) => refusal.to_string(alloc),
+    }
+}
+
+// Lines, and what is said of them.
+const LINES: [(&[&str], &str); 36] = [
+    (&["cilkreport", "p", "t"], "p t 1 64 nowhere false false"),
+    (
+        &["cilkreport", "p", "t", "--workers", "16"],
+        "p t 16 64 nowhere false false",
+    ),
+    (
+        &["cilkreport", "--kits", "4096", "p", "t"],
+        "p t 1 4096 nowhere false false",
+    ),
+    (
+        &["cilkreport", "--workers=4", "p", "--kits", "+08", "t"],
+        "p t 4 8 nowhere false false",
+    ),
+    (
+        &["cilkreport", "--stats", "p", "--trace", "runs", "t"],
+        "p t 1 64 runs true false",
+    ),
+    (
+        &["cilkreport", "p", "t", "--trace=runs"],
+        "p t 1 64 runs false false",
+    ),
+    (
+        &["cilkreport", "p", "t", "--stats"],
+        "p t 1 64 nowhere true false",
+    ),
+    (
+        &["cilkreport", "p", "--explain", "t"],
+        "p t 1 64 nowhere false true",
+    ),
+    (
+        &["cilkreport", "p", "t", "--stats", "--explain"],
+        "p t 1 64 nowhere true true",
+    ),
+    (&["cilkreport", "p", "t", "--workers", "17"], USAGE),
+    (&["cilkreport", "p", "t", "--workers", "0"], USAGE),
+    (&["cilkreport", "p", "t", "--workers", ""], USAGE),
+    (&["cilkreport", "p", "t", "--workers", "two"], USAGE),
+    (&["cilkreport", "p", "t", "--workers", "-1"], USAGE),
+    (&["cilkreport", "p", "t", "--kits", "4097"], USAGE),
+    (&["cilkreport", "p", "t", "--kits", "0"], USAGE),
+    (&["cilkreport", "p", "t", "--kits", ""], USAGE),
+    (&["cilkreport", "p", "t", "--kits", "two"], USAGE),
+    (&["cilkreport", "p", "t", "--kits", "-1"], USAGE),
+    (&[], USAGE),
+    (&["cilkreport", "p"], USAGE),
+    (&["cilkreport", "p", "t", "u"], USAGE),
+    (&["cilkreport", "p", "t", "--kits"], USAGE),
+    (&["cilkreport", "p", "t", "--kits=1", "--kits=1"], USAGE),
+    (&["cilkreport", "p", "t", "--threads", "2"], USAGE),
+    (&["cilkreport", "p", "t", "--trace"], USAGE),
+    (&["cilkreport", "p", "t", "--trace=a", "--trace=b"], USAGE),
+    (&["cilkreport", "p", "t", "--stats", "--stats"], USAGE),
+    (&["cilkreport", "p", "t", "--stats=true"], USAGE),
+    (&["cilkreport", "p", "t", "--threads", "--help"], USAGE),
+    (&["cilkreport", "--help"], HELP),
+    (&["cilkreport", "-h"], HELP),
+    (&["cilkreport", "p", "t", "--workers", "17", "--help"], HELP),
+    (&["cilkreport", "--help", "--version"], HELP),
+    (&["cilkreport", "--version"], VERSION),
+    (&["cilkreport", "p", "-V"], VERSION),
+];
+
+fn is_said(rt: &impl Abort, alloc: Global, words: &'static [&'static str], wanted: &str) {
+    let said = said(alloc, words).expect(rt, "memory");
+    assert_eq!(rt; said.as_str(), wanted, "{words:?}");
+}
+
 #[test]
 fn lines(rt: HostRuntime) {
-    let words = ["cilkreport", "p", "t", "--workers", "16"];
-    let given = options(rt.alloc(), &words).expect(&rt, "options");
-    assert_eq!(&rt; given.program, "p");
-    assert_eq!(&rt; given.tables, "t");
-    assert_eq!(&rt; given.workers, 16);
-    assert_eq!(&rt; given.kits, 64);
-    assert_eq!(&rt; (given.trace, given.stats), (None, false));
-    let words = ["cilkreport", "--kits", "4096", "p", "t"];
-    let given = options(rt.alloc(), &words).expect(&rt, "options");
-    assert_eq!(&rt; given.workers, 1);
-    assert_eq!(&rt; given.kits, 4096);
-    let words = ["cilkreport", "--workers=4", "p", "--kits", "+08", "t"];
-    let given = options(rt.alloc(), &words).expect(&rt, "options");
-    assert_eq!(&rt; (given.workers, given.kits), (4, 8));
-}
-
-#[test]
-fn lines_with_a_trace_or_counts(rt: HostRuntime) {
-    let words = ["cilkreport", "--stats", "p", "--trace", "runs", "t"];
-    let given = options(rt.alloc(), &words).expect(&rt, "options");
-    assert_eq!(&rt; (given.program, given.tables), ("p", "t"));
-    assert_eq!(&rt; (given.workers, given.kits), (1, 64));
-    assert_eq!(&rt; (given.trace, given.stats), (Some("runs"), true));
-    let words = ["cilkreport", "p", "t", "--trace=runs"];
-    let given = options(rt.alloc(), &words).expect(&rt, "options");
-    assert_eq!(&rt; (given.trace, given.stats), (Some("runs"), false));
-    let words = ["cilkreport", "p", "t", "--stats"];
-    let given = options(rt.alloc(), &words).expect(&rt, "options");
-    assert_eq!(&rt; (given.trace, given.stats), (None, true));
-    assert!(&rt; !given.explain);
-}
-
-#[test]
-fn lines_that_ask_for_explanations(rt: HostRuntime) {
-    let words = ["cilkreport", "p", "--explain", "t"];
-    let given = options(rt.alloc(), &words).expect(&rt, "options");
-    assert_eq!(&rt; (given.program, given.tables), ("p", "t"));
-    assert_eq!(&rt; (given.stats, given.explain), (false, true));
-    let words = ["cilkreport", "p", "t", "--stats", "--explain"];
-    let given = options(rt.alloc(), &words).expect(&rt, "options");
-    assert_eq!(&rt; (given.stats, given.explain), (true, true));
-}
-
-fn is_usage<'a>(alloc: Global, words: &'a [&'a str]) -> bool {
-    matches!(&options(alloc, words), Err(OptionsError::Usage))
-}
-
-#[test]
-fn refused_lines(rt: HostRuntime) {
-    for workers in ["17", "0", "", "two", "-1"] {
-        let words = ["cilkreport", "p", "t", "--workers", workers];
-        let refused = options(rt.alloc(), &words);
-        assert!(&rt; matches!(&refused, Err(OptionsError::Usage)), "{workers}");
+    for (words, wanted) in LINES {
+        is_said(&rt, rt.alloc(), words, wanted);
     }
-    for kits in ["4097", "0", "", "two", "-1"] {
-        let words = ["cilkreport", "p", "t", "--kits", kits];
-        let refused = options(rt.alloc(), &words);
-        assert!(&rt; matches!(&refused, Err(OptionsError::Usage)), "{kits}");
-    }
-    let alloc = rt.alloc();
-    assert!(&rt; is_usage(alloc, &[]));
-    assert!(&rt; is_usage(alloc, &["cilkreport", "p"]));
-    assert!(&rt; is_usage(alloc, &["cilkreport", "p", "t", "u"]));
-    assert!(&rt; is_usage(alloc, &["cilkreport", "p", "t", "--kits"]));
-    assert!(&rt; is_usage(alloc, &["cilkreport", "p", "t", "--kits=1", "--kits=1"]));
-    assert!(&rt; is_usage(alloc, &["cilkreport", "p", "t", "--threads", "2"]));
-    assert!(&rt; is_usage(alloc, &["cilkreport", "p", "t", "--trace"]));
-    assert!(&rt; is_usage(alloc, &["cilkreport", "p", "t", "--trace=a", "--trace=b"]));
-    assert!(&rt; is_usage(alloc, &["cilkreport", "p", "t", "--stats", "--stats"]));
-    assert!(&rt; is_usage(alloc, &["cilkreport", "p", "t", "--stats=true"]));
-    assert!(&rt; is_usage(alloc, &["cilkreport", "p", "t", "--threads", "--help"]));
-}
-
-fn is_help<'a>(alloc: Global, words: &'a [&'a str]) -> bool {
-    matches!(&options(alloc, words), Err(OptionsError::Help))
-}
-
-fn is_version<'a>(alloc: Global, words: &'a [&'a str]) -> bool {
-    matches!(&options(alloc, words), Err(OptionsError::Version))
 }
 
 #[test]
-fn lines_that_ask_for_a_text(rt: HostRuntime) {
-    let alloc = rt.alloc();
-    assert!(&rt; is_help(alloc, &["cilkreport", "--help"]));
-    assert!(&rt; is_help(alloc, &["cilkreport", "-h"]));
-    assert!(&rt;
-        is_help(
-            alloc,
-            &["cilkreport", "p", "t", "--workers", "17", "--help"]
-        )
-    );
-    assert!(&rt; is_help(alloc, &["cilkreport", "--help", "--version"]));
-    assert!(&rt; is_version(alloc, &["cilkreport", "--version"]));
-    assert!(&rt; is_version(alloc, &["cilkreport", "p", "-V"]));
-}
-
-#[test]
-fn texts_of_refused_lines(rt: HostRuntime) {
-    let usage =
-        "usage: cilkreport PROGRAM TABLES [--workers 1..16] [--kits 1..4096] [--trace FILE] [--stats] [--explain]";
-    for (refusal, wanted) in [
-        (OptionsError::NoMemory, "out of memory"),
-        (OptionsError::Usage, usage),
-        (OptionsError::Help, HELP),
-        (OptionsError::Version, "cilkreport 0.1.0"),
-    ] {
-        let said = refusal.to_string(rt.alloc()).expect(&rt, "memory");
-        assert_eq!(&rt; said.as_str(), wanted);
-    }
+fn text_of_refused_memory(rt: HostRuntime) {
+    let said = OptionsError::NoMemory
+        .to_string(rt.alloc())
+        .expect(&rt, "memory");
+    assert_eq!(&rt; said.as_str(), "out of memory");
 }

@@ -1,10 +1,11 @@
 // Where memory is refused, a report ends by want of memory after a beginning of its answers, or is as it should be.
+use crate::running::prepare_error;
 use cli::files::FileSource;
 use cli::program::report_on;
 use command_line::line::options;
 use command_line::options::{Options, OptionsError};
 use monoid_laws::Kind;
-use prepared_program::prepare::{PrepareError, prepare};
+use prepared_program::prepare::PrepareError;
 use program_endings::program_error::status;
 use program_endings::streams::Failures;
 use program_reasons::script::Explainer;
@@ -155,24 +156,22 @@ fn of_edits(rt: HostRuntime) {
 
 #[test]
 fn of_a_check(rt: HostRuntime) {
-    match prepare(rt.alloc(), b"proc main() { return x; }", "") {
-        Ok(_) => assert!(&rt; false),
-        Err(PrepareError::NoMemory) => {}
-        Err(PrepareError::Check { name, line, .. }) => {
+    match &prepare_error(&rt, rt.alloc(), b"proc main() { return x; }", "") {
+        PrepareError::NoMemory => {}
+        PrepareError::Check { name, line, .. } => {
             assert_eq!(&rt; name.as_str(), "main");
-            assert_eq!(&rt; line, 1);
+            assert_eq!(&rt; *line, 1);
         }
-        Err(_) => assert!(&rt; false),
+        _ => assert!(&rt; false),
     }
 }
 
 #[test]
 fn of_tables(rt: HostRuntime) {
-    match prepare(rt.alloc(), FIRST, "[sales]\nrows = 1\n") {
-        Ok(_) => assert!(&rt; false),
-        Err(PrepareError::NoMemory) => {}
-        Err(PrepareError::Shape { table }) => assert_eq!(&rt; table.as_str(), "sales"),
-        Err(_) => assert!(&rt; false),
+    match &prepare_error(&rt, rt.alloc(), FIRST, "[sales]\nrows = 1\n") {
+        PrepareError::NoMemory => {}
+        PrepareError::Shape { table } => assert_eq!(&rt; table.as_str(), "sales"),
+        _ => assert!(&rt; false),
     }
 }
 

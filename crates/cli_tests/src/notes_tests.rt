@@ -1,21 +1,11 @@
 // The trace and the counts of a program's runs, and a trace that fails.
 ghost use Rattle.std.specs.Prelude.{◌<◌, ◌≤◌};
 
-use cli::files::FileSource;
-use cli::notes::NoNotes;
-use cli::program::report_on;
-use command_line::options::Options;
-use monoid_laws::Kind;
-use program_endings::program_error::{ProgramError, status};
-use program_endings::streams::Failures;
-use std::alloc::{AllocError, Global};
-use std::cell::RefCell;
-use std::io;
-use std::io::{ErrorKind, Write};
+use crate::reporting::{Report, Texts, asked, ends_so, reported};
+use std::alloc::Global;
 use std::process::Abort;
 use std::sync::Wait;
 use std::thread::Threads;
-use view_pool::PlainView;
 
 const LINES: &[u8] = b"reducer total : add;
 reducer top : argmax;
@@ -30,143 +20,25 @@ rows = [[1, 2, 5], [2, 3, 7], [3, 1, 100]]
 
 const TOO_DEEP: &[u8] = b"proc f() { call f(); } proc main() { call f(); }";
 
-// A program, the tables of sales, and the trace `T` in memory, which takes so many bytes; without any it can't be made.
-#[derive(Clone, Copy)]
-struct Files<'a> {
-    program: &'a [u8],
-    room: Option<usize>,
-    trace: &'a RefCell<Vec<u8>>,
-}
-
-impl<'a> FileSource for Files<'a> {
-    type Made = Page<'a>;
-
-    fn read(&self, alloc: Global, path: &str) -> io::Result<Vec<u8>> {
-        let text = if path == "p" { self.program } else { SALES };
-        Ok(Vec::from_slice(alloc, text)?)
-    }
-
-    fn make(&self, path: &str) -> io::Result<Page<'a>> {
-        match self.room {
-            Some(room) if path == "T" => Ok(Page {
-                room,
-                bytes: self.trace,
-            }),
-            _ => Err(io::Error::from(ErrorKind::PermissionDenied)),
-        }
-    }
-}
-
-// A file that takes so many bytes.
-#[derive(Drop)]
-struct Page<'a> {
-    room: usize,
-    bytes: &'a RefCell<Vec<u8>>,
-}
-
-impl<'a> Write for Page<'a> {
-    fn write(&mut self, buf: &[u8]) -> io::Result<usize> {
-        let count = buf.len().min(self.room);
-        let Ok(mut bytes) = self.bytes.try_borrow_mut() else {
-            return Err(io::Error::from(ErrorKind::ResourceBusy));
-        };
-        bytes.extend_from_slice(&buf[..count])?;
-        self.room -= count;
-        Ok(count)
-    }
-
-    fn flush(&mut self) -> io::Result<()> {
-        Ok(())
-    }
-}
-
-// What a script comes to: the answers, the trace, the counts, what is said of the error, and the status.
-#[derive(Drop)]
-struct Report {
-    written: Vec<u8>,
-    trace: Vec<u8>,
-    counts: Vec<u8>,
-    said: String,
-    status: u8,
-}
-
-// Does a script by so many workers with so many kits, with the trace `T` and counts.
-fn run_over(
-    rt: &(impl Threads + Wait + Sync),
-    alloc: Global,
-    files: &Files<'_>,
-    script: &[u8],
-    workers: usize,
-    kits: usize,
-    written: &mut Vec<u8>,
-    counts: &mut Vec<u8>,
-) -> Result<(), ProgramError>
-    requires workers { (0 < workers) × (workers ≤ 16) }
-{
-    let options = Options {
-        program: "p",
-        tables: "t",
-        workers,
-        kits,
-        trace: Some("T"),
-        stats: true,
-        explain: false,
-    };
-    let make = |kind: Kind| -> Result<PlainView, AllocError> { Ok(PlainView::new(alloc, kind)) };
-    let mut reader = script;
-    report_on(
-        rt,
-        alloc,
-        options,
-        &make,
-        files,
-        &mut reader,
-        written,
-        counts,
-        NoNotes,
-        &mut Failures::none(),
-    )
-}
-
-fn reported(
+// Does a script over the sales by so many workers with so many kits, with the trace `T`, which takes so many bytes, and counts.
+fn noted(
     rt: &(impl Abort + Threads + Wait + Sync),
     alloc: Global,
     program: &[u8],
-    script: &[u8],
+    script: &str,
     workers: usize,
     kits: usize,
     room: Option<usize>,
 ) -> Report
     requires workers { (0 < workers) × (workers ≤ 16) }
 {
-    let trace = RefCell::new(Vec::new(alloc));
-    let files = Files {
-        program,
+    let texts = Texts {
+        program: Some(program),
+        tables: Some(SALES),
         room,
-        trace: &trace,
     };
-    let (mut written, mut counts) = (Vec::new(alloc), Vec::new(alloc));
-    let ended = run_over(
-        rt,
-        alloc,
-        &files,
-        script,
-        workers,
-        kits,
-        &mut written,
-        &mut counts,
-    );
-    let (said, status) = match ended {
-        Ok(()) => (String::new(alloc), 0),
-        Err(error) => (error.to_string(alloc).expect(rt, "memory"), status(&error)),
-    };
-    Report {
-        written,
-        trace: trace.into_inner(),
-        counts,
-        said,
-        status,
-    }
+    let options = asked(workers, kits, true, false);
+    reported(rt, alloc, texts, options, script.as_bytes())
 }
 
 const COUNTS_OF_TWO_RUNS: &str =
@@ -180,58 +52,79 @@ run 2
 finish root
 ";
 
-#[test]
-fn two_runs(rt: HostRuntime) {
-    let report = reported(&rt, rt.alloc(), LINES, b"run\nrun\n", 1, 64, Some(1000));
-    assert_eq!(&rt; report.status, 0);
-    assert_eq!(&rt; report.trace.as_slice(), TRACE_OF_TWO_RUNS.as_bytes());
-    assert_eq!(&rt; report.counts.as_slice(), COUNTS_OF_TWO_RUNS.as_bytes());
+const ANSWERS_OF_TWO_RUNS: &str = "run 1
+result 131
+total 131
+top 100 3
+run 2
+result 131
+total 131
+top 100 3
+";
+
+const NO_PROGRAM: &[u8] = b"proc";
+
+// A program, a script, how many bytes the trace takes, the answers, the trace, the counts, and what is said of the error.
+type Noted = (
+    &'static [u8],
+    &'static str,
+    Option<usize>,
+    &'static str,
+    &'static str,
+    &'static str,
+    &'static str,
+);
+
+const NOTED: [Noted; 6] = [
+    (
+        LINES,
+        "run\nrun\n",
+        Some(1000),
+        ANSWERS_OF_TWO_RUNS,
+        TRACE_OF_TWO_RUNS,
+        COUNTS_OF_TWO_RUNS,
+        "",
+    ),
+    (
+        TOO_DEEP,
+        "run\n",
+        Some(1000),
+        "run 1\nfault too deep in f at 1\n",
+        "run 1\nfault root\n",
+        "stats 1 none\n",
+        "",
+    ),
+    // A line that is refused is no run.
+    (LINES, "run\r\n", Some(1000), "refused E19 1\n", "", "", ""),
+    // The answer to the run that couldn't be noted isn't written, nor are its counts.
+    (
+        LINES,
+        "here\nrun\n",
+        Some(7),
+        "refused E19 1\n",
+        "run 1\nf",
+        "",
+        "failed T",
+    ),
+    (LINES, "here\nrun\n", None, "", "", "", "failed T"),
+    // A program that is refused is told of before the trace's file.
+    (NO_PROGRAM, "run\n", None, "", "", "", "refused E8 1"),
+];
+
+// Compares what a script comes to by one worker; its status is 1 where something is said.
+fn is_noted(rt: &(impl Abort + Threads + Wait + Sync), alloc: Global, row: Noted) {
+    let (program, script, room, answers, trace, counts, said) = row;
+    let report = noted(rt, alloc, program, script, 1, 64, room);
+    ends_so(rt, &report, answers, said, u8::from(!said.is_empty()));
+    assert_eq!(rt; report.trace.as_slice(), trace.as_bytes(), "{script}");
+    assert_eq!(rt; report.counts.as_slice(), counts.as_bytes(), "{script}");
 }
 
 #[test]
-fn a_fault(rt: HostRuntime) {
-    let report = reported(&rt, rt.alloc(), TOO_DEEP, b"run\n", 1, 64, Some(1000));
-    let answers = b"run 1\nfault too deep in f at 1\n".as_slice();
-    assert_eq!(&rt; report.status, 0);
-    assert_eq!(&rt; report.written.as_slice(), answers);
-    assert_eq!(&rt; report.trace.as_slice(), b"run 1\nfault root\n".as_slice());
-    assert_eq!(&rt; report.counts.as_slice(), b"stats 1 none\n".as_slice());
-}
-
-// A line that is refused is no run.
-#[test]
-fn a_line_with_a_carriage_return(rt: HostRuntime) {
-    let report = reported(&rt, rt.alloc(), LINES, b"run\r\n", 1, 64, Some(1000));
-    assert_eq!(&rt; report.written.as_slice(), b"refused E19 1\n".as_slice());
-    assert_eq!(&rt; report.trace.len(), 0);
-    assert_eq!(&rt; report.counts.len(), 0);
-}
-
-// The answer to the run that couldn't be noted isn't written, nor are its counts.
-#[test]
-fn a_trace_that_fails(rt: HostRuntime) {
-    let report = reported(&rt, rt.alloc(), LINES, b"here\nrun\n", 1, 64, Some(7));
-    assert_eq!(&rt; report.status, 1);
-    assert_eq!(&rt; report.said.as_str(), "failed T");
-    assert_eq!(&rt; report.written.as_slice(), b"refused E19 1\n".as_slice());
-    assert_eq!(&rt; report.trace.as_slice(), b"run 1\nf".as_slice());
-    assert_eq!(&rt; report.counts.len(), 0);
-}
-
-#[test]
-fn a_trace_that_cannot_be_made(rt: HostRuntime) {
-    let report = reported(&rt, rt.alloc(), LINES, b"here\nrun\n", 1, 64, None);
-    assert_eq!(&rt; report.status, 1);
-    assert_eq!(&rt; report.said.as_str(), "failed T");
-    assert_eq!(&rt; report.written.len(), 0);
-    assert_eq!(&rt; report.counts.len(), 0);
-}
-
-// A program that is refused is told of before the trace's file.
-#[test]
-fn a_program_before_the_trace(rt: HostRuntime) {
-    let report = reported(&rt, rt.alloc(), b"proc", b"run\n", 1, 64, None);
-    assert_eq!(&rt; report.said.as_str(), "refused E8 1");
+fn traces_and_counts(rt: HostRuntime) {
+    for row in NOTED {
+        is_noted(&rt, rt.alloc(), row);
+    }
 }
 
 const NESTED_READS: &[u8] = b"reducer total : add;
@@ -339,20 +232,26 @@ const ROWS: [Row; 6] = [
     FEW_KITS,
 ];
 
-// Whether a row has its answers and its counts by one worker, and its answers by four.
-fn is_reported(rt: &(impl Abort + Threads + Wait + Sync), alloc: Global, row: Row) -> bool {
-    let (program, kits, script, answers, counts) = row;
-    let alone = reported(rt, alloc, program, script.as_bytes(), 1, kits, Some(50000));
-    let by_four = reported(rt, alloc, program, script.as_bytes(), 4, kits, Some(50000));
-    alone.written.as_slice() == answers.as_bytes()
-        && alone.counts.as_slice() == counts.as_bytes()
-        && by_four.written.as_slice() == answers.as_bytes()
+// Compares the answers of a row by so many workers, and gives the counts.
+fn counts_of(
+    rt: &(impl Abort + Threads + Wait + Sync),
+    alloc: Global,
+    row: Row,
+    workers: usize,
+) -> Vec<u8>
+    requires workers { (0 < workers) × (workers ≤ 16) }
+{
+    let (program, kits, script, answers, _) = row;
+    let report = noted(rt, alloc, program, script, workers, kits, Some(50000));
+    assert_eq!(rt; report.written.as_slice(), answers.as_bytes(), "{script}");
+    report.counts
 }
 
 #[test]
 fn rows_by_one_worker_and_by_four(rt: HostRuntime) {
     for row in ROWS {
-        let (_, _, script, _, _) = row;
-        assert!(&rt; is_reported(&rt, rt.alloc(), row), "{script}");
+        let counts = counts_of(&rt, rt.alloc(), row, 1);
+        assert_eq!(&rt; counts.as_slice(), row.4.as_bytes(), "{}", row.2);
+        counts_of(&rt, rt.alloc(), row, 4);
     }
 }

@@ -1,17 +1,14 @@
 // The program over two files in memory: what is written, what is said of an error, and the status.
+use crate::reporting::{Texts, asked, ends_so, reported, reported_by};
 use cli::files::{FileSource, SystemFiles};
-use cli::notes::NoNotes;
-use cli::program::report_on;
 use command_line::line::options;
 use command_line::options::OptionsError;
 use monoid_laws::Kind;
 use prepared_program::prepare::PrepareError;
 use program_endings::program_error::{ProgramError, status};
 use program_endings::session_error::SessionError;
-use program_endings::streams::Failures;
 use std::alloc::{AllocError, Global};
-use std::io;
-use std::io::{ErrorKind, Sink, Write};
+use std::io::Write;
 use std::process::Abort;
 use std::sync::Wait;
 use std::thread::Threads;
@@ -65,175 +62,126 @@ rows = [[1, 2, 5], [2, 3, 7], [3, 1, 100]]
 const NOT_ASSOCIATIVE: &[u8] =
     b"reducer m : table 3 unit 0 [0, 1, 2, 1, 2, 1, 2, 2, 2]; proc main() { return 0; }";
 
-// The files `p` and `t`, where they are there.
-#[derive(Clone, Copy)]
-struct Two<'a> {
-    program: Option<&'a [u8]>,
-    tables: Option<&'a [u8]>,
+const NO_TEXT: &[u8] = b"";
+
+const NO_BODY: &[u8] = b"proc main() {";
+
+const NO_NAME: &[u8] = b"proc";
+
+const NO_TABLE: &[u8] = b"[sales]\n";
+
+const NO_TOML: &[u8] = b"[sales";
+
+const NOT_UTF8: &[u8] = b"\xFF";
+
+const LATE_NOT_UTF8: &[u8] = b"# \xFF\n";
+
+// The files of the program and of its tables, where they are there, the answers, what is said of the error, and the status.
+type Row = (
+    Option<&'static [u8]>,
+    Option<&'static [u8]>,
+    &'static str,
+    &'static str,
+    u8,
+);
+
+const ENDINGS: [Row; 15] = [
+    (
+        Some(FIRST),
+        Some(NO_TEXT),
+        "run 1\nresult 3\ntotal 12\n",
+        "",
+        0,
+    ),
+    (
+        Some(LINES),
+        Some(SALES),
+        "run 1\nresult 131\ntotal 131\ntop 100 3\n",
+        "",
+        0,
+    ),
+    // Files that fail.
+    (None, None, "", "failed p", 1),
+    (Some(NO_NAME), None, "", "failed t", 1),
+    (Some(NO_NAME), Some(NOT_UTF8), "", "failed t", 1),
+    (Some(FIRST), Some(LATE_NOT_UTF8), "", "failed t", 1),
+    // Texts that are refused.
+    (Some(NO_TEXT), Some(NO_TEXT), "", "refused E9 C7 main 0", 1),
+    (Some(NO_BODY), Some(NO_TEXT), "", "refused E8 1", 1),
+    (Some(UNSYNCED), Some(NO_TEXT), "", "refused E9 C3 main 4", 1),
+    (
+        Some(SYNCED_TOO_LATE),
+        Some(NO_TEXT),
+        "",
+        "refused E9 C3 main 4",
+        1,
+    ),
+    (
+        Some(SYNCED_IN_BOTH),
+        Some(NO_TEXT),
+        "",
+        "refused E9 C3 main 4",
+        1,
+    ),
+    (
+        Some(NOT_ASSOCIATIVE),
+        Some(NO_TEXT),
+        "",
+        "refused E9 C9 m 1",
+        1,
+    ),
+    (Some(LINES), Some(NO_TEXT), "", "refused E9 C8 line 3", 1),
+    (Some(FIRST), Some(NO_TABLE), "", "refused E3 sales", 1),
+    (Some(FIRST), Some(NO_TOML), "", "refused E2", 1),
+];
+
+// Runs the program of a row.
+fn ends(rt: &(impl Abort + Threads + Wait + Sync), alloc: Global, row: Row) {
+    let (program, tables, written, said, status) = row;
+    let texts = Texts {
+        program,
+        tables,
+        room: None,
+    };
+    let report = reported(rt, alloc, texts, asked(1, 64, false, false), b"run\n");
+    ends_so(rt, &report, written, said, status);
 }
 
-impl<'a> FileSource for Two<'a> {
-    type Made = Sink;
-
-    fn read(&self, alloc: Global, path: &str) -> io::Result<Vec<u8>> {
-        let file = if path == "p" {
-            self.program
-        } else {
-            self.tables
-        };
-        match file {
-            Some(bytes) => Ok(Vec::from_slice(alloc, bytes)?),
-            None => Err(io::Error::from(ErrorKind::NotFound)),
-        }
-    }
-
-    fn make(&self, _path: &str) -> io::Result<Sink> {
-        Ok(io::sink())
+#[test]
+fn endings(rt: HostRuntime) {
+    for row in ENDINGS {
+        ends(&rt, rt.alloc(), row);
     }
 }
 
-// What is written, what is said of the error, and the status.
-fn ran(
+// By the words of a line, with boxes of views: compares the answers of a program over the sales.
+fn is_written_by_boxes(
     rt: &(impl Abort + Threads + Wait + Sync),
     alloc: Global,
-    program: Option<&[u8]>,
-    tables: Option<&[u8]>,
-) -> (Vec<u8>, String, u8) {
-    let options = options(alloc, &["cilkreport", "p", "t"]).expect(rt, "options");
-    let make = |kind: Kind| -> Result<PlainView, AllocError> { Ok(PlainView::new(alloc, kind)) };
-    let files = Two { program, tables };
-    let mut reader = b"run\n".as_slice();
-    let mut written = Vec::new(alloc);
-    let ended = report_on(
-        rt,
-        alloc,
-        options,
-        &make,
-        &files,
-        &mut reader,
-        &mut written,
-        io::sink(),
-        NoNotes,
-        &mut Failures::none(),
-    );
-    match ended {
-        Ok(()) => (written, String::new(alloc), 0),
-        Err(error) => {
-            let said = error.to_string(alloc).expect(rt, "memory");
-            (written, said, status(&error))
-        }
-    }
-}
-
-#[test]
-fn reports(rt: HostRuntime) {
-    for (program, tables, wanted) in [
-        (
-            FIRST,
-            b"".as_slice(),
-            b"run 1\nresult 3\ntotal 12\n".as_slice(),
-        ),
-        (
-            LINES,
-            SALES,
-            b"run 1\nresult 131\ntotal 131\ntop 100 3\n".as_slice(),
-        ),
-    ] {
-        let (written, said, status) = ran(&rt, rt.alloc(), Some(program), Some(tables));
-        assert_eq!(&rt; written.as_slice(), wanted);
-        assert_eq!(&rt; said.as_str(), "");
-        assert_eq!(&rt; status, 0);
-    }
-}
-
-// By the words of a line, with boxes of views.
-#[test]
-fn sixteen_workers_and_one_kit(rt: HostRuntime) {
-    let alloc = rt.alloc();
+    program: &[u8],
+    wanted: &str,
+) {
     let words = ["cilkreport", "p", "t", "--workers", "16", "--kits", "1"];
-    let options = options(alloc, &words).expect(&rt, "options");
+    let options = options(alloc, &words).expect(rt, "options");
     let make = |kind: Kind| -> Result<Box<dyn View>, AllocError> {
         Ok(Box::new(alloc, PlainView::new(alloc, kind))?)
     };
+    let texts = Texts {
+        program: Some(program),
+        tables: Some(SALES),
+        room: None,
+    };
+    let report = reported_by(rt, alloc, texts, options, &make, b"run\n");
+    ends_so(rt, &report, wanted, "", 0);
+}
+
+#[test]
+fn sixteen_workers_and_one_kit(rt: HostRuntime) {
     for (program, wanted) in [
         (LINES, "run 1\nresult 131\ntotal 131\ntop 100 3\n"),
         (FIRST_LIST, "run 1\nresult 3\nseen 1 2 9\n"),
     ] {
-        let files = Two {
-            program: Some(program),
-            tables: Some(SALES),
-        };
-        let mut reader = b"run\n".as_slice();
-        let mut written = Vec::new(alloc);
-        report_on(
-            &rt,
-            alloc,
-            options,
-            &make,
-            &files,
-            &mut reader,
-            &mut written,
-            io::sink(),
-            NoNotes,
-            &mut Failures::none(),
-        )
-        .expect(&rt, "a report");
-        assert_eq!(&rt; written.as_slice(), wanted.as_bytes());
-    }
-}
-
-#[test]
-fn files_that_fail(rt: HostRuntime) {
-    for (program, tables, wanted) in [
-        (None, None, "failed p"),
-        (Some(b"proc".as_slice()), None, "failed t"),
-        (
-            Some(b"proc".as_slice()),
-            Some(b"\xFF".as_slice()),
-            "failed t",
-        ),
-        (Some(FIRST), Some(b"# \xFF\n".as_slice()), "failed t"),
-    ] {
-        let (written, said, status) = ran(&rt, rt.alloc(), program, tables);
-        assert_eq!(&rt; said.as_str(), wanted);
-        assert_eq!(&rt; status, 1);
-        assert_eq!(&rt; written.len(), 0);
-    }
-}
-
-#[test]
-fn texts_that_are_refused(rt: HostRuntime) {
-    for (program, tables, wanted) in [
-        (b"".as_slice(), b"".as_slice(), "refused E9 C7 main 0"),
-        (b"proc main() {".as_slice(), b"".as_slice(), "refused E8 1"),
-        (UNSYNCED, b"".as_slice(), "refused E9 C3 main 4"),
-        (SYNCED_TOO_LATE, b"".as_slice(), "refused E9 C3 main 4"),
-        (SYNCED_IN_BOTH, b"".as_slice(), "refused E9 C3 main 4"),
-        (NOT_ASSOCIATIVE, b"".as_slice(), "refused E9 C9 m 1"),
-        (LINES, b"".as_slice(), "refused E9 C8 line 3"),
-        (FIRST, b"[sales]\n".as_slice(), "refused E3 sales"),
-        (FIRST, b"[sales".as_slice(), "refused E2"),
-    ] {
-        let (written, said, status) = ran(&rt, rt.alloc(), Some(program), Some(tables));
-        assert_eq!(&rt; said.as_str(), wanted);
-        assert_eq!(&rt; status, 1);
-        assert_eq!(&rt; written.len(), 0);
-    }
-}
-
-#[test]
-fn seventeen_workers(rt: HostRuntime) {
-    let words = ["cilkreport", "p", "t", "--workers", "17"];
-    let refused = options(rt.alloc(), &words).map_err(|error| ProgramError::Line(error));
-    match refused {
-        Ok(_) => assert!(&rt; false),
-        Err(error) => {
-            assert_eq!(&rt; status(&error), 2);
-            let said = error.to_string(rt.alloc()).expect(&rt, "memory");
-            let form =
-                "usage: cilkreport PROGRAM TABLES [--workers 1..16] [--kits 1..4096] [--trace FILE] [--stats] [--explain]";
-            assert_eq!(&rt; said.as_str(), form);
-        }
+        is_written_by_boxes(&rt, rt.alloc(), program, wanted);
     }
 }
 
@@ -241,31 +189,55 @@ const MISMATCH: Mismatch = Mismatch {
     refusal: BookError::NotThere,
 };
 
+// Compares what is said of an error, and its status.
+fn is_ended_by(rt: &impl Abort, alloc: Global, error: ProgramError, said: &str, wanted: u8) {
+    let text = error.to_string(alloc).expect(rt, "memory");
+    assert_eq!(rt; text.as_str(), said);
+    assert_eq!(rt; status(&error), wanted, "{said}");
+}
+
+const USAGE: &str =
+    "usage: cilkreport PROGRAM TABLES [--workers 1..16] [--kits 1..4096] [--trace FILE] [--stats] [--explain]";
+
 #[test]
-fn statuses_of_errors(rt: HostRuntime) {
-    for (error, wanted, said) in [
-        (SessionError::NoMemory, 3, "out of memory"),
-        (SessionError::NoKit, 3, "no kit"),
-        (SessionError::Mismatch(MISMATCH), 3, "worker mismatch"),
-        (SessionError::Read, 1, "failed input"),
-        (SessionError::Write, 1, "failed output"),
-        (SessionError::Notes, 1, "failed output"),
-    ] {
-        let error = ProgramError::Session(error);
-        assert_eq!(&rt; status(&error), wanted);
-        let text = error.to_string(rt.alloc()).expect(&rt, "memory");
-        assert_eq!(&rt; text.as_str(), said);
+fn seventeen_workers(rt: HostRuntime) {
+    let words = ["cilkreport", "p", "t", "--workers", "17"];
+    match options(rt.alloc(), &words) {
+        Ok(_) => assert!(&rt; false),
+        Err(error) => is_ended_by(&rt, rt.alloc(), ProgramError::Line(error), USAGE, 2),
     }
+}
+
+fn is_session_error(rt: &impl Abort, alloc: Global, error: SessionError, said: &str, wanted: u8) {
+    is_ended_by(rt, alloc, ProgramError::Session(error), said, wanted);
+}
+
+#[test]
+fn errors_of_sessions(rt: HostRuntime) {
+    let alloc = rt.alloc();
+    is_session_error(&rt, alloc, SessionError::NoMemory, "out of memory", 3);
+    is_session_error(&rt, alloc, SessionError::NoKit, "no kit", 3);
+    let mismatch = SessionError::Mismatch(MISMATCH);
+    is_session_error(&rt, alloc, mismatch, "worker mismatch", 3);
+    is_session_error(&rt, alloc, SessionError::Read, "failed input", 1);
+    is_session_error(&rt, alloc, SessionError::Write, "failed output", 1);
+    is_session_error(&rt, alloc, SessionError::Notes, "failed output", 1);
     let error = ProgramError::Prepare(PrepareError::NoMemory);
-    assert_eq!(&rt; status(&error), 3);
-    for (error, wanted) in [
-        (OptionsError::NoMemory, 3),
-        (OptionsError::Usage, 2),
-        (OptionsError::Help, 0),
-        (OptionsError::Version, 0),
-    ] {
-        assert_eq!(&rt; status(&ProgramError::Line(error)), wanted);
-    }
+    is_ended_by(&rt, alloc, error, "out of memory", 3);
+}
+
+// Compares the status of a line that gives no options.
+fn is_status(rt: &impl Abort, error: OptionsError, wanted: u8) {
+    let error = ProgramError::Line(error);
+    assert_eq!(rt; status(&error), wanted);
+}
+
+#[test]
+fn statuses_of_lines(rt: HostRuntime) {
+    is_status(&rt, OptionsError::NoMemory, 3);
+    is_status(&rt, OptionsError::Usage, 2);
+    is_status(&rt, OptionsError::Help, 0);
+    is_status(&rt, OptionsError::Version, 0);
 }
 
 #[test]

@@ -1,7 +1,8 @@
 // The lines under the refusal of a program or of its tables.
-use prepared_program::prepare::prepare;
+use crate::running::prepare_error;
 use program_reasons::reasons;
 use std::alloc::Global;
+use std::process::Abort;
 
 const SALES: &str = "[sales]
 columns = [\"qty\", \"price\"]
@@ -52,33 +53,28 @@ const UNDER_NO_TOML: &str = "  unclosed table, expected `]`\n";
 
 const UNDER_A_TABLE: &str = "  `columns` or `rows` is missing, or is no array.\n";
 
-// Whether a program with its tables is refused with that line, and these are the lines under it.
-fn is_told(alloc: Global, program: &str, tables: &str, refusal: &str, told: &str) -> bool {
-    let Err(error) = prepare(alloc, program.as_bytes(), tables) else {
-        return false;
-    };
-    let Ok(said) = error.to_string(alloc) else {
-        return false;
-    };
-    match reasons(alloc, &error, program.as_bytes(), tables) {
-        Ok(text) => said.as_str() == refusal && text.as_str() == told,
-        Err(_) => false,
-    }
+// Programs and tables, their refusals, and the lines under these.
+const REFUSED: [(&str, &str, &str, &str); 6] = [
+    (MISSING_MARK, SALES, "refused E8 3", UNDER_A_TEXT),
+    (UNSYNCED, "[sales", "refused E2", UNDER_NO_TOML),
+    (UNSYNCED, "[sales]\n", "refused E3 sales", UNDER_A_TABLE),
+    (UNSYNCED, SALES, "refused E9 C3 main 4", UNDER_A_PROCEDURE),
+    (NO_UNIT, SALES, "refused E9 C9 later 2", UNDER_A_REDUCER),
+    ("", SALES, "refused E9 C7 main 0", UNDER_NO_MAIN),
+];
+
+// Compares what is said of a program with its tables, and the lines under it.
+fn is_told(rt: &impl Abort, alloc: Global, program: &str, tables: &str, refusal: &str, told: &str) {
+    let error = prepare_error(rt, alloc, program.as_bytes(), tables);
+    let said = error.to_string(alloc).expect(rt, "memory");
+    assert_eq!(rt; said.as_str(), refusal);
+    let text = reasons(alloc, &error, program.as_bytes(), tables).expect(rt, "memory");
+    assert_eq!(rt; text.as_str(), told);
 }
 
 #[test]
 fn lines_under_refusals(rt: HostRuntime) {
-    for (program, tables, refusal, told) in [
-        (MISSING_MARK, SALES, "refused E8 3", UNDER_A_TEXT),
-        (UNSYNCED, "[sales", "refused E2", UNDER_NO_TOML),
-        (UNSYNCED, "[sales]\n", "refused E3 sales", UNDER_A_TABLE),
-        (UNSYNCED, SALES, "refused E9 C3 main 4", UNDER_A_PROCEDURE),
-        (NO_UNIT, SALES, "refused E9 C9 later 2", UNDER_A_REDUCER),
-        ("", SALES, "refused E9 C7 main 0", UNDER_NO_MAIN),
-    ] {
-        assert!(&rt;
-            is_told(rt.alloc(), program, tables, refusal, told),
-            "{refusal}"
-        );
+    for (program, tables, refusal, told) in REFUSED {
+        is_told(&rt, rt.alloc(), program, tables, refusal, told);
     }
 }

@@ -1,16 +1,8 @@
 // Programs run by several workers, and what is written for them.
-ghost use Rattle.std.specs.Prelude.{◌<◌, ◌≤◌};
-
-use cli::beginning::begin;
+use crate::running::{Case, answers_by, are_answered};
 use cli::notes::NoNotes;
-use cli::session::session_text;
 use monoid_laws::Kind;
-use program_endings::streams::Failures;
-use std::alloc::{AllocError, Global};
-use std::process::Abort;
-use std::sync::Wait;
-use std::thread::Threads;
-use threaded_driver::NoGate;
+use std::alloc::AllocError;
 use view_pool::{PlainView, View};
 
 const TOTALS: &str = "reducer total : add;
@@ -66,91 +58,85 @@ columns = [\"qty\", \"price\"]
 rows = [[1, 2, 5], [2, 3, 7], [3, 1, 100]]
 ";
 
-// What a script is answered, with so many kits of views that are made so.
-fn answered<V: View, M: Fn(Kind) -> Result<V, AllocError>>(
-    rt: &(impl Abort + Threads + Wait + Sync),
-    alloc: Global,
-    program: &str,
-    workers: usize,
-    kits: usize,
-    make: &M,
-) -> Vec<u8>
-    requires callable { M.IsAlwaysCallable make.now }
-    requires workers { (0 < workers) × (workers ≤ 16) }
-{
-    let session = begin(alloc, program.as_bytes(), SALES, kits, make).expect(rt, "a session");
-    let mut reader = b"run\n".as_slice();
-    let mut written = Vec::new(alloc);
-    let mut failures = Failures::none();
-    session_text(
-        rt,
-        alloc,
-        session,
-        workers,
-        &mut NoNotes,
-        &NoGate,
-        &mut reader,
-        &mut written,
-        &mut failures,
-    )
-    .expect(rt, "answers");
-    written
-}
+const QUOTIENT: &str = "proc main() { return (-9223372036854775807 - 1) / -1; }";
 
-fn is_answered(
-    rt: &(impl Abort + Threads + Wait + Sync),
-    alloc: Global,
-    program: &str,
-    workers: usize,
-    kits: usize,
-    answer: &str,
-)
-    requires workers { (0 < workers) × (workers ≤ 16) }
-{
-    let make = |kind: Kind| -> Result<PlainView, AllocError> { Ok(PlainView::new(alloc, kind)) };
-    let written = answered(rt, alloc, program, workers, kits, &make);
-    assert_eq!(rt; written.as_slice(), answer.as_bytes());
-}
+const REST: &str = "proc main() { return (-9223372036854775807 - 1) % -1; }";
 
-// By one worker, and by two, four and sixteen.
-fn is_always_answered(
-    rt: &(impl Abort + Threads + Wait + Sync),
-    alloc: Global,
-    program: &str,
-    kits: usize,
-    answer: &str,
-) {
-    is_answered(rt, alloc, program, 1, kits, answer);
-    is_answered(rt, alloc, program, 2, kits, answer);
-    is_answered(rt, alloc, program, 4, kits, answer);
-    is_answered(rt, alloc, program, 16, kits, answer);
-}
+const RUN: &[u8] = b"run\n";
 
-#[test]
-fn by_each_number_of_workers(rt: HostRuntime) {
-    for workers in 1..17 {
-        is_answered(
-            &rt,
-            rt.alloc(),
-            TOTALS,
-            workers,
-            64,
-            "run 1\nresult 3\ntotal 12\n",
-        );
-        is_answered(
-            &rt,
-            rt.alloc(),
-            LISTS,
-            workers,
-            64,
-            "run 1\nresult 3\nseen 1 2 9\n",
-        );
-    }
-}
+const ROWS: [Case; 15] = [
+    (TOTALS, SALES, 64, RUN, "run 1\nresult 3\ntotal 12\n"),
+    (LISTS, SALES, 64, RUN, "run 1\nresult 3\nseen 1 2 9\n"),
+    // Without a kit to steal with.
+    (LISTS, SALES, 1, RUN, "run 1\nresult 3\nseen 1 2 9\n"),
+    (
+        IDENTITIES,
+        SALES,
+        64,
+        RUN,
+        "run 1\nresult 0\nleast 9223372036854775807\nseen\ntop none\nf 1 0\n",
+    ),
+    (LINES, SALES, 64, RUN, "run 1\nresult 0\nf 6 7\n"),
+    (
+        OVERFLOW,
+        SALES,
+        64,
+        RUN,
+        "run 1\nresult 0\ntotal -9223372036854775808\n",
+    ),
+    (AMOUNTS, SALES, 64, RUN, "run 1\nresult 0\nh 3:2 5:0\n"),
+    (SUM_OF_THREE, SALES, 64, RUN, "run 1\nresult 0\nm 1\n"),
+    (
+        NO_ELEMENT,
+        SALES,
+        64,
+        RUN,
+        "run 1\nfault bad element in main at 1\n",
+    ),
+    // Quotients wrap.
+    (
+        QUOTIENT,
+        SALES,
+        1,
+        RUN,
+        "run 1\nresult -9223372036854775808\n",
+    ),
+    (REST, SALES, 1, RUN, "run 1\nresult 0\n"),
+    (EMPTY_LOOPS, SALES, 64, RUN, "run 1\nresult 0\nn 0\n"),
+    (
+        TOO_LONG,
+        SALES,
+        64,
+        RUN,
+        "run 1\nfault range too long in main at 1\n",
+    ),
+    (
+        FAR_TOO_LONG,
+        SALES,
+        64,
+        RUN,
+        "run 1\nfault range too long in main at 1\n",
+    ),
+    // The first fault in serial order.
+    (
+        TWO_FAULTS,
+        SALES,
+        64,
+        RUN,
+        "run 1\nfault divide by zero in bad at 1\n",
+    ),
+];
 
 #[test]
-fn without_a_kit_to_steal_with(rt: HostRuntime) {
-    is_always_answered(&rt, rt.alloc(), LISTS, 1, "run 1\nresult 3\nseen 1 2 9\n");
+fn programs_by_each_number_of_workers(rt: HostRuntime) {
+    are_answered(&rt, rt.alloc(), &ROWS);
+}
+
+const LONGEST: [Case; 1] = [(LONGEST_LOOP, SALES, 64, RUN, "run 1\nresult 0\nn 1048576\n")];
+
+#[test]
+fn the_longest_loop(rt: HostRuntime) {
+    are_answered(&rt, rt.alloc(), &LONGEST);
 }
 
 #[test]
@@ -160,73 +146,10 @@ fn by_boxes(rt: HostRuntime) {
         let view: Box<dyn View> = Box::new(alloc, PlainView::new(alloc, kind))?;
         Ok(view)
     };
-    let written = answered(&rt, alloc, LISTS, 3, 3, &make);
+    let texts = (LISTS.as_bytes(), SALES, 3);
+    let written = answers_by(&rt, alloc, texts, &make, RUN, 3, &mut NoNotes);
     assert_eq!(&rt;
         written.as_slice(),
         b"run 1\nresult 3\nseen 1 2 9\n".as_slice()
-    );
-}
-
-#[test]
-fn values_of_each_kind(rt: HostRuntime) {
-    for (program, answer) in [
-        (
-            IDENTITIES,
-            "run 1\nresult 0\nleast 9223372036854775807\nseen\ntop none\nf 1 0\n",
-        ),
-        (LINES, "run 1\nresult 0\nf 6 7\n"),
-        (OVERFLOW, "run 1\nresult 0\ntotal -9223372036854775808\n"),
-        (AMOUNTS, "run 1\nresult 0\nh 3:2 5:0\n"),
-        (SUM_OF_THREE, "run 1\nresult 0\nm 1\n"),
-        (NO_ELEMENT, "run 1\nfault bad element in main at 1\n"),
-    ] {
-        is_always_answered(&rt, rt.alloc(), program, 64, answer);
-    }
-}
-
-#[test]
-fn quotients_wrap(rt: HostRuntime) {
-    let quotient = "proc main() { return (-9223372036854775807 - 1) / -1; }";
-    let rest = "proc main() { return (-9223372036854775807 - 1) % -1; }";
-    is_always_answered(
-        &rt,
-        rt.alloc(),
-        quotient,
-        1,
-        "run 1\nresult -9223372036854775808\n",
-    );
-    is_always_answered(&rt, rt.alloc(), rest, 1, "run 1\nresult 0\n");
-}
-
-#[test]
-fn ranges_of_loops(rt: HostRuntime) {
-    for (program, answer) in [
-        (EMPTY_LOOPS, "run 1\nresult 0\nn 0\n"),
-        (TOO_LONG, "run 1\nfault range too long in main at 1\n"),
-        (FAR_TOO_LONG, "run 1\nfault range too long in main at 1\n"),
-    ] {
-        is_always_answered(&rt, rt.alloc(), program, 64, answer);
-    }
-}
-
-#[test]
-fn the_longest_loop(rt: HostRuntime) {
-    is_always_answered(
-        &rt,
-        rt.alloc(),
-        LONGEST_LOOP,
-        64,
-        "run 1\nresult 0\nn 1048576\n",
-    );
-}
-
-#[test]
-fn the_first_fault_in_serial_order(rt: HostRuntime) {
-    is_always_answered(
-        &rt,
-        rt.alloc(),
-        TWO_FAULTS,
-        64,
-        "run 1\nfault divide by zero in bad at 1\n",
     );
 }

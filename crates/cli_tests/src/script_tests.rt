@@ -6,8 +6,6 @@ use std::alloc::{AllocError, Global};
 use std::fmt::Write;
 use std::process::Abort;
 
-const REFUSED: &str = "put\nput sales 1\nput sales 1 9223372036854775808 1\nrun now\ndefine\n";
-
 const NINE_LINES: &str = "put stock 1 2
 put sales 1 2
 put sales 2147483648 1 1
@@ -16,6 +14,16 @@ hello
 define
 proc main() { x = spawn line(1); return x; }
 end
+run
+";
+
+const NINE_COMMANDS: &str = "put stock 1 2
+put sales 1 2
+put sales 2147483648 1 1
+del sales 9
+unknown 5
+define [proc main() { x = spawn line(1); return x; }
+]
 run
 ";
 
@@ -59,84 +67,53 @@ fn said(alloc: Global, script: &[u8]) -> Result<String, AllocError> {
     Ok(text)
 }
 
-fn says(rt: &impl Abort, alloc: Global, script: &[u8], wanted: &str) {
-    let said = said(alloc, script).expect(rt, "memory");
-    assert_eq!(rt; said.as_str(), wanted);
-}
-
-#[test]
-fn edits_and_runs(rt: HostRuntime) {
-    let script = b"run\nput sales 2 4 7\n#put\n\n \t\nrun\n\tdel  sales\t2\nrun";
-    let wanted = "run\nput sales 2 4 7\nrun\ndel sales 2\nrun\n";
-    says(&rt, rt.alloc(), script, wanted);
-    says(
-        &rt,
-        rt.alloc(),
-        b"run\n#run\nruns\n\nrun\t",
-        "run\nunknown 3\nrun\n",
-    );
-}
-
-#[test]
-fn lines_that_are_refused_later(rt: HostRuntime) {
-    let wanted = "put stock 1 2
-put sales 1 2
-put sales 2147483648 1 1
-del sales 9
-unknown 5
-define [proc main() { x = spawn line(1); return x; }
-]
-run
-";
-    says(&rt, rt.alloc(), NINE_LINES.as_bytes(), wanted);
-}
-
-#[test]
-fn lines_that_are_no_command(rt: HostRuntime) {
-    let wanted = "unknown 1\nunknown 2\nunknown 3\nunknown 4\nunknown 5\n";
-    says(&rt, rt.alloc(), REFUSED.as_bytes(), wanted);
-    let script = b"del sales\ndel sales 1 2\nput sales +1 2\nput sales 1x 2\nend\ndefine it\n";
-    let wanted = "unknown 1\nunknown 2\nunknown 3\nunknown 4\nunknown 5\nunknown 6\n";
-    says(&rt, rt.alloc(), script, wanted);
-}
-
-#[test]
-fn bytes_that_are_not_shown(rt: HostRuntime) {
-    says(
-        &rt,
-        rt.alloc(),
-        b"run\r\n#\r\nrun \x7f\nrun\n",
-        "unknown 1\nunknown 3\nrun\n",
-    );
-    says(
-        &rt,
-        rt.alloc(),
-        b"define\n#\r\n\nend\nrun\n",
-        "define [#\r\n\n]\nrun\n",
-    );
-}
-
-#[test]
-fn numbers_of_64_bits(rt: HostRuntime) {
-    let script = b"put t -9223372036854775808 9223372036854775807 -0 007\n";
-    let wanted = "put t -9223372036854775808 9223372036854775807 0 7\n";
-    says(&rt, rt.alloc(), script, wanted);
-    let script = b"del t -9223372036854775809\ndel t 9223372036854775808\ndel t -\n";
-    says(&rt, rt.alloc(), script, "unknown 1\nunknown 2\nunknown 3\n");
-}
-
-#[test]
-fn defines_and_their_ends(rt: HostRuntime) {
-    says(
-        &rt,
-        rt.alloc(),
-        b"define\nend\n define \nrun\n end\t",
+// Scripts, and their commands.
+const SCRIPTS: [(&str, &str); 11] = [
+    (
+        "run\nput sales 2 4 7\n#put\n\n \t\nrun\n\tdel  sales\t2\nrun",
+        "run\nput sales 2 4 7\nrun\ndel sales 2\nrun\n",
+    ),
+    ("run\n#run\nruns\n\nrun\t", "run\nunknown 3\nrun\n"),
+    // Lines that are refused later.
+    (NINE_LINES, NINE_COMMANDS),
+    // Lines that are no command.
+    (
+        "put\nput sales 1\nput sales 1 9223372036854775808 1\nrun now\ndefine\n",
+        "unknown 1\nunknown 2\nunknown 3\nunknown 4\nunknown 5\n",
+    ),
+    (
+        "del sales\ndel sales 1 2\nput sales +1 2\nput sales 1x 2\nend\ndefine it\n",
+        "unknown 1\nunknown 2\nunknown 3\nunknown 4\nunknown 5\nunknown 6\n",
+    ),
+    // Bytes that are not shown.
+    ("run\r\n#\r\nrun \x7f\nrun\n", "unknown 1\nunknown 3\nrun\n"),
+    ("define\n#\r\n\nend\nrun\n", "define [#\r\n\n]\nrun\n"),
+    // Numbers of 64 bits.
+    (
+        "put t -9223372036854775808 9223372036854775807 -0 007\n",
+        "put t -9223372036854775808 9223372036854775807 0 7\n",
+    ),
+    (
+        "del t -9223372036854775809\ndel t 9223372036854775808\ndel t -\n",
+        "unknown 1\nunknown 2\nunknown 3\n",
+    ),
+    // Defines and their ends.
+    (
+        "define\nend\n define \nrun\n end\t",
         "define []\ndefine [run\n]\n",
-    );
-    says(
-        &rt,
-        rt.alloc(),
-        b"run\ndefine\nrun\nend it\nrun\n",
-        "run\nunknown 2\n",
-    );
+    ),
+    ("run\ndefine\nrun\nend it\nrun\n", "run\nunknown 2\n"),
+];
+
+// Compares the commands of a script.
+fn says(rt: &impl Abort, alloc: Global, script: &str, wanted: &str) {
+    let said = said(alloc, script.as_bytes()).expect(rt, "memory");
+    assert_eq!(rt; said.as_str(), wanted, "{script}");
+}
+
+#[test]
+fn commands_of_scripts(rt: HostRuntime) {
+    for (script, wanted) in SCRIPTS {
+        says(&rt, rt.alloc(), script, wanted);
+    }
 }

@@ -1,19 +1,14 @@
 // Readers and writers that fail in mid-stream, or only for a moment.
-use cli::beginning::begin;
+use crate::running::{ended_by, session};
 use cli::notes::NoNotes;
-use cli::session::session_text;
-use monoid_laws::Kind;
 use program_endings::session_error::SessionError;
 use program_endings::streams::{Failures, read_all, write_whole};
-use reuse_planner::Session;
-use std::alloc::{AllocError, Global};
+use std::alloc::Global;
 use std::io;
 use std::io::{ErrorKind, Read, Write};
 use std::process::Abort;
 use std::sync::Wait;
 use std::thread::Threads;
-use threaded_driver::NoGate;
-use view_pool::PlainView;
 
 // A reader that gives one byte of `run` and an end of line a call, and errors of this kind before some.
 #[derive(Drop)]
@@ -84,11 +79,6 @@ fn halting_reader(error: ErrorKind, at: usize, times: usize) -> Halting {
     }
 }
 
-fn session(rt: &impl Abort, alloc: Global) -> Session<PlainView> {
-    let make = |kind: Kind| -> Result<PlainView, AllocError> { Ok(PlainView::new(alloc, kind)) };
-    begin(alloc, b"proc main() { return 4; }", "", 1, &make).expect(rt, "a session")
-}
-
 // The session's answer over these streams, one worker, and which of them failed.
 fn noting<R: Read, W: Write>(
     rt: &(impl Abort + Threads + Wait + Sync),
@@ -97,10 +87,16 @@ fn noting<R: Read, W: Write>(
     writer: &mut W,
     failures: &mut Failures,
 ) -> Result<(), SessionError> {
-    let session = session(rt, alloc);
-    let notes = &mut NoNotes;
-    session_text(
-        rt, alloc, session, 1, notes, &NoGate, reader, writer, failures,
+    let session = session(rt, alloc, b"proc main() { return 4; }", "", 1);
+    ended_by(
+        rt,
+        alloc,
+        session,
+        1,
+        &mut NoNotes,
+        reader,
+        writer,
+        failures,
     )
 }
 
@@ -167,29 +163,50 @@ fn ending(ended: &Result<(), SessionError>) -> &'static str {
     }
 }
 
-const ANSWERS: &[u8] = b"run 1\nresult 4\n";
+const ANSWERS: &str = "run 1\nresult 4\n";
 
-// By the errors of the first write and the first flush.
+const INTERRUPTED: Option<ErrorKind> = Some(ErrorKind::Interrupted);
+
+const BROKEN: Option<ErrorKind> = Some(ErrorKind::BrokenPipe);
+
+const FULL: Option<ErrorKind> = Some(ErrorKind::OutOfMemory);
+
+// The errors of the first write and the first flush, how the session ends, what is written, and which streams have failed.
+type Ending = (
+    Option<ErrorKind>,
+    Option<ErrorKind>,
+    &'static str,
+    &'static str,
+    (bool, bool),
+);
+
+const ENDINGS: [Ending; 6] = [
+    (None, None, "done", ANSWERS, (false, false)),
+    (INTERRUPTED, INTERRUPTED, "done", ANSWERS, (false, false)),
+    (None, BROKEN, "failed output", ANSWERS, (false, true)),
+    (None, FULL, "no memory", ANSWERS, (false, false)),
+    (FULL, None, "no memory", "", (false, false)),
+    (FULL, BROKEN, "no memory", "", (false, true)),
+];
+
+fn ends_so(rt: &(impl Abort + Threads + Wait + Sync), alloc: Global, row: Ending) {
+    let (error, flush_error, wanted, taken, marks) = row;
+    let mut writer = slow_writer(alloc, error, flush_error);
+    let mut reader = b"run\n".as_slice();
+    let mut failures = Failures::none();
+    let ended = noting(rt, alloc, &mut reader, &mut writer, &mut failures);
+    assert_eq!(rt; ending(&ended), wanted, "{error:?} {flush_error:?}");
+    assert_eq!(rt;
+        writer.taken.as_slice(),
+        taken.as_bytes(),
+        "{error:?} {flush_error:?}"
+    );
+    assert_eq!(rt; failures.noted(), marks, "{error:?} {flush_error:?}");
+}
+
 #[test]
 fn endings_by_the_writer(rt: HostRuntime) {
-    let none: Option<ErrorKind> = None;
-    let interrupted = Some(ErrorKind::Interrupted);
-    let broken = Some(ErrorKind::BrokenPipe);
-    let full = Some(ErrorKind::OutOfMemory);
-    for (error, flush_error, wanted, taken, marks) in [
-        (none, none, "done", ANSWERS, (false, false)),
-        (interrupted, interrupted, "done", ANSWERS, (false, false)),
-        (none, broken, "failed output", ANSWERS, (false, true)),
-        (none, full, "no memory", ANSWERS, (false, false)),
-        (full, none, "no memory", b"".as_slice(), (false, false)),
-        (full, broken, "no memory", b"".as_slice(), (false, true)),
-    ] {
-        let mut writer = slow_writer(rt.alloc(), error, flush_error);
-        let mut reader = b"run\n".as_slice();
-        let mut failures = Failures::none();
-        let ended = noting(&rt, rt.alloc(), &mut reader, &mut writer, &mut failures);
-        assert_eq!(&rt; ending(&ended), wanted);
-        assert_eq!(&rt; writer.taken.as_slice(), taken);
-        assert_eq!(&rt; failures.noted(), marks);
+    for row in ENDINGS {
+        ends_so(&rt, rt.alloc(), row);
     }
 }

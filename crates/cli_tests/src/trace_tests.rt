@@ -16,28 +16,44 @@ fold root 1 by 0
 finish root
 ";
 
-fn root(alloc: Global) -> Place {
-    Vec::new(alloc)
-}
-
-fn place(rt: &impl Abort, alloc: Global, number: usize) -> Place {
-    vec![in alloc; number].expect(rt, "memory")
-}
+// A step by its letter, the places that it names, and the worker.
+type Word = (u8, &'static [usize], &'static [usize], usize);
 
 // Two continuations stolen, one of them from a thief, and what came of them.
+const STEPS: [Word; 9] = [
+    (b'S', &[], &[1], 1),
+    (b'S', &[1], &[2], 2),
+    (b'L', &[2], &[], 2),
+    (b'E', &[1], &[], 1),
+    (b'F', &[1], &[2], 2),
+    (b'L', &[1], &[], 1),
+    (b'E', &[], &[], 0),
+    (b'F', &[], &[1], 0),
+    (b'Z', &[], &[], 0),
+];
+
+fn place(rt: &impl Abort, alloc: Global, numbers: &[usize]) -> Place {
+    Vec::from_slice(alloc, numbers).expect(rt, "memory")
+}
+
+fn step(rt: &impl Abort, alloc: Global, word: Word) -> BookStep {
+    let (letter, left, right, worker) = word;
+    let left = place(rt, alloc, left);
+    match letter {
+        b'S' => BookStep::Split(left, place(rt, alloc, right), worker),
+        b'F' => BookStep::Fold(left, place(rt, alloc, right), worker),
+        b'L' => BookStep::Stall(left),
+        b'E' => BookStep::End(left),
+        _ => BookStep::Finish(left),
+    }
+}
+
 fn two_steals(rt: &impl Abort, alloc: Global) -> Vec<BookStep> {
-    vec![in alloc;
-        BookStep::Split(root(alloc), place(rt, alloc, 1), 1),
-        BookStep::Split(place(rt, alloc, 1), place(rt, alloc, 2), 2),
-        BookStep::Stall(place(rt, alloc, 2)),
-        BookStep::End(place(rt, alloc, 1)),
-        BookStep::Fold(place(rt, alloc, 1), place(rt, alloc, 2), 2),
-        BookStep::Stall(place(rt, alloc, 1)),
-        BookStep::End(root(alloc)),
-        BookStep::Fold(root(alloc), place(rt, alloc, 1), 0),
-        BookStep::Finish(root(alloc)),
-    ]
-    .expect(rt, "memory")
+    let mut steps = Vec::new(alloc);
+    for word in STEPS {
+        steps.push(step(rt, alloc, word)).expect(rt, "memory");
+    }
+    steps
 }
 
 #[test]
