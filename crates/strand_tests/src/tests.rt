@@ -1,6 +1,5 @@
-//! Programs, each on one strand.
+//! Programs, each on one strand or on several.
 
-mod ahead;
 mod answers;
 mod driving;
 mod faults;

@@ -1,12 +1,12 @@
-//! Answers as they are wanted, and those of the plain slow program.
+//! Answers as text, and those of the plain slow program.
 
 use frames::answer::RunAnswer;
-use linked_program::checked::Checked;
 use meaning::FaultKind;
 use monoid_laws::Val;
 use program_tree::{Declaration, Program};
 use serial_oracle::{Answer, Row, TableRows, from_scratch};
 use std::alloc::{AllocError, Global};
+use std::process::Abort;
 
 /// Sales: for each row its number, a quantity and a price.
 pub const SALES: &str =
@@ -14,48 +14,6 @@ pub const SALES: &str =
 
 /// The rows of the sales.
 const CELLS: [[i64; 3]; 3] = [[1, 2, 5], [2, 3, 7], [3, 1, 100]];
-
-/// A reducer's value as it is wanted.
-#[derive(Clone, Copy)]
-pub enum Wanted<'a> {
-    Number(i64),
-    Pair(i64, i64),
-    Best(i64, i64),
-    List(&'a [i64]),
-}
-
-impl Wanted<'_> {
-    fn is(&self, value: &Val) -> bool {
-        match (self, value) {
-            (Wanted::Number(wanted), Val::Int(number)) => wanted == number,
-            (Wanted::Number(wanted), Val::Elem(element)) => *wanted == i64::from(*element),
-            (Wanted::Pair(a, b), Val::Pair(c, d)) => a == c && b == d,
-            (Wanted::Best(a, b), Val::Arg(Some((c, d)))) => a == c && b == d,
-            (Wanted::List(wanted), Val::List(list)) => *wanted == list.as_slice(),
-            _ => false,
-        }
-    }
-}
-
-fn are(wanted: &[Wanted], values: &[Val]) -> bool {
-    if wanted.len() != values.len() {
-        return false;
-    }
-    for (wanted, value) in wanted.iter().zip(values) {
-        if !wanted.is(value) {
-            return false;
-        }
-    }
-    true
-}
-
-/// Whether a run ended with that result and these values of the reducers.
-pub fn is_finished(answer: &RunAnswer, wanted: i64, reducers: &[Wanted]) -> bool {
-    match answer {
-        RunAnswer::Finished { result, values, .. } => *result == wanted && are(reducers, values),
-        _ => false,
-    }
-}
 
 /// The name of the procedure of that number.
 fn procedure_name(program: &Program, number: usize) -> &str {
@@ -71,66 +29,84 @@ fn procedure_name(program: &Program, number: usize) -> &str {
     ""
 }
 
-/// Whether a run ended with that fault, in that statement of that procedure.
-pub fn is_faulted(
-    program: &Checked,
-    answer: &RunAnswer,
+/// The result and the reducers' values.
+fn finished_text(alloc: Global, value: i64, values: &[Val]) -> Result<String, AllocError> {
+    format!(in alloc; "{value} {values:?}")
+}
+
+/// A fault: its kind, its procedure and its statement.
+fn fault_text(
+    alloc: Global,
     kind: FaultKind,
     procedure: &str,
     statement: u32,
-) -> bool {
-    match answer {
+) -> Result<String, AllocError> {
+    format!(in alloc; "{kind:?} in {procedure} at {statement}")
+}
+
+/// The answer of a run, if it has ended.
+pub fn answer_text(
+    rt: &impl Abort,
+    alloc: Global,
+    program: &Program,
+    answer: &RunAnswer,
+) -> String {
+    let text = match answer {
+        RunAnswer::Finished { result, values, .. } => finished_text(alloc, *result, values),
         RunAnswer::Fault(fault) => {
-            fault.kind == kind
-                && fault.statement == statement
-                && procedure_name(program.program(), fault.procedure) == procedure
+            let procedure = procedure_name(program, fault.procedure);
+            fault_text(alloc, fault.kind, procedure, fault.statement)
         }
-        _ => false,
-    }
+        _ => panic!(rt; "no answer"),
+    };
+    text.expect(rt, "memory")
 }
 
-fn row(alloc: Global, cells: [i64; 3]) -> Result<Row, AllocError> {
+fn row(rt: &impl Abort, alloc: Global, cells: [i64; 3]) -> Row {
     let [number, quantity, price] = cells;
-    let values = vec![in alloc; quantity, price]?;
-    Ok(Row { number, values })
+    let values = vec![in alloc; quantity, price].expect(rt, "memory");
+    Row { number, values }
 }
 
-fn sales(alloc: Global) -> Result<TableRows, AllocError> {
-    let name = String::from_str(alloc, "sales")?;
-    let quantity = String::from_str(alloc, "qty")?;
-    let price = String::from_str(alloc, "price")?;
+fn text(rt: &impl Abort, alloc: Global, text: &str) -> String {
+    String::from_str(alloc, text).expect(rt, "memory")
+}
+
+fn sales(rt: &impl Abort, alloc: Global) -> TableRows {
     let mut rows = Vec::new(alloc);
     for cells in CELLS {
-        rows.push(row(alloc, cells)?)?;
+        rows.push(row(rt, alloc, cells)).expect(rt, "memory");
     }
-    Ok(TableRows {
-        name,
-        columns: vec![in alloc; quantity, price]?,
+    let columns = vec![in alloc; text(rt, alloc, "qty"), text(rt, alloc, "price")];
+    TableRows {
+        name: text(rt, alloc, "sales"),
+        columns: columns.expect(rt, "memory"),
         rows,
-    })
+    }
 }
 
-/// Whether the answer is the plain slow program's, on the sales.
-pub fn is_slow_answer(
-    alloc: Global,
-    program: &Checked,
-    answer: &RunAnswer,
-) -> Result<bool, AllocError> {
-    let tables = vec![in alloc; sales(alloc)?]?;
-    let Ok(slow) = from_scratch(alloc, program.program(), &tables) else {
-        return Err(AllocError);
-    };
-    match slow {
-        Answer::Finished(wanted, reducers) => Ok(match answer {
-            RunAnswer::Finished { result, values, .. } => *result == wanted && *values == reducers,
-            _ => false,
-        }),
-        Answer::Faulted(fault) => Ok(is_faulted(
-            program,
-            answer,
-            fault.kind,
-            fault.procedure,
-            fault.statement,
-        )),
+/// How many memo instances were executed, answered by a record, and executed without one.
+pub fn counts_of(answer: &RunAnswer) -> [u64; 3] {
+    match answer {
+        RunAnswer::Finished {
+            executed,
+            reused,
+            unrecorded,
+            ..
+        } => [*executed, *reused, *unrecorded],
+        _ => [0, 0, 0],
     }
+}
+
+/// The answer of the plain slow program, on the sales.
+pub fn slow_text(rt: &impl Abort, alloc: Global, program: &Program) -> String {
+    let sales = sales(rt, alloc);
+    let text = match from_scratch(alloc, program, &[sales]) {
+        Ok(Answer::Finished(value, values)) => finished_text(alloc, value, &values),
+        Ok(Answer::Faulted(fault)) => {
+            fault_text(alloc, fault.kind, fault.procedure, fault.statement)
+        }
+        Err(_) => panic!(rt; "memory"),
+    };
+    text.expect(rt, "memory")
 }

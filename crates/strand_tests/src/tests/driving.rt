@@ -2,7 +2,7 @@
 ghost use Rattle.std.specs.Prelude.{◌≡◌, [], IfOk, All};
 ghost use Rattle.monoid_laws.specs.Kinds.{IsMonoid};
 
-use frames::answer::RunAnswer;
+use super::answers::SALES;
 use frames::strand::Strand;
 use frames::task::Task;
 use input_tables::Tables;
@@ -14,20 +14,25 @@ use rerun_records::records::Records;
 use rules_theory::checked_programs_keep_the_rules;
 use spawn_checker::check;
 use std::alloc::{AllocError, Global};
-use std::test::Fail;
+use std::process::Abort;
 use view_pool::{Kit, PlainView, Pool};
 
 /// More small steps than any of the programs takes.
 pub const STEPS: usize = 2000;
 
+/// The tables of which the programs speak.
+pub fn sales(rt: &impl Abort, alloc: Global) -> Tables {
+    Tables::from_toml(alloc, SALES).expect(rt, "tables")
+}
+
 /// The program of a text, checked against these tables.
-pub fn checked(alloc: Global, text: &str, tables: &Tables) -> Result<Checked, Fail> {
-    let program = parse(alloc, text.as_bytes())?;
-    Ok(check(alloc, program, tables)?)
+pub fn program_of(rt: &impl Abort, alloc: Global, text: &str, tables: &Tables) -> Checked {
+    let program = parse(alloc, text.as_bytes()).expect(rt, "a program");
+    check(alloc, program, tables).expect(rt, "no violation")
 }
 
 /// A kit of plain views of these kinds.
-pub fn kit(alloc: Global, kinds: &[Kind]) -> Result<Kit<PlainView>, AllocError>
+fn kit(alloc: Global, kinds: &[Kind]) -> Result<Kit<PlainView>, AllocError>
     ensures kinds { IfOk result (λ kit. kit ≡ kinds.now) }
 {
     let mut views = Vec::new(alloc);
@@ -37,14 +42,22 @@ pub fn kit(alloc: Global, kinds: &[Kind]) -> Result<Kit<PlainView>, AllocError>
     Ok(Kit::reset(views))
 }
 
-/// The kits of a strand that has its own: none is free.
-pub fn no_kits(alloc: Global) -> Result<Pool<Kit<PlainView>>, AllocError>
-    ensures none { IfOk result (λ pool. pool.kits ≡ []) }
-    ensures total { IfOk result (λ pool. pool.total ≡ 1) }
+/// A kit of the program's.
+pub fn own_kit(rt: &impl Abort, alloc: Global, program: &Checked) -> Kit<PlainView>
+    ensures kinds { result ≡ program.now.kinds }
 {
-    let mut pool = Pool::new(vec![in alloc; kit(alloc, &[])?]?);
+    kit(alloc, program.kinds()).expect(rt, "memory")
+}
+
+/// The kits of a strand that has its own: none is free.
+fn no_kits(rt: &impl Abort, alloc: Global) -> Pool<Kit<PlainView>>
+    ensures none { result.kits ≡ [] }
+    ensures total { result.total ≡ 1 }
+{
+    let kit = kit(alloc, &[]).expect(rt, "memory");
+    let mut pool = Pool::new(vec![in alloc; kit].expect(rt, "memory"));
     let _ = pool.take();
-    Ok(pool)
+    pool
 }
 
 /// What the rules of the language give: the reducers of a checked program are monoids.
@@ -57,60 +70,86 @@ pub fn are_monoids(program: &Checked)
     checked_programs_keep_the_rules();
 }
 
-/// The strand of a program's beginning.
-pub fn begin(alloc: Global, program: &Checked) -> Result<Strand<PlainView>, AllocError>
-    ensures kinds { IfOk result (λ strand. strand.layer.kinds ≡ program.now.kinds) }
-    ensures lower { IfOk result (λ strand. strand.lower ≡ []) }
+/// The strand of a program's beginning, with a kit.
+pub fn begin(
+    rt: &impl Abort,
+    alloc: Global,
+    program: &Checked,
+    kit: Kit<PlainView>,
+) -> Strand<PlainView>
+    requires kit { kit ≡ program.now.kinds }
+    ensures kinds { result.layer.kinds ≡ program.now.kinds }
+    ensures lower { result.lower ≡ [] }
 {
-    let kit = kit(alloc, program.kinds())?;
     match Strand::first(alloc, program, kit) {
-        Ok(strand) => Ok(strand),
-        Err(_) => Err(AllocError),
+        Ok(strand) => strand,
+        Err(_) => panic!(rt; "memory"),
     }
 }
 
-/// What becomes of a spawned child: it is a call; it is one after its parent was taken out and put back; or it runs alone,
-/// and then its parent goes on.
-#[derive(Clone, Copy, Debug)]
+/// What becomes of a spawned child: it is a call; it is one after its parent was taken out and put back; it runs alone, and then its
+/// parent goes on; or it is a call of a strand that does what it can in one go before each small step.
+#[derive(Clone, Copy)]
 pub enum Child {
     Called,
     PutBack,
     Alone,
+    Ahead,
 }
 
-/// The continuation at a spawn; an error elsewhere.
-pub fn parent(alloc: Global, strand: &mut Strand<PlainView>) -> Result<Task, AllocError>
+/// The continuation at a spawn; there has to be one.
+pub fn parent(rt: &impl Abort, alloc: Global, strand: &mut Strand<PlainView>) -> Task
     ensures kinds { strand.new.layer.kinds ≡ strand.old.layer.kinds }
     ensures lower { strand.new.lower ≡ strand.old.lower }
 {
-    let Phase::AtSpawn = strand.phase() else {
-        return Err(AllocError);
-    };
-    strand.ready();
-    Ok(strand.detach(alloc))
+    match strand.phase() {
+        Phase::AtSpawn => {
+            strand.ready();
+            strand.detach(alloc)
+        }
+        _ => panic!(rt; "no continuation"),
+    }
+}
+
+/// What a strand that does what it can in one go does before its next small step.
+fn go_ahead(
+    alloc: Global,
+    program: &Checked,
+    tables: &Tables,
+    strand: &mut Strand<PlainView>,
+    child: Child,
+)
+    requires kinds { strand.old.layer.kinds ≡ program.now.kinds }
+    ensures kinds { strand.new.layer.kinds ≡ strand.old.layer.kinds }
+    ensures lower { strand.new.lower ≡ strand.old.lower }
+{
+    if let Child::Ahead = child {
+        let records = Records::new(alloc);
+        strand.run_ahead(alloc, program, tables, &records);
+    }
 }
 
 /// At a spawn: the child goes that way.
 fn spawn(
+    rt: &impl Abort,
     alloc: Global,
     strand: &mut Strand<PlainView>,
     child: Child,
     parents: &mut Vec<Task>,
-) -> Result<(), AllocError>
+)
     ensures kinds { strand.new.layer.kinds ≡ strand.old.layer.kinds }
     ensures lower { strand.new.lower ≡ strand.old.lower }
 {
     if let Phase::AtSpawn = strand.phase() {
         match child {
-            Child::Called => strand.inline(),
+            Child::Called | Child::Ahead => strand.inline(),
             Child::PutBack => {
                 let parent = strand.detach(alloc);
                 strand.attach(parent);
             }
-            Child::Alone => parents.push(strand.detach(alloc))?,
+            Child::Alone => parents.push(strand.detach(alloc)).expect(rt, "memory"),
         }
     }
-    Ok(())
 }
 
 /// Where a child that runs alone has returned: its parent goes on.
@@ -126,13 +165,14 @@ fn go_back(strand: &mut Strand<PlainView>, parents: &mut Vec<Task>)
 }
 
 /// One small step, where there are no records and no free kits.
-pub fn advance(
+fn advance(
+    rt: &impl Abort,
     alloc: Global,
     program: &Checked,
     tables: &Tables,
     strand: &mut Strand<PlainView>,
     pool: &mut Pool<Kit<PlainView>>,
-) -> Result<(), AllocError>
+)
     requires kinds { strand.old.layer.kinds ≡ program.now.kinds }
     requires lower { strand.old.lower ≡ [] }
     requires none { pool.old.kits ≡ [] }
@@ -144,12 +184,13 @@ pub fn advance(
 {
     are_monoids(program);
     let records = Records::new(alloc);
-    let _ = strand.advance(alloc, program, tables, &records, pool)?;
-    Ok(())
+    let stepped = strand.advance(alloc, program, tables, &records, pool);
+    let _ = stepped.expect(rt, "memory");
 }
 
-/// One small step, and what is to be done where it comes to a spawn or a return.
-pub fn step(
+/// One small step, and what is to be done before it, and where it comes to a spawn or a return.
+fn step(
+    rt: &impl Abort,
     alloc: Global,
     program: &Checked,
     tables: &Tables,
@@ -157,7 +198,7 @@ pub fn step(
     pool: &mut Pool<Kit<PlainView>>,
     child: Child,
     parents: &mut Vec<Task>,
-) -> Result<(), AllocError>
+)
     requires kinds { strand.old.layer.kinds ≡ program.now.kinds }
     requires lower { strand.old.lower ≡ [] }
     requires none { pool.old.kits ≡ [] }
@@ -167,51 +208,85 @@ pub fn step(
     ensures none { pool.new.kits ≡ [] }
     ensures total { pool.new.total ≡ 1 }
 {
-    advance(alloc, program, tables, strand, pool)?;
-    spawn(alloc, strand, child, parents)?;
+    go_ahead(alloc, program, tables, strand, child);
+    advance(rt, alloc, program, tables, strand, pool);
+    spawn(rt, alloc, strand, child, parents);
     go_back(strand, parents);
-    Ok(())
 }
 
-/// The strand goes on to a point at which it pauses.
-pub fn to_pause(
+/// So many small steps, or fewer where the strand comes to a point at which it pauses.
+pub fn small_steps(
+    rt: &impl Abort,
     alloc: Global,
     program: &Checked,
     tables: &Tables,
     strand: &mut Strand<PlainView>,
-) -> Result<(), AllocError>
+    most: usize,
+)
     requires kinds { strand.old.layer.kinds ≡ program.now.kinds }
     requires lower { strand.old.lower ≡ [] }
     ensures kinds { strand.new.layer.kinds ≡ strand.old.layer.kinds }
     ensures lower { strand.new.lower ≡ [] }
 {
-    let mut pool = no_kits(alloc)?;
-    for i in 0..STEPS {
+    let mut pool = no_kits(rt, alloc);
+    for _ in 0..most {
         if strand.pause(program) != Paused::Working {
             break;
         }
-        advance(alloc, program, tables, strand, &mut pool)?;
+        advance(rt, alloc, program, tables, strand, &mut pool);
     }
-    Ok(())
 }
 
-/// The strand goes on to its end, or to the point at which it waits for others.
+/// The strand goes on to a point at which it pauses.
+pub fn to_pause(
+    rt: &impl Abort,
+    alloc: Global,
+    program: &Checked,
+    tables: &Tables,
+    strand: &mut Strand<PlainView>,
+)
+    requires kinds { strand.old.layer.kinds ≡ program.now.kinds }
+    requires lower { strand.old.lower ≡ [] }
+    ensures kinds { strand.new.layer.kinds ≡ strand.old.layer.kinds }
+    ensures lower { strand.new.lower ≡ [] }
+{
+    small_steps(rt, alloc, program, tables, strand, STEPS);
+}
+
+/// The number of the first step before which the strand was at its end.
+fn first_at_end(
+    program: &Checked,
+    strand: &Strand<PlainView>,
+    found: usize,
+    number: usize,
+) -> usize {
+    match strand.pause(program) {
+        Paused::Finished | Paused::Faulted => found.min(number),
+        _ => found,
+    }
+}
+
+/// The strand goes on to its end, or to the point at which it waits for others. After how many steps it was at its end.
 pub fn go_on(
+    rt: &impl Abort,
     alloc: Global,
     program: &Checked,
     tables: &Tables,
     strand: &mut Strand<PlainView>,
     child: Child,
-) -> Result<(), AllocError>
+) -> usize
     requires kinds { strand.old.layer.kinds ≡ program.now.kinds }
     requires lower { strand.old.lower ≡ [] }
     ensures kinds { strand.new.layer.kinds ≡ strand.old.layer.kinds }
     ensures lower { strand.new.lower ≡ [] }
 {
-    let mut pool = no_kits(alloc)?;
+    let mut pool = no_kits(rt, alloc);
     let mut parents = Vec::new(alloc);
+    let mut steps = STEPS;
     for i in 0..STEPS {
+        steps = first_at_end(program, strand, steps, i);
         step(
+            rt,
             alloc,
             program,
             tables,
@@ -219,31 +294,7 @@ pub fn go_on(
             &mut pool,
             child,
             &mut parents,
-        )?;
+        );
     }
-    Ok(())
-}
-
-/// What a run came to, and how many kits have come home.
-#[derive(Drop)]
-pub struct Ran {
-    pub answer: RunAnswer,
-    pub kits: usize,
-}
-
-/// The answer of a program on one strand, whose kit comes home.
-pub fn run(
-    alloc: Global,
-    program: &Checked,
-    tables: &Tables,
-    child: Child,
-) -> Result<Ran, AllocError> {
-    let mut pool = no_kits(alloc)?;
-    let mut strand = begin(alloc, program)?;
-    go_on(alloc, program, tables, &mut strand, child)?;
-    let (answer, _) = strand.end(alloc, &mut pool);
-    Ok(Ran {
-        answer,
-        kits: pool.free(),
-    })
+    steps
 }

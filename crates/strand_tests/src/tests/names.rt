@@ -1,64 +1,34 @@
 //! By which names strands are known, and at which points they are.
-ghost use Rattle.std.specs.Prelude.{◌≡◌, [], IfOk};
+ghost use Rattle.std.specs.Prelude.{◌≡◌, [], All};
 
-use super::driving::{advance, begin, checked, kit, no_kits, parent, to_pause};
+use super::driving::{begin, own_kit, parent, program_of, small_steps, to_pause};
+use super::thefts::{pool_of, rob, taken};
 use frames::answer::RunAnswer;
 use frames::strand::Strand;
 use frames::task::Task;
 use input_tables::Tables;
 use linked_program::checked::Checked;
 use positions::phase::Phase;
-use std::alloc::{AllocError, Global};
-use std::test::Fail;
-use view_pool::PlainView;
+use std::alloc::Global;
+use std::process::Abort;
+use view_pool::{Kit, PlainView, Pool};
 
 const LEAVES: &str =
     "reducer total : add; proc leaf(v) { update total v; return v; } proc main() { x = spawn leaf(1); y = spawn leaf(2); update total 9; sync; return x + y; }";
 
-// A strand, and what it goes on to at its first pause.
-fn paused(
-    alloc: Global,
-    program: &Checked,
-    strand: &mut Strand<PlainView>,
-) -> Result<Phase, AllocError>
-    requires kinds { strand.old.layer.kinds ≡ program.now.kinds }
-    requires lower { strand.old.lower ≡ [] }
-    ensures kinds { strand.new.layer.kinds ≡ strand.old.layer.kinds }
-    ensures lower { strand.new.lower ≡ [] }
-{
-    let tables = Tables::new(alloc);
-    to_pause(alloc, program, &tables, strand)?;
-    Ok(strand.phase())
+/// The first strand, which has done nothing, is known as that, and has no answer.
+fn is_first(rt: &impl Abort, alloc: Global, program: &Checked, strand: &Strand<PlainView>) {
+    assert_eq!(rt; strand.begins_behind(alloc).expect(rt, "memory").len(), 0);
+    assert_eq!(rt; strand.name().len(), 0);
+    assert!(rt; strand.is_behind(&[]));
+    assert!(rt; !strand.is_behind(&[1]));
+    assert_eq!(rt; strand.phase(), Phase::Entering);
+    assert!(rt; !strand.at_update(program));
+    assert_eq!(rt; strand.returned(), None);
+    assert!(rt; matches!(&strand.answer(alloc), RunAnswer::Unfinished));
 }
 
-// The strand of a continuation.
-fn thief(alloc: Global, program: &Checked, parent: Task) -> Result<Strand<PlainView>, AllocError> {
-    let kit = kit(alloc, program.kinds())?;
-    Strand::stolen(alloc, program, parent, kit).map_err(|_| AllocError)
-}
-
-// The program's strand at its first spawn.
-fn at_spawn(alloc: Global, program: &Checked) -> Result<Strand<PlainView>, AllocError>
-    ensures kinds { IfOk result (λ strand. strand.layer.kinds ≡ program.now.kinds) }
-    ensures lower { IfOk result (λ strand. strand.lower ≡ []) }
-{
-    let mut strand = begin(alloc, program)?;
-    paused(alloc, program, &mut strand)?;
-    Ok(strand)
-}
-
-// Whether a strand is known as the first one, which has done nothing.
-fn is_first(alloc: Global, program: &Checked, strand: &Strand<PlainView>) -> bool {
-    let behind_none = match strand.begins_behind(alloc) {
-        Ok(place) => place.is_empty(),
-        Err(_) => false,
-    };
-    let at_root = strand.name().is_empty() && strand.is_behind(&[]) && !strand.is_behind(&[1]);
-    let new = strand.phase() == Phase::Entering && !strand.at_update(program);
-    behind_none && at_root && new && strand.returned().is_none()
-}
-
-// Whether a strand is known as one that goes on in main, behind its first child.
+/// Whether a strand is known as one that goes on in main, behind its first child.
 fn is_behind_first(alloc: Global, strand: &Strand<PlainView>) -> bool {
     let behind_one = match strand.begins_behind(alloc) {
         Ok(place) => place.as_slice() == [1].as_slice(),
@@ -69,72 +39,135 @@ fn is_behind_first(alloc: Global, strand: &Strand<PlainView>) -> bool {
     behind_one && in_main && behind
 }
 
-#[test]
-fn the_first_strand(rt: HostRuntime) -> Result<(), Fail> {
-    let alloc = rt.alloc();
-    let program = checked(alloc, LEAVES, &Tables::new(alloc))?;
-    let strand = begin(alloc, &program)?;
-    assert!(rt; is_first(alloc, &program, &strand));
-    assert!(rt; matches!(&strand.answer(alloc), RunAnswer::Unfinished));
-    assert_eq!(rt; strand.close().len(), 1);
-    Ok(())
-}
-
-// Whether an entered leaf stands at its update, and no longer once that is done.
+/// Whether an entered leaf stands at its update, and no longer once that is done.
 fn passes_its_update(
+    rt: &impl Abort,
     alloc: Global,
     program: &Checked,
+    tables: &Tables,
     strand: &mut Strand<PlainView>,
-) -> Result<bool, AllocError>
+) -> bool
     requires kinds { strand.old.layer.kinds ≡ program.now.kinds }
     requires lower { strand.old.lower ≡ [] }
     ensures kinds { strand.new.layer.kinds ≡ strand.old.layer.kinds }
     ensures lower { strand.new.lower ≡ [] }
 {
-    let tables = Tables::new(alloc);
-    let mut pool = no_kits(alloc)?;
-    advance(alloc, program, &tables, strand, &mut pool)?;
+    small_steps(rt, alloc, program, tables, strand, 1);
     let before = strand.at_update(program);
-    advance(alloc, program, &tables, strand, &mut pool)?;
-    Ok(before && !strand.at_update(program))
+    small_steps(rt, alloc, program, tables, strand, 1);
+    before && !strand.at_update(program)
 }
 
-// The names of the child and of what is taken out at the first spawn; and what the child is at, before and after it has run.
+/// The names of the child and of what is taken out at the first spawn; and what the child is at, before and after it has run.
 fn child_alone(
+    rt: &impl Abort,
     alloc: Global,
     program: &Checked,
+    tables: &Tables,
     strand: &mut Strand<PlainView>,
-) -> Result<bool, AllocError>
+)
     requires kinds { strand.old.layer.kinds ≡ program.now.kinds }
     requires lower { strand.old.lower ≡ [] }
 {
-    let is_named = strand.name() == [1].as_slice();
-    let parent = parent(alloc, strand)?;
-    let is_alone = parent.place() == [1].as_slice() && strand.phase() == Phase::Entering;
-    let updates = passes_its_update(alloc, program, strand)?;
-    let ends = paused(alloc, program, strand)? == Phase::Leaving(1);
-    let gives = strand.returned() == Some(1);
+    assert!(rt; strand.name() == [1].as_slice());
+    let parent = parent(rt, alloc, strand);
+    is_entered(rt, &parent, strand);
+    runs_to_its_end(rt, alloc, program, tables, strand);
     strand.resume(parent);
-    let goes_on = strand.phase() == Phase::Running && strand.name().is_empty();
-    Ok(is_named && is_alone && updates && ends && gives && goes_on)
+    assert!(rt; strand.name().is_empty());
+    assert_eq!(rt; strand.phase(), Phase::Running);
+}
+
+/// The first child is at its beginning, and its parent is known by its name.
+fn is_entered(rt: &impl Abort, parent: &Task, strand: &Strand<PlainView>) {
+    assert!(rt; parent.place() == [1].as_slice());
+    assert_eq!(rt; strand.phase(), Phase::Entering);
+}
+
+/// The child runs to its end, by its update.
+fn runs_to_its_end(
+    rt: &impl Abort,
+    alloc: Global,
+    program: &Checked,
+    tables: &Tables,
+    strand: &mut Strand<PlainView>,
+)
+    requires kinds { strand.old.layer.kinds ≡ program.now.kinds }
+    requires lower { strand.old.lower ≡ [] }
+{
+    assert!(rt; passes_its_update(rt, alloc, program, tables, strand));
+    to_pause(rt, alloc, program, tables, strand);
+    assert_eq!(rt; strand.phase(), Phase::Leaving(1));
+    assert_eq!(rt; strand.returned(), Some(1));
+}
+
+/// A strand is known as the first one, and as the first child's parent behind that. Its kit has one view.
+fn names_alone(rt: &impl Abort, alloc: Global, program: &Checked, tables: &Tables) {
+    let kit = own_kit(rt, alloc, program);
+    let mut strand = begin(rt, alloc, program, kit);
+    is_first(rt, alloc, program, &strand);
+    to_pause(rt, alloc, program, tables, &mut strand);
+    child_alone(rt, alloc, program, tables, &mut strand);
+    assert_eq!(rt; strand.close().len(), 1);
+}
+
+/// Whether main waits for none but the second child behind that, and for the second child behind the first one, whose strand begins
+/// before both.
+fn waits(last: &Strand<PlainView>, second: &Strand<PlainView>, first: &Strand<PlainView>) -> bool {
+    last.leaves_none_waiting(second) && !last.leaves_none_waiting(first)
+}
+
+/// The strand that is stolen from the second one waits for its neighbour.
+fn last_of_three(
+    rt: &impl Abort,
+    alloc: Global,
+    program: &Checked,
+    tables: &Tables,
+    first: &Strand<PlainView>,
+    second: &mut Strand<PlainView>,
+    pool: &mut Pool<Kit<PlainView>>,
+)
+    requires kits { All (λ k. k ≡ program.now.kinds) pool.old.kits }
+    requires kinds { second.old.layer.kinds ≡ program.now.kinds }
+    requires lower { second.old.lower ≡ [] }
+{
+    let mut last = rob(rt, alloc, program, tables, second, pool);
+    to_pause(rt, alloc, program, tables, second);
+    to_pause(rt, alloc, program, tables, &mut last);
+    assert!(rt; waits(&last, second, first));
+}
+
+/// The strand that is stolen from the first one has its name.
+fn second_of_three(
+    rt: &impl Abort,
+    alloc: Global,
+    program: &Checked,
+    tables: &Tables,
+    first: &mut Strand<PlainView>,
+    pool: &mut Pool<Kit<PlainView>>,
+)
+    requires kits { All (λ k. k ≡ program.now.kinds) pool.old.kits }
+    requires kinds { first.old.layer.kinds ≡ program.now.kinds }
+    requires lower { first.old.lower ≡ [] }
+{
+    let mut second = rob(rt, alloc, program, tables, first, pool);
+    assert!(rt; is_behind_first(alloc, &second));
+    to_pause(rt, alloc, program, tables, first);
+    last_of_three(rt, alloc, program, tables, first, &mut second, pool);
+}
+
+/// Both are stolen from the program's strand.
+fn names_of_stolen(rt: &impl Abort, alloc: Global, program: &Checked, tables: &Tables) {
+    let mut pool = pool_of(rt, alloc, program);
+    let kit = taken(rt, program, &mut pool);
+    let mut first = begin(rt, alloc, program, kit);
+    second_of_three(rt, alloc, program, tables, &mut first, &mut pool);
 }
 
 #[test]
-fn the_child_at_a_spawn(rt: HostRuntime) -> Result<(), Fail> {
-    let alloc = rt.alloc();
-    let program = checked(alloc, LEAVES, &Tables::new(alloc))?;
-    let mut strand = at_spawn(alloc, &program)?;
-    assert!(rt; child_alone(alloc, &program, &mut strand)?);
-    Ok(())
-}
-
-#[test]
-fn the_strand_of_a_stolen_continuation(rt: HostRuntime) -> Result<(), Fail> {
-    let alloc = rt.alloc();
-    let program = checked(alloc, LEAVES, &Tables::new(alloc))?;
-    let mut strand = at_spawn(alloc, &program)?;
-    let parent = parent(alloc, &mut strand)?;
-    let thief = thief(alloc, &program, parent)?;
-    assert!(rt; is_behind_first(alloc, &thief));
-    Ok(())
+fn names_of_strands(rt: HostRuntime) {
+    let tables = Tables::new(rt.alloc());
+    let program = program_of(&rt, rt.alloc(), LEAVES, &tables);
+    names_alone(&rt, rt.alloc(), &program, &tables);
+    names_of_stolen(&rt, rt.alloc(), &program, &tables);
 }

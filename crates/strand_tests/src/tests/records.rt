@@ -1,9 +1,11 @@
 //! Records on one strand: calls that make them in layers of their own and that they answer, and layers that a fault leaves open.
-ghost use Rattle.std.specs.Prelude.{◌≡◌, ◌+◌, ◌≤◌, suc, true, [], length, All, IfOk};
+ghost use Rattle.std.specs.Prelude.{◌≡◌, ◌+◌, ◌≤◌, suc, true, length, All};
 ghost use Rattle.rerun_records.specs.Doubted.{IsInStep, ReadNow};
 ghost use Rattle.rerun_records.specs.Named.{HaveValues};
 
-use super::driving::{Child, Ran, STEPS, are_monoids, begin, checked, kit, run as run_without};
+use super::answers::{answer_text, counts_of};
+use super::driving::{Child, STEPS, are_monoids, begin, own_kit, program_of};
+use super::thefts::run;
 use frames::answer::RunAnswer;
 use frames::strand::Strand;
 use input_tables::Tables;
@@ -11,8 +13,8 @@ use linked_program::checked::Checked;
 use positions::phase::{Paused, Phase};
 use rerun_records::record::Record;
 use rerun_records::records::Records;
-use std::alloc::{AllocError, Global};
-use std::test::Fail;
+use std::alloc::Global;
+use std::process::Abort;
 use view_pool::{Kit, PlainView, Pool};
 
 /// Two calls with the same argument.
@@ -24,29 +26,31 @@ const FAULTY: &str =
     "memo proc bad(v) { return 1 / v; } proc main() { x = call bad(0); return x; }";
 
 /// One free kit, and room for the strand's own.
-fn one_kit(alloc: Global, program: &Checked) -> Result<Pool<Kit<PlainView>>, AllocError>
-    ensures given { IfOk result (λ pool. All (λ k. k ≡ program.now.kinds) pool.kits) }
-    ensures one { IfOk result (λ pool. length pool.kits ≡ 1) }
-    ensures total { IfOk result (λ pool. pool.total ≡ 2) }
+fn one_kit(rt: &impl Abort, alloc: Global, program: &Checked) -> Pool<Kit<PlainView>>
+    ensures given { All (λ k. k ≡ program.now.kinds) result.kits }
+    ensures one { length result.kits ≡ 1 }
+    ensures total { result.total ≡ 2 }
 {
-    let own = kit(alloc, program.kinds())?;
-    let free = kit(alloc, program.kinds())?;
-    let mut pool = Pool::new(vec![in alloc; own, free]?);
+    let own = own_kit(rt, alloc, program);
+    let free = own_kit(rt, alloc, program);
+    let mut pool = Pool::new(vec![in alloc; own, free].expect(rt, "memory"));
     let _ = pool.take();
-    Ok(pool)
+    pool
 }
 
 /// One small step with these records and kits.
 fn advance(
+    rt: &impl Abort,
     alloc: Global,
     program: &Checked,
+    tables: &Tables,
     records: &Records,
     strand: &mut Strand<PlainView>,
     pool: &mut Pool<Kit<PlainView>>,
-) -> Result<(), AllocError>
+)
     requires kinds { strand.old.layer.kinds ≡ program.now.kinds }
     requires values { HaveValues program.now.kinds records.now }
-    requires in_step { IsInStep [] records.now }
+    requires in_step { IsInStep tables.now.tables records.now }
     requires given { All (λ k. k ≡ program.now.kinds) pool.old.kits }
     requires room { suc (length strand.old.lower) + length pool.old.kits ≤ pool.old.total }
     ensures kinds { strand.new.layer.kinds ≡ strand.old.layer.kinds }
@@ -54,22 +58,23 @@ fn advance(
     ensures room { suc (length strand.new.lower) + length pool.new.kits ≤ pool.new.total }
 {
     are_monoids(program);
-    let tables = Tables::new(alloc);
-    let _ = strand.advance(alloc, program, &tables, records, pool)?;
-    Ok(())
+    let stepped = strand.advance(alloc, program, tables, records, pool);
+    let _ = stepped.expect(rt, "memory");
 }
 
 /// The strand goes on to its end or to its fault.
 fn go_on(
+    rt: &impl Abort,
     alloc: Global,
     program: &Checked,
+    tables: &Tables,
     records: &Records,
     strand: &mut Strand<PlainView>,
     pool: &mut Pool<Kit<PlainView>>,
-) -> Result<(), AllocError>
+)
     requires kinds { strand.old.layer.kinds ≡ program.now.kinds }
     requires values { HaveValues program.now.kinds records.now }
-    requires in_step { IsInStep [] records.now }
+    requires in_step { IsInStep tables.now.tables records.now }
     requires given { All (λ k. k ≡ program.now.kinds) pool.old.kits }
     requires room { suc (length strand.old.lower) + length pool.old.kits ≤ pool.old.total }
     ensures kinds { strand.new.layer.kinds ≡ strand.old.layer.kinds }
@@ -78,9 +83,8 @@ fn go_on(
         if strand.pause(program) != Paused::Working {
             break;
         }
-        advance(alloc, program, records, strand, pool)?;
+        advance(rt, alloc, program, tables, records, strand, pool);
     }
-    Ok(())
 }
 
 /// Whether each of these records holds now.
@@ -95,98 +99,127 @@ fn hold_now(made: &[Record], tables: &Tables, program: &Checked) -> bool
     true
 }
 
-/// A run over these records, to which it adds its own; and how many kits are free then.
-fn run(alloc: Global, program: &Checked, records: &mut Records) -> Result<Ran, AllocError>
+/// Puts what a run has recorded to the records. That holds now.
+fn keep(
+    rt: &impl Abort,
+    program: &Checked,
+    tables: &Tables,
+    records: &mut Records,
+    made: Vec<Record>,
+)
     requires values { HaveValues program.now.kinds records.old }
-    requires in_step { IsInStep [] records.old }
+    requires in_step { IsInStep tables.now.tables records.old }
+    requires made { HaveValues program.now.kinds made.items }
     ensures values { HaveValues program.now.kinds records.new }
-    ensures in_step { IsInStep [] records.new }
+    ensures in_step { IsInStep tables.now.tables records.new }
 {
-    let mut pool = one_kit(alloc, program)?;
-    let mut strand = begin(alloc, program)?;
-    go_on(alloc, program, records, &mut strand, &mut pool)?;
-    strand.layered();
-    let (answer, made) = strand.end(alloc, &mut pool);
-    let tables = Tables::new(alloc);
-    if !hold_now(&made, &tables, program) {
-        return Err(AllocError);
+    if !hold_now(&made, tables, program) {
+        panic!(rt; "a record that doesn't hold");
     }
-    records.commit(made, &tables, program)?;
-    Ok(Ran {
-        answer,
-        kits: pool.free(),
-    })
+    records.commit(made, tables, program).expect(rt, "memory");
 }
 
-/// Whether a run ended with 55, and with so many memo instances executed, answered by a record, and executed without one.
-fn is_counted(answer: &RunAnswer, wanted: [u64; 3]) -> bool {
-    match answer {
-        RunAnswer::Finished {
-            result,
-            executed,
-            reused,
-            unrecorded,
-            ..
-        } => *result == 55 && [*executed, *reused, *unrecorded] == wanted,
-        _ => false,
-    }
-}
-
-/// Whether a run answers no call by what it has recorded itself, and a second run answers each call by it.
-fn are_reused(alloc: Global, program: &Checked) -> Result<bool, AllocError> {
-    let mut records = Records::new(alloc);
-    let first = run(alloc, program, &mut records)?;
-    let second = run(alloc, program, &mut records)?;
-    let runs = is_counted(&first.answer, [2, 0, 0]) && is_counted(&second.answer, [0, 2, 0]);
-    Ok(runs && [first.kits, second.kits, records.len()] == [2, 2, 1])
-}
-
-/// Whether nothing is recorded where no kit is free.
-fn is_unrecorded(alloc: Global, program: &Checked) -> Result<bool, AllocError> {
-    let without = run_without(alloc, program, &Tables::new(alloc), Child::Called)?;
-    Ok(is_counted(&without.answer, [2, 0, 2]))
-}
-
-#[test]
-fn what_a_run_recorded_answers_the_next(rt: HostRuntime) -> Result<(), Fail> {
-    let program = checked(rt.alloc(), CALLS, &Tables::new(rt.alloc()))?;
-    assert!(rt; are_reused(rt.alloc(), &program)?);
-    assert!(rt; is_unrecorded(rt.alloc(), &program)?);
-    Ok(())
-}
-
-/// A program's strand at its fault.
-fn at_fault(
+/// A run over these records, to which it adds its own. It ends with 55, is counted so, and both kits are home then.
+fn run_again(
+    rt: &impl Abort,
     alloc: Global,
     program: &Checked,
-    pool: &mut Pool<Kit<PlainView>>,
-) -> Result<Strand<PlainView>, AllocError>
-    requires given { All (λ k. k ≡ program.now.kinds) pool.old.kits }
-    requires room { 1 + length pool.old.kits ≤ pool.old.total }
+    tables: &Tables,
+    records: &mut Records,
+    counts: [u64; 3],
+)
+    requires values { HaveValues program.now.kinds records.old }
+    requires in_step { IsInStep tables.now.tables records.old }
+    ensures values { HaveValues program.now.kinds records.new }
+    ensures in_step { IsInStep tables.now.tables records.new }
 {
-    let records = Records::new(alloc);
-    let mut strand = begin(alloc, program)?;
-    go_on(alloc, program, &records, &mut strand, pool)?;
-    Ok(strand)
+    let mut pool = one_kit(rt, alloc, program);
+    let kit = own_kit(rt, alloc, program);
+    let mut strand = begin(rt, alloc, program, kit);
+    go_on(rt, alloc, program, tables, records, &mut strand, &mut pool);
+    strand.layered();
+    let (answer, made) = strand.end(alloc, &mut pool);
+    keep(rt, program, tables, records, made);
+    is_counted(rt, alloc, program, &answer, counts);
+    assert_eq!(rt; pool.free(), 2);
 }
 
-/// How many kits are free, and how many the strand has, at a fault in a memo instance and after its upper layer is closed; and how
-/// many are free at the strand's end.
-fn kits_at_fault(alloc: Global) -> Result<[usize; 5], Fail> {
-    let program = checked(alloc, FAULTY, &Tables::new(alloc))?;
-    let mut pool = one_kit(alloc, &program)?;
-    let mut strand = at_fault(alloc, &program, &mut pool)?;
-    let before = [pool.free(), strand.kits()];
-    if let Phase::Broken(_) = strand.phase() {
-        strand.close_upper(&mut pool);
-    }
-    let closed = [pool.free(), strand.kits()];
-    let _ = strand.end(alloc, &mut pool);
-    Ok([before[0], before[1], closed[0], closed[1], pool.free()])
+/// The answer is 55, and counted so.
+fn is_counted(
+    rt: &impl Abort,
+    alloc: Global,
+    program: &Checked,
+    answer: &RunAnswer,
+    counts: [u64; 3],
+) {
+    let text = answer_text(rt, alloc, program.program(), answer);
+    assert_eq!(rt; text.as_str(), "55 []");
+    assert_eq!(rt; counts_of(answer), counts);
+}
+
+/// A run answers no call by what it has recorded itself, and a second run answers each call by it.
+fn run_twice(rt: &impl Abort, alloc: Global, program: &Checked, tables: &Tables) {
+    let mut records = Records::new(alloc);
+    run_again(rt, alloc, program, tables, &mut records, [2, 0, 0]);
+    run_again(rt, alloc, program, tables, &mut records, [0, 2, 0]);
+    assert_eq!(rt; records.len(), 1);
+}
+
+/// Nothing is recorded where no kit is free.
+fn run_unrecorded(rt: &impl Abort, alloc: Global, program: &Checked, tables: &Tables) {
+    let ran = run(rt, alloc, program, tables, 0, Child::Called);
+    assert_eq!(rt; ran.answer.as_str(), "55 []");
+    assert_eq!(rt; ran.counts, [2, 0, 2]);
 }
 
 #[test]
-fn a_fault_sends_each_kit_home(rt: HostRuntime) -> Result<(), Fail> {
-    assert_eq!(rt; kits_at_fault(rt.alloc())?, [0, 2, 1, 1, 2]);
-    Ok(())
+fn what_a_run_recorded_answers_the_next(rt: HostRuntime) {
+    let tables = Tables::new(rt.alloc());
+    let program = program_of(&rt, rt.alloc(), CALLS, &tables);
+    run_twice(&rt, rt.alloc(), &program, &tables);
+    run_unrecorded(&rt, rt.alloc(), &program, &tables);
+}
+
+/// How many kits are free, and how many the strand has.
+fn kits_of(strand: &Strand<PlainView>, pool: &Pool<Kit<PlainView>>) -> [usize; 2] {
+    [pool.free(), strand.kits()]
+}
+
+/// A fault in a memo instance leaves its kit with the strand, until the upper layer is closed.
+fn kits_at_fault(
+    rt: &impl Abort,
+    alloc: Global,
+    program: &Checked,
+    tables: &Tables,
+    strand: &mut Strand<PlainView>,
+    pool: &mut Pool<Kit<PlainView>>,
+)
+    requires kinds { strand.old.layer.kinds ≡ program.now.kinds }
+    requires given { All (λ k. k ≡ program.now.kinds) pool.old.kits }
+    requires room { suc (length strand.old.lower) + length pool.old.kits ≤ pool.old.total }
+{
+    let records = Records::new(alloc);
+    go_on(rt, alloc, program, tables, &records, strand, pool);
+    assert_eq!(rt; kits_of(strand, pool), [0, 2]);
+    if let Phase::Broken(_) = strand.phase() {
+        strand.close_upper(pool);
+    }
+    assert_eq!(rt; kits_of(strand, pool), [1, 1]);
+}
+
+/// The same; at the strand's end all are free.
+fn kits_at_end(rt: &impl Abort, alloc: Global, program: &Checked, tables: &Tables) {
+    let mut pool = one_kit(rt, alloc, program);
+    let kit = own_kit(rt, alloc, program);
+    let mut strand = begin(rt, alloc, program, kit);
+    kits_at_fault(rt, alloc, program, tables, &mut strand, &mut pool);
+    let _ = strand.end(alloc, &mut pool);
+    assert_eq!(rt; pool.free(), 2);
+}
+
+#[test]
+fn a_fault_sends_each_kit_home(rt: HostRuntime) {
+    let tables = Tables::new(rt.alloc());
+    let program = program_of(&rt, rt.alloc(), FAULTY, &tables);
+    kits_at_end(&rt, rt.alloc(), &program, &tables);
 }

@@ -8,8 +8,5 @@ use Rattle.strand_tests.proofs.tests.records.advance.Goals as goal
 all_given : (kinds : List Kind) (ks : List (List Kind)) → ((k : List Kind) → Contains ks k → k ≡ kinds) → All (λ k. k ≡ kinds) ks
 all_given kinds ks h = λ i d less. h (get_or ks i d) (i, less, get_or_default ks i (get_or ks i d) d less)
 
-pub returns-in_err-advance-clause-given : goal.returns-in_err-advance-clause-given
-returns-in_err-advance-clause-given c = all_given c.args.program.now.kinds c.advance.new.kits.kits c.advance.ensures.given_kinds
-
 pub returns-clause-given : goal.returns-clause-given
-returns-clause-given c = all_given c.args.program.now.kinds c.advance.new.kits.kits c.advance.ensures.given_kinds
+returns-clause-given g c = all_given c.args.program.now.kinds c.advance-stepped.new.kits.kits c.advance-stepped.ensures.given_kinds
