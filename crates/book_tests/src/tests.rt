@@ -10,7 +10,6 @@ mod programs;
 mod refusals;
 mod replays;
 mod runs;
-mod short;
 mod stubborn;
 mod supply;
 mod tries;

@@ -183,7 +183,7 @@ fn told_of(
     assert_eq!(rt; end.as_str(), wanted);
     assert_eq!(rt; ended.kits.0, ended.kits.1);
     Told {
-        answer: answer_text(alloc, &ended.answer).expect(rt, "memory"),
+        answer: answer_text(rt, alloc, &ended.answer),
         end,
         steals: seen.0,
         folds: seen.1,

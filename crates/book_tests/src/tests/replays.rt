@@ -13,15 +13,15 @@ fn all_leave(rt: &impl Abort, alloc: Global, rows: &[(&str, &str)]) {
 
 /// Histories that are legal.
 const LEGAL: [(&str, &str); 6] = [
-    ("", "r held by 0;"),
-    ("Sr11", "r held by 0;1 held by 1;"),
+    ("", "[] Held(0);"),
+    ("Sr11", "[] Held(0);[1] Held(1);"),
     (
         "Sr11 S122 Sr33",
-        "r held by 0;3 held by 3;1 held by 1;2 held by 2;",
+        "[] Held(0);[3] Held(3);[1] Held(1);[2] Held(2);",
     ),
-    ("Sr11 Er L1 Fr11", "r held by 1;"),
-    ("Sr11 X1 Xr", "r faulted;1 faulted;"),
-    ("Sr11 S122 L2 E1 F122 L1 Er Fr10 Zr", "r finished;"),
+    ("Sr11 Er L1 Fr11", "[] Held(1);"),
+    ("Sr11 X1 Xr", "[] Faulted;[1] Faulted;"),
+    ("Sr11 S122 L2 E1 F122 L1 Er Fr10 Zr", "[] Finished;"),
 ];
 
 #[test]

@@ -15,11 +15,11 @@ use worker_core::Step;
 
 /// Programs, and their answers.
 const PROGRAMS: [(&str, &str); 7] = [
-    (FIRST_LIST, "result 3; 1 2 9"),
-    (LOOP, "result 0; 0 1 2 3"),
-    (PAIRS, "result 21; 1 2 -1 3 4 -3 9 5 6 -5"),
-    (LINES, "result 131; 131; 100 3"),
-    (NESTED_READS, "result 131; 131"),
+    (FIRST_LIST, "3 [List([1, 2, 9])]"),
+    (LOOP, "0 [List([0, 1, 2, 3])]"),
+    (PAIRS, "21 [List([1, 2, -1, 3, 4, -3, 9, 5, 6, -5])]"),
+    (LINES, "131 [Int(131), Arg(Some((100, 3)))]"),
+    (NESTED_READS, "131 [Int(131)]"),
     (
         TWO_FAULTS,
         "Fault { kind: DivideByZero, procedure: 0, statement: 1 }",
@@ -135,16 +135,19 @@ fn all_reruns(rt: &impl Abort, alloc: Global, rows: &[(&str, &str)]) {
 /// Programs, and what they come to over the records of their first run: the answer, the counts, and the new records.
 const RERUNS: [(&str, &str); 3] = [
     // No instance reads the row.
-    (PAIRS, "result 21; 1 2 -1 3 4 -3 9 5 6 -5; counts 0 3 0"),
+    (
+        PAIRS,
+        "21 [List([1, 2, -1, 3, 4, -3, 9, 5, 6, -5])] counts [0, 3, 0]",
+    ),
     // One of three lines reads it.
     (
         LINES,
-        "result 138; 138; 100 3; counts 1 2 0; 0 of 2 gave 28 with 0: 28 1: 28 2 read 2 high 1",
+        "138 [Int(138), Arg(Some((100, 3)))] counts [1, 2, 0]; 0 of [2] gave 28 with [(0, Int(28)), (1, Arg(Some((28, 2))))] read 2 high 1",
     ),
     // The instance over the lines reads what its lines read.
     (
         NESTED_READS,
-        "result 138; 138; counts 2 2 0; 0 of 2 gave 0 with 0: 28 read 3 high 1; 1 of gave 0 with 0: 138 read 10 high 2",
+        "138 [Int(138)] counts [2, 2, 0]; 0 of [2] gave 0 with [(0, Int(28))] read 3 high 1; 1 of [] gave 0 with [(0, Int(138))] read 10 high 2",
     ),
 ];
 

@@ -1,6 +1,6 @@
-//! Folds that are refused in the middle for want of memory, and tried again.
-ghost use Rattle.std.specs.Prelude.{◌≡◌, ◌∷◌, [], All, true};
-ghost use Rattle.monoid_laws.specs.declared.Kind.TheVariants.{List as ListKind};
+//! Runs with one fold: it is refused in the middle for want of memory, and tried again. In the run with plain views, where each
+//! allocation is refused in turn (`bench/memory/tests.sh`), those of the fold come soon.
+ghost use Rattle.std.specs.Prelude.{◌≡◌, [], All};
 ghost use Rattle.linked_program.specs.Checked.{revised_of};
 ghost use Rattle.linked_program.specs.TableNames.{columned_of};
 ghost use Rattle.rerun_records.specs.Doubted.{IsInStep};
@@ -8,7 +8,7 @@ ghost use Rattle.rerun_records.specs.Named.{HaveValues};
 ghost use Rattle.positions.specs.Setting.{setting_with};
 ghost use Rattle.numbered_runs.specs.News.{AreSound};
 
-use super::beginning::session_with;
+use super::beginning::{kits, session_with};
 use super::crew::{Crew, Ended};
 use super::mixed::{go_on, standing};
 use super::printing::answer_text;
@@ -20,6 +20,7 @@ use input_tables::Tables;
 use linked_program::checked::Checked;
 use monoid_laws::Kind;
 use rerun_records::records::Records;
+use reuse_planner::Session;
 use right_strands::run::{Run, Scene};
 use std::alloc::Global;
 use std::marker::Brand;
@@ -27,82 +28,51 @@ use std::process::Abort;
 use std::sync::Arc;
 use std::sync::atomic::{AtomicUsize, Ordering};
 use sync_fold::BookError;
-use view_pool::{Kit, Pool, View};
+use view_pool::{Kit, PlainView, Pool, View};
 
-/// Whether these are the kinds of two lists.
-fn are_two_lists(kinds: &[Kind]) -> bool
-    ensures { result ≡ true → kinds.now ≡ ListKind ∷ ListKind ∷ [] }
-{
-    match kinds {
-        [Kind::List, Kind::List] => true,
-        _ => false,
-    }
-}
-
-/// A kit of two lists, of which those refuse once that are to.
+/// A kit of two lists, of which those refuse once that are to, for a program whose reducers are two lists.
 fn kit(
     rt: &impl Abort,
     alloc: Global,
+    kinds: &[Kind],
     refuses: (bool, bool),
     drops: &Arc<AtomicUsize>,
 ) -> Kit<Stubborn>
-    ensures kinds { result ≡ ListKind ∷ ListKind ∷ [] }
+    ensures kinds { result ≡ kinds.now }
 {
-    let one = Stubborn::new(alloc, refuses.0, drops.clone().expect(rt, "memory"));
-    let two = Stubborn::new(alloc, refuses.1, drops.clone().expect(rt, "memory"));
-    let mut views = Vec::new(alloc);
-    if views.push(one).is_err() || views.push(two).is_err() {
-        panic!(rt; "memory");
+    match kinds {
+        [Kind::List, Kind::List] => {
+            let one = Stubborn::new(alloc, refuses.0, drops.clone().expect(rt, "memory"));
+            let two = Stubborn::new(alloc, refuses.1, drops.clone().expect(rt, "memory"));
+            Kit::reset(vec![in alloc; one, two].expect(rt, "memory"))
+        }
+        _ => panic!(rt; "other kinds"),
     }
-    Kit::reset(views)
 }
 
 /// Two such kits. The second one, of which these lists refuse once, is taken first.
 fn pool(
     rt: &impl Abort,
     alloc: Global,
+    kinds: &[Kind],
     second: (bool, bool),
     drops: &Arc<AtomicUsize>,
 ) -> Pool<Kit<Stubborn>>
-    ensures kits { All (λ k. k ≡ ListKind ∷ ListKind ∷ []) result.kits }
+    ensures kits { All (λ k. k ≡ kinds.now) result.kits }
 {
-    let mut kits = Vec::new(alloc);
-    for refuses in [(false, false), second] {
-        if kits.push(kit(rt, alloc, refuses, drops)).is_err() {
-            panic!(rt; "memory");
-        }
-    }
-    Pool::new(kits)
+    let one = kit(rt, alloc, kinds, (false, false), drops);
+    let two = kit(rt, alloc, kinds, second, drops);
+    Pool::new(vec![in alloc; one, two].expect(rt, "memory"))
 }
 
 /// The child of `main` is at its end, and `main` is at its sync: the first strand is worker 0's, the other worker 1's. Both are
 /// laid down.
-pub fn lead<J: Run, V: View>(rt: &impl Abort, crew: &mut Crew<'_, J, V>) {
+fn lead<J: Run, V: View>(rt: &impl Abort, crew: &mut Crew<'_, J, V>) {
     go_on(rt, crew, 0);
     assert!(rt; crew.push(rt, 0) && crew.steal(rt, 1, 0));
     go_on(rt, crew, 0);
     go_on(rt, crew, 1);
     assert!(rt; crew.stall(rt, 0) && crew.stall(rt, 1));
-}
-
-/// The answer of the run once its two strands are one; both kits are home.
-pub fn finished<J: Run, V: View>(
-    rt: &impl Abort,
-    alloc: Global,
-    mut crew: Crew<'_, J, V>,
-) -> String {
-    go_on(rt, &mut crew, 2);
-    assert!(rt; crew.stall(rt, 2));
-    ended_text(rt, alloc, &crew.end(rt))
-}
-
-/// The answer of a run that has ended; both kits are home.
-fn ended_text(rt: &impl Abort, alloc: Global, ended: &Ended) -> String {
-    if matches!(ended.answer, RunAnswer::NoMemory) {
-        panic!(rt; "memory");
-    }
-    assert_eq!(rt; ended.kits, (2, 2));
-    answer_text(alloc, &ended.answer).expect(rt, "memory")
 }
 
 /// A fold that is refused leaves the list and the history.
@@ -114,16 +84,35 @@ fn is_refused<J: Run, V: View>(rt: &impl Abort, alloc: Global, crew: &mut Crew<'
     assert_eq!(rt; after.as_str(), before.as_str());
 }
 
-/// How the fold is tried again: by its places, as the first one that may be, or not at all.
-#[derive(Clone, Copy, Debug, PartialEq, Eq)]
+/// How the fold is tried at last: by its places, once or once more where memory is refused; as the first one that may be; or not at
+/// all.
+#[derive(Clone, Copy)]
 enum Again {
     Pair,
+    Twice,
     Any,
     Never,
 }
 
-/// The one fold of the run is refused once for each list that refuses, and then tried again so; whether it is done.
+/// The fold is tried so; whether it is done.
 fn is_folded<J: Run, V: View>(
+    rt: &impl Abort,
+    alloc: Global,
+    crew: &mut Crew<'_, J, V>,
+    again: Again,
+) -> bool {
+    let (left, right) = (place(rt, alloc, b'r'), place(rt, alloc, b'1'));
+    match again {
+        Again::Pair => crew.fold_pair(&left, &right, 2).is_ok(),
+        Again::Twice => crew.fold(rt, 2, &right),
+        Again::Any => crew.fold_any(2) == Some(Ok(())),
+        Again::Never => false,
+    }
+}
+
+/// The one fold of the run is refused once for each list that refuses, and then tried so. Whether it is done; the run has gone on to
+/// its end then.
+fn folds_at_last<J: Run, V: View>(
     rt: &impl Abort,
     alloc: Global,
     crew: &mut Crew<'_, J, V>,
@@ -137,31 +126,24 @@ fn is_folded<J: Run, V: View>(
     if refuses.1 {
         is_refused(rt, alloc, crew);
     }
-    let (left, right) = (place(rt, alloc, b'r'), place(rt, alloc, b'1'));
-    match again {
-        Again::Pair => assert!(rt; crew.fold_pair(&left, &right, 2).is_ok()),
-        Again::Any => assert_eq!(rt; crew.fold_any(2), Some(Ok(()))),
-        Again::Never => return false,
+    let is_done = is_folded(rt, alloc, crew, again);
+    if is_done {
+        go_on(rt, crew, 2);
+        assert!(rt; crew.stall(rt, 2));
     }
-    true
+    is_done
 }
 
-/// The answer of the run, which is over with its fold.
-fn folded<J: Run, V: View>(
-    rt: &impl Abort,
-    alloc: Global,
-    mut crew: Crew<'_, J, V>,
-    refuses: (bool, bool),
-    again: Again,
-) -> String {
-    if is_folded(rt, alloc, &mut crew, refuses, again) {
-        finished(rt, alloc, crew)
-    } else {
-        String::new(alloc)
+/// The answer of a run that has ended; both kits are home.
+fn ended_text(rt: &impl Abort, alloc: Global, ended: &Ended) -> String {
+    if matches!(ended.answer, RunAnswer::NoMemory) {
+        panic!(rt; "memory");
     }
+    assert_eq!(rt; ended.kits, (2, 2));
+    answer_text(rt, alloc, &ended.answer)
 }
 
-/// The same of a program with two lists.
+/// The answer of a run of a program with two lists that ends with its fold, or is given up.
 fn folds<J: Run, V: View>(
     rt: &impl Abort,
     alloc: Global,
@@ -177,39 +159,65 @@ fn folds<J: Run, V: View>(
     requires sound { AreSound (revised_of program.now) program.now.tables program.now.kinds records.now }
     requires values { HaveValues program.now.kinds records.now }
     requires in_step { IsInStep tables.now.tables records.now }
-    requires lists { program.now.kinds ≡ ListKind ∷ ListKind ∷ [] }
-    requires kits { All (λ k. k ≡ ListKind ∷ ListKind ∷ []) pool.kits }
+    requires kits { All (λ k. k ≡ program.now.kinds) pool.kits }
 {
     let scene = Scene::<J>::new(program, tables, records);
-    let crew = Crew::start(rt, alloc, scene, pool, 3);
-    folded(rt, alloc, crew, refuses, again)
+    let mut crew = Crew::start(rt, alloc, scene, pool, 3);
+    if folds_at_last(rt, alloc, &mut crew, refuses, again) {
+        ended_text(rt, alloc, &crew.end(rt))
+    } else {
+        drop(crew);
+        String::new(alloc)
+    }
 }
 
-/// The answer of the run in which these lists refuse, and whose fold is tried again so, and how many views were dropped at its end.
-fn tried(rt: &impl Abort, alloc: Global, refuses: (bool, bool), again: Again) -> (String, usize) {
-    let drops = Arc::new(alloc, AtomicUsize::new(0)).expect(rt, "memory");
-    let session = session_with(rt, alloc, TWO_LISTS, 1);
+/// The same of a session, in which these lists refuse.
+fn tried_in(
+    rt: &impl Abort,
+    alloc: Global,
+    session: &Session<PlainView>,
+    refuses: (bool, bool),
+    again: Again,
+    drops: &Arc<AtomicUsize>,
+) -> String {
     session.kept();
     let (program, tables, records) = (session.checked(), session.tables(), session.records());
-    if !are_two_lists(program.kinds()) {
-        panic!(rt; "other kinds");
-    }
-    let pool = pool(rt, alloc, refuses, &drops);
-    let text = folds::<Brand, Stubborn>(rt, alloc, program, tables, records, pool, refuses, again);
-    (text, drops.load(Ordering::Relaxed))
+    let pool = pool(rt, alloc, program.kinds(), refuses, drops);
+    folds::<Brand, Stubborn>(rt, alloc, program, tables, records, pool, refuses, again)
 }
 
-/// Two kits of two views are dropped, each view once; also where the run is given up with the fold refused.
+/// Compares the answer of a run in which these lists refuse. Two kits of two views are dropped, each view once; also where the run
+/// is given up with the fold refused.
+fn is_tried(
+    rt: &impl Abort,
+    alloc: Global,
+    session: &Session<PlainView>,
+    refuses: (bool, bool),
+    again: Again,
+    wanted: &str,
+) {
+    let drops = Arc::new(alloc, AtomicUsize::new(0)).expect(rt, "memory");
+    let text = tried_in(rt, alloc, session, refuses, again, &drops);
+    assert_eq!(rt; text.as_str(), wanted);
+    assert_eq!(rt; drops.load(Ordering::Relaxed), 4);
+}
+
+/// The same however the fold is tried again.
 fn all_tries(rt: &impl Abort, alloc: Global, refuses: (bool, bool)) {
-    for (again, wanted) in [
-        (Again::Pair, "result 1; 1 2; 1 2"),
-        (Again::Any, "result 1; 1 2; 1 2"),
-        (Again::Never, ""),
-    ] {
-        let (text, drops) = tried(rt, alloc, refuses, again);
-        assert_eq!(rt; (text.as_str(), drops), (wanted, 4), "{again:?}");
+    let session = session_with(rt, alloc, TWO_LISTS, 1);
+    for (again, wanted) in TRIES {
+        is_tried(rt, alloc, &session, refuses, again, wanted);
     }
 }
+
+const TRIES: [(Again, &str); 3] = [
+    (Again::Pair, WANTED),
+    (Again::Any, WANTED),
+    (Again::Never, ""),
+];
+
+/// Each list has the number of the left strand first.
+const WANTED: &str = "1 [List([1, 2]), List([1, 2])]";
 
 /// Nothing has moved to the left by then.
 #[test]
@@ -227,4 +235,20 @@ fn second_list_refuses(rt: HostRuntime) {
 #[test]
 fn both_lists_refuse(rt: HostRuntime) {
     all_tries(&rt, rt.alloc(), (true, true));
+}
+
+/// A fold that memory is refused for is tried once more.
+fn plainly(rt: &impl Abort, alloc: Global, session: &Session<PlainView>) -> String {
+    session.kept();
+    let (program, tables, records) = (session.checked(), session.tables(), session.records());
+    let pool = Pool::new(kits(rt, alloc, program.kinds(), 2));
+    let refuses = (false, false);
+    let again = Again::Twice;
+    folds::<Brand, PlainView>(rt, alloc, program, tables, records, pool, refuses, again)
+}
+
+#[test]
+fn one_fold(rt: HostRuntime) {
+    let session = session_with(&rt, rt.alloc(), TWO_LISTS, 1);
+    assert_eq!(&rt; plainly(&rt, rt.alloc(), &session).as_str(), WANTED);
 }

@@ -1,7 +1,7 @@
 //! Histories as words of four letters at most, and lists of strands as text.
 
-use numbered_runs::step::{BookStep, Place, State, StrandLine};
-use std::alloc::{AllocError, Global};
+use numbered_runs::step::{BookStep, Place, StrandLine};
+use std::alloc::Global;
 use std::fmt::Write;
 use std::process::Abort;
 use sync_fold::replay;
@@ -50,35 +50,17 @@ fn steps(rt: &impl Abort, alloc: Global, line: &str) -> Vec<BookStep> {
     steps
 }
 
-fn push_state(text: &mut String, state: State) -> Result<(), AllocError> {
-    match state {
-        State::Held(worker) => write!(text, " held by {worker};"),
-        State::Ended => write!(text, " ended;"),
-        State::Stalled => write!(text, " stalled;"),
-        State::Faulted => write!(text, " faulted;"),
-        State::Finished => write!(text, " finished;"),
-    }
-}
-
-fn push_line(text: &mut String, line: &StrandLine) -> Result<(), AllocError> {
-    match line.place.as_slice() {
-        [] => write!(text, "r")?,
-        [number, ..] => write!(text, "{number}")?,
-    }
-    push_state(text, line.state)
-}
-
-/// A list as text.
-pub fn list_text(rt: &impl Abort, alloc: Global, lines: &[StrandLine]) -> String {
+/// A list as text: the place and the state of each strand.
+fn list_text(rt: &impl Abort, alloc: Global, lines: &[StrandLine]) -> String {
     let mut text = String::new(alloc);
-    for line in lines.iter() {
-        push_line(&mut text, line).expect(rt, "memory");
+    for line in lines {
+        write!(text, "{:?} {:?};", line.place, line.state).expect(rt, "memory");
     }
     text
 }
 
 /// The list that a history leaves, or why it leaves none.
-pub fn replayed_text(rt: &impl Abort, alloc: Global, steps: &[BookStep]) -> String {
+fn replayed_text(rt: &impl Abort, alloc: Global, steps: &[BookStep]) -> String {
     match replay(alloc, steps) {
         Ok(lines) => list_text(rt, alloc, &lines),
         Err(error) => format!(in alloc; "{error}").expect(rt, "memory"),
