@@ -2,7 +2,7 @@
 ghost use Rattle.std.specs.Prelude.{◌≡◌, true, false};
 ghost use Rattle.threaded_driver.specs.Come.{HasEnded};
 
-use crate::notes::{NoNotes, Notes};
+use crate::notes::Notes;
 use input_tables::Tables;
 use linked_program::checked::Checked;
 use session_edits::{Edit, EditError};
@@ -23,10 +23,6 @@ pub enum Cause<'a> {
 pub trait Explain {
     /// Is told of one more cause, with the program and the tables as they are then; what is refused changes neither.
     fn explain(&mut self, cause: Cause<'_>, checked: &Checked, tables: &Tables);
-}
-
-impl Explain for NoNotes {
-    fn explain(&mut self, _cause: Cause<'_>, _checked: &Checked, _tables: &Tables) {}
 }
 
 /// Notes, and who explains, if somebody does.
