@@ -42,18 +42,37 @@ pub fn answer_text(rt: &impl Abort, alloc: Global, answer: &Result<Checked, Chec
     text.expect(rt, "memory")
 }
 
-/// The answer to a text.
-pub fn answer(rt: &impl Abort, alloc: Global, text: &str) -> String {
-    let program = program(rt, alloc, text);
+/// The answer to a program.
+pub fn answer(rt: &impl Abort, alloc: Global, program: Program) -> String {
     answer_text(rt, alloc, &check(alloc, program, &tables(rt, alloc)))
 }
 
-/// The answer to two reducers and a procedure, with these statements of `main` from line 3 on.
-pub fn answer_in_main(rt: &impl Abort, alloc: Global, statements: &str) -> String {
+/// Texts, and the answers to them.
+pub type Row = (&'static str, &'static str);
+
+/// Compares the answers to texts.
+pub fn answers(rt: &impl Abort, alloc: Global, rows: &[Row]) {
+    for (text, wanted) in rows {
+        let found = answer(rt, alloc, program(rt, alloc, *text));
+        assert_eq!(rt; found.as_str(), *wanted, "to {text}");
+    }
+}
+
+/// Two reducers and a procedure, with these statements of `main` from line 3 on.
+fn in_main(rt: &impl Abort, alloc: Global, statements: &str) -> String {
     let text = format!(in alloc;
         "reducer total : add; reducer seen : list; proc leaf(v) {{ return v; }}
 proc main() {{
 {statements} }}"
     );
-    answer(rt, alloc, &text.expect(rt, "memory"))
+    text.expect(rt, "memory")
+}
+
+/// Compares the answers to such texts.
+pub fn answers_in_main(rt: &impl Abort, alloc: Global, rows: &[Row]) {
+    for (statements, wanted) in rows {
+        let text = in_main(rt, alloc, *statements);
+        let found = answer(rt, alloc, program(rt, alloc, &text));
+        assert_eq!(rt; found.as_str(), *wanted, "to {statements}");
+    }
 }

@@ -6,6 +6,7 @@ use linked_program::code::{Expression, Operation};
 use linked_program::linking::procedure_number;
 use monoid_laws::Kind;
 use program_tree::Way;
+use std::process::Abort;
 
 const TEXT: &str = "reducer best : max;
 proc leaf(v) { return v; }
@@ -57,27 +58,39 @@ fn returns_at(program: &Checked, procedure: usize, number: u32, wanted: i64) -> 
     }
 }
 
-#[test]
-fn a_checked_program_has_its_code(rt: HostRuntime) {
-    let program = checked(&rt, rt.alloc(), TEXT);
+/// The numbers of procedures, of slots and of statements, and the first statement.
+fn has_its_code(rt: &impl Abort, program: &Checked) {
     assert_eq!(rt; (program.main(), program.codes().len()), (1, 3));
     assert_eq!(rt; (program.slots(1), program.slots(3)), (3, 0));
-    assert_eq!(rt; program.kinds(), [Kind::Max].as_slice());
-    assert!(rt; returns_at(&program, 1, 5, 5) && returns_at(&program, 2, 1, 7));
+    assert!(rt; returns_at(program, 1, 5, 5) && returns_at(program, 2, 1, 7));
     assert!(rt; program.instruction(1, 0, 5).is_none());
-    let first = program.instruction(1, 0, 0).expect(&rt, "a statement");
+    let first = program.instruction(1, 0, 0).expect(rt, "a statement");
     assert!(rt; first.number == 1 && calls_with_price(&first.operation));
-    let columns = program.tables().get(1).map(|table| table.columns.len());
-    assert_eq!(rt; columns, Some(2));
 }
 
-#[test]
-fn procedures_go_by_number(rt: HostRuntime) {
-    let program = checked(&rt, rt.alloc(), TEXT);
-    for (name, number) in [("leaf", 0), ("main", 1), ("extra", 2), ("other", 3)] {
+/// The kinds of the reducers, the columns of the second table, and the numbers of the procedures.
+fn has_its_names(rt: &impl Abort, program: &Checked) {
+    assert_eq!(rt; program.kinds(), [Kind::Max].as_slice());
+    let columns = program.tables().get(1).map(|table| table.columns.len());
+    assert_eq!(rt; columns, Some(2));
+    for (name, number) in NUMBERS {
         let found = procedure_number(&program.program().declarations, name);
         assert_eq!(rt; found, number, "of {name}");
     }
+}
+
+const NUMBERS: [(&str, usize); 4] = [("leaf", 0), ("main", 1), ("extra", 2), ("other", 3)];
+
+#[test]
+fn a_checked_program_has_its_code(rt: HostRuntime) {
+    let program = checked(&rt, rt.alloc(), TEXT);
+    has_its_code(&rt, &program);
+    has_its_names(&rt, &program);
+}
+
+/// Whether the procedure of that number is recorded, and its revision number.
+fn entered(program: &Checked, procedure: usize) -> (bool, Option<u64>) {
+    (program.is_memo(procedure), program.revision_at(procedure))
 }
 
 #[test]
@@ -85,14 +98,10 @@ fn entering_a_procedure_goes_by_its_number(rt: HostRuntime) {
     let text = "memo proc leaf(v, w) { return v; }
 proc main() { return 5; }";
     let program = checked(&rt, rt.alloc(), text);
-    assert_eq!(rt;
-        (program.is_memo(0), program.is_memo(1), program.is_memo(2)),
-        (true, false, false)
+    let found = (
+        entered(&program, 0),
+        entered(&program, 1),
+        entered(&program, 2),
     );
-    let revisions = (
-        program.revision_at(0),
-        program.revision_at(1),
-        program.revision_at(2),
-    );
-    assert_eq!(rt; revisions, (Some(0), Some(1), None));
+    assert_eq!(rt; found, ((true, Some(0)), (false, Some(1)), (false, None)));
 }

@@ -1,8 +1,8 @@
 //! Procedures that are defined in checked programs.
 
-use super::answers::{checked, tables};
+use super::answers::{Row, checked, tables};
 use super::exhausted::before;
-use super::revisions::assert_numbered;
+use super::revisions::numbers_text;
 use checked_defines::{DefineError, define};
 use linked_program::checked::Checked;
 use std::alloc::Global;
@@ -29,7 +29,7 @@ const DOWN: &str = "reducer steps : add;
 memo proc down(n) { update steps 1; if n > 0 { call down(n - 1); } return n; }
 proc main() { v = call down(60); return v; }";
 
-/// The answer to a text that defines procedures of a program.
+/// What a text that defines procedures makes of a program.
 fn defined(
     rt: &impl Abort,
     alloc: Global,
@@ -37,15 +37,6 @@ fn defined(
     text: &str,
 ) -> Result<Checked, DefineError> {
     define(alloc, old, &tables(rt, alloc), text.as_bytes())
-}
-
-/// The program that these texts lead to, one after another.
-fn after(rt: &impl Abort, alloc: Global, program: &str, texts: &[&str]) -> Checked {
-    let mut now = checked(rt, alloc, program);
-    for text in texts {
-        now = defined(rt, alloc, &now, text).expect(rt, "no refusal");
-    }
-    now
 }
 
 /// `refused ..` as it is printed, or `defined`.
@@ -57,82 +48,127 @@ fn answer(rt: &impl Abort, alloc: Global, old: &Checked, text: &str) -> String {
     text.expect(rt, "memory")
 }
 
-#[test]
-fn the_same_tree_keeps_its_number(rt: HostRuntime) {
-    let numbers = [("line", 0), ("main", 1)];
-    assert_numbered(&rt, &after(&rt, rt.alloc(), SALES, &[SPACED]), &numbers, 2);
+/// Compares the answers to texts that define procedures of a program.
+fn answers(rt: &impl Abort, alloc: Global, old: &Checked, rows: &[Row]) {
+    for (text, wanted) in rows {
+        let found = answer(rt, alloc, old, *text);
+        assert_eq!(rt; found.as_str(), *wanted, "to {text}");
+    }
 }
 
-/// The old text is a change of the new one: it gets a third number, and not its first one again.
-#[test]
-fn there_and_back(rt: HostRuntime) {
-    let there = after(&rt, rt.alloc(), SALES, &["memo proc line(r) { return 0; }"]);
-    assert_numbered(&rt, &there, &[("line", 2), ("main", 1)], 3);
-    let back = defined(&rt, rt.alloc(), &there, LINE).expect(&rt, "no refusal");
-    assert_numbered(&rt, &back, &[("line", 3), ("main", 1)], 4);
+/// Puts a text into a program, which has to be allowed.
+fn put_in(rt: &impl Abort, alloc: Global, old: &Checked, text: &str) -> Checked {
+    defined(rt, alloc, old, text).expect(rt, "no refusal")
 }
+
+/// The numbers behind a text that is put into a program.
+fn numbers_behind(rt: &impl Abort, alloc: Global, old: &Checked, text: &str) -> String {
+    let now = put_in(rt, alloc, old, text);
+    numbers_text(rt, alloc, &now)
+}
+
+/// The same behind two texts.
+fn numbers_behind_both(
+    rt: &impl Abort,
+    alloc: Global,
+    old: &Checked,
+    first: &str,
+    second: &str,
+) -> String {
+    let now = put_in(rt, alloc, old, first);
+    numbers_behind(rt, alloc, &now, second)
+}
+
+const ZERO: &str = "memo proc line(r) { return 0; }";
 
 /// A procedure is the same only with its mark.
-#[test]
-fn without_memo(rt: HostRuntime) {
-    let text =
-        "proc line(r) { v = sales[r].qty * sales[r].price; update total v; update top v, r; return v; }";
-    let plain = after(&rt, rt.alloc(), SALES, &[text]);
-    assert_numbered(&rt, &plain, &[("line", 2), ("main", 1)], 3);
-    assert_eq!(&rt; plain.is_memo(0), false);
-}
+const WITHOUT_MEMO: &str =
+    "proc line(r) { v = sales[r].qty * sales[r].price; update total v; update top v, r; return v; }";
 
-/// `main` is replaced in its place, and the new ones go behind it, in the order of their text.
-#[test]
-fn new_ones_go_last(rt: HostRuntime) {
-    let first = "proc b() { v = call down(60); return v; }
+const TWO_MORE: &str = "proc b() { v = call down(60); return v; }
 proc a() { v = call b(); return v; }
 proc main() { v = call a(); return v; }";
-    let once = after(&rt, rt.alloc(), DOWN, &[first]);
-    let numbers = [("down", 0), ("main", 2), ("b", 3), ("a", 4)];
-    assert_numbered(&rt, &once, &numbers, 5);
-    let second = "proc c() { v = call down(60); return v; }
+
+const ONE_MORE: &str = "proc c() { v = call down(60); return v; }
 proc b() { v = call c(); return v; }";
-    let twice = defined(&rt, rt.alloc(), &once, second).expect(&rt, "no refusal");
-    let numbers = [("down", 0), ("main", 2), ("b", 5), ("a", 4), ("c", 6)];
-    assert_numbered(&rt, &twice, &numbers, 7);
+
+/// Programs, each with a text that is put into it, and its numbers then.
+const ONCE: [(&str, &str, &str); 4] = [
+    // The same tree keeps its number.
+    (SALES, SPACED, "line 0 true; main 1 false; 2"),
+    (SALES, ZERO, "line 2 true; main 1 false; 3"),
+    (SALES, WITHOUT_MEMO, "line 2 false; main 1 false; 3"),
+    // `main` is replaced in its place, and the new ones go behind it, in the order of their text.
+    (
+        DOWN,
+        TWO_MORE,
+        "down 0 true; main 2 false; b 3 false; a 4 false; 5",
+    ),
+];
+
+#[test]
+fn numbers_behind_a_text(rt: HostRuntime) {
+    for (program, text, wanted) in ONCE {
+        let old = checked(&rt, rt.alloc(), program);
+        let found = numbers_behind(&rt, rt.alloc(), &old, text);
+        assert_eq!(&rt; found.as_str(), wanted);
+    }
+}
+
+/// Programs, each with two texts that are put into it, and its numbers then.
+const TWICE: [(&str, &str, &str, &str); 2] = [
+    // There and back: the old text is a change of the new one, and gets a third number, not its first one again.
+    (SALES, ZERO, LINE, "line 3 true; main 1 false; 4"),
+    (
+        DOWN,
+        TWO_MORE,
+        ONE_MORE,
+        "down 0 true; main 2 false; b 5 false; a 4 false; c 6 false; 7",
+    ),
+];
+
+#[test]
+fn numbers_behind_two_texts(rt: HostRuntime) {
+    for (program, first, second, wanted) in TWICE {
+        let old = checked(&rt, rt.alloc(), program);
+        let found = numbers_behind_both(&rt, rt.alloc(), &old, first, second);
+        assert_eq!(&rt; found.as_str(), wanted);
+    }
 }
 
 /// The lines of a fault are those of the text, and of a violation those of the text that its procedure came from.
+const ANSWERS: [Row; 8] = [
+    ("", "refused E8 1"),
+    ("reducer r : add;", "refused E8 1"),
+    ("proc f() {\nreturn 0; }\nproc g( { }", "refused E8 3"),
+    (
+        "proc line(r) { return 0; } proc main() { x = spawn line(1); return x; }",
+        "refused E9 C3 main 1",
+    ),
+    (
+        "\nmemo proc line(r) {\nreturn stock[r].qty; }",
+        "refused E9 C8 line 3",
+    ),
+    ("memo proc line(r, s) { return 0; }", "refused E9 C4 main 4"),
+    ("proc f() { }\nproc f() { }", "refused E9 C2 f 2"),
+    (LINE, "defined"),
+];
+
 #[test]
 fn refused_texts(rt: HostRuntime) {
     let old = checked(&rt, rt.alloc(), SALES);
-    for (text, wanted) in [
-        ("", "refused E8 1"),
-        ("reducer r : add;", "refused E8 1"),
-        ("proc f() {\nreturn 0; }\nproc g( { }", "refused E8 3"),
-        (
-            "proc line(r) { return 0; } proc main() { x = spawn line(1); return x; }",
-            "refused E9 C3 main 1",
-        ),
-        (
-            "\nmemo proc line(r) {\nreturn stock[r].qty; }",
-            "refused E9 C8 line 3",
-        ),
-        ("memo proc line(r, s) { return 0; }", "refused E9 C4 main 4"),
-        ("proc f() { }\nproc f() { }", "refused E9 C2 f 2"),
-        (LINE, "defined"),
-    ] {
-        let found = answer(&rt, rt.alloc(), &old, text);
-        assert_eq!(&rt; found.as_str(), wanted, "to {text}");
-    }
+    answers(&rt, rt.alloc(), &old, &ANSWERS);
 }
 
 /// The rules come before the numbers.
+const AT_THE_LAST: [Row; 3] = [
+    ("proc main() { return 1; }", "refused E18"),
+    ("proc main(x) { }", "refused E9 C7 main 1"),
+    ("\n\nproc main() { }", "defined"),
+];
+
 #[test]
 fn no_number_is_left_to_define(rt: HostRuntime) {
     let old = before(&rt, rt.alloc(), u64::MAX);
-    for (text, wanted) in [
-        ("proc main() { return 1; }", "refused E18"),
-        ("proc main(x) { }", "refused E9 C7 main 1"),
-        ("\n\nproc main() { }", "defined"),
-    ] {
-        let found = answer(&rt, rt.alloc(), &old, text);
-        assert_eq!(&rt; found.as_str(), wanted, "to {text}");
-    }
+    answers(&rt, rt.alloc(), &old, &AT_THE_LAST);
 }

@@ -7,8 +7,7 @@ ghost use Rattle.linked_program.specs.Procedures.{procedures};
 ghost use Rattle.linked_program.specs.Linked.{main_number};
 ghost use Rattle.linked_program.specs.Checked.{numbers_in};
 
-use super::answers::answer_text;
-use super::revisions::redefined;
+use super::revisions::{answer_to, changed};
 use indexmap::IndexMap;
 use linked_program::checked::Checked;
 use linked_program::linking::{codes, kinds};
@@ -69,16 +68,17 @@ const SAME: &str = "\n\nproc main() { }";
 const CHANGED: &str = "proc main() { return 1; }";
 
 /// Where no procedure is changed no number is needed; the rules come before the numbers.
+const ANSWERS: [(&str, &str); 3] = [
+    (CHANGED, "refused E18"),
+    (SAME, "checked"),
+    ("", "refused E9 C7 main 0"),
+];
+
 #[test]
 fn no_number_is_left(rt: HostRuntime) {
     let old = before(&rt, rt.alloc(), u64::MAX);
-    for (text, wanted) in [
-        (CHANGED, "refused E18"),
-        (SAME, "checked"),
-        ("", "refused E9 C7 main 0"),
-    ] {
-        let answer = redefined(&rt, rt.alloc(), &old, text);
-        let found = answer_text(&rt, rt.alloc(), &answer);
+    for (text, wanted) in ANSWERS {
+        let found = answer_to(&rt, rt.alloc(), &old, text);
         assert_eq!(rt; found.as_str(), wanted, "to {text}");
     }
 }
@@ -86,7 +86,7 @@ fn no_number_is_left(rt: HostRuntime) {
 #[test]
 fn the_last_number_is_given(rt: HostRuntime) {
     let old = before(&rt, rt.alloc(), u64::MAX - 1);
-    let after = redefined(&rt, rt.alloc(), &old, CHANGED).expect(&rt, "no violation");
+    let after = changed(&rt, rt.alloc(), &old, CHANGED);
     assert_eq!(rt; after.revision("main"), Some(u64::MAX - 1));
     assert_eq!(rt; after.counter(), u64::MAX);
 }
