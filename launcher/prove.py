@@ -1,12 +1,11 @@
 #!/usr/bin/env python3
-"""Runs `rt ci`, so that the processors go first to the proofs that most others wait for.
+"""Runs `rt ci`, so that the proofs that most others wait for have all processors.
 
 `rt ci` shares idle processors among all its tasks that are ready. Those of crates without tests or edits have no work and
 are over at once, but they count, so a proof that nothing else runs beside gets one processor alone. Here such tasks come
 after all others. And a proof keeps the processors that it began with, of which a large one gets one, since each is reckoned
-to take the memory that the first one does. Here each proof gets as many as memory holds, up to four: the further ones share
-what the first has loaded, and where there are fewer processors than jobs these share them. Those of the longest chain, and
-of chains that are nearly as long, come first, and the others give way to them.
+to take the memory that the first one does. Here each proof of the longest chain, and of those that are nearly as long, gets
+as many as memory holds, up to four: the further ones share what the first has loaded.
 Where rt's files are made otherwise than this knows of, this is `rt ci` and no more.
 """
 import importlib.machinery
@@ -14,13 +13,9 @@ import importlib.util
 import os
 import shutil
 import sys
-import threading
-from concurrent.futures import ThreadPoolExecutor
 
 # What the first job of a proof takes of memory at most, and what each further one takes beside it, in bytes.
 FIRST, FURTHER = 3_500_000_000, 1_000_000_000
-# How far the proofs beside the longest chains give way to theirs.
-NICE = 4
 # What part of the longest chain's work makes another one long.
 LONG = 0.85
 
@@ -58,26 +53,11 @@ def with_jobs(rt, call):
     return run
 
 
-def give_way():
-    """Has the thread that calls this, and what it starts, give way to others."""
-    os.setpriority(os.PRIO_PROCESS, threading.get_native_id(), NICE)
-
-
-def beside(call):
-    """The same call, which gives way to those of the chain."""
-
-    def run(given, jobs):
-        with ThreadPoolExecutor(1, initializer=give_way) as pool:
-            return pool.submit(call, given, jobs).result()
-
-    return run
-
-
 def chain_first(rt, tasks):
-    """The tasks with more jobs, where those beside the longest chains give way."""
+    """The tasks, where those of the longest chains have more jobs."""
     chains = on_long_chains(tasks)
     return {
-        name: (before, work, needs, with_jobs(rt, call) if name in chains else beside(with_jobs(rt, call)))
+        name: (before, work, needs, with_jobs(rt, call) if name in chains else call)
         for name, (before, work, needs, call) in tasks.items()
     }
 
