@@ -1,4 +1,3 @@
-#!/usr/bin/env python3
 """Proves and builds cilkreport, and says on standard error how far it is.
 
 Only the crates that the program stands on are proved, without their must-fail edits, in a copy of the repository, by
@@ -9,39 +8,18 @@ in out/build.log.
 import os
 import re
 import shutil
-import signal
 import subprocess
 import sys
 import tempfile
 import threading
 import time
 
-TOP = os.path.dirname(os.path.dirname(os.path.realpath(__file__)))
-PROGRAM = "cilkreport"
+from builds import PROVED, in_a_group, in_turn
+from sources import PARTS, PROGRAM, TOP, crates_below, lines_for, sum_of
+
 LOG = f"{TOP}/out/build.log"
-# What `rt ci` reads of a crate.
-PARTS = ("src", "specs", "proofs", "data", "args", "stdin", "stdout", "status")
-
-
-def lines_of(path):
-    with open(path, encoding="utf-8") as file:
-        return file.read().splitlines()
-
-
-def crates_below(program):
-    """The program's crates with the libraries that each names, as crates.txt lists them."""
-    listed = {}
-    for line in lines_of(f"{TOP}/crates.txt"):
-        name, found, libraries = line.partition("#")[0].partition(":")
-        if found:
-            listed[name.split()[0]] = libraries.split()
-    needed, left = {}, [program]
-    while left:
-        name = left.pop()
-        if name in listed and name not in needed:
-            needed[name] = listed[name]
-            left += listed[name]
-    return needed
+# What the proofs took on a machine with 4 cores, in minutes: of all processors together, and by the clock.
+WORK, CHAIN = 74, 30
 
 
 def copy_to(room, crates):
@@ -56,7 +34,7 @@ def copy_to(room, crates):
                 shutil.copyfile(source, target)
     shutil.copyfile(f"{TOP}/HANDLES", f"{room}/HANDLES")
     with open(f"{room}/crates.txt", "w", encoding="utf-8") as file:
-        file.writelines(f"{name}: {' '.join(libraries)}\n" for name, libraries in crates.items())
+        file.writelines(lines_for(crates))
 
 
 def crates_in_work(room):
@@ -100,54 +78,52 @@ class Progress:
 
 def prove(room, count):
     """Runs the gate in the copy, and returns whether everything was proved and the program ran."""
-    # A group of its own, so that nothing goes on where this is interrupted.
-    words = {"stdin": subprocess.DEVNULL, "stdout": subprocess.PIPE, "stderr": subprocess.STDOUT}
-    gate = subprocess.Popen([sys.executable, f"{TOP}/launcher/prove.py"], cwd=room, text=True, errors="replace", start_new_session=True, **words)
-    progress = Progress(room, count)
-    try:
-        with open(LOG, "w", encoding="utf-8") as log:
+    how = {"stdout": subprocess.PIPE, "stderr": subprocess.STDOUT, "text": True, "errors": "replace"}
+    with in_a_group([sys.executable, f"{TOP}/launcher/prove.py"], cwd=room, **how) as gate, open(LOG, "w", encoding="utf-8") as log:
+        progress = Progress(room, count)
+        try:
             for line in gate.stdout:
                 log.write(line)
                 log.flush()
                 found = re.fullmatch(r"rt: (\w+) proved\n", line)
                 if found:
                     progress.proved(found[1])
+        finally:
+            progress.is_over.set()
         return gate.wait() == 0
-    finally:
-        progress.is_over.set()
-        if gate.poll() is None:
-            os.killpg(gate.pid, signal.SIGKILL)
 
 
-def main():
-    signal.signal(signal.SIGTERM, lambda *_: sys.exit(143))
-    if not shutil.which("rt"):
-        print(f"{PROGRAM} is built by the Rattle kit, and its command rt is not on the path", file=sys.stderr)
-        return 69
-    crates = crates_below(PROGRAM)
-    out = f"{TOP}/crates/{PROGRAM}/out"
-    os.makedirs(os.path.dirname(LOG), exist_ok=True)
-    os.makedirs(out, exist_ok=True)
+def announce(count):
+    """Says how long it will take, before anything is done."""
+    minutes = max(CHAIN, WORK // len(os.sched_getaffinity(0)))
     print(
-        f"building {PROGRAM}, once: {len(crates)} crates are proved first, which takes about half an hour; the log is {LOG}",
+        f"building {PROGRAM}: {count} crates are proved first, which takes about {minutes} minutes where none of them was proved on this machine before.\n"
+        f"./{PROGRAM} --quick PROGRAM TABLES .. answers in one to two minutes, with run-time checks and without any proof.\n"
+        f"The log is {LOG}",
         file=sys.stderr,
         flush=True,
     )
+
+
+def build():
+    """Proves the sources as they are and builds the program from them, whatever stands built, and returns a status."""
+    if not shutil.which("rt"):
+        print(f"{PROGRAM} is built by the Rattle kit, and its command rt is not on the path", file=sys.stderr)
+        return 69
+    crates = crates_below()
+    os.makedirs(os.path.dirname(LOG), exist_ok=True)
+    announce(len(crates))
     with tempfile.TemporaryDirectory(prefix=f"{PROGRAM}-") as room:
         copy_to(room, crates)
+        sources = sum_of(room)
         if not prove(room, len(crates)):
             print(f"{PROGRAM} could not be built: {LOG} says why", file=sys.stderr)
             return 70
-        with open(f"{out}/built_from", "w", encoding="utf-8") as file:
-            file.writelines(f"{name}\n" for name in crates)
-        # The program last, and at once: where it stands, it is whole.
-        shutil.copy(f"{room}/crates/{PROGRAM}/out/{PROGRAM}", f"{out}/{PROGRAM}.new")
-        os.replace(f"{out}/{PROGRAM}.new", f"{out}/{PROGRAM}")
+        PROVED.put(f"{room}/crates/{PROGRAM}/out/{PROGRAM}", sources)
     return 0
 
 
-if __name__ == "__main__":
-    try:
-        sys.exit(main())
-    except KeyboardInterrupt:
-        sys.exit(130)
+def build_lacking():
+    """The same, but where another process has built it meanwhile."""
+    with in_turn(f"{TOP}/out/build.lock"):
+        return build() if PROVED.lack(sum_of()) else 0
