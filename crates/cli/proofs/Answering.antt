@@ -6,7 +6,7 @@ use Rattle.meaning.specs.Edits.{Standing}
 use Rattle.meaning.specs.Text.{runs_after}
 use Rattle.script_reader.specs.declared.command.Command.{Command}
 use Rattle.script_reader.specs.Said.{said}
-use Rattle.reuse_planner.specs.Sessions.{PlainSession}
+use Rattle.kept_session.specs.Sessions.{PlainSession}
 use Rattle.checked_defines.specs.Standings.{standing}
 use Rattle.cli.specs.Answers.{answer_text, answers_from, answers_text, answers_of, first_answers, standing_after}
 

@@ -11,7 +11,7 @@ use Rattle.linked_program.specs.Checked.{PlainChecked}
 use Rattle.input_tables.specs.Edited.{Edited}
 use Rattle.checked_defines.specs.Readers.{reads_text, checks_rules}
 use Rattle.checked_defines.specs.Standings.{standing}
-use Rattle.reuse_planner.specs.Sessions.{PlainSession, standing_of}
+use Rattle.kept_session.specs.Sessions.{PlainSession, standing_of}
 
 -- the answer to a command, after so many runs
 abbrev pub answer_text : Standing → ℕ → Command → List ℕ

@@ -1,6 +1,6 @@
 // Who explains what of a script is refused, and the faults of its runs.
 ghost use Rattle.std.specs.Prelude.{◌≡◌, true, false};
-ghost use Rattle.threaded_driver.specs.Come.{HasEnded};
+ghost use Rattle.run_terms.specs.Come.{HasEnded};
 
 use crate::notes::Notes;
 use input_tables::Tables;

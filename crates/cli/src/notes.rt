@@ -1,6 +1,6 @@
 // Who is told of a session's runs.
 ghost use Rattle.std.specs.Prelude.{◌≡◌, Bool, true, false};
-ghost use Rattle.threaded_driver.specs.Come.{HasEnded};
+ghost use Rattle.run_terms.specs.Come.{HasEnded};
 
 use crate::explained::Cause;
 use input_tables::Tables;

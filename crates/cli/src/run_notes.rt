@@ -3,7 +3,7 @@ ghost use Rattle.std.specs.Prelude.{◌≡◌, ◌⊎◌, ℕ, List, None, Some,
 ghost use Rattle.std.specs.Io.KnownBytes.{Appends};
 ghost use Rattle.numbered_runs.specs.Named.{history as steps_of};
 ghost use Rattle.trace_report.specs.Traces.{stats_text, trace_text};
-ghost use Rattle.threaded_driver.specs.Come.{HasEnded};
+ghost use Rattle.run_terms.specs.Come.{HasEnded};
 ghost use Rattle.cli.specs.declared.run_notes.NotesError.TheVariants as notes;
 ghost use Rattle.cli.specs.Noted.{Noted, has_failed, known_of, run_counts_text};
 

@@ -4,11 +4,11 @@ ghost use Rattle.std.specs.Io.KnownBytes.{Appends, Keeps, IsAtEnd};
 ghost use Rattle.meaning.specs.Text.{edit_text, runs_after};
 ghost use Rattle.session_edits.specs.Said as edits;
 ghost use Rattle.script_reader.specs.Said.{said};
-ghost use Rattle.reuse_planner.specs.Sessions.{standing_of};
-ghost use Rattle.reuse_planner.specs.Applied.{edited};
+ghost use Rattle.kept_session.specs.Sessions.{standing_of};
+ghost use Rattle.kept_session.specs.Applied.{edited};
 ghost use Rattle.trace_report.specs.Outcomes.{Extends};
 ghost use Rattle.cli.specs.Answers.{answer_text, answers_of, left_by_edit, run_answer, standing_after};
-ghost use Rattle.threaded_driver.specs.Come.{HasCome, HasEnded};
+ghost use Rattle.run_terms.specs.Come.{HasCome, HasEnded};
 ghost use Rattle.program_endings.specs.Endings.{CarriesRefusal, IsAnswerError, IsRunError};
 ghost use Rattle.program_endings.specs.Written.{HasBeginning, WritesAll, WritesBeginning};
 

@@ -1,7 +1,7 @@
 use Rattle.std.proofs.Common.{◌∙◌, ap, map, subst, append_assoc}
 use Rattle.std.proofs.lemmas.Result.{err_from_is_err_and}
 use Rattle.script_reader.specs.Said.{said}
-use Rattle.reuse_planner.specs.Sessions.{standing_of}
+use Rattle.kept_session.specs.Sessions.{standing_of}
 use Rattle.cli.specs.Answers.{answers_from}
 use Rattle.program_endings.specs.Written.{HasBeginning}
 use Rattle.cli.proofs.Answering.{one_more_answer, runs_after-le}

@@ -1,7 +1,7 @@
 use Rattle.std.proofs.Common.{◌≡◌, ◌++◌, ◌≤◌, ℕ, List, length, map, drop}
 use Rattle.std.specs.Io.KnownBytes.{Appends}
 use Rattle.script_reader.specs.Said.{said}
-use Rattle.reuse_planner.specs.Sessions.{standing_of}
+use Rattle.kept_session.specs.Sessions.{standing_of}
 use Rattle.cli.specs.Answers.{answers_from}
 use Rattle.cli.proofs.session.answer_script.Given as goal
 
