@@ -17,6 +17,7 @@ use Rattle.trail_theory.specs.Right.{IsRight, RecordedAreSound, StretchesMultipl
 use Rattle.trail_theory.specs.ReadsAtEnd.{KeepsRules}
 use Rattle.trail_theory.proofs.ReadPoints.{advances_by_product}
 use Rattle.trail_theory.proofs.Theorems.{inlines, detaches, continues, pops}
+use Rattle.strand_theory.proofs.Laws.{S, L}
 use Rattle.run_theory.specs.RightRuns.{front, Links, flags_of, deque_flags, count, LayerIsClosed, IsWhole, IsPushed, IsPiece}
 use Rattle.run_theory.proofs.Flags.{Shifts, lowest_frame, IsNear, micro_shifts, higher_long, spot_long}
 use Rattle.run_theory.proofs.Owned.{own_after, noted_length, take_length, layers_length, own_tail, owns_one}

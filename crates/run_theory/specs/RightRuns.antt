@@ -107,7 +107,7 @@ module _ (program : Tree) (tables : Tables) (sight : Accumulators) (lookup : Loo
   pub record IsCut (p : Piece) : Type 0 where
     pub fault : Fault
     pub phase : p.strand.phase ≡ broken fault
-    pub first : BrokenAt p.strand.start fault
+    pub first : BrokenAt program tables sight lookup p.strand.start fault
     pub deque : p.deque ≡ []
     pub upper : ℕ
     pub layers : length p.strand.layers ≡ suc upper

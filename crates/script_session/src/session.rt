@@ -7,18 +7,18 @@ ghost use Rattle.script_reader.specs.Said.{said};
 ghost use Rattle.kept_session.specs.Sessions.{standing_of};
 ghost use Rattle.kept_session.specs.Applied.{edited};
 ghost use Rattle.trace_report.specs.Outcomes.{Extends};
-ghost use Rattle.cli.specs.Answers.{answer_text, answers_of, left_by_edit, run_answer, standing_after};
+ghost use Rattle.script_session.specs.Answers.{answer_text, answers_of, left_by_edit, run_answer, standing_after};
 ghost use Rattle.run_terms.specs.Come.{HasCome, HasEnded};
 ghost use Rattle.program_endings.specs.Endings.{CarriesRefusal, IsAnswerError, IsRunError};
 ghost use Rattle.program_endings.specs.Written.{HasBeginning, WritesAll, WritesBeginning};
 
-use crate::explained::Cause;
-use crate::notes::Notes;
+use session_notes::explained::Cause;
+use session_notes::notes::Notes;
 use input_tables::Tables;
 use linked_program::checked::Checked;
 use program_endings::session_error::SessionError;
 use program_endings::streams::{Failures, flush, read_all, write_whole};
-use reuse_planner::{ApplyError, Session};
+use kept_session::{ApplyError, Session};
 use script_reader::command::Command;
 use script_reader::script::commands;
 use session_edits::Edit;
@@ -30,7 +30,7 @@ use threaded_driver::{Gate, run_threads};
 use trace_report::answers::{answer_text, push_unknown};
 use trace_report::edits::{push_accepted, push_edit_refusal};
 use view_pool::View;
-use worker_core::RunAnswer;
+use frames::answer::RunAnswer;
 
 /// Answers the script that a reader has, all of it read before anything runs. Each run is by that many threads, 1 to 16,
 /// which the gate watches; the notes are told of each that comes to a result or a fault, and of what is refused. It ends early where memory is

@@ -6,7 +6,9 @@ use crate::notes::Notes;
 use input_tables::Tables;
 use linked_program::checked::Checked;
 use session_edits::{Edit, EditError};
-use worker_core::{BookStep, Fault, RunAnswer};
+use frames::answer::RunAnswer;
+use numbered_runs::step::BookStep;
+use positions::phase::Fault;
 
 /// What is explained.
 #[derive(Clone, Copy)]

@@ -5,7 +5,8 @@ ghost use Rattle.run_terms.specs.Come.{HasEnded};
 use crate::explained::Cause;
 use input_tables::Tables;
 use linked_program::checked::Checked;
-use worker_core::{BookStep, RunAnswer};
+use frames::answer::RunAnswer;
+use numbered_runs::step::BookStep;
 
 /// Who is told of each run that came to a result or a fault, and of what is refused.
 pub trait Notes {

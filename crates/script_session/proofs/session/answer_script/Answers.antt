@@ -2,12 +2,12 @@ use Rattle.std.proofs.Common.{◌∙◌, ap, map, subst, append_assoc}
 use Rattle.std.proofs.lemmas.Result.{err_from_is_err_and}
 use Rattle.script_reader.specs.Said.{said}
 use Rattle.kept_session.specs.Sessions.{standing_of}
-use Rattle.cli.specs.Answers.{answers_from}
+use Rattle.script_session.specs.Answers.{answers_from}
 use Rattle.program_endings.specs.Written.{HasBeginning}
-use Rattle.cli.proofs.Answering.{one_more_answer, runs_after-le}
-use Rattle.cli.proofs.Errors.{handed_on, answer_not_read, writer_not_read}
+use Rattle.script_session.proofs.Answering.{one_more_answer, runs_after-le}
+use Rattle.script_session.proofs.Errors.{handed_on, answer_not_read, writer_not_read}
 use Rattle.program_endings.proofs.Written.{Appends-more, beginning_of, beginning_after}
-use Rattle.cli.proofs.session.answer_script.Goals as goal
+use Rattle.script_session.proofs.session.answer_script.Goals as goal
 
 pub returns-in_err-runs-clause-beginning : goal.returns-in_err-runs-clause-beginning
 returns-in_err-runs-clause-beginning g c =

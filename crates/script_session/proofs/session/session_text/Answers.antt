@@ -1,6 +1,6 @@
-use Rattle.cli.specs.Answers.{answers_of}
+use Rattle.script_session.specs.Answers.{answers_of}
 use Rattle.program_endings.proofs.Written.{nothing_written}
-use Rattle.cli.proofs.session.session_text.Goals as goal
+use Rattle.script_session.proofs.session.session_text.Goals as goal
 
 pub returns-in_err-script-clause-beginning : goal.returns-in_err-script-clause-beginning
 returns-in_err-script-clause-beginning g c =

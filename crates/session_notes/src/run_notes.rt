@@ -4,8 +4,8 @@ ghost use Rattle.std.specs.Io.KnownBytes.{Appends};
 ghost use Rattle.numbered_runs.specs.Named.{history as steps_of};
 ghost use Rattle.trace_report.specs.Traces.{stats_text, trace_text};
 ghost use Rattle.run_terms.specs.Come.{HasEnded};
-ghost use Rattle.cli.specs.declared.run_notes.NotesError.TheVariants as notes;
-ghost use Rattle.cli.specs.Noted.{Noted, has_failed, known_of, run_counts_text};
+ghost use Rattle.session_notes.specs.declared.run_notes.NotesError.TheVariants as notes;
+ghost use Rattle.session_notes.specs.Noted.{Noted, has_failed, known_of, run_counts_text};
 
 use crate::notes::Notes;
 use program_endings::session_error::SessionError;
@@ -14,7 +14,8 @@ use std::alloc::{AllocError, Global};
 use std::io::Write;
 use std::marker::Model;
 use trace_report::trace::{RunCounts, folds, history_text, stats_text, steals};
-use worker_core::{BookStep, RunAnswer};
+use frames::answer::RunAnswer;
+use numbered_runs::step::BookStep;
 
 /// Why a run couldn't be noted: memory was refused, or a write of its history or of its counts failed.
 #[derive(Clone, Copy, Debug)]

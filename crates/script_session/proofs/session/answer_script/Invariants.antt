@@ -2,8 +2,8 @@ use Rattle.std.proofs.Common.{◌≡◌, ◌++◌, ◌≤◌, ℕ, List, length,
 use Rattle.std.specs.Io.KnownBytes.{Appends}
 use Rattle.script_reader.specs.Said.{said}
 use Rattle.kept_session.specs.Sessions.{standing_of}
-use Rattle.cli.specs.Answers.{answers_from}
-use Rattle.cli.proofs.session.answer_script.Given as goal
+use Rattle.script_session.specs.Answers.{answers_from}
+use Rattle.script_session.proofs.session.answer_script.Given as goal
 
 -- the answers written so far, and those of the commands that are left, from the session that those before have left
 abbrev pub invariant-loop-command : goal.invariant-loop-command

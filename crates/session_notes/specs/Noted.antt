@@ -4,7 +4,7 @@ use Rattle.meaning.specs.Strands.{BookStep}
 use Rattle.frames.specs.declared.answer.RunAnswer.{RunAnswer}
 use Rattle.frames.specs.declared.answer.RunAnswer.TheVariants as answer
 use Rattle.trace_report.specs.Traces.{splits_in, folds_in, counts_text, no_counts_text}
-use Rattle.cli.specs.declared.run_notes.NotesError.{NotesError}
+use Rattle.session_notes.specs.declared.run_notes.NotesError.{NotesError}
 
 -- the bytes that are known of the trace and of the counts, and why a run wasn't noted
 pub record Noted : Type 0 where
