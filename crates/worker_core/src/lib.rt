@@ -5,7 +5,6 @@ mod ending;
 mod folding;
 mod laying;
 mod piece;
-pub mod records;
 pub mod run;
 mod stealing;
 mod stepping;
@@ -13,6 +12,7 @@ mod strands;
 
 // What callers of a run name.
 pub use frames::answer::RunAnswer;
+pub use numbered_runs::records;
 pub use numbered_runs::refusal::{Refusal, StartError};
 pub use numbered_runs::step::{BookStep, Place, State, Step, StrandLine};
 pub use positions::phase::Fault;
