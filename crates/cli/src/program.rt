@@ -154,8 +154,8 @@ pub fn report_on<
     }
 }
 
-// The words of the program's line.
-fn line_of<S: Runtime + AllocGlobal>(rt: &S, alloc: Global) -> Result<Vec<String>, ProgramError>
+/// The words of the program's line.
+pub fn line_of<S: Runtime + AllocGlobal>(rt: &S, alloc: Global) -> Result<Vec<String>, ProgramError>
     ensures refused { IfErr result (λ e.
         (e ≡ ProgramError.Session SessionError.NoMemory) ⊎ (e ≡ ProgramError.Line OptionsError.Usage)) }
     ensures kits { result ≢ Err (ProgramError.Session SessionError.NoKit) }
@@ -173,8 +173,8 @@ fn line_of<S: Runtime + AllocGlobal>(rt: &S, alloc: Global) -> Result<Vec<String
     Ok(words)
 }
 
-// The words, lent.
-fn lent(alloc: Global, held: &[String]) -> Result<Vec<&str>, ProgramError>
+/// The words, lent.
+pub fn lent(alloc: Global, held: &[String]) -> Result<Vec<&str>, ProgramError>
     ensures words { IfOk result (λ words.
         map (λ word. word.now) words.items ≡ map string_bytes held.now) }
     ensures refused { IfErr result (λ e. e ≡ ProgramError.Session SessionError.NoMemory) }
@@ -293,8 +293,8 @@ fn unnoted(alloc: Global, trace: Option<&str>, failure: Option<NotesError>) -> P
     }
 }
 
-// A file that failed with that error: its path, or want of memory.
-fn failed(alloc: Global, path: &str, error: &io::Error) -> ProgramError
+/// A file that failed with that error: its path, or want of memory.
+pub fn failed(alloc: Global, path: &str, error: &io::Error) -> ProgramError
     ensures failed { IsFailed path.now result }
     ensures memory { error_kind error.now ≡ ErrorKind.OutOfMemory
         → result ≡ ProgramError.Session SessionError.NoMemory }
