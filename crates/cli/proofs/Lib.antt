@@ -1,4 +1,2 @@
-pub mod Answering
-pub mod Errors
 pub mod Opening
 pub mod SameKind

@@ -1,4 +1,2 @@
-pub mod Answers
 pub mod Begun
-pub mod Noted
 pub mod Reports

@@ -7,7 +7,7 @@ use Rattle.command_line.specs.declared.options.Options.{Options}
 use Rattle.program_endings.specs.declared.session_error.SessionError.TheVariants as s
 use Rattle.program_endings.specs.declared.program_error.ProgramError.{ProgramError}
 use Rattle.program_endings.specs.declared.program_error.ProgramError.TheVariants.{Line, File, Prepare, Session, Trace}
-use Rattle.cli.specs.Answers.{first_answers}
+use Rattle.script_session.specs.Answers.{first_answers}
 use Rattle.program_endings.specs.Endings.{CarriesRefusal}
 use Rattle.program_endings.specs.Written.{HasBeginning}
 use Rattle.prepared_program.specs.Preparing.{IsPrepared, IsRefused}

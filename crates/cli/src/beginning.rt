@@ -6,7 +6,7 @@ ghost use Rattle.cli.specs.Begun.{IsUnbegun};
 use crate::kits::kits_for;
 use monoid_laws::Kind;
 use prepared_program::prepare::{PrepareError, prepare};
-use reuse_planner::Session;
+use kept_session::Session;
 use std::alloc::{AllocError, Global};
 use thiserror::Error;
 use view_pool::View;

@@ -2,10 +2,9 @@
 #![tactic(auto)]
 
 pub mod beginning;
-pub mod explained;
 pub mod files;
 pub mod kits;
-pub mod notes;
 pub mod program;
-pub mod run_notes;
-pub mod session;
+
+pub use script_session::session;
+pub use session_notes::{explained, notes, run_notes};

@@ -1,10 +1,3 @@
 pub mod Named
-pub mod Pieces
-pub mod Runs
-pub mod Stands
-pub mod Layered
-pub mod Simulation
-pub mod Halves
-pub mod Ends
-pub mod Progress
 pub mod News
+pub mod Sound

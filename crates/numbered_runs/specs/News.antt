@@ -8,7 +8,7 @@ use Rattle.meaning.specs.Commits.{committed}
 use Rattle.meaning.specs.Schedules.{recording_from}
 use Rattle.trail_theory.specs.Order.{Every}
 use Rattle.trail_theory.specs.OpenLayers.{IsNewRecord}
-use Rattle.run_theory.specs.Recorded.{AllRecordedBut}
+use Rattle.strand_theory.specs.Recorded.{AllRecordedBut}
 use Rattle.linked_program.specs.TableNames.{Columned}
 use Rattle.rerun_records.specs.Record.{PlainRecord}
 use Rattle.rerun_records.specs.Commits.{put_records}

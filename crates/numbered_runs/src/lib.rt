@@ -1,6 +1,6 @@
-//! Runs on several workers by numbers: their steps and refusals, as definitions over plain values, and what they stand for.
+//! Runs on several workers by numbers: their steps and refusals, what their history notes, and the records that they are lent and make.
 #![tactic(auto)]
 
-pub mod laws;
+pub mod records;
 pub mod refusal;
 pub mod step;

@@ -13,10 +13,12 @@ use Rattle.frames.specs.declared.answer.RunAnswer.TheVariants as answer
 use Rattle.numbered_runs.specs.declared.step.Step.{Step}
 use Rattle.worker_core.specs.Strands.{PlainStrands}
 use Rattle.worker_core.specs.Cores.{PlainCore, IsFirstCore}
-use Rattle.worker_core.specs.Keeps.{AreSoundFor, IsBeginning, IsElision, IsEndBy, ComesToEnd}
-use Rattle.reuse_planner.specs.Sessions.{standing_of}
+use Rattle.numbered_runs.specs.Sound.{AreSoundFor}
+use Rattle.worker_core.specs.Keeps.{IsBeginning, IsElision, IsEndBy, ComesToEnd}
+use Rattle.kept_session.specs.Sessions.{standing_of}
 use Rattle.reuse_planner.specs.Driven.{lent, IsSameRun, AreTaken, ComesBy, EndsBy}
-use Rattle.reuse_planner.specs.Runs.{IsFromScratch, IsLedBy, IsLed, IsBegun}
+use Rattle.session_runs.specs.Runs.{IsFromScratch}
+use Rattle.reuse_planner.specs.Runs.{IsLedBy, IsLed, IsBegun}
 
 -- ---- the end that the steps lead to
 

@@ -1,6 +1,3 @@
-pub mod Doubts
-pub mod Keeping
-pub mod Refusals
 pub mod Paths
 pub mod Taking
 pub mod Ending

@@ -3,7 +3,7 @@ use Rattle.std.proofs.Common.{◌≡◌, Bool, true, false, cond, List, [], ◌�
 use Rattle.std.specs.List.{filter}
 use Rattle.meaning.specs.Schedules.{RunState, RunStep, after_step}
 use Rattle.positions.specs.Setting.{Setting}
-use Rattle.numbered_runs.specs.Simulation.{LeadsTo}
+use Rattle.stepped_runs.specs.Simulation.{LeadsTo}
 use Rattle.worker_core.specs.Strands.{PlainStrands, run_of}
 use Rattle.worker_core.specs.Cores.{PlainCore}
 use Rattle.worker_core.specs.Keeps.{recalling}

@@ -9,9 +9,9 @@ use Rattle.reuse_planner.specs.declared.commands.Command.{Command}
 use Rattle.reuse_planner.specs.declared.commands.Command.TheVariants as command
 use Rattle.reuse_planner.specs.declared.commands.Answer.{Answer}
 use Rattle.reuse_planner.specs.declared.commands.Answer.TheVariants as answer
-use Rattle.reuse_planner.specs.declared.refusal.ApplyError.{ApplyError}
-use Rattle.reuse_planner.specs.Sessions.{PlainSession, standing_of}
-use Rattle.reuse_planner.specs.Applied.{IsApplied}
+use Rattle.kept_session.specs.declared.refusal.ApplyError.{ApplyError}
+use Rattle.kept_session.specs.Sessions.{PlainSession, standing_of}
+use Rattle.kept_session.specs.Applied.{IsApplied}
 use Rattle.reuse_planner.specs.Played.{IsDone, AreDone, IsEdited, left_by, AnswerElision}
 
 -- an edit is answered rest the definitions have it, and leaves what they leave

@@ -7,9 +7,9 @@ use Rattle.meaning.specs.Strands.{BookStep}
 use Rattle.positions.specs.declared.phase.Phase.{Phase}
 use Rattle.positions.specs.declared.phase.Phase.TheVariants as phase
 use Rattle.numbered_runs.specs.Named.{run_step}
-use Rattle.numbered_runs.specs.Pieces.{PlainPiece, inlined, inlined_at, is_held_by}
-use Rattle.numbered_runs.specs.Runs.{PlainRun, are_workers, among, changed, may_be_tried_again}
-use Rattle.numbered_runs.specs.Simulation.{LeadsTo, IsStepOf, IsNoStepOf}
+use Rattle.stepped_runs.specs.Pieces.{PlainPiece, inlined, inlined_at, is_held_by}
+use Rattle.stepped_runs.specs.Runs.{PlainRun, are_workers, among, changed, may_be_tried_again}
+use Rattle.stepped_runs.specs.Simulation.{LeadsTo, IsStepOf, IsNoStepOf}
 use Rattle.numbered_runs.specs.declared.refusal.Refusal.{Refusal}
 use Rattle.numbered_runs.specs.declared.refusal.Refusal.TheVariants as refusal
 use Rattle.numbered_runs.specs.declared.step.Step.{Step}

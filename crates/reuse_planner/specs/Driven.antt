@@ -10,13 +10,13 @@ use Rattle.view_pool.specs.Stock.{Stock}
 use Rattle.monoid_laws.specs.declared.Kind.{Kind}
 use Rattle.positions.specs.Setting.{Setting}
 use Rattle.numbered_runs.specs.Named.{run_step}
-use Rattle.numbered_runs.specs.Stands.{StandsForUnflagged}
-use Rattle.numbered_runs.specs.Simulation.{IsReached, LeadsTo}
+use Rattle.stepped_runs.specs.Stands.{StandsForUnflagged}
+use Rattle.stepped_runs.specs.Simulation.{IsReached, LeadsTo}
 use Rattle.numbered_runs.specs.declared.step.Step.{Step}
 use Rattle.worker_core.specs.Strands.{PlainStrands, run_of, kits_in}
 use Rattle.worker_core.specs.Cores.{PlainCore}
 use Rattle.worker_core.specs.Keeps.{HasSound, recalling, IsEndBy}
-use Rattle.reuse_planner.specs.Sessions.{PlainSession}
+use Rattle.kept_session.specs.Sessions.{PlainSession}
 use Rattle.reuse_planner.specs.Steps.{done_as, done_of, IsMark, AreMarks, marked, by_workers}
 
 -- a session of what a run is lent

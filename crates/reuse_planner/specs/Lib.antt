@@ -1,5 +1,3 @@
-pub mod Sessions
-pub mod Applied
 pub mod Steps
 pub mod Driven
 pub mod Runs

@@ -7,10 +7,11 @@ use Rattle.reuse_planner.specs.declared.commands.Command.{Command}
 use Rattle.reuse_planner.specs.declared.commands.Command.TheVariants as command
 use Rattle.reuse_planner.specs.declared.commands.Answer.{Answer}
 use Rattle.reuse_planner.specs.declared.commands.Answer.TheVariants as answer
-use Rattle.reuse_planner.specs.declared.refusal.ApplyError.{ApplyError}
-use Rattle.reuse_planner.specs.Sessions.{PlainSession}
-use Rattle.reuse_planner.specs.Applied.{edited, IsApplied, IsApplyCause}
-use Rattle.reuse_planner.specs.Runs.{IsFromScratch, IsRun}
+use Rattle.kept_session.specs.declared.refusal.ApplyError.{ApplyError}
+use Rattle.kept_session.specs.Sessions.{PlainSession}
+use Rattle.kept_session.specs.Applied.{edited, IsApplied, IsApplyCause}
+use Rattle.session_runs.specs.Runs.{IsFromScratch}
+use Rattle.reuse_planner.specs.Runs.{IsRun}
 
 -- a command is done as an edit or as a run
 abbrev pub IsDone : PlainSession → Command → Answer → PlainSession → Type 0

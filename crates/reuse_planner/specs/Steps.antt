@@ -2,7 +2,7 @@
 use Rattle.std.specs.Prelude.{ℕ, zero, suc, Bool, true, false, List, [], ◌∷◌}
 use Rattle.std.specs.List.{filter}
 use Rattle.meaning.specs.Schedules.{RunStep, push, inline}
-use Rattle.numbered_runs.specs.Runs.{are_workers}
+use Rattle.stepped_runs.specs.Runs.{are_workers}
 
 -- a push for which memory was refused is done as an inline of its worker
 abbrev pub done_as : Bool → RunStep → RunStep

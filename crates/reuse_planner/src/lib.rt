@@ -1,12 +1,10 @@
-//! Sessions: edits of tables and procedures, and runs that reuse what earlier ones left.
+//! A session's runs by steps that are given, one after another and between edits, over what earlier runs have left.
 #![tactic(auto)]
 
-mod applying;
 mod commands;
-mod refusal;
 mod running;
-mod session;
+mod stepped;
 
 pub use commands::{Answer, Command};
-pub use refusal::ApplyError;
-pub use session::Session;
+pub use kept_session::{ApplyError, Session};
+pub use stepped::Stepped;

@@ -5,12 +5,14 @@ ghost use Rattle.rerun_records.specs.Doubted.{IsInStep};
 ghost use Rattle.rerun_records.specs.Named.{HaveValues};
 ghost use Rattle.worker_core.specs.Strands.{kits_in};
 ghost use Rattle.worker_core.specs.Cores.{is_no_memory};
-ghost use Rattle.worker_core.specs.Keeps.{AreSoundFor, AnswersElision, HasRecorded, HasRecordedBy};
-ghost use Rattle.reuse_planner.specs.Sessions.{standing_of};
+ghost use Rattle.numbered_runs.specs.Sound.{AreSoundFor};
+ghost use Rattle.worker_core.specs.Keeps.{AnswersElision, HasRecorded};
+ghost use Rattle.run_terms.specs.Recorded.{HasRecordedBy};
+ghost use Rattle.kept_session.specs.Sessions.{standing_of};
 ghost use Rattle.reuse_planner.specs.Driven.{lent, IsSameRun, IsTaken, AreTaken, EndsBy};
-ghost use Rattle.reuse_planner.specs.Runs.{IsFromScratch, IsLed, IsBegun, LeavesRecords, IsQuietAfter};
+ghost use Rattle.session_runs.specs.Runs.{IsFromScratch};
+ghost use Rattle.reuse_planner.specs.Runs.{IsLed, IsBegun};
 
-use crate::session::Session;
 use input_tables::Tables;
 use linked_program::checked::Checked;
 use std::alloc::{AllocError, Global};
@@ -18,61 +20,17 @@ use view_pool::{Kit, Pool, View};
 use worker_core::run::Core;
 use worker_core::{Record, Records, Refusal, RunAnswer, Step};
 
-impl<V: View> Session<V> {
-    /// Runs the program by so many workers, which take these steps. A step that can't be taken is passed over, a push for which
-    /// memory is refused is done as an inline, and where memory is refused for another step the run ends. The records that hold
-    /// now answer memo instances; those of a run that has finished are put among the others, all or none.
-    pub fn run(&mut self, alloc: Global, workers: usize, steps: &[Step]) -> RunAnswer
-        // A result or a fault is the elision's of the program on the tables, from scratch.
-        ensures elision { IsFromScratch (standing_of self.old) result }
-        // The steps lead to that end by the definitions, or to none.
-        ensures led { IsLed self.old workers steps.now self.new.inlined result }
-        ensures no_kit { result ≡ RunAnswer.NoKit ↔ self.old.kits.kits ≡ [] }
-        ensures recorded { LeavesRecords self.old result self.new.records }
-        // Where each execution was recorded, nothing is left to execute.
-        ensures quiet { IsQuietAfter result self.new }
-        ensures rest { self.new ≡ record self.old {
-          kits = self.new.kits;
-          records = self.new.records;
-          inlined = self.new.inlined;
-        } }
-        ensures free { length self.new.kits.kits ≡ length self.old.kits.kits }
-        ensures total { self.new.kits.total ≡ self.old.kits.total }
-    {
-        self.inlined = 0;
-        if self.kits.free() == 0 {
-            return RunAnswer::NoKit;
-        }
-        self.kept();
-        let pool = self.take_pool(alloc);
-        let ended = run_on(
-            alloc,
-            &self.checked,
-            &self.tables,
-            &self.records,
-            pool,
-            workers,
-            steps,
-        );
-        self.inlined = ended.inlined;
-        if self.settle(ended.pool, ended.made).is_err() {
-            return RunAnswer::NoMemory;
-        }
-        ended.answer
-    }
-}
-
-// How a run has ended: its answer, the pool with all kits, its new records, and how many pushes were done as inlines.
+/// How a run has ended: its answer, the pool with all kits, its new records, and how many pushes were done as inlines.
 #[derive(Drop)]
-struct Ended<V: View> {
-    answer: RunAnswer,
-    pool: Pool<Kit<V>>,
-    made: Vec<Record>,
-    inlined: usize,
+pub(crate) struct Ended<V: View> {
+    pub(crate) answer: RunAnswer,
+    pub(crate) pool: Pool<Kit<V>>,
+    pub(crate) made: Vec<Record>,
+    pub(crate) inlined: usize,
 }
 
-// A run of a program on tables over records, by so many workers that take these steps.
-fn run_on<V: View>(
+/// A run of a program on tables over records, by so many workers that take these steps.
+pub(crate) fn run_on<V: View>(
     alloc: Global,
     checked: &Checked,
     tables: &Tables,

@@ -4,8 +4,8 @@ use Rattle.meaning.specs.Trail.{child_of}
 use Rattle.meaning.specs.SmallStep.{Start as NamedStart, root, behind, broken}
 use Rattle.meaning.specs.Schedules.{place_of_start}
 use Rattle.trail_theory.specs.Right.{RightAt}
-use Rattle.run_theory.specs.RightRuns.{BrokenAt}
-use Rattle.run_theory.proofs.Broken.{right_broken}
+use Rattle.strand_theory.specs.Faults.{BrokenAt}
+use Rattle.strand_theory.proofs.Broken.{right_broken}
 use Rattle.positions.specs.declared.phase.Fault.{Fault}
 use Rattle.positions.specs.declared.phase.Phase.{Phase}
 use Rattle.positions.specs.declared.phase.Phase.TheVariants.{Entering, Running, AtSpawn, Returning, Leaving, Broken}

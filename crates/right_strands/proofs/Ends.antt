@@ -22,14 +22,14 @@ use Rattle.trail_theory.proofs.Ends.{at_end}
 use Rattle.trail_theory.proofs.Keys.{executions_append}
 use Rattle.trail_theory.proofs.Needed.{quiet_before}
 use Rattle.trail_theory.proofs.NothingNeeded.{end_leaves_none}
-use Rattle.run_theory.specs.Recorded.{AllRecordedBut}
-use Rattle.run_theory.proofs.Recorded.{recorded_end}
-use Rattle.run_theory.proofs.RecordedStrands.{at_parts}
+use Rattle.strand_theory.specs.Recorded.{AllRecordedBut}
+use Rattle.strand_theory.proofs.Recorded.{recorded_end}
+use Rattle.strand_theory.proofs.RecordedStrands.{at_parts}
 use Rattle.numbered_runs.specs.News.{executed_with, LeaveNothing, HasCounted, HaveNews}
-use Rattle.run_theory.specs.RightRuns.{BrokenAt}
-use Rattle.run_theory.specs.Theorems.{IsReady}
-use Rattle.run_theory.proofs.Broken.{broken_from_scratch}
-use Rattle.run_theory.proofs.Names.{same_name_true}
+use Rattle.strand_theory.specs.Faults.{BrokenAt}
+use Rattle.strand_theory.specs.Ready.{IsReady}
+use Rattle.strand_theory.proofs.Broken.{broken_from_scratch}
+use Rattle.strand_theory.proofs.Names.{same_name_true}
 use Rattle.rerun_records.specs.Record.{PlainRecord}
 use Rattle.positions.specs.declared.phase.Fault.{Fault}
 use Rattle.positions.specs.declared.phase.Phase.TheVariants.{Leaving, Broken}

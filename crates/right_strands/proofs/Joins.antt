@@ -15,11 +15,11 @@ use Rattle.trail_theory.specs.OpenLayers.{IsNumbered}
 use Rattle.trail_theory.specs.OwedLayers.{Unbroken}
 use Rattle.trail_theory.specs.Right.{RightAt, IsOneLayer}
 use Rattle.trail_theory.proofs.OwnTheorems.{stay_own, own_entry}
-use Rattle.run_theory.specs.Theorems.{IsReady}
-use Rattle.run_theory.proofs.Paths.{law, sound}
-use Rattle.run_theory.proofs.Broken.{broken_behind}
-use Rattle.run_theory.proofs.Folds.{may_join_true, pair_sound}
-use Rattle.run_theory.proofs.Names.{same_name_true, both_true}
+use Rattle.strand_theory.specs.Ready.{IsReady}
+use Rattle.strand_theory.proofs.Laws.{law, sound}
+use Rattle.strand_theory.proofs.Broken.{broken_behind}
+use Rattle.strand_theory.proofs.Folds.{may_join_true, pair_sound}
+use Rattle.strand_theory.proofs.Names.{same_name_true, both_true}
 use Rattle.positions.specs.declared.phase.Fault.{Fault}
 use Rattle.positions.specs.declared.phase.Phase.{Phase}
 use Rattle.positions.specs.declared.phase.Phase.TheVariants.{Entering, Running, AtSpawn, Returning, Leaving, Broken}

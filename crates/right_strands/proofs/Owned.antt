@@ -21,9 +21,9 @@ use Rattle.trail_theory.proofs.OwnLayers.{all_child, all_parent}
 use Rattle.trail_theory.proofs.OwnMoves.{same_tests}
 use Rattle.trail_theory.proofs.OwnTheorems.{own_read, own_count}
 use Rattle.trail_theory.proofs.Unflagged.{unflagged_stays}
-use Rattle.run_theory.specs.Theorems.{IsReady}
-use Rattle.run_theory.proofs.Paths.{law, sound}
-use Rattle.run_theory.proofs.UnflaggedSteps.{micro_alike, tallied_alike}
+use Rattle.strand_theory.specs.Ready.{IsReady}
+use Rattle.strand_theory.proofs.Laws.{law, sound}
+use Rattle.strand_theory.proofs.UnflaggedSteps.{micro_alike, tallied_alike}
 use Rattle.positions.specs.Setting.{Setting}
 use Rattle.positions.specs.Simulation.{small_step, HoldNow, tally_after}
 use Rattle.right_strands.specs.Rightness.{sight, lookup}

@@ -1,7 +1,7 @@
 -- Two pieces that may be joined are a pair.
 use Rattle.std.proofs.Common.{◌≡◌, ◌⊎◌, inl, inr, ◌&&◌, ℤ, true, [], refl, sym, ap, ◌∙◌, subst}
 use Rattle.meaning.specs.SmallStep.{same_name}
-use Rattle.run_theory.proofs.Names.{both_are}
+use Rattle.strand_theory.proofs.Names.{both_are}
 use Rattle.positions.specs.declared.phase.Phase.TheVariants.{Leaving, Broken}
 use Rattle.positions.specs.declared.phase.Paused.TheVariants as paused
 use Rattle.positions.specs.declared.start.Start.{Start}

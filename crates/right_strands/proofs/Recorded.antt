@@ -23,11 +23,11 @@ use Rattle.trail_theory.proofs.Advances.{ordered_at}
 use Rattle.trail_theory.proofs.Order.{same_split}
 use Rattle.trail_theory.proofs.Keys.{executions_append}
 use Rattle.trail_theory.proofs.OwnMoves.{named_tallied}
-use Rattle.run_theory.specs.Recorded.{key_of}
-use Rattle.run_theory.specs.Theorems.{IsReady}
-use Rattle.run_theory.proofs.Paths.{law, sound}
-use Rattle.run_theory.proofs.RecordedStrands.{RecordsNow, stay_recorded, first_records, steal_records, inline_records, detach_records, pop_records}
-use Rattle.run_theory.proofs.UnflaggedSteps.{tallied_alike}
+use Rattle.strand_theory.specs.Recorded.{key_of}
+use Rattle.strand_theory.specs.Ready.{IsReady}
+use Rattle.strand_theory.proofs.Laws.{law, sound}
+use Rattle.strand_theory.proofs.RecordedStrands.{RecordsNow, stay_recorded, first_records, steal_records, inline_records, detach_records, pop_records}
+use Rattle.strand_theory.proofs.UnflaggedSteps.{tallied_alike}
 use Rattle.positions.specs.Setting.{Setting}
 use Rattle.positions.specs.Simulation.{small_step, tally_after}
 use Rattle.right_strands.specs.Rightness.{sight, lookup, key_opened, HasRecordedStretch}

@@ -6,7 +6,7 @@ use Rattle.meaning.specs.Records.{Kept}
 use Rattle.meaning.specs.LayeredStrand.{LayeredStrand, advanced as named_advanced, first_layered}
 use Rattle.meaning.specs.Tallies.{Tally, no_tally}
 use Rattle.trail_theory.specs.OpenLayers.{IsNumbered}
-use Rattle.run_theory.specs.Theorems.{IsReady}
+use Rattle.strand_theory.specs.Ready.{IsReady}
 use Rattle.linked_program.specs.Checked.{PlainChecked}
 use Rattle.input_tables.specs.Edited.{Edited}
 use Rattle.rerun_records.specs.Record.{PlainRecord}

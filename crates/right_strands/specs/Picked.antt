@@ -3,7 +3,7 @@ use Rattle.std.specs.Prelude.{◌≡◌, List, [], All}
 use Rattle.monoid_laws.specs.Kinds.{IsMonoid}
 use Rattle.meaning.specs.Schedules.{recording_from}
 use Rattle.trail_theory.specs.OpenLayers.{IsNumbered}
-use Rattle.run_theory.specs.Theorems.{IsReady}
+use Rattle.strand_theory.specs.Ready.{IsReady}
 use Rattle.linked_program.specs.TableNames.{columned_of}
 use Rattle.linked_program.specs.Checked.{PlainChecked, nothing}
 use Rattle.input_tables.specs.Edited.{Edited}

@@ -9,8 +9,8 @@ use Rattle.meaning.specs.LayeredStrand.{LayeredStrand}
 use Rattle.trail_theory.specs.TalliedTheorems.{IsContinuationNow}
 use Rattle.trail_theory.specs.OwnLayers.{OwnsNow}
 use Rattle.trail_theory.specs.Right.{stretch}
-use Rattle.run_theory.specs.RightRuns.{BrokenAt}
-use Rattle.run_theory.specs.Recorded.{key_of}
+use Rattle.strand_theory.specs.Faults.{BrokenAt}
+use Rattle.strand_theory.specs.Recorded.{key_of}
 use Rattle.positions.specs.declared.phase.Fault.{Fault}
 use Rattle.positions.specs.declared.phase.Phase.TheVariants.{AtSpawn, Leaving, Broken}
 use Rattle.positions.specs.declared.start.Start.{Start}

@@ -4,7 +4,7 @@ ghost use Rattle.monoid_laws.specs.Kinds.{IsMonoid};
 ghost use Rattle.meaning.specs.Records.{IsSound};
 ghost use Rattle.trail_theory.specs.Order.{Every};
 ghost use Rattle.trail_theory.specs.OpenLayers.{IsNumbered};
-ghost use Rattle.run_theory.specs.Theorems.{IsReady};
+ghost use Rattle.strand_theory.specs.Ready.{IsReady};
 ghost use Rattle.linked_program.specs.Checked.{IsChecked, revised_of};
 ghost use Rattle.linked_program.specs.TableNames.{columned_of};
 ghost use Rattle.rerun_records.specs.Doubted.{IsInStep};

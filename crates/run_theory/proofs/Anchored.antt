@@ -26,9 +26,9 @@ use Rattle.trail_theory.proofs.FirstFaults.{quiet_first, inside_none, before_app
 use Rattle.trail_theory.proofs.Ends.{worth_of}
 use Rattle.trail_theory.proofs.Elides.{after_append, forgotten_append, forgotten_opening, quiet_opening}
 use Rattle.trail_theory.proofs.MainElides.{main_from_scratch}
-use Rattle.run_theory.specs.Theorems.{IsReady}
+use Rattle.strand_theory.specs.Ready.{IsReady}
 use Rattle.run_theory.proofs.Courses.{then_pure, then_assoc, seen_slot}
-use Rattle.run_theory.proofs.Steps.{S, L}
+use Rattle.strand_theory.proofs.Laws.{S, L}
 use Rattle.run_theory.proofs.Awaited.{SlotsWait, UnderWait}
 use Rattle.run_theory.proofs.Serial.{Came, came_led, then_fell, goes_on, todo_came, parent_same, child_came, phase_came}
 use Rattle.run_theory.proofs.Overs.{T, look, worth_at, same_before, starts_end, layers_worth, HasCome}

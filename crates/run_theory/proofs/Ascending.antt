@@ -7,7 +7,7 @@ use Rattle.trail_theory.specs.Order.{LeavesBefore}
 use Rattle.trail_theory.proofs.Places.{order_strict, no_end}
 use Rattle.run_theory.specs.RightRuns.{front, Begins}
 use Rattle.run_theory.proofs.Lefts.{LeftOf, point, before_trans}
-use Rattle.run_theory.proofs.Books.{NoneAt, other_bytes}
+use Rattle.strand_theory.proofs.Books.{NoneAt, other_bytes}
 
 -- the first piece begins before every name
 abbrev pub Order : Bool → Place → Place → Type 0

@@ -23,13 +23,14 @@ use Rattle.trail_theory.proofs.Needed.{quiet_before}
 use Rattle.trail_theory.proofs.Counts.{needed_marks, end_counts}
 use Rattle.trail_theory.proofs.NothingNeeded.{end_leaves_none}
 use Rattle.run_theory.specs.RightRuns.{IsFinished, IsLaid}
-use Rattle.run_theory.specs.Theorems.{IsReady, PathsCountNeeded, PathsLeaveNothing}
+use Rattle.strand_theory.specs.Ready.{IsReady}
+use Rattle.run_theory.specs.Theorems.{PathsCountNeeded, PathsLeaveNothing}
 use Rattle.run_theory.proofs.Pieces.{ForSome, some_is}
 use Rattle.run_theory.proofs.Steps.{FitAll}
 use Rattle.run_theory.proofs.Paths.{begins_root, paths_right, runs_answer}
 use Rattle.run_theory.specs.Recorded.{PathsRecordExecutions}
-use Rattle.run_theory.proofs.Recorded.{recorded_end}
-use Rattle.run_theory.proofs.RecordedStrands.{at_parts}
+use Rattle.strand_theory.proofs.Recorded.{recorded_end}
+use Rattle.strand_theory.proofs.RecordedStrands.{at_parts}
 use Rattle.run_theory.proofs.News.{PieceTallied, TallyFit, now_of, adds_of, records_of, paths_tallied}
 
 abbrev EndsAs : State → Phase → Answer → Type 0

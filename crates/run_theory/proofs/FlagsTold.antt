@@ -15,10 +15,11 @@ use Rattle.trail_theory.specs.OwnLayers.{TopTest, is_top, is_top_by_length, stra
 use Rattle.trail_theory.proofs.ReadPoints.{sees_when}
 use Rattle.trail_theory.proofs.OwnTheorems.{flags_names, own_read}
 use Rattle.run_theory.specs.RightRuns.{front}
-use Rattle.run_theory.specs.Theorems.{IsReady}
+use Rattle.strand_theory.specs.Ready.{IsReady}
 use Rattle.run_theory.specs.UnflaggedRuns.{IsToldByName, ReadsByOne, FlagsAreTold, PathsReadByOne, RunsBy}
 use Rattle.run_theory.proofs.Telling.{broken_or}
-use Rattle.run_theory.proofs.Steps.{L, FitPiece, FitAll}
+use Rattle.strand_theory.proofs.Laws.{L}
+use Rattle.run_theory.proofs.Steps.{FitPiece, FitAll}
 use Rattle.run_theory.proofs.Paths.{paths_right}
 use Rattle.run_theory.proofs.News.{PieceTallied, TallyFit, own_of, around_of, paths_tallied}
 use Rattle.run_theory.proofs.UnflaggedRuns.{IsTold, runs_by}

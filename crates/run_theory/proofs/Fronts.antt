@@ -24,12 +24,14 @@ use Rattle.trail_theory.proofs.Ends.{worth_of}
 use Rattle.trail_theory.proofs.MainElides.{main_from_scratch}
 use Rattle.run_theory.specs.RightRuns.{front, Links, IsPushed}
 use Rattle.run_theory.specs.OverRuns.{IsQuietPhase, AreQuietParents, IsQuietDeque, ReadsNoMore, AreOver}
-use Rattle.run_theory.specs.Theorems.{IsReady, FrontRunsAnswer}
+use Rattle.strand_theory.specs.Ready.{IsReady}
+use Rattle.run_theory.specs.Theorems.{FrontRunsAnswer}
 use Rattle.run_theory.proofs.Courses.{then_pure, then_assoc}
-use Rattle.run_theory.proofs.Steps.{S, L, FitPiece, FitAll}
+use Rattle.strand_theory.proofs.Laws.{S, L}
+use Rattle.run_theory.proofs.Steps.{FitPiece, FitAll}
 use Rattle.run_theory.proofs.Paths.{begins_root}
 use Rattle.run_theory.proofs.Telling.{broken_or}
-use Rattle.run_theory.proofs.Broken.{answer_is, as_faulted}
+use Rattle.strand_theory.proofs.Broken.{answer_is, as_faulted}
 use Rattle.run_theory.proofs.Serial.{Came, came_led, env_same, doom_same, parent_came, stack_left, phase_came}
 use Rattle.run_theory.proofs.Overs.{T, look, layers_worth, finish, Ends, ends_at, HasCome, left_worth, LeftIs, rest_from}
 

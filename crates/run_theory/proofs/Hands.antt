@@ -13,7 +13,7 @@ use Rattle.trail_theory.specs.SerialRest.{Beside}
 use Rattle.trail_theory.specs.TaskFits.{SlotFits, same, late, lost, EnvFits, DoomFits, sound, hit, UnderFits}
 use Rattle.trail_theory.proofs.Places.{order_strict, same_name_refl}
 use Rattle.trail_theory.proofs.Order.{ordered_across, ordered_tail}
-use Rattle.run_theory.proofs.Names.{same_name_true}
+use Rattle.strand_theory.proofs.Names.{same_name_true}
 use Rattle.run_theory.proofs.Awaited.{SlotsWait, UnderWait}
 
 -- ---- what a hand makes of instances

@@ -9,11 +9,11 @@ use Rattle.meaning.specs.Strands as strands
 use Rattle.meaning.specs.Schedules.{Memory, Piece, RunState, Change, place_of, place_of_start, line_of, is_held_by, among, changed}
 use Rattle.trail_theory.specs.Order.{Every}
 use Rattle.run_theory.specs.RightRuns.{front, Begins}
-use Rattle.run_theory.proofs.Names.{both_true}
+use Rattle.strand_theory.proofs.Names.{both_true}
 use Rattle.run_theory.proofs.Pieces.{ForSome, either}
 use Rattle.run_theory.proofs.Steps.{FitAll}
 use Rattle.run_theory.proofs.Kits.{inner}
-use Rattle.run_theory.proofs.Books.{held_at, becomes_at, splits_at, replayed_append, map_append, other_bytes}
+use Rattle.strand_theory.proofs.Books.{held_at, becomes_at, splits_at, replayed_append, map_append, other_bytes}
 use Rattle.run_theory.proofs.Ascending.{Order, UsedIn, Asc, Covered, none_before, asc_replaced, covered_replaced, is_fresh, not_root, begins_later}
 use Rattle.run_theory.proofs.Telling.{TellsAll, Quiet, Lays, ends, stalls, faults, finishes, Splits, Tells, quiet, laid, split}
 

@@ -21,11 +21,12 @@ use Rattle.meaning.specs.Schedules.{Memory, Piece, Change, RunState, work, push,
 use Rattle.trail_theory.specs.TaskFits.{Higher, Spot, Stacked}
 use Rattle.trail_theory.proofs.Places.{child_above}
 use Rattle.run_theory.specs.RightRuns.{Links}
-use Rattle.run_theory.specs.Theorems.{IsReady}
+use Rattle.strand_theory.specs.Ready.{IsReady}
 use Rattle.run_theory.specs.Progress.{HoldersGoOn}
-use Rattle.run_theory.proofs.Names.{same_name_true}
+use Rattle.strand_theory.proofs.Names.{same_name_true}
 use Rattle.run_theory.proofs.Flags.{higher_long, child_long}
-use Rattle.run_theory.proofs.Steps.{piece_of, L, FitPiece, FitAll, Whole, Pushed}
+use Rattle.run_theory.proofs.Steps.{piece_of, FitPiece, FitAll, Whole, Pushed}
+use Rattle.strand_theory.proofs.Laws.{L}
 use Rattle.run_theory.proofs.Telling.{stacked_extends}
 use Rattle.run_theory.proofs.Paths.{paths_right}
 

@@ -11,12 +11,14 @@ use Rattle.meaning.specs.Strands.{State, Held, Ended, Stalled, BookStep, Fold}
 use Rattle.meaning.specs.Strands as strands
 use Rattle.meaning.specs.Schedules.{Memory, Piece, RunState, RunStep, Change, work, push, inline, pop, stall, steal, fold, first_state, place_of, place_of_start, is_held_by, is_idle, among, changed, kits_after, step_of, worked_by, worked, pushed_at, pushed, inlined_at, inlined_of, popped_at, popped, robbed_of, stolen_from, bottom_alone, left_by, stalled_by, stalled_at, stalled, broken_pair, joined_pair, folded_by, folded, folded_among, folded_at, after_step, or_same, path, answer_by, answer_of_pieces}
 use Rattle.run_theory.specs.RightRuns.{front, flags_of, deque_flags, count, IsLaid}
-use Rattle.run_theory.specs.Theorems.{IsReady, IsRightNow, layers_in, kits_of, StepsKeepKits, PathsKeepKits, EndsFreeKits}
+use Rattle.strand_theory.specs.Ready.{IsReady}
+use Rattle.run_theory.specs.Theorems.{IsRightNow, layers_in, kits_of, StepsKeepKits, PathsKeepKits, EndsFreeKits}
 use Rattle.run_theory.proofs.Flags.{Moves, same, called, recorded, entered, closes, leaves, Shifts}
-use Rattle.run_theory.proofs.Names.{both_are}
+use Rattle.strand_theory.proofs.Names.{both_are}
 use Rattle.run_theory.proofs.Owned.{Counted, own_after, noted_length, take_length, layers_length, owns_one}
 use Rattle.run_theory.proofs.Pieces.{ForSome, some_is, either, behind_long}
-use Rattle.run_theory.proofs.Steps.{S, L, FitPiece, FitAll, Whole, worked_broken, shifts_of}
+use Rattle.strand_theory.proofs.Laws.{S, L}
+use Rattle.run_theory.proofs.Steps.{FitPiece, FitAll, Whole, worked_broken, shifts_of}
 use Rattle.run_theory.proofs.Stalls.{bottom_one}
 use Rattle.run_theory.proofs.Paths.{idle, kept_or, step_right, begins_right, paths_right}
 

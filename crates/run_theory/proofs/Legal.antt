@@ -4,7 +4,8 @@ use Rattle.meaning.specs.Tables.{Tables}
 use Rattle.meaning.specs.Records.{Revised}
 use Rattle.meaning.specs.Strands.{first_book}
 use Rattle.meaning.specs.Schedules.{Memory, RunState, RunStep, work, push, inline, pop, stall, steal, fold, first_state, is_idle, changed, worked, pushed, inlined_of, popped, stalled, stolen_from, folded_at, if_idle, after_step, or_same, path}
-use Rattle.run_theory.specs.Theorems.{IsReady, IsRightNow, PathsKeepHistory}
+use Rattle.strand_theory.specs.Ready.{IsReady}
+use Rattle.run_theory.specs.Theorems.{IsRightNow, PathsKeepHistory}
 use Rattle.run_theory.proofs.Pieces.{ForSome}
 use Rattle.run_theory.proofs.Paths.{kept_or, step_right, begins_right}
 use Rattle.run_theory.proofs.Telling.{works_tell, pushes_tell, inlines_tell, pops_tell, stalls_tell, steals_tell}

@@ -1,16 +1,13 @@
 pub mod Lefts
 pub mod Flags
 pub mod Owned
-pub mod Names
 pub mod Pieces
-pub mod Broken
 pub mod Steps
 pub mod Steals
 pub mod Stalls
 pub mod Folds
 pub mod Paths
 pub mod Kits
-pub mod Books
 pub mod Ascending
 pub mod Telling
 pub mod Histories
@@ -31,14 +28,11 @@ pub mod MainLeft
 pub mod Anchored
 pub mod Remains
 pub mod Around
-pub mod Recorded
-pub mod RecordedStrands
 pub mod News
 pub mod EndCounts
 pub mod LaidDown
 pub mod Holders
 pub mod Progress
-pub mod UnflaggedSteps
 pub mod UnflaggedRuns
 pub mod FlagsTold
 mod Samples

@@ -15,13 +15,15 @@ use Rattle.trail_theory.specs.Order.{LeavesBefore}
 use Rattle.trail_theory.specs.Right.{EndsAfter}
 use Rattle.trail_theory.proofs.Places.{order_strict, order_one_way, same_name_refl}
 use Rattle.run_theory.specs.RightRuns.{front, Begins, Links, IsLaid}
-use Rattle.run_theory.specs.Theorems.{IsReady, NeighboursFold}
-use Rattle.run_theory.proofs.Names.{both_are, both_true, same_name_true}
+use Rattle.strand_theory.specs.Ready.{IsReady}
+use Rattle.run_theory.specs.Theorems.{NeighboursFold}
+use Rattle.strand_theory.proofs.Names.{both_are, both_true, same_name_true}
 use Rattle.run_theory.proofs.Lefts.{before_trans}
-use Rattle.run_theory.proofs.Books.{NoneAt, same_bytes}
+use Rattle.strand_theory.proofs.Books.{NoneAt, same_bytes}
 use Rattle.run_theory.proofs.Ascending.{Order, Gone, Asc, none_before}
 use Rattle.run_theory.proofs.Steps.{FitPiece, FitAll}
-use Rattle.run_theory.proofs.Folds.{over_of, pair_sound}
+use Rattle.run_theory.proofs.Folds.{over_of}
+use Rattle.strand_theory.proofs.Folds.{pair_sound}
 use Rattle.run_theory.proofs.Kits.{inner}
 use Rattle.run_theory.proofs.Telling.{broken_or}
 use Rattle.run_theory.proofs.Awaited.{SlotsWait, UnderWait}

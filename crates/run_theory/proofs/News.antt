@@ -26,18 +26,22 @@ use Rattle.trail_theory.proofs.TalliedTheorems.{tallied_stay, layers_stay, entry
 use Rattle.trail_theory.proofs.OwedLayers.{any_unbroken}
 use Rattle.trail_theory.proofs.OwnTheorems.{stay_own, flags_names}
 use Rattle.run_theory.specs.RightRuns.{front, Begins, Links}
-use Rattle.run_theory.specs.Theorems.{IsReady, IsRightNow, PathsMakeNews, PathsOwnLayers}
-use Rattle.run_theory.proofs.Names.{both_are, same_name_true}
+use Rattle.strand_theory.specs.Ready.{IsReady}
+use Rattle.run_theory.specs.Theorems.{IsRightNow, PathsMakeNews, PathsOwnLayers}
+use Rattle.strand_theory.proofs.Names.{both_are, same_name_true}
 use Rattle.run_theory.proofs.Around.{stack_around, deque_around, start_around}
 use Rattle.run_theory.proofs.Pieces.{ForSome, either}
 use Rattle.run_theory.proofs.Ascending.{Gone}
 use Rattle.run_theory.proofs.Telling.{broken_or}
-use Rattle.run_theory.proofs.Steps.{L, FitPiece, FitAll, Whole, Pushed, worked_broken}
+use Rattle.strand_theory.proofs.Laws.{L}
+use Rattle.run_theory.proofs.Steps.{FitPiece, FitAll, Whole, Pushed, worked_broken}
 use Rattle.run_theory.proofs.Steals.{none_last, pushed_split}
-use Rattle.run_theory.proofs.Folds.{may_join_true, over_of, stalled_of}
+use Rattle.strand_theory.proofs.Folds.{may_join_true}
+use Rattle.run_theory.proofs.Folds.{over_of, stalled_of}
 use Rattle.run_theory.proofs.Kits.{inner}
-use Rattle.run_theory.proofs.Paths.{idle, kept_or, law, sound, step_right, begins_right}
-use Rattle.run_theory.proofs.RecordedStrands.{RecordsNow, RecordsStay, stay_recorded, first_records, steal_records, inline_records, detach_records, pop_records}
+use Rattle.run_theory.proofs.Paths.{idle, kept_or, step_right, begins_right}
+use Rattle.strand_theory.proofs.Laws.{law, sound}
+use Rattle.strand_theory.proofs.RecordedStrands.{RecordsNow, RecordsStay, stay_recorded, first_records, steal_records, inline_records, detach_records, pop_records}
 
 every_split : {A : Type 0} (P : A → Type 0) (a : List A) (x : A) → Every P (a ++ x ∷ []) → Every P a × P x
 every_split P [] x h = (tt, h.0)

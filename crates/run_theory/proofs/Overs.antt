@@ -19,13 +19,17 @@ use Rattle.trail_theory.proofs.FirstFaults.{quiet_first, inside_none}
 use Rattle.trail_theory.specs.ElisionBeside.{first_fault, forgotten, Fits}
 use Rattle.trail_theory.proofs.MainElides.{main_from_scratch}
 use Rattle.trail_theory.proofs.Ends.{worth_of}
-use Rattle.run_theory.specs.RightRuns.{front, Begins, Links, BrokenAt, IsOver}
+use Rattle.run_theory.specs.RightRuns.{front, Begins, Links, IsOver}
+use Rattle.strand_theory.specs.Faults.{BrokenAt}
 use Rattle.run_theory.specs.OverRuns.{HasFault, AreOver}
-use Rattle.run_theory.specs.Theorems.{IsReady, OverRunsAnswer}
-use Rattle.run_theory.proofs.Steps.{piece_of, S, L, FitPiece, FitAll}
-use Rattle.run_theory.proofs.Broken.{broken_from_scratch}
+use Rattle.strand_theory.specs.Ready.{IsReady}
+use Rattle.run_theory.specs.Theorems.{OverRunsAnswer}
+use Rattle.run_theory.proofs.Steps.{piece_of, FitPiece, FitAll}
+use Rattle.strand_theory.proofs.Laws.{S, L}
+use Rattle.strand_theory.proofs.Broken.{broken_from_scratch}
 use Rattle.run_theory.proofs.Stalls.{broken_of}
-use Rattle.run_theory.proofs.Paths.{law, begins_root}
+use Rattle.strand_theory.proofs.Laws.{law}
+use Rattle.run_theory.proofs.Paths.{begins_root}
 
 -- a stretch that ends where a strand begins
 abbrev pub Ends : Start → Log → Type 0

@@ -9,17 +9,16 @@ use Rattle.meaning.specs.Strands.{State, Held, Ended, Stalled}
 use Rattle.meaning.specs.Strands as strands
 use Rattle.meaning.specs.Tallies.{Tally}
 use Rattle.meaning.specs.Schedules.{Memory, Piece, RunState, RunStep, work, push, inline, pop, stall, steal, fold, first_state, is_idle, changed, worked, pushed, inlined_of, popped, stalled, stolen_from, folded_at, if_idle, after_step, or_same, path, answer_by, answer_of_pieces, end_of}
-use Rattle.trail_theory.specs.Right.{StretchesMultiply, RecordedAreSound}
 use Rattle.trail_theory.proofs.Ends.{first_right}
 use Rattle.trail_theory.proofs.Theorems.{ends_reading}
-use Rattle.trail_theory.proofs.TypedWalks.{stretches_multiply_reading}
-use Rattle.trail_theory.proofs.ValidRecords.{valid_recorded_are_sound}
-use Rattle.trail_theory.proofs.KeptRecords.{valid_answers}
-use Rattle.run_theory.specs.RightRuns.{Begins, BrokenAt}
-use Rattle.run_theory.specs.Theorems.{IsReady, IsRightNow, StepsStayRight, PathsAreRight, RightRunsAnswer, PathsAnswer}
+use Rattle.run_theory.specs.RightRuns.{Begins}
+use Rattle.strand_theory.specs.Faults.{BrokenAt}
+use Rattle.strand_theory.specs.Ready.{IsReady}
+use Rattle.run_theory.specs.Theorems.{IsRightNow, StepsStayRight, PathsAreRight, RightRunsAnswer, PathsAnswer}
 use Rattle.run_theory.proofs.Pieces.{ForSome, some_is, FitAfter, changed_fits}
-use Rattle.run_theory.proofs.Broken.{broken_from_scratch}
-use Rattle.run_theory.proofs.Steps.{piece_of, S, L, FitPiece, works_fit, pushes_fit, inlines_fit, pops_fit}
+use Rattle.strand_theory.proofs.Broken.{broken_from_scratch}
+use Rattle.run_theory.proofs.Steps.{piece_of, FitPiece, works_fit, pushes_fit, inlines_fit, pops_fit}
+use Rattle.strand_theory.proofs.Laws.{S, L, law, sound}
 use Rattle.run_theory.proofs.Steals.{steals_fit}
 use Rattle.run_theory.proofs.Stalls.{broken_of, stalls_fit}
 use Rattle.run_theory.proofs.Folds.{folds_fit}
@@ -38,12 +37,6 @@ module _ (program : Revised) (tables : Tables) (memory : Memory) where
   kept_or P s (Some t) h k = k
 
 module _ (program : Revised) (tables : Tables) (memory : Memory) (ready : IsReady program tables memory) where
-  pub law : StretchesMultiply program.tree tables (S program tables memory) (L program tables memory)
-  law = stretches_multiply_reading program.tree tables (S program tables memory) (L program tables memory) ready.rules.reads ready.monoids ready.numbers ready.cells
-
-  pub sound : RecordedAreSound program.tree tables (S program tables memory) (L program tables memory)
-  sound = valid_recorded_are_sound program tables (S program tables memory) ready.rules.reads (L program tables memory) (λ f vs d k r e. valid_answers program tables memory.records ready.sound f vs d k e)
-
   pub step_right : (s : RunState) (e : RunStep) → IsRightNow program tables memory s → ForSome (IsRightNow program tables memory) (after_step program tables memory s e)
   step_right s (work w) h = changed_fits program.tree tables (S program tables memory) (L program tables memory) w (worked program tables memory s.kits) (works_fit program tables memory law ready.rules sound s.kits w) [] s.pieces s.history true [] h
   step_right s (push w) h = changed_fits program.tree tables (S program tables memory) (L program tables memory) w (pushed program tables memory s.kits) (pushes_fit program tables memory law ready.rules sound s.kits w) [] s.pieces s.history true [] h

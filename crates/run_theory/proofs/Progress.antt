@@ -12,9 +12,9 @@ use Rattle.meaning.specs.Schedules.{Memory, Piece, first_state, path, place_of, 
 use Rattle.trail_theory.specs.Order.{Every}
 use Rattle.trail_theory.specs.TaskFits.{Fringe, Higher}
 use Rattle.run_theory.specs.RightRuns.{front, IsLaid, flags_of, deque_flags, count, LayerIsClosed}
-use Rattle.run_theory.specs.Theorems.{IsReady}
+use Rattle.strand_theory.specs.Ready.{IsReady}
 use Rattle.run_theory.specs.Progress.{LaidRunsGoOn, SomeStepIsThere}
-use Rattle.run_theory.proofs.Names.{both_true}
+use Rattle.strand_theory.proofs.Names.{both_true}
 use Rattle.run_theory.proofs.Steps.{FitPiece, FitAll}
 use Rattle.run_theory.proofs.Paths.{begins_root, paths_right}
 use Rattle.run_theory.proofs.Ascending.{not_root}

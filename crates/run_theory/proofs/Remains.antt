@@ -20,8 +20,10 @@ use Rattle.trail_theory.proofs.Advances.{ordered_at}
 use Rattle.trail_theory.proofs.FirstFaults.{quiet_first}
 use Rattle.trail_theory.proofs.Ends.{worth_of}
 use Rattle.run_theory.specs.RightRuns.{Begins, Links, IsPushed}
-use Rattle.run_theory.specs.Theorems.{IsReady, PathsKeepRest}
-use Rattle.run_theory.proofs.Steps.{S, L, FitPiece, FitAll, Whole}
+use Rattle.strand_theory.specs.Ready.{IsReady}
+use Rattle.run_theory.specs.Theorems.{PathsKeepRest}
+use Rattle.strand_theory.proofs.Laws.{S, L}
+use Rattle.run_theory.proofs.Steps.{FitPiece, FitAll, Whole}
 use Rattle.run_theory.proofs.Paths.{begins_root}
 use Rattle.run_theory.proofs.Ascending.{Gone}
 use Rattle.run_theory.proofs.Telling.{broken_or}

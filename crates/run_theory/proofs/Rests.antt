@@ -17,11 +17,13 @@ use Rattle.meaning.specs.Tallies.{Tally}
 use Rattle.meaning.specs.Schedules.{Memory, Piece, RunState, answer_by, answer_of_pieces, end_of}
 use Rattle.trail_theory.specs.Right.{stretch, RightAt}
 use Rattle.trail_theory.proofs.Joins.{one_layer}
-use Rattle.run_theory.specs.Theorems.{IsReady, IsRightNow, RestBegins, RestEnds}
+use Rattle.strand_theory.specs.Ready.{IsReady}
+use Rattle.run_theory.specs.Theorems.{IsRightNow, RestBegins, RestEnds}
 use Rattle.run_theory.proofs.Pieces.{ForSome, some_is}
 use Rattle.run_theory.proofs.Courses.{then_pure, instance_left, seen_slot}
-use Rattle.run_theory.proofs.Steps.{piece_of, S, L, FitPiece, FitAll}
-use Rattle.run_theory.proofs.Paths.{law}
+use Rattle.run_theory.proofs.Steps.{piece_of, FitPiece, FitAll}
+use Rattle.strand_theory.proofs.Laws.{S, L}
+use Rattle.strand_theory.proofs.Laws.{law}
 
 module _ (program : Tree) (tables : Tables) where
   -- a child that is opened has its names' first values

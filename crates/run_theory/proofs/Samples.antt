@@ -11,7 +11,7 @@ use Rattle.trail_theory.specs.Waiting.{IsOrderly, NoReads}
 use Rattle.trail_theory.specs.ReadsAtEnd.{IsOther, EntersOnly}
 use Rattle.meaning.specs.Fitting.{FitsBody}
 use Rattle.trail_theory.proofs.FitNumbers.{natural_fits}
-use Rattle.run_theory.specs.Theorems.{IsReady}
+use Rattle.strand_theory.specs.Ready.{IsReady}
 use Rattle.run_theory.proofs.Paths.{paths_answer}
 
 abbrev program : Revised

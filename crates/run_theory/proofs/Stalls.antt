@@ -3,18 +3,29 @@ use Rattle.std.proofs.Common.{◌&&◌, ◌+◌, ◌≤◌, ℕ, suc, ℤ, List,
 use Rattle.meaning.specs.Tables.{Tables}
 use Rattle.meaning.specs.Outcome.{Fault, Place}
 use Rattle.meaning.specs.Records.{Revised}
-use Rattle.meaning.specs.SmallStep.{Start, is_entry, Frame, Phase, entering, running, spawning, returning, leaving, broken, Parent, at_spawn, at_sync, returned, faulted, Step, moved, taken, paused, Continuation}
+use Rattle.meaning.specs.SmallStep.{Start, root, behind, is_entry, Frame, Phase, entering, running, spawning, returning, leaving, broken, Parent, at_spawn, at_sync, returned, faulted, Step, moved, taken, paused, Continuation}
 use Rattle.meaning.specs.Layers.{Notes}
 use Rattle.meaning.specs.Strands.{State}
 use Rattle.meaning.specs.Tallies.{Tally}
-use Rattle.meaning.specs.Schedules.{Memory, Piece, place_of, step_of, bottom_alone, left_by, stalled_by, stalled_at, stalled}
-use Rattle.run_theory.specs.RightRuns.{front, count, BrokenAt}
-use Rattle.run_theory.proofs.Flags.{Shifts}
+use Rattle.meaning.specs.Schedules.{Memory, Piece, place_of, place_of_start, step_of, bottom_alone, left_by, stalled_by, stalled_at, stalled}
+use Rattle.run_theory.specs.RightRuns.{front, count}
+use Rattle.strand_theory.specs.Faults.{BrokenAt}
+use Rattle.run_theory.proofs.Flags.{child_long, Shifts}
 use Rattle.run_theory.proofs.Owned.{whole_long}
 use Rattle.run_theory.proofs.Pieces.{ForSome, behind_long}
-use Rattle.run_theory.proofs.Broken.{right_broken}
-use Rattle.run_theory.proofs.Names.{entry_long, none_own}
-use Rattle.run_theory.proofs.Steps.{piece_of, S, L, FitPiece, FitAll, Whole, Put, Keeps, shifts_of}
+use Rattle.strand_theory.proofs.Broken.{right_broken}
+use Rattle.strand_theory.proofs.Names.{same_name_true}
+use Rattle.run_theory.proofs.Steps.{piece_of, FitPiece, FitAll, Whole, Put, Keeps, shifts_of}
+use Rattle.strand_theory.proofs.Laws.{S, L}
+
+-- a strand that stands at its entry is a step above its place
+entry_long : (m : Start) (n : Place) → is_entry m n ≡ true → length (place_of_start m) ≡ suc (length n)
+entry_long root n e = absurd cc
+entry_long (behind m k) n e = child_long m k ∙ ap (λ l. suc (length l)) (same_name_true m n e)
+
+none_own : (own : List Bool) → length own ≡ 0 → own ≡ []
+none_own [] e = refl
+none_own (b ∷ own) e = cc
 
 cut_fault : (k j : Fault) → broken k ≡ broken j → k ≡ j
 cut_fault k j e = cc

@@ -14,7 +14,8 @@ use Rattle.trail_theory.proofs.Joins.{steal_right}
 use Rattle.run_theory.specs.RightRuns.{front, Links, under_flags, flags_of, deque_flags, IsPushed}
 use Rattle.run_theory.proofs.Flags.{lowest_frame, stacked_long, child_long}
 use Rattle.run_theory.proofs.Pieces.{ForSome, held_any, behind_long}
-use Rattle.run_theory.proofs.Steps.{S, L, FitPiece, FitAll, Whole, Pushed, Put, Keeps}
+use Rattle.strand_theory.proofs.Laws.{S, L}
+use Rattle.run_theory.proofs.Steps.{FitPiece, FitAll, Whole, Pushed, Put, Keeps}
 
 pub links_split : (younger : List Continuation) (n : Place) (k : Continuation) (e : Place) → Links n (younger ++ k ∷ []) e → Links n younger (place_of_continuation k) × (lowest k.parent.frame k.under ≡ e)
 links_split [] n k e h = (h.0, h.1)

@@ -4,13 +4,12 @@ use Rattle.program_tree.specs.Plain.{Tree}
 use Rattle.meaning.specs.Tables.{Tables}
 use Rattle.meaning.specs.Outcome.{Accumulators, Fault, Place, Leaves}
 use Rattle.meaning.specs.Records.{Revised}
-use Rattle.meaning.specs.Trail.{sight_of}
 use Rattle.meaning.specs.SmallStep.{Start, Frame, Todo, Child, Phase, entering, running, spawning, returning, leaving, broken, Parent, with_value, awaiting, Step, moved, taken, paused, Lookup, micro, Continuation}
 use Rattle.meaning.specs.Layers.{Notes, noted_top, total, notes_of}
 use Rattle.meaning.specs.LayeredStrand.{advanced, continuation}
 use Rattle.meaning.specs.Elision.{depth_limit}
 use Rattle.meaning.specs.Strands.{State, holds_by}
-use Rattle.meaning.specs.Tallies.{Tally, valid_record}
+use Rattle.meaning.specs.Tallies.{Tally}
 use Rattle.meaning.specs.Schedules.{Memory, Piece, Change, place_of, place_of_start, step_of, worked_by, worked, pushed_at, pushed, inlined_at, inlined_of, popped_at, popped}
 use Rattle.trail_theory.specs.Order.{Every}
 use Rattle.trail_theory.specs.TaskFits.{Fringe, IsOrderlyPhase}
@@ -18,6 +17,7 @@ use Rattle.trail_theory.specs.Right.{IsRight, RecordedAreSound, StretchesMultipl
 use Rattle.trail_theory.specs.ReadsAtEnd.{KeepsRules}
 use Rattle.trail_theory.proofs.ReadPoints.{advances_by_product}
 use Rattle.trail_theory.proofs.Theorems.{inlines, detaches, continues, pops}
+use Rattle.strand_theory.proofs.Laws.{S, L}
 use Rattle.run_theory.specs.RightRuns.{front, Links, flags_of, deque_flags, count, LayerIsClosed, IsWhole, IsPushed, IsPiece}
 use Rattle.run_theory.proofs.Flags.{Shifts, lowest_frame, IsNear, micro_shifts, higher_long, spot_long}
 use Rattle.run_theory.proofs.Owned.{own_after, noted_length, take_length, layers_length, own_tail, owns_one}
@@ -36,12 +36,6 @@ near_at program tables lookup kit acc m W fr (leaving v) o f c = (higher_long m 
 near_at program tables lookup kit acc m W fr (broken k) o f c = tt
 
 module _ (program : Revised) (tables : Tables) (memory : Memory) where
-  abbrev pub S : Accumulators
-  S = sight_of program.tree tables
-
-  abbrev pub L : Lookup
-  L = valid_record program tables memory.records
-
   abbrev pub FitPiece : Bool → Piece → List Bool → List Bool → Place → Type 0
   FitPiece = IsPiece program.tree tables S L
 

@@ -17,8 +17,8 @@ use Rattle.trail_theory.specs.Unflagged.{unflagged_under, unflagged, unflagged_c
 use Rattle.trail_theory.proofs.ReadPoints.{sees_when}
 use Rattle.trail_theory.proofs.Unflagged.{no_matter}
 use Rattle.run_theory.specs.UnflaggedRuns.{unflagged_piece, unflagged_run, unflagged_after, worked_with, step_by, path_by, RunsBy}
-use Rattle.run_theory.proofs.Steps.{L}
-use Rattle.run_theory.proofs.UnflaggedSteps.{micro_alike, tallied_alike}
+use Rattle.strand_theory.proofs.Laws.{L}
+use Rattle.strand_theory.proofs.UnflaggedSteps.{micro_alike, tallied_alike}
 
 map_append : {A B : Type 0} (f : A → B) (a b : List A) → map f (a ++ b) ≡ map f a ++ map f b
 map_append f [] b = refl

@@ -10,12 +10,12 @@ use Rattle.meaning.specs.Schedules.{Memory, Piece, place_of, place_of_start, lin
 use Rattle.trail_theory.specs.Order.{LeavesBefore, Every}
 use Rattle.trail_theory.specs.TaskFits.{IsAbove, Spot, Fringe}
 use Rattle.run_theory.specs.RightRuns.{front, Begins}
-use Rattle.run_theory.proofs.Names.{both_are, both_true, same_name_true}
+use Rattle.strand_theory.proofs.Names.{both_are, both_true, same_name_true}
 use Rattle.run_theory.proofs.Pieces.{ForSome, either}
 use Rattle.run_theory.proofs.Steps.{FitPiece, FitAll}
 use Rattle.run_theory.proofs.Kits.{inner}
 use Rattle.run_theory.proofs.Lefts.{LeftOf, point, left_on, before_trans}
-use Rattle.run_theory.proofs.Books.{NoneAt, folds_at, may_fold_at, map_append}
+use Rattle.strand_theory.proofs.Books.{NoneAt, folds_at, may_fold_at, map_append}
 use Rattle.run_theory.proofs.Ascending.{Order, Gone, Since, Asc, Covered, none_before, none_later, asc_replaced, covered_replaced}
 use Rattle.run_theory.proofs.Histories.{Told, Stepping, ToldOf, told_next, same_line}
 

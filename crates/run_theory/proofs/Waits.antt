@@ -16,7 +16,8 @@ use Rattle.run_theory.specs.RightRuns.{front}
 use Rattle.run_theory.proofs.Pieces.{ForSome}
 use Rattle.run_theory.proofs.Lefts.{before_trans}
 use Rattle.run_theory.proofs.Ascending.{Order, Gone, Since, Asc, same_front}
-use Rattle.run_theory.proofs.Steps.{piece_of, L, worked_broken}
+use Rattle.run_theory.proofs.Steps.{piece_of, worked_broken}
+use Rattle.strand_theory.proofs.Laws.{L}
 use Rattle.run_theory.proofs.Telling.{broken_or}
 use Rattle.run_theory.proofs.Awaited.{SlotsWait, UnderWait, StackWaits, DequeWaits, into_slot, new_slots, StepWaits, micro_waits}
 

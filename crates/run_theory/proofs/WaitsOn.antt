@@ -24,9 +24,10 @@ use Rattle.run_theory.proofs.Telling.{Extends, stacked_extends}
 use Rattle.run_theory.proofs.Steals.{none_last, pushed_split}
 use Rattle.run_theory.proofs.Awaited.{SlotsWait, UnderWait, StackWaits, DequeWaits, into_slot, new_slots}
 use Rattle.trail_theory.proofs.Places.{same_name_refl}
-use Rattle.run_theory.specs.Theorems.{IsReady, IsRightNow}
+use Rattle.strand_theory.specs.Ready.{IsReady}
+use Rattle.run_theory.specs.Theorems.{IsRightNow}
 use Rattle.meaning.specs.Schedules.{RunStep, work, push, inline, pop, stall, steal, fold, first_state, is_idle, folded_by, folded, folded_among, folded_at, joined_pair, broken_pair, may_join, after_step, or_same, path}
-use Rattle.run_theory.proofs.Names.{both_are, same_name_true}
+use Rattle.strand_theory.proofs.Names.{both_are, same_name_true}
 use Rattle.run_theory.proofs.Telling.{inner_before}
 use Rattle.run_theory.proofs.Unions.{since_on, order_on}
 use Rattle.run_theory.proofs.Folds.{stalled_of}

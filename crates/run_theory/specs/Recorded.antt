@@ -1,20 +1,11 @@
--- Which executed instances have a new record: each, as often as it was executed, but for as many as went unrecorded.
-use Rattle.std.specs.Prelude.{◌≡◌, ℕ, ℤ, List, [], ◌∷◌, ◌++◌, length, map, Some, IsPermutation}
+-- The new records of a run that has ended: those of the executed instances, but for as many as went unrecorded.
+use Rattle.std.specs.Prelude.{◌≡◌, ℕ, ℤ, List, [], ◌∷◌, Some}
 use Rattle.meaning.specs.Tables.{Tables}
 use Rattle.meaning.specs.Outcome.{Accumulators}
 use Rattle.meaning.specs.Elision.{Finished}
-use Rattle.meaning.specs.Records.{Revised, Kept, Key, needed, executed}
+use Rattle.meaning.specs.Records.{Revised, needed, executed}
 use Rattle.meaning.specs.Schedules.{Memory, Piece, RunStep, first_state, path, end_of}
-
--- a record's name and arguments
-abbrev pub key_of : Kept → Key
-key_of k = (k.of, k.args)
-
--- those records' keys, with so many others, are those keys, each as often
-pub record AllRecordedBut (unrecorded : ℕ) (made : List Kept) (keys : List Key) : Type 0 where
-  pub passed : List Key
-  pub counted : length passed ≡ unrecorded
-  pub each : IsPermutation (map key_of made ++ passed) keys
+use Rattle.strand_theory.specs.Recorded.{AllRecordedBut}
 
 -- where a run has come to its end without a fault, its new records are those of the executed instances, but for as many as it counts as unrecorded
 abbrev pub PathsRecordExecutions : Revised → Tables → Memory → Type 0

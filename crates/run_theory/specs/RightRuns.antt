@@ -1,18 +1,17 @@
 -- When a run on several workers is right: what holds of each piece, and how neighbours touch.
-use Rattle.std.specs.Prelude.{◌≡◌, ◌⊎◌, ℕ, suc, Bool, true, false, ℤ, List, [], ◌∷◌, ◌++◌, length, None}
+use Rattle.std.specs.Prelude.{◌≡◌, ◌⊎◌, ℕ, suc, Bool, true, false, ℤ, List, [], ◌∷◌, ◌++◌, length}
 use Rattle.program_tree.specs.Plain.{Tree}
 use Rattle.meaning.specs.Tables.{Tables}
-use Rattle.meaning.specs.Outcome.{Log, Accumulators, Fault, Place, Faults}
-use Rattle.meaning.specs.Trail.{trail_at}
-use Rattle.meaning.specs.SmallStep.{Start, root, behind, is_entry, Frame, Phase, entering, running, spawning, returning, leaving, broken, Parent, Lookup, look_of, Continuation, place_of_continuation}
+use Rattle.meaning.specs.Outcome.{Accumulators, Fault, Place}
+use Rattle.meaning.specs.SmallStep.{Start, root, behind, is_entry, Frame, Phase, entering, running, spawning, returning, leaving, broken, Parent, Lookup, Continuation, place_of_continuation}
 use Rattle.meaning.specs.LayeredStrand.{LayeredStrand}
 use Rattle.meaning.specs.RestOfRun.{lowest}
 use Rattle.meaning.specs.Strands.{State, Held, Ended, Stalled}
 use Rattle.meaning.specs.Strands as strands
 use Rattle.meaning.specs.Schedules.{Piece, RunState, place_of}
 use Rattle.trail_theory.specs.Order.{Every}
-use Rattle.trail_theory.specs.ElisionBeside.{first_fault}
-use Rattle.trail_theory.specs.Right.{StartsAfter, IsRight, IsRightContinuation}
+use Rattle.trail_theory.specs.Right.{IsRight, IsRightContinuation}
+use Rattle.strand_theory.specs.Faults.{BrokenAt}
 
 -- ---- neighbours
 
@@ -95,15 +94,6 @@ IsLaid strands.Faulted s ks = IsFaulted s ks
 IsLaid strands.Finished s ks = IsFinished s ks
 
 module _ (program : Tree) (tables : Tables) (sight : Accumulators) (lookup : Lookup) where
-  -- the trail from a strand's beginning has that fault first
-  pub record BrokenAt (m : Start) (k : Fault) : Type 0 where
-    pub before : Log
-    pub done : Log
-    pub beyond : Log
-    pub is_trail : before ++ (done ++ Faults k ∷ beyond) ≡ trail_at program tables sight (look_of lookup)
-    pub starts : StartsAfter m before
-    pub quiet : first_fault done ≡ None
-
   -- a piece that goes on to the next one's place. Its layers but the bottom one are those of the instances that it entered: the flags of its instances, and of those behind it, end with the ones that were there as it began
   pub record IsWhole (p : Piece) (found later : List Bool) (e : Place) : Type 0 where
     pub right : IsRight program tables sight lookup p.strand
@@ -117,7 +107,7 @@ module _ (program : Tree) (tables : Tables) (sight : Accumulators) (lookup : Loo
   pub record IsCut (p : Piece) : Type 0 where
     pub fault : Fault
     pub phase : p.strand.phase ≡ broken fault
-    pub first : BrokenAt p.strand.start fault
+    pub first : BrokenAt program tables sight lookup p.strand.start fault
     pub deque : p.deque ≡ []
     pub upper : ℕ
     pub layers : length p.strand.layers ≡ suc upper

@@ -4,30 +4,19 @@ use Rattle.meaning.specs.Tables.{Tables}
 use Rattle.meaning.specs.Outcome.{Accumulators}
 use Rattle.meaning.specs.Elision.{Answer, Finished, from_scratch}
 use Rattle.meaning.specs.Trail.{sight_of}
-use Rattle.meaning.specs.Records.{Revised, IsSound, needed, executed}
+use Rattle.meaning.specs.Records.{Revised, needed, executed}
 use Rattle.meaning.specs.Commits.{committed}
 use Rattle.meaning.specs.Strands.{Book, replayed, done, waits}
 use Rattle.meaning.specs.Tallies.{valid_record}
 use Rattle.meaning.specs.RestOfRun.{rest_of_run}
 use Rattle.meaning.specs.Schedules.{Memory, Piece, line_of, RunState, RunStep, first_state, after_step, path, end_of, fold, place_of, is_idle}
 use Rattle.trail_theory.specs.Order.{Every}
-use Rattle.trail_theory.specs.ReadsAtEnd.{KeepsRules}
 use Rattle.trail_theory.specs.Counts.{CountsNeeded}
 use Rattle.trail_theory.specs.OpenLayers.{IsNewRecord}
-use Rattle.meaning.specs.Fitting.{ProgramFits}
 use Rattle.trail_theory.specs.OwedLayers.{Unbroken}
 use Rattle.trail_theory.specs.OwnLayers.{OwnsNow}
-use Rattle.trail_theory.specs.Typed.{HasMonoids, TablesFit}
 use Rattle.run_theory.specs.RightRuns.{IsRightRun}
 use Rattle.run_theory.specs.OverRuns.{ReadsNoMore, AreOver}
-
--- what the checker and the reader of tables give, and records that say what they should
-pub record IsReady (program : Revised) (tables : Tables) (memory : Memory) : Type 0 where
-  pub rules : KeepsRules program.tree
-  pub monoids : HasMonoids program.tree
-  pub numbers : ProgramFits program.tree
-  pub cells : TablesFit tables
-  pub sound : Every (IsSound program) memory.records
 
 -- the layers of all strands
 abbrev pub layers_in : List Piece → ℕ

@@ -4,7 +4,8 @@
 ghost use Rattle.meaning.specs.Records.{Revised};
 ghost use Rattle.meaning.specs.Schedules.{Memory};
 ghost use Rattle.meaning.specs.Tables.{Tables};
-ghost use Rattle.run_theory.specs.Theorems.{IsReady, StepsStayRight, PathsAreRight, RightRunsAnswer, PathsAnswer, StepsKeepKits, PathsKeepKits, EndsFreeKits, PathsKeepHistory, NeighboursFold, PathsMakeNews, PathsOwnLayers, PathsCountNeeded, PathsLeaveNothing, RestBegins, PathsKeepRest, RestEnds, OverRunsAnswer, FrontRunsAnswer};
+ghost use Rattle.strand_theory.specs.Ready.{IsReady};
+ghost use Rattle.run_theory.specs.Theorems.{StepsStayRight, PathsAreRight, RightRunsAnswer, PathsAnswer, StepsKeepKits, PathsKeepKits, EndsFreeKits, PathsKeepHistory, NeighboursFold, PathsMakeNews, PathsOwnLayers, PathsCountNeeded, PathsLeaveNothing, RestBegins, PathsKeepRest, RestEnds, OverRunsAnswer, FrontRunsAnswer};
 ghost use Rattle.trail_theory.specs.OpenLayers.{IsNumbered};
 ghost use Rattle.run_theory.specs.Recorded.{PathsRecordExecutions};
 ghost use Rattle.run_theory.specs.Progress.{HoldersGoOn, LaidRunsGoOn, SomeStepIsThere};

@@ -10,8 +10,8 @@ use Rattle.linked_program.specs.Checked.{PlainChecked}
 use Rattle.input_tables.specs.Edited.{names_of, columns_at}
 use Rattle.rerun_records.specs.Record.{PlainRecord, settled}
 use Rattle.rerun_records.specs.Commits.{put_records}
-use Rattle.worker_core.specs.Keeps.{AreSoundFor}
-use Rattle.reuse_planner.proofs.Doubts.{twice, stand_so}
+use Rattle.numbered_runs.specs.Sound.{AreSoundFor}
+use Rattle.kept_session.proofs.Doubts.{twice, stand_so}
 
 -- whatever is in doubt of them
 pub sound_so : (program : PlainChecked) (rs ss : List PlainRecord) → map settled ss ≡ map settled rs → AreSoundFor program rs → AreSoundFor program ss

@@ -4,7 +4,7 @@ use Rattle.linked_program.proofs.Named.{bytes_turned}
 use Rattle.meaning.specs.Outcome.{Place}
 use Rattle.meaning.specs.Strands.{State, Held, Ended, Stalled, Faulted, Finished, Line, BookStep, Split, End, Stall, Fault, Finish, Fold, Book, is_free, is_held_at, is_root, is_alone, may_fold, becomes, splits, folds, if_allowed, stepped, first_book, replayed, replayed_on}
 use Rattle.trail_theory.specs.Order.{Every}
-use Rattle.run_theory.proofs.Books.{NoneAt, same_bytes, other_bytes}
+use Rattle.strand_theory.proofs.Books.{NoneAt, same_bytes, other_bytes}
 use Rattle.sync_fold.specs.Pages.{is_unused, Apart}
 
 -- each line is the first one, or was split off

@@ -4,8 +4,8 @@ use Rattle.std.specs.List.{insert, remove}
 use Rattle.std.proofs.lemmas.Slice.Eq.{bytes_eq-Decides}
 use Rattle.meaning.specs.Outcome.{Place}
 use Rattle.meaning.specs.Strands.{State, Held, Ended, Stalled, Faulted, Finished, Line, BookStep, is_held, done, waits, becomes, splits, may_fold, replayed}
-use Rattle.run_theory.proofs.Names.{same_name_true, both_are}
-use Rattle.run_theory.proofs.Books.{NoneAt}
+use Rattle.strand_theory.proofs.Names.{same_name_true, both_are}
+use Rattle.strand_theory.proofs.Books.{NoneAt}
 use Rattle.positions.specs.Simulation.{place_of}
 use Rattle.right_strands.specs.Laid.{PlainPiece, ends_as}
 use Rattle.right_strands.specs.Pairs.{PlainPair, is_over, is_waiting}

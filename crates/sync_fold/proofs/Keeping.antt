@@ -3,8 +3,8 @@ use Rattle.std.proofs.Common.{◌≡◌, inl, ℕ, zero, suc, ◌+◌, ◌<◌, 
 use Rattle.std.specs.List.{insert, remove}
 use Rattle.meaning.specs.Outcome.{Place}
 use Rattle.meaning.specs.Strands.{Ended, Stalled, Faulted, Finished, Line, BookStep, Split, Fold, Book, is_free, is_held_at, is_root, is_alone, may_fold, becomes, splits, folds, if_allowed, stepped, first_book, replayed, replayed_on}
-use Rattle.run_theory.proofs.Names.{both_are}
-use Rattle.run_theory.proofs.Books.{replayed_append}
+use Rattle.strand_theory.proofs.Names.{both_are}
+use Rattle.strand_theory.proofs.Books.{replayed_append}
 use Rattle.positions.specs.Simulation.{place_of}
 use Rattle.right_strands.specs.Laid.{PlainPiece}
 use Rattle.right_strands.specs.declared.laid.Rest.{Rest}

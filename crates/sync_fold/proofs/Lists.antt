@@ -8,7 +8,7 @@ use Rattle.meaning.specs.Outcome.{Place}
 use Rattle.meaning.specs.Strands.{State, Held, Line, becomes, splits, folds, may_fold}
 use Rattle.numbered_runs.specs.Named.{line, named_state}
 use Rattle.numbered_runs.specs.declared.step.StrandLine.{StrandLine}
-use Rattle.run_theory.proofs.Books.{NoneAt}
+use Rattle.strand_theory.proofs.Books.{NoneAt}
 use Rattle.sync_fold.specs.Pages.{shown, position, removes, Apart, begins_pair, begins_with, are_neighbours}
 
 -- ---- by numbers of lines

@@ -2,7 +2,7 @@
 use Rattle.std.proofs.Common.{◌≡◌, ◌⊎◌, inl, inr, ℕ, ◌+◌, ◌<◌, List, [], ◌∷◌, ◌++◌, length, map, get_or, take, drop, Some, None, sym, ap, ◌∙◌, subst}
 use Rattle.std.proofs.lemmas.List.{map-append, take-map, drop-map, take_more, drop_more}
 use Rattle.meaning.specs.Strands.{Book, stepped, first_book, replayed, replayed_on}
-use Rattle.run_theory.proofs.Books.{replayed_append}
+use Rattle.strand_theory.proofs.Books.{replayed_append}
 use Rattle.numbered_runs.specs.Named.{book_step, history}
 use Rattle.numbered_runs.specs.declared.step.BookStep.{BookStep}
 use Rattle.sync_fold.specs.Replays.{RefusedAt, Refuses}

@@ -5,7 +5,7 @@ use Rattle.std.specs.Str.{bytes_eq}
 use Rattle.meaning.specs.Every.{every}
 use Rattle.meaning.specs.Outcome.{Place}
 use Rattle.meaning.specs.Strands.{Line, done, waits, holds_by}
-use Rattle.run_theory.proofs.Books.{NoneAt}
+use Rattle.strand_theory.proofs.Books.{NoneAt}
 use Rattle.numbered_runs.specs.Named.{line}
 use Rattle.numbered_runs.specs.declared.step.StrandLine.{StrandLine}
 

@@ -8,11 +8,12 @@ use Rattle.positions.specs.Setting.{Setting, setting_with}
 use Rattle.frames.specs.declared.answer.RunAnswer.{RunAnswer}
 use Rattle.frames.specs.declared.answer.RunAnswer.TheVariants as answer
 use Rattle.right_strands.specs.Laid.{HasRecorded}
-use Rattle.worker_core.specs.Keeps.{AreSoundFor, HasRecordedBy}
-use Rattle.reuse_planner.specs.Sessions.{PlainSession}
-use Rattle.reuse_planner.specs.Runs.{LeavesRecords, IsQuietAfter}
-use Rattle.reuse_planner.proofs.Outcomes.{quiet_after}
-use Rattle.threaded_driver.specs.Ends.{IsAlone}
+use Rattle.numbered_runs.specs.Sound.{AreSoundFor}
+use Rattle.run_terms.specs.Recorded.{HasRecordedBy}
+use Rattle.kept_session.specs.Sessions.{PlainSession}
+use Rattle.session_runs.specs.Runs.{LeavesRecords, IsQuietAfter}
+use Rattle.session_runs.proofs.Outcomes.{quiet_after}
+use Rattle.worker_desk.specs.Ends.{IsAlone}
 
 -- the setting of a run of the session's program
 abbrev setting_of : PlainSession → Setting

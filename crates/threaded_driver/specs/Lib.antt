@@ -1,5 +1,1 @@
-pub mod Come
 pub mod Ends
-pub mod Finds
-pub mod Over
-pub mod Spots

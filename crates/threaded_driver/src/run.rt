@@ -7,26 +7,28 @@ ghost use Rattle.rerun_records.specs.Named.{HaveValues};
 ghost use Rattle.positions.specs.Setting.{setting_with};
 ghost use Rattle.numbered_runs.specs.Named.{history};
 ghost use Rattle.numbered_runs.specs.News.{AreSound};
-ghost use Rattle.reuse_planner.specs.Sessions.{standing_of};
-ghost use Rattle.reuse_planner.specs.Runs.{IsFromScratch, LeavesRecords, IsQuietAfter};
-ghost use Rattle.threaded_driver.specs.Come.{HasCome, HasEnded, HasHistory};
-ghost use Rattle.threaded_driver.specs.Ends.{IsEnd, IsEndFor};
-ghost use Rattle.threaded_driver.specs.Over.{is_refusal};
+ghost use Rattle.kept_session.specs.Sessions.{standing_of};
+ghost use Rattle.session_runs.specs.Runs.{IsFromScratch, LeavesRecords, IsQuietAfter};
+ghost use Rattle.run_terms.specs.Come.{HasCome, HasEnded};
+ghost use Rattle.worker_desk.specs.Histories.{HasHistory};
+ghost use Rattle.worker_desk.specs.Ends.{IsEnd};
+ghost use Rattle.threaded_driver.specs.Ends.{IsEndFor};
+ghost use Rattle.worker_desk.specs.Over.{is_refusal};
 ghost use Rattle.sync_fold.specs.declared.error.BookError.TheVariants as error;
 
-use crate::beginning::{NewDeques, deques_of};
-use crate::ended::Ended;
-use crate::failure::Mismatch;
+use worker_desk::beginning::{NewDeques, deques_of};
+use worker_desk::ended::Ended;
+use worker_desk::failure::Mismatch;
 use crate::floor::{Floor, work};
 use crate::gate::Gate;
-use crate::kits::Stocked;
-use crate::seat::Seat;
+use worker_desk::kits::Stocked;
+use worker_desk::seat::Seat;
 use frames::answer::RunAnswer;
 use input_tables::Tables;
 use linked_program::checked::Checked;
 use numbered_runs::step::BookStep;
 use rerun_records::records::Records;
-use reuse_planner::Session;
+use kept_session::Session;
 use right_strands::run::Run;
 use std::alloc::{AllocError, Global};
 use std::marker::Brand;
@@ -63,8 +65,7 @@ pub fn run_threads<V: View + Send, R: Threads + Wait + Sync, G: Gate>(
         HasEnded r.0 → length session.new.kits.kits ≡ length session.old.kits.kits) }
     ensures total { session.new.kits.total ≡ session.old.kits.total }
 {
-    let (free, _) = session.kits();
-    if free == 0 {
+    if session.has_no_kit() {
         return Ok((RunAnswer::NoKit, Vec::new(alloc)));
     }
     session.kept();

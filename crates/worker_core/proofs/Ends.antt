@@ -21,14 +21,15 @@ use Rattle.positions.specs.Stands.{fault_in}
 use Rattle.frames.specs.Answers.{IsAnswer, over, stopped, underway, ending_at}
 use Rattle.frames.specs.declared.answer.RunAnswer.{RunAnswer}
 use Rattle.frames.specs.declared.answer.RunAnswer.TheVariants as answer
-use Rattle.numbered_runs.specs.Pieces.{PlainPiece}
-use Rattle.numbered_runs.specs.Stands.{IsLaidAs, StandForPieces}
-use Rattle.numbered_runs.specs.Layered.{HasOneLayer, HasOneLayerAs}
-use Rattle.numbered_runs.specs.Ends.{answer_at, answer_in}
-use Rattle.numbered_runs.proofs.Ends.{answers_elision, same_answer}
+use Rattle.stepped_runs.specs.Pieces.{PlainPiece}
+use Rattle.stepped_runs.specs.Stands.{IsLaidAs, StandForPieces}
+use Rattle.stepped_runs.specs.Layered.{HasOneLayer, HasOneLayerAs}
+use Rattle.stepped_runs.specs.Ends.{answer_at, answer_in}
+use Rattle.stepped_runs.proofs.Ends.{answers_elision, same_answer}
 use Rattle.worker_core.specs.Strands.{PlainStrands, run_of}
 use Rattle.worker_core.specs.Cores.{PlainCore, IsEnd, IsEndOf, is_last, are_over}
-use Rattle.worker_core.specs.Keeps.{AreSoundFor, setting_by, KeepsRun, StaysRun, IsElision, IsGiven, IsEndBy, ComesToEnd}
+use Rattle.numbered_runs.specs.Sound.{AreSoundFor, setting_by}
+use Rattle.worker_core.specs.Keeps.{KeepsRun, StaysRun, IsElision, IsGiven, IsEndBy, ComesToEnd}
 use Rattle.worker_core.proofs.Keeping.{keeps_layers, stays_kept}
 
 -- the values that a strand with one layer has

@@ -4,8 +4,8 @@ use Rattle.std.proofs.lemmas.List.{set_split}
 use Rattle.std.specs.Prelude.{slice_set as set, OnOk, IfErr}
 use Rattle.std.specs.Option.{is_some}
 use Rattle.meaning.specs.Strands.{BookStep}
-use Rattle.numbered_runs.specs.Pieces.{PlainPiece, Change, alone, is_held_by}
-use Rattle.numbered_runs.specs.Runs.{among, changed, is_idle}
+use Rattle.stepped_runs.specs.Pieces.{PlainPiece, Change, alone, is_held_by}
+use Rattle.stepped_runs.specs.Runs.{among, changed, is_idle}
 use Rattle.numbered_runs.specs.declared.refusal.Refusal.{Refusal}
 use Rattle.worker_core.specs.Moves.{RefusedAs}
 use Rattle.worker_core.specs.Strands.{held_from, held_at}

@@ -8,9 +8,9 @@ use Rattle.monoid_laws.specs.declared.Kind.{Kind}
 use Rattle.meaning.specs.Outcome.{Place}
 use Rattle.meaning.specs.Strands.{BookStep, Fold}
 use Rattle.positions.specs.Moves.{FoldsViews}
-use Rattle.numbered_runs.specs.Halves.{IsHalfFolded, AreHalfFolded}
-use Rattle.numbered_runs.specs.Pieces.{PlainPiece, place_of, may_fold, folded}
-use Rattle.numbered_runs.specs.Layered.{HasOneLayer}
+use Rattle.stepped_runs.specs.Halves.{IsHalfFolded, AreHalfFolded}
+use Rattle.stepped_runs.specs.Pieces.{PlainPiece, place_of, may_fold, folded}
+use Rattle.stepped_runs.specs.Layered.{HasOneLayer}
 use Rattle.worker_core.specs.Moves.{IsFit}
 use Rattle.worker_core.specs.Folds.{KeepsProducts, MayFoldAt, IsFoldedAt}
 use Rattle.worker_core.specs.Strands.{layers_of, layers_in}

@@ -6,12 +6,12 @@ use Rattle.meaning.specs.Strands.{State, Held, Ended, Stalled, Faulted, Finished
 use Rattle.linked_program.specs.declared.code.Code.{Code}
 use Rattle.positions.specs.Setting.{Setting}
 use Rattle.positions.specs.declared.phase.Phase.{Phase}
-use Rattle.numbered_runs.specs.Pieces.{PlainPiece}
-use Rattle.numbered_runs.specs.Ends.{answer_at, answer_in}
-use Rattle.numbered_runs.specs.Runs.{PlainRun, first_run}
-use Rattle.numbered_runs.specs.Progress.{AreByWorkers, HasAnswer, HasStep}
-use Rattle.numbered_runs.proofs.Workers.{refused_by}
-use Rattle.numbered_runs.proofs.Progress.{never_stuck}
+use Rattle.stepped_runs.specs.Pieces.{PlainPiece}
+use Rattle.stepped_runs.specs.Ends.{answer_at, answer_in}
+use Rattle.stepped_runs.specs.Runs.{PlainRun, first_run}
+use Rattle.stepped_runs.specs.Progress.{AreByWorkers, HasAnswer, HasStep}
+use Rattle.stepped_runs.proofs.Workers.{refused_by}
+use Rattle.stepped_runs.proofs.Progress.{never_stuck}
 use Rattle.worker_core.specs.Strands.{PlainStrands, run_of}
 use Rattle.worker_core.specs.Folds.{KeepsProducts}
 use Rattle.worker_core.specs.Cores.{PlainCore, setting_in, is_last, are_over}

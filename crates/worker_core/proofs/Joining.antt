@@ -9,9 +9,9 @@ use Rattle.positions.specs.Layers.{PlainLayer}
 use Rattle.positions.specs.Strands.{PlainStrand}
 use Rattle.positions.specs.Moves.{joined_at, joined_after}
 use Rattle.frames.specs.Joins.{IsDone}
-use Rattle.numbered_runs.specs.Pieces.{PlainPiece, may_join_at, may_fold, folded}
-use Rattle.numbered_runs.specs.Stands.{valued}
-use Rattle.numbered_runs.specs.Layered.{HasOneLayer, HasOneLayerAs}
+use Rattle.stepped_runs.specs.Pieces.{PlainPiece, may_join_at, may_fold, folded}
+use Rattle.stepped_runs.specs.Stands.{valued}
+use Rattle.stepped_runs.specs.Layered.{HasOneLayer, HasOneLayerAs}
 use Rattle.worker_core.specs.Moves.{IsFit}
 use Rattle.worker_core.specs.Strands.{layers_of}
 

@@ -7,7 +7,7 @@ use Rattle.meaning.specs.Strands.{replayed}
 use Rattle.meaning.specs.Schedules.{RunState, RunStep, first_state, after_step, recording_from}
 use Rattle.trail_theory.specs.Order.{Every}
 use Rattle.trail_theory.specs.OpenLayers.{IsNumbered}
-use Rattle.run_theory.specs.Theorems.{IsReady}
+use Rattle.strand_theory.specs.Ready.{IsReady}
 use Rattle.linked_program.specs.TableNames.{columned_of}
 use Rattle.linked_program.specs.Checked.{PlainChecked, IsChecked, revised_of}
 use Rattle.input_tables.specs.Edited.{Edited}
@@ -16,25 +16,26 @@ use Rattle.rerun_records.specs.Doubted.{IsInStep}
 use Rattle.rerun_records.specs.Named.{HaveValues}
 use Rattle.frames.specs.Given.{given}
 use Rattle.numbered_runs.specs.Named.{run_step}
-use Rattle.numbered_runs.specs.Runs.{first_run, stepped, are_workers, line_of}
-use Rattle.numbered_runs.specs.Ends.{HistoryGives}
-use Rattle.numbered_runs.specs.Layered.{HasOneLayer}
-use Rattle.numbered_runs.specs.Simulation.{LeadsTo, IsStepOf, IsNoStepOf, IsFirstOf}
+use Rattle.stepped_runs.specs.Runs.{first_run, stepped, are_workers, line_of}
+use Rattle.stepped_runs.specs.Ends.{HistoryGives}
+use Rattle.stepped_runs.specs.Layered.{HasOneLayer}
+use Rattle.stepped_runs.specs.Simulation.{LeadsTo, IsStepOf, IsNoStepOf, IsFirstOf}
 use Rattle.numbered_runs.specs.declared.step.Step.{Step}
 use Rattle.numbered_runs.specs.declared.step.Step.TheVariants as step
 use Rattle.numbered_runs.specs.declared.refusal.Refusal.{Refusal}
 use Rattle.numbered_runs.specs.declared.refusal.Refusal.TheVariants as refusal
 use Rattle.run_theory.specs.UnflaggedRuns.{unflagged_run}
-use Rattle.numbered_runs.proofs.Steps.{steps_agree, refusals_agree, first_agrees}
-use Rattle.numbered_runs.proofs.Halves.{refused_kept}
-use Rattle.numbered_runs.proofs.Layered.{strands_layered}
-use Rattle.numbered_runs.proofs.Ends.{keeps_history}
-use Rattle.numbered_runs.proofs.Workers.{steps_by}
+use Rattle.stepped_runs.proofs.Steps.{steps_agree, refusals_agree, first_agrees}
+use Rattle.stepped_runs.proofs.Halves.{refused_kept}
+use Rattle.stepped_runs.proofs.Layered.{strands_layered}
+use Rattle.stepped_runs.proofs.Ends.{keeps_history}
+use Rattle.stepped_runs.proofs.Workers.{steps_by}
 use Rattle.worker_core.specs.Strands.{PlainStrands, run_of}
 use Rattle.worker_core.specs.Folds.{KeepsProducts}
 use Rattle.worker_core.specs.Cores.{StandsAfter, is_failure}
 use Rattle.worker_core.specs.Going.{AreHeldBy}
-use Rattle.worker_core.specs.Keeps.{AreSoundFor, setting_by, IsOnPath, KeepsRun, StaysRun}
+use Rattle.numbered_runs.specs.Sound.{AreSoundFor, setting_by}
+use Rattle.worker_core.specs.Keeps.{IsOnPath, KeepsRun, StaysRun}
 use Rattle.worker_core.proofs.Going.{held_products}
 
 module _ (program : PlainChecked) (tables : Edited) (records : List PlainRecord) where

@@ -2,7 +2,7 @@
 use Rattle.std.proofs.Common.{arith, ◌≡◌, ℕ, zero, suc, ◌+◌, ◌≤◌, ◌<◌, List, [], ◌∷◌, ◌++◌, length, take, drop, get_or, sym, ap, ◌∙◌}
 use Rattle.std.specs.Prelude.{slice_set as set}
 use Rattle.std.proofs.lemmas.List.{set_split}
-use Rattle.numbered_runs.specs.Pieces.{PlainPiece}
+use Rattle.stepped_runs.specs.Pieces.{PlainPiece}
 use Rattle.worker_core.specs.Strands.{layers_of, layers_in}
 
 pub layers_append : (xs ys : List PlainPiece) → layers_in (xs ++ ys) ≡ layers_in xs + layers_in ys

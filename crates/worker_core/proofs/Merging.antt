@@ -4,8 +4,8 @@ use Rattle.std.specs.Prelude.{OnOk, IfErr}
 use Rattle.std.proofs.lemmas.List.{get_or_default}
 use Rattle.meaning.specs.Outcome.{Place}
 use Rattle.meaning.specs.Strands.{Fold}
-use Rattle.numbered_runs.specs.Pieces.{PlainPiece, place_of, may_fold, folded}
-use Rattle.numbered_runs.specs.Runs.{PlainRun, is_idle, if_idle, folded_if, folded_at}
+use Rattle.stepped_runs.specs.Pieces.{PlainPiece, place_of, may_fold, folded}
+use Rattle.stepped_runs.specs.Runs.{PlainRun, is_idle, if_idle, folded_if, folded_at}
 use Rattle.numbered_runs.specs.declared.refusal.Refusal.{Refusal}
 use Rattle.numbered_runs.specs.declared.refusal.Refusal.TheVariants.{NotThere, NoMemory, Busy}
 use Rattle.worker_core.specs.Moves.{RefusedAs}

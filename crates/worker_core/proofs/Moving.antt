@@ -6,8 +6,8 @@ use Rattle.view_pool.specs.Stock.{Stock}
 use Rattle.meaning.specs.Strands.{BookStep}
 use Rattle.positions.specs.Simulation.{place_of as place_behind}
 use Rattle.positions.specs.Strands.{PlainStrand}
-use Rattle.numbered_runs.specs.Pieces.{PlainPiece}
-use Rattle.numbered_runs.specs.Runs.{line_of}
+use Rattle.stepped_runs.specs.Pieces.{PlainPiece}
+use Rattle.stepped_runs.specs.Runs.{line_of}
 use Rattle.numbered_runs.specs.declared.refusal.Refusal.{Refusal}
 use Rattle.numbered_runs.specs.declared.refusal.Refusal.TheVariants as refusal
 use Rattle.worker_core.specs.declared.piece.Move.{Move}

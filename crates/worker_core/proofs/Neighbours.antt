@@ -3,8 +3,8 @@ use Rattle.std.proofs.Common.{arith, ◌≡◌, ℕ, suc, ◌+◌, ◌<◌, Bool
 use Rattle.meaning.specs.Outcome.{Place}
 use Rattle.meaning.specs.SmallStep.{same_name}
 use Rattle.meaning.specs.Strands.{BookStep}
-use Rattle.numbered_runs.specs.Pieces.{PlainPiece, place_of, may_fold}
-use Rattle.numbered_runs.specs.Runs.{PlainRun, folded_if, folded_at}
+use Rattle.stepped_runs.specs.Pieces.{PlainPiece, place_of, may_fold}
+use Rattle.stepped_runs.specs.Runs.{PlainRun, folded_if, folded_at}
 use Rattle.numbered_runs.specs.declared.refusal.Refusal.{Refusal}
 use Rattle.numbered_runs.specs.declared.refusal.Refusal.TheVariants.{NotThere}
 use Rattle.worker_core.specs.Strands.{behind_from, neighbour_at}

@@ -2,7 +2,7 @@
 use Rattle.std.proofs.Common.{◌≡◌, ℕ, ◌<◌, length, List, [], ◌∷◌, true, subst, sym, arith, refl}
 use Rattle.positions.specs.Activations.{PlainActivation}
 use Rattle.positions.specs.declared.phase.Phase.TheVariants.{AtSpawn}
-use Rattle.numbered_runs.specs.Pieces.{PlainPiece, pushed, pushed_at, pushed_over}
+use Rattle.stepped_runs.specs.Pieces.{PlainPiece, pushed, pushed_at, pushed_over}
 use Rattle.numbered_runs.specs.declared.refusal.Refusal.TheVariants.{NoMemory}
 use Rattle.worker_core.specs.Moves.{RefusedAs}
 

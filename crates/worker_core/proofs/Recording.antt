@@ -20,17 +20,19 @@ use Rattle.positions.specs.Strands.{PlainStrand}
 use Rattle.frames.specs.Answers.{IsAnswer, AreCounts, ending_at}
 use Rattle.frames.specs.declared.answer.RunAnswer.{RunAnswer}
 use Rattle.frames.specs.declared.answer.RunAnswer.TheVariants as answer
-use Rattle.numbered_runs.specs.Pieces.{PlainPiece}
-use Rattle.numbered_runs.specs.Ends.{answer_at, answer_in}
-use Rattle.run_theory.specs.Recorded.{AllRecordedBut}
+use Rattle.stepped_runs.specs.Pieces.{PlainPiece}
+use Rattle.stepped_runs.specs.Ends.{answer_at, answer_in}
+use Rattle.strand_theory.specs.Recorded.{AllRecordedBut}
 use Rattle.numbered_runs.specs.News.{executed_with, HasCounted, HaveNews, StandForKept}
-use Rattle.numbered_runs.specs.Stands.{IsLaidAs, StandForPieces}
-use Rattle.numbered_runs.proofs.News.{run_counted, run_recorded}
-use Rattle.numbered_runs.proofs.Nexts.{put_sound}
+use Rattle.stepped_runs.specs.Stands.{IsLaidAs, StandForPieces}
+use Rattle.stepped_runs.proofs.News.{run_counted, run_recorded}
+use Rattle.stepped_runs.proofs.Nexts.{put_sound}
 use Rattle.worker_core.specs.Strands.{run_of}
 use Rattle.worker_core.specs.Cores.{PlainCore, IsEnd, IsEndOf, made_in, kept_of}
 use Rattle.worker_core.proofs.Ends.{alone_is}
-use Rattle.worker_core.specs.Keeps.{AreSoundFor, HasSound, recalling, KeepsRun, StaysRun, tally_of, HasRecorded, StaySound}
+use Rattle.numbered_runs.specs.Sound.{AreSoundFor}
+use Rattle.worker_core.specs.Keeps.{HasSound, recalling, KeepsRun, StaysRun, HasRecorded, StaySound}
+use Rattle.run_terms.specs.Recorded.{tally_of}
 
 -- a run that has finished, with those counts
 pub record HasFinished (setting : Setting) (ps : List PlainPiece) (executed reused unrecorded : ℕ) : Type 0 where

@@ -8,8 +8,8 @@ use Rattle.positions.specs.declared.phase.Paused.{Paused}
 use Rattle.positions.specs.declared.phase.Paused.TheVariants as paused
 use Rattle.positions.specs.Strands.{PlainTask}
 use Rattle.positions.specs.Advance.{pause_of}
-use Rattle.numbered_runs.specs.Pieces.{PlainPiece, Change, place_of, stalled_at, stalled}
-use Rattle.numbered_runs.specs.Runs.{among, changed}
+use Rattle.stepped_runs.specs.Pieces.{PlainPiece, Change, place_of, stalled_at, stalled}
+use Rattle.stepped_runs.specs.Runs.{among, changed}
 use Rattle.numbered_runs.specs.declared.step.State.{State}
 use Rattle.numbered_runs.specs.declared.step.State.TheVariants as state
 use Rattle.numbered_runs.specs.declared.refusal.Refusal.{Refusal}

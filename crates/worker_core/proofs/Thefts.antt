@@ -11,8 +11,8 @@ use Rattle.meaning.specs.Strands.{Held, Split}
 use Rattle.positions.specs.Setting.{Setting}
 use Rattle.positions.specs.Strands.{PlainStrand, PlainTask}
 use Rattle.positions.specs.Moves.{stolen}
-use Rattle.numbered_runs.specs.Pieces.{PlainPiece, place_of, oldest, robbed, robbed_if, stolen_of, stolen_from}
-use Rattle.numbered_runs.specs.Runs.{PlainRun, among, changed, is_idle, if_idle}
+use Rattle.stepped_runs.specs.Pieces.{PlainPiece, place_of, oldest, robbed, robbed_if, stolen_of, stolen_from}
+use Rattle.stepped_runs.specs.Runs.{PlainRun, among, changed, is_idle, if_idle}
 use Rattle.numbered_runs.specs.declared.refusal.Refusal.{Refusal}
 use Rattle.numbered_runs.specs.declared.refusal.Refusal.TheVariants.{NoMemory, Busy, Nothing, NoKit}
 use Rattle.worker_core.specs.Moves.{IsFit, RefusedAs, has_tasks}

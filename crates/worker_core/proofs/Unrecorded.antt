@@ -40,9 +40,9 @@ use Rattle.positions.specs.Advance.{noted, answered, evaluated, recalled, answer
 use Rattle.positions.specs.Moves.{returned_of, resumed_by, resumed, joined_at, joined_after}
 use Rattle.numbered_runs.specs.declared.refusal.Refusal.{Refusal}
 use Rattle.numbered_runs.specs.declared.refusal.Refusal.TheVariants.{Nothing, NotThere}
-use Rattle.numbered_runs.specs.Pieces as pieces
-use Rattle.numbered_runs.specs.Pieces.{PlainPiece, Change, place_of, is_held_by, pushed_over, pushed_at, inlined_at, popped_of, popped_by, stalled_at, oldest, robbed_if, stolen_of, stolen_from, may_join_at, may_fold, folded, worked_at}
-use Rattle.numbered_runs.specs.Runs.{PlainRun, among, changed, is_idle, if_idle, folded_if, folded_at, stepped}
+use Rattle.stepped_runs.specs.Pieces as pieces
+use Rattle.stepped_runs.specs.Pieces.{PlainPiece, Change, place_of, is_held_by, pushed_over, pushed_at, inlined_at, popped_of, popped_by, stalled_at, oldest, robbed_if, stolen_of, stolen_from, may_join_at, may_fold, folded, worked_at}
+use Rattle.stepped_runs.specs.Runs.{PlainRun, among, changed, is_idle, if_idle, folded_if, folded_at, stepped}
 use Rattle.worker_core.specs.Strands.{PlainStrands, run_of}
 use Rattle.worker_core.specs.Cores.{unrecorded_in, PassesWithoutKit}
 

@@ -10,7 +10,7 @@ use Rattle.positions.specs.declared.phase.Paused.TheVariants as paused
 use Rattle.positions.specs.Strands.{PlainStrand}
 use Rattle.positions.specs.Advance.{advanced, pause_of}
 use Rattle.frames.specs.Steps.{HoldsBy}
-use Rattle.numbered_runs.specs.Pieces.{PlainPiece, alone, worked_at, worked_to, worked}
+use Rattle.stepped_runs.specs.Pieces.{PlainPiece, alone, worked_at, worked_to, worked}
 
 -- how a step is done with those free kits
 abbrev pub DoneWith : List (List Kind) → (Bool → Type 0) → Type 0

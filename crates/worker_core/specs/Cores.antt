@@ -13,14 +13,12 @@ use Rattle.frames.specs.Answers.{Ending, underway, ending_of, IsAnswer}
 use Rattle.frames.specs.declared.answer.RunAnswer.{RunAnswer}
 use Rattle.frames.specs.declared.answer.RunAnswer.TheVariants as answer
 use Rattle.numbered_runs.specs.Named.{run_step}
-use Rattle.numbered_runs.specs.Pieces.{PlainPiece}
-use Rattle.numbered_runs.specs.Runs.{PlainRun, first_run, stepped, are_workers, may_be_tried_again}
+use Rattle.stepped_runs.specs.Pieces.{PlainPiece}
+use Rattle.stepped_runs.specs.Runs.{PlainRun, first_run, stepped, are_workers, may_be_tried_again}
 use Rattle.numbered_runs.specs.declared.step.Step.{Step}
 use Rattle.numbered_runs.specs.declared.step.Step.TheVariants as step
 use Rattle.numbered_runs.specs.declared.refusal.Refusal.{Refusal}
 use Rattle.numbered_runs.specs.declared.refusal.Refusal.TheVariants as refusal
-use Rattle.numbered_runs.specs.declared.refusal.StartError.{StartError}
-use Rattle.numbered_runs.specs.declared.refusal.StartError.TheVariants as start
 use Rattle.worker_core.specs.Strands.{PlainStrands, run_of}
 use Rattle.worker_core.specs.declared.piece.Move.TheVariants.{Work}
 use Rattle.worker_core.specs.Folds.{LeavesFolded, LeavesMoved}
@@ -121,10 +119,6 @@ pub record IsFirstCore (program : PlainChecked) (tables : Edited) (records : Lis
   pub total : core.strands.total ≡ pool.total
   pub workers_are : core.workers ≡ workers
   pub going : core.failed ≡ false
-
-abbrev pub CannotStart : Stock (List Kind) → StartError → Type 0
-CannotStart pool start.NoKit = pool.kits ≡ []
-CannotStart pool start.NoMemory = 0 < length pool.kits
 
 -- one strand is left, and it is laid down as finished or faulted
 abbrev pub is_last : State → Bool

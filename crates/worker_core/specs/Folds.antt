@@ -1,9 +1,9 @@
 -- Two neighbours that become one, and what a step leaves that memory was refused for.
 use Rattle.std.specs.Prelude.{◌≡◌, ◌⊎◌, ℕ, suc, ◌+◌, true, List, [], ◌++◌, ◌∷◌, take, drop, map, length, slice_index_or}
 use Rattle.meaning.specs.Strands.{Fold}
-use Rattle.numbered_runs.specs.Pieces.{PlainPiece, place_of, may_fold, folded}
-use Rattle.numbered_runs.specs.Runs.{PlainRun, line_of}
-use Rattle.numbered_runs.specs.Halves.{AreHalfFolded}
+use Rattle.stepped_runs.specs.Pieces.{PlainPiece, place_of, may_fold, folded}
+use Rattle.stepped_runs.specs.Runs.{PlainRun, line_of}
+use Rattle.stepped_runs.specs.Halves.{AreHalfFolded}
 use Rattle.numbered_runs.specs.declared.refusal.Refusal.{Refusal}
 use Rattle.numbered_runs.specs.declared.refusal.Refusal.TheVariants.{NoMemory}
 use Rattle.worker_core.specs.declared.piece.Move.{Move}

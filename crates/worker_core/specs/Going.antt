@@ -1,6 +1,6 @@
 -- No run is stuck: until it is over one of its workers has a step.
 use Rattle.std.specs.Prelude.{◌≡◌, ℕ, ◌<◌, false}
-use Rattle.numbered_runs.specs.Progress.{AreByWorkers, HasStep}
+use Rattle.stepped_runs.specs.Progress.{AreByWorkers, HasStep}
 use Rattle.worker_core.specs.Strands.{PlainStrands, run_of}
 use Rattle.worker_core.specs.Cores.{PlainCore, is_over, setting_in}
 

@@ -4,23 +4,23 @@ use Rattle.monoid_laws.specs.Kinds.{meaning, IsMonoid}
 use Rattle.program_tree.specs.View.{tree}
 use Rattle.meaning.specs.Elision.{Answer, Finished, Faulted, from_scratch}
 use Rattle.meaning.specs.Schedules.{RunState, end_of}
-use Rattle.linked_program.specs.Checked.{PlainChecked, IsChecked, revised_of}
+use Rattle.linked_program.specs.Checked.{PlainChecked, IsChecked}
 use Rattle.input_tables.specs.Edited.{Edited}
 use Rattle.rerun_records.specs.Record.{PlainRecord}
 use Rattle.rerun_records.specs.Doubted.{IsInStep}
 use Rattle.rerun_records.specs.Named.{HaveValues}
 use Rattle.rerun_records.specs.Commits.{put_records}
-use Rattle.positions.specs.Setting.{Setting, setting_with}
-use Rattle.positions.specs.Tallies.{PlainTally}
+use Rattle.positions.specs.Setting.{Setting}
 use Rattle.positions.specs.Stands.{fault_in}
 use Rattle.frames.specs.declared.answer.RunAnswer.{RunAnswer}
 use Rattle.frames.specs.declared.answer.RunAnswer.TheVariants as answer
 use Rattle.numbered_runs.specs.Named.{run_step}
-use Rattle.numbered_runs.specs.Stands.{StandsForUnflagged}
-use Rattle.numbered_runs.specs.Ends.{HistoryGives}
-use Rattle.numbered_runs.specs.News.{AreSound, HasCounted, HaveNews}
-use Rattle.numbered_runs.specs.Simulation.{IsPrepared, IsReached, IsStepOf, IsNoStepOf, IsFirstOf}
+use Rattle.stepped_runs.specs.Stands.{StandsForUnflagged}
+use Rattle.stepped_runs.specs.Ends.{HistoryGives}
+use Rattle.stepped_runs.specs.Simulation.{IsPrepared, IsReached, IsStepOf, IsNoStepOf, IsFirstOf}
 use Rattle.numbered_runs.specs.declared.step.Step.{Step}
+use Rattle.numbered_runs.specs.Sound.{AreSoundFor, setting_by}
+use Rattle.run_terms.specs.Recorded.{HasRecordedBy}
 use Rattle.worker_core.specs.Strands.{PlainStrands, run_of}
 use Rattle.worker_core.specs.Folds.{KeepsLines}
 use Rattle.worker_core.specs.Cores.{PlainCore, is_open_to}
@@ -31,14 +31,6 @@ pub record IsOnPath (setting : Setting) (s : PlainStrands) : Type 0 where
   pub run : RunState
   pub reached : IsReached setting run
   pub stands : StandsForUnflagged setting (run_of s) run
-
--- records of a program that stand for sound ones
-abbrev pub AreSoundFor : PlainChecked → List PlainRecord → Type 0
-AreSoundFor program records = AreSound (revised_of program) program.tables program.kinds records
-
--- a program on tables, with those sound records by name
-abbrev pub setting_by : (program : PlainChecked) → Edited → (records : List PlainRecord) → AreSoundFor program records → Setting
-setting_by program tables records sound = setting_with program tables.tables sound.kept records
 
 -- the program was checked against the tables, both keep what the theory asks for, and the records are sound and in step with the tables; and whichever sound records they stand for, the run is one of the definitions
 pub record KeepsRun (program : PlainChecked) (tables : Edited) (records : List PlainRecord) (s : PlainStrands) : Type 0 where
@@ -112,16 +104,7 @@ ComesToEnd c given =
 
 -- ---- counts and new records
 
--- those counts, and those new records
-abbrev pub tally_of : ℕ → ℕ → ℕ → List PlainRecord → PlainTally
-tally_of executed reused unrecorded made = record { opened = []; made = made; executed = executed; reused = reused; unrecorded = unrecorded }
-
--- where the run has finished, it has counted the needed instances, whichever sound records its records stand for, and its new records are sound and hold now; else it leaves none
-abbrev pub HasRecordedBy : PlainChecked → Edited → List PlainRecord → RunAnswer → List PlainRecord → Type 0
-HasRecordedBy program tables records (answer.Finished v values n m k) made =
-    (s : AreSoundFor program records) → HasCounted (setting_by program tables records s) (tally_of n m k made) × HaveNews (setting_by program tables records s) (tally_of n m k made)
-HasRecordedBy program tables records _ made = made ≡ []
-
+-- where the run has finished, it has counted the needed instances, and its new records are sound and hold now; else it leaves none
 abbrev pub HasRecorded : PlainCore → RunAnswer → List PlainRecord → Type 0
 HasRecorded c = HasRecordedBy c.program c.tables c.records
 

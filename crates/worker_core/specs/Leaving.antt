@@ -4,8 +4,8 @@ use Rattle.program_tree.specs.View.{tree}
 use Rattle.meaning.specs.Elision.{from_scratch}
 use Rattle.meaning.specs.RestOfRun.{rest_of_run}
 use Rattle.meaning.specs.Schedules.{RunState}
-use Rattle.numbered_runs.specs.Stands.{StandsForUnflagged}
-use Rattle.numbered_runs.specs.Simulation.{IsReached}
+use Rattle.stepped_runs.specs.Stands.{StandsForUnflagged}
+use Rattle.stepped_runs.specs.Simulation.{IsReached}
 use Rattle.worker_core.specs.Strands.{run_of}
 use Rattle.worker_core.specs.Cores.{PlainCore}
 use Rattle.worker_core.specs.Keeps.{HasSound, recalling}

@@ -11,7 +11,7 @@ use Rattle.positions.specs.declared.phase.Paused.TheVariants as paused
 use Rattle.positions.specs.Strands.{PlainTask}
 use Rattle.frames.specs.Joins.{HasFault}
 use Rattle.frames.specs.Steps.{IsValued}
-use Rattle.numbered_runs.specs.Pieces.{PlainPiece, Change, worked, pushed, inlined, popped}
+use Rattle.stepped_runs.specs.Pieces.{PlainPiece, Change, worked, pushed, inlined, popped}
 use Rattle.numbered_runs.specs.declared.refusal.Refusal.{Refusal}
 use Rattle.numbered_runs.specs.declared.refusal.Refusal.TheVariants.{NoMemory}
 use Rattle.numbered_runs.specs.declared.step.State.{State}

@@ -14,8 +14,8 @@ use Rattle.numbered_runs.specs.declared.step.State.{State}
 use Rattle.numbered_runs.specs.declared.step.State.TheVariants as state
 use Rattle.numbered_runs.specs.declared.refusal.Refusal.{Refusal}
 use Rattle.numbered_runs.specs.declared.refusal.Refusal.TheVariants.{NotThere, NoMemory}
-use Rattle.numbered_runs.specs.Pieces.{PlainPiece, place_of, is_held_by, stolen_of}
-use Rattle.numbered_runs.specs.Runs.{PlainRun, among}
+use Rattle.stepped_runs.specs.Pieces.{PlainPiece, place_of, is_held_by, stolen_of}
+use Rattle.stepped_runs.specs.Runs.{PlainRun, among}
 use Rattle.worker_core.specs.Moves.{IsFit, has_tasks, rest_at, rest_noted}
 
 -- the pieces in serial order, the free kits by their kinds, how many kits there are in all, and the history

@@ -3,13 +3,13 @@ ghost use Rattle.std.specs.Prelude.{◌≡◌, ◌⊎◌, true, ◌+◌, ◌<◌
 ghost use Rattle.monoid_laws.specs.Kinds.{IsMonoid};
 ghost use Rattle.meaning.specs.Strands.{done, waits};
 ghost use Rattle.numbered_runs.specs.Named.{named_state};
-ghost use Rattle.numbered_runs.specs.Pieces.{may_join_at, may_fold, folded};
-ghost use Rattle.numbered_runs.specs.Runs.{is_idle, if_idle, folded_at};
+ghost use Rattle.stepped_runs.specs.Pieces.{may_join_at, may_fold, folded};
+ghost use Rattle.stepped_runs.specs.Runs.{is_idle, if_idle, folded_at};
 ghost use Rattle.worker_core.specs.Moves.{RefusedAs};
 ghost use Rattle.positions.specs.Moves.{FoldsViews};
-ghost use Rattle.numbered_runs.specs.Halves.{IsHalfFolded};
+ghost use Rattle.stepped_runs.specs.Halves.{IsHalfFolded};
 ghost use Rattle.worker_core.specs.Folds.{KeepsProducts, LeavesFolded, MayFoldAt, IsFoldedAt};
-ghost use Rattle.numbered_runs.specs.Layered.{HasOneLayer};
+ghost use Rattle.stepped_runs.specs.Layered.{HasOneLayer};
 ghost use Rattle.worker_core.specs.Strands.{neighbour_at, run_of, kits_in, AreFit};
 
 use crate::ending::give_back;

@@ -6,8 +6,8 @@ ghost use Rattle.input_tables.specs.Edited.{Edited};
 ghost use Rattle.frames.specs.Given.{given};
 ghost use Rattle.positions.specs.Advance.{pause_of};
 ghost use Rattle.numbered_runs.specs.Named.{named_state, book_step};
-ghost use Rattle.numbered_runs.specs.Pieces.{PlainPiece, stalled};
-ghost use Rattle.numbered_runs.specs.Runs.{changed};
+ghost use Rattle.stepped_runs.specs.Pieces.{PlainPiece, stalled};
+ghost use Rattle.stepped_runs.specs.Runs.{changed};
 ghost use Rattle.worker_core.specs.Moves.{RefusedAs, MayRest, rest_at, rest_noted};
 ghost use Rattle.worker_core.specs.Strands.{run_of, kits_in, AreFit, rested, freed, layers_of, IsLaidDown, IsLaid, IsLayingRefused};
 

@@ -4,8 +4,8 @@ ghost use Rattle.monoid_laws.specs.Kinds.{IsMonoid};
 ghost use Rattle.rerun_records.specs.Named.{HaveValues};
 ghost use Rattle.frames.specs.Given.{lent};
 ghost use Rattle.numbered_runs.specs.Named.{named_state, line};
-ghost use Rattle.numbered_runs.specs.Runs.{line_of};
-ghost use Rattle.numbered_runs.specs.Pieces.{worked, pushed, inlined, popped, alone, place_of, is_held_by};
+ghost use Rattle.stepped_runs.specs.Runs.{line_of};
+ghost use Rattle.stepped_runs.specs.Pieces.{worked, pushed, inlined, popped, alone, place_of, is_held_by};
 ghost use Rattle.worker_core.specs.Moves.{moved, takes_memory, RefusedAs, LeavesPiece, LeavesPool};
 ghost use Rattle.worker_core.specs.Strands.{layers_of};
 
@@ -39,7 +39,7 @@ pub struct Piece<V: View = Box<dyn View>> {
 
 impl<V: View> Model for Piece<V> {
     ghost use Rattle.std.specs.Prelude.{reverse};
-    ghost use Rattle.numbered_runs.specs.Pieces.{PlainPiece};
+    ghost use Rattle.stepped_runs.specs.Pieces.{PlainPiece};
     ghost use Rattle.numbered_runs.specs.Named.{named_state};
 
     ghost Value = { PlainPiece };

@@ -1,7 +1,7 @@
 // A run by steps.
 ghost use Rattle.std.specs.Prelude.{◌≡◌, ◌⊎◌, true, false, List, All, Ok, IfOk, IfErr, OnOk, map, length};
 ghost use Rattle.numbered_runs.specs.Named.{run_step, book_step, line};
-ghost use Rattle.numbered_runs.specs.Runs.{are_workers, line_of};
+ghost use Rattle.stepped_runs.specs.Runs.{are_workers, line_of};
 ghost use Rattle.worker_core.specs.Moves.{RefusedAs};
 ghost use Rattle.worker_core.specs.Strands.{run_of, kits_in};
 ghost use Rattle.monoid_laws.specs.Kinds.{IsMonoid};
@@ -9,15 +9,17 @@ ghost use Rattle.meaning.specs.Records.{Kept, IsSound};
 ghost use Rattle.meaning.specs.Schedules.{recording_from};
 ghost use Rattle.trail_theory.specs.Order.{Every};
 ghost use Rattle.trail_theory.specs.OpenLayers.{IsNumbered};
-ghost use Rattle.run_theory.specs.Theorems.{IsReady};
+ghost use Rattle.strand_theory.specs.Ready.{IsReady};
 ghost use Rattle.rerun_records.specs.Doubted.{IsInStep};
 ghost use Rattle.rerun_records.specs.Named.{HaveValues};
 ghost use Rattle.linked_program.specs.Checked.{IsChecked, revised_of};
 ghost use Rattle.linked_program.specs.TableNames.{columned_of};
 ghost use Rattle.worker_core.specs.Going.{GoesOn};
 ghost use Rattle.worker_core.specs.Leaving.{LeavesElision};
-ghost use Rattle.worker_core.specs.Keeps.{AreSoundFor, IsBeginning, IsStep, IsNoStep, IsLegal, AnswersElision, IsGiven, ComesToEnd, HasRecorded, StaySound};
-ghost use Rattle.worker_core.specs.Cores.{IsFirstCore, CannotStart, is_failure, takes_memory, stepped_on, taken, failed_by, StandsAfter, IsEnd, is_over, PassesWithoutKit};
+ghost use Rattle.numbered_runs.specs.Sound.{AreSoundFor};
+ghost use Rattle.worker_core.specs.Keeps.{IsBeginning, IsStep, IsNoStep, IsLegal, AnswersElision, IsGiven, ComesToEnd, HasRecorded, StaySound};
+ghost use Rattle.worker_core.specs.Cores.{IsFirstCore, is_failure, takes_memory, stepped_on, taken, failed_by, StandsAfter, IsEnd, is_over, PassesWithoutKit};
+ghost use Rattle.run_terms.specs.Starts.{CannotStart};
 
 use crate::strands::Strands;
 use frames::answer::RunAnswer;

@@ -4,8 +4,8 @@ ghost use Rattle.meaning.specs.Strands.{Split};
 ghost use Rattle.rerun_records.specs.Record.{PlainRecord};
 ghost use Rattle.input_tables.specs.Edited.{Edited};
 ghost use Rattle.frames.specs.Given.{given};
-ghost use Rattle.numbered_runs.specs.Pieces.{place_of as begins_at, stolen_of, stolen_from};
-ghost use Rattle.numbered_runs.specs.Runs.{changed, is_idle, if_idle};
+ghost use Rattle.stepped_runs.specs.Pieces.{place_of as begins_at, stolen_of, stolen_from};
+ghost use Rattle.stepped_runs.specs.Runs.{changed, is_idle, if_idle};
 ghost use Rattle.worker_core.specs.Moves.{IsFit, RefusedAs, has_tasks};
 ghost use Rattle.worker_core.specs.Strands.{run_of, kits_in, AreFit, MayRob, IsRobbed};
 

@@ -4,7 +4,8 @@ ghost use Rattle.linked_program.specs.TableNames.{columned_of};
 ghost use Rattle.rerun_records.specs.Commits.{put_records};
 ghost use Rattle.rerun_records.specs.Doubted.{IsInStep, ReadNow};
 ghost use Rattle.rerun_records.specs.Named.{HaveValues};
-ghost use Rattle.worker_core.specs.Keeps.{AreSoundFor, HasRecorded, StaySound};
+ghost use Rattle.numbered_runs.specs.Sound.{AreSoundFor};
+ghost use Rattle.worker_core.specs.Keeps.{HasRecorded, StaySound};
 ghost use Rattle.reuse_planner.specs.Driven.{IsSameRun};
 ghost use Rattle.meaning.specs.Tables.{Tables as PlainTables};
 

@@ -2,7 +2,7 @@ use Rattle.std.proofs.Common.{◌≡◌, ℕ, List, Option, Some, IfSome, refl, 
 use Rattle.std.proofs.lemmas.Result.{err_from_is_err_and}
 use Rattle.std.specs.Io.KnownBytes.{Appends}
 use Rattle.program_endings.specs.Written.{HasBeginning}
-use Rattle.cli.proofs.Answering.{first_written}
+use Rattle.script_session.proofs.Answering.{first_written}
 use Rattle.cli.proofs.Opening.{unmade_unopened, late_unopened, late_read}
 use Rattle.cli.proofs.program.report_on.Goals as goal
 

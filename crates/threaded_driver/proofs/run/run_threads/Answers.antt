@@ -1,5 +1,5 @@
 use Rattle.std.proofs.Common.{[]}
-use Rattle.reuse_planner.specs.Sessions.{stock_of}
+use Rattle.kept_session.specs.Sessions.{stock_of}
 use Rattle.threaded_driver.proofs.Settling.{leaves_whatever_kits}
 use Rattle.threaded_driver.proofs.run.run_threads.Goals as goal
 

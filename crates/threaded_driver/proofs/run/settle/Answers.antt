@@ -1,5 +1,5 @@
-use Rattle.reuse_planner.proofs.Keeping.{news_of}
-use Rattle.reuse_planner.proofs.Outcomes.{leaves_records}
+use Rattle.session_runs.proofs.Outcomes.{news_of}
+use Rattle.session_runs.proofs.Outcomes.{leaves_records}
 use Rattle.threaded_driver.proofs.Settling.{recorded_by, quiet_whatever_kits}
 use Rattle.threaded_driver.proofs.run.settle.Goals as goal
 

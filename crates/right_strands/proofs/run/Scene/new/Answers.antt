@@ -2,7 +2,7 @@ use Rattle.std.proofs.Common.{All, subst}
 use Rattle.meaning.specs.Schedules.{recording_from}
 use Rattle.monoid_laws.specs.Kinds.{IsMonoid}
 use Rattle.trail_theory.specs.OpenLayers.{IsNumbered}
-use Rattle.run_theory.specs.Theorems.{IsReady}
+use Rattle.strand_theory.specs.Ready.{IsReady}
 use Rattle.positions.specs.Setting.{Setting}
 use Rattle.right_strands.specs.Remembering.{Remembers}
 use Rattle.right_strands.proofs.run.Scene.new.Goals as goal

@@ -3,9 +3,9 @@ use Rattle.linked_program.specs.Checked.{PlainChecked}
 use Rattle.input_tables.specs.Edited.{Edited}
 use Rattle.rerun_records.specs.Record.{PlainRecord}
 use Rattle.worker_core.specs.Cores.{IsFirstCore}
-use Rattle.worker_core.specs.Keeps.{HasRecordedBy}
-use Rattle.reuse_planner.proofs.Doubts.{made_read_now}
-use Rattle.reuse_planner.proofs.Keeping.{news_of}
+use Rattle.run_terms.specs.Recorded.{HasRecordedBy}
+use Rattle.kept_session.proofs.Doubts.{made_read_now}
+use Rattle.session_runs.proofs.Outcomes.{news_of}
 use Rattle.session_tests.proofs.tests.anew.run.Goals as goal
 
 pub returns-clause-read_now : goal.returns-clause-read_now

@@ -1,5 +1,5 @@
 use Rattle.std.proofs.Common.{ap, ◌∙◌}
-use Rattle.numbered_runs.specs.Pieces.{PlainPiece}
+use Rattle.stepped_runs.specs.Pieces.{PlainPiece}
 use Rattle.worker_core.proofs.Working.{all_home}
 use Rattle.worker_core.proofs.piece.Piece.end.Goals as goal
 

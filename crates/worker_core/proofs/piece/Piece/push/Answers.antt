@@ -1,5 +1,5 @@
 use Rattle.std.proofs.Common.{ℕ, sym, subst, true}
-use Rattle.numbered_runs.specs.Pieces.{PlainPiece, pushed}
+use Rattle.stepped_runs.specs.Pieces.{PlainPiece, pushed}
 use Rattle.numbered_runs.specs.declared.refusal.Refusal.TheVariants.{NoMemory}
 use Rattle.worker_core.specs.Moves.{RefusedAs}
 use Rattle.worker_core.proofs.Pushes.{push_lacks}

@@ -6,7 +6,7 @@ use Rattle.meaning.specs.Strands.{Split}
 use Rattle.frames.specs.Given.{given}
 use Rattle.positions.specs.Moves.{stolen}
 use Rattle.numbered_runs.specs.Named.{named_state}
-use Rattle.numbered_runs.specs.Pieces.{PlainPiece, place_of, stolen_of}
+use Rattle.stepped_runs.specs.Pieces.{PlainPiece, place_of, stolen_of}
 use Rattle.worker_core.proofs.Thefts.{robs}
 use Rattle.worker_core.proofs.piece.Piece.rob.Goals as goal
 

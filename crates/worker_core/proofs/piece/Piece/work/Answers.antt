@@ -3,7 +3,7 @@ use Rattle.numbered_runs.specs.declared.refusal.Refusal.{Refusal}
 use Rattle.std.specs.Prelude.{reverse}
 use Rattle.frames.specs.Given.{lent}
 use Rattle.numbered_runs.specs.Named.{named_state}
-use Rattle.numbered_runs.specs.Pieces.{PlainPiece, alone, worked}
+use Rattle.stepped_runs.specs.Pieces.{PlainPiece, alone, worked}
 use Rattle.worker_core.proofs.Working.{work_taken, all_given}
 use Rattle.worker_core.proofs.piece.Piece.work.Goals.{in-Err, in-Ok}
 use Rattle.worker_core.proofs.piece.Piece.work.Goals as goal

@@ -1,6 +1,6 @@
 use Rattle.std.proofs.Common.{◌≡◌, true, false, sym, ap, subst, ◌∙◌}
 use Rattle.numbered_runs.specs.Named.{run_step}
-use Rattle.numbered_runs.specs.Runs.{are_workers}
+use Rattle.stepped_runs.specs.Runs.{are_workers}
 use Rattle.worker_core.specs.Cores.{PlainCore}
 use Rattle.worker_core.specs.Keeps.{StaysRun}
 use Rattle.worker_core.proofs.Keeping.{keeps_layers, stays_kept, stays_taken, stays_refused}

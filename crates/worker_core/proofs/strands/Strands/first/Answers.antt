@@ -1,8 +1,9 @@
 use Rattle.std.proofs.Common.{◌≡◌, All, [], ◌∷◌, ◌++◌, sym, ap, subst, ◌∙◌}
 use Rattle.positions.specs.Strands.{PlainStrand}
-use Rattle.numbered_runs.specs.Pieces.{PlainPiece}
+use Rattle.stepped_runs.specs.Pieces.{PlainPiece}
 use Rattle.worker_core.specs.Moves.{IsFit}
-use Rattle.worker_core.proofs.Shares.{taken_kit, left_kits, one_fit}
+use Rattle.run_terms.proofs.Kits.{taken_kit, left_kits}
+use Rattle.worker_core.proofs.Shares.{one_fit}
 use Rattle.worker_core.proofs.strands.Strands.first.Goals as goal
 
 pub returns-in-Ok-clause-fit : goal.returns-in-Ok-clause-fit

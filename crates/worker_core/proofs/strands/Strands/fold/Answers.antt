@@ -1,6 +1,6 @@
 use Rattle.std.proofs.Common.{rules, arith, ◌≡◌, ◌+◌, ◌<◌, true, false, Some, Ok, OnOk, IfErr, length, map, sym, ap, subst, ◌∙◌}
 use Rattle.numbered_runs.specs.Named.{book_step}
-use Rattle.numbered_runs.specs.Runs.{is_idle}
+use Rattle.stepped_runs.specs.Runs.{is_idle}
 use Rattle.numbered_runs.specs.declared.refusal.Refusal.TheVariants.{NotThere, Busy}
 use Rattle.worker_core.specs.Moves.{RefusedAs}
 use Rattle.worker_core.specs.Folds.{MayFoldAt, IsFoldedAt}

@@ -4,7 +4,7 @@ use Rattle.meaning.specs.Strands.{Fold}
 use Rattle.numbered_runs.specs.Named.{book_step}
 use Rattle.numbered_runs.specs.declared.step.BookStep.TheVariants as book
 use Rattle.worker_core.specs.Folds.{KeepsProducts, MayFoldAt, IsFoldedAt}
-use Rattle.numbered_runs.specs.Layered.{HasOneLayer}
+use Rattle.stepped_runs.specs.Layered.{HasOneLayer}
 use Rattle.worker_core.specs.Strands.{PlainStrands, run_of, kits_in, layers_in, AreFit}
 use Rattle.worker_core.proofs.Folded.{folds_at, folds_fit, home_fits, halves_keep, halves_fit, folds_layers, halves_layers, some_layers, right_bare}
 use Rattle.worker_core.proofs.strands.Strands.fold_at.Goals as goal

@@ -5,7 +5,7 @@ use Rattle.std.proofs.lemmas.List.{get_or_default, map_push}
 use Rattle.meaning.specs.Strands.{Split}
 use Rattle.frames.specs.Given.{given}
 use Rattle.numbered_runs.specs.Named.{book_step}
-use Rattle.numbered_runs.specs.Pieces.{place_of}
+use Rattle.stepped_runs.specs.Pieces.{place_of}
 use Rattle.worker_core.specs.Moves.{IsFit}
 use Rattle.worker_core.specs.Strands.{PlainStrands, kits_in, layers_in}
 use Rattle.worker_core.proofs.Thefts.{parted_taken, parted_fit, parted_layers}

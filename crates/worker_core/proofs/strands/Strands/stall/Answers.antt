@@ -2,8 +2,8 @@ use Rattle.std.proofs.Common.{List, ◌≡◌, ◌<◌, true, [], Some, None, le
 use Rattle.input_tables.specs.Edited.{Edited}
 use Rattle.rerun_records.specs.Record.{PlainRecord}
 use Rattle.frames.specs.Given.{given}
-use Rattle.numbered_runs.specs.Pieces.{stalled}
-use Rattle.numbered_runs.specs.Runs.{changed}
+use Rattle.stepped_runs.specs.Pieces.{stalled}
+use Rattle.stepped_runs.specs.Runs.{changed}
 use Rattle.numbered_runs.specs.declared.refusal.Refusal.TheVariants.{NotThere}
 use Rattle.worker_core.specs.Moves.{RefusedAs}
 use Rattle.worker_core.specs.Strands.{PlainStrands, held_at}

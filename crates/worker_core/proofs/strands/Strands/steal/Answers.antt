@@ -4,13 +4,13 @@ use Rattle.input_tables.specs.Edited.{Edited}
 use Rattle.rerun_records.specs.Record.{PlainRecord}
 use Rattle.frames.specs.Given.{given}
 use Rattle.numbered_runs.specs.Named.{book_step}
-use Rattle.numbered_runs.specs.Pieces.{stolen_from}
-use Rattle.numbered_runs.specs.Runs.{changed, is_idle, if_idle}
+use Rattle.stepped_runs.specs.Pieces.{stolen_from}
+use Rattle.stepped_runs.specs.Runs.{changed, is_idle, if_idle}
 use Rattle.numbered_runs.specs.declared.refusal.Refusal.TheVariants.{Nothing}
 use Rattle.worker_core.specs.Moves.{IsFit, has_tasks}
 use Rattle.worker_core.specs.Strands.{PlainStrands, run_of, held_at}
 use Rattle.worker_core.proofs.Finding.{held_within, none_held}
-use Rattle.worker_core.proofs.Shares.{taken_kit, left_kits}
+use Rattle.run_terms.proofs.Kits.{taken_kit, left_kits}
 use Rattle.worker_core.proofs.Thefts.{theft_busy, theft_alone, theft_nothing, theft_bare, theft_lacks, theft_taken}
 use Rattle.worker_core.proofs.strands.Strands.steal.Goals as goal
 

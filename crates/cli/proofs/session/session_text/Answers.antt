@@ -1,7 +1,0 @@
-use Rattle.cli.specs.Answers.{answers_of}
-use Rattle.program_endings.proofs.Written.{nothing_written}
-use Rattle.cli.proofs.session.session_text.Goals as goal
-
-pub returns-in_err-script-clause-beginning : goal.returns-in_err-script-clause-beginning
-returns-in_err-script-clause-beginning g c =
-    nothing_written (g.R.Read.remaining c.args.reader.now) (g.W.Write.contents c.args.writer.now) (answers_of c.args.session)

@@ -1,0 +1,43 @@
+-- What a session keeps of its records doesn't go by what is in doubt of them, and they stay in step with its tables.
+use Rattle.std.proofs.Common.{◌≡◌, true, List, [], ◌∷◌, map, Result, Ok, Err, OnOk, OnErr, refl, sym, ap, subst}
+use Rattle.meaning.specs.Every.{every}
+use Rattle.meaning.specs.Tables.{Tables}
+use Rattle.meaning.specs.Records.{Revised, Kept, holds_now}
+use Rattle.trail_theory.specs.Order.{Every}
+use Rattle.trail_theory.specs.OpenLayers.{IsNewRecord}
+use Rattle.linked_program.specs.TableNames.{columned_of}
+use Rattle.linked_program.specs.Checked.{PlainChecked, revised_of}
+use Rattle.input_tables.specs.Edited.{Edited}
+use Rattle.rerun_records.specs.Record.{PlainRecord, settled}
+use Rattle.rerun_records.specs.Doubted.{IsInStep, ReadNow}
+use Rattle.rerun_records.specs.Named.{AreKept}
+use Rattle.rerun_records.proofs.Members.{both}
+use Rattle.rerun_records.proofs.Lookups.{same_but_doubts, agree_now}
+use Rattle.kept_session.specs.Sessions.{AreKeptFor, AreNewFor}
+
+pub twice : (rs : List PlainRecord) → map settled (map settled rs) ≡ map settled rs
+twice [] = refl
+twice (r ∷ rs) = ap (λ xs. settled r ∷ xs) (twice rs)
+
+pub stand_so : (program : PlainChecked) (ks : List Kept) (rs ss : List PlainRecord) → map settled ss ≡ map settled rs → AreKept program ks rs → AreKept program ks ss
+stand_so program ks rs ss e h = same_but_doubts (revised_of program) program.tables program.kinds ks rs ss e h
+
+pub kept_so : (program : PlainChecked) (rs ss : List PlainRecord) → map settled ss ≡ map settled rs → AreKeptFor program rs → AreKeptFor program ss
+kept_so program rs ss e k = record {
+  sound = record { kept = k.sound.kept; stand = stand_so program k.sound.kept rs ss e k.sound.stand; sound = k.sound.sound };
+  there = k.there;
+}
+
+news_hold : (program : Revised) (tables : Tables) (ks : List Kept) → Every (IsNewRecord program tables) ks → every (holds_now program tables) ks ≡ true
+news_hold program tables [] h = refl
+news_hold program tables (k ∷ ks) h = both (holds_now program tables k) (every (holds_now program tables) ks) h.0.now (news_hold program tables ks h.1)
+
+-- what new records have read, the tables hold
+pub made_read_now : (program : PlainChecked) (tables : Edited) (made : List PlainRecord) → program.tables ≡ columned_of tables.tables → AreNewFor program tables made → ReadNow tables.tables made
+made_read_now program tables made columns n =
+    agree_now (revised_of program) program.tables program.kinds tables.tables (sym columns) n.kept made n.stand (news_hold (revised_of program) tables.tables n.kept n.news)
+
+-- whether memory was refused or not
+pub stay_in_step : {E : Type 0} (given : Result Unit E) (tables : Tables) (old new : List PlainRecord) → OnOk given (IsInStep tables new) → OnErr given (new ≡ old) → IsInStep tables old → IsInStep tables new
+stay_in_step (Ok u) tables old new step same h = step
+stay_in_step (Err e) tables old new step same h = subst (IsInStep tables) (sym same) h

@@ -1,0 +1,3 @@
+pub mod Doubts
+pub mod Keeping
+pub mod Refusals

@@ -1,0 +1,9 @@
+//! Sessions: a program with its tables, its kits and the records that runs leave, and edits of them.
+#![tactic(auto)]
+
+mod applying;
+mod refusal;
+mod session;
+
+pub use refusal::ApplyError;
+pub use session::Session;

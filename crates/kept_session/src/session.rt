@@ -1,0 +1,196 @@
+// A session: a checked program, its tables, its pool of kits, and the records that its runs have left.
+ghost use Rattle.std.specs.Prelude.{◌≡◌, ◌<◌, [], true, false, All, Ok, length, map, IfOk, IfErr, OnOk, OnErr};
+ghost use Rattle.linked_program.specs.TableNames.{columned_of};
+ghost use Rattle.rerun_records.specs.Record.{settled};
+ghost use Rattle.rerun_records.specs.Doubted.{IsInStep};
+ghost use Rattle.rerun_records.specs.Commits.{put_records};
+ghost use Rattle.rerun_records.specs.Named.{HaveValues};
+ghost use Rattle.numbered_runs.specs.Sound.{AreSoundFor};
+ghost use Rattle.session_edits.specs.Said.{said};
+ghost use Rattle.kept_session.specs.Sessions.{AreNewFor, begun, stock_of, standing_of};
+ghost use Rattle.kept_session.specs.Applied.{edited, IsApplyCause};
+
+use crate::refusal::ApplyError;
+use input_tables::Tables;
+use linked_program::checked::Checked;
+use numbered_runs::refusal::StartError;
+use rerun_records::record::Record;
+use rerun_records::records::Records;
+use numbered_runs::records::no_records;
+use session_edits::Edit;
+use std::alloc::{AllocError, Global};
+use std::marker::Model;
+use std::mem;
+use view_pool::{Kit, Pool, View};
+
+/// A checked program with its tables, its kits and its records, which edits and runs change.
+#[derive(Drop)]
+pub struct Session<V: View = Box<dyn View>> {
+    pub(crate) checked: Checked,
+    pub(crate) tables: Tables,
+    pub(crate) kits: Pool<Kit<V>>,
+    pub(crate) records: Records,
+    pub(crate) inlined: usize,
+}
+
+impl<V: View> Model for Session<V> {
+    ghost use Rattle.kept_session.specs.Sessions.{PlainSession, KeepsSession};
+    ghost use Rattle.linked_program.specs.contracts.code.Expression as e;
+    ghost use Rattle.program_tree.specs.contracts.Expr as t;
+    ghost use Rattle.std.specs.Coded.{codes};
+
+    ghost Value = { PlainSession };
+
+    ghost coded = { Prim.hlevel (codes, e.the_row.coded, t.the_row.coded) };
+
+    ghost view = { λ s. record { checked = s.checked; tables = s.tables; kits = s.kits; records = s.records; inlined = s.inlined } };
+
+    ghost invariant = { λ s. KeepsSession (record { checked = s.checked; tables = s.tables; kits = s.kits; records = s.records; inlined = s.inlined }) };
+}
+
+impl<V: View> Session<V> {
+    /// The session of a program, its tables and these kits, all free, without records. Refused where there are no kits.
+    pub fn new(
+        alloc: Global,
+        checked: Checked,
+        tables: Tables,
+        kits: Vec<Kit<V>>,
+    ) -> Result<Session<V>, StartError>
+        requires kinds { All (λ k. k ≡ checked.kinds) kits.items }
+        requires columns { checked.tables ≡ columned_of tables.tables }
+        ensures begun { IfOk result (λ session. session ≡ begun checked tables kits.items) }
+        ensures some { OnOk result (0 < length kits.items) }
+        ensures no_kit { IfErr result (λ e. e ≡ StartError.NoKit) }
+        ensures none { OnErr result (kits.items ≡ []) }
+    {
+        if kits.is_empty() {
+            return Err(StartError::NoKit);
+        }
+        let records = no_records(alloc, &checked);
+        Ok(Session {
+            checked,
+            tables,
+            kits: Pool::new(kits),
+            records,
+            inlined: 0,
+        })
+    }
+
+    /// Edits the tables or the program, as the definitions have it. A refused edit changes nothing, and no edit changes the
+    /// records, each of which stays sound, but for what is in doubt of them.
+    pub fn apply(&mut self, alloc: Global, edit: &Edit<'_>) -> Result<(), ApplyError>
+        ensures applied { OnOk result
+            (edited (standing_of self.old) (said edit.now) ≡ Ok (standing_of self.new)) }
+        ensures refused { IfErr result
+            (IsApplyCause (said edit.now) (edited (standing_of self.old) (said edit.now))) }
+        ensures same { OnErr result (self.new ≡ self.old) }
+        ensures rest { self.new
+            ≡ record self.old { checked = self.new.checked; tables = self.new.tables; records = self.new.records } }
+        ensures records { map settled self.new.records ≡ map settled self.old.records }
+    {
+        match edit {
+            Edit::Put { table, row, values } => self.put(alloc, table, *row, values),
+            Edit::Delete { table, row } => self.delete(table, *row),
+            Edit::Define(text) => self.define(alloc, text),
+        }
+    }
+
+    /// Lends the program.
+    pub fn checked(&self) -> &Checked
+        ensures checked { result.now ≡ self.now.checked }
+    {
+        &self.checked
+    }
+
+    /// Lends the tables.
+    pub fn tables(&self) -> &Tables
+        ensures tables { result.now ≡ self.now.tables }
+    {
+        &self.tables
+    }
+
+    /// Lends the records.
+    pub fn records(&self) -> &Records
+        ensures records { result.now ≡ self.now.records }
+    {
+        &self.records
+    }
+
+    /// How many kits are free, and how many there are.
+    pub fn kits(&self) -> (usize, usize)
+        ensures free { result.0 ≡ length self.now.kits.kits }
+        ensures total { result.1 ≡ self.now.kits.total }
+    {
+        (self.kits.free(), self.kits.total())
+    }
+
+    /// Whether no kit is free.
+    pub fn has_no_kit(&self) -> bool
+        ensures none { result ≡ true → self.now.kits.kits ≡ [] }
+        ensures some { result ≡ false → 0 < length self.now.kits.kits }
+    {
+        self.kits.free() == 0
+    }
+
+    /// How many pushes of the last run by steps were done as inlines, since memory was refused.
+    pub fn last_inlined(&self) -> usize
+        ensures inlined { result ≡ self.now.inlined }
+    {
+        self.inlined
+    }
+
+    /// Notes how many pushes of a run by steps were done as inlines, and changes nothing else.
+    pub fn note_inlined(&mut self, inlined: usize)
+        ensures noted { self.new ≡ record self.old { inlined = inlined } }
+    {
+        self.inlined = inlined;
+    }
+
+    /// What the type keeps: the tables have the names that the program was checked against, the kits are of its reducers' kinds,
+    /// and the records are sound for it and in step with the tables.
+    pub fn kept(&self)
+        ensures sound { AreSoundFor self.now.checked self.now.records }
+        ensures values { HaveValues self.now.checked.kinds self.now.records }
+        ensures columns { self.now.checked.tables ≡ columned_of self.now.tables.tables }
+        ensures kinds { All (λ k. k ≡ self.now.checked.kinds) self.now.kits.kits }
+        ensures in_step { IsInStep self.now.tables.tables self.now.records }
+    {
+        let _ = &self.checked;
+    }
+
+    /// Takes the whole pool out, and leaves one of no kits.
+    pub fn take_pool(&mut self, alloc: Global) -> Pool<Kit<V>>
+        ensures whole { result ≡ self.old.kits }
+        ensures left { self.new ≡ record self.old { kits = stock_of [] } }
+    {
+        mem::replace(&mut self.kits, Pool::new(Vec::new(alloc)))
+    }
+
+    /// Puts a pool in the place of the one that is there, and changes nothing else.
+    pub fn put_back(&mut self, pool: Pool<Kit<V>>)
+        requires kinds { All (λ k. k ≡ self.old.checked.kinds) pool.kits }
+        ensures put { self.new ≡ record self.old { kits = pool } }
+    {
+        self.kits = pool;
+    }
+
+    /// Puts a pool in the place of the one that is there, and then a run's new records among the others, all or none: where
+    /// memory is refused the records are as they were.
+    pub fn settle(&mut self, pool: Pool<Kit<V>>, made: Vec<Record>) -> Result<(), AllocError>
+        requires kinds { All (λ k. k ≡ self.old.checked.kinds) pool.kits }
+        requires new { AreNewFor self.old.checked self.old.tables made.items }
+        requires values { HaveValues self.old.checked.kinds made.items }
+        ensures settled { OnOk result (self.new
+            ≡ record self.old { kits = pool; records = self.new.records }) }
+        ensures records { OnOk result (map settled self.new.records
+            ≡ put_records (map settled self.old.records) made.items) }
+        ensures refused { OnErr result (self.new ≡ record self.old { kits = pool }) }
+    {
+        // What the program's type keeps.
+        self.checked.clean();
+        self.checked.linked();
+        self.checked.revised();
+        self.kits = pool;
+        self.records.commit(made, &self.tables, &self.checked)
+    }
+}

@@ -1,5 +1,0 @@
-use Rattle.numbered_runs.proofs.Progress.{never_stuck}
-use Rattle.numbered_runs.proofs.laws.some_step_is_there.Goals as goal
-
-pub returns : goal.returns
-returns c = record { there = never_stuck }

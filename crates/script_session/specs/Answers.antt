@@ -1,0 +1,50 @@
+-- The text of the answers to a script.
+use Rattle.std.specs.Prelude.{ℕ, true, List}
+use Rattle.meaning.specs.Tables.{Tables}
+use Rattle.meaning.specs.Statements.{reducers}
+use Rattle.meaning.specs.Elision.{from_scratch}
+use Rattle.meaning.specs.Edits.{Standing, Edit, after_edit}
+use Rattle.meaning.specs.Script.{Command}
+use Rattle.meaning.specs.Text as text
+use Rattle.meaning.specs.Text.{run_text}
+use Rattle.linked_program.specs.Checked.{PlainChecked}
+use Rattle.input_tables.specs.Edited.{Edited}
+use Rattle.checked_defines.specs.Readers.{reads_text, checks_rules}
+use Rattle.checked_defines.specs.Standings.{standing}
+use Rattle.kept_session.specs.Sessions.{PlainSession, standing_of}
+
+-- the answer to a command, after so many runs
+abbrev pub answer_text : Standing → ℕ → Command → List ℕ
+answer_text = text.answer_text reads_text checks_rules
+
+-- what a command leaves
+abbrev pub standing_after : Standing → Command → Standing
+standing_after = text.standing_after reads_text checks_rules
+
+-- what an edit leaves: a refused one changes nothing
+abbrev pub left_by_edit : Standing → Edit → Standing
+left_by_edit = after_edit reads_text checks_rules
+
+-- the answer to a run of that number
+abbrev pub run_answer : Standing → ℕ → List ℕ
+run_answer s n = run_text n (reducers s.program.tree) (from_scratch s.program.tree s.tables)
+
+-- the answers to commands, after so many runs
+abbrev pub answers_from : Standing → ℕ → List Command → List ℕ
+answers_from = text.answers_from reads_text checks_rules
+
+-- the answers to a script
+abbrev pub answers_text : Standing → List ℕ → List ℕ
+answers_text = text.answers_text reads_text checks_rules
+
+-- the answers to a session's script
+abbrev pub answers_of : PlainSession → List ℕ → List ℕ
+answers_of s = answers_text (standing_of s)
+
+-- tables that nothing was edited of
+abbrev pub unedited : Tables → Edited
+unedited tables = record { tables = tables; edits = 0 }
+
+-- the answers to the first script of a checked program and its tables
+abbrev pub first_answers : PlainChecked → Tables → List ℕ → List ℕ
+first_answers checked tables = answers_text (standing checked (unedited tables))

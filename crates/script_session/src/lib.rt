@@ -1,0 +1,4 @@
+//! A session's script and its answers, from a reader to a writer.
+#![tactic(auto)]
+
+pub mod session;

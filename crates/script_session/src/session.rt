@@ -1,0 +1,276 @@
+// The answers to a session's script, from a reader to a writer.
+ghost use Rattle.std.specs.Prelude.{◌≡◌, ◌≢◌, ◌+◌, ◌<◌, ◌≤◌, ◌^◌, [], true, Err, length, IfOk, IfErr, OnOk, OnErr};
+ghost use Rattle.std.specs.Io.KnownBytes.{Appends, Keeps, IsAtEnd};
+ghost use Rattle.meaning.specs.Text.{edit_text, runs_after};
+ghost use Rattle.session_edits.specs.Said as edits;
+ghost use Rattle.script_reader.specs.Said.{said};
+ghost use Rattle.kept_session.specs.Sessions.{standing_of};
+ghost use Rattle.kept_session.specs.Applied.{edited};
+ghost use Rattle.trace_report.specs.Outcomes.{Extends};
+ghost use Rattle.script_session.specs.Answers.{answer_text, answers_of, left_by_edit, run_answer, standing_after};
+ghost use Rattle.run_terms.specs.Come.{HasCome, HasEnded};
+ghost use Rattle.program_endings.specs.Endings.{CarriesRefusal, IsAnswerError, IsRunError};
+ghost use Rattle.program_endings.specs.Written.{HasBeginning, WritesAll, WritesBeginning};
+
+use session_notes::explained::Cause;
+use session_notes::notes::Notes;
+use input_tables::Tables;
+use linked_program::checked::Checked;
+use program_endings::session_error::SessionError;
+use program_endings::streams::{Failures, flush, read_all, write_whole};
+use kept_session::{ApplyError, Session};
+use script_reader::command::Command;
+use script_reader::script::commands;
+use session_edits::Edit;
+use std::alloc::Global;
+use std::io::{Read, Write};
+use std::sync::Wait;
+use std::thread::Threads;
+use threaded_driver::{Gate, run_threads};
+use trace_report::answers::{answer_text, push_unknown};
+use trace_report::edits::{push_accepted, push_edit_refusal};
+use view_pool::View;
+use frames::answer::RunAnswer;
+
+/// Answers the script that a reader has, all of it read before anything runs. Each run is by that many threads, 1 to 16,
+/// which the gate watches; the notes are told of each that comes to a result or a fault, and of what is refused. It ends early where memory is
+/// refused, no kit is free, a run's list of strands refuses a worker, a run can't be noted, or a read, a write or a flush
+/// fails; a failed read leaves the writer as it was. It is noted which streams failed: a
+/// failed read is answered where the reader is noted, and nowhere else is the reader noted; a failed write is answered
+/// where the writer is noted. The writer is noted besides where its flush fails after another error has ended the session,
+/// and that error is answered.
+pub fn session_text<V: View, N: Notes, R: Read, W: Write>(
+    rt: &(impl Threads + Wait + Sync),
+    alloc: Global,
+    session: Session<V>,
+    workers: usize,
+    notes: &mut N,
+    gate: &impl Gate,
+    reader: &mut R,
+    writer: &mut W,
+    failures: &mut Failures,
+) -> Result<(), SessionError>
+    requires workers { (0 < workers) × (workers ≤ 16) }
+    ensures answered { OnOk result (WritesAll (answers_of session)
+        (R.remaining reader.old) (W.contents writer.old) (W.contents writer.new)) }
+    ensures over { OnOk result (IsAtEnd (R.remaining reader.new)) }
+    ensures unread { result ≡ Err SessionError.Read
+        → Keeps (W.contents writer.old) (W.contents writer.new) }
+    ensures beginning { WritesBeginning (answers_of session)
+        (R.remaining reader.old) (W.contents writer.old) (W.contents writer.new) }
+    ensures no_kit { result ≡ Err SessionError.NoKit → session.kits.kits ≡ [] }
+    ensures mismatch { IfErr result CarriesRefusal }
+    ensures input { result ≡ Err SessionError.Read → failures.new.input ≡ true }
+    ensures output { result ≡ Err SessionError.Write → failures.new.output ≡ true }
+    ensures unmarked { OnOk result (failures.new ≡ failures.old) }
+    ensures input_stays { result ≢ Err SessionError.Read
+        → failures.new.input ≡ failures.old.input }
+    ensures output_unread { result ≡ Err SessionError.Read
+        → failures.new.output ≡ failures.old.output }
+    ensures output_stays { failures.old.output ≡ true → failures.new.output ≡ true }
+    ensures notes { result ≡ Err SessionError.Notes → N.failed notes.new ≡ true }
+    ensures notes_stay { result ≢ Err SessionError.Notes
+        → N.failed notes.new ≡ N.failed notes.old }
+{
+    let script = read_all(alloc, reader, failures)?;
+    let mut session = session;
+    let text = script.as_slice();
+    let answered = answer_script(
+        rt,
+        alloc,
+        &mut session,
+        workers,
+        notes,
+        gate,
+        text,
+        writer,
+        failures,
+    );
+    let flushed = flush(writer, failures);
+    answered?;
+    flushed
+}
+
+// Writes the answers to a script.
+fn answer_script<V: View, N: Notes, W: Write>(
+    rt: &(impl Threads + Wait + Sync),
+    alloc: Global,
+    session: &mut Session<V>,
+    workers: usize,
+    notes: &mut N,
+    gate: &impl Gate,
+    script: &[u8],
+    writer: &mut W,
+    failures: &mut Failures,
+) -> Result<(), SessionError>
+    requires workers { (0 < workers) × (workers ≤ 16) }
+    ensures written { OnOk result (Appends (W.contents writer.old) (W.contents writer.new)
+        (answers_of session.old script.now)) }
+    ensures beginning { HasBeginning (W.contents writer.old) (W.contents writer.new)
+        (answers_of session.old script.now) }
+    ensures read { OnErr result (¬ (result ≡ Err SessionError.Read)) }
+    ensures mismatch { IfErr result CarriesRefusal }
+    ensures no_kit { result ≡ Err SessionError.NoKit → session.old.kits.kits ≡ [] }
+    ensures output { result ≡ Err SessionError.Write → failures.new.output ≡ true }
+    ensures unmarked { result ≢ Err SessionError.Write → failures.new ≡ failures.old }
+    ensures input { failures.new.input ≡ failures.old.input }
+    ensures notes { result ≡ Err SessionError.Notes → N.failed notes.new ≡ true }
+    ensures notes_stay { result ≢ Err SessionError.Notes
+        → N.failed notes.new ≡ N.failed notes.old }
+{
+    let commands = match commands(alloc, script) {
+        Ok(commands) => commands,
+        Err(_) => return Err(SessionError::NoMemory),
+    };
+    let mut runs = 0;
+    let mut text = String::new(alloc);
+    for command in commands.iter() {
+        text.clear();
+        runs = answer(
+            rt, alloc, session, workers, notes, gate, script, runs, command, &mut text,
+        )?;
+        write_whole(writer, text.as_bytes(), failures)?;
+    }
+    Ok(())
+}
+
+// Puts the answer to a command of a script, after so many runs, at the end of the text, and gives the number of runs after it.
+fn answer<V: View, N: Notes>(
+    rt: &(impl Threads + Wait + Sync),
+    alloc: Global,
+    session: &mut Session<V>,
+    workers: usize,
+    notes: &mut N,
+    gate: &impl Gate,
+    script: &[u8],
+    runs: usize,
+    command: &Command<'_>,
+    text: &mut String,
+) -> Result<usize, SessionError>
+    requires few { runs + 1 < 2 ^ 64 }
+    requires workers { (0 < workers) × (workers ≤ 16) }
+    ensures answered { OnOk result (Extends text.old text.new
+        (answer_text (standing_of session.old) runs (said command.now))) }
+    ensures after { OnOk result (standing_of session.new
+        ≡ standing_after (standing_of session.old) (said command.now)) }
+    ensures runs { IfOk result (λ n. n ≡ runs_after runs (said command.now)) }
+    ensures refused { IfErr result IsAnswerError }
+    ensures mismatch { IfErr result CarriesRefusal }
+    ensures no_kit { result ≡ Err SessionError.NoKit → session.old.kits.kits ≡ [] }
+    ensures free { OnOk result (length session.new.kits.kits ≡ length session.old.kits.kits) }
+    ensures notes { result ≡ Err SessionError.Notes → N.failed notes.new ≡ true }
+    ensures notes_stay { result ≢ Err SessionError.Notes
+        → N.failed notes.new ≡ N.failed notes.old }
+{
+    match command {
+        Command::Unknown(line) => {
+            push_unknown(text, *line)?;
+            notes.explain(
+                Cause::Line(script, *line),
+                session.checked(),
+                session.tables(),
+            );
+            Ok(runs)
+        }
+        Command::Change(edit) => {
+            change(alloc, session, notes, edit, text)?;
+            Ok(runs)
+        }
+        Command::Run => {
+            run_once(rt, alloc, session, workers, notes, gate, runs + 1, text)?;
+            Ok(runs + 1)
+        }
+    }
+}
+
+// Does an edit, and puts what it came to at the end of the text.
+fn change<V: View, N: Notes>(
+    alloc: Global,
+    session: &mut Session<V>,
+    notes: &mut N,
+    edit: &Edit<'_>,
+    text: &mut String,
+) -> Result<(), SessionError>
+    ensures answered { OnOk result (Extends text.old text.new
+        (edit_text (edited (standing_of session.old) (edits.said edit.now)))) }
+    ensures after { OnOk result (standing_of session.new
+        ≡ left_by_edit (standing_of session.old) (edits.said edit.now)) }
+    ensures refused { IfErr result (λ e. e ≡ SessionError.NoMemory) }
+    ensures kits { session.new.kits ≡ session.old.kits }
+    ensures notes_stay { N.failed notes.new ≡ N.failed notes.old }
+{
+    match session.apply(alloc, edit) {
+        Ok(()) => Ok(push_accepted(text)?),
+        Err(ApplyError::Refused(error)) => {
+            let cause = Cause::Edit(edit, &error);
+            notes.explain(cause, session.checked(), session.tables());
+            Ok(push_edit_refusal(text, &error)?)
+        }
+        Err(ApplyError::NoMemory) => Err(SessionError::NoMemory),
+    }
+}
+
+// Runs once, puts the line of the run of that number and what it came to at the end of the text, and tells the notes of it.
+fn run_once<V: View, N: Notes>(
+    rt: &(impl Threads + Wait + Sync),
+    alloc: Global,
+    session: &mut Session<V>,
+    workers: usize,
+    notes: &mut N,
+    gate: &impl Gate,
+    number: usize,
+    text: &mut String,
+) -> Result<(), SessionError>
+    requires workers { (0 < workers) × (workers ≤ 16) }
+    ensures answered { OnOk result (Extends text.old text.new
+        (run_answer (standing_of session.old) number)) }
+    ensures same { standing_of session.new ≡ standing_of session.old }
+    ensures refused { IfErr result IsAnswerError }
+    ensures mismatch { IfErr result CarriesRefusal }
+    ensures no_kit { result ≡ Err SessionError.NoKit → session.old.kits.kits ≡ [] }
+    ensures free { OnOk result (length session.new.kits.kits ≡ length session.old.kits.kits) }
+    ensures notes { result ≡ Err SessionError.Notes → N.failed notes.new ≡ true }
+    ensures notes_stay { result ≢ Err SessionError.Notes
+        → N.failed notes.new ≡ N.failed notes.old }
+{
+    let (answer, history) = run_threads(rt, alloc, session, workers, gate)?;
+    ended(&answer)?;
+    let shown = answer_text(alloc, number, session.checked(), &answer)?;
+    text.push_str(shown.as_str())?;
+    tell_fault(notes, number, &answer, session.checked(), session.tables());
+    if notes.run(number, &answer, &history, session.kits()) {
+        return Ok(());
+    }
+    Err(SessionError::Notes)
+}
+
+// Tells the notes of a run's fault, if it came to one.
+fn tell_fault<N: Notes>(
+    notes: &mut N,
+    number: usize,
+    answer: &RunAnswer,
+    checked: &Checked,
+    tables: &Tables,
+)
+    ensures kept { N.failed notes.new ≡ N.failed notes.old }
+{
+    if let RunAnswer::Fault(fault) = answer {
+        notes.explain(Cause::Fault(number, fault), checked, tables);
+    }
+}
+
+// Refuses what a run that was refused memory or a kit came to.
+fn ended(answer: &RunAnswer) -> Result<(), SessionError>
+    requires come { HasCome answer.now }
+    ensures ended { OnOk result (HasEnded answer.now) }
+    ensures refused { IfErr result IsRunError }
+    ensures mismatch { IfErr result CarriesRefusal }
+    ensures no_kit { result ≡ Err SessionError.NoKit → answer.now ≡ RunAnswer.NoKit }
+{
+    match answer {
+        RunAnswer::Finished { .. } | RunAnswer::Fault(_) => Ok(()),
+        RunAnswer::NoMemory => Err(SessionError::NoMemory),
+        RunAnswer::NoKit => Err(SessionError::NoKit),
+        RunAnswer::Unfinished => unreachable!(),
+    }
+}

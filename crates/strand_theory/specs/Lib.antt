@@ -1,0 +1,3 @@
+pub mod Ready
+pub mod Faults
+pub mod Recorded

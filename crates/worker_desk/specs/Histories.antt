@@ -1,0 +1,12 @@
+-- The history of a run by threads.
+use Rattle.std.specs.Prelude.{List}
+use Rattle.meaning.specs.Strands.{BookStep}
+use Rattle.frames.specs.declared.answer.RunAnswer.{RunAnswer}
+use Rattle.frames.specs.declared.answer.RunAnswer.TheVariants as answer
+use Rattle.sync_fold.specs.Replays.{LeavesRootAlone}
+
+-- that of a run that has ended
+abbrev pub HasHistory : RunAnswer → List BookStep → Type 0
+HasHistory (answer.Finished v values n m k) steps = LeavesRootAlone steps
+HasHistory (answer.Fault f) steps = LeavesRootAlone steps
+HasHistory _ steps = Unit {0}
