@@ -1,10 +1,9 @@
-//! Answers the script on its input by runs of a program over tables; or prints a program's normal form.
+//! Answers the script on its input by runs of a program over tables; or prints a program in its normal form.
 #![tactic(auto)]
 
 use cli::files::StandardError;
 use cli::program::{ending, report};
 use monoid_laws::Kind;
-use program_formatter::formatting::formatted;
 use program_reasons::script::Explainer;
 use program_reasons::{reasons_of, show};
 use std::alloc::AllocError;
@@ -17,10 +16,7 @@ fn main(rt: HostRuntime) -> ExitCode {
         Ok(Box::new(alloc, PlainView::new(alloc, kind))?)
     };
     let explainer = Explainer::new(alloc, StandardError { rt: &rt });
-    let reported = match formatted(&rt, alloc) {
-        Some(formatted) => formatted,
-        None => report(&rt, alloc, &make, explainer),
-    };
+    let reported = report(&rt, alloc, &make, explainer);
     let reasons = reasons_of(&rt, alloc, &reported);
     let status = ending(&rt, reported);
     show(&rt, reasons.as_str());

@@ -121,6 +121,11 @@ abbrev pub IsAsked : List (List ℕ) → Asked → Type 0
 IsAsked words (Session o) = IsLineOf words o
 IsAsked words (Print path) = IsPrintLine words path.now × IsNoLine words
 
+-- a session has 1 to 16 workers and 1 to 4096 kits
+abbrev pub IsWithin : Asked → Type 0
+IsWithin (Session o) = (1 ≤ o.workers) × (o.workers ≤ 16) × (1 ≤ o.kits) × (o.kits ≤ 4096)
+IsWithin (Print path) = Unit {0}
+
 -- the words ask for neither
 abbrev pub IsNothing : List (List ℕ) → Type 0
 IsNothing words = IsNoLine words × IsNoPrintLine words

@@ -1,7 +1,7 @@
 // The words of the program's line.
 ghost use Rattle.std.specs.Prelude.{◌≡◌, ◌≤◌, ℕ, List, IfOk, IfErr, IfSome, IfNone, OnOk, false, map, option_map};
 ghost use Rattle.clap.specs.Words.{app_of, found_of, first_value, kind_of, rule_of};
-ghost use Rattle.command_line.specs.Line.{line_form, print_form, given, is_set, flag_rule, option_rule, path_rule, HasForm, AsksFor, IsAsked, IsLineOf, IsNoLine, IsNothing, IsPrintLine, IsNoPrintLine, IsRefusedFor, IsRefusalOf};
+ghost use Rattle.command_line.specs.Line.{line_form, print_form, given, is_set, flag_rule, option_rule, path_rule, HasForm, AsksFor, IsAsked, IsLineOf, IsNoLine, IsNothing, IsPrintLine, IsNoPrintLine, IsRefusedFor, IsRefusalOf, IsWithin};
 ghost use Rattle.command_line.specs.declared.options.OptionsError.TheVariants as refusal;
 
 use crate::options::{Asked, Options, OptionsError, VERSION};
@@ -13,6 +13,7 @@ use std::alloc::{AllocError, Global};
 /// by `options`.
 pub fn asked_by<'a>(alloc: Global, words: &'a [&'a str]) -> Result<Asked<'a>, OptionsError>
     ensures read { IfOk result (IsAsked (map (λ word. word.now) words.now)) }
+    ensures within { IfOk result IsWithin }
     ensures refused { IfErr result (IsRefusedFor (IsNothing (map (λ word. word.now) words.now))
         (map (λ word. word.now) words.now)) }
 {

@@ -44,3 +44,19 @@ IsUnformatted held path (File name) = (string_bytes name ≡ path) × (held path
 IsUnformatted held path (Prepare e) = (program : List ℕ) → held path ≡ Some program → IsTextRefused program e
 IsUnformatted held path (Session e) = IsWriterError e
 IsUnformatted held path (Trace name) = ⊥
+
+-- the errors of a file that isn't printed
+abbrev pub IsFormatError : ProgramError → Type 0
+IsFormatError (Line e) = ⊥
+IsFormatError (File name) = Unit {0}
+IsFormatError (Prepare e) = Unit {0}
+IsFormatError (Session e) = IsWriterError e
+IsFormatError (Trace name) = ⊥
+
+-- those before anything is written
+abbrev pub IsEarly : ProgramError → Type 0
+IsEarly (Line e) = ⊥
+IsEarly (File name) = Unit {0}
+IsEarly (Prepare e) = Unit {0}
+IsEarly (Session e) = ⊥
+IsEarly (Trace name) = ⊥

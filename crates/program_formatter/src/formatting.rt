@@ -1,17 +1,15 @@
-// The program of a file in its normal form, on standard output.
-ghost use Rattle.std.specs.Prelude.{◌≡◌, ◌≢◌, Err, true, IfErr, OnOk};
-ghost use Rattle.std.specs.Io.KnownBytes.{Keeps};
-ghost use Rattle.printing_theory.specs.Normal.{HasNoForm};
-ghost use Rattle.cli.specs.Reports.{WritesNothing};
-ghost use Rattle.program_formatter.specs.Formatted.{IsFormattedOver, IsBegunOver, IsUnformatted, IsRefusal};
+// The program of a file in its normal form.
+ghost use Rattle.std.specs.Prelude.{◌≡◌, Err, true, IfErr, OnOk};
+ghost use Rattle.std.specs.Io.KnownBytes.{Appends, Keeps};
+ghost use Rattle.program_endings.specs.Endings.{IsWriterError};
+ghost use Rattle.program_endings.specs.Written.{HasBeginning};
+ghost use Rattle.program_formatter.specs.Formatted.{IsFormattedOver, IsBegunOver, IsUnformatted, IsFormatError, IsEarly, IsRefusal};
 
-use cli::files::{FileSource, SystemFiles};
-use cli::program::{failed, lent, line_of};
-use command_line::line::asked_by;
-use command_line::options::Asked;
 use prepared_program::prepare::PrepareError;
 use printing_theory::normal_form;
 use procedure_parser::TextError;
+use program_endings::failing::{failed, no_memory};
+use program_endings::files::{FileSource, SystemFiles};
 use program_endings::program_error::ProgramError;
 use program_endings::session_error::SessionError;
 use program_endings::streams::{Failures, flush, write_whole};
@@ -20,22 +18,19 @@ use std::io;
 use std::io::{BufWriter, Write};
 use std::rt::Runtime;
 
-/// What becomes of a line that asks for a program's normal form, which goes to standard output; none where the line asks for
-/// something else, or can't be read.
-pub fn formatted(
+/// Writes the program of the file at a path in its normal form to standard output.
+pub fn format_file(
     rt: &(impl Runtime + AllocGlobal),
     alloc: Global,
-) -> Option<Result<(), ProgramError>> {
-    let held = line_of(rt, alloc).ok()?;
-    let words = lent(alloc, held.as_slice()).ok()?;
-    let Ok(Asked::Print(path)) = asked_by(alloc, words.as_slice()) else {
-        return None;
-    };
+    path: &str,
+) -> Result<(), ProgramError>
+    ensures refused { IfErr result IsFormatError }
+{
     let Ok(mut writer) = BufWriter::new(alloc, io::writer(rt)) else {
-        return Some(Err(ProgramError::Session(SessionError::NoMemory)));
+        return Err(no_memory());
     };
     let files = SystemFiles { rt };
-    Some(format_to(alloc, path, &files, &mut writer, &mut Failures::none()))
+    format_to(alloc, path, &files, &mut writer, &mut Failures::none())
 }
 
 /// Writes the program of the file at a path in its normal form. Where the file fails or is refused nothing is written; that
@@ -52,7 +47,8 @@ pub fn format_to<F: FileSource, W: Write>(
     ensures beginning { IsBegunOver (F.held files.now) path.now
         (W.contents writer.old) (W.contents writer.new) }
     ensures refused { IfErr result (IsUnformatted (F.held files.now) path.now) }
-    ensures unwritten { IfErr result (λ e. WritesNothing e
+    ensures error { IfErr result IsFormatError }
+    ensures unwritten { IfErr result (λ e. IsEarly e
         → Keeps (W.contents writer.old) (W.contents writer.new)) }
     ensures output { result ≡ Err (ProgramError.Session SessionError.Write)
         → failures.new.output ≡ true }
@@ -65,14 +61,27 @@ pub fn format_to<F: FileSource, W: Write>(
         Ok(text) => text,
         Err(error) => return Err(refusal(error)),
     };
-    match write_whole(writer, text.as_slice(), failures) {
-        Ok(()) => {}
-        Err(error) => return Err(ProgramError::Session(error)),
-    }
-    match flush(writer, failures) {
+    match send(writer, text.as_slice(), failures) {
         Ok(()) => Ok(()),
         Err(error) => Err(ProgramError::Session(error)),
     }
+}
+
+// Writes the bytes and flushes the writer; refused where it fails, which is noted, or for want of memory, and then a beginning
+// of them is written.
+fn send<W: Write>(
+    writer: &mut W,
+    bytes: &[u8],
+    failures: &mut Failures,
+) -> Result<(), SessionError>
+    ensures written { OnOk result
+        (Appends (W.contents writer.old) (W.contents writer.new) bytes.now) }
+    ensures beginning { HasBeginning (W.contents writer.old) (W.contents writer.new) bytes.now }
+    ensures refused { IfErr result IsWriterError }
+    ensures noted { result ≡ Err SessionError.Write → failures.new.output ≡ true }
+{
+    write_whole(writer, bytes, failures)?;
+    flush(writer, failures)
 }
 
 // What the refusal of a program's text is to the program.
@@ -80,7 +89,7 @@ fn refusal(error: TextError) -> ProgramError
     ensures { IsRefusal error result }
 {
     match error {
-        TextError::NoMemory => ProgramError::Session(SessionError::NoMemory),
+        TextError::NoMemory => no_memory(),
         TextError::Text { line } => ProgramError::Prepare(PrepareError::Text { line }),
     }
 }

@@ -5,14 +5,14 @@ pub mod causes;
 pub mod script;
 
 use crate::causes::push_holder;
-use cli::files::{FileSource, SystemFiles};
-use cli::program::{lent, line_of};
 use command_line::line::asked_by;
 use command_line::options::Asked;
+use command_line::words::{held_words, lent};
 use explanations::programs::{push_bad_program, push_shown};
 use explanations::rules::push_rule;
 use explanations::tables::{push_bad_table, push_bad_toml};
 use prepared_program::prepare::PrepareError;
+use program_endings::files::{FileSource, SystemFiles};
 use program_endings::program_error::ProgramError;
 use std::alloc::{AllocError, Global};
 use std::rt::Runtime;
@@ -38,7 +38,7 @@ fn read_again(
     alloc: Global,
     error: &PrepareError,
 ) -> Option<String> {
-    let held = line_of(rt, alloc).ok()?;
+    let held = held_words(rt, alloc).ok()?;
     let words = lent(alloc, held.as_slice()).ok()?;
     let (program, tables) = match asked_by(alloc, words.as_slice()).ok()? {
         Asked::Session(options) => (options.program, Some(options.tables)),

@@ -4,7 +4,6 @@
 use cli::files::StandardError;
 use cli::program::{ending, report};
 use monoid_laws::Kind;
-use program_formatter::formatting::formatted;
 use program_reasons::script::Explainer;
 use program_reasons::{reasons_of, show};
 use std::alloc::AllocError;
@@ -17,10 +16,7 @@ fn main(rt: HostRuntime) -> ExitCode {
         Ok(Box::new(alloc, PlainView::new(alloc, kind))?)
     };
     let explainer = Explainer::new(alloc, StandardError { rt: &rt });
-    let reported = match formatted(&rt, alloc) {
-        Some(formatted) => formatted,
-        None => report(&rt, alloc, &make, explainer),
-    };
+    let reported = report(&rt, alloc, &make, explainer);
     let reasons = reasons_of(&rt, alloc, &reported);
     let status = ending(&rt, reported);
     show(&rt, reasons.as_str());
