@@ -8,7 +8,7 @@
 set -eu
 seconds=${1:-60} first=${2:-1} limit=${LIMIT:-60}
 source "$(dirname "$0")/../in_a_copy.sh"
-in_a_copy threads 'threaded_driver reuse_planner session_edits serial_oracle trace_report frames procedure_parser spawn_checker view_pool linked_program input_tables monoid_laws program_tree'
+in_a_copy threads 'threaded_driver kept_session session_edits serial_oracle trace_report frames procedure_parser spawn_checker view_pool linked_program input_tables monoid_laws program_tree'
 if [ "${QUICK:-0}" = 1 ]; then
     "${RT:-rt}" try --seconds $((seconds + limit)) -- "$first" "$seconds" | tail -n 30
     exit

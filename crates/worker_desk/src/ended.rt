@@ -34,7 +34,7 @@ impl Ended {
 }
 
 /// The records that are kept of a run with that answer: those that were made, where it has finished.
-pub fn kept_of(alloc: Global, answer: &RunAnswer, made: Vec<Record>) -> Vec<Record>
+pub(crate) fn kept_of(alloc: Global, answer: &RunAnswer, made: Vec<Record>) -> Vec<Record>
     ensures alone { IsAlone answer.now result.items }
     ensures recorded { (setting : Setting) → HasRecorded setting answer.now made.items → HasRecorded setting answer.now result.items }
     ensures values { (setting : Setting) → HaveValues setting.kinds made.items → HaveValues setting.kinds result.items }

@@ -77,7 +77,7 @@ impl<J: Run + Ledger + Send, D: Deques> Seat<J, D> {
     }
 
     /// Whether all that was pushed was taken, as the thieves' end of the deque counts.
-    pub fn is_drained(&mut self, thief: &mut ThiefEnd<Waiting<J>, D>) -> bool
+    pub(crate) fn is_drained(&mut self, thief: &mut ThiefEnd<Waiting<J>, D>) -> bool
         ensures drained { result ≡ true → self.new.here ≡ None }
         ensures same { result ≡ false → self.new ≡ self.old }
     {
@@ -85,7 +85,7 @@ impl<J: Run + Ledger + Send, D: Deques> Seat<J, D> {
     }
 
     /// Counts its worker among those that have left.
-    pub fn leave(&mut self, leavers: &mut Count<J>)
+    pub(crate) fn leave(&mut self, leavers: &mut Count<J>)
         ensures left { self.new ≡ record self.old { left = self.old.left + 1 } }
         ensures counted { leavers.new.total ≡ leavers.old.total + 1 }
     {
@@ -93,7 +93,7 @@ impl<J: Run + Ledger + Send, D: Deques> Seat<J, D> {
     }
 
     /// As often as its worker has left, at least so many have left in all.
-    pub fn audit(&mut self, leavers: &mut Count<J>)
+    pub(crate) fn audit(&mut self, leavers: &mut Count<J>)
         ensures counted { self.old.left ≤ leavers.old.total }
         ensures same { leavers.new.total ≡ leavers.old.total }
     {
@@ -102,7 +102,7 @@ impl<J: Run + Ledger + Send, D: Deques> Seat<J, D> {
 }
 
 /// A seat for each deque. Want of memory is the only error.
-pub fn seats_of<J: Run + Ledger + Send, D: Deques>(
+pub(crate) fn seats_of<J: Run + Ledger + Send, D: Deques>(
     alloc: Global,
     owners: Vec<OwnerEnd<Waiting<J>, D>>,
     share: Share<J>,

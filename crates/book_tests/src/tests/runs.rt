@@ -6,7 +6,7 @@ use super::beside::beside;
 use super::programs::{
     FAULTS_IN_RECORDS, FIRST_LIST, LINES, LOOP, NESTED_READS, PAIRS, TWO_FAULTS,
 };
-use reuse_planner::Session;
+use reuse_planner::{Session, Stepped};
 use session_edits::Edit;
 use std::alloc::Global;
 use std::process::Abort;

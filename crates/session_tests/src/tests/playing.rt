@@ -2,7 +2,7 @@
 ghost use Rattle.std.specs.Prelude.{◌<◌, ◌≤◌};
 
 use linked_program::checked::Checked;
-use reuse_planner::{Answer, ApplyError, Command as SessionCommand, Session};
+use reuse_planner::{Answer, ApplyError, Command as SessionCommand, Session, Stepped};
 use script_reader::command::Command;
 use script_reader::script::commands;
 use session_edits::Edit;

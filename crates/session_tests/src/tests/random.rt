@@ -8,7 +8,7 @@ use super::model::Model;
 use super::playing::{no_answers, play};
 use super::slow::{Needed, needs_of, scratch_text};
 use linked_program::checked::Checked;
-use reuse_planner::Session;
+use reuse_planner::{Session, Stepped};
 use std::alloc::Global;
 use std::process::Abort;
 use std::sync::Wait;

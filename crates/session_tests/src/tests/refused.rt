@@ -6,7 +6,7 @@ use super::playing::session_commands;
 use super::programs::LINES;
 use input_tables::Tables;
 use linked_program::checked::Checked;
-use reuse_planner::{Answer, ApplyError, Command, Session};
+use reuse_planner::{Answer, ApplyError, Command, Session, Stepped};
 use std::alloc::{AllocError, Global};
 use std::fmt::Write;
 use std::process::Abort;

@@ -8,7 +8,7 @@ use super::beginning::{checked, in_session, sales};
 use super::playing::{counts, no_answers, play};
 use super::programs::{COUNTDOWN, FIRST_LIST, LINES, MEMO_LIST};
 use rerun_records::key::Key;
-use reuse_planner::{Command, Session};
+use reuse_planner::{Command, Session, Stepped};
 use session_edits::Edit;
 use std::alloc::{AllocError, Global};
 use std::process::Abort;
