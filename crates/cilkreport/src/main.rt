@@ -1,4 +1,4 @@
-//! Answers the script on its input by runs of a program over tables.
+//! Answers the script on its input by runs of a program over tables; or prints a program in its normal form.
 #![tactic(auto)]
 
 use cli::files::StandardError;

@@ -9,6 +9,7 @@ use Rattle.program_endings.specs.declared.program_error.ProgramError.{ProgramErr
 use Rattle.program_endings.specs.declared.program_error.ProgramError.TheVariants.{Line, File, Prepare, Session, Trace}
 use Rattle.script_session.specs.Answers.{first_answers}
 use Rattle.program_endings.specs.Endings.{CarriesRefusal}
+use Rattle.program_endings.specs.Failing.{IsFailed}
 use Rattle.program_endings.specs.Written.{HasBeginning}
 use Rattle.prepared_program.specs.Preparing.{IsPrepared, IsRefused}
 
@@ -39,14 +40,6 @@ IsUnopened held options (Prepare e) =
     → IsUtf8 tables_text × IsRefused program tables_text e
 IsUnopened held options (Session e) = Unit {0}
 IsUnopened held options (Trace path) = IsTrace options (string_bytes path)
-
--- the error of a file that failed: its path, or want of memory
-abbrev pub IsFailed : List ℕ → ProgramError → Type 0
-IsFailed path (Line e) = ⊥
-IsFailed path (File name) = string_bytes name ≡ path
-IsFailed path (Prepare e) = ⊥
-IsFailed path (Session e) = e ≡ s.NoMemory
-IsFailed path (Trace name) = ⊥
 
 -- the error of a trace's file that can't be made
 abbrev pub IsUnmade : Option (List ℕ) → ProgramError → Type 0

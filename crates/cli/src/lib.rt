@@ -2,9 +2,9 @@
 #![tactic(auto)]
 
 pub mod beginning;
-pub mod files;
 pub mod kits;
 pub mod program;
 
+pub use program_endings::files;
 pub use script_session::session;
 pub use session_notes::{explained, notes, run_notes};

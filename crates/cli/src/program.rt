@@ -1,31 +1,33 @@
 // The program: its line, its files, its session on standard input and output.
-ghost use Rattle.std.specs.Prelude.{◌≡◌, ◌≢◌, ◌↔◌, ◌<◌, ◌≤◌, ◌⊎◌, Err, true, IfOk, IfErr, OnOk, OnErr, length, map, option_map, string_bytes};
+ghost use Rattle.std.specs.Prelude.{◌≡◌, ◌≢◌, ◌↔◌, ◌<◌, ◌≤◌, Err, true, IfOk, IfErr, OnOk, OnErr, length, option_map};
 ghost use Rattle.std.specs.Io.KnownBytes.{Keeps, IsAtEnd};
-ghost use Rattle.std.specs.IoError.{error_kind};
 ghost use Rattle.std.specs.Process.{exit_status};
 ghost use Rattle.program_endings.specs.Endings.{CarriesRefusal};
 ghost use Rattle.program_endings.specs.Statuses.{status_of};
-ghost use Rattle.cli.specs.Reports.{IsOpened, IsUnopened, IsFailed, IsUnmade, IsLate, IsReportedOver, IsBegunOver, ReadsNothing, ReportsRefusal, WritesNothing};
+ghost use Rattle.cli.specs.Reports.{IsOpened, IsUnopened, IsUnmade, IsLate, IsReportedOver, IsBegunOver, ReadsNothing, ReportsRefusal, WritesNothing};
 
 use crate::beginning::{BeginError, begin};
-use crate::files::{FileSource, StandardError, SystemFiles};
-use command_line::line::options;
-use command_line::options::{Options, OptionsError};
+use command_line::line::asked_by;
+use command_line::options::{Asked, Options, OptionsError};
+use command_line::words::{held_words, lent};
 use kept_session::Session;
 use monoid_laws::Kind;
+use program_endings::failing::{failed, failed_file, no_memory};
+use program_endings::files::{FileSource, StandardError, SystemFiles};
 use program_endings::program_error::{ProgramError, status};
 use program_endings::session_error::SessionError;
 use program_endings::streams::Failures;
+use program_formatter::formatting::format_file;
 use script_session::session::session_text;
 use session_notes::explained::{Explain, Explained};
 use session_notes::run_notes::{NotesError, RunNotes};
 use std::alloc::{AllocError, Global};
-use std::io::{BufReader, BufWriter, ErrorKind, Read, Write};
+use std::io;
+use std::io::{BufReader, BufWriter, Read, Write};
 use std::process::ExitCode;
 use std::rt::Runtime;
 use std::sync::Wait;
 use std::thread::Threads;
-use std::{env, io};
 use threaded_driver::NoGate;
 use view_pool::View;
 
@@ -49,10 +51,10 @@ pub fn ending(rt: &(impl Print + Eprint), reported: Result<(), ProgramError>) ->
     }
 }
 
-/// Does the session that the program's line asks for, from standard input to standard output, with views that the caller
-/// makes; one of another kind counts as want of memory. What is refused is explained where the line asks for it. Its
-/// errors are those of the line, of a file, of `prepare` and of the session, but for the want of a kit, since a line asks
-/// for one kit at least.
+/// Does what the program's line asks for: a session, or printing a program in its normal form. Its errors are those of the
+/// line, of a file, of `prepare`, of the session and of the output, but for the want of a kit, since a line asks for one kit
+/// at least. The views are the caller's; one of another kind counts as want of memory. What is refused is explained where the
+/// line asks for it.
 pub fn report<V: View, M: Fn(Kind) -> Result<V, AllocError>, X: Explain + Drop>(
     rt: &(impl Runtime + AllocGlobal + Threads + Wait + Sync),
     alloc: Global,
@@ -63,9 +65,28 @@ pub fn report<V: View, M: Fn(Kind) -> Result<V, AllocError>, X: Explain + Drop>(
     ensures kits { result ≢ Err (ProgramError.Session SessionError.NoKit) }
     ensures mismatch { IfErr result ReportsRefusal }
 {
-    let held = line_of(rt, alloc)?;
-    let words = lent(alloc, held.as_slice())?;
-    let options = options(alloc, words.as_slice()).map_err(|error| ProgramError::Line(error))?;
+    let held = held_words(rt, alloc).map_err(|error| ProgramError::Line(error))?;
+    let words = lent(alloc, held.as_slice()).map_err(|error| ProgramError::Line(error))?;
+    match asked_by(alloc, words.as_slice()).map_err(|error| ProgramError::Line(error))? {
+        Asked::Session(options) => report_by(rt, alloc, options, make, explain),
+        Asked::Print(path) => format_file(rt, alloc, path),
+    }
+}
+
+// Does the session that the options ask for, from standard input to standard output.
+fn report_by<V: View, M: Fn(Kind) -> Result<V, AllocError>, X: Explain + Drop>(
+    rt: &(impl Runtime + AllocGlobal + Threads + Wait + Sync),
+    alloc: Global,
+    options: Options<'_>,
+    make: &M,
+    explain: X,
+) -> Result<(), ProgramError>
+    requires callable { M.IsAlwaysCallable make.now }
+    requires workers { (0 < options.workers) × (options.workers ≤ 16) }
+    requires kits { 0 < options.kits }
+    ensures kits { result ≢ Err (ProgramError.Session SessionError.NoKit) }
+    ensures mismatch { IfErr result ReportsRefusal }
+{
     let Ok(mut reader) = BufReader::new(alloc, rt.reader()) else {
         return Err(no_memory());
     };
@@ -152,40 +173,6 @@ pub fn report_on<
         Ok(()) => Ok(()),
         Err(error) => Err(ended_by(alloc, options.trace, error, notes.notes.failure())),
     }
-}
-
-// The words of the program's line.
-fn line_of<S: Runtime + AllocGlobal>(rt: &S, alloc: Global) -> Result<Vec<String>, ProgramError>
-    ensures refused { IfErr result (λ e.
-        (e ≡ ProgramError.Session SessionError.NoMemory) ⊎ (e ≡ ProgramError.Line OptionsError.Usage)) }
-    ensures kits { result ≢ Err (ProgramError.Session SessionError.NoKit) }
-    ensures mismatch { IfErr result ReportsRefusal }
-{
-    let mut words = Vec::new(alloc);
-    let args = match env::args(rt) {
-        Ok(args) => args,
-        Err(error) if error.kind() == ErrorKind::OutOfMemory => return Err(no_memory()),
-        Err(_) => return Err(ProgramError::Line(OptionsError::Usage)),
-    };
-    for word in args {
-        words.push(word).map_err(|_| no_memory())?;
-    }
-    Ok(words)
-}
-
-// The words, lent.
-fn lent(alloc: Global, held: &[String]) -> Result<Vec<&str>, ProgramError>
-    ensures words { IfOk result (λ words.
-        map (λ word. word.now) words.items ≡ map string_bytes held.now) }
-    ensures refused { IfErr result (λ e. e ≡ ProgramError.Session SessionError.NoMemory) }
-    ensures kits { result ≢ Err (ProgramError.Session SessionError.NoKit) }
-    ensures mismatch { IfErr result ReportsRefusal }
-{
-    let mut words = Vec::new(alloc);
-    for word in held {
-        words.push(word.as_str()).map_err(|_| no_memory())?;
-    }
-    Ok(words)
 }
 
 // The session of a program's file and a tables' file.
@@ -291,33 +278,4 @@ fn unnoted(alloc: Global, trace: Option<&str>, failure: Option<NotesError>) -> P
         (_, Some(NotesError::NoMemory)) => no_memory(),
         _ => ProgramError::Session(SessionError::Notes),
     }
-}
-
-// A file that failed with that error: its path, or want of memory.
-fn failed(alloc: Global, path: &str, error: &io::Error) -> ProgramError
-    ensures failed { IsFailed path.now result }
-    ensures memory { error_kind error.now ≡ ErrorKind.OutOfMemory
-        → result ≡ ProgramError.Session SessionError.NoMemory }
-{
-    if error.kind() == ErrorKind::OutOfMemory {
-        return no_memory();
-    }
-    failed_file(alloc, path)
-}
-
-// A file that failed, by its path.
-fn failed_file(alloc: Global, path: &str) -> ProgramError
-    ensures failed { IsFailed path.now result }
-{
-    match String::from_str(alloc, path) {
-        Ok(path) => ProgramError::File(path),
-        Err(_) => no_memory(),
-    }
-}
-
-// Memory was refused.
-fn no_memory() -> ProgramError
-    ensures memory { result ≡ ProgramError.Session SessionError.NoMemory }
-{
-    ProgramError::Session(SessionError::NoMemory)
 }

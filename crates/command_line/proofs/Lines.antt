@@ -1,5 +1,5 @@
 -- Lemmas about the program's line and what clap makes of it.
-use Rattle.std.proofs.Common.{◌∷◌, ◌<◌, ◌≤◌, arith, ◌≡◌, ◌≢◌, subst, ◌∙◌, ap, sym, refl, inl, inr, ℕ, List, [], Some, None, Result, Ok, Err, IfErr, IsErrAnd, true, false, codes}
+use Rattle.std.proofs.Common.{◌∷◌, ◌<◌, ◌≤◌, arith, ◌≡◌, ◌≢◌, subst, ◌∙◌, ap, sym, refl, inl, inr, ℕ, List, [], Option, Some, None, Result, Ok, Err, IfErr, IfSome, IfNone, option_map, Bor, IsErrAnd, true, false, codes}
 use Rattle.clap.specs.Words.{App, HasKind, HasMatchesOf, IsAmong, Kinds, built, fault_of, first_of, first_value, found_of, is_simple, is_simple_and_free, kind_of, matches_of}
 use Rattle.clap.specs.Simple.{argument_words}
 use Rattle.clap.specs.Walk.{nothing_held}
@@ -11,7 +11,7 @@ use Rattle.clap.proofs.OnLiterals.{clap_on_literals}
 use Rattle.clap.proofs.WalkLemmas.{first_value-rows}
 use Rattle.command_line.specs.declared.options.OptionsError.{OptionsError}
 use Rattle.command_line.specs.declared.options.OptionsError.TheVariants.{NoMemory, Usage, Help, Version}
-use Rattle.command_line.specs.Line.{line_form, given, HasForm, IsLine, IsNoLine, Request, IsRefusalOf, IsRefusedFor, WantsHelp, WantsVersion}
+use Rattle.command_line.specs.Line.{line_form, print_form, given, print_given, HasForm, HasPrintForm, IsPrintLine, IsNoPrintLine, IsNothing, IsLine, IsNoLine, Request, IsRefusalOf, IsRefusedFor, WantsHelp, WantsVersion}
 use Rattle.command_line.proofs.Faults.{HasOneAtMost, of_words, whole}
 
 pub simple_form : is_simple line_form ≡ true
@@ -89,6 +89,51 @@ pub handed_on : {T : Type 0} (words : List (List ℕ)) (result : Result T Option
 handed_on words (Ok t) error same form unfit is = absurd same
 handed_on words (Err e) error same form unfit is = as_usage words e form unfit (same ∙ is)
 
+-- ---- lines that ask for a normal form
+
+simple_print : is_simple print_form ≡ true
+unfolding clap_on_literals
+simple_print = refl
+
+free_print : is_simple_and_free print_form ≡ true
+unfolding clap_on_literals
+free_print = refl
+
+-- what the matches have for the program is what the words give
+path_given : (app : App) (words : List (List ℕ)) (m : ArgMatches) → app ≡ print_form → HasMatchesOf app words m
+    → first_value (found_of m) (codes "print") ≡ print_given words
+unfolding print_given
+path_given app words m e h =
+    first_value-rows (found_of m) (codes "print") ∙ ap (first_of (codes "print")) ((h (ap is_simple e ∙ simple_print)).0 ∙ ap (λ a. matches_of a words) e)
+
+print_form_of : (app : App) (words : List (List ℕ)) → app ≡ print_form
+    → (is_simple_and_free app ≡ true → fault_of app words ≡ []) → HasPrintForm words
+unfolding HasPrintForm
+print_form_of app words e h = sym (ap (λ a. fault_of a words) e) ∙ h (ap is_simple_and_free e ∙ free_print)
+
+-- words that are taken ask for the program that they give
+pub path_found : (app : App) (words : List (List ℕ)) (m : ArgMatches) (path : Option (Bor (List ℕ))) → app ≡ print_form → HasMatchesOf app words m
+    → (is_simple_and_free app ≡ true → fault_of app words ≡ []) → option_map (λ t. t.now) path ≡ first_value (found_of m) (codes "print") → IfSome path (λ p. IsPrintLine words p.now)
+path_found app words m None e h f is = tt
+path_found app words m (Some p) e h f is = (print_form_of app words e f, sym (is ∙ path_given app words m e h))
+
+pub no_path : (app : App) (words : List (List ℕ)) (m : ArgMatches) (path : Option (Bor (List ℕ))) → app ≡ print_form → HasMatchesOf app words m
+    → option_map (λ t. t.now) path ≡ first_value (found_of m) (codes "print") → IfNone path (IsNoPrintLine words)
+no_path app words m (Some p) e h is = tt
+no_path app words m None e h is = λ p line. absurd (let none : None ≡ Some p = is ∙ path_given app words m e h ∙ line.1 in cc)
+
+-- words that are refused for another reason than want of memory don't have the form
+pub no_print : (app : App) (words : List (List ℕ)) (x : Error) → app ≡ print_form
+    → (is_simple_and_free app ≡ true → HasKind (fault_of app words) x) → (kind_of x ≢ OutOfMemory) → IsNoPrintLine words
+unfolding HasPrintForm
+no_print app words x e h other = λ path line. elim (subst (λ ks. HasKind ks x) line.0 kinds) [
+  | inl memory ↦ other memory
+  | inr none ↦ none
+]
+  where
+    kinds : HasKind (fault_of print_form words) x
+    kinds = subst (λ ks. HasKind ks x) (ap (λ a. fault_of a words) e) (h (ap is_simple_and_free e ∙ free_print))
+
 -- lines written out
 
 abbrev paths_alone : Request
@@ -158,3 +203,23 @@ help_behind_a_path = refl
 pub version : WantsVersion (codes "cilkreport" ∷ codes "-V" ∷ codes "--help" ∷ [])
 unfolding WantsVersion clap_on_literals
 version = refl
+
+pub printed_program : IsPrintLine (codes "cilkreport" ∷ codes "--print" ∷ codes "p.ck" ∷ []) (codes "p.ck")
+unfolding HasPrintForm print_given clap_on_literals
+printed_program = (refl, refl)
+
+pub no_session : HasForm (codes "cilkreport" ∷ codes "--print" ∷ codes "p.ck" ∷ []) → ⊥
+unfolding HasForm clap_on_literals
+no_session e = absurd cc
+
+pub print_with_tables : HasPrintForm (codes "cilkreport" ∷ codes "--print" ∷ codes "p.ck" ∷ codes "t.toml" ∷ []) → ⊥
+unfolding HasPrintForm clap_on_literals
+print_with_tables e = absurd cc
+
+pub print_with_stats : HasPrintForm (codes "cilkreport" ∷ codes "--stats" ∷ codes "--print" ∷ codes "p.ck" ∷ []) → ⊥
+unfolding HasPrintForm clap_on_literals
+print_with_stats e = absurd cc
+
+pub print_twice : HasPrintForm (codes "cilkreport" ∷ codes "--print" ∷ codes "p.ck" ∷ codes "--print" ∷ codes "q.ck" ∷ []) → ⊥
+unfolding HasPrintForm clap_on_literals
+print_twice e = absurd cc

@@ -7,6 +7,8 @@ use Rattle.clap.specs.Words.{App, Rule, fault_of, first_of, matches_of, new_app,
 use Rattle.clap.specs.declared.builder.action.ArgAction.TheVariants.{Set, SetTrue}
 use Rattle.clap.specs.declared.error.kind.ErrorKind.{ErrorKind}
 use Rattle.clap.specs.declared.error.kind.ErrorKind.TheVariants.{DisplayHelp, DisplayVersion, OutOfMemory}
+use Rattle.command_line.specs.declared.options.Asked.{Asked}
+use Rattle.command_line.specs.declared.options.Asked.TheVariants.{Session, Print}
 use Rattle.command_line.specs.declared.options.Options.{Options}
 use Rattle.command_line.specs.declared.options.OptionsError.{OptionsError}
 use Rattle.command_line.specs.declared.options.OptionsError.TheVariants.{NoMemory, Usage, Help, Version}
@@ -32,6 +34,10 @@ abbrev pub line_form : App
 line_form =
     with_rule (with_rule (with_rule (with_rule (with_rule (with_rule (with_rule program_form (path_rule (codes "program"))) (path_rule (codes "tables")))
     (option_rule (codes "workers"))) (option_rule (codes "kits"))) (option_rule (codes "trace"))) (flag_rule (codes "stats"))) (flag_rule (codes "explain"))
+
+-- the form of a line that asks for a program's normal form: --print PROGRAM; help and the version may be asked for
+abbrev pub print_form : App
+print_form = with_rule program_form (option_rule (codes "print"))
 
 -- what the words give for a name of the form
 unfoldable pub given : List ℕ → List (List ℕ) → Option (List ℕ)
@@ -95,6 +101,34 @@ IsLineOf words o = IsLine words (request_of o)
 
 abbrev pub IsNoLine : List (List ℕ) → Type 0
 IsNoLine words = (r : Request) → IsLine words r → ⊥
+
+-- the words have the form of a line that asks for a normal form, and what they give for the program then
+unfoldable pub HasPrintForm : List (List ℕ) → Type 0
+HasPrintForm words = fault_of print_form words ≡ []
+
+unfoldable pub print_given : List (List ℕ) → Option (List ℕ)
+print_given words = first_of (codes "print") (matches_of print_form words)
+
+-- the words are a line that asks for the normal form of the program at this path
+abbrev pub IsPrintLine : List (List ℕ) → List ℕ → Type 0
+IsPrintLine words path = HasPrintForm words × (print_given words ≡ Some path)
+
+abbrev pub IsNoPrintLine : List (List ℕ) → Type 0
+IsNoPrintLine words = (path : List ℕ) → IsPrintLine words path → ⊥
+
+-- the words ask for this: a normal form only where they are no line of a session
+abbrev pub IsAsked : List (List ℕ) → Asked → Type 0
+IsAsked words (Session o) = IsLineOf words o
+IsAsked words (Print path) = IsPrintLine words path.now × IsNoLine words
+
+-- a session has 1 to 16 workers and 1 to 4096 kits
+abbrev pub IsWithin : Asked → Type 0
+IsWithin (Session o) = (1 ≤ o.workers) × (o.workers ≤ 16) × (1 ≤ o.kits) × (o.kits ≤ 4096)
+IsWithin (Print path) = Unit {0}
+
+-- the words ask for neither
+abbrev pub IsNothing : List (List ℕ) → Type 0
+IsNothing words = IsNoLine words × IsNoPrintLine words
 
 -- words are refused: for want of memory, as they ask for help or the version, or as usage with that reason
 abbrev pub IsRefusedFor : Type 0 → List (List ℕ) → OptionsError → Type 0

@@ -1,5 +1,6 @@
-//! The words of the program's line: two paths, and how many workers and kits.
+//! The words of the program's line: what they ask for.
 #![tactic(auto)]
 
 pub mod line;
 pub mod options;
+pub mod words;

@@ -1,13 +1,63 @@
 // The words of the program's line.
-ghost use Rattle.std.specs.Prelude.{◌≡◌, ◌≤◌, ℕ, List, IfOk, IfErr, OnOk, false, map, option_map};
+ghost use Rattle.std.specs.Prelude.{◌≡◌, ◌≤◌, ℕ, List, IfOk, IfErr, IfSome, IfNone, OnOk, false, map, option_map};
 ghost use Rattle.clap.specs.Words.{app_of, found_of, first_value, kind_of, rule_of};
-ghost use Rattle.command_line.specs.Line.{line_form, given, is_set, flag_rule, option_rule, path_rule, HasForm, AsksFor, IsLineOf, IsNoLine, IsRefusedFor, IsRefusalOf};
+ghost use Rattle.command_line.specs.Line.{line_form, print_form, given, is_set, flag_rule, option_rule, path_rule, HasForm, AsksFor, IsAsked, IsLineOf, IsNoLine, IsNothing, IsPrintLine, IsNoPrintLine, IsRefusedFor, IsRefusalOf, IsWithin};
 ghost use Rattle.command_line.specs.declared.options.OptionsError.TheVariants as refusal;
 
-use crate::options::{Options, OptionsError, VERSION};
+use crate::options::{Asked, Options, OptionsError, VERSION};
 use clap::error::ErrorKind;
 use clap::{Arg, ArgAction, ArgMatches, Command, Error};
 use std::alloc::{AllocError, Global};
+
+/// What a line asks for, whose first word is the program's own name: a session, or else a program's normal form; refused as
+/// by `options`.
+pub fn asked_by<'a>(alloc: Global, words: &'a [&'a str]) -> Result<Asked<'a>, OptionsError>
+    ensures read { IfOk result (IsAsked (map (λ word. word.now) words.now)) }
+    ensures within { IfOk result IsWithin }
+    ensures refused { IfErr result (IsRefusedFor (IsNothing (map (λ word. word.now) words.now))
+        (map (λ word. word.now) words.now)) }
+{
+    match options(alloc, words) {
+        Ok(options) => Ok(Asked::Session(options)),
+        Err(OptionsError::Usage) => match printed_path(alloc, words) {
+            Ok(Some(path)) => Ok(Asked::Print(path)),
+            Ok(None) => Err(OptionsError::Usage),
+            Err(error) => Err(error),
+        },
+        Err(OptionsError::NoMemory) => Err(OptionsError::NoMemory),
+        Err(OptionsError::Help) => Err(OptionsError::Help),
+        Err(OptionsError::Version) => Err(OptionsError::Version),
+    }
+}
+
+// The path of the program whose normal form the words ask for; none where they don't. Want of memory is the only error.
+fn printed_path<'a>(alloc: Global, words: &'a [&'a str]) -> Result<Option<&'a str>, OptionsError>
+    ensures found { IfOk result (λ found. IfSome found (λ path.
+        IsPrintLine (map (λ word. word.now) words.now) path.now)) }
+    ensures none { IfOk result (λ found.
+        IfNone found (IsNoPrintLine (map (λ word. word.now) words.now))) }
+    ensures memory { IfErr result (λ error. error ≡ refusal.NoMemory) }
+{
+    let Ok(command) = form_of_print(alloc) else {
+        return Err(OptionsError::NoMemory);
+    };
+    match command.try_get_matches_from(words) {
+        Ok(matches) => Ok(matches.get_str("print")),
+        Err(error) => match error.kind() {
+            ErrorKind::OutOfMemory => Err(OptionsError::NoMemory),
+            _ => Ok(None),
+        },
+    }
+}
+
+// The form of a line that asks for a normal form.
+fn form_of_print<'a>(alloc: Global) -> Result<Command<'a>, AllocError>
+    ensures { IfOk result (λ command. app_of command ≡ print_form) }
+{
+    Command::new(alloc, "cilkreport")
+        .version(VERSION)
+        .arg(option(alloc, "print"))
+}
 
 /// The options of a line, whose first word is the program's own name; refused for another form, a request for help or
 /// the version, or want of memory.

@@ -16,6 +16,13 @@ pub struct Options<'a> {
     pub explain: bool,
 }
 
+/// What the program's line asks for: a session with these options, or the normal form of the program at a path.
+#[derive(Clone, Copy)]
+pub enum Asked<'a> {
+    Session(Options<'a>),
+    Print(&'a str),
+}
+
 /// Why a line gives no options: memory ran out, it has another form, or it asks for a text.
 #[derive(Debug, Drop, Error)]
 pub enum OptionsError {
@@ -33,7 +40,8 @@ pub enum OptionsError {
 pub const VERSION: &str = "0.1.0";
 
 const USAGE: &str =
-    "usage: cilkreport PROGRAM TABLES [--workers 1..16] [--kits 1..4096] [--trace FILE] [--stats] [--explain]";
+    "usage: cilkreport PROGRAM TABLES [--workers 1..16] [--kits 1..4096] [--trace FILE] [--stats] [--explain]
+       cilkreport --print PROGRAM";
 
 const HELP: &str = "  PROGRAM         the file of the report program
   TABLES          the file of its tables, in TOML
@@ -42,6 +50,7 @@ const HELP: &str = "  PROGRAM         the file of the report program
   --trace FILE    writes the history of each run to FILE, otherwise nowhere
   --stats         writes the counts of each run to standard error, otherwise nowhere
   --explain       explains each refused line of the script and each fault on standard error
+  --print PROGRAM writes the program in its normal form to standard output; there are no tables and no other options
   -h, --help      prints this text
   -V, --version   prints the program's version
 

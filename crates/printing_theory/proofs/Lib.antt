@@ -8,6 +8,7 @@ pub mod KindForms
 pub mod Declarations
 pub mod Collected
 pub mod Round
+pub mod Forms
 pub mod Putting
 pub mod Known
 pub mod Defined

@@ -3,10 +3,10 @@
 
 mod again;
 mod definitions;
+mod normal;
 mod printing;
-mod round_trip;
 
 pub use again::print_and_parse;
 pub use definitions::laws_of_definitions;
+pub use normal::{laws_of_normal_forms, normal_form};
 pub use printing::print;
-pub use round_trip::laws_of_the_round_trip;

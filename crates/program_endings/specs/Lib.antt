@@ -1,4 +1,5 @@
 pub mod Endings
 pub mod Failed
+pub mod Failing
 pub mod Statuses
 pub mod Written

@@ -5,15 +5,16 @@ pub mod causes;
 pub mod script;
 
 use crate::causes::push_holder;
-use cli::files::{FileSource, SystemFiles};
-use command_line::line::options;
+use command_line::line::asked_by;
+use command_line::options::Asked;
+use command_line::words::{held_words, lent};
 use explanations::programs::{push_bad_program, push_shown};
 use explanations::rules::push_rule;
 use explanations::tables::{push_bad_table, push_bad_toml};
 use prepared_program::prepare::PrepareError;
+use program_endings::files::{FileSource, SystemFiles};
 use program_endings::program_error::ProgramError;
 use std::alloc::{AllocError, Global};
-use std::env;
 use std::rt::Runtime;
 
 /// The lines in plain words that belong under a report's error: those of a refused program, or of refused tables, which are read once
@@ -37,18 +38,18 @@ fn read_again(
     alloc: Global,
     error: &PrepareError,
 ) -> Option<String> {
-    let mut held = Vec::new(alloc);
-    for word in env::args(rt).ok()? {
-        held.push(word).ok()?;
-    }
-    let mut words = Vec::new(alloc);
-    for word in held.iter() {
-        words.push(word.as_str()).ok()?;
-    }
-    let options = options(alloc, words.as_slice()).ok()?;
+    let held = held_words(rt, alloc).ok()?;
+    let words = lent(alloc, held.as_slice()).ok()?;
+    let (program, tables) = match asked_by(alloc, words.as_slice()).ok()? {
+        Asked::Session(options) => (options.program, Some(options.tables)),
+        Asked::Print(path) => (path, None),
+    };
     let files = SystemFiles { rt };
-    let program = files.read(alloc, options.program).ok()?;
-    let tables = files.read(alloc, options.tables).ok()?;
+    let program = files.read(alloc, program).ok()?;
+    let tables = match tables {
+        Some(path) => files.read(alloc, path).ok()?,
+        None => Vec::new(alloc),
+    };
     let tables = str::from_utf8(tables.as_slice()).ok()?;
     reasons(alloc, error, program.as_slice(), tables).ok()
 }
