@@ -71,9 +71,11 @@ class Progress:
         while not self.is_over.wait(30):
             self.say("")
 
-    def proved(self, name):
+    def proved(self, name, is_kept):
+        """Counts a crate, and tells of it unless an earlier run has proved it."""
         self.done += 1
-        self.say(f" ({name})")
+        if not is_kept:
+            self.say(f" ({name})")
 
 
 def prove(room, count):
@@ -85,9 +87,9 @@ def prove(room, count):
             for line in gate.stdout:
                 log.write(line)
                 log.flush()
-                found = re.fullmatch(r"rt: (\w+) proved\n", line)
+                found = re.match(r"rt: (\w+) (proved$|is kept)", line)
                 if found:
-                    progress.proved(found[1])
+                    progress.proved(found[1], is_kept=found[2] == "is kept")
         finally:
             progress.is_over.set()
         return gate.wait() == 0
