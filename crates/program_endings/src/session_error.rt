@@ -5,7 +5,7 @@ ghost use Rattle.program_endings.specs.declared.session_error.SessionError.TheVa
 
 use std::alloc::AllocError;
 use thiserror::Error;
-use worker_desk::failure::Mismatch;
+use worker_seats::failure::Mismatch;
 
 /// Why a session ended before its script did.
 #[derive(Debug, Drop, Error)]

@@ -19,7 +19,7 @@ use Rattle.right_strands.specs.Remembering.{Remembers}
 use Rattle.right_strands.specs.Rightness.{Pushed, FitsHere, IsRightTask}
 use Rattle.stealing_deques.specs.declared.entry.Spot.{Spot}
 use Rattle.stealing_deques.specs.Order.{spot, GoesOn, IsBoundTo}
-use Rattle.worker_desk.specs.Spots.{numbers_of, lowest_name, spot_of, bottom_of, own_spot, child_spot, HasReturned}
+use Rattle.worker_seats.specs.Spots.{numbers_of, lowest_name, spot_of, bottom_of, own_spot, child_spot, HasReturned}
 use Rattle.threaded_driver.proofs.Names.{under, alone, goes_on}
 use Rattle.threaded_driver.proofs.Staying.{stays}
 

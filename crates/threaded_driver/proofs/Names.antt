@@ -4,7 +4,7 @@ use Rattle.std.proofs.lemmas.List.{length-append, length-take-le, length-drop, t
 use Rattle.positions.specs.Activations.{PlainActivation}
 use Rattle.positions.specs.Strands.{shorter}
 use Rattle.stealing_deques.specs.Order.{GoesOn}
-use Rattle.worker_desk.specs.Spots.{lowest_name}
+use Rattle.worker_seats.specs.Spots.{lowest_name}
 
 -- one is taken off
 pub under : (path : List ℕ) (rest : List PlainActivation) → lowest_name (shorter path) rest ≡ take (length path - suc (length rest)) path

@@ -31,7 +31,7 @@ use Rattle.positions.specs.Advance.{with_top, noted, answered, evaluated, recall
 use Rattle.stealing_deques.specs.declared.entry.Spot.{Spot}
 use Rattle.frames.specs.Paths.{IsPath, here, on}
 use Rattle.stealing_deques.specs.Order.{spot}
-use Rattle.worker_desk.specs.Spots.{numbers_of, lowest_name, spot_of}
+use Rattle.worker_seats.specs.Spots.{numbers_of, lowest_name, spot_of}
 use Rattle.threaded_driver.proofs.Names.{under, above}
 
 module _ (there : Spot) where

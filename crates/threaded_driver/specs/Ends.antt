@@ -2,8 +2,8 @@
 use Rattle.std.specs.Prelude.{[]}
 use Rattle.positions.specs.Setting.{setting_with}
 use Rattle.kept_session.specs.Sessions.{PlainSession}
-use Rattle.worker_desk.specs.declared.ended.Ended.{Ended}
-use Rattle.worker_desk.specs.Ends.{IsEnd}
+use Rattle.worker_seats.specs.declared.ended.Ended.{Ended}
+use Rattle.worker_seats.specs.Ends.{IsEnd}
 
 -- that of a run of a session's program
 abbrev pub IsEndFor : PlainSession → Ended → Type 0

@@ -11,12 +11,14 @@ ghost use Rattle.right_strands.specs.Laid.{AnswersElision, IsGiven, HasRecorded}
 ghost use Rattle.run_terms.specs.Starts.{CannotStart};
 ghost use Rattle.stealing_deques.specs.Order.{IsBoundTo};
 ghost use Rattle.run_terms.specs.Come.{HasEnded};
-ghost use Rattle.worker_desk.specs.Histories.{HasHistory};
-ghost use Rattle.worker_desk.specs.Ends.{IsAlone, IsEnd};
-ghost use Rattle.worker_desk.specs.Finds.{is_left};
-ghost use Rattle.worker_desk.specs.Over.{is_refusal, is_right};
-ghost use Rattle.worker_desk.specs.Spots.{spot_of, own_spot, child_spot, HasReturned};
+ghost use Rattle.worker_seats.specs.Histories.{HasHistory};
+ghost use Rattle.worker_seats.specs.Ends.{IsAlone, IsEnd};
+ghost use Rattle.threaded_driver.specs.Finds.{is_left};
+ghost use Rattle.worker_seats.specs.Over.{is_refusal, is_right};
+ghost use Rattle.worker_seats.specs.Spots.{spot_of, own_spot, child_spot, HasReturned};
 
+use crate::desk::{Desk, Parts};
+use crate::found::Found;
 use crate::gate::{Gate, Point};
 use crossbeam_utils::Backoff;
 use frames::answer::RunAnswer;
@@ -38,14 +40,12 @@ use std::sync::ledger::Ledger;
 use std::sync::{Mutex, Wait};
 use stealing_deques::Deques;
 use view_pool::{Kit, Pool, View};
-use worker_desk::beginning::{NewDeques, first_of};
-use worker_desk::desk::{Desk, Parts};
-use worker_desk::ended::Ended;
-use worker_desk::failure::{Failure, Mismatch};
-use worker_desk::found::Found;
-use worker_desk::kits::{KitsOf, RightPool, Stocked};
-use worker_desk::seat::Seat;
-use worker_desk::supply::Supply;
+use worker_seats::beginning::{NewDeques, first_of};
+use worker_seats::ended::Ended;
+use worker_seats::failure::{Failure, Mismatch};
+use worker_seats::kits::{KitsOf, RightPool, Stocked};
+use worker_seats::seat::Seat;
+use worker_seats::supply::Supply;
 
 /// How many times a worker goes ahead before it looks whether the run has given up.
 const STEPS: usize = 64;

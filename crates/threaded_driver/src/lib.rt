@@ -1,7 +1,9 @@
 //! Runs of a session's program by threads: one lock over the list of strands and the pool of kits, and deques outside of it.
 #![tactic(auto)]
 
+mod desk;
 mod floor;
+mod found;
 pub mod gate;
 pub mod run;
 
@@ -11,8 +13,8 @@ pub use numbered_runs::refusal::StartError;
 pub use right_strands::run::Run;
 pub use run::run_threads;
 pub use stealing_deques::Deques;
-pub use worker_desk::beginning::{NewDeques, deques_of};
-pub use worker_desk::failure;
-pub use worker_desk::failure::Mismatch;
-pub use worker_desk::kits::Stocked;
-pub use worker_desk::seat::{PlainSeat, Seat};
+pub use worker_seats::beginning::{NewDeques, deques_of};
+pub use worker_seats::failure;
+pub use worker_seats::failure::Mismatch;
+pub use worker_seats::kits::Stocked;
+pub use worker_seats::seat::{PlainSeat, Seat};

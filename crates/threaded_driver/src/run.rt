@@ -10,10 +10,10 @@ ghost use Rattle.numbered_runs.specs.News.{AreSound};
 ghost use Rattle.kept_session.specs.Sessions.{standing_of};
 ghost use Rattle.session_runs.specs.Runs.{IsFromScratch, LeavesRecords, IsQuietAfter};
 ghost use Rattle.run_terms.specs.Come.{HasCome, HasEnded};
-ghost use Rattle.worker_desk.specs.Histories.{HasHistory};
-ghost use Rattle.worker_desk.specs.Ends.{IsEnd};
+ghost use Rattle.worker_seats.specs.Histories.{HasHistory};
+ghost use Rattle.worker_seats.specs.Ends.{IsEnd};
 ghost use Rattle.threaded_driver.specs.Ends.{IsEndFor};
-ghost use Rattle.worker_desk.specs.Over.{is_refusal};
+ghost use Rattle.worker_seats.specs.Over.{is_refusal};
 ghost use Rattle.sync_fold.specs.declared.error.BookError.TheVariants as error;
 
 use crate::floor::{Floor, work};
@@ -33,11 +33,11 @@ use std::thread;
 use std::thread::Threads;
 use stealing_deques::Deques;
 use view_pool::{Kit, Pool, View};
-use worker_desk::beginning::{NewDeques, deques_of};
-use worker_desk::ended::Ended;
-use worker_desk::failure::Mismatch;
-use worker_desk::kits::Stocked;
-use worker_desk::seat::Seat;
+use worker_seats::beginning::{NewDeques, deques_of};
+use worker_seats::ended::Ended;
+use worker_seats::failure::Mismatch;
+use worker_seats::kits::Stocked;
+use worker_seats::seat::Seat;
 
 /// Runs a session's program on its tables by so many threads. Its memo instances are answered by the records that hold now, and
 /// those that a finished run makes are kept for the next one. The answer is NoKit where no kit is free, and NoMemory where memory

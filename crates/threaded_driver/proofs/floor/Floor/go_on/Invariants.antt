@@ -1,5 +1,5 @@
 use Rattle.stealing_deques.specs.Order.{IsBoundTo}
-use Rattle.worker_desk.specs.Spots.{spot_of}
+use Rattle.worker_seats.specs.Spots.{spot_of}
 use Rattle.threaded_driver.proofs.floor.Floor.go_on.Given as goal
 
 abbrev pub invariant-loop : goal.invariant-loop

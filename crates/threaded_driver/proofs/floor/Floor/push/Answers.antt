@@ -1,8 +1,8 @@
 use Rattle.std.proofs.Common.{sym, ap, subst}
 use Rattle.right_strands.specs.Rightness.{PlainRight}
 use Rattle.stealing_deques.specs.Order.{IsBoundTo}
-use Rattle.worker_desk.specs.Spots.{spot_of}
-use Rattle.worker_desk.specs.declared.seat.PlainSeat.{PlainSeat}
+use Rattle.worker_seats.specs.Spots.{spot_of}
+use Rattle.worker_seats.specs.declared.seat.PlainSeat.{PlainSeat}
 use Rattle.threaded_driver.proofs.Binding.{spawned_at, attached_bound, task_goes_on}
 use Rattle.threaded_driver.proofs.floor.Floor.push.Goals as goal
 

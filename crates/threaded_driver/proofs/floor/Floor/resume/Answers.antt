@@ -1,7 +1,7 @@
 use Rattle.std.proofs.Common.{◌≡◌, ap, ◌∙◌}
 use Rattle.positions.specs.Moves.{resumed}
 use Rattle.right_strands.specs.Rightness.{PlainRight, FitsHere}
-use Rattle.worker_desk.specs.Spots.{spot_of, own_spot}
+use Rattle.worker_seats.specs.Spots.{spot_of, own_spot}
 use Rattle.threaded_driver.proofs.Binding.{bound_to, pops_fit, resumed_at}
 use Rattle.threaded_driver.proofs.floor.Floor.resume.Goals as goal
 

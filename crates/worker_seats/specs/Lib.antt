@@ -1,0 +1,4 @@
+pub mod Histories
+pub mod Ends
+pub mod Over
+pub mod Spots

@@ -1,0 +1,29 @@
+-- When a run is over.
+use Rattle.std.specs.Prelude.{Bool, true, false, ◌||◌, Option, Some, None}
+use Rattle.sync_fold.specs.Books.{PlainBook, is_ended}
+use Rattle.sync_fold.specs.declared.error.BookError.{BookError}
+use Rattle.sync_fold.specs.declared.error.BookError.TheVariants as error
+use Rattle.worker_seats.specs.declared.failure.Failure.{Failure}
+use Rattle.worker_seats.specs.declared.failure.Failure.TheVariants as failure
+
+abbrev pub has_failed : Option Failure → Bool
+has_failed None = false
+has_failed (Some f) = true
+
+-- the run is at its end, or it has failed
+abbrev pub is_over : PlainBook → Option Failure → Bool
+is_over book given_up = has_failed given_up || is_ended book
+
+-- a refusal that isn't for want of memory
+abbrev pub is_refusal : BookError → Bool
+is_refusal error.NoMemory = false
+is_refusal _ = true
+
+-- want of memory is noted as such
+abbrev pub is_right : Failure → Bool
+is_right failure.NoMemory = true
+is_right (failure.Refused e) = is_refusal e
+
+abbrev pub is_noted : Option Failure → Bool
+is_noted None = true
+is_noted (Some f) = is_right f

@@ -1,0 +1,58 @@
+//! How a run has ended.
+ghost use Rattle.std.specs.Prelude.{◌≡◌};
+ghost use Rattle.run_terms.specs.Come.{HasEnded};
+ghost use Rattle.right_strands.specs.Laid.{HasRecorded};
+ghost use Rattle.rerun_records.specs.Named.{HaveValues};
+ghost use Rattle.positions.specs.Setting.{Setting};
+ghost use Rattle.worker_seats.specs.Ends.{IsAlone, IsEnd};
+ghost use Rattle.frames.specs.declared.answer.RunAnswer.TheVariants as answer;
+
+use frames::answer::RunAnswer;
+use numbered_runs::step::BookStep;
+use rerun_records::record::Record;
+use std::alloc::Global;
+
+/// How a run has ended: its answer, its new records, and the steps of its list of strands.
+#[derive(Drop)]
+pub struct Ended {
+    pub answer: RunAnswer,
+    pub made: Vec<Record>,
+    pub steps: Vec<BookStep>,
+}
+
+impl Ended {
+    /// A run that memory was refused to.
+    pub fn without_memory(alloc: Global) -> Ended
+        ensures answer { result.answer ≡ answer.NoMemory }
+        ensures end { (setting : Setting) → IsEnd setting result }
+    {
+        Ended {
+            answer: RunAnswer::NoMemory,
+            made: Vec::new(alloc),
+            steps: Vec::new(alloc),
+        }
+    }
+}
+
+/// The records that are kept of a run with that answer: those that were made, where it has finished.
+pub fn kept_of(alloc: Global, answer: &RunAnswer, made: Vec<Record>) -> Vec<Record>
+    ensures alone { IsAlone answer.now result.items }
+    ensures recorded { (setting : Setting) → HasRecorded setting answer.now made.items → HasRecorded setting answer.now result.items }
+    ensures values { (setting : Setting) → HaveValues setting.kinds made.items → HaveValues setting.kinds result.items }
+{
+    match answer {
+        RunAnswer::Finished { .. } => made,
+        _ => Vec::new(alloc),
+    }
+}
+
+/// How a run has ended that has come to this end, with so many kits home of so many. Where not all are, it was refused memory.
+pub fn unless_lost(alloc: Global, ended: Ended, home: usize, kits: usize) -> Ended
+    ensures end { (setting : Setting) → IsEnd setting ended → IsEnd setting result }
+    ensures home { HasEnded result.answer → home ≡ kits }
+{
+    if home != kits {
+        return Ended::without_memory(alloc);
+    }
+    ended
+}

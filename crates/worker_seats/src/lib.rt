@@ -1,0 +1,10 @@
+//! What each worker of a run by threads has to itself, what it takes kits from, and how the run ends.
+#![tactic(auto)]
+
+pub mod beginning;
+pub mod ended;
+pub mod failure;
+pub mod kits;
+pub mod seat;
+pub mod supply;
+pub mod waiting;

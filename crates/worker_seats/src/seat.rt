@@ -1,0 +1,122 @@
+//! A worker's own end of its deque, and its part of the count of those that have left.
+ghost use Rattle.std.specs.Prelude.{◌≡◌, ◌+◌, ◌≤◌, true, false, Some, None, All, length, IfOk, IfSome, IfNone, IfErr, OnOk, OnErr};
+ghost use Rattle.stealing_deques.specs.Order.{GoesOn, IsBoundTo};
+ghost use Rattle.worker_seats.specs.Spots.{bottom_of, own_spot, child_spot};
+
+use crate::waiting::Waiting;
+use right_strands::run::Run;
+use right_strands::task::RightTask;
+use std::alloc::{AllocError, Global};
+use std::marker::Model;
+use std::sync::ledger::{Book as Count, Ledger, Share};
+use stealing_deques::{Deques, OwnerEnd, Spot, ThiefEnd};
+
+/// What contracts see of a seat: how often its worker has left, and the spot that its deque is bound to, if it is bound to one.
+pub struct PlainSeat {
+    pub left: u64,
+    pub here: Option<Spot>,
+}
+
+/// What a worker has to itself: its end of its deque, and its part of the count of those that have left.
+#[derive(Drop)]
+pub struct Seat<J: Run + Ledger + Send, D: Deques> {
+    owner: OwnerEnd<Waiting<J>, D>,
+    share: Share<J>,
+}
+
+impl<J: Run + Ledger + Send, D: Deques> Model for Seat<J, D> {
+    ghost use Rattle.std.specs.Prelude.{◌≡◌};
+    ghost use Rattle.worker_seats.specs.declared.seat.PlainSeat.{PlainSeat};
+
+    ghost Value = { PlainSeat };
+
+    ghost view = { λ s. record { left = s.share.amount; here = s.owner.here } };
+
+    ghost invariant = { λ s. s.share.parts ≡ 1 };
+}
+
+impl<J: Run + Ledger + Send, D: Deques> Seat<J, D> {
+    /// A seat with that end of a deque and that part of the count.
+    fn new(owner: OwnerEnd<Waiting<J>, D>, share: Share<J>) -> Seat<J, D>
+        requires one { share.parts ≡ 1 }
+        requires none { share.amount ≡ 0 }
+        ensures none { result.left ≡ 0 }
+    {
+        Seat { owner, share }
+    }
+
+    /// The number of its deque.
+    pub fn deque(&self) -> usize {
+        self.owner.number()
+    }
+
+    /// Puts a continuation at the new end of the deque, or hands it back where there is no room.
+    pub fn push(&mut self, task: RightTask<J>) -> Result<(), RightTask<J>>
+        requires goes_on { GoesOn (bottom_of task.task) task.task.place }
+        requires bound { IsBoundTo self.old.here (own_spot task) }
+        ensures pushed { OnOk result (self.new.here ≡ Some (child_spot task)) }
+        ensures back { IfErr result (λ t. t ≡ task) }
+        ensures same { OnErr result (self.new ≡ self.old) }
+    {
+        match self.owner.push(Waiting { task }) {
+            Ok(()) => Ok(()),
+            Err(waiting) => Err(waiting.task),
+        }
+    }
+
+    /// Takes the newest continuation: the one that waits for the child at the spot. A miss says nothing.
+    pub fn pop(&mut self) -> Option<RightTask<J>>
+        ensures waits { IfSome result (λ t. self.old.here ≡ Some (child_spot t)) }
+        ensures popped { IfSome result (λ t. self.new.here ≡ Some (own_spot t)) }
+        ensures same { IfNone result (self.new ≡ self.old) }
+    {
+        match self.owner.pop() {
+            Some(waiting) => Some(waiting.task),
+            None => None,
+        }
+    }
+
+    /// Whether all that was pushed was taken, as the thieves' end of the deque counts.
+    pub fn is_drained(&mut self, thief: &mut ThiefEnd<Waiting<J>, D>) -> bool
+        ensures drained { result ≡ true → self.new.here ≡ None }
+        ensures same { result ≡ false → self.new ≡ self.old }
+    {
+        self.owner.is_drained(thief)
+    }
+
+    /// Counts its worker among those that have left.
+    pub fn leave(&mut self, leavers: &mut Count<J>)
+        ensures left { self.new ≡ record self.old { left = self.old.left + 1 } }
+        ensures counted { leavers.new.total ≡ leavers.old.total + 1 }
+    {
+        leavers.add(&mut self.share, 1);
+    }
+
+    /// As often as its worker has left, at least so many have left in all.
+    pub fn audit(&mut self, leavers: &mut Count<J>)
+        ensures counted { self.old.left ≤ leavers.old.total }
+        ensures same { leavers.new.total ≡ leavers.old.total }
+    {
+        leavers.audit(&mut self.share);
+    }
+}
+
+/// A seat for each deque. Want of memory is the only error.
+pub fn seats_of<J: Run + Ledger + Send, D: Deques>(
+    alloc: Global,
+    owners: Vec<OwnerEnd<Waiting<J>, D>>,
+    share: Share<J>,
+) -> Result<Vec<Seat<J, D>>, AllocError>
+    requires parts { share.parts ≡ length owners.items }
+    requires none { share.amount ≡ 0 }
+    ensures count { IfOk result (λ seats. length seats.items ≡ length owners.items) }
+    ensures none_left { IfOk result (λ seats. All (λ seat. seat.left ≡ 0) seats.items) }
+{
+    let mut owners = owners;
+    let mut share = share;
+    let mut seats = Vec::new(alloc);
+    while let Some(owner) = owners.pop() {
+        seats.push(Seat::new(owner, share.split_off(1, 0)))?;
+    }
+    Ok(seats)
+}
