@@ -4,9 +4,9 @@ ghost use Rattle.prepared_program.specs.Preparing.{IsPrepared};
 ghost use Rattle.cli.specs.Begun.{IsUnbegun};
 
 use crate::kits::kits_for;
+use kept_session::Session;
 use monoid_laws::Kind;
 use prepared_program::prepare::{PrepareError, prepare};
-use kept_session::Session;
 use std::alloc::{AllocError, Global};
 use thiserror::Error;
 use view_pool::View;

@@ -18,11 +18,7 @@ pub trait Stepped {
     fn run(&mut self, alloc: Global, workers: usize, steps: &[Step]) -> RunAnswer;
 
     /// Does commands in their order, each in what those before have left.
-    fn play(
-        &mut self,
-        alloc: Global,
-        commands: &[Command<'_>],
-    ) -> Result<Vec<Answer>, AllocError>;
+    fn play(&mut self, alloc: Global, commands: &[Command<'_>]) -> Result<Vec<Answer>, AllocError>;
 }
 
 impl<V: View> Stepped for Session<V> {
@@ -71,11 +67,7 @@ impl<V: View> Stepped for Session<V> {
     /// Does commands in their order, each in the session that those before have left. Whatever the edits and runs before it,
     /// each run that comes to its end answers the elision of the program on the tables as they are then, done from scratch.
     /// Where memory is refused for the answers nothing is done.
-    fn play(
-        &mut self,
-        alloc: Global,
-        commands: &[Command<'_>],
-    ) -> Result<Vec<Answer>, AllocError>
+    fn play(&mut self, alloc: Global, commands: &[Command<'_>]) -> Result<Vec<Answer>, AllocError>
         ensures elision { IfOk result (λ answers.
             AnswerElision (standing_of self.old) commands.now answers.items) }
         ensures done { IfOk result (λ answers.

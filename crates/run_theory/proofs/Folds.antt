@@ -131,7 +131,7 @@ module _ (program : Revised) (tables : Tables) (memory : Memory) where
         let o = over_of st l.strand ks v d refl i.laid in
         let s = stalled_of r.state r.strand r.deque wt n j.laid in
         join_over first found mid later ps m ls fr v t ks st ta r.strand.start r.strand.layers r.strand.frame r.strand.phase r.strand.under r.deque r.state r.tally i h j g rest
-        o.0 o.1 s.deque s.one_layer s.entry (same_name_true fr.instance (place_of r) x.0) (may_join_true l.strand (joined program.tree l.strand v r.strand) x.1)
+        o.0 o.1 s.deque s.one_layer s.entry (same_name_true fr.instance (place_of r) x.0) (may_join_true program tables memory l.strand (joined program.tree l.strand v r.strand) x.1)
 
     join_sound : (first : Bool) (found mid later : List Bool) (ps : List Piece) (m : Start) (ls : List Notes) (fr : Frame) (v : ℤ) (t : List Parent) (ks : List Continuation) (st : State) (ta : Tally) (r : Piece)
         → let l = piece_of m ls fr (leaving v) t ks st ta in
@@ -140,7 +140,7 @@ module _ (program : Revised) (tables : Tables) (memory : Memory) where
         → ForSome (Joined first found later l (front ps)) (folded_by program tables memory w l r (joined_pair program tables memory l.strand (leaving v) r.strand r.strand.phase))
     join_sound first found mid later ps m ls fr v t ks st ta r i j rest d wt n =
         let l = piece_of m ls fr (leaving v) t ks st ta in
-        subst (λ o. ForSome (Joined first found later l (front ps)) (folded_by program tables memory w l r o)) (sym (pair_sound l.strand r.strand v r.strand.phase n))
+        subst (λ o. ForSome (Joined first found later l (front ps)) (folded_by program tables memory w l r o)) (sym (pair_sound program tables memory l.strand r.strand v r.strand.phase n))
         (elim i.fits [
           | inr c ↦ absurd (let q : leaving v ≡ broken c.fault = c.phase in cc)
           | inl h ↦ elim j.fits [

@@ -38,17 +38,17 @@ module _ (program : Revised) (tables : Tables) (memory : Memory) where
 
 module _ (program : Revised) (tables : Tables) (memory : Memory) (ready : IsReady program tables memory) where
   pub step_right : (s : RunState) (e : RunStep) → IsRightNow program tables memory s → ForSome (IsRightNow program tables memory) (after_step program tables memory s e)
-  step_right s (work w) h = changed_fits program.tree tables (S program tables memory) (L program tables memory) w (worked program tables memory s.kits) (works_fit program tables memory law ready.rules sound s.kits w) [] s.pieces s.history true [] h
-  step_right s (push w) h = changed_fits program.tree tables (S program tables memory) (L program tables memory) w (pushed program tables memory s.kits) (pushes_fit program tables memory law ready.rules sound s.kits w) [] s.pieces s.history true [] h
-  step_right s (inline w) h = changed_fits program.tree tables (S program tables memory) (L program tables memory) w (inlined_of program tables memory s.kits) (inlines_fit program tables memory law ready.rules sound s.kits w) [] s.pieces s.history true [] h
-  step_right s (pop w) h = changed_fits program.tree tables (S program tables memory) (L program tables memory) w (popped program tables memory s.kits) (pops_fit program tables memory law ready.rules sound s.kits w) [] s.pieces s.history true [] h
+  step_right s (work w) h = changed_fits program.tree tables (S program tables memory) (L program tables memory) w (worked program tables memory s.kits) (works_fit program tables memory (law program tables memory ready) ready.rules (sound program tables memory ready) s.kits w) [] s.pieces s.history true [] h
+  step_right s (push w) h = changed_fits program.tree tables (S program tables memory) (L program tables memory) w (pushed program tables memory s.kits) (pushes_fit program tables memory (law program tables memory ready) ready.rules (sound program tables memory ready) s.kits w) [] s.pieces s.history true [] h
+  step_right s (inline w) h = changed_fits program.tree tables (S program tables memory) (L program tables memory) w (inlined_of program tables memory s.kits) (inlines_fit program tables memory (law program tables memory ready) ready.rules (sound program tables memory ready) s.kits w) [] s.pieces s.history true [] h
+  step_right s (pop w) h = changed_fits program.tree tables (S program tables memory) (L program tables memory) w (popped program tables memory s.kits) (pops_fit program tables memory (law program tables memory ready) ready.rules (sound program tables memory ready) s.kits w) [] s.pieces s.history true [] h
   step_right s (stall w) h = changed_fits program.tree tables (S program tables memory) (L program tables memory) w (stalled program tables memory s.kits) (stalls_fit program tables memory s.kits w) [] s.pieces s.history true [] h
   step_right s (steal t v) h =
       idle program tables memory (IsRightNow program tables memory) (is_idle t s.pieces) (changed v (stolen_from program tables memory t s.kits) [] s.pieces s.history)
       (changed_fits program.tree tables (S program tables memory) (L program tables memory) v (stolen_from program tables memory t s.kits) (steals_fit program tables memory t v s.kits) [] s.pieces s.history true [] h)
   step_right s (fold w q) h =
       idle program tables memory (IsRightNow program tables memory) (is_idle w s.pieces) (folded_at program tables memory w q s.kits [] s.pieces s.history)
-      (folds_fit program tables memory law w q s.kits [] s.pieces s.history true [] h)
+      (folds_fit program tables memory (law program tables memory ready) w q s.kits [] s.pieces s.history true [] h)
 
   pub steps_right : StepsStayRight program tables memory
   steps_right s t e h q = some_is (IsRightNow program tables memory) (after_step program tables memory s e) t (step_right s e h) q

@@ -37,22 +37,22 @@ near_at program tables lookup kit acc m W fr (broken k) o f c = tt
 
 module _ (program : Revised) (tables : Tables) (memory : Memory) where
   abbrev pub FitPiece : Bool → Piece → List Bool → List Bool → Place → Type 0
-  FitPiece = IsPiece program.tree tables S L
+  FitPiece = IsPiece program.tree tables (S program tables memory) (L program tables memory)
 
   abbrev pub FitAll : Bool → List Piece → List Bool → Type 0
-  FitAll = Fit program.tree tables S L
+  FitAll = Fit program.tree tables (S program tables memory) (L program tables memory)
 
   abbrev pub Whole : Piece → List Bool → List Bool → Place → Type 0
-  Whole = IsWhole program.tree tables S L
+  Whole = IsWhole program.tree tables (S program tables memory) (L program tables memory)
 
   abbrev pub Pushed : Start → List Continuation → Type 0
-  Pushed m ks = Every (IsPushed program.tree tables S L m) ks
+  Pushed m ks = Every (IsPushed program.tree tables (S program tables memory) (L program tables memory) m) ks
 
   abbrev pub Put : Bool → List Bool → Piece → List Piece → Change → Type 0
-  Put = Replaces program.tree tables S L
+  Put = Replaces program.tree tables (S program tables memory) (L program tables memory)
 
   abbrev pub Keeps : ℕ → (Piece → Option Change) → Type 0
-  Keeps = KeepsFit program.tree tables S L
+  Keeps = KeepsFit program.tree tables (S program tables memory) (L program tables memory)
 
   pub shifts_of : (kits : ℕ) (p : Piece) (found later : List Bool) (e : Place) → Whole p found later e
       → Shifts p.strand.start (memory.recording && nat_lt 0 kits) (length (place_of p) ≤ length p.strand.frame.instance) p.strand.frame p.strand.under (step_of program tables memory kits p.strand)
@@ -60,24 +60,24 @@ module _ (program : Revised) (tables : Tables) (memory : Memory) where
       let s = p.strand in
       let acc = (total program.tree s.layers).worth in
       let task = h.right.task in
-      micro_shifts program.tree tables L (memory.recording && nat_lt 0 kits) acc s.start (length (place_of p) ≤ length s.frame.instance) s.frame s.phase s.under
-      (near_at program.tree tables L (memory.recording && nat_lt 0 kits) acc s.start task.frame_fits.waiting s.frame s.phase task.frame_fits.orderly task.fringe h.closed) task.stacked
+      micro_shifts program.tree tables (L program tables memory) (memory.recording && nat_lt 0 kits) acc s.start (length (place_of p) ≤ length s.frame.instance) s.frame s.phase s.under
+      (near_at program.tree tables (L program tables memory) (memory.recording && nat_lt 0 kits) acc s.start task.frame_fits.waiting s.frame s.phase task.frame_fits.orderly task.fringe h.closed) task.stacked
 
   -- a strand with a fault does no work
   pub worked_broken : (kits : ℕ) (P : Change → Type 0) (p : Piece) (k : Fault) → p.strand.phase ≡ broken k → ForSome P (worked program tables memory kits p)
   worked_broken kits P p k e =
       let s = p.strand in
-      subst (λ ph. ForSome P (worked_by program tables memory kits p (micro program.tree tables L (memory.recording && nat_lt 0 kits) (total program.tree s.layers).worth s.start s.frame ph s.under))) (sym e) tt
+      subst (λ ph. ForSome P (worked_by program tables memory kits p (micro program.tree tables (L program tables memory) (memory.recording && nat_lt 0 kits) (total program.tree s.layers).worth s.start s.frame ph s.under))) (sym e) tt
 
-  module _ (law : StretchesMultiply program.tree tables S L) (rules : KeepsRules program.tree) (sound : RecordedAreSound program.tree tables S L) (kits w : ℕ) where
+  module _ (law : StretchesMultiply program.tree tables (S program tables memory) (L program tables memory)) (rules : KeepsRules program.tree) (sound : RecordedAreSound program.tree tables (S program tables memory) (L program tables memory)) (kits w : ℕ) where
     -- ---- work
 
     work_to : (first : Bool) (found later : List Bool) (p : Piece) (ps : List Piece) → holds_by w p.state ≡ true → FitPiece first p found later (front ps) → (h : Whole p found later (front ps)) → FitAll false ps later
-        → (st : Step) → IsRight program.tree tables S L (advanced program.tree p.strand st) → Shifts p.strand.start (memory.recording && nat_lt 0 kits) (length (place_of p) ≤ length p.strand.frame.instance) p.strand.frame p.strand.under st
+        → (st : Step) → IsRight program.tree tables (S program tables memory) (L program tables memory) (advanced program.tree p.strand st) → Shifts p.strand.start (memory.recording && nat_lt 0 kits) (length (place_of p) ≤ length p.strand.frame.instance) p.strand.frame p.strand.under st
         → ForSome (Put first found p ps) (worked_by program tables memory kits p st)
     work_to first found later p ps held i h rest (moved l evs fr ph t) right s =
         let ds = deque_flags p.deque in
-        let one = owns_one program.tree tables S L p found later (front ps) h i.deque (behind_long program.tree tables S L false ps later rest) i.as_long in
+        let one = owns_one program.tree tables (S program tables memory) (L program tables memory) p found later (front ps) h i.deque (behind_long program.tree tables (S program tables memory) (L program tables memory) false ps later rest) i.as_long in
         let o = own_after h.own (ds ++ later) found s.moves one (sym (append_assoc (flags_of p.strand.frame p.strand.under) ds later) ∙ h.flags) in (
           refl,
           (
@@ -101,7 +101,7 @@ module _ (program : Revised) (tables : Tables) (memory : Memory) where
         )
     work_to first found later p ps held i h rest (taken evs k fr ph t) right s =
         let ds = deque_flags p.deque in
-        let one = owns_one program.tree tables S L p found later (front ps) h i.deque (behind_long program.tree tables S L false ps later rest) i.as_long in
+        let one = owns_one program.tree tables (S program tables memory) (L program tables memory) p found later (front ps) h i.deque (behind_long program.tree tables (S program tables memory) (L program tables memory) false ps later rest) i.as_long in
         let o = own_after h.own (ds ++ later) found s.moves one (sym (append_assoc (flags_of p.strand.frame p.strand.under) ds later) ∙ h.flags) in (
           refl,
           (
@@ -128,7 +128,7 @@ module _ (program : Revised) (tables : Tables) (memory : Memory) where
     pub works_fit : Keeps w (worked program tables memory kits)
     works_fit first found later p ps held i rest =
         elim i.fits [
-          | inl h ↦ work_to first found later p ps held i h rest (step_of program tables memory kits p.strand) (advances_by_product program.tree tables L law rules sound (memory.recording && nat_lt 0 kits) p.strand h.right) (shifts_of kits p found later (front ps) h)
+          | inl h ↦ work_to first found later p ps held i h rest (step_of program tables memory kits p.strand) (advances_by_product program.tree tables (L program tables memory) law rules sound (memory.recording && nat_lt 0 kits) p.strand h.right) (shifts_of kits p found later (front ps) h)
           | inr c ↦ worked_broken kits (Put first found p ps) p c.fault c.phase
         ]
 
@@ -147,14 +147,14 @@ module _ (program : Revised) (tables : Tables) (memory : Memory) where
               begins = i.begins;
               as_long = i.as_long;
               fits = inl (record {
-                right = detaches program.tree tables S L s d x child todo refl h.right;
+                right = detaches program.tree tables (S program tables memory) (L program tables memory) s d x child todo refl h.right;
                 links = (refl, subst (λ n. Links n ks (front ps)) (sym (lowest_frame fr k.parent.frame t refl)) h.links);
                 own = false ∷ h.own;
                 flags = ap (λ u. false ∷ u) h.flags;
                 layers = h.layers;
                 closed = tt;
               });
-              deque = ((refl, continues program.tree tables S L s d x child todo refl h.right), i.deque);
+              deque = ((refl, continues program.tree tables (S program tables memory) (L program tables memory) s d x child todo refl h.right), i.deque);
               laid = held_any w st _ _ held;
             },
             rest,
@@ -173,7 +173,7 @@ module _ (program : Revised) (tables : Tables) (memory : Memory) where
               begins = i.begins;
               as_long = i.as_long;
               fits = inl (record {
-                right = inlines program.tree tables S L s d x child todo refl h.right;
+                right = inlines program.tree tables (S program tables memory) (L program tables memory) s d x child todo refl h.right;
                 links = subst (λ n. Links n ks (front ps)) (sym (lowest_frame fr (awaiting fr true x todo).frame t refl)) h.links;
                 own = false ∷ h.own;
                 flags = ap (λ u. false ∷ u) h.flags;
@@ -222,7 +222,7 @@ module _ (program : Revised) (tables : Tables) (memory : Memory) where
         → ForSome (Put first found (piece_of m ls fr (leaving v) [] (k ∷ ks) st ta) ps) (popped_at program tables memory kits (piece_of m ls fr (leaving v) [] (k ∷ ks) st ta) (leaving v) [] (k ∷ ks))
     pop_whole first found later ps m ls fr v k ks st ta held i h rest =
         let p = piece_of m ls fr (leaving v) [] (k ∷ ks) st ta in
-        let one = owns_one program.tree tables S L p found later (front ps) h i.deque (behind_long program.tree tables S L false ps later rest) i.as_long (higher_long m fr.instance h.right.task.fringe) in
+        let one = owns_one program.tree tables (S program tables memory) (L program tables memory) p found later (front ps) h i.deque (behind_long program.tree tables (S program tables memory) (L program tables memory) false ps later rest) i.as_long (higher_long m fr.instance h.right.task.fringe) in
         let o = own_tail h.own ((flags_of k.parent.frame k.under ++ deque_flags ks) ++ later) found fr.recorded one h.closed h.flags in (
           refl,
           (
@@ -231,7 +231,7 @@ module _ (program : Revised) (tables : Tables) (memory : Memory) where
               begins = i.begins;
               as_long = i.as_long;
               fits = inl (record {
-                right = pops program.tree tables S L p.strand k v refl refl (sym i.deque.0.0) h.links.0 h.right i.deque.0.1;
+                right = pops program.tree tables (S program tables memory) (L program tables memory) p.strand k v refl refl (sym i.deque.0.0) h.links.0 h.right i.deque.0.1;
                 links = subst (λ n. Links n ks (front ps)) (sym (lowest_frame k.parent.frame (with_value k.parent v) k.under refl)) h.links.1;
                 own = o.after;
                 flags = o.flags;

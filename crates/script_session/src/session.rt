@@ -12,16 +12,17 @@ ghost use Rattle.run_terms.specs.Come.{HasCome, HasEnded};
 ghost use Rattle.program_endings.specs.Endings.{CarriesRefusal, IsAnswerError, IsRunError};
 ghost use Rattle.program_endings.specs.Written.{HasBeginning, WritesAll, WritesBeginning};
 
-use session_notes::explained::Cause;
-use session_notes::notes::Notes;
+use frames::answer::RunAnswer;
 use input_tables::Tables;
+use kept_session::{ApplyError, Session};
 use linked_program::checked::Checked;
 use program_endings::session_error::SessionError;
 use program_endings::streams::{Failures, flush, read_all, write_whole};
-use kept_session::{ApplyError, Session};
 use script_reader::command::Command;
 use script_reader::script::commands;
 use session_edits::Edit;
+use session_notes::explained::Cause;
+use session_notes::notes::Notes;
 use std::alloc::Global;
 use std::io::{Read, Write};
 use std::sync::Wait;
@@ -30,7 +31,6 @@ use threaded_driver::{Gate, run_threads};
 use trace_report::answers::{answer_text, push_unknown};
 use trace_report::edits::{push_accepted, push_edit_refusal};
 use view_pool::View;
-use frames::answer::RunAnswer;
 
 /// Answers the script that a reader has, all of it read before anything runs. Each run is by that many threads, 1 to 16,
 /// which the gate watches; the notes are told of each that comes to a result or a fault, and of what is refused. It ends early where memory is

@@ -3,12 +3,12 @@ ghost use Rattle.std.specs.Prelude.{◌≡◌, true, false};
 ghost use Rattle.run_terms.specs.Come.{HasEnded};
 
 use crate::notes::Notes;
+use frames::answer::RunAnswer;
 use input_tables::Tables;
 use linked_program::checked::Checked;
-use session_edits::{Edit, EditError};
-use frames::answer::RunAnswer;
 use numbered_runs::step::BookStep;
 use positions::phase::Fault;
+use session_edits::{Edit, EditError};
 
 /// What is explained.
 #[derive(Clone, Copy)]

@@ -3,9 +3,9 @@ ghost use Rattle.std.specs.Prelude.{◌≡◌, Bool, true, false};
 ghost use Rattle.run_terms.specs.Come.{HasEnded};
 
 use crate::explained::Cause;
+use frames::answer::RunAnswer;
 use input_tables::Tables;
 use linked_program::checked::Checked;
-use frames::answer::RunAnswer;
 use numbered_runs::step::BookStep;
 
 /// Who is told of each run that came to a result or a fault, and of what is refused.

@@ -8,14 +8,14 @@ ghost use Rattle.session_notes.specs.declared.run_notes.NotesError.TheVariants a
 ghost use Rattle.session_notes.specs.Noted.{Noted, has_failed, known_of, run_counts_text};
 
 use crate::notes::Notes;
+use frames::answer::RunAnswer;
+use numbered_runs::step::BookStep;
 use program_endings::session_error::SessionError;
 use program_endings::streams::{Failures, flush, write_whole};
 use std::alloc::{AllocError, Global};
 use std::io::Write;
 use std::marker::Model;
 use trace_report::trace::{RunCounts, folds, history_text, stats_text, steals};
-use frames::answer::RunAnswer;
-use numbered_runs::step::BookStep;
 
 /// Why a run couldn't be noted: memory was refused, or a write of its history or of its counts failed.
 #[derive(Clone, Copy, Debug)]

@@ -17,15 +17,7 @@ ghost use Rattle.worker_desk.specs.Finds.{is_left};
 ghost use Rattle.worker_desk.specs.Over.{is_refusal, is_right};
 ghost use Rattle.worker_desk.specs.Spots.{spot_of, own_spot, child_spot, HasReturned};
 
-use worker_desk::beginning::{NewDeques, first_of};
-use worker_desk::desk::{Desk, Parts};
-use worker_desk::ended::Ended;
-use worker_desk::failure::{Failure, Mismatch};
-use worker_desk::found::Found;
 use crate::gate::{Gate, Point};
-use worker_desk::kits::{KitsOf, RightPool, Stocked};
-use worker_desk::seat::Seat;
-use worker_desk::supply::Supply;
 use crossbeam_utils::Backoff;
 use frames::answer::RunAnswer;
 use input_tables::Tables;
@@ -46,6 +38,14 @@ use std::sync::ledger::Ledger;
 use std::sync::{Mutex, Wait};
 use stealing_deques::Deques;
 use view_pool::{Kit, Pool, View};
+use worker_desk::beginning::{NewDeques, first_of};
+use worker_desk::desk::{Desk, Parts};
+use worker_desk::ended::Ended;
+use worker_desk::failure::{Failure, Mismatch};
+use worker_desk::found::Found;
+use worker_desk::kits::{KitsOf, RightPool, Stocked};
+use worker_desk::seat::Seat;
+use worker_desk::supply::Supply;
 
 /// How many times a worker goes ahead before it looks whether the run has given up.
 const STEPS: usize = 64;

@@ -16,19 +16,14 @@ ghost use Rattle.threaded_driver.specs.Ends.{IsEndFor};
 ghost use Rattle.worker_desk.specs.Over.{is_refusal};
 ghost use Rattle.sync_fold.specs.declared.error.BookError.TheVariants as error;
 
-use worker_desk::beginning::{NewDeques, deques_of};
-use worker_desk::ended::Ended;
-use worker_desk::failure::Mismatch;
 use crate::floor::{Floor, work};
 use crate::gate::Gate;
-use worker_desk::kits::Stocked;
-use worker_desk::seat::Seat;
 use frames::answer::RunAnswer;
 use input_tables::Tables;
+use kept_session::Session;
 use linked_program::checked::Checked;
 use numbered_runs::step::BookStep;
 use rerun_records::records::Records;
-use kept_session::Session;
 use right_strands::run::Run;
 use std::alloc::{AllocError, Global};
 use std::marker::Brand;
@@ -38,6 +33,11 @@ use std::thread;
 use std::thread::Threads;
 use stealing_deques::Deques;
 use view_pool::{Kit, Pool, View};
+use worker_desk::beginning::{NewDeques, deques_of};
+use worker_desk::ended::Ended;
+use worker_desk::failure::Mismatch;
+use worker_desk::kits::Stocked;
+use worker_desk::seat::Seat;
 
 /// Runs a session's program on its tables by so many threads. Its memo instances are answered by the records that hold now, and
 /// those that a finished run makes are kept for the next one. The answer is NoKit where no kit is free, and NoMemory where memory

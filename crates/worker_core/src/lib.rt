@@ -12,9 +12,9 @@ mod strands;
 
 // What callers of a run name.
 pub use frames::answer::RunAnswer;
+pub use numbered_runs::records;
 pub use numbered_runs::refusal::{Refusal, StartError};
 pub use numbered_runs::step::{BookStep, Place, State, Step, StrandLine};
 pub use positions::phase::Fault;
 pub use rerun_records::record::Record;
 pub use rerun_records::records::Records;
-pub use numbered_runs::records;

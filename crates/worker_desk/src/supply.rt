@@ -34,12 +34,7 @@ impl<'a, D: Shelf<K>, K, R: Wait> Supply<'a, D, K, R> {
     ghost use Rattle.std.specs.Prelude.{◌≡◌, ◌+◌, ◌≤◌};
 
     /// The kits of a run with so many in all, for a strand that holds so many.
-    pub fn new(
-        rt: &'a R,
-        shelf: &'a Mutex<D>,
-        total: usize,
-        held: usize,
-    ) -> Supply<'a, D, K, R>
+    pub fn new(rt: &'a R, shelf: &'a Mutex<D>, total: usize, held: usize) -> Supply<'a, D, K, R>
         ensures total { result.total ≡ total }
         ensures free { held ≤ total → held + result.free ≡ total }
     {
