@@ -76,8 +76,10 @@ fn send<W: Write>(writer: &mut W, bytes: &[u8], failures: &mut Failures) -> Resu
     ensures refused { IfErr result IsWriterError }
     ensures noted { result ≡ Err SessionError.Write → failures.new.output ≡ true }
 {
-    write_whole(writer, bytes, failures)?;
-    flush(writer, failures)
+    match write_whole(writer, bytes, failures) {
+        Ok(()) => flush(writer, failures),
+        Err(error) => Err(error),
+    }
 }
 
 // What the refusal of a program's text is to the program.
