@@ -8,7 +8,7 @@ ghost use Rattle.cli.specs.Reports.{IsOpened, IsUnopened, IsUnmade, IsLate, IsRe
 
 use crate::beginning::{BeginError, begin};
 use command_line::line::asked_by;
-use command_line::options::{Asked, Options, OptionsError};
+use command_line::options::{Asked, Options};
 use command_line::words::{held_words, lent};
 use kept_session::Session;
 use monoid_laws::Kind;

@@ -11,7 +11,7 @@ use Rattle.clap.proofs.OnLiterals.{clap_on_literals}
 use Rattle.clap.proofs.WalkLemmas.{first_value-rows}
 use Rattle.command_line.specs.declared.options.OptionsError.{OptionsError}
 use Rattle.command_line.specs.declared.options.OptionsError.TheVariants.{NoMemory, Usage, Help, Version}
-use Rattle.command_line.specs.Line.{line_form, print_form, given, print_given, HasForm, HasPrintForm, IsPrintLine, IsNoPrintLine, IsNothing, IsLine, IsNoLine, Request, IsRefusalOf, IsRefusedFor, WantsHelp, WantsVersion}
+use Rattle.command_line.specs.Line.{line_form, print_form, given, print_given, HasForm, HasPrintForm, IsPrintLine, IsNoPrintLine, IsLine, IsNoLine, Request, IsRefusalOf, IsRefusedFor, WantsHelp, WantsVersion}
 use Rattle.command_line.proofs.Faults.{HasOneAtMost, of_words, whole}
 
 pub simple_form : is_simple line_form ≡ true

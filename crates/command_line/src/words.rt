@@ -36,7 +36,9 @@ pub fn lent(alloc: Global, held: &[String]) -> Result<Vec<&str>, OptionsError>
 {
     let mut words = Vec::new(alloc);
     for word in held {
-        words.push(word.as_str()).map_err(|_| OptionsError::NoMemory)?;
+        words
+            .push(word.as_str())
+            .map_err(|_| OptionsError::NoMemory)?;
     }
     Ok(words)
 }

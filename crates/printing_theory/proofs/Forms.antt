@@ -1,9 +1,7 @@
 -- The normal form of a text.
-use Rattle.std.proofs.Common.{◌≡◌, ℕ, ◌≤◌, List, length, Result, Ok, Err, sym, subst, ◌∙◌, ap}
-use Rattle.std.specs.Prelude.{IfOk, IfErr}
+use Rattle.std.proofs.Common.{◌≡◌, ℕ, ◌≤◌, List, length, Err, sym, subst, ◌∙◌, ap}
 use Rattle.program_tree.specs.Plain.{Tree}
-use Rattle.program_tree.specs.View.{Lined, tree, lines}
-use Rattle.program_tree.specs.declared.Program.{Program}
+use Rattle.program_tree.specs.View.{Lined, tree}
 use Rattle.source_tree.specs.Source.{Source}
 use Rattle.token_scanner.specs.Scanning.{longest_text}
 use Rattle.procedure_parser.specs.declared.fault.TextError.{TextError}
@@ -22,7 +20,7 @@ text_again program text t l is e h =
 -- what is printed of a text's tree
 pub formed : (program text : List ℕ) (t : Tree) (l : List Lined) → IsText program t l → text ≡ printed t → IsNormalForm program text
 formed program text t l is e = record {
-  is_program = (t, (l, is));
+  is_program = (t, l, is);
   is_printed = λ u m other. e ∙ ap printed (one_tree program t u l m is other);
   is_same = λ u m other. text_again program text u m other (e ∙ ap printed (one_tree program t u l m is other));
 }

@@ -69,19 +69,17 @@ pub fn format_to<F: FileSource, W: Write>(
 
 // Writes the bytes and flushes the writer; refused where it fails, which is noted, or for want of memory, and then a beginning
 // of them is written.
-fn send<W: Write>(
-    writer: &mut W,
-    bytes: &[u8],
-    failures: &mut Failures,
-) -> Result<(), SessionError>
+fn send<W: Write>(writer: &mut W, bytes: &[u8], failures: &mut Failures) -> Result<(), SessionError>
     ensures written { OnOk result
         (Appends (W.contents writer.old) (W.contents writer.new) bytes.now) }
     ensures beginning { HasBeginning (W.contents writer.old) (W.contents writer.new) bytes.now }
     ensures refused { IfErr result IsWriterError }
     ensures noted { result ≡ Err SessionError.Write → failures.new.output ≡ true }
 {
-    write_whole(writer, bytes, failures)?;
-    flush(writer, failures)
+    match write_whole(writer, bytes, failures) {
+        Ok(()) => flush(writer, failures),
+        Err(error) => Err(error),
+    }
 }
 
 // What the refusal of a program's text is to the program.
