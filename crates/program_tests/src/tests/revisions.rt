@@ -1,6 +1,6 @@
 //! The revision numbers of programs, and of programs in the place of others.
 
-use super::answers::{answer_text, checked, program, tables};
+use super::beginnings::{checked, program, two_tables};
 use linked_program::checked::Checked;
 use program_tree::Declaration;
 use spawn_checker::{CheckError, redefine};
@@ -32,7 +32,7 @@ fn redefined(
     text: &str,
 ) -> Result<Checked, CheckError> {
     let program = program(rt, alloc, text);
-    redefine(alloc, old, program, &tables(rt, alloc))
+    redefine(alloc, old, program, &two_tables(rt, alloc))
 }
 
 /// Puts a procedure to the text: its name, its revision number, which goes by its name and by its own number, and whether it is
@@ -44,12 +44,8 @@ fn push_procedure(
     number: usize,
     name: &str,
 ) {
-    assert_eq!(rt; program.procedure(name), Some(number), "of {name}");
-    assert_eq!(rt;
-        program.revision(name),
-        program.revision_at(number),
-        "of {name}"
-    );
+    assert!(rt; program.procedure(name) == Some(number));
+    assert!(rt; program.revision(name) == program.revision_at(number));
     let revision = program.revision(name).expect(rt, "a number");
     write!(text, "{name} {revision} {}; ", program.is_memo(number)).expect(rt, "memory");
 }
@@ -68,34 +64,30 @@ pub fn numbers_text(rt: &impl Abort, alloc: Global, program: &Checked) -> String
     text
 }
 
-/// Puts a text in the place of a program, which has to be allowed.
-pub fn changed(rt: &impl Abort, alloc: Global, before: &Checked, text: &str) -> Checked {
-    redefined(rt, alloc, before, text).expect(rt, "no violation")
-}
-
-/// The answer to a text in the place of a program.
+/// The answer to a text in the place of a program: the numbers then, or why it is refused.
 pub fn answer_to(rt: &impl Abort, alloc: Global, before: &Checked, text: &str) -> String {
-    answer_text(rt, alloc, &redefined(rt, alloc, before, text))
+    match redefined(rt, alloc, before, text) {
+        Ok(after) => numbers_text(rt, alloc, &after),
+        Err(error) => format!(in alloc; "{error}").expect(rt, "memory"),
+    }
 }
 
-/// `leaf` and `extra` are as they were, `main` is changed and `more` is new: 0 and 2 are kept, 3 and 4 are new.
-const AFTER: &str = "leaf 0 false; main 3 false; extra 2 false; more 4 false; 5";
-
-/// Compares the numbers of a program, and those behind another text in its place.
-fn keep_their_numbers(rt: &impl Abort, alloc: Global, before: &Checked) {
-    let first = numbers_text(rt, alloc, before);
-    assert_eq!(rt;
-        first.as_str(),
-        "leaf 0 false; main 1 false; extra 2 false; 3"
-    );
-    let after = changed(rt, alloc, before, LONGER);
-    assert_eq!(rt; numbers_text(rt, alloc, &after).as_str(), AFTER);
-}
+/// Texts in the place of `THREE`.
+const ANSWERS: [(&str, &str); 3] = [
+    (THREE, "leaf 0 false; main 1 false; extra 2 false; 3"),
+    // `leaf` and `extra` are as they were, `main` is changed and `more` is new: 0 and 2 are kept, 3 and 4 are new.
+    (
+        LONGER,
+        "leaf 0 false; main 3 false; extra 2 false; more 4 false; 5",
+    ),
+    ("", "refused E9 C7 main 0"),
+];
 
 #[test]
 fn an_unchanged_procedure_keeps_its_number(rt: HostRuntime) {
     let before = checked(&rt, rt.alloc(), THREE);
-    keep_their_numbers(&rt, rt.alloc(), &before);
-    let found = answer_to(&rt, rt.alloc(), &before, "");
-    assert_eq!(rt; found.as_str(), "refused E9 C7 main 0");
+    for (text, wanted) in ANSWERS {
+        let found = answer_to(&rt, rt.alloc(), &before, text);
+        assert_eq!(&rt; found.as_str(), wanted);
+    }
 }

@@ -7,7 +7,7 @@ ghost use Rattle.linked_program.specs.Procedures.{procedures};
 ghost use Rattle.linked_program.specs.Linked.{main_number};
 ghost use Rattle.linked_program.specs.Checked.{numbers_in};
 
-use super::revisions::{answer_to, changed};
+use super::{defines, revisions};
 use indexmap::IndexMap;
 use linked_program::checked::Checked;
 use linked_program::linking::{codes, kinds};
@@ -53,7 +53,7 @@ fn number_of_main(rt: &impl Abort, alloc: Global) -> IndexMap<String, u64>
 }
 
 /// That program, checked, whose `main` has the revision number 0, and this as the least that was never used.
-pub fn before(rt: &impl Abort, alloc: Global, counter: u64) -> Checked
+fn before(rt: &impl Abort, alloc: Global, counter: u64) -> Checked
     requires { 0 < counter }
 {
     let program = main_alone(rt, alloc);
@@ -63,30 +63,37 @@ pub fn before(rt: &impl Abort, alloc: Global, counter: u64) -> Checked
     Checked::new(program, Vec::new(alloc), codes, kinds, 0, numbers, counter)
 }
 
-const SAME: &str = "\n\nproc main() { }";
-
-const CHANGED: &str = "proc main() { return 1; }";
-
-/// Where no procedure is changed no number is needed; the rules come before the numbers.
-const ANSWERS: [(&str, &str); 3] = [
-    (CHANGED, "refused E18"),
-    (SAME, "checked"),
-    ("", "refused E9 C7 main 0"),
+/// Texts, and the answers to them in the place of that program and as definitions. The rules come before the numbers, and where no
+/// procedure is changed no number is needed.
+const ANSWERS: [(&str, &str, &str); 3] = [
+    ("proc main() { return 1; }", "refused E18", "refused E18"),
+    (
+        "proc main(x) { }",
+        "refused E9 C7 main 1",
+        "refused E9 C7 main 1",
+    ),
+    (
+        "\n\nproc main() { }",
+        "main 0 false; 18446744073709551615",
+        "main 0 false; 18446744073709551615",
+    ),
 ];
 
 #[test]
 fn no_number_is_left(rt: HostRuntime) {
     let old = before(&rt, rt.alloc(), u64::MAX);
-    for (text, wanted) in ANSWERS {
-        let found = answer_to(&rt, rt.alloc(), &old, text);
-        assert_eq!(rt; found.as_str(), wanted, "to {text}");
+    for (text, redefined, defined) in ANSWERS {
+        let found = revisions::answer_to(&rt, rt.alloc(), &old, text);
+        assert_eq!(&rt; found.as_str(), redefined);
+        let found = defines::answer_to(&rt, rt.alloc(), &old, text);
+        assert_eq!(&rt; found.as_str(), defined);
     }
 }
 
 #[test]
 fn the_last_number_is_given(rt: HostRuntime) {
     let old = before(&rt, rt.alloc(), u64::MAX - 1);
-    let after = changed(&rt, rt.alloc(), &old, CHANGED);
-    assert_eq!(rt; after.revision("main"), Some(u64::MAX - 1));
-    assert_eq!(rt; after.counter(), u64::MAX);
+    let found = revisions::answer_to(&rt, rt.alloc(), &old, "proc main() { return 1; }");
+    let wanted = "main 18446744073709551614 false; 18446744073709551615";
+    assert_eq!(&rt; found.as_str(), wanted);
 }
