@@ -8,7 +8,7 @@ from typing import Iterator, List, Optional, Tuple
 HERE = Path(__file__).resolve().parent
 TOP = HERE.parent
 
-SETTINGS = ("words", "line", "workers", "program", "tables", "script", "input", "output", "beginnings")
+SETTINGS = ("words", "line", "workers", "program", "tables", "script", "input", "output", "beginnings", "long")
 EXPECTED = ("counts", "status", "said", "trace", "printed")
 WITH_BLOCKS = ("program", "tables", "said", "trace", "printed")
 
@@ -40,6 +40,7 @@ class Setting:
     input: bool = True
     output: bool = True
     beginnings: Tuple[int, ...] = ()
+    long: bool = False
 
 
 @dataclass(frozen=True)
@@ -168,7 +169,7 @@ def with_part(setting: Setting, part: Part, path: Path) -> Setting:
         return replace(setting, **{part.kind: text_of(part, path)})
     if part.kind in ("input", "output"):
         return replace(setting, **{part.kind: part.rest != "none"})
-    return setting
+    return replace(setting, long=True) if part.kind == "long" else setting
 
 
 def sessions_of(path: Path, lines: List[str]) -> List[Session]:
