@@ -1,4 +1,5 @@
-//! Texts of programs, and what they are read as.
+//! Programs and tables as values: what texts are read as, printed, checked and numbered, and what expressions come to. The sessions in
+//! tests/ show what they answer.
 #![tactic(auto)]
 
 #[cfg(test)]

@@ -1,10 +1,15 @@
-//! Texts that are read to programs, or refused.
+//! Texts that become programs, checked programs and tables.
 
-mod answers;
+mod beginnings;
+mod defines;
 mod definitions;
+mod exhausted;
+mod expressions;
 mod facts;
-mod limits;
+mod looks;
+mod numbers;
 mod printing;
 mod programs;
-mod refusals;
+mod revisions;
+mod tables;
 mod tokens;

@@ -2,8 +2,6 @@
 
 mod answers;
 mod driving;
-mod faults;
 mod names;
-mod records;
 mod statements;
 mod thefts;

@@ -1,13 +1,14 @@
 //! The trees of programs.
 
-use super::answers::FIRST;
 use super::facts::Declared::{Procedure, Reducer};
 use super::facts::{Declared, Fact, are_declared, hold};
-use monoid_laws::Kind;
 use procedure_parser::parse;
-use program_tree::Declaration;
-use reducer_values::table_of;
 use std::alloc::Global;
+
+/// 20 bytes of a reducer, then two procedures, each on a line of its own.
+pub const FIRST: &str = "reducer total : add;
+proc leaf(v) { update total v; return v; }
+proc main() { x = spawn leaf(1); y = spawn leaf(2); update total 9; sync; return x + y; }";
 
 const WHOLE: &str =
     "reducer t : table 2 unit 1 [0, 1, 1, 0];\nmemo proc leaf(v) { x = read t; return x; }\nproc main() {\nif has p[1] == 0 { sync; } else { }\ncilk_for i in 0 .. limit p grain 2 : leaf(p[i].q); }\n";
@@ -18,49 +19,21 @@ const BLOCKS: &str =
 
 const SMALL: &str = "reducer total : max;\nmemo proc leaf(v, w) { }";
 
-/// Whether a text's declarations are these.
-fn declares(alloc: Global, text: &str, wanted: &[Declared]) -> bool {
-    match parse(alloc, text.as_bytes()) {
-        Ok(program) => are_declared(&program, wanted),
-        Err(_) => false,
-    }
-}
-
-const DECLARATIONS: [(&str, &[Declared]); 4] = [
-    (
-        FIRST,
-        &[
-            Reducer("total", 1),
-            Procedure("leaf", 2),
-            Procedure("main", 3),
-        ],
-    ),
-    (
-        WHOLE,
-        &[Reducer("t", 1), Procedure("leaf", 2), Procedure("main", 3)],
-    ),
-    (BLOCKS, &[Procedure("main", 1)]),
-    (SMALL, &[Reducer("total", 1), Procedure("leaf", 2)]),
+const OF_FIRST: [Declared; 3] = [
+    Reducer("total", 1),
+    Procedure("leaf", 2),
+    Procedure("main", 3),
 ];
 
-#[test]
-fn declarations(rt: HostRuntime) {
-    for (text, wanted) in DECLARATIONS {
-        assert!(rt; declares(rt.alloc(), text, wanted));
-    }
-}
+const OF_WHOLE: [Declared; 3] = [Reducer("t", 1), Procedure("leaf", 2), Procedure("main", 3)];
 
-/// Whether a text's declaration of this place is a procedure of these facts.
-fn has(alloc: Global, text: &str, place: usize, facts: &[Fact]) -> bool {
-    match parse(alloc, text.as_bytes()) {
-        Ok(program) => hold(&program, place, facts),
-        Err(_) => false,
-    }
-}
+const OF_SMALL: [Declared; 2] = [Reducer("total", 1), Procedure("leaf", 2)];
 
-const PROCEDURES: [(&str, usize, &[Fact]); 5] = [
+/// Texts with their declarations, and facts of the one of a place.
+const READ: [(&str, &[Declared], usize, &[Fact]); 5] = [
     (
         FIRST,
+        &OF_FIRST,
         2,
         &[
             Fact::Memo(false),
@@ -74,11 +47,13 @@ const PROCEDURES: [(&str, usize, &[Fact]); 5] = [
     ),
     (
         WHOLE,
+        &OF_WHOLE,
         1,
         &[Fact::Memo(true), Fact::Read(0, 0), Fact::At(0, 1, 2, 2)],
     ),
     (
         WHOLE,
+        &OF_WHOLE,
         2,
         &[
             Fact::Memo(false),
@@ -89,6 +64,7 @@ const PROCEDURES: [(&str, usize, &[Fact]); 5] = [
     ),
     (
         BLOCKS,
+        &[Procedure("main", 1)],
         0,
         &[
             Fact::Parameters(1),
@@ -103,6 +79,7 @@ const PROCEDURES: [(&str, usize, &[Fact]); 5] = [
     ),
     (
         SMALL,
+        &OF_SMALL,
         1,
         &[
             Fact::Memo(true),
@@ -116,27 +93,17 @@ const PROCEDURES: [(&str, usize, &[Fact]); 5] = [
     ),
 ];
 
-#[test]
-fn procedures(rt: HostRuntime) {
-    for (text, place, facts) in PROCEDURES {
-        assert!(rt; has(rt.alloc(), text, place, facts));
-    }
-}
-
-/// Whether a text begins with a reducer of this kind.
-fn has_kind(alloc: Global, text: &str, kind: Kind) -> bool {
+/// Whether a text's declarations are these, and the one of this place is a procedure of these facts.
+fn is_read(alloc: Global, text: &str, wanted: &[Declared], place: usize, facts: &[Fact]) -> bool {
     match parse(alloc, text.as_bytes()) {
-        Ok(program) => match program.declarations.first() {
-            Some(Declaration::Reducer(reducer)) => reducer.kind == kind,
-            _ => false,
-        },
+        Ok(program) => are_declared(&program, wanted) && hold(&program, place, facts),
         Err(_) => false,
     }
 }
 
 #[test]
-fn reducers(rt: HostRuntime) {
-    let table = table_of(2, 1, &[0, 1, 1, 0]).expect(&rt, "a table");
-    assert!(rt; has_kind(rt.alloc(), WHOLE, Kind::Table(table)));
-    assert!(rt; has_kind(rt.alloc(), SMALL, Kind::Max));
+fn texts_are_read(rt: HostRuntime) {
+    for (text, wanted, place, facts) in READ {
+        assert!(rt; is_read(rt.alloc(), text, wanted, place, facts));
+    }
 }

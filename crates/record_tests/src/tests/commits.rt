@@ -7,20 +7,21 @@ use input_tables::Tables;
 use linked_program::checked::Checked;
 use rerun_records::record::Record;
 use rerun_records::records::Records;
-use std::alloc::{AllocError, Global};
+use std::alloc::Global;
 use std::process::Abort;
 
 /// A procedure's number, which is its revision number too, an argument, and the value.
 type Made = (usize, i64, i64);
 
 /// The records of these.
-fn made(rt: &impl Abort, alloc: Global, rows: &[Made]) -> Result<Vec<Record>, AllocError> {
+fn made(rt: &impl Abort, alloc: Global, rows: &[Made]) -> Vec<Record> {
     let mut made = Vec::new(alloc);
     for row in rows {
         let procedure = (row.0, row.0 as u64);
-        made.push(record(rt, alloc, procedure, row.1, row.2, &[], 1))?;
+        let one = record(rt, alloc, procedure, row.1, row.2, &[], 1);
+        made.push(one).expect(rt, "memory");
     }
-    Ok(made)
+    made
 }
 
 /// How many records there are, and the values of `down(1)`, `down(2)` and `line(1)`.
@@ -42,29 +43,25 @@ fn seen(
 }
 
 /// What is seen after these were committed, at once and one after another.
-fn after(
-    rt: &impl Abort,
-    alloc: Global,
-    commits: &[&[Made]],
-) -> Result<(usize, [Option<i64>; 3]), AllocError> {
+fn after(rt: &impl Abort, alloc: Global, commits: &[&[Made]]) -> (usize, [Option<i64>; 3]) {
     let tables = sales(rt, alloc);
     let program = checked(rt, alloc, LINES, &tables);
     let mut records = Records::new(alloc);
     for rows in commits {
-        commit_all(rt, &mut records, made(rt, alloc, rows)?, &tables, &program);
+        commit_all(rt, &mut records, made(rt, alloc, rows), &tables, &program);
     }
-    Ok(seen(rt, alloc, &records, &tables, &program))
+    seen(rt, alloc, &records, &tables, &program)
 }
+
+const FIRST: &[Made] = &[(1, 1, 10), (0, 1, 30)];
+
+const SECOND: &[Made] = &[(1, 2, 20), (1, 1, 11), (1, 1, 12)];
 
 /// Of several records of one key the last counts, and the others stay.
 #[test]
 fn the_last_of_a_key_counts(rt: HostRuntime) {
-    let first: &[Made] = &[(1, 1, 10), (0, 1, 30)];
-    let second: &[Made] = &[(1, 2, 20), (1, 1, 11), (1, 1, 12)];
-    let once = after(&rt, rt.alloc(), &[first]);
-    assert!(&rt; once == Ok((2, [Some(10), None, Some(30)])));
-    let twice = after(&rt, rt.alloc(), &[first, second]);
-    assert!(&rt; twice == Ok((3, [Some(12), Some(20), Some(30)])));
-    let none = after(&rt, rt.alloc(), &[first, second, &[]]);
-    assert!(&rt; none == Ok((3, [Some(12), Some(20), Some(30)])));
+    let once = after(&rt, rt.alloc(), &[FIRST]);
+    assert!(&rt; once == (2, [Some(10), None, Some(30)]));
+    let twice = after(&rt, rt.alloc(), &[FIRST, SECOND, &[]]);
+    assert!(&rt; twice == (3, [Some(12), Some(20), Some(30)]));
 }

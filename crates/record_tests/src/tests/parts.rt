@@ -2,10 +2,11 @@
 
 use super::making::{LINES, cell, checked, committed, reads_of, sales, second_line};
 use evaluation::note::Note;
-use evaluation::reading::readings;
+use evaluation::reading::{Reading, readings};
 use monoid_laws::Val;
 use rerun_records::record::Record;
 use std::alloc::Global;
+use std::mem::size_of;
 use std::process::Abort;
 
 fn adds(touched: &(usize, Val), reducer: usize, number: i64) -> bool {
@@ -50,11 +51,6 @@ fn are_second_line(records: &[Record]) -> bool {
     records.len() == 1 && is_second_line(&records[0])
 }
 
-#[test]
-fn a_record_comes_back(rt: HostRuntime) {
-    assert!(&rt; comes_back(&rt, rt.alloc()));
-}
-
 /// Whether a record gives back the height and these procedures.
 fn gives_back(rt: &impl Abort, alloc: Global, entered: &[(usize, u64)]) -> bool {
     let reads = reads_of(rt, alloc, &[], Vec::new(alloc));
@@ -64,34 +60,59 @@ fn gives_back(rt: &impl Abort, alloc: Global, entered: &[(usize, u64)]) -> bool 
 }
 
 #[test]
-fn several_procedures_come_back(rt: HostRuntime) {
+fn a_record_comes_back(rt: HostRuntime) {
+    assert!(&rt; comes_back(&rt, rt.alloc()));
     assert!(&rt; gives_back(&rt, rt.alloc(), &[]));
     assert!(&rt; gives_back(&rt, rt.alloc(), &[(1, 7)]));
     assert!(&rt; gives_back(&rt, rt.alloc(), &[(1, 7), (0, 8)]));
 }
 
-/// Whether a reading can be kept in a record.
-fn is_kept(alloc: Global, note: Note) -> bool {
-    readings(alloc, &[note]).is_ok()
+/// Whether readings can be kept in a record: two bytes hold a table's number, one a column's, four a row's.
+fn are_kept(alloc: Global, notes: &[(Note, bool)]) -> bool {
+    for (note, kept) in notes {
+        if readings(alloc, &[*note]).is_ok() != *kept {
+            return false;
+        }
+    }
+    true
 }
 
-/// Two bytes hold a table's number up to 65535.
+const LARGEST: [(Note, bool); 2] = [
+    (
+        Note::Limit {
+            table: 65535,
+            value: 4,
+        },
+        true,
+    ),
+    (
+        Note::Limit {
+            table: 65536,
+            value: 4,
+        },
+        false,
+    ),
+];
+
 #[test]
-fn a_table_past_two_bytes_is_refused(rt: HostRuntime) {
-    for (table, kept) in [(65535, true), (65536, false)] {
-        assert!(&rt; is_kept(rt.alloc(), Note::Limit { table, value: 4 }) == kept);
-    }
+fn readings_past_their_bytes_are_refused(rt: HostRuntime) {
+    assert!(&rt; are_kept(rt.alloc(), &LARGEST));
+    let cells = [
+        (cell(4_294_967_295, 255, 4), true),
+        (cell(4_294_967_296, 255, 4), false),
+        (cell(-1, 255, 4), false),
+        (cell(0, 256, 4), false),
+    ];
+    assert!(&rt; are_kept(rt.alloc(), &cells));
 }
 
-/// One byte holds a column's number up to 255, and four a row's up to 4294967295.
+/// A record of one argument, two readings, two reducers and one procedure asks for 272 bytes: 104 in the map, where the procedure
+/// lies too, its lists, and 48 for what the record of an instance above may refer to: a count, a list, and where the parts lie, if
+/// there are any.
 #[test]
-fn a_cell_past_its_bytes_is_refused(rt: HostRuntime) {
-    for (row, column, kept) in [
-        (4_294_967_295, 255, true),
-        (4_294_967_296, 255, false),
-        (-1, 255, false),
-        (0, 256, false),
-    ] {
-        assert!(&rt; is_kept(rt.alloc(), cell(row, column, 4)) == kept);
-    }
+fn a_record_is_small(rt: HostRuntime) {
+    let lists = 8 + 2 * size_of::<Reading>() + 2 * size_of::<(usize, Val)>();
+    let shared = 8 + size_of::<Vec<u64>>() + size_of::<Option<Box<u64>>>();
+    assert!(&rt; size_of::<Reading>() == 16 && size_of::<Note>() > 24);
+    assert!(&rt; size_of::<Record>() == 104 && size_of::<Record>() + lists + shared == 272);
 }

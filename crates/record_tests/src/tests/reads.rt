@@ -25,21 +25,9 @@ fn is_in_order(alloc: Global, reads: &Readings) -> bool {
     }
 }
 
-#[test]
-fn notes_of_parts_follow_the_own(rt: HostRuntime) {
-    assert!(&rt; is_in_order(rt.alloc(), &above(&rt, rt.alloc(), 3)));
-}
-
 /// Whether the tables hold what was read where the parts have read that quantity.
 fn agrees_at(rt: &impl Abort, alloc: Global, quantity: i64) -> bool {
     above(rt, alloc, quantity).agree(&sales(rt, alloc))
-}
-
-/// Row 2 has the quantity 3.
-#[test]
-fn parts_are_asked_too(rt: HostRuntime) {
-    let agree = [agrees_at(&rt, rt.alloc(), 3), agrees_at(&rt, rt.alloc(), 4)];
-    assert!(&rt; agree == [true, false]);
 }
 
 /// What an instance has read that noted the price of row 2, above one that noted the quantity of row 1, above one that noted this.
@@ -56,28 +44,33 @@ fn stays(rt: &impl Abort, alloc: Global, lowest: &[Note], change: (usize, i64)) 
     three_deep(rt, alloc, lowest).doubted_agree(&[change], &sales(rt, alloc))
 }
 
-/// Row 3 has the quantity 1, so what was read of it no longer holds; rows 7 and 1, and those of another table, don't tell.
+/// The own notes come first. Row 2 has the quantity 3.
 #[test]
-fn the_changed_rows_alone_are_compared(rt: HostRuntime) {
-    let lowest = [cell(3, 0, 9)];
-    let agree = [
-        stays(&rt, rt.alloc(), &lowest, (0, 7)),
-        stays(&rt, rt.alloc(), &lowest, (0, 1)),
-        stays(&rt, rt.alloc(), &lowest, (0, 3)),
-        stays(&rt, rt.alloc(), &lowest, (1, 3)),
-    ];
-    assert!(&rt; agree == [true, true, false, true]);
+fn parts_are_read_too(rt: HostRuntime) {
+    assert!(&rt; is_in_order(rt.alloc(), &above(&rt, rt.alloc(), 3)));
+    let agree = [agrees_at(&rt, rt.alloc(), 3), agrees_at(&rt, rt.alloc(), 4)];
+    assert!(&rt; agree == [true, false]);
 }
 
-/// The limit of the sales is 4.
+/// Whether what was read stays so where rows 7, 1 and 3 are changed, and row 3 of another table.
+fn answers(rt: &impl Abort, alloc: Global, lowest: Note) -> [bool; 4] {
+    let lowest = [lowest];
+    [
+        stays(rt, alloc, &lowest, (0, 7)),
+        stays(rt, alloc, &lowest, (0, 1)),
+        stays(rt, alloc, &lowest, (0, 3)),
+        stays(rt, alloc, &lowest, (1, 3)),
+    ]
+}
+
+/// Row 3 has the quantity 1, so what was read of it no longer holds; other rows, and those of another table, don't tell. The limit of
+/// the sales is 4, and rests on each row.
 #[test]
-fn a_limit_rests_on_each_row(rt: HostRuntime) {
-    let held = [Note::Limit { table: 0, value: 4 }];
-    let other = [Note::Limit { table: 0, value: 9 }];
-    let agree = [
-        stays(&rt, rt.alloc(), &held, (0, 7)),
-        stays(&rt, rt.alloc(), &other, (0, 7)),
-        stays(&rt, rt.alloc(), &other, (1, 7)),
-    ];
-    assert!(&rt; agree == [true, false, true]);
+fn the_changed_rows_alone_are_compared(rt: HostRuntime) {
+    let cells = answers(&rt, rt.alloc(), cell(3, 0, 9));
+    assert!(&rt; cells == [true, true, false, true]);
+    let held = answers(&rt, rt.alloc(), Note::Limit { table: 0, value: 4 });
+    assert!(&rt; held == [true, true, true, true]);
+    let other = answers(&rt, rt.alloc(), Note::Limit { table: 0, value: 9 });
+    assert!(&rt; other == [false, false, false, true]);
 }

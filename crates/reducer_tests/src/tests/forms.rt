@@ -60,13 +60,6 @@ fn is_whole(value: Option<Val>, numbers: &[i64]) -> bool {
     }
 }
 
-#[test]
-fn lists_of_either_form_are_joined(rt: HostRuntime) {
-    for (left, right) in [(false, false), (false, true), (true, false), (true, true)] {
-        assert!(rt; is_whole(joined(rt.alloc(), left, right), &[1, 2, 3, 4]));
-    }
-}
-
 /// Two numbers as a list in two pieces.
 fn in_pieces(alloc: Global, first: i64, second: i64) -> Result<Val, AllocError>
     ensures { IfOk result (λ v. meaning v ≡ items (first ∷ second ∷ [])) }
@@ -90,7 +83,10 @@ fn cut(alloc: Global, from_the_front: bool) -> Option<Val> {
 }
 
 #[test]
-fn cut_pieces_are_whole(rt: HostRuntime) {
+fn lists_of_either_form_are_joined(rt: HostRuntime) {
+    for (left, right) in [(false, false), (false, true), (true, false), (true, true)] {
+        assert!(rt; is_whole(joined(rt.alloc(), left, right), &[1, 2, 3, 4]));
+    }
     assert!(rt; is_whole(cut(rt.alloc(), true), &[1, 2, 3]));
     assert!(rt; is_whole(cut(rt.alloc(), false), &[2, 3, 4]));
 }

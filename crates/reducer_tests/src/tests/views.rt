@@ -1,8 +1,6 @@
 //! Views in boxes, and kits of them that are taken and given back.
 
-use super::worths::Wanted::Line;
-use super::worths::{is, is_list};
-use monoid_laws::{Kind, laws_of};
+use monoid_laws::{Kind, Val, laws_of};
 use std::alloc::{AllocError, Global};
 use view_pool::{Kit, KitSource, PlainView, Pool, View};
 
@@ -37,12 +35,8 @@ fn boxes_taken_twice(alloc: Global) -> Result<(usize, bool, bool, usize), AllocE
 }
 
 #[test]
-fn one_kit(rt: HostRuntime) {
+fn kits_are_taken_and_given_back(rt: HostRuntime) {
     assert_eq!(rt; boxes_taken_twice(rt.alloc()), Ok((1, true, true, 2)));
-}
-
-#[test]
-fn full_pool(rt: HostRuntime) {
     assert!(rt; Pool::new(Vec::new(rt.alloc())).give(7).is_err());
 }
 
@@ -59,7 +53,7 @@ fn keeps_its_worth<V: View>(view: &mut V) -> Option<bool> {
     let value = view.take();
     let left = view.export().ok()?;
     view.absorb(value).ok()?;
-    Some(is(&copy, Line(2, 1)) && is(&left, Line(1, 0)) && is(&view.take(), Line(2, 1)))
+    Some(copy == Val::Pair(2, 1) && left == Val::Pair(1, 0) && view.take() == Val::Pair(2, 1))
 }
 
 /// The same of one in a box.
@@ -69,19 +63,6 @@ fn box_keeps_its_worth(alloc: Global) -> Option<bool> {
 }
 
 #[test]
-fn boxed_view(rt: HostRuntime) {
+fn a_view_keeps_its_worth(rt: HostRuntime) {
     assert_eq!(rt; box_keeps_its_worth(rt.alloc()), Some(true));
-}
-
-/// Whether a list is empty once it was updated and reset.
-fn is_reset(alloc: Global) -> Option<bool> {
-    let mut view = PlainView::new(alloc, Kind::List);
-    view.update(&[4]).ok()?;
-    view.reset();
-    Some(is_list(&view.export().ok()?, &[]))
-}
-
-#[test]
-fn plain_view(rt: HostRuntime) {
-    assert_eq!(rt; is_reset(rt.alloc()), Some(true));
 }

@@ -85,19 +85,6 @@ fn sales(rt: &impl Abort, alloc: Global) -> TableRows {
     }
 }
 
-/// How many memo instances were executed, answered by a record, and executed without one.
-pub fn counts_of(answer: &RunAnswer) -> [u64; 3] {
-    match answer {
-        RunAnswer::Finished {
-            executed,
-            reused,
-            unrecorded,
-            ..
-        } => [*executed, *reused, *unrecorded],
-        _ => [0, 0, 0],
-    }
-}
-
 /// The answer of the plain slow program, on the sales.
 pub fn slow_text(rt: &impl Abort, alloc: Global, program: &Program) -> String {
     let sales = sales(rt, alloc);

@@ -18,7 +18,7 @@ use std::process::Abort;
 use view_pool::{Kit, PlainView, Pool};
 
 /// More small steps than any of the programs takes.
-pub const STEPS: usize = 2000;
+const STEPS: usize = 2000;
 
 /// The tables of which the programs speak.
 pub fn sales(rt: &impl Abort, alloc: Global) -> Tables {

@@ -1,8 +1,7 @@
 //! By which names strands are known, and at which points they are.
-ghost use Rattle.std.specs.Prelude.{◌≡◌, [], All};
+ghost use Rattle.std.specs.Prelude.{◌≡◌, []};
 
 use super::driving::{begin, own_kit, parent, program_of, small_steps, to_pause};
-use super::thefts::{pool_of, rob, taken};
 use frames::answer::RunAnswer;
 use frames::strand::Strand;
 use frames::task::Task;
@@ -11,7 +10,7 @@ use linked_program::checked::Checked;
 use positions::phase::Phase;
 use std::alloc::Global;
 use std::process::Abort;
-use view_pool::{Kit, PlainView, Pool};
+use view_pool::PlainView;
 
 const LEAVES: &str =
     "reducer total : add; proc leaf(v) { update total v; return v; } proc main() { x = spawn leaf(1); y = spawn leaf(2); update total 9; sync; return x + y; }";
@@ -26,17 +25,6 @@ fn is_first(rt: &impl Abort, alloc: Global, program: &Checked, strand: &Strand<P
     assert!(rt; !strand.at_update(program));
     assert_eq!(rt; strand.returned(), None);
     assert!(rt; matches!(&strand.answer(alloc), RunAnswer::Unfinished));
-}
-
-/// Whether a strand is known as one that goes on in main, behind its first child.
-fn is_behind_first(alloc: Global, strand: &Strand<PlainView>) -> bool {
-    let behind_one = match strand.begins_behind(alloc) {
-        Ok(place) => place.as_slice() == [1].as_slice(),
-        Err(_) => false,
-    };
-    let in_main = strand.name().is_empty() && strand.phase() == Phase::Running;
-    let behind = strand.is_behind(&[1]) && !strand.is_behind(&[2]) && !strand.is_behind(&[]);
-    behind_one && in_main && behind
 }
 
 /// Whether an entered leaf stands at its update, and no longer once that is done.
@@ -111,63 +99,9 @@ fn names_alone(rt: &impl Abort, alloc: Global, program: &Checked, tables: &Table
     assert_eq!(rt; strand.close().len(), 1);
 }
 
-/// Whether main waits for none but the second child behind that, and for the second child behind the first one, whose strand begins
-/// before both.
-fn waits(last: &Strand<PlainView>, second: &Strand<PlainView>, first: &Strand<PlainView>) -> bool {
-    last.leaves_none_waiting(second) && !last.leaves_none_waiting(first)
-}
-
-/// The strand that is stolen from the second one waits for its neighbour.
-fn last_of_three(
-    rt: &impl Abort,
-    alloc: Global,
-    program: &Checked,
-    tables: &Tables,
-    first: &Strand<PlainView>,
-    second: &mut Strand<PlainView>,
-    pool: &mut Pool<Kit<PlainView>>,
-)
-    requires kits { All (λ k. k ≡ program.now.kinds) pool.old.kits }
-    requires kinds { second.old.layer.kinds ≡ program.now.kinds }
-    requires lower { second.old.lower ≡ [] }
-{
-    let mut last = rob(rt, alloc, program, tables, second, pool);
-    to_pause(rt, alloc, program, tables, second);
-    to_pause(rt, alloc, program, tables, &mut last);
-    assert!(rt; waits(&last, second, first));
-}
-
-/// The strand that is stolen from the first one has its name.
-fn second_of_three(
-    rt: &impl Abort,
-    alloc: Global,
-    program: &Checked,
-    tables: &Tables,
-    first: &mut Strand<PlainView>,
-    pool: &mut Pool<Kit<PlainView>>,
-)
-    requires kits { All (λ k. k ≡ program.now.kinds) pool.old.kits }
-    requires kinds { first.old.layer.kinds ≡ program.now.kinds }
-    requires lower { first.old.lower ≡ [] }
-{
-    let mut second = rob(rt, alloc, program, tables, first, pool);
-    assert!(rt; is_behind_first(alloc, &second));
-    to_pause(rt, alloc, program, tables, first);
-    last_of_three(rt, alloc, program, tables, first, &mut second, pool);
-}
-
-/// Both are stolen from the program's strand.
-fn names_of_stolen(rt: &impl Abort, alloc: Global, program: &Checked, tables: &Tables) {
-    let mut pool = pool_of(rt, alloc, program);
-    let kit = taken(rt, program, &mut pool);
-    let mut first = begin(rt, alloc, program, kit);
-    second_of_three(rt, alloc, program, tables, &mut first, &mut pool);
-}
-
 #[test]
 fn names_of_strands(rt: HostRuntime) {
     let tables = Tables::new(rt.alloc());
     let program = program_of(&rt, rt.alloc(), LEAVES, &tables);
     names_alone(&rt, rt.alloc(), &program, &tables);
-    names_of_stolen(&rt, rt.alloc(), &program, &tables);
 }

@@ -1,68 +1,24 @@
-//! Programs that end with a value: each kind of statement, and continuations that are stolen.
+//! Programs on strands by given steps: each way of a spawned child, and continuations that are stolen.
 
 use super::driving::{Child, program_of, sales};
 use super::thefts::{Row, rows_answer, run};
 
-/// Programs of one kind of statement after another.
-const ENDING: [Row; 24] = [
-    // Binds, calls and choices.
-    (
-        "proc main() { x = 3; y = x * 4 - 2; return y; }",
-        1,
-        "10 []",
-    ),
-    ("proc main() { x = 3; }", 1, "0 []"),
-    (
-        "proc double(v) { w = v + v; return w; } proc main() { x = call double(4); return x; }",
-        1,
-        "8 []",
-    ),
-    (
-        "proc double(v) { return v + v; } proc main() { call double(4); return 1; }",
-        1,
-        "1 []",
-    ),
-    (
-        "proc pick(v) { if v { return 1; } else { return 2; } } proc main() { x = call pick(5); y = call pick(0); return 10 * x + y; }",
-        1,
-        "12 []",
-    ),
-    (
-        "proc pick(v) { if v - 2 { return 1; } return 3; } proc main() { x = call pick(2); return x; }",
-        1,
-        "3 []",
-    ),
+/// Programs that end with a value. The values stand in the order of the text, however often continuations are stolen.
+const ENDING: [Row; 10] = [
     (
         "proc main() { if 1 { if 0 { return 1; } else { return 2; } } return 3; }",
         1,
         "2 []",
-    ),
-    // Spawns and syncs.
-    (
-        "proc f(v) { return v + v; } proc main() { x = spawn f(3); y = spawn f(4); sync; return x + y; }",
-        1,
-        "14 []",
-    ),
-    (
-        "proc f(v) { return v; } proc main() { spawn f(3); return 1; }",
-        1,
-        "1 []",
     ),
     (
         "proc f(v) { if v < 2 { return v; } x = spawn f(v - 1); y = call f(v - 2); sync; return x + y; } proc main() { x = call f(9); return x; }",
         1,
         "34 []",
     ),
-    // Updates in the order of the text, and a reading.
     (
         "reducer total : add; reducer seen : list; proc main() { update total 3; update seen 5; update total 4; update seen 6; x = read total; return x; }",
         1,
         "7 [Int(7), List([5, 6])]",
-    ),
-    (
-        "reducer total : add; proc leaf(v) { update total v; return v; } proc main() { x = spawn leaf(1); y = spawn leaf(2); update total 9; sync; return x + y; }",
-        1,
-        "3 [Int(12)]",
     ),
     (
         "reducer f : affine; proc one(a, b) { update f a, b; } proc main() { spawn one(2, 1); update f 3, 4; sync; return 0; }",
@@ -70,69 +26,20 @@ const ENDING: [Row; 24] = [
         "0 [Pair(6, 7)]",
     ),
     (
-        "reducer m : table 3 unit 0 [0, 1, 2, 1, 1, 2, 2, 1, 2]; proc main() { update m 1; update m 2; return 0; }",
+        "reducer total : add; reducer seen : list; proc note(v) { update total v; update seen v; } proc main() { cilk_for i in 0 .. 5 grain 2 : note(i); return 0; }",
         1,
-        "0 [Elem(2)]",
-    ),
-    (
-        "reducer n : add; proc one(i) { update n 1; } proc main() { cilk_for i in 3 .. 3 : one(i); cilk_for j in 5 .. 2 : one(j); return 0; }",
-        1,
-        "0 [Int(0)]",
+        "0 [Int(10), List([0, 1, 2, 3, 4])]",
     ),
     (
         "reducer top : argmax; memo proc line(r) { v = sales[r].qty * sales[r].price; update top v, r; return v; } proc main() { cilk_for r in 1 .. limit sales : line(r); return 0; }",
         1,
         "0 [Arg(Some((100, 3)))]",
     ),
-    // Loops by their grain.
-    (
-        "reducer total : add; reducer seen : list; proc note(v) { update total v; update seen v; } proc main() { cilk_for i in 0 .. 5 : note(i); return 0; }",
-        1,
-        "0 [Int(10), List([0, 1, 2, 3, 4])]",
-    ),
-    (
-        "reducer total : add; reducer seen : list; proc note(v) { update total v; update seen v; } proc main() { cilk_for i in 0 .. 5 grain 2 : note(i); return 0; }",
-        1,
-        "0 [Int(10), List([0, 1, 2, 3, 4])]",
-    ),
-    (
-        "reducer total : add; reducer seen : list; proc note(v) { update total v; update seen v; } proc main() { cilk_for i in 0 .. 5 grain 5 : note(i); return 0; }",
-        1,
-        "0 [Int(10), List([0, 1, 2, 3, 4])]",
-    ),
-    (
-        "reducer total : add; reducer seen : list; proc note(v) { update total v; update seen v; } proc main() { j = 7; cilk_for i in 5 - 5 .. j - 2 grain 3 : note(i); return 0; }",
-        1,
-        "0 [Int(10), List([0, 1, 2, 3, 4])]",
-    ),
-    // What tables hold.
-    ("proc main() { return sales[2].qty; }", 1, "3 []"),
-    (
-        "proc main() { x = has sales[3]; y = has sales[4]; return 10 * x + y; }",
-        1,
-        "10 []",
-    ),
-    ("proc main() { return limit sales; }", 1, "4 []"),
-    (
-        "reducer total : add; reducer top : argmax; memo proc line(r) { v = sales[r].qty * sales[r].price; update total v; update top v, r; return v; } proc main() { cilk_for r in 1 .. limit sales : line(r); t = read total; return t; }",
-        1,
-        "131 [Int(131), Arg(Some((100, 3)))]",
-    ),
-];
-
-#[test]
-fn each_statement(rt: HostRuntime) {
-    rows_answer(&rt, rt.alloc(), &ENDING);
-}
-
-/// The values stand in the order of the text, however often continuations are stolen.
-const STOLEN: [Row; 4] = [
     (
         "reducer seen : list; proc leaf(v) { update seen v; update seen v + 1; return v * v; } proc main() { update seen 7; x = spawn leaf(2); y = spawn leaf(5); update seen 9; sync; update seen 8; return 100 * x + y; }",
         3,
         "425 [List([7, 2, 3, 5, 6, 9, 8])]",
     ),
-    // Called procedures that spawn.
     (
         "reducer seen : list; proc f(v) { update seen v; if v < 2 { return v; } x = spawn f(v - 1); y = call f(v - 2); sync; update seen 10 * v; return x + y; } proc main() { x = call f(4); update seen 7; return 10 * x; }",
         3,
@@ -150,9 +57,54 @@ const STOLEN: [Row; 4] = [
     ),
 ];
 
+/// Programs that end with a fault: the first of the text, also where a strand behind it comes to one before.
+const FAULTY: [Row; 8] = [
+    (
+        "proc deep(v) { x = v; call deep(x); return 0; } proc main() { call deep(1); return 0; }",
+        1,
+        "TooDeep in deep at 2",
+    ),
+    (
+        "reducer m : table 3 unit 0 [0, 1, 2, 1, 1, 2, 2, 1, 2]; proc main() { update m 1; update m 3; return 0; }",
+        1,
+        "BadElement in main at 2",
+    ),
+    (
+        "proc bad(n) { return 1 / n; } proc main() { spawn bad(0); x = sales[9].qty; sync; return x; }",
+        2,
+        "DivideByZero in bad at 1",
+    ),
+    (
+        "proc bad(n) { return 1 / n; } proc main() { spawn bad(1); x = sales[9].qty; sync; return x; }",
+        2,
+        "MissingRow in main at 2",
+    ),
+    (
+        "proc bad(n) { m = n + n; return 1 / m; } proc main() { spawn bad(0); x = sales[3].qty; sync; return x; }",
+        2,
+        "DivideByZero in bad at 2",
+    ),
+    (
+        "proc bad(n) { return 1 / n; } proc worse(n) { m = n; return 6 % m; } proc main() { spawn bad(0); spawn worse(0); x = sales[9].qty; sync; return x; }",
+        3,
+        "DivideByZero in bad at 1",
+    ),
+    (
+        "proc bad(n) { return 1 / n; } proc worse(n) { m = n; return 6 % m; } proc main() { spawn bad(1); spawn worse(0); x = sales[9].qty; sync; return x; }",
+        3,
+        "DivideByZero in worse at 2",
+    ),
+    (
+        "proc bad(n) { return 1 / n; } proc worse(n) { m = n; return 6 % m; } proc main() { spawn bad(1); spawn worse(1); x = sales[9].qty; sync; return x; }",
+        3,
+        "MissingRow in main at 3",
+    ),
+];
+
 #[test]
-fn values_in_the_order_of_the_text(rt: HostRuntime) {
-    rows_answer(&rt, rt.alloc(), &STOLEN);
+fn programs_on_strands(rt: HostRuntime) {
+    rows_answer(&rt, rt.alloc(), &ENDING);
+    rows_answer(&rt, rt.alloc(), &FAULTY);
 }
 
 /// A hundred iterations, each of which calls two instances, and two more calls.

@@ -2,7 +2,7 @@
 ghost use Rattle.std.specs.Prelude.{◌≡◌, [], All};
 ghost use Rattle.monoid_laws.specs.Kinds.{IsMonoid};
 
-use super::answers::{answer_text, counts_of, slow_text};
+use super::answers::{answer_text, slow_text};
 use super::driving::{
     Child, are_monoids, begin, go_on, own_kit, parent, program_of, sales, to_pause,
 };
@@ -18,7 +18,7 @@ use view_pool::{Kit, PlainView, Pool};
 const KITS: usize = 4;
 
 /// The kits of a program, all free.
-pub fn pool_of(rt: &impl Abort, alloc: Global, program: &Checked) -> Pool<Kit<PlainView>>
+fn pool_of(rt: &impl Abort, alloc: Global, program: &Checked) -> Pool<Kit<PlainView>>
     ensures kits { All (λ k. k ≡ program.now.kinds) result.kits }
 {
     let one = own_kit(rt, alloc, program);
@@ -29,7 +29,7 @@ pub fn pool_of(rt: &impl Abort, alloc: Global, program: &Checked) -> Pool<Kit<Pl
 }
 
 /// A free kit.
-pub fn taken(rt: &impl Abort, program: &Checked, pool: &mut Pool<Kit<PlainView>>) -> Kit<PlainView>
+fn taken(rt: &impl Abort, program: &Checked, pool: &mut Pool<Kit<PlainView>>) -> Kit<PlainView>
     requires kits { All (λ k. k ≡ program.now.kinds) pool.old.kits }
     ensures kits { All (λ k. k ≡ program.now.kinds) pool.new.kits }
     ensures kinds { result ≡ program.now.kinds }
@@ -64,7 +64,7 @@ fn steal(
 }
 
 /// The victim goes on to its next spawn, where its continuation is stolen.
-pub fn rob(
+fn rob(
     rt: &impl Abort,
     alloc: Global,
     program: &Checked,
@@ -192,11 +192,10 @@ fn play(
     join(rt, victim, thief, pool);
 }
 
-/// What a run came to: its answer, its counts, how many kits are home then, and after how many steps its last strand was at its end.
+/// What a run came to: its answer, how many kits are home then, and after how many steps its last strand was at its end.
 #[derive(Drop)]
 pub struct Ran {
     pub answer: String,
-    pub counts: [u64; 3],
     pub kits: usize,
     pub steps: usize,
 }
@@ -227,7 +226,6 @@ pub fn run(
     let (answer, _) = strand.end(alloc, &mut pool);
     Ran {
         answer: answer_text(rt, alloc, program.program(), &answer),
-        counts: counts_of(&answer),
         kits: pool.free(),
         steps,
     }

@@ -1,0 +1,99 @@
+//! Revision numbers up to the last one, from a checked program that is built by hand: no text gets that far.
+ghost use Rattle.std.specs.Prelude.{◌≡◌, ◌<◌, [], ◌∷◌, map, string_bytes};
+ghost use Rattle.meaning.specs.Elision.{main};
+ghost use Rattle.program_tree.specs.View.{tree};
+ghost use Rattle.linked_program.specs.Declarations.{IsClean};
+ghost use Rattle.linked_program.specs.Procedures.{procedures};
+ghost use Rattle.linked_program.specs.Linked.{main_number};
+ghost use Rattle.linked_program.specs.Checked.{numbers_in};
+
+use super::{defines, revisions};
+use indexmap::IndexMap;
+use linked_program::checked::Checked;
+use linked_program::linking::{codes, kinds};
+use program_tree::{Block, Declaration, Procedure, Program};
+use std::alloc::Global;
+use std::process::Abort;
+
+fn main_name(rt: &impl Abort, alloc: Global) -> String
+    ensures { string_bytes result ≡ main }
+{
+    String::from_str(alloc, "main").expect(rt, "memory")
+}
+
+/// `proc main() { }`.
+fn main_alone(rt: &impl Abort, alloc: Global) -> Program
+    ensures clean { IsClean [] result }
+    ensures called { map (λ p. p.called) (procedures (tree result)) ≡ main ∷ [] }
+    ensures number { main_number (tree result) ≡ 0 }
+{
+    let body = Block {
+        statements: Vec::new(alloc),
+    };
+    let procedure = Procedure {
+        name: main_name(rt, alloc),
+        line: 1,
+        memo: false,
+        parameters: 0,
+        names: Vec::new(alloc),
+        blocks: vec![in alloc; body].expect(rt, "memory"),
+    };
+    let declarations = vec![in alloc; Declaration::Procedure(procedure)].expect(rt, "memory");
+    Program { declarations }
+}
+
+fn number_of_main(rt: &impl Abort, alloc: Global) -> IndexMap<String, u64>
+    ensures { numbers_in result ≡ (main, 0) ∷ [] }
+{
+    let mut revisions = IndexMap::new(alloc);
+    let Ok(_) = revisions.insert(main_name(rt, alloc), 0) else {
+        panic!(rt; "memory");
+    };
+    revisions
+}
+
+/// That program, checked, whose `main` has the revision number 0, and this as the least that was never used.
+fn before(rt: &impl Abort, alloc: Global, counter: u64) -> Checked
+    requires { 0 < counter }
+{
+    let program = main_alone(rt, alloc);
+    let codes = codes(alloc, &program.declarations, &[]).expect(rt, "memory");
+    let kinds = kinds(alloc, &program.declarations).expect(rt, "memory");
+    let numbers = number_of_main(rt, alloc);
+    Checked::new(program, Vec::new(alloc), codes, kinds, 0, numbers, counter)
+}
+
+/// Texts, and the answers to them in the place of that program and as definitions. The rules come before the numbers, and where no
+/// procedure is changed no number is needed.
+const ANSWERS: [(&str, &str, &str); 3] = [
+    ("proc main() { return 1; }", "refused E18", "refused E18"),
+    (
+        "proc main(x) { }",
+        "refused E9 C7 main 1",
+        "refused E9 C7 main 1",
+    ),
+    (
+        "\n\nproc main() { }",
+        "main 0 false; 18446744073709551615",
+        "main 0 false; 18446744073709551615",
+    ),
+];
+
+#[test]
+fn no_number_is_left(rt: HostRuntime) {
+    let old = before(&rt, rt.alloc(), u64::MAX);
+    for (text, redefined, defined) in ANSWERS {
+        let found = revisions::answer_to(&rt, rt.alloc(), &old, text);
+        assert_eq!(&rt; found.as_str(), redefined);
+        let found = defines::answer_to(&rt, rt.alloc(), &old, text);
+        assert_eq!(&rt; found.as_str(), defined);
+    }
+}
+
+#[test]
+fn the_last_number_is_given(rt: HostRuntime) {
+    let old = before(&rt, rt.alloc(), u64::MAX - 1);
+    let found = revisions::answer_to(&rt, rt.alloc(), &old, "proc main() { return 1; }");
+    let wanted = "main 18446744073709551614 false; 18446744073709551615";
+    assert_eq!(&rt; found.as_str(), wanted);
+}

@@ -1,0 +1,63 @@
+//! Questions to tables, with their answers.
+
+use input_tables::Tables;
+
+/// A question to tables, with its answer.
+#[derive(Clone, Copy)]
+pub enum Look {
+    Tables(usize),
+    Edits(u64),
+    Table(&'static str, Option<usize>),
+    Column(usize, &'static str, Option<usize>),
+    Named(usize, &'static str),
+    TwoColumns(usize, &'static str, &'static str),
+    Limit(usize, i64),
+    Has(usize, i64, bool),
+    Cell(usize, i64, usize, Option<i64>),
+}
+
+/// Whether there is a table of this number and name.
+fn is_named(tables: &Tables, table: usize, name: &str) -> bool {
+    table < tables.count() && tables.name(table) == name
+}
+
+fn is_text(text: Option<&String>, wanted: &str) -> bool {
+    match text {
+        Some(text) => text.as_str() == wanted,
+        None => false,
+    }
+}
+
+/// Whether there is a table of this number, of these two columns.
+fn has_two_columns(tables: &Tables, table: usize, first: &str, second: &str) -> bool {
+    if table >= tables.count() {
+        return false;
+    }
+    let columns = tables.columns(table);
+    columns.len() == 2 && is_text(columns.first(), first) && is_text(columns.last(), second)
+}
+
+/// Whether the tables answer so.
+fn is_answered(tables: &Tables, look: &Look) -> bool {
+    match *look {
+        Look::Tables(count) => tables.count() == count,
+        Look::Edits(count) => tables.edit_number() == count,
+        Look::Table(name, number) => tables.table(name) == number,
+        Look::Column(table, name, number) => tables.column(table, name) == number,
+        Look::Named(table, name) => is_named(tables, table, name),
+        Look::TwoColumns(table, first, second) => has_two_columns(tables, table, first, second),
+        Look::Limit(table, limit) => tables.limit(table) == limit,
+        Look::Has(table, row, there) => tables.has(table, row) == there,
+        Look::Cell(table, row, column, value) => tables.cell(table, row, column) == value,
+    }
+}
+
+/// The place of the first question that the tables answer otherwise.
+pub fn wrong_answer(tables: &Tables, looks: &[Look]) -> Option<usize> {
+    for place in 0..looks.len() {
+        if !is_answered(tables, &looks[place]) {
+            return Some(place);
+        }
+    }
+    None
+}

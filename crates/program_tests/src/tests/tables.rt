@@ -1,0 +1,110 @@
+//! Tables that are read and edited.
+
+use super::beginnings::{SALES, sales};
+use super::looks::Look::{Cell, Column, Edits, Has, Limit, Named, Table, TwoColumns};
+use super::looks::{Look, wrong_answer};
+use input_tables::{EditError, Tables};
+use std::alloc::Global;
+use std::process::Abort;
+
+/// The tables of the example, and nothing else.
+const ALL_OF_SALES: [Look; 30] = [
+    Look::Tables(1),
+    Edits(0),
+    Named(0, "sales"),
+    TwoColumns(0, "qty", "price"),
+    Table("sales", Some(0)),
+    Table("stock", None),
+    Column(0, "qty", Some(0)),
+    Column(0, "price", Some(1)),
+    Column(0, "sales", None),
+    Column(1, "qty", None),
+    Limit(0, 4),
+    Limit(1, 0),
+    Has(0, 1, true),
+    Has(0, 2, true),
+    Has(0, 3, true),
+    Cell(0, 1, 0, Some(2)),
+    Cell(0, 1, 1, Some(5)),
+    Cell(0, 2, 0, Some(3)),
+    Cell(0, 2, 1, Some(7)),
+    Cell(0, 3, 0, Some(1)),
+    Cell(0, 3, 1, Some(100)),
+    Cell(0, 1, 2, None),
+    Cell(1, 1, 0, None),
+    Has(0, 0, false),
+    Has(0, 4, false),
+    Has(0, -1, false),
+    Has(0, i64::MAX, false),
+    Cell(0, 4, 0, None),
+    Cell(0, -1, 0, None),
+    Cell(0, i64::MAX, 0, None),
+];
+
+/// Tables are numbered by their names, columns by their places.
+const TWO_TABLES: &str =
+    "[b]\ncolumns = [\"y\", \"x\"]\nrows = [[7, 1, 2]]\n[a]\ncolumns = [\"z\"]\nrows = []\n";
+
+const OF_TWO_TABLES: [Look; 6] = [
+    Table("a", Some(0)),
+    Table("b", Some(1)),
+    Column(1, "y", Some(0)),
+    Cell(1, 7, 1, Some(2)),
+    Limit(0, 0),
+    Limit(1, 8),
+];
+
+const OF_NO_TABLES: [Look; 3] = [Look::Tables(0), Table("sales", None), Edits(0)];
+
+const DOCUMENTS: [(&str, &[Look]); 3] = [
+    (SALES, &ALL_OF_SALES),
+    (TWO_TABLES, &OF_TWO_TABLES),
+    ("", &OF_NO_TABLES),
+];
+
+#[test]
+fn documents_are_read(rt: HostRuntime) {
+    for (text, looks) in DOCUMENTS {
+        let tables = Tables::from_toml(rt.alloc(), text).expect(&rt, "tables");
+        assert_eq!(&rt; wrong_answer(&tables, looks), None);
+    }
+    assert_eq!(&rt; wrong_answer(&Tables::new(rt.alloc()), &OF_NO_TABLES), None);
+}
+
+/// Whether an edit is refused so.
+fn is_refused(rt: &impl Abort, alloc: Global, edit: Result<(), EditError>, wanted: &str) -> bool {
+    match edit {
+        Ok(()) => false,
+        Err(error) => format!(in alloc; "{error}").expect(rt, "memory").as_str() == wanted,
+    }
+}
+
+/// What is read behind two rows that were put, one that was taken out, and two edits that were refused.
+const EDITED: [Look; 6] = [
+    Edits(3),
+    Limit(0, 6),
+    Cell(0, 2, 0, Some(4)),
+    Cell(0, 5, 1, Some(1)),
+    Has(0, 3, false),
+    Has(0, 2, true),
+];
+
+#[test]
+fn tables_are_edited(rt: HostRuntime) {
+    let alloc = rt.alloc();
+    let mut tables = sales(&rt, alloc);
+    tables
+        .put(alloc, "sales", 2, &[4, 7])
+        .expect(&rt, "an edit");
+    tables
+        .put(alloc, "sales", 5, &[1, 1])
+        .expect(&rt, "an edit");
+    tables.delete("sales", 3).expect(&rt, "an edit");
+    let refused = tables.put(alloc, "sales", 1, &[2]);
+    assert!(&rt; is_refused(&rt, alloc, refused, "refused E5"));
+    let refused = tables.delete("sales", 9);
+    assert!(&rt; is_refused(&rt, alloc, refused, "refused E7"));
+    assert_eq!(&rt; wrong_answer(&tables, &EDITED), None);
+    let exhausted = Err(EditError::Exhausted);
+    assert!(&rt; is_refused(&rt, alloc, exhausted, "refused E18"));
+}
