@@ -4,7 +4,7 @@ ghost use Rattle.std.specs.Prelude.{◌≡◌, ◌≤◌, length, Result};
 ghost use Rattle.program_tree.specs.Plain.{Tree};
 ghost use Rattle.program_tree.specs.declared.Program.{Program};
 ghost use Rattle.source_tree.specs.Source.{Source};
-ghost use Rattle.procedure_parser.specs.declared.fault.TextError.{TextError};
+ghost use Rattle.token_readers.specs.declared.fault.TextError.{TextError};
 ghost use Rattle.procedure_parser.specs.Correct.{IsSource, Answers};
 ghost use Rattle.program_printer.specs.Printing.{printed};
 ghost use Rattle.printing_theory.specs.Again.{IsOfText, IsOfTexts, PrintsAgain, IsAgain};
