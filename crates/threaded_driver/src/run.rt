@@ -12,7 +12,7 @@ ghost use Rattle.reuse_planner.specs.Runs.{IsFromScratch, LeavesRecords, IsQuiet
 ghost use Rattle.threaded_driver.specs.Come.{HasCome, HasEnded, HasHistory};
 ghost use Rattle.threaded_driver.specs.Ends.{IsEnd, IsEndFor};
 ghost use Rattle.threaded_driver.specs.Over.{is_refusal};
-ghost use Rattle.sync_fold.specs.declared.error.BookError.TheVariants as error;
+ghost use Rattle.strand_list.specs.declared.error.BookError.TheVariants as error;
 
 use crate::beginning::{NewDeques, deques_of};
 use crate::ended::Ended;

@@ -21,6 +21,7 @@ use Rattle.numbered_runs.specs.declared.refusal.Refusal.{Refusal}
 use Rattle.numbered_runs.specs.declared.refusal.Refusal.TheVariants as refusal
 use Rattle.numbered_runs.specs.declared.refusal.StartError.{StartError}
 use Rattle.numbered_runs.specs.declared.refusal.StartError.TheVariants as start
+use Rattle.strand_list.specs.Laying.{is_last}
 use Rattle.worker_core.specs.Strands.{PlainStrands, run_of}
 use Rattle.worker_core.specs.declared.piece.Move.TheVariants.{Work}
 use Rattle.worker_core.specs.Folds.{LeavesFolded, LeavesMoved}
@@ -127,11 +128,6 @@ CannotStart pool start.NoKit = pool.kits ≡ []
 CannotStart pool start.NoMemory = 0 < length pool.kits
 
 -- one strand is left, and it is laid down as finished or faulted
-abbrev pub is_last : State → Bool
-is_last Finished = true
-is_last Faulted = true
-is_last _ = false
-
 abbrev pub are_over : List PlainPiece → Bool
 are_over (p ∷ []) = is_last p.state
 are_over _ = false
