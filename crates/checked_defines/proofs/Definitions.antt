@@ -25,8 +25,8 @@ use Rattle.spawn_checker.specs.declared.violation.CheckError.{CheckError}
 use Rattle.spawn_checker.specs.declared.violation.CheckError.TheVariants as c
 use Rattle.spawn_checker.specs.Renumbered.{IsRefusedAnew, AreNew}
 use Rattle.spawn_checker.proofs.NewNames.{names_are_new}
-use Rattle.procedure_parser.specs.declared.fault.TextError.{TextError}
-use Rattle.procedure_parser.specs.declared.fault.TextError.TheVariants as t
+use Rattle.token_readers.specs.declared.fault.TextError.{TextError}
+use Rattle.token_readers.specs.declared.fault.TextError.TheVariants as t
 use Rattle.procedure_parser.specs.Correct.{IsDefinitionFault}
 use Rattle.program_edits.specs.Putting.{put_all, Placed}
 use Rattle.checked_defines.specs.Readers.{violation_in, reads_text, checks_rules}

@@ -3,8 +3,9 @@ use Rattle.std.proofs.Common.{◌≡◌, ℕ, suc, ◌-◌, cond, [], ◌∷◌,
 use Rattle.std.proofs.lemmas.List.{append-nil}
 use Rattle.token_scanner.specs.Words.{Word, Words, ended}
 use Rattle.source_tree.specs.Source.{Source}
-use Rattle.procedure_parser.specs.Reading.{◌>>=◌, Read, stuck_before}
-use Rattle.procedure_parser.specs.Defining.{Room, Defining, defining_at, definition_at}
+use Rattle.token_readers.specs.Reading.{◌>>=◌, Read, stuck_before}
+use Rattle.token_readers.specs.Rooms.{Room}
+use Rattle.procedure_parser.specs.Defining.{Defining, defining_at, definition_at}
 use Rattle.procedure_parser.specs.Correct.{BeginsIn, NoneFollowsIn, FirstFaultIn, InDefinition}
 use Rattle.procedure_parser.proofs.Law.{Reply}
 use Rattle.procedure_parser.proofs.DefiningLaw.{defining_law}

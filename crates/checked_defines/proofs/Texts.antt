@@ -6,9 +6,11 @@ use Rattle.program_tree.specs.Plain.{Tree}
 use Rattle.token_scanner.specs.Words.{Words}
 use Rattle.token_scanner.specs.Scanning.{tokens_of, longest_text}
 use Rattle.source_tree.specs.Source.{Source}
-use Rattle.procedure_parser.specs.Reading.{stuck_before}
-use Rattle.procedure_parser.specs.Defining.{room_of, definition_at}
-use Rattle.procedure_parser.specs.Correct.{line_at, InDefinition, IsFaultLineIn}
+use Rattle.token_readers.specs.Reading.{stuck_before}
+use Rattle.token_readers.specs.Rooms.{room_of}
+use Rattle.procedure_parser.specs.Defining.{definition_at}
+use Rattle.token_readers.specs.Lines.{line_at}
+use Rattle.procedure_parser.specs.Correct.{InDefinition, IsFaultLineIn}
 use Rattle.procedure_parser.proofs.Counts.{definition_line_is}
 use Rattle.procedure_parser.proofs.Whole.{only_definition, definition_found}
 use Rattle.program_edits.specs.Putting.{put_all}

@@ -1,8 +1,8 @@
 -- Why a definition of procedures is refused.
 use Rattle.std.specs.Prelude.{◌≡◌, Result, Err, string_bytes}
 use Rattle.meaning.specs.Edits.{Standing, EditRefusal, BadText, Broken, Exhausted}
-use Rattle.procedure_parser.specs.declared.fault.TextError.{TextError}
-use Rattle.procedure_parser.specs.declared.fault.TextError.TheVariants as t
+use Rattle.token_readers.specs.declared.fault.TextError.{TextError}
+use Rattle.token_readers.specs.declared.fault.TextError.TheVariants as t
 use Rattle.spawn_checker.specs.declared.violation.CheckError.{CheckError}
 use Rattle.spawn_checker.specs.declared.violation.CheckError.TheVariants as c
 use Rattle.linked_program.specs.Violations.{number_of}

@@ -8,8 +8,10 @@ use Rattle.meaning.specs.Edits as edits
 use Rattle.token_scanner.specs.Words.{Words}
 use Rattle.token_scanner.specs.Scanning.{tokens_of, longest_text}
 use Rattle.source_tree.specs.Source.{Source}
-use Rattle.procedure_parser.specs.Defining.{room_of, definition_at}
-use Rattle.procedure_parser.specs.Correct.{line_at, InDefinition, IsFaultLineIn}
+use Rattle.token_readers.specs.Rooms.{room_of}
+use Rattle.procedure_parser.specs.Defining.{definition_at}
+use Rattle.token_readers.specs.Lines.{line_at}
+use Rattle.procedure_parser.specs.Correct.{InDefinition, IsFaultLineIn}
 use Rattle.program_edits.specs.Putting.{put_all}
 use Rattle.define_parser.specs.Defined.{IsDefined}
 use Rattle.linked_program.specs.declared.violation.Violation.{Violation}

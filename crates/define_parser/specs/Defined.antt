@@ -5,8 +5,8 @@ use Rattle.program_tree.specs.Plain.{Tree}
 use Rattle.program_tree.specs.View.{tree, lines, Lined}
 use Rattle.source_tree.specs.Source.{Source}
 use Rattle.program_edits.specs.Putting.{put_all}
-use Rattle.procedure_parser.specs.declared.fault.TextError.{TextError}
-use Rattle.procedure_parser.specs.declared.fault.TextError.TheVariants.{NoMemory, Text}
+use Rattle.token_readers.specs.declared.fault.TextError.{TextError}
+use Rattle.token_readers.specs.declared.fault.TextError.TheVariants.{NoMemory, Text}
 use Rattle.procedure_parser.specs.Correct.{IsDefinition}
 
 -- the program, with its lines, is the one before with a text's procedures put in

@@ -10,7 +10,8 @@ use Rattle.source_tree.specs.Source.{Decl, Reduces, Defines, Source, stmts_of}
 use Rattle.source_tree.specs.Lowering.{Lowered, lowered_decl, lower_decl, lowered, settled, lower_proc, body_lines}
 use Rattle.program_edits.specs.Putting.{is_in, last_place, spot_of, put_at, put_all}
 use Rattle.procedure_parser.specs.Grammar.{ReducerForm, reduces, ProcedureForm, defines, Declarations, no_declaration, a_reducer, a_procedure, reducer_over, procedure_over}
-use Rattle.procedure_parser.specs.Defining.{Room, room_of, turns_of, Procedures, no_procedure, one_procedure, no_room, behind_name}
+use Rattle.token_readers.specs.Rooms.{Room, room_of, turns_of}
+use Rattle.procedure_parser.specs.Defining.{Procedures, no_procedure, one_procedure, no_room, behind_name}
 use Rattle.procedure_parser.specs.Correct.{IsSource, IsDefinition}
 use Rattle.define_parser.specs.Defined.{IsDefined}
 use Rattle.procedure_parser.proofs.DefiningLaw.{less_room}

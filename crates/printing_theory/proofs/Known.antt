@@ -8,7 +8,7 @@ use Rattle.program_tree.specs.Plain.{Name, Proc, reducer, procedure, Tree}
 use Rattle.token_scanner.specs.Words.{for_some}
 use Rattle.source_tree.specs.Lowering.{found_index, settled}
 use Rattle.program_edits.specs.Putting.{is_in, last_place, spot_of}
-use Rattle.procedure_parser.specs.Defining.{Room, room_behind, with_new, names_from, procedures_in}
+use Rattle.token_readers.specs.Rooms.{Room, room_behind, with_new, names_from, procedures_in}
 use Rattle.printing_theory.specs.Again.{procedure_count}
 use Rattle.printing_theory.proofs.Putting.{on_bool, on_option, put_in, put_grows, Has, count_put, has_put}
 

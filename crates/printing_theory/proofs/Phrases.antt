@@ -12,7 +12,7 @@ use Rattle.program_printer.specs.Tokens.{AllTokens, bare}
 use Rattle.program_printer.specs.Printing.{operator_mark}
 use Rattle.printing_theory.proofs.Read.{AllRead}
 use Rattle.printing_theory.proofs.Said.{phrase_words}
-use Rattle.procedure_parser.specs.Limits.{most_open, most_levels}
+use Rattle.token_readers.specs.Limits.{most_open, most_levels}
 
 -- what is left is read, and what is printed are tokens
 pub record Clean {A : Type 0} (say : A → List Word → List Word) (x : A) (us : Words) : Type 0 where

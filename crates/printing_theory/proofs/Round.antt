@@ -10,8 +10,8 @@ use Rattle.token_scanner.specs.Scanning.{tokens_of, longest_text}
 use Rattle.source_tree.specs.Source.{Source}
 use Rattle.source_tree.specs.Lowering.{Lowered, settled, lowered, lines_of}
 use Rattle.source_tree.proofs.Settled.{settled_back}
-use Rattle.procedure_parser.specs.declared.fault.TextError.{TextError}
-use Rattle.procedure_parser.specs.declared.fault.TextError.TheVariants.{NoMemory, Text}
+use Rattle.token_readers.specs.declared.fault.TextError.{TextError}
+use Rattle.token_readers.specs.declared.fault.TextError.TheVariants.{NoMemory, Text}
 use Rattle.procedure_parser.specs.Grammar.{Declarations}
 use Rattle.procedure_parser.specs.Correct.{InGrammar, IsSource, IsText, Answers, IsFault}
 use Rattle.program_printer.specs.Tokens.{AllTokens, bare}

@@ -6,8 +6,8 @@ use Rattle.program_tree.specs.View.{tree, Lined}
 use Rattle.program_tree.specs.declared.Program.{Program}
 use Rattle.source_tree.specs.Source.{Decl, Source}
 use Rattle.source_tree.specs.Lowering.{Lowered, reducer, procedure, lowered_decl, lower_decl, settled}
-use Rattle.procedure_parser.specs.declared.fault.TextError.{TextError}
-use Rattle.procedure_parser.specs.declared.fault.TextError.TheVariants.{NoMemory, Text}
+use Rattle.token_readers.specs.declared.fault.TextError.{TextError}
+use Rattle.token_readers.specs.declared.fault.TextError.TheVariants.{NoMemory, Text}
 use Rattle.procedure_parser.specs.Correct.{IsText, IsSource}
 use Rattle.program_printer.specs.Printing.{printed}
 

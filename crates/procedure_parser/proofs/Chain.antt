@@ -2,11 +2,12 @@
 use Rattle.std.proofs.Common.{◌≡◌, ℕ, suc, ◌+◌, ◌-◌, ◌<◌, ◌≤◌, true, false, ltb, Option, Some, None, Result, Ok, Err, refl, sym, subst, ◌∙◌, arith}
 use Rattle.std.proofs.lemmas.Bool.{lt-ltb, le-ltb}
 use Rattle.program_tree.specs.declared.Operator.{Operator}
-use Rattle.procedure_parser.specs.declared.fault.ParseError.{ParseError}
-use Rattle.procedure_parser.specs.declared.fault.ParseError.TheVariants as errors
+use Rattle.token_readers.specs.declared.fault.ParseError.{ParseError}
+use Rattle.token_readers.specs.declared.fault.ParseError.TheVariants as errors
 use Rattle.token_scanner.specs.Words.{Words, rest}
 use Rattle.source_tree.specs.Source.{Phrase, Bin, depth}
-use Rattle.procedure_parser.specs.Reading.{◌>>=◌, Read, Reader, Fails, stuck_before, chain_at}
+use Rattle.token_readers.specs.Reading.{◌>>=◌, Read, Fails, stuck_before}
+use Rattle.procedure_parser.specs.Reading.{Reader, chain_at}
 
 -- a fault passes on
 pub passes : {A B : Type 0} (x : Result A Words) (f : A → Result B Words) (k : ℕ) → stuck_before x ≡ Some k → stuck_before (x >>= f) ≡ Some k

@@ -6,10 +6,13 @@ use Rattle.token_scanner.specs.Scanning.{scan, is_space, front_len, belongs, wor
 use Rattle.source_tree.specs.Kinds.{WrittenKind}
 use Rattle.source_tree.specs.Source.{Stmt, Returns, stmts_of, Decl, Source}
 use Rattle.source_tree.specs.Lowering.{count, count_all, BodiesWithin}
-use Rattle.procedure_parser.specs.Reading.{stuck_before, text_at}
+use Rattle.token_readers.specs.Reading.{stuck_before}
+use Rattle.procedure_parser.specs.Reading.{text_at}
 use Rattle.procedure_parser.specs.Grammar.{Form, Many, nil, cons, Entry, entry, Statement, binds, binds_entry, binds_read, enters, syncs, updates, tests, tests_else, loops, Body, plain, returning, Block, comma_number, MoreCells, no_more_cells, more_cells, cells, TableForm, table, KindForm, simple, first, last, of_table, ReducerForm, reduces, MoreParams, no_more, one_more, one_over, Params, no_params, params, ProcedureForm, defines, ProcedureWord, unmarked, marked, Declarations, no_declaration, a_reducer, a_procedure, reducer_over, procedure_over}
-use Rattle.procedure_parser.specs.Defining.{Room, behind_name, Procedures, no_procedure, one_procedure, no_room, definition_at}
-use Rattle.procedure_parser.specs.Correct.{InGrammar, FirstFaultIn, line_at, IsFaultLineIn, InDefinition}
+use Rattle.token_readers.specs.Rooms.{Room}
+use Rattle.procedure_parser.specs.Defining.{behind_name, Procedures, no_procedure, one_procedure, no_room, definition_at}
+use Rattle.token_readers.specs.Lines.{line_at}
+use Rattle.procedure_parser.specs.Correct.{InGrammar, FirstFaultIn, IsFaultLineIn, InDefinition}
 use Rattle.procedure_parser.proofs.Head.{on_bool}
 use Rattle.procedure_parser.proofs.Short.{IsShort, statement_short, whole_short, within_short, block_short}
 use Rattle.procedure_parser.proofs.Whole.{text_stuck, definition_stuck}

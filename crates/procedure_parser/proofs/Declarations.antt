@@ -9,7 +9,8 @@ use Rattle.source_tree.specs.Kinds.{WrittenKind}
 use Rattle.source_tree.specs.Kinds as kinds
 use Rattle.source_tree.specs.Source.{Stmt, Decl, Reduces, Defines, Source}
 use Rattle.procedure_parser.specs.KindWords.{simple_kind}
-use Rattle.procedure_parser.specs.Reading.{◌>>=◌, Read, mark_at, name_at, over_as, with_front, within_at, comma_number_at, more_cells_at, cells_at, word_at, table_at, simple_kind_of, sized_kind_at, kind_at, reducer_at, more_params_at, params_at, block_at, procedure_at, procedure_word_at, starts_procedure, and_then, counted, declarations_at}
+use Rattle.token_readers.specs.Reading.{◌>>=◌, Read, mark_at, name_at, within_at, word_at}
+use Rattle.procedure_parser.specs.Reading.{over_as, with_front, comma_number_at, more_cells_at, cells_at, table_at, simple_kind_of, sized_kind_at, kind_at, reducer_at, more_params_at, params_at, block_at, procedure_at, procedure_word_at, starts_procedure, and_then, counted, declarations_at}
 use Rattle.procedure_parser.specs.Grammar.{Form, Within, within, CommaNumber, comma_number, MoreCells, no_more_cells, more_cells, Cells, cells, TableForm, table, KindForm, simple, first, last, of_table, Block, ReducerForm, reduces, MoreParams, no_more, one_more, one_over, Params, no_params, params, ProcedureForm, defines, ProcedureWord, unmarked, marked, Declarations, no_declaration, a_reducer, a_procedure, reducer_over, procedure_over}
 use Rattle.procedure_parser.proofs.Law.{LawAt, IsLocal, nothing, one, by_reply, reply_as, heads_run, if_true, if_false, some_there, none_there, gives_at, refuses_at, skip_at, map_at, then_at}
 use Rattle.procedure_parser.proofs.Head.{on_bool, on_option, starts_is, name_is, local, starts_local, over_law, expect_at, name_then_at, at_value, line_local, last_mark, behind_line}

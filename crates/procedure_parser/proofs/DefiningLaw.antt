@@ -9,9 +9,11 @@ use Rattle.token_scanner.specs.Words.{Word, Over, Words, for_some, rest, front_n
 use Rattle.token_scanner.specs.Words as word
 use Rattle.source_tree.specs.Source.{Defines, Source}
 use Rattle.source_tree.specs.Lowering.{found_index}
-use Rattle.procedure_parser.specs.Reading.{◌>>=◌, Read, over_as, params_at, block_at, procedure_word_at, starts_procedure, and_then}
+use Rattle.token_readers.specs.Reading.{◌>>=◌, Read}
+use Rattle.procedure_parser.specs.Reading.{over_as, params_at, block_at, procedure_word_at, starts_procedure, and_then}
 use Rattle.procedure_parser.specs.Grammar.{Form, Params, no_params, Block, ProcedureWord, unmarked, marked}
-use Rattle.procedure_parser.specs.Defining.{Room, room_behind, BehindName, behind_name, Procedures, no_procedure, one_procedure, no_room, Defining, behind_name_at, nameless_at, named_at, one_at, procedures_at, turns_of, defining_at}
+use Rattle.token_readers.specs.Rooms.{Room, room_behind, turns_of}
+use Rattle.procedure_parser.specs.Defining.{BehindName, behind_name, Procedures, no_procedure, one_procedure, no_room, Defining, behind_name_at, nameless_at, named_at, one_at, procedures_at, defining_at}
 use Rattle.procedure_parser.proofs.Law.{LawAt, if_true, if_false, some_there, none_there, gives_at, refuses_at, skip_at, map_at, then_at}
 use Rattle.procedure_parser.proofs.Head.{on_bool, on_option, name_is, name_local, over_law, at_value, line_local}
 use Rattle.procedure_parser.proofs.Statements.{a_name, empty_block, block_law}

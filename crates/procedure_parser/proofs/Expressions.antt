@@ -10,11 +10,12 @@ use Rattle.program_tree.specs.declared.Operator.TheVariants as op
 use Rattle.token_scanner.specs.Words.{Word, Name, Number, Sign, Over, Words, for_some, starts, rest, front_number}
 use Rattle.source_tree.specs.Source.{Phrase, Num, Var, Cell, Neg, Bin, depth}
 use Rattle.source_tree.specs.Source as source
-use Rattle.procedure_parser.specs.Reading.{◌>>=◌, Read, Reader, mark_at, name_at, over_as, comparison, additive, multiplicative, after_name_at, row_at, has_at, limit_at, plain_atom_at, atom_at, unary_at, chain_at, term_at, sum_at, against_at, expr_with, inside_at, expr_at}
+use Rattle.token_readers.specs.Reading.{◌>>=◌, Read, mark_at, name_at, comparison, additive, multiplicative}
+use Rattle.procedure_parser.specs.Reading.{Reader, over_as, after_name_at, row_at, has_at, limit_at, plain_atom_at, atom_at, unary_at, chain_at, term_at, sum_at, against_at, expr_with, inside_at, expr_at}
 use Rattle.procedure_parser.specs.Grammar.{Form, Atom, number, variable, cell, has, has_over, limit, paren, Unary, atom, negative, Chain, over, goes_on, Comparison, equal, unequal, less, at_most, greater, at_least, Additive, Multiplicative, adds, subtracts, times, divides, remains, Term, Sum, Compared, alone, against, Inside, Expression}
 use Rattle.procedure_parser.proofs.Law.{nothing, LawAt, IsLocal, by_reply, if_true, if_false, some_there, none_there, gives_at, refuses_at, skip_at, map_at, then_at}
 use Rattle.procedure_parser.proofs.Head.{nought, on_bool, on_option, number_is, starts_local, number_local, comparison_local, additive_local, multiplicative_local, Found, picked, over_law, expect_at, name_then_at, last_mark, behind_mark}
-use Rattle.procedure_parser.specs.Limits.{most_open}
+use Rattle.token_readers.specs.Limits.{most_open}
 
 abbrev pub Bounded : ℕ → Form Phrase → Form Phrase
 Bounded r R e ts us = R e ts us × (depth e ≤ r)

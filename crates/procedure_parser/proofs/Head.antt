@@ -6,7 +6,8 @@ use Rattle.token_scanner.specs.declared.token.Mark.TheVariants as mark
 use Rattle.token_scanner.specs.declared.token.Mark.TheVariants.{OpenBrace, CloseBrace, OpenParen, CloseParen, OpenBracket, CloseBracket, Colon, Semicolon, Comma, Dot, Range, Assign, Equal, Unequal, Less, AtMost, Greater, AtLeast, Plus, Minus, Star, Slash, Percent, Reducer, Memo, Proc, Call, Spawn, Sync, Update, If, Else, CilkFor, In, Grain, Return, Has, Limit}
 use Rattle.token_scanner.specs.Marks.{mark_number, same_mark}
 use Rattle.token_scanner.specs.Words.{Word, Name, Number, Sign, Bad, Over, Words, starts, starts_over, rest, front_name, front_number, line_of}
-use Rattle.procedure_parser.specs.Reading.{◌>>=◌, Read, or_stuck, mark_at, name_at, over_as, comparison, additive, multiplicative}
+use Rattle.token_readers.specs.Reading.{◌>>=◌, Read, or_stuck, mark_at, name_at, comparison, additive, multiplicative}
+use Rattle.procedure_parser.specs.Reading.{over_as}
 use Rattle.procedure_parser.specs.Grammar.{Form}
 use Rattle.procedure_parser.proofs.Law.{nothing, LawAt, IsLocal, by_reply, if_true, if_false, gives_at, refuses_at, skip_at, reply_as, heads_run}
 

@@ -2,7 +2,7 @@
 use Rattle.std.proofs.Common.{◌≡◌, ℕ, Bool, true, false, cond, [], ◌∷◌, ◌++◌, Option, Some, None, Ok, Err, refl, sym, ap, subst, ◌∙◌, append_assoc}
 use Rattle.token_scanner.specs.Words.{Word, Words, rest}
 use Rattle.token_scanner.specs.Words.{for_some}
-use Rattle.procedure_parser.specs.Reading.{◌>>=◌, Read}
+use Rattle.token_readers.specs.Reading.{◌>>=◌, Read}
 use Rattle.procedure_parser.specs.Grammar.{Form}
 
 -- some tokens in front of whatever comes

@@ -1,7 +1,6 @@
 pub mod Law
 pub mod Chain
 pub mod Many
-pub mod Never
 pub mod Turns
 pub mod Head
 pub mod Lists
@@ -16,8 +15,7 @@ pub mod OnlyDeclarations
 pub mod Whole
 pub mod Counts
 pub mod Tables
-pub mod Ends
 pub mod DefiningLaw
 pub mod OnlyDefining
-pub mod Rooms
+pub mod Named
 pub mod OneMeaning

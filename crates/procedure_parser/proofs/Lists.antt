@@ -2,7 +2,8 @@
 use Rattle.std.proofs.Common.{◌≡◌, ℕ, zero, suc, ◌<◌, ◌≤◌, Bool, true, false, cond, List, [], ◌∷◌, length, Ok, Err, refl, sym, ap, subst, ◌∙◌, arith, ◌⊎◌, inl, inr}
 use Rattle.std.proofs.lemmas.List.{nil_from_length}
 use Rattle.token_scanner.specs.Words.{Words}
-use Rattle.procedure_parser.specs.Reading.{◌>>=◌, Read, many_go, many_at}
+use Rattle.token_readers.specs.Reading.{◌>>=◌, Read}
+use Rattle.procedure_parser.specs.Reading.{many_go, many_at}
 use Rattle.procedure_parser.specs.Grammar.{Form, Many, nil, cons}
 use Rattle.procedure_parser.proofs.Law.{Reply, LawAt, IsLocal, by_reply, reply_as, if_true, if_false, gives_at, then_at}
 use Rattle.procedure_parser.proofs.Head.{on_bool}

@@ -1,10 +1,11 @@
 -- One item after the other, as a loop reads them.
 use Rattle.std.proofs.Common.{◌≡◌, ℕ, suc, ◌-◌, ◌+◌, ◌≤◌, ◌<◌, Bool, true, false, List, [], ◌∷◌, ◌++◌, Some, Ok, Err, refl, sym, ap, subst, ◌∙◌, append_assoc, arith}
 use Rattle.std.proofs.lemmas.List.{append-nil}
-use Rattle.procedure_parser.specs.declared.fault.ParseError.{ParseError}
-use Rattle.procedure_parser.specs.declared.fault.ParseError.TheVariants as errors
+use Rattle.token_readers.specs.declared.fault.ParseError.{ParseError}
+use Rattle.token_readers.specs.declared.fault.ParseError.TheVariants as errors
 use Rattle.token_scanner.specs.Words.{Words}
-use Rattle.procedure_parser.specs.Reading.{◌>>=◌, Read, Fails, stuck_before, many_go, with_front}
+use Rattle.token_readers.specs.Reading.{◌>>=◌, Read, Fails, stuck_before}
+use Rattle.procedure_parser.specs.Reading.{many_go, with_front}
 use Rattle.procedure_parser.proofs.Chain.{passes}
 
 pub regroup : {A : Type 0} (front : List A) (n : A) (read : Read (List A)) → with_front front (read >>= λ x. Ok (n ∷ x.0, x.1)) ≡ with_front (front ++ n ∷ []) read

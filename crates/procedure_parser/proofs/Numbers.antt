@@ -3,7 +3,7 @@ use Rattle.std.proofs.Common.{◌≡◌, ℕ, ◌≤◌, ℤ, pos, negsuc, Bool,
 use Rattle.std.specs.Prelude.{nat_le, ◌&&◌, cond}
 use Rattle.std.proofs.lemmas.Bool.{leb-true, le-leb}
 use Rattle.token_scanner.specs.Words.{Name, Number, Sign, Bad, Over, Words, rest, for_some, front_count, count_of}
-use Rattle.procedure_parser.specs.Reading.{◌>>=◌, Read, or_stuck, count_within, within_of, within_at}
+use Rattle.token_readers.specs.Reading.{◌>>=◌, Read, or_stuck, count_within, within_of, within_at}
 use Rattle.procedure_parser.specs.Grammar.{Form, Within, within}
 use Rattle.procedure_parser.proofs.Law.{nothing, LawAt, IsLocal, by_reply, reply_as, gives_at, skip_at, heads_run}
 use Rattle.procedure_parser.proofs.Head.{on_bool, on_option, local}

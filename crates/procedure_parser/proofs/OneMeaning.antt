@@ -8,7 +8,7 @@ use Rattle.source_tree.specs.Source.{Source}
 use Rattle.source_tree.specs.Lowering.{lowered, lines_of}
 use Rattle.source_tree.proofs.Settled.{settled_back}
 use Rattle.procedure_parser.specs.Correct.{IsSource, IsText, IsDefinition}
-use Rattle.procedure_parser.specs.Defining.{room_of}
+use Rattle.token_readers.specs.Rooms.{room_of}
 use Rattle.procedure_parser.proofs.Whole.{only_text, only_definition}
 
 abbrev read_as : Source → Result Source Words

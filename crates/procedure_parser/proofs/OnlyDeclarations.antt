@@ -7,7 +7,8 @@ use Rattle.token_scanner.specs.Words.{Name, Sign, Words, starts, line_of}
 use Rattle.source_tree.specs.Kinds.{WrittenKind}
 use Rattle.source_tree.specs.Source.{Decl, Source}
 use Rattle.procedure_parser.specs.KindWords.{simple_kind}
-use Rattle.procedure_parser.specs.Reading.{mark_at, name_at, over_as, comma_number_at, more_cells_at, cells_at, word_at, table_at, simple_kind_of, sized_kind_at, kind_at, reducer_at, more_params_at, params_at, procedure_at, procedure_word_at, starts_procedure, declarations_at}
+use Rattle.token_readers.specs.Reading.{mark_at, name_at, word_at}
+use Rattle.procedure_parser.specs.Reading.{over_as, comma_number_at, more_cells_at, cells_at, table_at, simple_kind_of, sized_kind_at, kind_at, reducer_at, more_params_at, params_at, procedure_at, procedure_word_at, starts_procedure, declarations_at}
 use Rattle.procedure_parser.specs.Grammar.{CommaNumber, comma_number, MoreCells, no_more_cells, more_cells, Cells, cells, TableForm, table, KindForm, simple, first, last, of_table, ReducerForm, reduces, MoreParams, no_more, one_more, one_over, Params, no_params, params, ProcedureForm, defines, ProcedureWord, unmarked, marked, Declarations, no_declaration, a_reducer, a_procedure, reducer_over, procedure_over}
 use Rattle.procedure_parser.proofs.Numbers.{only_within}
 use Rattle.procedure_parser.proofs.OnlyStatements.{only_block}

@@ -4,7 +4,8 @@ use Rattle.program_tree.specs.Plain.{Name}
 use Rattle.token_scanner.specs.Words.{Words}
 use Rattle.source_tree.specs.Source.{Decl, Source}
 use Rattle.procedure_parser.specs.Reading.{over_as, starts_procedure}
-use Rattle.procedure_parser.specs.Defining.{Room, BehindName, behind_name, Procedures, no_procedure, one_procedure, no_room, Defining, behind_name_at, nameless_at, named_at, one_at, procedures_at, turns_of, defining_at}
+use Rattle.token_readers.specs.Rooms.{Room, turns_of}
+use Rattle.procedure_parser.specs.Defining.{BehindName, behind_name, Procedures, no_procedure, one_procedure, no_room, Defining, behind_name_at, nameless_at, named_at, one_at, procedures_at, defining_at}
 use Rattle.procedure_parser.proofs.OnlyStatements.{only_block}
 use Rattle.procedure_parser.proofs.OnlyDeclarations.{only_params, only_words}
 use Rattle.procedure_parser.proofs.DefiningLaw.{less_room}

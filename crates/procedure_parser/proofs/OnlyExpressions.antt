@@ -7,7 +7,8 @@ use Rattle.token_scanner.specs.declared.token.Mark.TheVariants.{OpenParen, Close
 use Rattle.program_tree.specs.declared.Operator.{Operator}
 use Rattle.token_scanner.specs.Words.{Word, Sign, Words, starts, rest}
 use Rattle.source_tree.specs.Source.{Phrase, Bin, depth}
-use Rattle.procedure_parser.specs.Reading.{Reader, mark_at, name_at, over_as, comparison, additive, multiplicative, after_name_at, row_at, has_at, limit_at, plain_atom_at, atom_at, unary_at, chain_at, term_at, sum_at, against_at, expr_with, inside_at, expr_at}
+use Rattle.token_readers.specs.Reading.{mark_at, name_at, comparison, additive, multiplicative}
+use Rattle.procedure_parser.specs.Reading.{Reader, over_as, after_name_at, row_at, has_at, limit_at, plain_atom_at, atom_at, unary_at, chain_at, term_at, sum_at, against_at, expr_with, inside_at, expr_at}
 use Rattle.procedure_parser.specs.Grammar.{Form, Atom, number, variable, cell, has, has_over, limit, paren, Unary, atom, negative, Chain, over, goes_on, Comparison, equal, unequal, less, at_most, greater, at_least, Additive, Multiplicative, adds, subtracts, times, divides, remains, Term, Sum, Compared, alone, against, Inside, Expression}
 use Rattle.procedure_parser.proofs.Head.{starts_is}
 use Rattle.procedure_parser.proofs.Expressions.{depth_pos, not_full}

@@ -8,7 +8,8 @@ use Rattle.token_scanner.specs.Words.{Word, Sign, Over, Words, starts}
 use Rattle.token_scanner.specs.Words as token
 use Rattle.source_tree.specs.Source.{Phrase, Stmt}
 use Rattle.source_tree.specs.Source as source
-use Rattle.procedure_parser.specs.Reading.{mark_at, name_at, over_as, comparison, additive, multiplicative, plain_atom_at, atom_at, unary_at, term_at, sum_at, expr_with, expr_at, many_at, whole_at, comma_expr_at, exprs_at, args_at, way_of, entry_at, value_at, read_at, bound_at, bind_at, update_at, return_at, grain_at, range_at, iteration_at, loop_at, Blocks, else_at, if_at, keyword_at, statement_at, goes_on, end_at, body_at, block_at}
+use Rattle.token_readers.specs.Reading.{mark_at, name_at, comparison, additive, multiplicative, way_of}
+use Rattle.procedure_parser.specs.Reading.{over_as, plain_atom_at, atom_at, unary_at, term_at, sum_at, expr_with, expr_at, many_at, whole_at, comma_expr_at, exprs_at, args_at, entry_at, value_at, read_at, bound_at, bind_at, update_at, return_at, grain_at, range_at, iteration_at, loop_at, Blocks, else_at, if_at, keyword_at, statement_at, goes_on, end_at, body_at, block_at}
 use Rattle.procedure_parser.specs.Grammar.{Form, Many, Whole, CommaExpr, comma_expr, Exprs, exprs, Args, no_args, args, EnterWord, calls, spawns, Entry, entry, Grained, no_grain, grained, Ranged, ranged, Statement, binds, binds_entry, binds_read, enters, syncs, updates, tests, tests_else, loops, Body, plain, returning, Block}
 use Rattle.procedure_parser.proofs.Law.{LawAt}
 use Rattle.procedure_parser.proofs.Head.{on_bool, on_option, starts_is, starts_local}
@@ -17,7 +18,7 @@ use Rattle.procedure_parser.proofs.Numbers.{only_within}
 use Rattle.procedure_parser.proofs.Lists.{only_many, many_ends}
 use Rattle.procedure_parser.proofs.Short.{IsShort, comma_short, statement_short, block_short}
 use Rattle.procedure_parser.proofs.Statements.{comma_law, way_is, goes_on_local, statement_law, empty_block, block_law}
-use Rattle.procedure_parser.specs.Limits.{most_open, most_levels}
+use Rattle.token_readers.specs.Limits.{most_open, most_levels}
 
 -- ---- expressions
 

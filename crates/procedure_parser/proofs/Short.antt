@@ -6,7 +6,7 @@ use Rattle.program_tree.specs.declared.Operator.{Operator}
 use Rattle.token_scanner.specs.Words.{Word, Words}
 use Rattle.source_tree.specs.Source.{Phrase, Stmt}
 use Rattle.procedure_parser.specs.Grammar.{Form, Atom, number, variable, cell, has, has_over, limit, paren, Unary, atom, negative, Chain, over, goes_on, Additive, Multiplicative, Term, Sum, Compared, alone, against, Inside, Many, nil, cons, Whole, CommaExpr, comma_expr, Exprs, exprs, Args, no_args, args, Entry, entry, Within, within, Grained, no_grain, grained, Ranged, ranged, Statement, binds, binds_entry, binds_read, enters, syncs, updates, tests, tests_else, loops, Body, plain, returning, Block}
-use Rattle.procedure_parser.specs.Limits.{most_open}
+use Rattle.token_readers.specs.Limits.{most_open}
 
 abbrev pub IsShort : {A : Type 0} → Form A → Type 0
 IsShort R = (a : _) (ts us : Words) → R a ts us → length us < length ts

@@ -6,7 +6,8 @@ use Rattle.program_tree.specs.declared.Way.{Way}
 use Rattle.program_tree.specs.declared.Way.TheVariants as way
 use Rattle.token_scanner.specs.Words.{Word, Name, Number, Sign, Over, Words, for_some, starts, rest, front_name, line_of}
 use Rattle.source_tree.specs.Source.{Phrase, Num, Stmt, none, stmts_of, Binds, Enters, Reads, Syncs, Updates, Tests, Loops, Returns}
-use Rattle.procedure_parser.specs.Reading.{◌>>=◌, Read, mark_at, name_at, many_at, whole_at, comma_expr_at, exprs_at, args_at, way_of, entry_at, value_at, read_at, bound_at, bind_at, update_at, return_at, within_at, grain_at, range_at, iteration_at, loop_at, Blocks, else_at, if_at, keyword_at, statement_at, goes_on, end_at, body_at, block_at}
+use Rattle.token_readers.specs.Reading.{◌>>=◌, Read, mark_at, name_at, way_of, within_at}
+use Rattle.procedure_parser.specs.Reading.{many_at, whole_at, comma_expr_at, exprs_at, args_at, entry_at, value_at, read_at, bound_at, bind_at, update_at, return_at, grain_at, range_at, iteration_at, loop_at, Blocks, else_at, if_at, keyword_at, statement_at, goes_on, end_at, body_at, block_at}
 use Rattle.procedure_parser.specs.Grammar.{Form, Many, nil, Whole, CommaExpr, comma_expr, Exprs, exprs, Args, no_args, args, EnterWord, calls, spawns, Entry, entry, Within, Grained, no_grain, grained, Ranged, ranged, Statement, binds, binds_entry, binds_read, enters, syncs, updates, tests, tests_else, loops, Body, plain, returning, Block}
 use Rattle.procedure_parser.proofs.Law.{LawAt, IsLocal, if_true, if_false, some_there, none_there, gives_at, refuses_at, skip_at, map_at, then_at}
 use Rattle.procedure_parser.proofs.Head.{nought, on_bool, on_option, starts_is, name_is, local, starts_local, name_local, Found, picked, over_law, expect_at, name_then_at, at_value, line_local, last_mark, behind_mark, behind_line}
@@ -14,7 +15,7 @@ use Rattle.procedure_parser.proofs.Expressions.{expr_law, zero_whole}
 use Rattle.procedure_parser.proofs.Numbers.{within_law}
 use Rattle.procedure_parser.proofs.Lists.{many_law}
 use Rattle.procedure_parser.proofs.Short.{IsShort, comma_short, statement_short, block_short}
-use Rattle.procedure_parser.specs.Limits.{most_open, most_levels}
+use Rattle.token_readers.specs.Limits.{most_open, most_levels}
 
 abbrev pub a_name : List ℕ
 a_name = 97 ∷ []

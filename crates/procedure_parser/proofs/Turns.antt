@@ -1,11 +1,12 @@
 -- Parameters, cells and declarations, read one in each turn.
 use Rattle.std.proofs.Common.{◌≡◌, ℕ, zero, suc, ◌-◌, Bool, true, false, cond, ltb, List, [], ◌∷◌, ◌++◌, Result, Ok, Err, refl, sym, ap, subst, arith}
 use Rattle.std.proofs.lemmas.Bool.{lt-ltb}
-use Rattle.procedure_parser.specs.declared.fault.ParseError.{ParseError}
+use Rattle.token_readers.specs.declared.fault.ParseError.{ParseError}
 use Rattle.token_scanner.specs.declared.token.Mark.TheVariants.{Comma}
 use Rattle.token_scanner.specs.Words.{Words, starts, starts_over, rest}
 use Rattle.source_tree.specs.Source.{Decl, Source}
-use Rattle.procedure_parser.specs.Reading.{Gives, Read, with_front, over_as, name_at, comma_number_at, more_cells_at, more_params_at, counted}
+use Rattle.token_readers.specs.Reading.{Gives, Read, name_at}
+use Rattle.procedure_parser.specs.Reading.{with_front, over_as, comma_number_at, more_cells_at, more_params_at, counted}
 use Rattle.procedure_parser.proofs.Many.{regroup}
 
 pub gives_along : {X Y : Type 0} (view : X → Y) (r : Result X ParseError) (a b : Result Y Words) → a ≡ b → Gives view r a → Gives view r b

@@ -3,8 +3,10 @@ use Rattle.std.proofs.Common.{◌≡◌, ℕ, suc, ◌+◌, ◌-◌, cond, List,
 use Rattle.std.proofs.lemmas.List.{append-nil}
 use Rattle.token_scanner.specs.Words.{Word, Words, ended}
 use Rattle.source_tree.specs.Source.{Source}
-use Rattle.procedure_parser.specs.Reading.{◌>>=◌, Read, stuck_before, program_at, text_at}
-use Rattle.procedure_parser.specs.Defining.{Room, Defining, defining_at, definition_at}
+use Rattle.token_readers.specs.Reading.{◌>>=◌, Read, stuck_before}
+use Rattle.procedure_parser.specs.Reading.{program_at, text_at}
+use Rattle.token_readers.specs.Rooms.{Room}
+use Rattle.procedure_parser.specs.Defining.{Defining, defining_at, definition_at}
 use Rattle.procedure_parser.specs.Grammar.{Form, Declarations}
 use Rattle.procedure_parser.specs.Correct.{InGrammar, BeginsIn, NoneFollowsIn, FirstFaultIn, FirstFault, InDefinition}
 use Rattle.procedure_parser.proofs.Law.{Front, Heads, Reply, LawAt}

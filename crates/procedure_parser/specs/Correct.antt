@@ -1,18 +1,20 @@
 -- What a text is, and which token is the first that can't follow.
-use Rattle.std.specs.Prelude.{◌≡◌, ℕ, ◌+◌, ◌<◌, ◌≤◌, List, [], ◌∷◌, ◌++◌, ◌⊎◌, length, Result, Ok, Err}
+use Rattle.std.specs.Prelude.{◌≡◌, ℕ, ◌<◌, ◌≤◌, List, [], ◌∷◌, ◌++◌, ◌⊎◌, length, Result, Ok, Err}
 use Rattle.program_tree.specs.declared.Program.{Program}
 use Rattle.program_tree.specs.Plain.{Tree}
 use Rattle.program_tree.specs.View.{tree, lines, Lined}
-use Rattle.procedure_parser.specs.declared.fault.TextError.{TextError}
-use Rattle.procedure_parser.specs.declared.fault.TextError.TheVariants.{NoMemory, Text}
+use Rattle.token_readers.specs.declared.fault.TextError.{TextError}
+use Rattle.token_readers.specs.declared.fault.TextError.TheVariants.{NoMemory, Text}
 use Rattle.token_scanner.specs.Words.{Words}
 use Rattle.std.specs.Global.{Vec}
 use Rattle.source_tree.specs.declared.source.Declaration.{Declaration}
 use Rattle.source_tree.specs.Source.{Source, source}
 use Rattle.procedure_parser.specs.Grammar.{Declarations}
-use Rattle.token_scanner.specs.Scanning.{tokens_of, line_ends, longest_text}
+use Rattle.token_scanner.specs.Scanning.{tokens_of, longest_text}
 use Rattle.source_tree.specs.Lowering.{settled, lowered, lines_of}
-use Rattle.procedure_parser.specs.Defining.{Room, room_of, Defining}
+use Rattle.token_readers.specs.Lines.{line_at}
+use Rattle.token_readers.specs.Rooms.{Room, room_of}
+use Rattle.procedure_parser.specs.Defining.{Defining}
 
 -- the tokens are the source tree's, within the limits: 16 reducers and 256 procedures
 abbrev pub InGrammar : Source → Words → Type 0
@@ -56,11 +58,6 @@ abbrev pub Answers : Result Program TextError → Source → Type 0
 Answers (Ok p) s = (settled (tree p) ≡ lowered s) × (lines p ≡ lines_of s)
 Answers (Err NoMemory) s = Unit {0}
 Answers (Err (Text l)) s = ⊥
-
--- the line of the first of these tokens of a text, or that of its end
-abbrev pub line_at : List ℕ → Words → ℕ
-line_at text [] = line_ends text + 1
-line_at text (t ∷ ts) = t.1
 
 -- 0 for a text that is too long; else the line of the first token that can't follow what stands before it
 abbrev pub IsFaultLineIn : (Source → Words → Type 0) → List ℕ → ℕ → Type 0

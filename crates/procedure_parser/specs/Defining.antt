@@ -1,41 +1,13 @@
 -- Texts that define procedures of a program: the grammar, and reading by it.
-use Rattle.std.specs.Prelude.{◌≡◌, ℕ, zero, suc, ◌+◌, ◌-◌, List, [], ◌∷◌, ◌++◌, length, Option, Some, None, Result, Ok, Err, Bool, true, nat_lt, if◌then◌else◌, remove}
-use Rattle.program_tree.specs.Plain.{Name, Tree}
-use Rattle.program_tree.specs.Plain as plain
+use Rattle.std.specs.Prelude.{◌≡◌, ℕ, zero, suc, List, [], ◌∷◌, Some, Result, Ok, Err, Bool, true, nat_lt, if◌then◌else◌}
+use Rattle.program_tree.specs.Plain.{Name}
 use Rattle.token_scanner.specs.Words.{Word, Over, Words, for_some, rest, front_name, line_of, ended}
 use Rattle.token_scanner.specs.Words as word
 use Rattle.source_tree.specs.Source.{Stmt, Decl, Defines, Source}
-use Rattle.source_tree.specs.Lowering.{found_index}
-use Rattle.procedure_parser.specs.Reading.{◌>>=◌, Read, over_as, params_at, block_at, procedure_word_at, starts_procedure, and_then}
+use Rattle.token_readers.specs.Reading.{◌>>=◌, Read}
+use Rattle.token_readers.specs.Rooms.{Room, room_behind, turns_of}
+use Rattle.procedure_parser.specs.Reading.{over_as, params_at, block_at, procedure_word_at, starts_procedure, and_then}
 use Rattle.procedure_parser.specs.Grammar.{Form, Params, Block, ProcedureWord}
-
--- the names of the procedures that may still be replaced, and how many new ones may come
-abbrev pub Room : Type 0
-Room = List Name × ℕ
-
--- names, with one more, where it is new
-abbrev pub with_new : List Name → Name → List Name
-with_new names f = for_some (found_index f names) (names ++ f ∷ []) (λ n. names)
-
--- names, with those of a program's procedures, each once
-abbrev pub names_from : List Name → Tree → List Name
-names_from names [] = names
-names_from names (plain.reducer r ∷ ds) = names_from names ds
-names_from names (plain.procedure p ∷ ds) = names_from (with_new names p.called) ds
-
--- how many procedures a program has
-abbrev pub procedures_in : Tree → ℕ
-procedures_in [] = 0
-procedures_in (plain.reducer r ∷ ds) = procedures_in ds
-procedures_in (plain.procedure p ∷ ds) = suc (procedures_in ds)
-
--- a program has at most 256 procedures, and one of each name may be replaced
-abbrev pub room_of : Tree → Room
-room_of t = (names_from [] t, 256 - procedures_in t)
-
--- behind a procedure of this name, where there is room for it
-abbrev pub room_behind : Room → Name → Option Room
-room_behind room f = for_some (found_index f room.0) (if nat_lt 0 room.1 then Some (room.0, room.1 - 1) else None) (λ n. Some (remove room.0 n, room.1))
 
 -- ---- the grammar
 
@@ -76,10 +48,6 @@ one_at room next ts = procedure_word_at ts >>= λ m. named_at room next (line_of
 unfoldable pub procedures_at : ℕ → Room → Words → Read Source
 procedures_at zero room ts = Err ts
 procedures_at (suc k) room ts = if starts_procedure ts then one_at room (procedures_at k) ts else Ok ([], ts)
-
--- how many procedures may come
-abbrev pub turns_of : Room → ℕ
-turns_of room = length room.0 + room.1
 
 unfoldable pub defining_at : Room → Words → Read Source
 defining_at room ts = if starts_procedure ts then one_at room (procedures_at (turns_of room)) ts else Err ts

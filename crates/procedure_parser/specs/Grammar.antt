@@ -13,7 +13,7 @@ use Rattle.source_tree.specs.Kinds as kinds
 use Rattle.source_tree.specs.Source.{Phrase, Num, Var, Cell, Neg, Bin, depth, Stmt, Binds, Enters, Reads, Syncs, Updates, Tests, Loops, Returns, none, stmts_of, Decl, Reduces, Defines, Source}
 use Rattle.source_tree.specs.Source as source
 use Rattle.procedure_parser.specs.KindWords.{simple_kind}
-use Rattle.procedure_parser.specs.Limits.{most_open, most_levels}
+use Rattle.token_readers.specs.Limits.{most_open, most_levels}
 
 abbrev pub Form : Type 0 → Type 1
 Form A = A → Words → Words → Type 0

@@ -1,8 +1,6 @@
 pub mod KindWords
-pub mod Limits
 pub mod Reading
 pub mod Ranges
 pub mod Grammar
 pub mod Correct
 pub mod Defining
-pub mod Rooms

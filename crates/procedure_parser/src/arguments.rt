@@ -4,13 +4,13 @@ ghost use Rattle.std.specs.Prelude.{◌≡◌, length, []};
 ghost use Rattle.token_scanner.specs.Words.{words, rest, starts};
 ghost use Rattle.token_scanner.specs.declared.token.Mark.TheVariants.{Comma};
 ghost use Rattle.source_tree.specs.Source.{phrase, phrases};
-ghost use Rattle.procedure_parser.specs.Reading.{Gives, with_front, many_at, comma_expr_at, whole_at, exprs_at, args_at};
+ghost use Rattle.token_readers.specs.Reading.{Gives};
+ghost use Rattle.procedure_parser.specs.Reading.{with_front, many_at, comma_expr_at, whole_at, exprs_at, args_at};
 
-use crate::expression::{Limits, expression};
-use crate::fault::ParseError;
-use crate::front::{mark, rest_of, starts};
+use crate::expression::expression;
 use source_tree::Expr;
 use std::alloc::Global;
+use token_readers::{Limits, ParseError, mark, rest_of, starts};
 use token_scanner::{Mark, Placed};
 
 /// An expression within the limits.

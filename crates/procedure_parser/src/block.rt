@@ -3,14 +3,14 @@
 ghost use Rattle.std.specs.Prelude.{string_bytes, ◌≡◌, length, Option, Some, None, Bool, not, ◌&&◌, []};
 ghost use Rattle.token_scanner.specs.Words.{words, rest, line_of, starts};
 ghost use Rattle.source_tree.specs.Source.{phrase, stmt, stmts, stmts_of};
-ghost use Rattle.procedure_parser.specs.Reading.{Gives, many_at, goes_on, else_at, if_at, keyword_at, statement_at, end_at, body_at, block_at};
+ghost use Rattle.token_readers.specs.Reading.{Gives};
+ghost use Rattle.procedure_parser.specs.Reading.{many_at, goes_on, else_at, if_at, keyword_at, statement_at, end_at, body_at, block_at};
 
 use crate::arguments::whole;
-use crate::fault::ParseError;
-use crate::front::{ended, front_name, left, line_of, mark, rest_of, starts, way_of};
 use crate::statement::{bind, entry, looping, return_value, update};
 use source_tree::{Expr, Statement};
 use std::alloc::Global;
+use token_readers::{ParseError, ended, front_name, left, line_of, mark, rest_of, starts, way_of};
 use token_scanner::{Mark, Placed};
 
 #[cycle(blocks)]

@@ -3,15 +3,21 @@
 ghost use Rattle.std.specs.Prelude.{string_bytes, ◌≡◌, ◌≤◌, ◌-◌, ◌<◌, ◌+◌, length, Option, Some, None, Bool, [], ◌∷◌, Ok};
 ghost use Rattle.token_scanner.specs.Words.{words, rest, line_of, starts};
 ghost use Rattle.source_tree.specs.Source.{stmts, texts, decl, source};
-ghost use Rattle.procedure_parser.specs.Reading.{Gives, with_front, over_as, reducer_at, more_params_at, params_at, procedure_at, procedure_word_at, starts_procedure, counted, worded, declarations_at, program_at, text_at};
+ghost use Rattle.token_readers.specs.Reading.{Gives};
+ghost use Rattle.procedure_parser.specs.Reading.{with_front, over_as, reducer_at, more_params_at, params_at, procedure_at, procedure_word_at, starts_procedure, counted, worded, declarations_at, program_at, text_at};
 
 use crate::block::block;
-use crate::fault::ParseError;
-use crate::front::{ended, left as left_of, line_of, mark, name, rest_of, starts};
 use crate::kinds::kind;
 use source_tree::{Declaration, Procedure, Reducer};
 use std::alloc::Global;
+use token_readers::{
+    MOST_NESTED, MOST_PARAMETERS, MOST_PROCEDURES, MOST_REDUCERS, ParseError, ended,
+    left as left_of, line_of, mark, name, rest_of, starts,
+};
 use token_scanner::{Mark, Placed};
+
+/// How many turns read as many declarations, and find that no more come.
+const MOST_TURNS: usize = MOST_REDUCERS + MOST_PROCEDURES + 1;
 
 #[tactic(auto, unfolding(crate::specs::Reading::reducer_at))]
 fn reducer<'a, 'b>(
@@ -65,7 +71,7 @@ pub fn parameters<'a, 'b>(
     }
     let (first, rest) = name(alloc, rest)?;
     all.push(first)?;
-    let (all, rest) = more_parameters(alloc, 7, all, rest)?;
+    let (all, rest) = more_parameters(alloc, MOST_PARAMETERS - 1, all, rest)?;
     let rest = mark(rest, Mark::CloseParen)?;
     Ok((all, rest))
 }
@@ -81,7 +87,7 @@ fn procedure<'a, 'b>(
 {
     let (name, rest) = name(alloc, tokens)?;
     let (parameters, rest) = parameters(alloc, rest)?;
-    let (body, rest) = block(alloc, 32, rest)?;
+    let (body, rest) = block(alloc, MOST_NESTED, rest)?;
     let procedure = Procedure {
         line,
         memo,
@@ -187,7 +193,15 @@ fn program<'a, 'b>(
 ) -> Result<(Vec<Declaration>, &'b [Placed<'a>]), ParseError>
     ensures { Gives (λ x. (source x.0.items, words x.1.now)) result (program_at (words tokens.now)) }
 {
-    declarations(alloc, 273, 16, 256, Vec::new(alloc), tokens)
+    let all = Vec::new(alloc);
+    declarations(
+        alloc,
+        MOST_TURNS,
+        MOST_REDUCERS,
+        MOST_PROCEDURES,
+        all,
+        tokens,
+    )
 }
 
 /// The declarations that the tokens are.

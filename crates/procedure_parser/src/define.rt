@@ -3,17 +3,18 @@
 ghost use Rattle.std.specs.Prelude.{◌≡◌, IfOk};
 ghost use Rattle.token_scanner.specs.Words.{words, line_of, rest};
 ghost use Rattle.source_tree.specs.Source.{decl, source};
-ghost use Rattle.procedure_parser.specs.Reading.{Gives, with_front};
+ghost use Rattle.token_readers.specs.Reading.{Gives};
+ghost use Rattle.procedure_parser.specs.Reading.{with_front};
 ghost use Rattle.procedure_parser.specs.Defining.{behind_name_at, named_at, one_at, procedures_at, defining_at, definition_at};
-ghost use Rattle.procedure_parser.specs.Rooms as seen;
+ghost use Rattle.token_readers.specs.Seen as seen;
 
 use crate::block::block;
 use crate::declaration::{parameters, procedure_word, starts_procedure};
-use crate::fault::ParseError;
-use crate::front::{ended, front_name, left, line_of, rest_of};
-use crate::room::{Room, room_behind, turns_of};
 use source_tree::{Declaration, Procedure};
 use std::alloc::Global;
+use token_readers::{
+    MOST_NESTED, ParseError, Room, ended, front_name, left, line_of, rest_of, room_behind, turns_of,
+};
 use token_scanner::Placed;
 
 #[tactic(auto, unfolding(crate::specs::Defining::behind_name_at))]
@@ -27,7 +28,7 @@ fn behind_name<'a, 'b>(
     ensures { Gives (λ x. (decl x.0, words x.1.now)) result (behind_name_at line memo name.now (words tokens.now)) }
 {
     let (parameters, rest) = parameters(alloc, tokens)?;
-    let (body, rest) = block(alloc, 32, rest)?;
+    let (body, rest) = block(alloc, MOST_NESTED, rest)?;
     let procedure = Procedure {
         line,
         memo,

@@ -6,12 +6,10 @@ ghost use Rattle.source_tree.specs.Source.{Source, source};
 ghost use Rattle.procedure_parser.specs.Correct.{IsDefinition, AnswersSource, IsDefinitionFault};
 
 use crate::define::definition;
-use crate::fault::{ParseError, TextError};
-use crate::room::room_of;
-use crate::text::fault_line;
 use program_tree::Program;
 use source_tree::Declaration;
 use std::alloc::Global;
+use token_readers::{ParseError, TextError, fault_line, room_of};
 use token_scanner::{LONGEST_TEXT, tokens};
 
 /// The source trees of the procedures that a text defines for a program. An error is NoMemory, or the line of the first token that can't follow what stands before it: 0 for a text that is too long, the name's for a procedure that would bring the program to 257.
@@ -26,7 +24,7 @@ pub fn define_source(
     ensures fault { IfErr result (λ e. IsDefinitionFault (tree program.now) text.now e) }
 {
     if text.len() > LONGEST_TEXT {
-        return Err(TextError::Text { line: 0 });
+        return Err(TextError::too_long());
     }
     let tokens = tokens(alloc, text)?;
     let room = room_of(alloc, program)?;

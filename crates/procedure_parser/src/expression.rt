@@ -3,70 +3,18 @@
 ghost use Rattle.std.specs.Prelude.{string_bytes, ◌≡◌, ◌≤◌, ◌-◌, ◌<◌, ◌+◌, length, max, IfOk, IfSome, map, option_map, Option, Some, None, nat_eq};
 ghost use Rattle.token_scanner.specs.Words.{words, rest, front_name, front_number};
 ghost use Rattle.source_tree.specs.Source.{phrase, depth, Bin};
-ghost use Rattle.procedure_parser.specs.Limits.{most_open, most_levels};
-ghost use Rattle.procedure_parser.specs.Reading.{Gives, limit_at, after_name_at, row_at, has_at, plain_atom_at, atom_at, unary_at, term_at, sum_at, against_at, inside_at, expr_at};
+ghost use Rattle.token_readers.specs.Limits.{most_open, most_levels};
+ghost use Rattle.token_readers.specs.Reading.{Gives};
+ghost use Rattle.procedure_parser.specs.Reading.{limit_at, after_name_at, row_at, has_at, plain_atom_at, atom_at, unary_at, term_at, sum_at, against_at, inside_at, expr_at};
 
-use crate::fault::ParseError;
-use crate::front::{
-    additive, comparison, front_number, left, mark, multiplicative, name, rest_of, starts,
-};
 use program_tree::Operator;
 use source_tree::{Expr, Measured};
 use std::alloc::{AllocError, Global};
+use token_readers::{
+    Limits, ParseError, additive, comparison, front_number, left, mark, multiplicative, name,
+    rest_of, starts,
+};
 use token_scanner::{Mark, Placed};
-
-/// How many parentheses and brackets may be open at once in an expression.
-const MOST_OPEN: usize = 64;
-
-/// How many levels an expression has at most.
-const MOST_LEVELS: usize = 64;
-
-/// How far an expression may still go: how many more parentheses and brackets may be open, and how many levels there is room for.
-#[derive(Clone, Copy)]
-pub struct Limits {
-    pub more: usize,
-    pub room: usize,
-    ghost open: { more ≤ most_open },
-    ghost low: { 0 < room },
-    ghost high: { room ≤ most_levels },
-}
-
-impl Limits {
-    /// The limits of a whole expression.
-    pub fn whole() -> Limits
-        ensures more { result.more ≡ most_open }
-        ensures room { result.room ≡ most_levels }
-    {
-        Limits {
-            more: MOST_OPEN,
-            room: MOST_LEVELS,
-        }
-    }
-
-    /// With a level less.
-    fn lower(self) -> Limits
-        requires { 1 < self.room }
-        ensures more { result.more ≡ self.more }
-        ensures room { result.room ≡ self.room - 1 }
-    {
-        Limits {
-            more: self.more,
-            room: self.room - 1,
-        }
-    }
-
-    /// Behind one more parenthesis or bracket.
-    fn inner(self) -> Limits
-        requires { 0 < self.more }
-        ensures more { result.more ≡ self.more - 1 }
-        ensures room { result.room ≡ self.room }
-    {
-        Limits {
-            more: self.more - 1,
-            room: self.room,
-        }
-    }
-}
 
 fn joined(
     alloc: Global,

@@ -4,13 +4,13 @@ ghost use Rattle.std.specs.Prelude.{◌≡◌, ◌≤◌, ◌-◌, ◌*◌, leng
 ghost use Rattle.token_scanner.specs.Words.{words, rest};
 ghost use Rattle.source_tree.specs.Kinds.{written};
 ghost use Rattle.procedure_parser.specs.KindWords.{simple_kind};
-ghost use Rattle.procedure_parser.specs.Reading.{Gives, with_front, comma_number_at, more_cells_at, cells_at, table_at, simple_kind_of, sized_kind_at, kind_at};
+ghost use Rattle.token_readers.specs.Reading.{Gives};
+ghost use Rattle.procedure_parser.specs.Reading.{with_front, comma_number_at, more_cells_at, cells_at, table_at, simple_kind_of, sized_kind_at, kind_at};
 
-use crate::fault::ParseError;
-use crate::front::{front_name, mark, rest_of, starts_name, within, word};
 use monoid_laws::Kind;
 use reducer_values::table_of;
 use std::alloc::Global;
+use token_readers::{ParseError, front_name, mark, rest_of, starts_name, within, word};
 use token_scanner::{Mark, Placed};
 
 fn byte_of(number: u64) -> u8

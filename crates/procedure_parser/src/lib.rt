@@ -7,15 +7,12 @@ mod declaration;
 mod define;
 mod defined;
 mod expression;
-mod fault;
-mod front;
 mod kinds;
 mod laws;
-mod room;
 mod statement;
 mod text;
 
 pub use defined::define_source;
-pub use fault::TextError;
 pub use laws::laws_of_texts;
 pub use text::parse;
+pub use token_readers::TextError;

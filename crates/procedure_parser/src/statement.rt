@@ -4,14 +4,14 @@ ghost use Rattle.std.specs.Prelude.{string_bytes, ◌≡◌, ◌≤◌, option_m
 ghost use Rattle.token_scanner.specs.Words.{words, rest, line_of, starts};
 ghost use Rattle.source_tree.specs.Source.{phrase, stmt};
 ghost use Rattle.procedure_parser.specs.Ranges.{ends};
-ghost use Rattle.procedure_parser.specs.Reading.{Gives, entry_at, value_at, read_at, bound_at, bind_at, update_at, return_at, grain_at, range_at, iteration_at, loop_at};
+ghost use Rattle.token_readers.specs.Reading.{Gives};
+ghost use Rattle.procedure_parser.specs.Reading.{entry_at, value_at, read_at, bound_at, bind_at, update_at, return_at, grain_at, range_at, iteration_at, loop_at};
 
 use crate::arguments::{arguments, expressions, whole};
-use crate::fault::ParseError;
-use crate::front::{mark, name, rest_of, starts, way_of, within};
 use program_tree::Way;
 use source_tree::{Expr, Statement};
 use std::alloc::Global;
+use token_readers::{ParseError, mark, name, rest_of, starts, way_of, within};
 use token_scanner::{Mark, Placed};
 
 /// Behind `call` or `spawn`.

@@ -1,31 +1,16 @@
 //! From the bytes of a text to its source tree, or to the line of its fault.
 
-ghost use Rattle.std.specs.Prelude.{◌≡◌, ◌-◌, ◌≤◌, length, drop, IfOk, IfErr};
-ghost use Rattle.token_scanner.specs.Words.{words};
+ghost use Rattle.std.specs.Prelude.{IfOk, IfErr};
 ghost use Rattle.program_tree.specs.View.{tree, lines};
 ghost use Rattle.source_tree.specs.Source.{Source, source};
-ghost use Rattle.procedure_parser.specs.Correct.{line_at, IsText, IsSource, AnswersSource, Answers, IsFault};
-ghost use Rattle.token_scanner.specs.Scanning.{longest_text};
+ghost use Rattle.procedure_parser.specs.Correct.{IsText, IsSource, AnswersSource, Answers, IsFault};
 
 use crate::declaration;
-use crate::fault::{ParseError, TextError};
 use program_tree::Program;
 use source_tree::{Declaration, lower};
 use std::alloc::Global;
-use token_scanner::{LONGEST_TEXT, Placed, line_ends, tokens};
-
-/// The line of the token from which so many are left, or that of the text's end.
-pub fn fault_line(text: &[u8], tokens: &[Placed], left: usize) -> u32
-    requires { length text.now ≤ longest_text }
-    ensures { result ≡ line_at text.now (drop (length tokens.now - left) (words tokens.now)) }
-{
-    let at = tokens.len().saturating_sub(left);
-    if at < tokens.len() {
-        tokens[at].line
-    } else {
-        line_ends(text) as u32 + 1
-    }
-}
+use token_readers::{ParseError, TextError, fault_line};
+use token_scanner::{LONGEST_TEXT, tokens};
 
 /// The source tree of a text. An error is as that of `parse`.
 fn parse_source(alloc: Global, text: &[u8]) -> Result<Vec<Declaration>, TextError>
@@ -37,7 +22,7 @@ fn parse_source(alloc: Global, text: &[u8]) -> Result<Vec<Declaration>, TextErro
     ensures fault { IfErr result (λ e. IsFault text.now e) }
 {
     if text.len() > LONGEST_TEXT {
-        return Err(TextError::Text { line: 0 });
+        return Err(TextError::too_long());
     }
     let tokens = tokens(alloc, text)?;
     match declaration::text(alloc, &tokens) {

@@ -47,8 +47,8 @@ use Rattle.frames.specs.declared.answer.RunAnswer.{RunAnswer}
 use Rattle.frames.specs.declared.answer.RunAnswer.TheVariants as answer
 use Rattle.right_strands.specs.Remembering.{Remembers, recalling}
 use Rattle.right_strands.specs.Rightness.{sight, lookup, IsSound, IsRightBy, IsRightStrand}
-use Rattle.right_strands.specs.declared.laid.Rest.{Rest}
-use Rattle.right_strands.specs.declared.laid.Rest.TheVariants as rest
+use Rattle.strand_list.specs.declared.rest.Rest.{Rest}
+use Rattle.strand_list.specs.declared.rest.Rest.TheVariants as rest
 use Rattle.right_strands.specs.Laid.{IsAtRest, IsElision, AnswersElision, IsGiven, tally_of, HasRecorded, ends_as}
 use Rattle.right_strands.proofs.Points.{HasFinished, finished_is, fault_is}
 use Rattle.right_strands.proofs.Recorded.{adds_here, records_of}

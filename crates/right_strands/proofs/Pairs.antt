@@ -12,8 +12,8 @@ use Rattle.positions.specs.Strands.{PlainStrand}
 use Rattle.frames.specs.Waiting.{leaves_none}
 use Rattle.right_strands.specs.Remembering.{Remembers, recalling}
 use Rattle.right_strands.specs.Rightness.{IsRightBy, IsRightStrand}
-use Rattle.right_strands.specs.declared.laid.Rest.{Rest}
-use Rattle.right_strands.specs.declared.laid.Rest.TheVariants as rest
+use Rattle.strand_list.specs.declared.rest.Rest.{Rest}
+use Rattle.strand_list.specs.declared.rest.Rest.TheVariants as rest
 use Rattle.right_strands.specs.Laid.{PlainPiece, IsAtRest}
 use Rattle.right_strands.specs.Pairs.{StopsBroken, IsPair, IsPairFrom, is_over, is_waiting, frees, may_follow, may_pair}
 use Rattle.right_strands.proofs.Points.{fault_is}

@@ -18,8 +18,8 @@ use Rattle.numbered_runs.specs.News.{HasCounted, HaveNews}
 use Rattle.frames.specs.declared.answer.RunAnswer.{RunAnswer}
 use Rattle.frames.specs.declared.answer.RunAnswer.TheVariants as answer
 use Rattle.right_strands.specs.Remembering.{Remembers, recalling}
-use Rattle.right_strands.specs.declared.laid.Rest.{Rest}
-use Rattle.right_strands.specs.declared.laid.Rest.TheVariants as rest
+use Rattle.strand_list.specs.declared.rest.Rest.{Rest}
+use Rattle.strand_list.specs.declared.rest.Rest.TheVariants as rest
 
 -- a strand that is laid down, and as what
 pub record PlainPiece : Type 0 where

@@ -15,8 +15,8 @@ use Rattle.frames.specs.Joins.{with_worths}
 use Rattle.frames.specs.Waiting.{leaves_none}
 use Rattle.right_strands.specs.Remembering.{Remembers, recalling}
 use Rattle.right_strands.specs.Rightness.{IsRightBy}
-use Rattle.right_strands.specs.declared.laid.Rest.{Rest}
-use Rattle.right_strands.specs.declared.laid.Rest.TheVariants as rest
+use Rattle.strand_list.specs.declared.rest.Rest.{Rest}
+use Rattle.strand_list.specs.declared.rest.Rest.TheVariants as rest
 use Rattle.right_strands.specs.Laid.{PlainPiece}
 use Rattle.right_strands.specs.Waiting.{DecidesWaiting}
 

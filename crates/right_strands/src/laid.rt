@@ -18,16 +18,8 @@ use positions::start::Start;
 use rerun_records::record::Record;
 use std::alloc::{AllocError, Global};
 use std::marker::Model;
+pub use strand_list::rest::Rest;
 use view_pool::{Kit, KitSource, View};
-
-/// As what a strand is laid down.
-#[derive(Clone, Copy, Debug, PartialEq, Eq)]
-pub enum Rest {
-    Ended,
-    Stalled,
-    Faulted,
-    Finished,
-}
 
 /// A strand that is right for the run J, and at the point as which it is laid down; one with a fault has one layer.
 #[derive(Drop)]

@@ -1,11 +1,7 @@
-pub mod Lists
-pub mod Noting
 pub mod Named
-pub mod Steps
 pub mod Blocks
 pub mod Counting
 pub mod NewNumbers
 pub mod NewNames
 pub mod NewRevisions
-pub mod FilledLines
 pub mod NameForms

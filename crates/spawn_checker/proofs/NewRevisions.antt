@@ -11,7 +11,8 @@ use Rattle.meaning.specs.Edits.{revised}
 use Rattle.linked_program.specs.TableNames.{has_name}
 use Rattle.linked_program.specs.Checked.{numbered_name, names_in}
 use Rattle.linked_program.proofs.Named.{bytes_turned}
-use Rattle.spawn_checker.specs.Renumbered.{AreNew, behind, kept}
+use Rattle.single_rules.specs.Kept.{kept}
+use Rattle.spawn_checker.specs.Renumbered.{AreNew, behind}
 use Rattle.spawn_checker.proofs.NewNumbers.{Numbered, revised_kept, revised_new}
 
 abbrev same_text : String Global → String Global → Bool

@@ -1,5 +1,5 @@
 -- The revision numbers of a program that takes the place of another.
-use Rattle.std.specs.Prelude.{◌≡◌, ◌≤◌, ◌⊎◌, ℕ, suc, nat_lt, true, false, cond, List, [], ◌∷◌, ◌++◌, Option, Some, None, string_bytes}
+use Rattle.std.specs.Prelude.{◌≡◌, ◌≤◌, ◌⊎◌, ℕ, suc, nat_lt, true, false, List, [], ◌∷◌, ◌++◌, Some, string_bytes}
 use Rattle.program_tree.specs.Plain.{Name, Proc, reducer, procedure, Tree}
 use Rattle.program_tree.specs.View.{Lined}
 use Rattle.meaning.specs.Records.{Revised}
@@ -10,10 +10,6 @@ use Rattle.linked_program.specs.Declarations.{reported, violations}
 use Rattle.linked_program.specs.Violations.{first_of}
 use Rattle.spawn_checker.specs.declared.violation.CheckError.{CheckError}
 use Rattle.spawn_checker.specs.declared.violation.CheckError.TheVariants.{NoMemory, Check, Exhausted}
-
--- the revision number of a procedure that is as it was
-abbrev pub kept : Revised → Proc → Option ℕ
-kept old p = cond (is_same (procedure_of old.tree p.called) p) (Some (revision_of old.revisions p.called)) None
 
 -- the procedure is as it was, lines aside, and this is the number that it had
 abbrev pub KeepsNumber : Revised → Proc → ℕ → Type 0

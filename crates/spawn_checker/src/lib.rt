@@ -4,18 +4,12 @@
 mod checking;
 mod declarations;
 pub mod laws;
-mod lines;
 mod linked;
-mod names;
 mod quiet;
 mod refusal;
 mod renumbering;
 mod revisions;
-mod scope;
-mod setting;
-mod statements;
 mod table_names;
-mod terms;
 mod violation;
 mod walk;
 

@@ -21,7 +21,7 @@ fn called(declaration: Option<&Declaration>) -> &str
 }
 
 // The name of a declaration, counted from 1; that of the whole program is `main`.
-#[tactic(auto, using(crate::proofs::Lists::slice_get_of_map))]
+#[tactic(auto, using(single_rules::proofs::Lists::slice_get_of_map))]
 fn name_at(declarations: &[Declaration], declaration: usize) -> &str
     ensures { result.now ≡ called_at (map decl declarations.now) declaration }
 {

@@ -1,34 +1,16 @@
 //! The revision numbers of a program that takes the place of another.
 ghost use Rattle.std.specs.Prelude.{◌≡◌, ◌<◌, [], map, IfOk, IfSome, IfNone};
-ghost use Rattle.program_tree.specs.View.{decl, proc};
+ghost use Rattle.program_tree.specs.View.{decl};
 ghost use Rattle.meaning.specs.Edits.{most, revised};
 ghost use Rattle.linked_program.specs.Checked.{revised_of, numbers_in};
-ghost use Rattle.spawn_checker.specs.Renumbered.{kept, AreNew};
+ghost use Rattle.spawn_checker.specs.Renumbered.{AreNew};
 
-use crate::names::find_procedure;
 use crate::revisions::{Numbers, put_revision};
 use indexmap::IndexMap;
 use linked_program::checked::Checked;
 use program_tree::{Declaration, Procedure};
+use single_rules::keeping::{is_last_number, kept_revision};
 use std::alloc::{AllocError, Global};
-use tree_equality::same_procedure;
-
-// The revision number of a procedure that is as it was.
-fn kept_revision(old: &Checked, procedure: &Procedure) -> Option<u64>
-    ensures { result ≡ kept (revised_of old.now) (proc procedure.now) }
-{
-    old.revised();
-    match find_procedure(&old.program().declarations, procedure.name.as_str()) {
-        None => None,
-        Some(before) => {
-            if same_procedure(before, procedure) {
-                old.revision(procedure.name.as_str())
-            } else {
-                None
-            }
-        }
-    }
-}
 
 /// The revision numbers of declarations' procedures in the place of a program; none where a new one would not fit.
 pub fn next_revisions(
@@ -51,7 +33,7 @@ pub fn next_revisions(
             match kept_revision(old, procedure) {
                 Some(revision) => put_revision(alloc, &mut revisions, name, revision)?,
                 None => {
-                    if counter == u64::MAX {
+                    if is_last_number(counter) {
                         return Ok(None);
                     }
                     put_revision(alloc, &mut revisions, name, counter)?;

@@ -1,9 +1,8 @@
-//! Why a program is refused, and the first violation so far.
-ghost use Rattle.std.specs.Prelude.{◌≡◌, [], ◌∷◌};
-ghost use Rattle.linked_program.specs.Violations.{at, noted, when};
+//! Why a program is refused.
+ghost use Rattle.std.specs.Prelude.{◌≡◌};
 ghost use Rattle.spawn_checker.specs.declared.violation.CheckError.TheVariants.{NoMemory};
 
-use linked_program::violation::{Rule, Violation};
+use linked_program::violation::Rule;
 use std::alloc::AllocError;
 use thiserror::Error;
 
@@ -25,43 +24,5 @@ impl From<AllocError> for CheckError {
 
     fn from(_e: AllocError) -> CheckError {
         CheckError::NoMemory
-    }
-}
-
-/// Where a rule is broken.
-#[derive(Clone, Copy)]
-pub struct Place {
-    pub declaration: usize,
-    pub line: u32,
-}
-
-/// The first of the violations so far and that of this rule at this place.
-pub fn note(first: Option<Violation>, place: Place, rule: Rule) -> Option<Violation>
-    ensures { result ≡ noted first (at place.declaration place.line (rule ∷ [])) }
-{
-    let found = Violation {
-        declaration: place.declaration,
-        line: place.line,
-        rule,
-    };
-    match first {
-        Some(earlier) if !found.comes_before(earlier) => first,
-        _ => Some(found),
-    }
-}
-
-/// The same where the rule is broken, else the first violation so far.
-pub fn note_if(
-    first: Option<Violation>,
-    broken: bool,
-    place: Place,
-    rule: Rule,
-) -> Option<Violation>
-    ensures { result ≡ noted first (at place.declaration place.line (when broken rule)) }
-{
-    if broken {
-        note(first, place, rule)
-    } else {
-        first
     }
 }

@@ -6,17 +6,17 @@ ghost use Rattle.linked_program.specs.Scope.{after_deed, after_body, after_block
 ghost use Rattle.linked_program.specs.Rules.{late_rules, deed_rules};
 ghost use Rattle.linked_program.specs.Bodies.{line_of, body_violations, branch_violations, step_violations};
 ghost use Rattle.linked_program.specs.Violations.{noted, at};
-ghost use Rattle.spawn_checker.specs.Settings.{plain};
-ghost use Rattle.spawn_checker.specs.Own.{after_own};
+ghost use Rattle.single_rules.specs.Settings.{plain};
+ghost use Rattle.single_rules.specs.Own.{after_own};
 
 use crate::quiet::is_quiet;
-use crate::scope::Scope;
-use crate::setting::Setting;
-use crate::statements::note_own;
-use crate::violation::{Place, note_if};
 use linked_program::knowledge::Moment;
 use linked_program::violation::{Rule, Violation};
 use program_tree::{Action, Block, Statement};
+use single_rules::place::{Place, note_if};
+use single_rules::scope::Scope;
+use single_rules::setting::Setting;
+use single_rules::statements::note_own;
 
 // The block of that depth has ended: what this statement bound isn't seen any more.
 fn close_statement(scope: &mut Scope, depth: usize, action: &Action)

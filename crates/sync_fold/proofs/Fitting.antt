@@ -9,12 +9,13 @@ use Rattle.strand_theory.proofs.Books.{NoneAt}
 use Rattle.positions.specs.Simulation.{place_of}
 use Rattle.right_strands.specs.Laid.{PlainPiece, ends_as}
 use Rattle.right_strands.specs.Pairs.{PlainPair, is_over, is_waiting}
-use Rattle.right_strands.specs.declared.laid.Rest.{Rest}
-use Rattle.right_strands.specs.declared.laid.Rest.TheVariants as rest
-use Rattle.sync_fold.specs.Laying.{state_as}
-use Rattle.sync_fold.specs.Pages.{position, removes, Apart, is_pair, begins_pair, begins_with}
-use Rattle.sync_fold.specs.Replays.{LeavesRootAlone}
-use Rattle.sync_fold.specs.Books.{PlainChronicle, PlainLaid, FitsLine, Fits, IsBook, may_be_one, may_touch, RestsAs, ArePair, BeginWithPair, BeginAt, folded, halved, IsHalved, ends_alone}
+use Rattle.strand_list.specs.declared.rest.Rest.{Rest}
+use Rattle.strand_list.specs.declared.rest.Rest.TheVariants as rest
+use Rattle.strand_list.specs.Laying.{state_as}
+use Rattle.strand_list.specs.Pages.{position, removes, Apart, is_pair, begins_pair, begins_with}
+use Rattle.strand_list.specs.Replays.{LeavesRootAlone}
+use Rattle.strand_list.specs.Chronicled.{PlainChronicle}
+use Rattle.sync_fold.specs.Books.{PlainLaid, FitsLine, Fits, IsBook, may_be_one, may_touch, RestsAs, ArePair, BeginWithPair, BeginAt, folded, halved, IsHalved, ends_alone}
 use Rattle.sync_fold.specs.declared.laid.Laid.TheVariants.{Nothing, Whole, Half, Lent}
 
 -- ---- lengths, and what is left behind a line

@@ -7,16 +7,17 @@ use Rattle.strand_theory.proofs.Names.{both_are}
 use Rattle.strand_theory.proofs.Books.{replayed_append}
 use Rattle.positions.specs.Simulation.{place_of}
 use Rattle.right_strands.specs.Laid.{PlainPiece}
-use Rattle.right_strands.specs.declared.laid.Rest.{Rest}
-use Rattle.right_strands.specs.declared.laid.Rest.TheVariants as rest
-use Rattle.sync_fold.specs.Laying.{state_as, rest_step}
-use Rattle.sync_fold.specs.Pages.{position, stands, is_unused, are_neighbours, Apart}
-use Rattle.sync_fold.specs.Books.{PlainChronicle, PlainLaid, PlainBook, Took, IsBook, Fits, BeginWithPair, IsHalved, may_touch, touch, folded, unless, unless_allowed, split_refusal, rest_refusal, fold_refusal, KeepsFrom, IsWhole, ends_alone}
-use Rattle.sync_fold.specs.declared.error.BookError.{BookError}
-use Rattle.sync_fold.specs.declared.error.BookError.TheVariants as error
+use Rattle.strand_list.specs.declared.rest.Rest.{Rest}
+use Rattle.strand_list.specs.declared.rest.Rest.TheVariants as rest
+use Rattle.strand_list.specs.Laying.{state_as, rest_step}
+use Rattle.strand_list.specs.Pages.{position, stands, is_unused, are_neighbours, Apart}
+use Rattle.strand_list.specs.Chronicled.{PlainChronicle, Took, unless, unless_allowed, split_refusal, rest_refusal}
+use Rattle.sync_fold.specs.Books.{PlainLaid, PlainBook, IsBook, Fits, BeginWithPair, IsHalved, may_touch, touch, folded, fold_refusal, KeepsFrom, IsWhole, ends_alone}
+use Rattle.strand_list.specs.declared.error.BookError.{BookError}
+use Rattle.strand_list.specs.declared.error.BookError.TheVariants as error
 use Rattle.sync_fold.specs.declared.laid.Laid.TheVariants.{Nothing, Whole, Half, Lent}
-use Rattle.sync_fold.proofs.Apart.{replayed_apart}
-use Rattle.sync_fold.proofs.Lists.{folds_apart, add_one}
+use Rattle.strand_list.proofs.Apart.{replayed_apart}
+use Rattle.strand_list.proofs.Lists.{folds_apart, add_one}
 use Rattle.sync_fold.proofs.Fitting.{fits_long, fits_drop, fits_splits, fits_becomes, fits_folds, fits_halved, pair_at, begins_pair_kept, begins_pair_with, pair_within}
 
 -- a book by its parts

@@ -1,8 +1,4 @@
 pub mod Crosses
-mod Lists
-mod Apart
-mod Steps
-mod Replays
 mod Fitting
 mod Places
 mod Keeping

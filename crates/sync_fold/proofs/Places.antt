@@ -6,7 +6,7 @@ use Rattle.meaning.specs.Outcome.{Place}
 use Rattle.meaning.specs.Strands.{Held, Line}
 use Rattle.numbered_runs.specs.Named.{line}
 use Rattle.numbered_runs.specs.declared.step.StrandLine.{StrandLine}
-use Rattle.sync_fold.specs.Pages.{shown}
+use Rattle.strand_list.specs.Pages.{shown}
 use Rattle.sync_fold.specs.Books.{PlainLaid, PlacesAt, folds_here, fold_among}
 
 add_one : (k : ℕ) → k + 1 ≡ suc k

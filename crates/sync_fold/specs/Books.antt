@@ -1,25 +1,21 @@
--- A list of strands with its legal history, what is kept of each strand, and why a step is refused.
+-- A list of strands with its legal history, what is kept of each strand, and why a fold is refused.
 use Rattle.std.specs.Prelude.{◌≡◌, ◌⊎◌, ◌<◌, ℕ, suc, length, Bool, true, false, cond, ◌&&◌, ◌++◌, List, [], ◌∷◌, drop, Option, Some, None, Result, OnOk, slice_set, slice_index_or}
 use Rattle.std.specs.List.{remove}
 use Rattle.meaning.specs.Outcome.{Place}
-use Rattle.meaning.specs.Strands.{Line, BookStep, Split, Fold, Book, Finished, is_held, is_held_at, done, waits, stepped, first_book, replayed}
+use Rattle.meaning.specs.Strands.{Line, Fold, Finished, is_held, done, waits, stepped, replayed}
 use Rattle.positions.specs.Moves.{joined}
 use Rattle.positions.specs.Simulation.{place_of}
 use Rattle.positions.specs.Strands.{PlainStrand}
 use Rattle.right_strands.specs.Laid.{PlainPiece, ends_run}
 use Rattle.right_strands.specs.Pairs.{PlainPair, is_over, is_waiting, may_pair}
-use Rattle.right_strands.specs.declared.laid.Rest.{Rest}
-use Rattle.sync_fold.specs.Laying.{state_as, rest_step}
-use Rattle.sync_fold.specs.Pages.{stands, position, are_neighbours}
+use Rattle.strand_list.specs.declared.rest.Rest.{Rest}
+use Rattle.strand_list.specs.Laying.{state_as}
+use Rattle.strand_list.specs.Pages.{stands, position, are_neighbours}
+use Rattle.strand_list.specs.Chronicled.{PlainChronicle, unless, unless_allowed, rest_refusal}
 use Rattle.sync_fold.specs.declared.laid.Laid.{Laid}
 use Rattle.sync_fold.specs.declared.laid.Laid.TheVariants.{Nothing, Whole, Half, Lent}
-use Rattle.sync_fold.specs.declared.error.BookError.{BookError}
-use Rattle.sync_fold.specs.declared.error.BookError.TheVariants as error
-
--- the list that stands, and what made it
-pub record PlainChronicle : Type 0 where
-  pub page : Book
-  pub history : List BookStep
+use Rattle.strand_list.specs.declared.error.BookError.{BookError}
+use Rattle.strand_list.specs.declared.error.BookError.TheVariants as error
 
 abbrev pub PlainLaid : Type 0
 PlainLaid = Laid PlainPiece PlainPair
@@ -32,19 +28,6 @@ begins_at p = place_of p.strand.start p.strand.path
 pub record PlainBook : Type 0 where
   pub chronicle : PlainChronicle
   pub laid : List PlainLaid
-
-abbrev pub first_chronicle : PlainChronicle
-first_chronicle = record { page = first_book; history = [] }
-
--- the step is allowed, and was taken and noted
-pub record Took (b : PlainChronicle) (s : BookStep) (c : PlainChronicle) : Type 0 where
-  pub allowed : stepped b.page s ≡ Some c.page
-  pub noted : c.history ≡ b.history ++ s ∷ []
-
--- it was taken exactly where it is allowed; else nothing changed
-abbrev pub Notes : PlainChronicle → BookStep → Bool → PlainChronicle → Type 0
-Notes b s true c = Took b s c
-Notes b s false c = (stepped b.page s ≡ None) × (c ≡ b)
 
 -- ---- what is kept of a strand
 
@@ -178,21 +161,6 @@ is_ended b = ends_alone b.laid
 
 -- ---- why a step is refused
 
--- the first of these tests that fails gives the refusal
-abbrev pub unless : Bool → BookError → Option BookError → Option BookError
-unless false e later = Some e
-unless true e later = later
-
-abbrev pub unless_allowed : Option Book → Option BookError
-unless_allowed (Some c) = None
-unless_allowed None = Some error.NotThere
-
-abbrev pub split_refusal : Book → Place → Place → ℕ → Option BookError
-split_refusal b v n w = unless (stands v b.lines) error.NoStrand (unless_allowed (stepped b (Split v n w)))
-
-abbrev pub rest_refusal : Book → Rest → Place → Option BookError
-rest_refusal b r p = unless (stands p b.lines) error.NoStrand (unless (is_held_at b.lines p) error.AlreadyLaid (unless_allowed (stepped b (rest_step r p))))
-
 abbrev pub lay_refusal : PlainBook → PlainPiece → Option BookError
 lay_refusal b p = rest_refusal b.chronicle.page p.rest (begins_at p)
 
@@ -203,11 +171,6 @@ touch b l r = are_neighbours l r b.chronicle.page.lines && may_touch (drop (posi
 abbrev pub fold_refusal : PlainBook → Place → Place → ℕ → Option BookError
 fold_refusal b l r w =
     unless (stands l b.chronicle.page.lines && stands r b.chronicle.page.lines) error.NoStrand (unless (touch b l r) error.NotNeighbour (unless_allowed (stepped b.chronicle.page (Fold l r w))))
-
--- for want of memory, or for that reason
-abbrev pub IsRefusedBy : Option BookError → BookError → Type 0
-IsRefusedBy o error.NoMemory = Unit {0}
-IsRefusedBy o e = o ≡ Some e
 
 -- ---- a fold of the first two that may be folded
 

@@ -1,6 +1,1 @@
-pub mod Pages
-pub mod Laying
-pub mod Steps
-pub mod Replays
 pub mod Books
-pub mod Chronicles

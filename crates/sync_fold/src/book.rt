@@ -1,10 +1,7 @@
 //! The book that workers share.
-use crate::chronicle::Chronicle;
-use crate::error::BookError;
 use crate::folds::{first_fold, fold_kept, places_at};
 use crate::kept::{keep, put_behind, take_behind};
 use crate::laid::{Laid, ends_alone, into_alone, may_touch_at};
-use crate::lines::held_place;
 use frames::answer::RunAnswer;
 use numbered_runs::step::{BookStep, StrandLine};
 use rerun_records::record::Record;
@@ -14,6 +11,9 @@ use right_strands::run::{Run, Scene};
 use right_strands::strand::RightStrand;
 use std::alloc::{AllocError, Global};
 use std::marker::Model;
+use strand_list::chronicle::Chronicle;
+use strand_list::error::BookError;
+use strand_list::lines::held_place;
 use view_pool::{Kit, KitSource, View};
 
 /// The strands of the run J, the steps that made their list, and the strands that were laid down, one a line in the lines' order.
@@ -26,7 +26,7 @@ pub struct Book<J: Run, V: View = Box<dyn View>> {
 
 impl<J: Run, V: View> Model for Book<J, V> {
     ghost use Rattle.sync_fold.specs.Books.{PlainBook, IsBook};
-    ghost use Rattle.sync_fold.specs.Chronicles.{told};
+    ghost use Rattle.strand_list.specs.Chronicles.{told};
 
     ghost Value = { PlainBook };
 
@@ -43,10 +43,11 @@ impl<J: Run, V: View> Book<J, V> {
     ghost use Rattle.numbered_runs.specs.Named.{history as steps_of};
     ghost use Rattle.right_strands.specs.Laid.{PlainPiece, AnswersElision, IsGiven, HasRecorded};
     ghost use Rattle.sync_fold.specs.declared.laid.Laid.TheVariants.{Whole};
-    ghost use Rattle.sync_fold.specs.Pages.{shown, position, held_place};
-    ghost use Rattle.sync_fold.specs.Laying.{rest_step};
-    ghost use Rattle.sync_fold.specs.Replays.{LeavesRootAlone};
-    ghost use Rattle.sync_fold.specs.Books.{Took, IsRefusedBy, FoldsAny, FoldsFirst, PlacesAt, first_fold, touch, unless_allowed, BecomeOne, KeepsStrands, begins_at, lay_refusal, first_chronicle, is_ended, split_refusal, rest_refusal, fold_refusal};
+    ghost use Rattle.strand_list.specs.Pages.{shown, position, held_place};
+    ghost use Rattle.strand_list.specs.Laying.{rest_step};
+    ghost use Rattle.strand_list.specs.Replays.{LeavesRootAlone};
+    ghost use Rattle.strand_list.specs.Chronicled.{Took, IsRefusedBy, unless_allowed, first_chronicle, split_refusal, rest_refusal};
+    ghost use Rattle.sync_fold.specs.Books.{FoldsAny, FoldsFirst, PlacesAt, first_fold, touch, BecomeOne, KeepsStrands, begins_at, lay_refusal, is_ended, fold_refusal};
 
     /// The first strand, held by worker 0, with no history.
     pub fn start(alloc: Global) -> Result<Book<J, V>, AllocError>

@@ -1,15 +1,15 @@
 //! Neighbours that become one strand.
 ghost use Rattle.std.specs.Prelude.{◌≡◌, ◌<◌, ◌+◌, length, drop, false, Some, None, IfOk, OnOk, OnErr, MatchOption};
-ghost use Rattle.sync_fold.specs.Pages.{shown};
+ghost use Rattle.strand_list.specs.Pages.{shown};
 ghost use Rattle.sync_fold.specs.Books.{BeginAsOne, BeginWithPair, IsHalved, PlacesAt, fold_among, folded, folds_here};
 
 use crate::kept::{keep_pair, take_behind, take_two};
 use crate::laid::{LaidOf, join_up, may_touch};
-use crate::lines::{is_done, is_waiting};
 use numbered_runs::step::{Place, StrandLine};
 use right_strands::run::{Run, Scene};
 use right_strands::strand::RightStrand;
 use std::alloc::{AllocError, Global};
+use strand_list::lines::{is_done, is_waiting};
 use view_pool::{Kit, View};
 
 /// Whether lists of lines, and of what is kept of them, begin with two strands that may be folded.

@@ -2,16 +2,11 @@
 #![tactic(auto)]
 
 mod book;
-mod chronicle;
-mod error;
 mod folds;
-mod history;
 mod kept;
 mod laid;
-mod lines;
-mod page;
 
 pub use book::Book;
-pub use error::{BookError, ReplayError};
-pub use history::replay;
-pub use right_strands::laid::Rest;
+pub use strand_list::error::{BookError, ReplayError};
+pub use strand_list::history::replay;
+pub use strand_list::rest::Rest;

@@ -14,7 +14,7 @@ ghost use Rattle.worker_seats.specs.Histories.{HasHistory};
 ghost use Rattle.worker_seats.specs.Ends.{IsEnd};
 ghost use Rattle.threaded_driver.specs.Ends.{IsEndFor};
 ghost use Rattle.worker_seats.specs.Over.{is_refusal};
-ghost use Rattle.sync_fold.specs.declared.error.BookError.TheVariants as error;
+ghost use Rattle.strand_list.specs.declared.error.BookError.TheVariants as error;
 
 use crate::floor::{Floor, work};
 use crate::gate::Gate;

@@ -19,6 +19,7 @@ use Rattle.numbered_runs.specs.declared.step.Step.{Step}
 use Rattle.numbered_runs.specs.declared.step.Step.TheVariants as step
 use Rattle.numbered_runs.specs.declared.refusal.Refusal.{Refusal}
 use Rattle.numbered_runs.specs.declared.refusal.Refusal.TheVariants as refusal
+use Rattle.strand_list.specs.Laying.{is_last}
 use Rattle.worker_core.specs.Strands.{PlainStrands, run_of}
 use Rattle.worker_core.specs.declared.piece.Move.TheVariants.{Work}
 use Rattle.worker_core.specs.Folds.{LeavesFolded, LeavesMoved}
@@ -121,11 +122,6 @@ pub record IsFirstCore (program : PlainChecked) (tables : Edited) (records : Lis
   pub going : core.failed ≡ false
 
 -- one strand is left, and it is laid down as finished or faulted
-abbrev pub is_last : State → Bool
-is_last Finished = true
-is_last Faulted = true
-is_last _ = false
-
 abbrev pub are_over : List PlainPiece → Bool
 are_over (p ∷ []) = is_last p.state
 are_over _ = false

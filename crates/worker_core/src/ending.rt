@@ -2,28 +2,17 @@
 ghost use Rattle.std.specs.Prelude.{◌≡◌, ◌+◌, ◌<◌, ◌≤◌, ◌++◌, ◌∷◌, [], All, List, IfOk, IfErr, length};
 ghost use Rattle.monoid_laws.specs.declared.Kind.{Kind};
 ghost use Rattle.rerun_records.specs.Named.{HaveValues};
-ghost use Rattle.numbered_runs.specs.Named.{named_state};
-ghost use Rattle.worker_core.specs.Cores.{IsEnd, IsEndOf, is_last, are_over, made_in, kept_of};
+ghost use Rattle.worker_core.specs.Cores.{IsEnd, IsEndOf, are_over, made_in, kept_of};
 ghost use Rattle.worker_core.specs.Moves.{IsFit};
 ghost use Rattle.worker_core.specs.Strands.{layers_of, layers_in, kits_in, AreFit};
 
 use crate::piece::Piece;
 use crate::strands::Strands;
 use frames::answer::RunAnswer;
-use numbered_runs::step::State;
 use rerun_records::record::Record;
 use std::alloc::Global;
+use strand_list::lines::is_last;
 use view_pool::{Kit, Pool, View};
-
-/// Whether a strand laid down so is a run's last.
-fn is_last(state: State) -> bool
-    ensures last { result ≡ is_last (named_state state) }
-{
-    match state {
-        State::Finished | State::Faulted => true,
-        _ => false,
-    }
-}
 
 /// The records that are kept of a run with that answer: those that were made, where it has finished.
 fn kept_of(alloc: Global, answer: &RunAnswer, made: Vec<Record>) -> Vec<Record>
@@ -128,13 +117,4 @@ fn send_home<V: View>(alloc: Global, mut pieces: Vec<Piece<V>>, pool: &mut Pool<
     while let Some(piece) = pieces.pop() {
         let _ = piece.end(alloc, pool);
     }
-}
-
-/// Puts a kit among the free ones.
-pub(crate) fn give_back<V: View>(kit: Kit<V>, pool: &mut Pool<Kit<V>>)
-    requires room { length pool.old.kits < pool.old.total }
-    ensures given { pool.new.kits ≡ pool.old.kits ++ kit ∷ [] }
-    ensures total { pool.new.total ≡ pool.old.total }
-{
-    let _ = pool.give(kit);
 }

@@ -1,8 +1,6 @@
 // Two neighbours become one strand.
 ghost use Rattle.std.specs.Prelude.{◌≡◌, ◌⊎◌, true, ◌+◌, ◌<◌, All, IfOk, IfErr, OnErr, OnOk, Ok, [], length};
 ghost use Rattle.monoid_laws.specs.Kinds.{IsMonoid};
-ghost use Rattle.meaning.specs.Strands.{done, waits};
-ghost use Rattle.numbered_runs.specs.Named.{named_state};
 ghost use Rattle.stepped_runs.specs.Pieces.{may_join_at, may_fold, folded};
 ghost use Rattle.stepped_runs.specs.Runs.{is_idle, if_idle, folded_at};
 ghost use Rattle.worker_core.specs.Moves.{RefusedAs};
@@ -12,7 +10,6 @@ ghost use Rattle.worker_core.specs.Folds.{KeepsProducts, LeavesFolded, MayFoldAt
 ghost use Rattle.stepped_runs.specs.Layered.{HasOneLayer};
 ghost use Rattle.worker_core.specs.Strands.{neighbour_at, run_of, kits_in, AreFit};
 
-use crate::ending::give_back;
 use crate::piece::Piece;
 use crate::strands::{Strands, behind, held_at};
 use linked_program::checked::Checked;
@@ -20,27 +17,9 @@ use numbered_runs::refusal::Refusal;
 use numbered_runs::step::{BookStep, State};
 use positions::phase::Phase;
 use std::alloc::Global;
+use strand_list::kits::give_back;
+use strand_list::lines::{is_done, is_waiting};
 use view_pool::{Kit, View};
-
-/// Whether a strand laid down so may be the left one of two.
-fn is_done(state: State) -> bool
-    ensures done { result ≡ done (named_state state) }
-{
-    match state {
-        State::Ended | State::Faulted => true,
-        _ => false,
-    }
-}
-
-/// Whether a strand laid down so may be the right one of two.
-fn waits(state: State) -> bool
-    ensures waits { result ≡ waits (named_state state) }
-{
-    match state {
-        State::Stalled | State::Faulted => true,
-        _ => false,
-    }
-}
 
 /// The number of the left neighbour of the strand that begins behind the child of that name.
 fn neighbour_at<V: View>(pieces: &[Piece<V>], place: &[usize]) -> Option<usize>
@@ -69,7 +48,7 @@ impl<V: View> Piece<V> {
     fn may_fold(&self, right: &Piece<V>) -> bool
         ensures may { result ≡ may_fold self.now right.now }
     {
-        is_done(self.state) && waits(right.state) && self.may_join(right)
+        is_done(self.state) && is_waiting(right.state) && self.may_join(right)
     }
 
     /// Puts its right neighbour behind the strand, which the worker then holds, and gives the kit of the right one. Where

@@ -18,6 +18,7 @@ use positions::phase::{Paused, Phase};
 use std::alloc::{AllocError, Global};
 use std::collections::VecDeque;
 use std::marker::Model;
+use strand_list::lines::is_held_by;
 use view_pool::{Kit, Pool, View};
 
 /// What a worker does with the strand that it holds.
@@ -63,10 +64,7 @@ impl<V: View> Piece<V> {
     pub(crate) fn is_held_by(&self, worker: usize) -> bool
         ensures held { result ≡ is_held_by worker self.now }
     {
-        match self.state {
-            State::Held(holder) => worker == holder,
-            _ => false,
-        }
+        is_held_by(self.state, worker)
     }
 
     /// The place after which the strand begins; want of memory is the only error.

@@ -17,6 +17,8 @@ use linked_program::checked::Checked;
 use numbered_runs::refusal::Refusal;
 use numbered_runs::step::{BookStep, Place};
 use std::alloc::{AllocError, Global};
+use strand_list::kits::give_back;
+use strand_list::waiting::{has_some, take_oldest};
 use view_pool::{Kit, View};
 
 /// A copy of the name behind which a continuation goes on.
@@ -33,7 +35,7 @@ impl<V: View> Piece<V> {
     fn has_tasks(&self) -> bool
         ensures tasks { result ≡ has_tasks self.now.deque }
     {
-        !self.deque.is_empty()
+        has_some(&self.deque)
     }
 
     /// Gives a thief the oldest continuation as a strand of its own, with the name behind which that begins. Where memory is
@@ -54,7 +56,7 @@ impl<V: View> Piece<V> {
         ensures unchanged { OnErr result (self.new ≡ self.old) }
         ensures handed_back { IfErr result (λ k. k ≡ kit) }
     {
-        let Some(task) = self.deque.pop_front() else {
+        let Some(task) = take_oldest(&mut self.deque) else {
             return Err(kit);
         };
         let Ok(place) = copied_place(alloc, &task) else {
@@ -144,7 +146,7 @@ impl<V: View> Strands<V> {
         match self.split(alloc, program, number, kit, thief) {
             Ok(()) => Ok(()),
             Err(kit) => {
-                let _ = self.pool.give(kit);
+                give_back(kit, &mut self.pool);
                 Err(Refusal::NoMemory)
             }
         }

@@ -3,7 +3,7 @@ use Rattle.std.specs.Prelude.{List}
 use Rattle.meaning.specs.Strands.{BookStep}
 use Rattle.frames.specs.declared.answer.RunAnswer.{RunAnswer}
 use Rattle.frames.specs.declared.answer.RunAnswer.TheVariants as answer
-use Rattle.sync_fold.specs.Replays.{LeavesRootAlone}
+use Rattle.strand_list.specs.Replays.{LeavesRootAlone}
 
 -- that of a run that has ended
 abbrev pub HasHistory : RunAnswer → List BookStep → Type 0

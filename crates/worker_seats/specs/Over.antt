@@ -1,8 +1,8 @@
 -- When a run is over.
 use Rattle.std.specs.Prelude.{Bool, true, false, ◌||◌, Option, Some, None}
 use Rattle.sync_fold.specs.Books.{PlainBook, is_ended}
-use Rattle.sync_fold.specs.declared.error.BookError.{BookError}
-use Rattle.sync_fold.specs.declared.error.BookError.TheVariants as error
+use Rattle.strand_list.specs.declared.error.BookError.{BookError}
+use Rattle.strand_list.specs.declared.error.BookError.TheVariants as error
 use Rattle.worker_seats.specs.declared.failure.Failure.{Failure}
 use Rattle.worker_seats.specs.declared.failure.Failure.TheVariants as failure
 

@@ -2,7 +2,7 @@ use Rattle.std.proofs.Common.{◌≡◌, ◌++◌, ◌∷◌, [], string_bytes, 
 use Rattle.std.proofs.lemmas.List.{map_push}
 use Rattle.token_scanner.specs.Words.{Words, words}
 use Rattle.source_tree.specs.Source.{texts}
-use Rattle.procedure_parser.specs.Reading.{name_at}
+use Rattle.token_readers.specs.Reading.{name_at}
 use Rattle.procedure_parser.proofs.Turns.{gives_along, param_turn}
 use Rattle.procedure_parser.proofs.declaration.+more_parameters.Goals as goal
 

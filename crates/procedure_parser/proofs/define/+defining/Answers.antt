@@ -3,9 +3,9 @@ use Rattle.std.proofs.lemmas.List.{map_push}
 use Rattle.token_scanner.specs.Words.{Words, words}
 use Rattle.source_tree.specs.Source.{decl, source}
 use Rattle.procedure_parser.specs.Defining.{behind_name_at, procedures_at}
-use Rattle.procedure_parser.specs.Rooms.{room}
+use Rattle.token_readers.specs.Seen.{room}
 use Rattle.procedure_parser.proofs.Turns.{gives_along}
-use Rattle.procedure_parser.proofs.Rooms.{named_turn}
+use Rattle.procedure_parser.proofs.Named.{named_turn}
 use Rattle.procedure_parser.proofs.define.+defining.Goals as goal
 
 pub named-returns : goal.named-returns

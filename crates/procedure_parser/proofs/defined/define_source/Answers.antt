@@ -1,14 +1,15 @@
 use Rattle.std.proofs.Common.{◌≡◌, ◌-◌, length, drop, Ok, Some, None, Result, sym, ap, subst, ◌∙◌}
 use Rattle.std.proofs.lemmas.List.{length-map}
 use Rattle.program_tree.specs.View.{tree}
-use Rattle.procedure_parser.specs.declared.fault.ParseError.{ParseError}
+use Rattle.token_readers.specs.declared.fault.ParseError.{ParseError}
 use Rattle.token_scanner.specs.Words.{Words, words, placed}
 use Rattle.source_tree.specs.Source.{Source, source}
-use Rattle.procedure_parser.specs.Reading.{stuck_before, Fails}
+use Rattle.token_readers.specs.Reading.{stuck_before, Fails}
 use Rattle.token_scanner.specs.Scanning.{tokens_of}
-use Rattle.procedure_parser.specs.Defining.{room_of, definition_at}
-use Rattle.procedure_parser.specs.Rooms.{room}
-use Rattle.procedure_parser.specs.Correct.{line_at}
+use Rattle.token_readers.specs.Rooms.{room_of}
+use Rattle.procedure_parser.specs.Defining.{definition_at}
+use Rattle.token_readers.specs.Seen.{room}
+use Rattle.token_readers.specs.Lines.{line_at}
 use Rattle.procedure_parser.proofs.Whole.{definition_found, only_definition}
 use Rattle.procedure_parser.proofs.Counts.{definition_line_is}
 use Rattle.procedure_parser.proofs.defined.define_source.Goals as goal

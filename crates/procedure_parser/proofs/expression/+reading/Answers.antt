@@ -4,7 +4,8 @@ use Rattle.std.proofs.lemmas.List.{length-map}
 use Rattle.std.proofs.lemmas.Result.{err_from_is_err_and}
 use Rattle.token_scanner.specs.Words.{Words, words, placed}
 use Rattle.source_tree.specs.Source.{phrase}
-use Rattle.procedure_parser.specs.Reading.{Fails, unary_at, term_at, inside_at, sum_at, additive, multiplicative}
+use Rattle.token_readers.specs.Reading.{Fails, additive, multiplicative}
+use Rattle.procedure_parser.specs.Reading.{unary_at, term_at, inside_at, sum_at}
 use Rattle.procedure_parser.proofs.Chain.{stops, full, goes_on, ends, out}
 use Rattle.procedure_parser.proofs.expression.+reading.Goals as goal
 

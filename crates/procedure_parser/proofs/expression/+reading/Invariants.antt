@@ -2,7 +2,8 @@ use Rattle.std.proofs.Common.{◌≡◌, ◌≤◌, ◌-◌, ◌+◌, ◌*◌}
 use Rattle.std.specs.Prelude.{nat_eq}
 use Rattle.token_scanner.specs.Words.{words}
 use Rattle.source_tree.specs.Source.{phrase}
-use Rattle.procedure_parser.specs.Reading.{unary_at, term_at, inside_at, sum_at, chain_at, additive, multiplicative}
+use Rattle.token_readers.specs.Reading.{additive, multiplicative}
+use Rattle.procedure_parser.specs.Reading.{unary_at, term_at, inside_at, sum_at, chain_at}
 use Rattle.procedure_parser.proofs.expression.+reading.Given as goal
 
 abbrev pub decreases-inside : goal.decreases-inside

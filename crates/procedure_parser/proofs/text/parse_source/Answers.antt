@@ -1,11 +1,12 @@
 use Rattle.std.proofs.Common.{◌≡◌, ◌-◌, length, drop, Ok, Some, None, Result, sym, ap, subst, ◌∙◌}
 use Rattle.std.proofs.lemmas.List.{length-map}
-use Rattle.procedure_parser.specs.declared.fault.ParseError.{ParseError}
+use Rattle.token_readers.specs.declared.fault.ParseError.{ParseError}
 use Rattle.token_scanner.specs.Words.{Words, words, placed}
 use Rattle.source_tree.specs.Source.{Source, source}
-use Rattle.procedure_parser.specs.Reading.{text_at, stuck_before, Fails}
+use Rattle.token_readers.specs.Reading.{stuck_before, Fails}
+use Rattle.procedure_parser.specs.Reading.{text_at}
 use Rattle.token_scanner.specs.Scanning.{tokens_of}
-use Rattle.procedure_parser.specs.Correct.{line_at}
+use Rattle.token_readers.specs.Lines.{line_at}
 use Rattle.procedure_parser.proofs.Whole.{text_found, only_text}
 use Rattle.procedure_parser.proofs.Counts.{fault_line_is}
 use Rattle.procedure_parser.proofs.text.parse_source.Goals as goal

@@ -2,8 +2,8 @@ use Rattle.std.proofs.Common.{◌+◌, map, drop, ap, ◌∙◌, refl}
 use Rattle.program_tree.specs.View.{decl, lined}
 use Rattle.linked_program.specs.Violations.{noted}
 use Rattle.linked_program.specs.Declarations.{decl_violations, decls_violations}
-use Rattle.spawn_checker.proofs.Lists.{item_here}
-use Rattle.spawn_checker.proofs.Noting.{noted_append}
+use Rattle.single_rules.proofs.Lists.{item_here}
+use Rattle.single_rules.proofs.Noting.{noted_append}
 use Rattle.linked_program.specs.TableNames.{columned}
 use Rattle.spawn_checker.proofs.declarations.first_violation.Goals as goal
 

@@ -3,7 +3,7 @@ use Rattle.std.proofs.lemmas.List.{take-map}
 use Rattle.program_tree.specs.View.{decl, proc, block_lines}
 use Rattle.linked_program.specs.Violations.{at}
 use Rattle.linked_program.specs.Declarations.{procedure_rules, proc_violations}
-use Rattle.spawn_checker.proofs.Noting.{noted_append}
+use Rattle.single_rules.proofs.Noting.{noted_append}
 use Rattle.linked_program.specs.TableNames.{columned}
 use Rattle.spawn_checker.proofs.declarations.note_declaration.Goals as goal
 

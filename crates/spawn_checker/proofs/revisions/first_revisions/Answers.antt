@@ -3,7 +3,7 @@ use Rattle.program_tree.specs.Plain.{Tree, procedure, reducer}
 use Rattle.program_tree.specs.View.{decl, proc, red}
 use Rattle.meaning.specs.Edits.{revised}
 use Rattle.linked_program.specs.Checked.{numbers_in, nothing}
-use Rattle.spawn_checker.proofs.Lists.{item_here}
+use Rattle.single_rules.proofs.Lists.{item_here}
 use Rattle.spawn_checker.proofs.NewRevisions.{Going, passed_one, new_one}
 use Rattle.spawn_checker.proofs.revisions.first_revisions.Goals as goal
 use Rattle.spawn_checker.proofs.revisions.first_revisions.Goals.{in-Procedure+in_ok-put_revision, in_default}

@@ -5,9 +5,9 @@ use Rattle.linked_program.specs.Scope.{moment, after_deed, after_body, second}
 use Rattle.linked_program.specs.Rules.{deed_rules}
 use Rattle.linked_program.specs.Bodies.{line_of, body_violations, branch_violations, step_violations}
 use Rattle.linked_program.specs.Violations.{noted, at}
-use Rattle.spawn_checker.specs.Settings.{plain}
-use Rattle.spawn_checker.proofs.Lists.{item_here}
-use Rattle.spawn_checker.proofs.Noting.{noted_append}
+use Rattle.single_rules.specs.Settings.{plain}
+use Rattle.single_rules.proofs.Lists.{item_here}
+use Rattle.single_rules.proofs.Noting.{noted_append}
 use Rattle.spawn_checker.proofs.walk.+walk.Goals as goal
 
 pub note_branches-returns-clause-noted : goal.note_branches-returns-clause-noted

@@ -3,7 +3,7 @@ use Rattle.program_tree.specs.View.{block, statements}
 use Rattle.linked_program.specs.Scope.{after_body}
 use Rattle.linked_program.specs.Bodies.{body_violations}
 use Rattle.linked_program.specs.Violations.{noted}
-use Rattle.spawn_checker.specs.Settings.{plain}
+use Rattle.single_rules.specs.Settings.{plain}
 use Rattle.spawn_checker.proofs.walk.+walk.Given as goal
 
 abbrev pub decreases-note_block : goal.decreases-note_block

@@ -1,5 +1,5 @@
 use Rattle.std.proofs.Common.{◌≡◌, drop}
-use Rattle.sync_fold.specs.Pages.{shown}
+use Rattle.strand_list.specs.Pages.{shown}
 use Rattle.sync_fold.specs.Books.{fold_among}
 use Rattle.sync_fold.proofs.folds.first_fold.Given as goal
 

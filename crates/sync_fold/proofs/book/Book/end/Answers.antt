@@ -2,8 +2,8 @@ use Rattle.std.proofs.Common.{◌≡◌, ◌+◌, ◌≤◌, suc, true, List, le
 use Rattle.numbered_runs.specs.Named.{history as steps_of}
 use Rattle.right_strands.specs.Laid.{PlainPiece}
 use Rattle.sync_fold.specs.Books.{PlainBook, PlainLaid, ends_alone}
-use Rattle.sync_fold.specs.Replays.{LeavesRootAlone}
-use Rattle.sync_fold.specs.Chronicles.{told}
+use Rattle.strand_list.specs.Replays.{LeavesRootAlone}
+use Rattle.strand_list.specs.Chronicles.{told}
 use Rattle.sync_fold.proofs.Fitting.{leaves_root_alone}
 use Rattle.sync_fold.proofs.Keeping.{whole_same}
 use Rattle.sync_fold.proofs.book.Book.end.Goals as goal

@@ -3,8 +3,8 @@ use Rattle.std.proofs.lemmas.List.{length-map}
 use Rattle.meaning.specs.Strands.{Line}
 use Rattle.numbered_runs.specs.Named.{line}
 use Rattle.sync_fold.specs.Books.{PlainBook, PlainLaid, PlacesAt, fold_among, first_fold}
-use Rattle.sync_fold.specs.Chronicles.{told}
-use Rattle.sync_fold.specs.Pages.{shown}
+use Rattle.strand_list.specs.Chronicles.{told}
+use Rattle.strand_list.specs.Pages.{shown}
 use Rattle.sync_fold.proofs.Keeping.{long_of}
 use Rattle.sync_fold.proofs.book.Book.fold_any.Goals as goal
 

@@ -1,8 +1,9 @@
 use Rattle.std.proofs.Common.{◌≡◌, ◌⊎◌, inr, ◌&&◌, true, false, drop, refl, ap, sym, ◌∙◌, subst}
 use Rattle.meaning.specs.Strands.{Fold, is_free, may_fold, stepped}
-use Rattle.sync_fold.specs.Pages.{Apart, position}
-use Rattle.sync_fold.specs.Books.{PlainBook, PlainChronicle, BeginAsOne, BeginWithPair, IsHalved, IsRefusedBy, Took, touch, unless_allowed}
-use Rattle.sync_fold.specs.Chronicles.{told}
+use Rattle.strand_list.specs.Pages.{Apart, position}
+use Rattle.strand_list.specs.Chronicled.{PlainChronicle, IsRefusedBy, Took, unless_allowed}
+use Rattle.sync_fold.specs.Books.{PlainBook, BeginAsOne, BeginWithPair, IsHalved, touch}
+use Rattle.strand_list.specs.Chronicles.{told}
 use Rattle.sync_fold.proofs.Keeping.{apart_of, same_keeps, fold_keeps, halve_keeps, pair_there, pair_long, touch_missing, kept_same, book_of}
 use Rattle.sync_fold.proofs.book.Book.fold_at.Goals as goal
 

@@ -1,8 +1,9 @@
 use Rattle.std.proofs.Common.{suc, get_or, OnOk, Some, refl, ap, ◌∙◌, subst}
 use Rattle.meaning.specs.Strands.{Fold}
 use Rattle.meaning.specs.Outcome.{Place}
-use Rattle.sync_fold.specs.Books.{PlainBook, Took, first_fold}
-use Rattle.sync_fold.specs.Pages.{shown}
+use Rattle.strand_list.specs.Chronicled.{Took}
+use Rattle.sync_fold.specs.Books.{PlainBook, first_fold}
+use Rattle.strand_list.specs.Pages.{shown}
 use Rattle.sync_fold.proofs.Places.{any_line, first_is, places_within}
 use Rattle.sync_fold.proofs.book.Book.fold_from.Goals as goal
 

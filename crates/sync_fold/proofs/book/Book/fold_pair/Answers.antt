@@ -1,5 +1,6 @@
 use Rattle.std.proofs.Common.{IfErr, refl, ap, sym, ◌∙◌, subst}
-use Rattle.sync_fold.specs.Books.{PlainBook, IsRefusedBy}
+use Rattle.strand_list.specs.Chronicled.{IsRefusedBy}
+use Rattle.sync_fold.specs.Books.{PlainBook}
 use Rattle.sync_fold.proofs.Keeping.{fold_missing, fold_apart, fold_passes, both_in}
 use Rattle.sync_fold.proofs.book.Book.fold_pair.Goals as goal
 

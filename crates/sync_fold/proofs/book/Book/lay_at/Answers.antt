@@ -1,8 +1,9 @@
 use Rattle.std.proofs.Common.{◌<◌, refl, ap, sym, ◌∙◌, subst}
-use Rattle.sync_fold.specs.Laying.{rest_step}
-use Rattle.sync_fold.specs.Books.{PlainBook, PlainChronicle, Took, IsRefusedBy, rest_refusal}
-use Rattle.sync_fold.specs.Chronicles.{told}
-use Rattle.sync_fold.specs.declared.error.BookError.TheVariants as error
+use Rattle.strand_list.specs.Laying.{rest_step}
+use Rattle.strand_list.specs.Chronicled.{PlainChronicle, Took, IsRefusedBy, rest_refusal}
+use Rattle.sync_fold.specs.Books.{PlainBook}
+use Rattle.strand_list.specs.Chronicles.{told}
+use Rattle.strand_list.specs.declared.error.BookError.TheVariants as error
 use Rattle.sync_fold.proofs.Keeping.{apart_of, long_of, same_keeps, lay_keeps, lay_missing, book_of}
 use Rattle.sync_fold.proofs.book.Book.lay_at.Goals as goal
 

@@ -1,6 +1,6 @@
 use Rattle.std.proofs.Common.{◌≡◌, ◌<◌, false, List, length, drop, sym, ap, ◌∙◌, subst}
 use Rattle.sync_fold.specs.Books.{PlainBook, PlainLaid, may_touch, touch}
-use Rattle.sync_fold.specs.Chronicles.{told}
+use Rattle.strand_list.specs.Chronicles.{told}
 use Rattle.sync_fold.proofs.Keeping.{long_of, touch_missing, touch_apart, touch_here, book_of}
 use Rattle.sync_fold.proofs.book.Book.may_touch.Goals as goal
 

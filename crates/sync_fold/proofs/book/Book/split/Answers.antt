@@ -1,7 +1,8 @@
 use Rattle.std.proofs.Common.{◌≡◌, ◌<◌, length, refl, subst}
-use Rattle.sync_fold.specs.Pages.{position}
-use Rattle.sync_fold.specs.Books.{PlainBook, IsRefusedBy, split_refusal}
-use Rattle.sync_fold.specs.declared.error.BookError.TheVariants as error
+use Rattle.strand_list.specs.Pages.{position}
+use Rattle.strand_list.specs.Chronicled.{IsRefusedBy, split_refusal}
+use Rattle.sync_fold.specs.Books.{PlainBook}
+use Rattle.strand_list.specs.declared.error.BookError.TheVariants as error
 use Rattle.sync_fold.proofs.Keeping.{split_missing}
 use Rattle.sync_fold.proofs.book.Book.split.Goals as goal
 

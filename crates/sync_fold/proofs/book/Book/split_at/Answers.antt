@@ -1,9 +1,10 @@
 use Rattle.std.proofs.Common.{◌≡◌, ◌+◌, ◌<◌, List, length, refl, ap, sym, ◌∙◌, subst, rules}
 use Rattle.std.specs.List.{insert}
 use Rattle.meaning.specs.Strands.{Split}
-use Rattle.sync_fold.specs.Pages.{position}
-use Rattle.sync_fold.specs.Books.{PlainBook, PlainChronicle, PlainLaid, Took, IsRefusedBy, split_refusal}
-use Rattle.sync_fold.specs.Chronicles.{told}
+use Rattle.strand_list.specs.Pages.{position}
+use Rattle.strand_list.specs.Chronicled.{PlainChronicle, Took, IsRefusedBy, split_refusal}
+use Rattle.sync_fold.specs.Books.{PlainBook, PlainLaid}
+use Rattle.strand_list.specs.Chronicles.{told}
 use Rattle.sync_fold.specs.declared.laid.Laid.TheVariants.{Nothing}
 use Rattle.sync_fold.proofs.Keeping.{apart_of, long_of, same_keeps, split_keeps, put_long, put_taken, book_of}
 use Rattle.sync_fold.proofs.book.Book.split_at.Goals as goal

@@ -64,8 +64,8 @@ returns-in-Err-clause-fit g c =
       kits = fit.kits;
     }
 
-pub give_back-requires-clause-room : goal.give_back-requires-clause-room
-give_back-requires-clause-room g c κs here =
+pub give_back-requires : goal.give_back-requires
+give_back-requires g c =
     let within : c.args.number + 1 < length c.self.inside.pieces.items = subst (λ (s : PlainStrands). c.args.number + 1 < length s.pieces) (sym c.self.view_is) c.requires.number in
     let some = some_layers c.args.worker c.args.number c.self.inside.pieces.items c.remove-taken.new.self.items c.index_mut.result.now c.remove-taken.result within c.remove-taken.ensures.items c.index_mut.ensures.value c.remove-taken.ensures.value in
     omega (arith, some, c.self.invariant)

@@ -1,6 +1,0 @@
-use Rattle.std.proofs.Common.{◌≡◌, ◌-◌, length}
-use Rattle.procedure_parser.proofs.Ends.{line_there}
-use Rattle.procedure_parser.proofs.text.fault_line.Goals as goal
-
-pub returns-then-at-tokens : goal.returns-then-at-tokens
-returns-then-at-tokens c = let e : c.saturating_sub-at.result ≡ length c.args.tokens.now - c.args.left = c.saturating_sub-at.ensures in rw (← e) (line_there c.args.text.now c.args.tokens.now c.saturating_sub-at.result _ c.if-at-tokens.true)

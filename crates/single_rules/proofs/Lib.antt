@@ -1,0 +1,5 @@
+pub mod Lists
+pub mod Noting
+pub mod Steps
+pub mod FilledLines
+pub mod NumberThere

@@ -1,0 +1,6 @@
+use Rattle.std.proofs.Common.{◌≡◌, take}
+use Rattle.program_tree.specs.View.{block_lines}
+use Rattle.single_rules.proofs.lines.LineTable.new.Given as goal
+
+abbrev pub invariant-loop-block : goal.invariant-loop-block
+invariant-loop-block l = l.pairs.items ≡ block_lines (take l.block-index l.blocks)

@@ -1,0 +1,7 @@
+use Rattle.std.proofs.Common.{◌≡◌, map, drop}
+use Rattle.program_tree.specs.View.{decl}
+use Rattle.meaning.specs.Statements.{procedure_of}
+use Rattle.single_rules.proofs.names.find_procedure.Given as goal
+
+abbrev pub invariant-loop-declaration : goal.invariant-loop-declaration
+invariant-loop-declaration l = procedure_of (map decl l.declarations) l.name ≡ procedure_of (map decl (drop l.declaration-index l.declarations)) l.name

@@ -1,0 +1,4 @@
+pub mod Settings
+pub mod Own
+pub mod Filled
+pub mod Kept

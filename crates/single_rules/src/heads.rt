@@ -1,0 +1,92 @@
+//! The rules of reducers and of procedures' heads.
+ghost use Rattle.std.specs.Prelude.{◌≡◌, map, string_bytes, take};
+ghost use Rattle.program_tree.specs.View.{decl, red, proc};
+ghost use Rattle.linked_program.specs.Monoids.{says_monoid, is_monoid_kind};
+ghost use Rattle.linked_program.specs.Declarations.{repeats, reducer_rules, main_rules, procedure_rules};
+ghost use Rattle.linked_program.specs.Violations.{noted, at};
+
+use crate::names::{has_name, kind_of, parameters_of};
+use crate::place::{Place, note_if};
+use linked_program::violation::{Rule, Violation};
+use monoid_laws::{Kind, TableAnswer};
+use program_tree::{Declaration, Procedure, Reducer};
+use reducer_values::check_table;
+
+// Whether a name is there twice.
+fn repeats(names: &[String]) -> bool
+    ensures { result ≡ repeats (map string_bytes names.now) }
+{
+    for (i, name) in names.iter().enumerate() {
+        if has_name(&names[i + 1..], name.as_str()) {
+            return true;
+        }
+    }
+    false
+}
+
+// Whether the answer says so.
+fn says_monoid(answer: TableAnswer) -> bool
+    ensures { result ≡ says_monoid answer }
+{
+    match answer {
+        TableAnswer::Monoid => true,
+        TableAnswer::NotIdentity(_) | TableAnswer::NotAssociative(_, _, _) => false,
+    }
+}
+
+// Whether the kind's operation is a monoid.
+fn is_monoid(kind: &Kind) -> bool
+    ensures { result ≡ is_monoid_kind kind.now }
+{
+    match kind {
+        Kind::Table(table) => says_monoid(check_table(table)),
+        _ => true,
+    }
+}
+
+/// The first violation so far or that of a reducer after these declarations.
+#[tactic(auto, using(crate::proofs::Noting::noted_more))]
+pub fn note_reducer(
+    first: Option<Violation>,
+    place: Place,
+    before: &[Declaration],
+    reducer: &Reducer,
+) -> Option<Violation>
+    ensures { result ≡ noted first (at place.declaration place.line (reducer_rules (map decl before.now) (red reducer.now))) }
+{
+    let is_second = kind_of(before, reducer.name.as_str()).is_some();
+    let first = note_if(first, is_second, place, Rule::Twice);
+    note_if(first, !is_monoid(&reducer.kind), place, Rule::Monoid)
+}
+
+// The same where `main` is recorded or has parameters.
+fn note_main(first: Option<Violation>, place: Place, procedure: &Procedure) -> Option<Violation>
+    ensures { result ≡ noted first (at place.declaration place.line (main_rules (proc procedure.now))) }
+{
+    let broken = procedure.name.as_str() == "main" && (procedure.memo || procedure.parameters > 0);
+    note_if(first, broken, place, Rule::Main)
+}
+
+// Whether a name is that of two parameters.
+fn repeats_parameter(procedure: &Procedure) -> bool
+    ensures { result ≡ repeats (take procedure.now.parameters (map string_bytes procedure.now.names.items)) }
+{
+    let count = procedure.parameters.min(procedure.names.len());
+    repeats(&procedure.names[..count])
+}
+
+/// The same of a procedure's head.
+#[tactic(auto, using(crate::proofs::Noting::noted_more))]
+pub fn note_head(
+    first: Option<Violation>,
+    place: Place,
+    before: &[Declaration],
+    procedure: &Procedure,
+) -> Option<Violation>
+    ensures { result ≡ noted first (at place.declaration place.line (procedure_rules (map decl before.now) (proc procedure.now))) }
+{
+    let is_second = parameters_of(before, procedure.name.as_str()).is_some();
+    let first = note_if(first, is_second, place, Rule::Twice);
+    let first = note_if(first, repeats_parameter(procedure), place, Rule::Twice);
+    note_main(first, place, procedure)
+}

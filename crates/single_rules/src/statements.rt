@@ -1,0 +1,276 @@
+//! The rules that a statement can break by itself.
+ghost use Rattle.std.specs.Prelude.{◌≡◌, ℕ, false, map, option_copied, ◌++◌, ◌&&◌, ◌==◌};
+ghost use Rattle.program_tree.specs.Plain.{Body};
+ghost use Rattle.program_tree.specs.View.{decl, deed, term};
+ghost use Rattle.linked_program.specs.Scope.{bound, entered, has_read, looped};
+ghost use Rattle.linked_program.specs.Rules.{bind_rules, target_rules, callee_rules, enter_rules, update_rules, kind_rules, read_rules, term_rules, terms_rules, entry_rules, range_rules, own_rules, kind_of as reducer_kind};
+ghost use Rattle.linked_program.specs.Violations.{noted, at};
+ghost use Rattle.linked_program.specs.TableNames.{columned};
+ghost use Rattle.single_rules.specs.Settings.{plain};
+ghost use Rattle.single_rules.specs.Own.{after_own};
+
+use crate::names::{arity, is_readable, kind_of, parameters_of};
+use crate::place::{Place, note, note_if};
+use crate::scope::Scope;
+use crate::setting::Setting;
+use crate::terms::{note_term, note_terms};
+use linked_program::knowledge::Moment;
+use linked_program::tables::TableNames;
+use linked_program::violation::{Rule, Violation};
+use monoid_laws::Kind;
+use program_tree::{Action, Declaration, Expr, Way};
+
+// The first violation so far or that of binding a name.
+fn note_bind(
+    first: Option<Violation>,
+    place: Place,
+    scope: &Scope,
+    name: usize,
+) -> Option<Violation>
+    ensures { result ≡ noted first (at place.declaration place.line (bind_rules scope.now name)) }
+{
+    note_if(first, scope.is_bound(name), place, Rule::Twice)
+}
+
+// The same where the value of a call or a spawn may be bound.
+fn note_target(
+    first: Option<Violation>,
+    place: Place,
+    scope: &Scope,
+    name: Option<usize>,
+) -> Option<Violation>
+    ensures { result ≡ noted first (at place.declaration place.line (target_rules scope.now name)) }
+{
+    match name {
+        None => first,
+        Some(name) => note_bind(first, place, scope, name),
+    }
+}
+
+// The same where a procedure with so many parameters is entered with so many arguments.
+fn note_callee(
+    first: Option<Violation>,
+    place: Place,
+    parameters: Option<usize>,
+    count: usize,
+) -> Option<Violation>
+    ensures { result ≡ noted first (at place.declaration place.line (callee_rules parameters count)) }
+{
+    match parameters {
+        None => note(first, place, Rule::Unknown),
+        Some(parameters) => note_if(first, parameters != count, place, Rule::Arguments),
+    }
+}
+
+// The same where the procedure of a name is entered.
+#[tactic(auto, using(crate::proofs::Noting::noted_more))]
+fn note_enter(
+    first: Option<Violation>,
+    place: Place,
+    declarations: &[Declaration],
+    name: &str,
+    count: usize,
+) -> Option<Violation>
+    ensures { result ≡ noted first (at place.declaration place.line (enter_rules (map decl declarations.now) name.now count)) }
+{
+    let first = note_callee(first, place, parameters_of(declarations, name), count);
+    note_if(first, name == "main", place, Rule::Main)
+}
+
+// The same where a reducer of that kind is updated with so many values.
+fn note_update(
+    first: Option<Violation>,
+    place: Place,
+    kind: Option<&Kind>,
+    count: usize,
+) -> Option<Violation>
+    ensures { result ≡ noted first (at place.declaration place.line (update_rules (option_copied kind.entry) count)) }
+{
+    match kind {
+        None => note(first, place, Rule::Update),
+        Some(kind) => note_if(first, arity(kind) != count, place, Rule::Update),
+    }
+}
+
+// The same where a reducer of that kind is read.
+fn note_kind(first: Option<Violation>, place: Place, kind: Option<&Kind>) -> Option<Violation>
+    ensures { result ≡ noted first (at place.declaration place.line (kind_rules (option_copied kind.entry))) }
+{
+    match kind {
+        None => note(first, place, Rule::Update),
+        Some(kind) => note_if(first, !is_readable(kind), place, Rule::Read),
+    }
+}
+
+// The same of a read, in main's outermost block or elsewhere.
+#[tactic(auto, using(crate::proofs::Noting::noted_more))]
+fn note_read(
+    first: Option<Violation>,
+    place: Place,
+    scope: &Scope,
+    in_place: bool,
+    kind: Option<&Kind>,
+) -> Option<Violation>
+    ensures { result ≡ noted first (at place.declaration place.line (read_rules in_place scope.now (option_copied kind.entry))) }
+{
+    let first = note_kind(first, place, kind);
+    note_if(first, !in_place || scope.has_spawned(), place, Rule::Read)
+}
+
+// The same of a loop's arguments, in which its variable is known; the loop ends its variable.
+fn note_arguments(
+    first: Option<Violation>,
+    place: Place,
+    tables: &[TableNames],
+    scope: &mut Scope,
+    now: Moment,
+    name: usize,
+    arguments: &[Expr],
+) -> Option<Violation>
+    ensures noted { result ≡ noted first (at place.declaration place.line (terms_rules (map columned tables.now) (bound now false scope.old name) (map term arguments.now))) }
+    ensures looped { scope.new ≡ looped scope.old name }
+{
+    let was_known = scope.is_known(name);
+    scope.bind(now, false, name);
+    let found = note_terms(first, place, tables, scope, arguments);
+    if !was_known {
+        scope.end(name);
+    }
+    found
+}
+
+// What is known after a call or a spawn.
+fn enter(scope: &mut Scope, now: Moment, name: Option<usize>, way: Way)
+    ensures entered { scope.new ≡ entered now scope.old name way }
+{
+    if way == Way::Spawn {
+        scope.spawn();
+    }
+    if let Some(name) = name {
+        scope.bind(now, way == Way::Spawn, name);
+    }
+}
+
+// The same of a call or a spawn.
+#[tactic(auto, using(crate::proofs::Noting::noted_more, crate::proofs::Lists::length_of_map))]
+fn note_entry(
+    setting: &Setting,
+    first: Option<Violation>,
+    place: Place,
+    scope: &Scope,
+    name: Option<usize>,
+    callee: &str,
+    arguments: &[Expr],
+) -> Option<Violation>
+    ensures noted { result ≡ noted first (at place.declaration place.line (entry_rules (plain setting.now) scope.now name callee.now (map term arguments.now))) }
+{
+    let first = note_terms(first, place, setting.tables, scope, arguments);
+    let first = note_target(first, place, scope, name);
+    note_enter(first, place, setting.declarations, callee, arguments.len())
+}
+
+// The same of a loop's bounds and variable.
+#[tactic(auto, using(crate::proofs::Noting::noted_more))]
+fn note_range(
+    setting: &Setting,
+    first: Option<Violation>,
+    place: Place,
+    scope: &Scope,
+    name: usize,
+    low: &Expr,
+    high: &Expr,
+) -> Option<Violation>
+    ensures noted { result ≡ noted first (at place.declaration place.line (range_rules (plain setting.now) scope.now name (term low.now) (term high.now))) }
+{
+    let first = note_term(first, place, setting.tables, scope, low);
+    let first = note_term(first, place, setting.tables, scope, high);
+    note_bind(first, place, scope, name)
+}
+
+// The same of a plain bind, with what is known after it.
+#[tactic(auto, using(crate::proofs::Noting::noted_more))]
+fn note_binding(
+    setting: &Setting,
+    first: Option<Violation>,
+    place: Place,
+    scope: &mut Scope,
+    now: Moment,
+    name: usize,
+    value: &Expr,
+) -> Option<Violation>
+    ensures noted { result ≡ noted first (at place.declaration place.line (term_rules (map columned setting.now.tables.now) scope.old (term value.now) ++ bind_rules scope.old name)) }
+    ensures bound { scope.new ≡ bound now false scope.old name }
+{
+    let first = note_term(first, place, setting.tables, scope, value);
+    let first = note_bind(first, place, scope, name);
+    scope.bind(now, false, name);
+    first
+}
+
+// The same of a read, with what is known after it.
+#[tactic(auto, using(crate::proofs::Noting::noted_more))]
+fn note_reading(
+    setting: &Setting,
+    first: Option<Violation>,
+    place: Place,
+    scope: &mut Scope,
+    now: Moment,
+    name: usize,
+    reducer: &str,
+) -> Option<Violation>
+    ensures noted { result ≡ noted first (at place.declaration place.line (bind_rules scope.old name ++ read_rules (setting.now.in_main && (now.depth == 0)) scope.old (reducer_kind (map decl setting.now.declarations.now) reducer.now))) }
+    ensures read { scope.new ≡ has_read now (bound now false scope.old name) }
+{
+    let first = note_bind(first, place, scope, name);
+    let in_place = setting.in_main && now.depth == 0;
+    let kind = kind_of(setting.declarations, reducer);
+    let first = note_read(first, place, scope, in_place, kind);
+    scope.bind(now, false, name);
+    scope.read(now);
+    first
+}
+
+/// The first violation so far or that of a statement by itself; what is known after it, its blocks aside.
+#[tactic(auto, using(crate::proofs::Noting::noted_more, crate::proofs::Lists::length_of_map))]
+pub fn note_own(
+    setting: &Setting,
+    first: Option<Violation>,
+    place: Place,
+    scope: &mut Scope,
+    now: Moment,
+    action: &Action,
+) -> Option<Violation>
+    ensures noted { (inner : ℕ → Body) → result ≡ noted first
+        (at place.declaration place.line (own_rules (plain setting.now) now scope.old
+        (deed inner action.now))) }
+    ensures after { (inner : ℕ → Body) → scope.new
+        ≡ after_own now scope.old (deed inner action.now) }
+{
+    match action {
+        Action::Bind(name, value) => note_binding(setting, first, place, scope, now, *name, value),
+        Action::Enter(name, way, callee, arguments) => {
+            let first = note_entry(setting, first, place, scope, *name, callee, arguments);
+            enter(scope, now, *name, *way);
+            first
+        }
+        Action::Read(name, reducer) => {
+            note_reading(setting, first, place, scope, now, *name, reducer.as_str())
+        }
+        Action::Sync => {
+            scope.sync(now);
+            first
+        }
+        Action::Update(reducer, values) => {
+            let first = note_terms(first, place, setting.tables, scope, values);
+            let kind = kind_of(setting.declarations, reducer.as_str());
+            note_update(first, place, kind, values.len())
+        }
+        Action::If(condition, _, _) => note_term(first, place, setting.tables, scope, condition),
+        Action::Loop(name, low, high, _, callee, arguments) => {
+            let first = note_range(setting, first, place, scope, *name, low, high);
+            let first = note_arguments(first, place, setting.tables, scope, now, *name, arguments);
+            note_enter(first, place, setting.declarations, callee, arguments.len())
+        }
+        Action::Return(value) => note_term(first, place, setting.tables, scope, value),
+    }
+}

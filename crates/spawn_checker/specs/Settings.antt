@@ -1,9 +1,0 @@
--- The plain form of what the statements of a procedure are checked against.
-use Rattle.std.specs.Prelude.{map}
-use Rattle.program_tree.specs.View.{decl}
-use Rattle.linked_program.specs.TableNames.{columned}
-use Rattle.linked_program.specs.Rules.{Setting}
-use Rattle.spawn_checker.specs.declared.setting.Setting.{Setting as RustSetting}
-
-abbrev pub plain : RustSetting → Setting
-plain s = record { program = map decl s.declarations.now; tables = map columned s.tables.now; in_main = s.in_main; declaration = s.declaration; lines = s.lines }

@@ -1,0 +1,4 @@
+pub mod Lists
+pub mod Apart
+pub mod Steps
+pub mod Replays

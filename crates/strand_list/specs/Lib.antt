@@ -1,0 +1,6 @@
+pub mod Pages
+pub mod Laying
+pub mod Steps
+pub mod Replays
+pub mod Chronicled
+pub mod Chronicles

@@ -1,0 +1,13 @@
+-- Whether a step was taken, and what it leaves.
+use Rattle.std.specs.Prelude.{◌≡◌, ℕ, Bool, true, false, not, ◌&&◌, Some, None}
+use Rattle.meaning.specs.Outcome.{Place}
+use Rattle.meaning.specs.Strands.{Book, BookStep, stepped, is_free, is_held_at, is_root}
+use Rattle.strand_list.specs.Pages.{is_unused}
+
+-- it is taken exactly where it is allowed; else the list stays as it is
+abbrev pub Takes : Book → BookStep → Bool → Book → Type 0
+Takes b s true c = stepped b s ≡ Some c
+Takes b s false c = (stepped b s ≡ None) × (c ≡ b)
+
+abbrev pub may_split : Book → Place → Place → ℕ → Bool
+may_split b v n w = is_held_at b.lines v && not (is_root n) && is_unused n b.split_off && is_free b.lines w

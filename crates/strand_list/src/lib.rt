@@ -1,0 +1,11 @@
+//! Lists of a run: strands by places and states with their history, continuations that wait, kits that go home.
+#![tactic(auto)]
+
+pub mod chronicle;
+pub mod error;
+pub mod history;
+pub mod kits;
+pub mod lines;
+pub mod page;
+pub mod rest;
+pub mod waiting;

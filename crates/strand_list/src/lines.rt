@@ -1,0 +1,260 @@
+//! Lists of strands: what stands in them, and what a step makes of them.
+ghost use Rattle.std.specs.Prelude.{◌≡◌, ◌<◌, length, Some, None, MatchOption, OnOk, OnErr};
+ghost use Rattle.std.specs.Str.{bytes_eq};
+ghost use Rattle.meaning.specs.Strands.{Held, done, waits, holds_by, is_held, is_free, is_held_at, is_root, is_alone, may_fold, becomes, splits};
+ghost use Rattle.numbered_runs.specs.Named.{named_state, line};
+ghost use Rattle.strand_list.specs.Laying.{is_last};
+ghost use Rattle.strand_list.specs.Pages.{shown, position, removes, items_of, is_unused, is_pair, begins_pair, begins_with, are_neighbours, stands, held_place};
+
+use numbered_runs::step::{Place, State, StrandLine};
+use std::alloc::{AllocError, Global};
+
+/// Whether two places are the same.
+fn is_same(left: &[usize], right: &[usize]) -> bool
+    ensures same { result ≡ bytes_eq left.now right.now }
+{
+    left == right
+}
+
+/// Whether a place is that of the first strand.
+pub fn is_root(place: &[usize]) -> bool
+    ensures root { result ≡ is_root place.now }
+{
+    match place {
+        [] => true,
+        _ => false,
+    }
+}
+
+/// Whether the place is none of these.
+pub fn is_unused(places: &[Place], place: &[usize]) -> bool
+    ensures unused { result ≡ is_unused place.now (items_of places.now) }
+{
+    for other in places.iter() {
+        if is_same(other, place) {
+            return false;
+        }
+    }
+    true
+}
+
+/// Whether a worker holds a strand of that state.
+fn is_held(state: State) -> bool
+    ensures held { result ≡ is_held (named_state state) }
+{
+    match state {
+        State::Held(_) => true,
+        State::Ended | State::Stalled | State::Faulted | State::Finished => false,
+    }
+}
+
+/// Whether that worker holds a strand of that state.
+pub fn is_held_by(state: State, worker: usize) -> bool
+    ensures held { result ≡ holds_by worker (named_state state) }
+{
+    match state {
+        State::Held(holder) => worker == holder,
+        State::Ended | State::Stalled | State::Faulted | State::Finished => false,
+    }
+}
+
+/// Whether a strand of that state may be the left one of two.
+pub fn is_done(state: State) -> bool
+    ensures done { result ≡ done (named_state state) }
+{
+    match state {
+        State::Ended | State::Faulted => true,
+        State::Held(_) | State::Stalled | State::Finished => false,
+    }
+}
+
+/// Whether a strand of that state may be the right one of two.
+pub fn is_waiting(state: State) -> bool
+    ensures waits { result ≡ waits (named_state state) }
+{
+    match state {
+        State::Stalled | State::Faulted => true,
+        State::Held(_) | State::Ended | State::Finished => false,
+    }
+}
+
+/// Whether a strand laid down so is a run's last.
+pub fn is_last(state: State) -> bool
+    ensures last { result ≡ is_last (named_state state) }
+{
+    match state {
+        State::Finished | State::Faulted => true,
+        _ => false,
+    }
+}
+
+/// The number of the line of a place.
+pub fn find(lines: &[StrandLine], place: &[usize]) -> Option<usize>
+    ensures { MatchOption result (position place.now (shown lines.now) ≡ length lines.now) (λ k. (k ≡ position place.now (shown lines.now)) × (k < length lines.now)) }
+{
+    for (k, line) in lines.iter().enumerate() {
+        if is_same(&line.place, place) {
+            return Some(k);
+        }
+    }
+    None
+}
+
+/// Whether the worker holds no strand.
+pub fn is_free(lines: &[StrandLine], worker: usize) -> bool
+    ensures free { result ≡ is_free (shown lines.now) worker }
+{
+    for line in lines.iter() {
+        if is_held_by(line.state, worker) {
+            return false;
+        }
+    }
+    true
+}
+
+/// The place of the strand that the worker holds.
+pub fn held_place(lines: &[StrandLine], worker: usize) -> Option<&[usize]>
+    ensures { MatchOption result (held_place worker (shown lines.now) ≡ None) (λ place. held_place worker (shown lines.now) ≡ Some place.now) }
+{
+    for line in lines.iter() {
+        if is_held_by(line.state, worker) {
+            return Some(&line.place);
+        }
+    }
+    None
+}
+
+/// Whether a worker holds the strand of that place.
+pub fn is_held_at(lines: &[StrandLine], place: &[usize]) -> bool
+    ensures held { result ≡ is_held_at (shown lines.now) place.now }
+{
+    for line in lines.iter() {
+        if is_same(&line.place, place) {
+            return is_held(line.state);
+        }
+    }
+    false
+}
+
+/// Whether one strand is left.
+pub fn is_alone(lines: &[StrandLine]) -> bool
+    ensures alone { result ≡ is_alone (shown lines.now) }
+{
+    match lines {
+        [_] => true,
+        _ => false,
+    }
+}
+
+/// Whether these two lines are at those places, and in states in which they may be folded.
+fn is_pair(before: &StrandLine, after: &StrandLine, left: &[usize], right: &[usize]) -> bool
+    ensures pair { result ≡ is_pair left.now right.now (line before.now) (line after.now) }
+{
+    is_same(&before.place, left)
+        && is_same(&after.place, right)
+        && is_done(before.state)
+        && is_waiting(after.state)
+}
+
+/// Whether a list begins with two lines at those places that may be folded.
+fn begins_pair(lines: &[StrandLine], left: &[usize], right: &[usize]) -> bool
+    ensures pair { result ≡ begins_pair left.now right.now (shown lines.now) }
+{
+    match lines {
+        [before, after, ..] => is_pair(before, after, left, right),
+        _ => false,
+    }
+}
+
+/// Whether strands of these places are neighbours that may be folded.
+pub fn may_fold(lines: &[StrandLine], left: &[usize], right: &[usize]) -> bool
+    ensures may { result ≡ may_fold (shown lines.now) left.now right.now }
+{
+    for k in 0..lines.len() {
+        if begins_pair(&lines[k..], left, right) {
+            return true;
+        }
+    }
+    false
+}
+
+/// Whether a list begins with lines at those places.
+fn begins_with(lines: &[StrandLine], left: &[usize], right: &[usize]) -> bool
+    ensures next { result ≡ begins_with left.now right.now (shown lines.now) }
+{
+    match lines {
+        [before, after, ..] => is_same(&before.place, left) && is_same(&after.place, right),
+        _ => false,
+    }
+}
+
+/// Whether a strand of the right place stands directly behind one of the left place.
+pub fn are_neighbours(lines: &[StrandLine], left: &[usize], right: &[usize]) -> bool
+    ensures next { result ≡ are_neighbours left.now right.now (shown lines.now) }
+{
+    for k in 0..lines.len() {
+        if begins_with(&lines[k..], left, right) {
+            return true;
+        }
+    }
+    false
+}
+
+/// Whether there is a strand of that place.
+pub fn stands(lines: &[StrandLine], place: &[usize]) -> bool
+    ensures stands { result ≡ stands place.now (shown lines.now) }
+{
+    for line in lines.iter() {
+        if is_same(&line.place, place) {
+            return true;
+        }
+    }
+    false
+}
+
+/// The strand of that place is of that state from then on.
+pub fn set_state(lines: &mut Vec<StrandLine>, place: &[usize], state: State)
+    ensures becomes { shown lines.new.items ≡ becomes (named_state state) (shown lines.old.items) place.now }
+{
+    match find(lines, place) {
+        Some(k) => lines[k].state = state,
+        None => {}
+    }
+}
+
+/// A thief's strand stands behind the victim's.
+pub fn put_behind(
+    lines: &mut Vec<StrandLine>,
+    victim: &[usize],
+    new: Place,
+    thief: usize,
+) -> Result<(), AllocError>
+    ensures splits { OnOk result (shown lines.new.items ≡ splits (shown lines.old.items) victim.now new.items thief) }
+    ensures same { OnErr result (lines.new.items ≡ lines.old.items) }
+{
+    let line = StrandLine {
+        place: new,
+        state: State::Held(thief),
+    };
+    match find(lines, victim) {
+        Some(k) => {
+            if lines.insert(k + 1, line).is_err() {
+                return Err(AllocError);
+            }
+            Ok(())
+        }
+        None => Ok(()),
+    }
+}
+
+/// The strand of that place is no more in the list.
+pub fn take_out(lines: &mut Vec<StrandLine>, place: &[usize])
+    ensures removes { shown lines.new.items ≡ removes (shown lines.old.items) place.now }
+{
+    match find(lines, place) {
+        Some(k) => {
+            lines.remove(k);
+        }
+        None => {}
+    }
+}

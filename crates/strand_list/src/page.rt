@@ -1,0 +1,206 @@
+//! The list of strands with the places that were split off, and the steps that it allows.
+use crate::lines::{
+    are_neighbours, find, is_alone, is_free, is_held_at, is_root, is_unused, may_fold, put_behind,
+    set_state, stands, take_out,
+};
+use crate::rest::{Rest, state_of};
+use numbered_runs::step::{BookStep, Place, State, StrandLine};
+use std::alloc::{AllocError, Global};
+use std::marker::Model;
+
+/// The strands in serial order, and the places that were split off.
+#[derive(Drop)]
+pub struct Page {
+    lines: Vec<StrandLine>,
+    split_off: Vec<Place>,
+}
+
+impl Model for Page {
+    ghost use Rattle.std.specs.Prelude.{reverse};
+    ghost use Rattle.meaning.specs.Strands.{Book};
+    ghost use Rattle.strand_list.specs.Pages.{shown, items_of};
+
+    ghost Value = { Book };
+
+    ghost view = { λ p. record { lines = shown p.lines.items; split_off = reverse (items_of p.split_off.items) } };
+}
+
+impl Page {
+    ghost use Rattle.std.specs.Prelude.{◌≡◌, ◌<◌, ◌&&◌, ◌∷◌, length, MatchOption, IfOk, OnOk, OnErr};
+    ghost use Rattle.meaning.specs.Strands.{Held, Split, Fold, first_book, is_free, is_held_at, may_fold, splits};
+    ghost use Rattle.numbered_runs.specs.Named.{book_step};
+    ghost use Rattle.strand_list.specs.Pages.{shown, position, is_unused, stands, are_neighbours, Apart};
+    ghost use Rattle.strand_list.specs.Laying.{rest_step, may_rest};
+    ghost use Rattle.strand_list.specs.Steps.{Takes, may_split};
+
+    /// The first strand, held by worker 0.
+    pub fn first(alloc: Global) -> Result<Page, AllocError>
+        ensures first { IfOk result (λ p. p ≡ first_book) }
+    {
+        let mut lines = Vec::new(alloc);
+        lines.push(StrandLine {
+            place: Vec::new(alloc),
+            state: State::Held(0),
+        })?;
+        Ok(Page {
+            lines,
+            split_off: Vec::new(alloc),
+        })
+    }
+
+    /// The lines alone.
+    pub fn into_lines(self) -> Vec<StrandLine>
+        ensures lines { shown result.items ≡ self.lines }
+    {
+        self.lines
+    }
+
+    /// The lines, as they stand.
+    pub fn lines(&self) -> &[StrandLine]
+        ensures lines { shown result.now ≡ self.now.lines }
+    {
+        &self.lines
+    }
+
+    /// The number of the line of a place.
+    pub fn find(&self, place: &[usize]) -> Option<usize>
+        ensures { MatchOption result (position place.now self.now.lines ≡ length self.now.lines) (λ k. (k ≡ position place.now self.now.lines) × (k < length self.now.lines)) }
+    {
+        find(&self.lines, place)
+    }
+
+    /// Whether a worker holds the strand of that place.
+    pub fn is_held_at(&self, place: &[usize]) -> bool
+        ensures held { result ≡ is_held_at self.now.lines place.now }
+    {
+        is_held_at(&self.lines, place)
+    }
+
+    /// Whether there is a strand of that place.
+    pub fn stands(&self, place: &[usize]) -> bool
+        ensures stands { result ≡ stands place.now self.now.lines }
+    {
+        stands(&self.lines, place)
+    }
+
+    /// Whether a strand of the right place stands directly behind one of the left place.
+    pub fn are_neighbours(&self, left: &[usize], right: &[usize]) -> bool
+        ensures next { result ≡ are_neighbours left.now right.now self.now.lines }
+    {
+        are_neighbours(&self.lines, left, right)
+    }
+
+    /// Whether the place was never split off.
+    fn is_unused(&self, place: &[usize]) -> bool
+        ensures unused { result ≡ is_unused place.now self.now.split_off }
+    {
+        is_unused(&self.split_off, place)
+    }
+
+    /// Whether a thief may go on with a part of the victim's strand at that place.
+    fn may_split(&self, victim: &[usize], new: &[usize], thief: usize) -> bool
+        ensures may { result ≡ may_split self.now victim.now new.now thief }
+    {
+        is_held_at(&self.lines, victim)
+            && !is_root(new)
+            && self.is_unused(new)
+            && is_free(&self.lines, thief)
+    }
+
+    /// A thief's strand stands behind the victim's, and its place is noted. Memory is reserved before anything changes.
+    fn put(
+        &mut self,
+        alloc: Global,
+        victim: &[usize],
+        new: &[usize],
+        thief: usize,
+    ) -> Result<(), AllocError>
+        ensures lines { OnOk result (self.new.lines ≡ splits self.old.lines victim.now new.now thief) }
+        ensures noted { OnOk result (self.new.split_off ≡ new.now ∷ self.old.split_off) }
+        ensures same { OnErr result (self.new ≡ self.old) }
+    {
+        let place = Vec::from_slice(alloc, new)?;
+        let noted = Vec::from_slice(alloc, new)?;
+        self.split_off.reserve(1)?;
+        put_behind(&mut self.lines, victim, place, thief)?;
+        self.split_off.push_reserved(noted);
+        Ok(())
+    }
+
+    /// A thief goes on with a part of the victim's strand, where that is allowed.
+    fn split(
+        &mut self,
+        alloc: Global,
+        victim: &[usize],
+        new: &[usize],
+        thief: usize,
+    ) -> Result<bool, AllocError>
+        ensures taken { IfOk result (λ t. Takes self.old (Split victim.now new.now thief) t self.new) }
+        ensures same { OnErr result (self.new ≡ self.old) }
+    {
+        if !self.may_split(victim, new, thief) {
+            return Ok(false);
+        }
+        self.put(alloc, victim, new, thief)?;
+        Ok(true)
+    }
+
+    /// Whether the strand of that place may be laid down so.
+    fn may_rest(&self, rest: Rest, place: &[usize]) -> bool
+        ensures may { result ≡ may_rest rest place.now self.now.lines }
+    {
+        let held = is_held_at(&self.lines, place);
+        match rest {
+            Rest::Ended | Rest::Faulted => held,
+            Rest::Stalled => held && !is_root(place),
+            Rest::Finished => held && is_root(place) && is_alone(&self.lines),
+        }
+    }
+
+    /// The strand of that place is laid down so, where that is allowed.
+    fn lay(&mut self, rest: Rest, place: &[usize]) -> bool
+        ensures taken { Takes self.old (rest_step rest place.now) result self.new }
+    {
+        if !self.may_rest(rest, place) {
+            return false;
+        }
+        set_state(&mut self.lines, place, state_of(rest));
+        true
+    }
+
+    /// Whether the worker may fold the strands of these places.
+    pub fn may_fold(&self, left: &[usize], right: &[usize], worker: usize) -> bool
+        ensures may { result ≡ (may_fold self.now.lines left.now right.now && is_free self.now.lines worker) }
+    {
+        may_fold(&self.lines, left, right) && is_free(&self.lines, worker)
+    }
+
+    /// Two neighbours are one strand, which the worker holds, where that is allowed.
+    pub fn fold(&mut self, left: &[usize], right: &[usize], worker: usize) -> bool
+        requires apart { Apart self.old.lines }
+        ensures taken { Takes self.old (Fold left.now right.now worker) result self.new }
+    {
+        if !self.may_fold(left, right, worker) {
+            return false;
+        }
+        take_out(&mut self.lines, right);
+        set_state(&mut self.lines, left, State::Held(worker));
+        true
+    }
+
+    /// A step is taken, where it is allowed.
+    pub fn take(&mut self, alloc: Global, step: &BookStep) -> Result<bool, AllocError>
+        requires apart { Apart self.old.lines }
+        ensures taken { IfOk result (λ t. Takes self.old (book_step step.now) t self.new) }
+        ensures same { OnErr result (self.new ≡ self.old) }
+    {
+        match step {
+            BookStep::Split(victim, new, thief) => self.split(alloc, victim, new, *thief),
+            BookStep::End(place) => Ok(self.lay(Rest::Ended, place)),
+            BookStep::Stall(place) => Ok(self.lay(Rest::Stalled, place)),
+            BookStep::Fault(place) => Ok(self.lay(Rest::Faulted, place)),
+            BookStep::Finish(place) => Ok(self.lay(Rest::Finished, place)),
+            BookStep::Fold(left, right, worker) => Ok(self.fold(left, right, *worker)),
+        }
+    }
+}

@@ -1,6 +1,0 @@
-use Rattle.std.proofs.Common.{◌≡◌, drop}
-use Rattle.sync_fold.specs.Pages.{shown, held_place}
-use Rattle.sync_fold.proofs.lines.held_place.Given as goal
-
-abbrev pub invariant-loop-line : goal.invariant-loop-line
-invariant-loop-line l = held_place l.worker (shown l.lines) ≡ held_place l.worker (shown (drop l.line-index l.lines))

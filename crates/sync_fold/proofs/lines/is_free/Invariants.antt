@@ -1,7 +1,0 @@
-use Rattle.std.proofs.Common.{◌≡◌, drop}
-use Rattle.meaning.specs.Strands.{is_free}
-use Rattle.sync_fold.specs.Pages.{shown}
-use Rattle.sync_fold.proofs.lines.is_free.Given as goal
-
-abbrev pub invariant-loop-line : goal.invariant-loop-line
-invariant-loop-line l = is_free (shown l.lines) l.worker ≡ is_free (shown (drop l.line-index l.lines)) l.worker

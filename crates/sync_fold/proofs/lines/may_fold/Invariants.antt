@@ -1,7 +1,0 @@
-use Rattle.std.proofs.Common.{◌≡◌, drop}
-use Rattle.meaning.specs.Strands.{may_fold}
-use Rattle.sync_fold.specs.Pages.{shown}
-use Rattle.sync_fold.proofs.lines.may_fold.Given as goal
-
-abbrev pub invariant-loop-k : goal.invariant-loop-k
-invariant-loop-k l = may_fold (shown l.lines) l.left l.right ≡ may_fold (shown (drop l.k l.lines)) l.left l.right

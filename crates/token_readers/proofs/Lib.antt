@@ -1,0 +1,3 @@
+pub mod Never
+pub mod Ends
+pub mod Known

@@ -1,0 +1,5 @@
+pub mod Limits
+pub mod Reading
+pub mod Lines
+pub mod Rooms
+pub mod Seen
