@@ -4,8 +4,8 @@ use Rattle.program_tree.specs.Plain.{Tree}
 use Rattle.program_tree.specs.View.{Lined, tree}
 use Rattle.source_tree.specs.Source.{Source}
 use Rattle.token_scanner.specs.Scanning.{longest_text}
-use Rattle.procedure_parser.specs.declared.fault.TextError.{TextError}
-use Rattle.procedure_parser.specs.declared.fault.TextError.TheVariants.{NoMemory, Text}
+use Rattle.token_readers.specs.declared.fault.TextError.{TextError}
+use Rattle.token_readers.specs.declared.fault.TextError.TheVariants.{NoMemory, Text}
 use Rattle.procedure_parser.specs.Correct.{IsSource, IsText, Answers, IsFault}
 use Rattle.procedure_parser.proofs.OneMeaning.{one_tree}
 use Rattle.program_printer.specs.Printing.{printed}

@@ -1,8 +1,8 @@
 -- What a file's normal form comes to on a writer, and why it is not printed.
 use Rattle.std.specs.Prelude.{◌≡◌, ◌⊎◌, ℕ, List, Option, Some, None, string_bytes}
 use Rattle.std.specs.Io.KnownBytes.{Appends, Keeps}
-use Rattle.procedure_parser.specs.declared.fault.TextError.{TextError}
-use Rattle.procedure_parser.specs.declared.fault.TextError.TheVariants as refused
+use Rattle.token_readers.specs.declared.fault.TextError.{TextError}
+use Rattle.token_readers.specs.declared.fault.TextError.TheVariants as refused
 use Rattle.prepared_program.specs.declared.prepare.PrepareError.{PrepareError}
 use Rattle.prepared_program.specs.declared.prepare.PrepareError.TheVariants as prepare
 use Rattle.prepared_program.specs.Preparing.{IsNoProgram}

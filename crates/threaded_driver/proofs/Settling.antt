@@ -5,7 +5,7 @@ use Rattle.view_pool.specs.Stock.{Stock}
 use Rattle.meaning.specs.Strands.{BookStep as NamedStep}
 use Rattle.numbered_runs.specs.declared.step.BookStep.{BookStep}
 use Rattle.numbered_runs.specs.Named.{history}
-use Rattle.sync_fold.specs.Replays.{LeavesRootAlone}
+use Rattle.strand_list.specs.Replays.{LeavesRootAlone}
 use Rattle.worker_seats.specs.Histories.{HasHistory}
 use Rattle.rerun_records.specs.Record.{PlainRecord, settled}
 use Rattle.rerun_records.specs.Commits.{put_records}
