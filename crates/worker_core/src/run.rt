@@ -20,8 +20,8 @@ ghost use Rattle.worker_core.specs.Keeps.{AreSoundFor, IsBeginning, IsStep, IsNo
 ghost use Rattle.worker_core.specs.Cores.{IsFirstCore, CannotStart, is_failure, takes_memory, stepped_on, taken, failed_by, StandsAfter, IsEnd, is_over, PassesWithoutKit};
 
 use crate::strands::Strands;
+use activations::setting::Setting;
 use frames::answer::RunAnswer;
-use frames::setting::Setting;
 use input_tables::Tables;
 use linked_program::checked::Checked;
 use numbered_runs::refusal::{Refusal, StartError};
