@@ -12,8 +12,10 @@ use Rattle.positions.specs.Simulation.{IsSmallStep, KitsFollow}
 use Rattle.positions.proofs.Layered.{layers_kept}
 use Rattle.positions.proofs.Stepping.{small_step_is}
 use Rattle.positions.proofs.Kits.{kits_follow}
-use Rattle.frames.specs.Steps.{IsWhole}
-use Rattle.frames.specs.Paths.{IsPath, IsPathOf, IsAhead, here, on}
+use Rattle.small_steps.specs.Steps.{IsWhole}
+use Rattle.own_statements.specs.Paths.{IsPath, here, on}
+use Rattle.running_ahead.specs.Ahead.{IsAhead}
+use Rattle.frames.specs.Paths.{IsPathOf}
 use Rattle.frames.proofs.Memories.{advanced_same}
 
 module _ (setting : Setting) where

@@ -15,10 +15,10 @@ use Rattle.positions.specs.Strands.{PlainStrand, PlainTask, IsLayered, IsLayered
 use Rattle.positions.specs.Advance.{advanced}
 use Rattle.positions.specs.Moves.{resumed, resumed_by, returned_at, joined_at, joined_after, joined_ended, joined, lowest_alone, FoldsViews}
 use Rattle.positions.proofs.Layered.{layers_kept}
-use Rattle.frames.specs.Joins.{IsDone, HasFault, with_worths}
-use Rattle.frames.specs.Steps.{IsWhole, IsValued, revalued, revalued_first}
-use Rattle.frames.proofs.Keeping.{kinds_kept}
-use Rattle.frames.proofs.Refusals.{top_valued}
+use Rattle.strand_moves.specs.Joins.{IsDone, HasFault, with_worths}
+use Rattle.small_steps.specs.Steps.{IsWhole, IsValued, revalued, revalued_first}
+use Rattle.small_steps.proofs.Keeping.{kinds_kept}
+use Rattle.small_steps.proofs.Refusals.{top_valued}
 
 abbrev pub Counts : PlainStrand → Type 0
 Counts s = length s.tally.opened ≡ length s.lower
@@ -152,18 +152,6 @@ begun_whole s e f k = record {
   kinds = subst (λ ls. All (λ (l : PlainLayer). l.kinds ≡ s.layer.kinds) ls) (sym e) (All-nil (λ (l : PlainLayer). l.kinds ≡ s.layer.kinds));
   made = subst (λ rs. HaveValues s.layer.kinds rs) (sym k) (All-nil (λ (r : PlainRecord). AreValuesFrom 0 s.layer.kinds r.contribution));
 }
-
--- ---- a right neighbour that isn't broken
-
-pub folds : (ph right : Phase) (v : ℤ) → ph ≡ Leaving v → ((f : Fault) → right ≡ Broken f → ⊥) → FoldsViews ph right
-folds ph right v e n = subst (λ p. FoldsViews p right) (sym e) (folds_by right n) where
-  folds_by : (right : Phase) → ((f : Fault) → right ≡ Broken f → ⊥) → FoldsViews (Leaving v) right
-  folds_by (Broken f) n = n f refl
-  folds_by Entering n = tt
-  folds_by Running n = tt
-  folds_by AtSpawn n = tt
-  folds_by (Returning w) n = tt
-  folds_by (Leaving w) n = tt
 
 pub worths_whole : (s t : PlainStrand) → t ≡ with_worths t.layer.worths s → IsWhole s → IsWhole t
 worths_whole s t e h = valued_whole s t (top_valued s t e) h

@@ -1,12 +1,2 @@
-pub mod Given
-pub mod Ends
-pub mod Ready
-pub mod Updates
-pub mod Joins
-pub mod Steps
 pub mod Answers
-pub mod Recordings
-pub mod Identities
-pub mod Folds
-pub mod Waiting
 pub mod Paths

@@ -1,29 +1,23 @@
 // One small step of a strand, and the points at which there is none.
-ghost use Rattle.std.specs.Prelude.{◌≡◌, ◌+◌, ◌<◌, ◌≤◌, ◌^◌, suc, length, List, All, OnErr, OnOk, OnSome, IfOk, option_copied};
+ghost use Rattle.std.specs.Prelude.{◌≡◌, ◌+◌, ◌≤◌, suc, length, List, All, OnErr, OnOk, IfOk};
 ghost use Rattle.monoid_laws.specs.declared.Kind.{Kind};
 ghost use Rattle.monoid_laws.specs.Kinds.{IsMonoid};
 ghost use Rattle.meaning.specs.Records.{Kept};
 ghost use Rattle.rerun_records.specs.Named.{AreKept, HaveValues};
 ghost use Rattle.rerun_records.specs.Doubted.{IsInStep};
 ghost use Rattle.positions.specs.Setting.{HasItsTables, setting_with};
-ghost use Rattle.positions.specs.Strands.{IsLayered};
 ghost use Rattle.positions.specs.Simulation.{IsPause, IsStepTaken};
-ghost use Rattle.positions.specs.Advance.{performed, gone, worked, left_to, advanced, pause_of, next_statement, is_sync};
-ghost use Rattle.frames.specs.Given.{given, lent};
-ghost use Rattle.frames.specs.Steps.{GivesNone, HoldsBy, IsStepOf, IsSupplied, IsValued, KeepsKits};
+ghost use Rattle.positions.specs.Advance.{advanced, pause_of};
+ghost use Rattle.activations.specs.Given.{given};
+ghost use Rattle.small_steps.specs.Steps.{GivesNone, HoldsBy, IsStepOf, IsValued};
 
-use crate::code::instruction;
-use crate::machine::Machine;
-use crate::setting::Setting;
 use crate::strand::Strand;
+use activations::setting::Setting;
 use input_tables::Tables;
 use linked_program::checked::Checked;
-use linked_program::code::{Instruction, Operation};
-use positions::phase::{Paused, Phase};
-use positions::work::{Position, Work};
+use positions::phase::Paused;
 use rerun_records::records::Records;
 use std::alloc::{AllocError, Global};
-use std::mem;
 use view_pool::{Kit, KitSource, View};
 
 impl<V: View> Strand<V> {
@@ -82,217 +76,5 @@ impl<V: View> Strand<V> {
         ensures pause { result ≡ pause_of program.now.codes self.now }
     {
         self.machine.pause(program)
-    }
-}
-
-impl<V: View> Machine<V> {
-    /// The point at which the strand is, or Working where it can go on.
-    fn pause(&self, program: &Checked) -> Paused
-        ensures pause { result ≡ pause_of program.now.codes self.now }
-    {
-        match self.phase {
-            Phase::Entering => Paused::Working,
-            Phase::Running => {
-                if self.is_entry() && self.is_at_sync(program) {
-                    Paused::AtSync
-                } else {
-                    Paused::Working
-                }
-            }
-            Phase::AtSpawn => Paused::AtSpawn,
-            Phase::Returning(_) => {
-                if self.is_entry() {
-                    Paused::AtSync
-                } else {
-                    Paused::Working
-                }
-            }
-            Phase::Leaving(_) => {
-                if !self.below.is_empty() {
-                    Paused::Working
-                } else if self.path.is_empty() {
-                    Paused::Finished
-                } else {
-                    Paused::Returned
-                }
-            }
-            Phase::Broken(_) => Paused::Faulted,
-        }
-    }
-
-    /// The topmost instance's next statement; none where a block ends, or in a loop.
-    pub(crate) fn next_statement<'a>(&self, program: &'a Checked) -> Option<&'a Instruction>
-        ensures found { option_copied result ≡ next_statement program.now.codes self.now }
-    {
-        match self.top.work() {
-            Work::Block(place) => instruction(
-                program,
-                self.top.procedure(),
-                self.top.depth(),
-                place,
-            ),
-            _ => None,
-        }
-    }
-
-    /// Whether the topmost instance's next statement is a sync.
-    fn is_at_sync(&self, program: &Checked) -> bool
-        ensures sync { result ≡ is_sync (next_statement program.now.codes self.now) }
-    {
-        match self.next_statement(program) {
-            Some(instruction) => match &instruction.operation {
-                Operation::Sync => true,
-                _ => false,
-            },
-            None => false,
-        }
-    }
-
-    /// What the phase says.
-    #[inline(always)]
-    fn go_on<K: KitSource<Kit<V>>>(
-        &mut self,
-        alloc: Global,
-        setting: Setting<'_>,
-        kits: &mut K,
-    ) -> Result<(), AllocError>
-        requires layered { IsLayered self.old }
-        requires supplied { IsSupplied K.fits K.gives K.free K.total setting.program.now.kinds kits.old setting.records.now self.old.layer.kinds self.old.lower }
-        ensures advanced { OnOk result (HoldsBy (K.lacks kits.old) (GivesNone K.gives kits.old)
-            (λ kit. self.new ≡ advanced (lent setting.entry) kit self.old)) }
-        ensures made { HaveValues self.old.layer.kinds self.old.tally.made → HaveValues self.old.layer.kinds self.new.tally.made }
-        ensures refused { OnErr result (IsValued self.old self.new) }
-        ensures kits { KeepsKits K.fits K.gives K.free K.total setting.entry.program.now.kinds kits.old kits.new self.old.lower self.new.lower }
-    {
-        match self.phase {
-            Phase::Entering => self.start(alloc, setting, kits),
-            Phase::Running => self.work(alloc, setting, kits),
-            Phase::Returning(value) => self.last_sync(alloc, setting, value, kits),
-            Phase::Leaving(value) => {
-                self.leave(value);
-                Ok(())
-            }
-            Phase::AtSpawn | Phase::Broken(_) => Ok(()),
-        }
-    }
-
-    /// What the topmost instance has left.
-    fn work<K: KitSource<Kit<V>>>(
-        &mut self,
-        alloc: Global,
-        setting: Setting<'_>,
-        kits: &mut K,
-    ) -> Result<(), AllocError>
-        requires running { self.old.phase ≡ Phase.Running }
-        requires supplied { IsSupplied K.fits K.gives K.free K.total setting.program.now.kinds kits.old setting.records.now self.old.layer.kinds self.old.lower }
-        ensures worked { OnOk result (HoldsBy (K.lacks kits.old) (GivesNone K.gives kits.old)
-            (λ kit. self.new ≡ worked (lent setting.entry) kit self.old.top.work self.old)) }
-        ensures refused { OnErr result (IsValued self.old self.new) }
-        ensures kits { KeepsKits K.fits K.gives K.free K.total setting.entry.program.now.kinds kits.old kits.new self.old.lower self.new.lower }
-    {
-        match self.top.work() {
-            Work::Block(place) => self.go(alloc, setting, place, kits),
-            Work::Over => {
-                self.phase = Phase::Returning(0);
-                Ok(())
-            }
-            Work::Halves(site, halvings, share) => self.halve(
-                alloc,
-                setting.program,
-                site,
-                halvings,
-                share,
-            ),
-            Work::Second(site, halvings, share) => self.second_half(alloc, site, halvings, share),
-            Work::Turns(site, share) => self.turn(alloc, setting, site, share, kits),
-        }
-    }
-
-    /// The statement at that place, or the block's end.
-    fn go<K: KitSource<Kit<V>>>(
-        &mut self,
-        alloc: Global,
-        setting: Setting<'_>,
-        place: Position,
-        kits: &mut K,
-    ) -> Result<(), AllocError>
-        requires running { self.old.phase ≡ Phase.Running }
-        requires supplied { IsSupplied K.fits K.gives K.free K.total setting.program.now.kinds kits.old setting.records.now self.old.layer.kinds self.old.lower }
-        ensures gone { OnOk result (HoldsBy (K.lacks kits.old) (GivesNone K.gives kits.old)
-            (λ kit. self.new ≡ gone (lent setting.entry) kit place self.old)) }
-        ensures refused { OnErr result (IsValued self.old self.new) }
-        ensures kits { KeepsKits K.fits K.gives K.free K.total setting.entry.program.now.kinds kits.old kits.new self.old.lower self.new.lower }
-    {
-        match instruction(
-            setting.program,
-            self.top.procedure(),
-            self.top.depth(),
-            place,
-        ) {
-            None => {
-                self.top.go_outside();
-                Ok(())
-            }
-            Some(instruction) => self.perform(alloc, setting, place, instruction, kits),
-        }
-    }
-
-    /// One statement of the topmost instance.
-    fn perform<K: KitSource<Kit<V>>>(
-        &mut self,
-        alloc: Global,
-        setting: Setting<'_>,
-        place: Position,
-        instruction: &Instruction,
-        kits: &mut K,
-    ) -> Result<(), AllocError>
-        requires room { place.index + 1 < 2 ^ 64 }
-        requires running { self.old.phase ≡ Phase.Running }
-        requires supplied { IsSupplied K.fits K.gives K.free K.total setting.program.now.kinds kits.old setting.records.now self.old.layer.kinds self.old.lower }
-        ensures performed { OnOk result (HoldsBy (K.lacks kits.old) (GivesNone K.gives kits.old)
-            (λ kit. self.new ≡ performed (lent setting.entry) kit place instruction.now.number instruction.now.operation self.old)) }
-        ensures refused { OnErr result (IsValued self.old self.new) }
-        ensures kits { KeepsKits K.fits K.gives K.free K.total setting.entry.program.now.kinds kits.old kits.new self.old.lower self.new.lower }
-    {
-        let number = instruction.number;
-        match &instruction.operation {
-            Operation::Bind(name, value) => self.bind(setting.tables, number, place, *name, value),
-            Operation::Enter(into, way, callee, arguments) => {
-                let arguments = arguments.as_slice();
-                self.enter(
-                    alloc, setting, number, place, *way, *into, *callee, arguments, kits,
-                )
-            }
-            Operation::Read(name, reducer) => self.read(place, *name, *reducer),
-            Operation::Sync => {
-                self.sync(place);
-                Ok(())
-            }
-            Operation::Update(reducer, values) => {
-                let values = values.as_slice();
-                self.update(alloc, setting, number, place, *reducer, values)
-            }
-            Operation::If(condition, first, second) => {
-                self.choose(setting.tables, number, place, condition, *first, *second)
-            }
-            Operation::Loop(_, low, high, _, _, _) => {
-                self.repeat(alloc, setting.tables, number, place, low, high)
-            }
-            Operation::Return(value) => self.give(setting.tables, number, value),
-        }
-    }
-
-    /// The topmost instance's value goes to the one below it, where there is one.
-    pub(crate) fn leave(&mut self, value: i64)
-        requires leaving { self.old.phase ≡ Phase.Leaving value }
-        ensures left { self.new ≡ left_to self.old.below value self.old }
-    {
-        if let Some(mut parent) = self.below.pop() {
-            parent.receive(value);
-            let over = mem::replace(&mut self.top, parent);
-            self.spares.keep(over);
-            let _ = self.path.pop();
-            self.phase = Phase::Running;
-        }
     }
 }

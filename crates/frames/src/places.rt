@@ -1,43 +1,14 @@
 // The names by which a strand is known among the strands of a run.
 ghost use Rattle.std.specs.Prelude.{◌≡◌, ◌<◌, IfOk, length};
 ghost use Rattle.meaning.specs.SmallStep.{same_name};
-ghost use Rattle.meaning.specs.Trail.{child_of};
 ghost use Rattle.positions.specs.Simulation.{place_of};
 
-use crate::machine::Machine;
 use crate::strand::Strand;
+use activations::names::is_child;
 use positions::phase::Phase;
 use positions::start::Start;
 use std::alloc::{AllocError, Global};
 use view_pool::View;
-
-/// Whether two names are the same.
-#[tactic(auto, using(crate::proofs::Names::pointwise_same))]
-fn is_same(left: &[usize], right: &[usize]) -> bool
-    ensures same { result ≡ same_name left.now right.now }
-{
-    left == right
-}
-
-/// Whether a name is that of the child of that number of the instance of that name.
-#[tactic(auto, using(crate::proofs::Names::no_child, crate::proofs::Names::child_is))]
-pub(crate) fn is_child(name: &[usize], parent: &[usize], child: usize) -> bool
-    ensures child { result ≡ same_name (child_of parent.now child) name.now }
-{
-    match name.split_last() {
-        None => false,
-        Some((last, front)) => child == *last && is_same(parent, front),
-    }
-}
-
-impl<V: View> Machine<V> {
-    /// What the type keeps: at a spawn an instance waits below the child.
-    fn ready(&self)
-        ensures parent { self.now.phase ≡ Phase.AtSpawn → 0 < length self.now.below }
-    {
-        let _ = &self.phase;
-    }
-}
 
 impl<V: View> Strand<V> {
     /// What the type keeps: at a spawn an instance waits below the child.

@@ -3,8 +3,8 @@ ghost use Rattle.std.specs.Prelude.{◌≡◌, All};
 ghost use Rattle.positions.specs.Strands.{IsLayered};
 ghost use Rattle.rerun_records.specs.Named.{HaveValues};
 
-use crate::machine::Machine;
 use positions::phase::Phase;
+use small_steps::machine::Machine;
 use std::marker::Model;
 use view_pool::View;
 
@@ -17,7 +17,7 @@ pub struct Strand<V: View = Box<dyn View>> {
 
 impl<V: View> Model for Strand<V> {
     ghost use Rattle.positions.specs.Strands.{PlainStrand};
-    ghost use Rattle.frames.specs.Steps.{IsWhole};
+    ghost use Rattle.small_steps.specs.Steps.{IsWhole};
 
     ghost Value = { PlainStrand };
 

@@ -16,7 +16,7 @@ use Rattle.positions.specs.Strands.{PlainStrand}
 use Rattle.positions.specs.Moves.{lowest_alone}
 use Rattle.positions.specs.Simulation.{place_of}
 use Rattle.positions.specs.Stands.{IsStart, StandsAt, named_fault}
-use Rattle.frames.specs.Joins.{HasFault}
+use Rattle.strand_moves.specs.Joins.{HasFault}
 use Rattle.right_strands.specs.Remembering.{recalling}
 use Rattle.right_strands.specs.Rightness.{sight, lookup, IsSound, IsRightBy, IsHeld}
 

@@ -37,7 +37,7 @@ use Rattle.positions.specs.Simulation.{place_of, IsNotAtSpawn}
 use Rattle.positions.specs.Stands.{AreNotes, AreParents, StandsAt, StandsFor, IsStart, IsAt, named_fault}
 use Rattle.positions.proofs.Joins.{joined_is}
 use Rattle.positions.proofs.Starts.{entry_is}
-use Rattle.frames.specs.Joins.{with_worths, IsDone}
+use Rattle.strand_moves.specs.Joins.{with_worths, IsDone}
 use Rattle.right_strands.specs.Remembering.{Remembers, recalling}
 use Rattle.right_strands.specs.Rightness.{sight, lookup, IsSound, IsRightBy, IsHeld}
 use Rattle.right_strands.specs.Pairs.{StopsBroken, IsPair, IsPairFrom}

@@ -8,7 +8,7 @@ use Rattle.positions.specs.declared.phase.Paused.TheVariants as paused
 use Rattle.positions.specs.Activations.{PlainActivation}
 use Rattle.positions.specs.Strands.{PlainStrand, is_entry}
 use Rattle.positions.specs.Advance.{pause_of, pause_at, sync_pause, leaving_pause, is_sync, next_statement}
-use Rattle.frames.specs.Joins.{HasFault}
+use Rattle.strand_moves.specs.Joins.{HasFault}
 
 -- ---- main is over
 

@@ -8,7 +8,7 @@ use Rattle.rerun_records.specs.Named.{AreKept, AreRecords}
 use Rattle.positions.specs.Setting.{Setting, setting_with}
 use Rattle.positions.specs.Advance.{advanced}
 use Rattle.positions.specs.Strands.{PlainStrand}
-use Rattle.frames.specs.Given.{given}
+use Rattle.activations.specs.Given.{given}
 use Rattle.frames.proofs.Memories.{advanced_same}
 use Rattle.right_strands.specs.Picked.{IsSet}
 use Rattle.right_strands.specs.Remembering.{Remembers, recalling}

@@ -18,9 +18,9 @@ use Rattle.positions.specs.Strands.{PlainStrand}
 use Rattle.positions.specs.Advance.{advanced, advanced_at}
 use Rattle.positions.specs.Moves.{first_strand}
 use Rattle.positions.specs.Simulation.{IsSmallStep, IsFirst, small_step, tally_after}
-use Rattle.frames.specs.Steps.{HoldsBy, IsStepOf}
+use Rattle.small_steps.specs.Steps.{HoldsBy, IsStepOf}
 use Rattle.frames.specs.Paths.{IsPathOf, here, on}
-use Rattle.frames.specs.Given.{given}
+use Rattle.activations.specs.Given.{given}
 use Rattle.positions.specs.Stands.{IsStart}
 use Rattle.right_strands.specs.Picked.{IsSet}
 use Rattle.right_strands.specs.Remembering.{Remembers, recalling}

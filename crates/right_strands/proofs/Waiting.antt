@@ -22,7 +22,7 @@ use Rattle.positions.specs.Setting.{Setting}
 use Rattle.positions.specs.Advance.{pause_of}
 use Rattle.positions.specs.Strands.{PlainStrand, shorter}
 use Rattle.positions.specs.Stands.{IsStart, AreParents, IsAt, StandsAt, frame_of, slots_by}
-use Rattle.frames.specs.Waiting.{leaves_before, ends_after, slots_that_wait, still_waits, none_still_waits, none_waits_in, none_waits_below, leaves_none}
+use Rattle.activations.specs.Waiting.{leaves_before, ends_after, slots_that_wait, still_waits, none_still_waits, none_waits_in, none_waits_below, leaves_none}
 use Rattle.right_strands.specs.Waiting.{DecidesWaiting}
 use Rattle.right_strands.proofs.Points.{AtSync, at_statement, at_end, sync_is}
 

@@ -11,8 +11,8 @@ use Rattle.positions.specs.Setting.{Setting}
 use Rattle.positions.specs.Advance.{pause_of}
 use Rattle.positions.specs.Simulation.{place_of}
 use Rattle.positions.specs.Strands.{PlainStrand}
-use Rattle.frames.specs.Joins.{with_worths}
-use Rattle.frames.specs.Waiting.{leaves_none}
+use Rattle.strand_moves.specs.Joins.{with_worths}
+use Rattle.activations.specs.Waiting.{leaves_none}
 use Rattle.right_strands.specs.Remembering.{Remembers, recalling}
 use Rattle.right_strands.specs.Rightness.{IsRightBy}
 use Rattle.strand_list.specs.declared.rest.Rest.{Rest}

@@ -3,7 +3,7 @@ ghost use Rattle.std.specs.Prelude.{◌≡◌, ℤ};
 ghost use Rattle.positions.specs.Setting.{Setting};
 ghost use Rattle.positions.specs.Strands.{PlainStrand};
 ghost use Rattle.positions.specs.Advance.{pause_of};
-ghost use Rattle.frames.specs.Waiting.{leaves_none};
+ghost use Rattle.activations.specs.Waiting.{leaves_none};
 ghost use Rattle.right_strands.specs.Waiting.{DecidesWaiting};
 
 use positions::phase::{Paused, Phase};

@@ -5,10 +5,10 @@ ghost use Rattle.meaning.specs.SmallStep.{same_name};
 ghost use Rattle.positions.specs.Advance.{advanced, pause_of};
 ghost use Rattle.positions.specs.Moves.{inlined, detached, attached, resumed, stolen, lowest_alone, at_update};
 ghost use Rattle.positions.specs.Simulation.{place_of};
-ghost use Rattle.frames.specs.Joins.{HasFault};
-ghost use Rattle.frames.specs.Paths.{IsPath};
-ghost use Rattle.frames.specs.Steps.{GivesNone, HoldsBy};
-ghost use Rattle.frames.specs.Waiting.{leaves_none};
+ghost use Rattle.strand_moves.specs.Joins.{HasFault};
+ghost use Rattle.own_statements.specs.Paths.{IsPath};
+ghost use Rattle.small_steps.specs.Steps.{GivesNone, HoldsBy};
+ghost use Rattle.activations.specs.Waiting.{leaves_none};
 ghost use Rattle.right_strands.specs.Rightness.{FitsHere, IsRightStrand, WasDetached};
 
 use crate::run::{Run, Scene};

@@ -3,9 +3,9 @@ ghost use Rattle.std.specs.Prelude.{◌≡◌};
 ghost use Rattle.right_strands.specs.Rightness.{IsRightTask};
 
 use crate::run::Run;
-use frames::task::Task;
 use positions::start::Start;
 use std::marker::{Model, PhantomData};
+use strand_moves::task::Task;
 
 /// A continuation that is right for the run J, and where the strand that pushed it began.
 #[derive(Drop)]

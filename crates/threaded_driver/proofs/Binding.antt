@@ -14,7 +14,7 @@ use Rattle.positions.specs.Tallies.{PlainTally}
 use Rattle.positions.specs.Strands.{PlainStrand, shorter}
 use Rattle.positions.specs.Advance.{advanced, pause_of, sync_pause}
 use Rattle.positions.specs.Moves.{detached, attached, resumed, resumed_by, returned_at}
-use Rattle.frames.specs.Steps.{HoldsBy}
+use Rattle.small_steps.specs.Steps.{HoldsBy}
 use Rattle.right_strands.specs.Remembering.{Remembers}
 use Rattle.right_strands.specs.Rightness.{Pushed, FitsHere, IsRightTask}
 use Rattle.stealing_deques.specs.declared.entry.Spot.{Spot}

@@ -29,7 +29,7 @@ use Rattle.positions.specs.Code.{instruction_inside, PlainLoop, loop_at}
 use Rattle.positions.specs.Strands.{PlainStrand, is_entry}
 use Rattle.positions.specs.Advance.{with_top, noted, answered, evaluated, recalled, answer_for, started_as, started_by, pushed, child_of, with_arguments, entered, nested, nested_memo, called_as, binding, if_named, combining, choosing, looping, giving, left_of, right_of, split, second_half, turn_slots, rest_of, turn_by, left_to, closed, owns_top, synced, performed, gone_by, worked, advanced_at, advanced}
 use Rattle.stealing_deques.specs.declared.entry.Spot.{Spot}
-use Rattle.frames.specs.Paths.{IsPath, here, on}
+use Rattle.own_statements.specs.Paths.{IsPath, here, on}
 use Rattle.stealing_deques.specs.Order.{spot}
 use Rattle.worker_seats.specs.Spots.{numbers_of, lowest_name, spot_of}
 use Rattle.threaded_driver.proofs.Names.{under, above}

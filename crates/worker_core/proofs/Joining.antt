@@ -8,7 +8,7 @@ use Rattle.positions.specs.declared.phase.Phase.TheVariants as phase
 use Rattle.positions.specs.Layers.{PlainLayer}
 use Rattle.positions.specs.Strands.{PlainStrand}
 use Rattle.positions.specs.Moves.{joined_at, joined_after}
-use Rattle.frames.specs.Joins.{IsDone}
+use Rattle.strand_moves.specs.Joins.{IsDone}
 use Rattle.stepped_runs.specs.Pieces.{PlainPiece, may_join_at, may_fold, folded}
 use Rattle.stepped_runs.specs.Stands.{valued}
 use Rattle.stepped_runs.specs.Layered.{HasOneLayer, HasOneLayerAs}

@@ -5,7 +5,7 @@ use Rattle.linked_program.specs.Checked.{PlainChecked}
 use Rattle.input_tables.specs.Edited.{Edited}
 use Rattle.rerun_records.specs.Record.{PlainRecord}
 use Rattle.positions.specs.Advance.{pause_of}
-use Rattle.frames.specs.Given.{given}
+use Rattle.activations.specs.Given.{given}
 use Rattle.stepped_runs.specs.Pieces.{PlainPiece, place_of, stalled}
 use Rattle.stepped_runs.specs.Runs.{PlainRun, changed}
 use Rattle.numbered_runs.specs.declared.step.State.{State}

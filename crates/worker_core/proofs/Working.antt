@@ -9,7 +9,7 @@ use Rattle.positions.specs.Setting.{Setting}
 use Rattle.positions.specs.declared.phase.Paused.TheVariants as paused
 use Rattle.positions.specs.Strands.{PlainStrand}
 use Rattle.positions.specs.Advance.{advanced, pause_of}
-use Rattle.frames.specs.Steps.{HoldsBy}
+use Rattle.small_steps.specs.Steps.{HoldsBy}
 use Rattle.stepped_runs.specs.Pieces.{PlainPiece, alone, worked_at, worked_to, worked}
 
 -- how a step is done with those free kits

@@ -6,7 +6,7 @@ use Rattle.meaning.specs.Strands.{State, Finished, Faulted}
 use Rattle.input_tables.specs.Edited.{Edited}
 use Rattle.linked_program.specs.Checked.{PlainChecked}
 use Rattle.rerun_records.specs.Record.{PlainRecord}
-use Rattle.frames.specs.Given.{given}
+use Rattle.activations.specs.Given.{given}
 use Rattle.positions.specs.Setting.{Setting}
 use Rattle.positions.specs.Layers.{lowest}
 use Rattle.frames.specs.Answers.{Ending, underway, ending_of, IsAnswer}

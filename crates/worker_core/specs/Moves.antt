@@ -9,8 +9,8 @@ use Rattle.positions.specs.declared.phase.Phase.{Phase}
 use Rattle.positions.specs.declared.phase.Paused.{Paused}
 use Rattle.positions.specs.declared.phase.Paused.TheVariants as paused
 use Rattle.positions.specs.Strands.{PlainTask}
-use Rattle.frames.specs.Joins.{HasFault}
-use Rattle.frames.specs.Steps.{IsValued}
+use Rattle.strand_moves.specs.Joins.{HasFault}
+use Rattle.small_steps.specs.Steps.{IsValued}
 use Rattle.stepped_runs.specs.Pieces.{PlainPiece, Change, worked, pushed, inlined, popped}
 use Rattle.numbered_runs.specs.declared.refusal.Refusal.{Refusal}
 use Rattle.numbered_runs.specs.declared.refusal.Refusal.TheVariants.{NoMemory}

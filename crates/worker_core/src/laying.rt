@@ -3,7 +3,7 @@ ghost use Rattle.std.specs.Prelude.{◌≡◌, ◌+◌, ◌≤◌, List, All, sl
 ghost use Rattle.monoid_laws.specs.declared.Kind.{Kind};
 ghost use Rattle.rerun_records.specs.Record.{PlainRecord};
 ghost use Rattle.input_tables.specs.Edited.{Edited};
-ghost use Rattle.frames.specs.Given.{given};
+ghost use Rattle.activations.specs.Given.{given};
 ghost use Rattle.positions.specs.Advance.{pause_of};
 ghost use Rattle.numbered_runs.specs.Named.{named_state, book_step};
 ghost use Rattle.stepped_runs.specs.Pieces.{PlainPiece, stalled};

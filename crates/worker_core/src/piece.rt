@@ -2,16 +2,15 @@
 ghost use Rattle.std.specs.Prelude.{◌≡◌, ◌+◌, ◌≤◌, ℕ, List, All, IfErr, IfOk, OnErr, OnOk, [], true, false, length};
 ghost use Rattle.monoid_laws.specs.Kinds.{IsMonoid};
 ghost use Rattle.rerun_records.specs.Named.{HaveValues};
-ghost use Rattle.frames.specs.Given.{lent};
+ghost use Rattle.activations.specs.Given.{lent};
 ghost use Rattle.numbered_runs.specs.Named.{named_state, line};
 ghost use Rattle.stepped_runs.specs.Runs.{line_of};
 ghost use Rattle.stepped_runs.specs.Pieces.{worked, pushed, inlined, popped, alone, place_of, is_held_by};
 ghost use Rattle.worker_core.specs.Moves.{moved, takes_memory, RefusedAs, LeavesPiece, LeavesPool};
 ghost use Rattle.worker_core.specs.Strands.{layers_of};
 
-use frames::setting::Setting;
+use activations::setting::Setting;
 use frames::strand::Strand;
-use frames::task::Task;
 use numbered_runs::refusal::Refusal;
 use numbered_runs::step::{Place, State, StrandLine};
 use positions::phase::{Paused, Phase};
@@ -19,6 +18,7 @@ use std::alloc::{AllocError, Global};
 use std::collections::VecDeque;
 use std::marker::Model;
 use strand_list::lines::is_held_by;
+use strand_moves::task::Task;
 use view_pool::{Kit, Pool, View};
 
 /// What a worker does with the strand that it holds.

@@ -22,8 +22,8 @@ ghost use Rattle.worker_core.specs.Cores.{IsFirstCore, is_failure, takes_memory,
 ghost use Rattle.run_terms.specs.Starts.{CannotStart};
 
 use crate::strands::Strands;
+use activations::setting::Setting;
 use frames::answer::RunAnswer;
-use frames::setting::Setting;
 use input_tables::Tables;
 use linked_program::checked::Checked;
 use numbered_runs::refusal::{Refusal, StartError};

@@ -3,7 +3,7 @@ ghost use Rattle.std.specs.Prelude.{◌≡◌, true, ℕ, List, suc, ◌+◌, �
 ghost use Rattle.meaning.specs.Strands.{Split};
 ghost use Rattle.rerun_records.specs.Record.{PlainRecord};
 ghost use Rattle.input_tables.specs.Edited.{Edited};
-ghost use Rattle.frames.specs.Given.{given};
+ghost use Rattle.activations.specs.Given.{given};
 ghost use Rattle.stepped_runs.specs.Pieces.{place_of as begins_at, stolen_of, stolen_from};
 ghost use Rattle.stepped_runs.specs.Runs.{changed, is_idle, if_idle};
 ghost use Rattle.worker_core.specs.Moves.{IsFit, RefusedAs, has_tasks};
@@ -12,13 +12,13 @@ ghost use Rattle.worker_core.specs.Strands.{run_of, kits_in, AreFit, MayRob, IsR
 use crate::piece::Piece;
 use crate::strands::{Strands, held_at};
 use frames::strand::Strand;
-use frames::task::Task;
 use linked_program::checked::Checked;
 use numbered_runs::refusal::Refusal;
 use numbered_runs::step::{BookStep, Place};
 use std::alloc::{AllocError, Global};
 use strand_list::kits::give_back;
 use strand_list::waiting::{has_some, take_oldest};
+use strand_moves::task::Task;
 use view_pool::{Kit, View};
 
 /// A copy of the name behind which a continuation goes on.

@@ -2,7 +2,7 @@
 ghost use Rattle.std.specs.Prelude.{◌≡◌, All, IfErr, OnOk, Ok};
 ghost use Rattle.monoid_laws.specs.Kinds.{IsMonoid};
 ghost use Rattle.rerun_records.specs.Named.{HaveValues};
-ghost use Rattle.frames.specs.Given.{lent};
+ghost use Rattle.activations.specs.Given.{lent};
 ghost use Rattle.numbered_runs.specs.Named.{run_step};
 ghost use Rattle.stepped_runs.specs.Runs.{stepped};
 ghost use Rattle.stepped_runs.specs.Layered.{HasOneLayer};
@@ -12,7 +12,7 @@ ghost use Rattle.worker_core.specs.Cores.{takes_memory, StandsAfter};
 
 use crate::piece::Move;
 use crate::strands::Strands;
-use frames::setting::Setting;
+use activations::setting::Setting;
 use numbered_runs::refusal::Refusal;
 use numbered_runs::step::Step;
 use std::alloc::Global;

@@ -2,7 +2,7 @@
 ghost use Rattle.std.specs.Prelude.{◌≡◌, All, IfErr, IfOk, OnErr, OnOk, Ok, [], length, map};
 ghost use Rattle.monoid_laws.specs.Kinds.{IsMonoid};
 ghost use Rattle.rerun_records.specs.Named.{HaveValues};
-ghost use Rattle.frames.specs.Given.{lent};
+ghost use Rattle.activations.specs.Given.{lent};
 ghost use Rattle.numbered_runs.specs.Named.{line};
 ghost use Rattle.stepped_runs.specs.Runs.{changed, first_run, line_of};
 ghost use Rattle.run_terms.specs.Starts.{CannotStart};
@@ -11,7 +11,7 @@ ghost use Rattle.worker_core.specs.Folds.{LeavesMoved};
 ghost use Rattle.worker_core.specs.Strands.{held_at, behind_from, run_of, kits_in, AreFit};
 
 use crate::piece::{Move, Piece};
-use frames::setting::Setting;
+use activations::setting::Setting;
 use frames::strand::Strand;
 use linked_program::checked::Checked;
 use numbered_runs::refusal::{Refusal, StartError};

@@ -4,7 +4,6 @@ ghost use Rattle.monoid_laws.specs.Kinds.{IsMonoid};
 
 use super::answers::SALES;
 use frames::strand::Strand;
-use frames::task::Task;
 use input_tables::Tables;
 use linked_program::checked::Checked;
 use monoid_laws::Kind;
@@ -15,6 +14,7 @@ use rules_theory::checked_programs_keep_the_rules;
 use spawn_checker::check;
 use std::alloc::{AllocError, Global};
 use std::process::Abort;
+use strand_moves::task::Task;
 use view_pool::{Kit, PlainView, Pool};
 
 /// More small steps than any of the programs takes.

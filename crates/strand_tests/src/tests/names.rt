@@ -4,12 +4,12 @@ ghost use Rattle.std.specs.Prelude.{◌≡◌, []};
 use super::driving::{begin, own_kit, parent, program_of, small_steps, to_pause};
 use frames::answer::RunAnswer;
 use frames::strand::Strand;
-use frames::task::Task;
 use input_tables::Tables;
 use linked_program::checked::Checked;
 use positions::phase::Phase;
 use std::alloc::Global;
 use std::process::Abort;
+use strand_moves::task::Task;
 use view_pool::PlainView;
 
 const LEAVES: &str =

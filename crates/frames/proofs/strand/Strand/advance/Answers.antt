@@ -10,12 +10,12 @@ use Rattle.positions.proofs.Stepping.{small_step_is}
 use Rattle.positions.proofs.Kits.{kits_follow}
 use Rattle.positions.proofs.Pauses.{pause_is}
 use Rattle.positions.proofs.Working.{working_is}
-use Rattle.frames.specs.Given.{given}
-use Rattle.frames.specs.Steps.{GivesNone, HoldsBy, IsStepOf}
+use Rattle.activations.specs.Given.{given}
+use Rattle.small_steps.specs.Steps.{GivesNone, HoldsBy, IsStepOf}
 use Rattle.frames.proofs.Memories.{advanced_same}
-use Rattle.frames.proofs.Supplies.{holds_as}
+use Rattle.small_steps.proofs.Supplies.{holds_as}
 use Rattle.frames.proofs.Whole.{advanced_whole, valued_whole}
-use Rattle.frames.proofs.Keeping.{kinds_kept}
+use Rattle.small_steps.proofs.Keeping.{kinds_kept}
 use Rattle.frames.proofs.strand.Strand.advance.Goals as goal
 
 pub invariant_of-self : goal.invariant_of-self

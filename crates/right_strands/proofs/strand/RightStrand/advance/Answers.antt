@@ -1,6 +1,6 @@
 use Rattle.std.proofs.Common.{◌≡◌, ◌+◌, ◌≤◌, suc, length, All, List, sym, ◌∙◌, subst}
 use Rattle.positions.specs.Advance.{advanced}
-use Rattle.frames.specs.Steps.{GivesNone, HoldsBy}
+use Rattle.small_steps.specs.Steps.{GivesNone, HoldsBy}
 use Rattle.monoid_laws.specs.declared.Kind.{Kind}
 use Rattle.monoid_laws.specs.Kinds.{IsMonoid}
 use Rattle.right_strands.specs.Rightness.{PlainRight}

@@ -1,6 +1,6 @@
 use Rattle.std.proofs.Common.{◌≡◌, sym, ◌∙◌, subst}
 use Rattle.positions.specs.Setting.{Setting}
-use Rattle.frames.specs.Paths.{IsPath}
+use Rattle.own_statements.specs.Paths.{IsPath}
 use Rattle.right_strands.specs.Rightness.{PlainRight}
 use Rattle.right_strands.proofs.Steps.{kinds_are, path_kept}
 use Rattle.right_strands.proofs.strand.RightStrand.run_ahead.Goals as goal

@@ -3,7 +3,7 @@ use Rattle.std.specs.Prelude.{reverse}
 use Rattle.input_tables.specs.Edited.{Edited}
 use Rattle.rerun_records.specs.Record.{PlainRecord}
 use Rattle.meaning.specs.Strands.{Split}
-use Rattle.frames.specs.Given.{given}
+use Rattle.activations.specs.Given.{given}
 use Rattle.positions.specs.Moves.{stolen}
 use Rattle.numbered_runs.specs.Named.{named_state}
 use Rattle.stepped_runs.specs.Pieces.{PlainPiece, place_of, stolen_of}

@@ -1,7 +1,7 @@
 use Rattle.std.proofs.Common.{◌≡◌, OnOk, Result, length, sym, subst, ◌∙◌}
 use Rattle.numbered_runs.specs.declared.refusal.Refusal.{Refusal}
 use Rattle.std.specs.Prelude.{reverse}
-use Rattle.frames.specs.Given.{lent}
+use Rattle.activations.specs.Given.{lent}
 use Rattle.numbered_runs.specs.Named.{named_state}
 use Rattle.stepped_runs.specs.Pieces.{PlainPiece, alone, worked}
 use Rattle.worker_core.proofs.Working.{work_taken, all_given}

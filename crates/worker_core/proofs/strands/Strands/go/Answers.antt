@@ -1,5 +1,5 @@
 use Rattle.std.proofs.Common.{rules, arith, ◌≡◌, ◌≤◌, ◌<◌, ◌+◌, OnOk, IfErr, Ok, Some, None, [], All, length, map, slice_set, sym, ap, subst, ◌∙◌}
-use Rattle.frames.specs.Given.{lent}
+use Rattle.activations.specs.Given.{lent}
 use Rattle.numbered_runs.specs.Named.{book_step}
 use Rattle.stepped_runs.specs.Runs.{changed}
 use Rattle.numbered_runs.specs.declared.refusal.Refusal.TheVariants.{NotThere}

@@ -3,7 +3,7 @@ use Rattle.std.specs.Prelude.{slice_set as set}
 use Rattle.std.specs.List.{insert}
 use Rattle.std.proofs.lemmas.List.{get_or_default, map_push}
 use Rattle.meaning.specs.Strands.{Split}
-use Rattle.frames.specs.Given.{given}
+use Rattle.activations.specs.Given.{given}
 use Rattle.numbered_runs.specs.Named.{book_step}
 use Rattle.stepped_runs.specs.Pieces.{place_of}
 use Rattle.worker_core.specs.Moves.{IsFit}

@@ -1,7 +1,7 @@
 use Rattle.std.proofs.Common.{List, ◌≡◌, ◌<◌, true, [], Some, None, length, sym, ap, subst, ◌∙◌}
 use Rattle.input_tables.specs.Edited.{Edited}
 use Rattle.rerun_records.specs.Record.{PlainRecord}
-use Rattle.frames.specs.Given.{given}
+use Rattle.activations.specs.Given.{given}
 use Rattle.stepped_runs.specs.Pieces.{stalled}
 use Rattle.stepped_runs.specs.Runs.{changed}
 use Rattle.numbered_runs.specs.declared.refusal.Refusal.TheVariants.{NotThere}

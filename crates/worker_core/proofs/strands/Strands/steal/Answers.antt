@@ -2,7 +2,7 @@ use Rattle.std.proofs.Common.{List, rules, ◌≡◌, ◌<◌, true, false, Ok, 
 use Rattle.std.specs.Option.{is_some}
 use Rattle.input_tables.specs.Edited.{Edited}
 use Rattle.rerun_records.specs.Record.{PlainRecord}
-use Rattle.frames.specs.Given.{given}
+use Rattle.activations.specs.Given.{given}
 use Rattle.numbered_runs.specs.Named.{book_step}
 use Rattle.stepped_runs.specs.Pieces.{stolen_from}
 use Rattle.stepped_runs.specs.Runs.{changed, is_idle, if_idle}

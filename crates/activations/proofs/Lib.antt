@@ -1,0 +1,4 @@
+pub mod Crosses
+pub mod Slots
+pub mod Orders
+pub mod SameNames

@@ -1,0 +1,11 @@
+pub mod Crosses
+pub mod Worths
+pub mod Lowest
+pub mod Kept
+pub mod Updates
+pub mod Flags
+pub mod Absorbed
+pub mod Empties
+pub mod Marks
+pub mod Touches
+pub mod Homes

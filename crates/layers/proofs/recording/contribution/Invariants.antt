@@ -1,0 +1,8 @@
+use Rattle.std.proofs.Common.{◌≡◌, ◌++◌, drop, map}
+use Rattle.rerun_records.specs.Record.{touched}
+use Rattle.positions.specs.Tallies.{touched_from}
+use Rattle.layers.proofs.recording.contribution.Given as goal
+
+abbrev pub invariant-loop-reducer : goal.invariant-loop-reducer
+invariant-loop-reducer g l =
+    map touched l.values.items ++ touched_from l.reducer (drop l.reducer l.hypermap.kinds) (drop l.reducer l.hypermap.worths) ≡ touched_from 0 l.hypermap.kinds l.hypermap.worths

@@ -1,0 +1,7 @@
+use Rattle.std.proofs.Common.{◌≡◌, ◌++◌, drop}
+use Rattle.positions.specs.Tallies.{entries_from}
+use Rattle.layers.proofs.recording.entries.Given as goal
+
+abbrev pub invariant-loop-procedure : goal.invariant-loop-procedure
+invariant-loop-procedure l =
+    l.entries.items ++ entries_from l.procedure (drop l.procedure l.program.revisions) (drop l.procedure l.flags) ≡ entries_from 0 l.program.revisions l.flags

@@ -1,0 +1,29 @@
+use Rattle.std.proofs.Common.{rules, ◌≡◌, ◌<◌, List, ◌++◌, length, map, subst, sym, ap, ◌∙◌, OnOk}
+use Rattle.std.proofs.lemmas.List.{append-nil}
+use Rattle.monoid_laws.specs.Worth.{Worth}
+use Rattle.monoid_laws.specs.Kinds.{meaning}
+use Rattle.hypermaps.specs.Layer.{IsAt}
+use Rattle.rerun_records.specs.Record.{touched}
+use Rattle.layers.specs.Recordings.{touched_at}
+use Rattle.layers.proofs.Worths.{each}
+use Rattle.layers.proofs.Touches.{same_at, some_is, identity_untouched}
+use Rattle.layers.proofs.recording.push_touched.Goals as goal
+
+pub returns-in-Some : goal.returns-in-Some
+returns-in-Some g c = record {
+  pushed = λ w at.
+      let ws : List Worth = c.args.hypermap.now.worths in
+      let less : c.args.reducer < length c.args.hypermap.now.worths = subst (λ n. c.args.reducer < n) (each c.args.hypermap.now.kinds ws c.len.ensures.worths) c.requires.there in
+      let held : IsAt c.args.hypermap.now.worths c.args.reducer (meaning c.in-Some.value) =
+      some_is (λ v. IsAt c.args.hypermap.now.worths c.args.reducer (meaning v)) c.in_ok-value.field-0 c.in-Some.value c.in-Some.is c.in_ok-value.ensures.used in
+      let same : meaning c.in-Some.value ≡ w = same_at ws c.args.reducer (meaning c.in-Some.value) w less held at in
+      subst (λ v. OnOk c.push_value.result (map touched c.push_value.new.values.items ≡ map touched c.args.values.now.items ++ touched_at c.args.reducer c.args.kind.now v)) same c.push_value.ensures.pushed;
+}
+
+pub returns-in-None : goal.returns-in-None
+returns-in-None g c = record {
+  pushed = λ w at.
+      sym (append-nil (map touched c.args.values.now.items))
+      ∙ ap (λ xs. map touched c.args.values.now.items ++ xs)
+      (sym (identity_untouched c.args.reducer c.args.kind.now w (c.in_ok-value.ensures.unused (search rules) c.args.kind.now w c.requires.kind at)));
+}

@@ -1,0 +1,13 @@
+use Rattle.std.proofs.Common.{rules, ◌≡◌, ◌++◌, ◌∷◌, [], subst, sym}
+use Rattle.rerun_records.specs.Named.{HaveValues, AreValuesFrom}
+use Rattle.positions.specs.Tallies.{PlainTally}
+use Rattle.layers.proofs.Touches.{one_more_values}
+use Rattle.layers.proofs.tally.Tally.close.Goals as goal
+
+pub returns-in-Some-clause-values : goal.returns-in-Some-clause-values
+returns-in-Some-clause-values g c = λ h.
+    let before : HaveValues c.args.top.now.kinds c.self.inside.made.items = subst (λ (t : PlainTally). HaveValues c.args.top.now.kinds t.made) (sym c.self.view_is) h in
+    let more : c.push_reserved.new.self.items ≡ c.self.inside.made.items ++ c.record.result ∷ [] = search rules in
+    let same : c.record.result.contribution ≡ c.in_ok-recording.recording.contribution = search rules in
+    one_more_values c.args.top.now.kinds c.self.inside.made.items c.push_reserved.new.self.items c.record.result more
+    (subst (AreValuesFrom 0 c.args.top.now.kinds) (sym same) c.in_ok-recording.ensures.values) before

@@ -1,0 +1,32 @@
+-- What goes behind a layer: another one, or what a record has.
+use Rattle.std.specs.Prelude.{◌≡◌, ℕ, Bool, false, List, Option, Some, None, slice_get}
+use Rattle.monoid_laws.specs.declared.Kind.{Kind}
+use Rattle.monoid_laws.specs.Worth.{Worth}
+use Rattle.monoid_laws.specs.Kinds.{operate_all, identities}
+use Rattle.positions.specs.Layers.{PlainLayer}
+use Rattle.rerun_records.specs.Named.{HaveValues, filled}
+use Rattle.rerun_records.specs.Record.{PlainRecord}
+
+-- the values of all reducers, with those of some behind them
+abbrev pub combined_with : List (ℕ × Worth) → List Kind → List Worth → List Worth
+combined_with touched kinds worths = operate_all kinds worths (filled (identities kinds) touched)
+
+-- nothing but the reducers' values has changed
+abbrev pub IsSameButWorths : PlainLayer → PlainLayer → Type 0
+IsSameButWorths old new = new ≡ record old { worths = new.worths }
+
+-- what the values of both give together has stayed
+abbrev pub HasSameProduct : PlainLayer → PlainLayer → PlainLayer → PlainLayer → Type 0
+HasSameProduct left right new_left new_right = operate_all left.kinds new_left.worths new_right.worths ≡ operate_all left.kinds left.worths right.worths
+
+-- where the records of both fit the reducers' kinds, those that are made of them do
+abbrev pub BothHaveValues : List PlainRecord → List PlainRecord → List PlainRecord → Type 0
+BothHaveValues left right new = (kinds : List Kind) → HaveValues kinds left → HaveValues kinds right → HaveValues kinds new
+
+abbrev pub flag_in : Option Bool → Bool
+flag_in None = false
+flag_in (Some b) = b
+
+-- a flag, which is down past the end
+abbrev pub flag_at : List Bool → ℕ → Bool
+flag_at ys i = flag_in (slice_get ys i)

@@ -1,0 +1,5 @@
+pub mod Ends
+pub mod Updates
+pub mod Recordings
+pub mod Identities
+pub mod Folds

@@ -1,0 +1,111 @@
+// A layer takes over what a record has, or what a layer has that becomes a record.
+ghost use Rattle.std.specs.Prelude.{◌≡◌, ◌<◌, ◌++◌, OnErr, OnOk, All, map, slice_set, vec_len, vec_capacity, true};
+ghost use Rattle.monoid_laws.specs.Kinds.{IsMonoid};
+ghost use Rattle.rerun_records.specs.Record.{touched};
+ghost use Rattle.rerun_records.specs.Named.{AreValuesFrom};
+ghost use Rattle.rerun_records.specs.Readings.{all_of};
+ghost use Rattle.positions.specs.Layers.{absorbing, covered, flagged, kept_reads};
+ghost use Rattle.layers.specs.Folds.{HasSameProduct, IsSameButWorths, combined_with};
+
+use crate::joining::flag_all;
+use crate::layer::Layer;
+use hypermaps::Hypermap;
+use monoid_laws::Val;
+use rerun_records::readings::Readings;
+use rerun_records::record::Record;
+use std::alloc::{AllocError, Global};
+use view_pool::View;
+
+impl<V: View> Layer<V> {
+    /// Puts behind it what a record has of an instance at that depth. Where memory is refused, or the depth is past its limit,
+    /// some of the record's values are in and the others are not, and nothing else has changed.
+    pub(crate) fn absorb(
+        &mut self,
+        alloc: Global,
+        record: &Record,
+        depth: u32,
+    ) -> Result<(), AllocError>
+        requires monoids { All IsMonoid self.old.kinds }
+        requires values { AreValuesFrom 0 self.old.kinds record.now.contribution }
+        ensures absorbed { OnOk result (self.new ≡ absorbing record.now depth self.old) }
+        ensures partly { OnErr result (IsSameButWorths self.old self.new) }
+    {
+        let Some(levels) = depth.checked_add(record.height()) else {
+            return Err(AllocError);
+        };
+        self.shared.reserve(1)?;
+        let reads = record.reads().share()?;
+        absorb_values(&mut self.hypermap, alloc, record.contribution())?;
+        push_shared(&mut self.shared, reads);
+        flag_entered(&mut self.entered, record.entered());
+        self.deepest = self.deepest.max(levels.saturating_sub(1));
+        Ok(())
+    }
+
+    /// Puts a layer that becomes a record behind this, which shares the readings that its record keeps, and leaves its views at
+    /// the identities. Where memory is refused, some reducers have moved to this one and the others have not, and nothing else has
+    /// changed.
+    pub(crate) fn cover(&mut self, right: &mut Layer<V>, kept: &Readings) -> Result<(), AllocError>
+        requires kinds { self.old.kinds ≡ right.old.kinds }
+        requires monoids { All IsMonoid self.old.kinds }
+        requires kept { kept.now ≡ kept_reads right.old }
+        ensures covered { OnOk result (self.new ≡ covered self.old right.old) }
+        ensures right_kinds { right.new.kinds ≡ right.old.kinds }
+        ensures left_kept { OnErr result (IsSameButWorths self.old self.new) }
+        ensures right_kept { OnErr result (IsSameButWorths right.old right.new) }
+        ensures product { OnErr result (HasSameProduct self.old right.old self.new right.new) }
+    {
+        self.shared.reserve(1)?;
+        let reads = kept.share()?;
+        self.hypermap.fold(&mut right.hypermap)?;
+        push_shared(&mut self.shared, reads);
+        flag_all(&mut self.entered, &right.entered);
+        self.deepest = self.deepest.max(right.deepest);
+        Ok(())
+    }
+}
+
+/// Combines copies of these values on the right of the reducers' values. Where memory is refused, some of the first ones are in.
+fn absorb_values<V: View>(
+    hypermap: &mut Hypermap<V>,
+    alloc: Global,
+    values: &[(usize, Val)],
+) -> Result<(), AllocError>
+    requires monoids { All IsMonoid hypermap.old.kinds }
+    requires values { AreValuesFrom 0 hypermap.old.kinds (map touched values.now) }
+    ensures kinds { hypermap.new.kinds ≡ hypermap.old.kinds }
+    ensures absorbed { OnOk result (hypermap.new.worths
+        ≡ combined_with (map touched values.now) hypermap.old.kinds hypermap.old.worths) }
+{
+    let _ = hypermap.len();
+    for entry in values {
+        hypermap.absorb_one(alloc, entry.0, &entry.1)?;
+    }
+    Ok(())
+}
+
+/// Puts readings behind those that a layer shares, for which there is room.
+pub(crate) fn push_shared(shared: &mut Vec<Readings>, reads: Readings)
+    requires room { vec_len shared.old < vec_capacity shared.old }
+    ensures pushed { all_of shared.new.items ≡ all_of shared.old.items ++ reads }
+{
+    shared.push_reserved(reads);
+}
+
+/// Puts up the flags of these procedures.
+fn flag_entered(flags: &mut Vec<bool>, entered: &[(usize, u64)])
+    ensures flagged { flags.new.items ≡ flagged flags.old.items (map (λ e. e.0) entered.now) }
+{
+    for entry in entered {
+        put_up(flags, entry.0);
+    }
+}
+
+/// Puts up the flag of that number, where there is one.
+fn put_up(flags: &mut Vec<bool>, number: usize)
+    ensures up { flags.new.items ≡ slice_set flags.old.items number true }
+{
+    if number < flags.len() {
+        flags[number] = true;
+    }
+}

@@ -1,0 +1,12 @@
+//! Layers of a strand: what is noted of a memo instance while it runs, how that becomes a record, and how layers go behind one another.
+#![tactic(auto)]
+
+mod absorbing;
+pub mod closing;
+mod identities;
+mod joining;
+pub mod layer;
+pub mod recording;
+pub mod spares;
+pub mod tally;
+pub mod updating;

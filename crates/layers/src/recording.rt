@@ -1,0 +1,367 @@
+//! What is kept of a memo instance whose layer is open, and what a record keeps of the layer once it is over.
+ghost use Rattle.std.specs.Prelude.{true, ◌≡◌, ◌<◌, ◌++◌, IfOk, OnOk, length, map, slice_get};
+ghost use Rattle.std.specs.List.{list_any};
+ghost use Rattle.monoid_laws.specs.Worth.{Worth};
+ghost use Rattle.monoid_laws.specs.Kinds.{meaning};
+ghost use Rattle.hypermaps.specs.Layer.{IsAt};
+ghost use Rattle.evaluation.specs.Short.{note_of};
+ghost use Rattle.rerun_records.specs.Record.{touched};
+ghost use Rattle.rerun_records.specs.Named.{AreValuesFrom};
+ghost use Rattle.rerun_records.specs.Readings.{all_of};
+ghost use Rattle.positions.specs.Values.{same_note, once, put_note};
+ghost use Rattle.positions.specs.Tallies.{touched_from, entries_from};
+ghost use Rattle.layers.specs.Recordings.{recording_of, recorded, touched_at, entry_of};
+
+use crate::identities::is_identity;
+use crate::layer::{DEEPEST, Layer};
+use evaluation::note::Note;
+use evaluation::notes::Notes;
+use evaluation::reading::{Reading, readings};
+use hypermaps::Hypermap;
+use indexmap::IndexSet;
+use linked_program::checked::Checked;
+use monoid_laws::{Kind, Val};
+use rerun_records::readings::Readings;
+use rerun_records::record::Record;
+use std::alloc::{AllocError, Global};
+use std::marker::Model;
+use view_pool::View;
+
+/// A memo instance with a layer of its own: its procedure, its arguments, how many levels there are below it, and how long its
+/// name is.
+#[derive(Drop)]
+pub struct Opened {
+    procedure: usize,
+    arguments: Vec<i64>,
+    left: u32,
+    depth: usize,
+}
+
+impl Model for Opened {
+    ghost use Rattle.positions.specs.Tallies.{PlainOpened};
+
+    ghost Value = { PlainOpened };
+
+    ghost view = { λ o. record { procedure = o.procedure; arguments = o.arguments.items; left = o.left; depth = o.depth } };
+}
+
+impl Opened {
+    /// An instance of that procedure with these arguments, which are copied; refused for want of memory alone.
+    pub fn new(
+        alloc: Global,
+        procedure: usize,
+        arguments: &[i64],
+        left: u32,
+        depth: usize,
+    ) -> Result<Opened, AllocError>
+        ensures opened { IfOk result (λ o.
+            o ≡ record { procedure = procedure; arguments = arguments.now; left = left; depth = depth }) }
+    {
+        Ok(Opened {
+            procedure,
+            arguments: Vec::from_slice(alloc, arguments)?,
+            left,
+            depth,
+        })
+    }
+
+    /// How long its name is.
+    pub(crate) fn depth(&self) -> usize
+        ensures depth { result ≡ self.now.depth }
+    {
+        self.depth
+    }
+}
+
+/// The values of the reducers that a layer touched, each reading once, the procedures entered, and how many instances were
+/// nested at most, main counted.
+#[derive(Drop)]
+pub(crate) struct Recording {
+    contribution: Vec<(usize, Val)>,
+    reads: Readings,
+    entered: Vec<(usize, u64)>,
+    levels: u32,
+}
+
+impl Model for Recording {
+    ghost use Rattle.std.specs.Prelude.{map};
+    ghost use Rattle.rerun_records.specs.Record.{touched};
+    ghost use Rattle.layers.specs.Recordings.{PlainRecording};
+
+    ghost Value = { PlainRecording };
+
+    ghost view = { λ r. record { contribution = map touched r.contribution.items; reads = r.reads; entered = r.entered.items; levels = r.levels } };
+}
+
+impl Recording {
+    /// Lends what was read.
+    pub(crate) fn reads(&self) -> &Readings
+        ensures reads { result.now ≡ self.now.reads }
+    {
+        &self.reads
+    }
+
+    /// The record of an instance that is over with that value. It takes no memory.
+    pub(crate) fn record(self, opened: Opened, value: i64) -> Record
+        ensures record { result ≡ recorded self opened value }
+    {
+        let Opened {
+            procedure,
+            arguments,
+            left,
+            depth: _,
+        } = opened;
+        let Recording {
+            contribution,
+            reads,
+            entered,
+            levels,
+        } = self;
+        let height = levels.saturating_sub(DEEPEST.saturating_sub(left));
+        Record::new(
+            procedure,
+            arguments,
+            value,
+            contribution,
+            reads,
+            entered,
+            height,
+        )
+    }
+}
+
+/// How many readings are few enough to look through them for each, which is quicker than a hash.
+const FEW: usize = 16;
+
+impl<V: View> Layer<V> {
+    /// What a record keeps of the layer. It is refused for want of memory, or where a number is past what its form holds.
+    pub(crate) fn recording(
+        &self,
+        alloc: Global,
+        program: &Checked,
+    ) -> Result<Recording, AllocError>
+        requires kinds { self.now.kinds ≡ program.now.kinds }
+        ensures recording { IfOk result (λ r. r ≡ recording_of program.now.revisions self.now) }
+        ensures values { IfOk result (λ r. AreValuesFrom 0 self.now.kinds r.contribution) }
+    {
+        let Some(levels) = self.deepest.checked_add(1) else {
+            return Err(AllocError);
+        };
+        Ok(Recording {
+            contribution: contribution(alloc, &self.hypermap, program.kinds())?,
+            reads: kept_reads(alloc, &self.notes, &self.shared)?,
+            entered: entries(alloc, &self.entered, program)?,
+            levels,
+        })
+    }
+}
+
+/// Copies of the values that are not the identities, each with its reducer's number.
+fn contribution<V: View>(
+    alloc: Global,
+    hypermap: &Hypermap<V>,
+    kinds: &[Kind],
+) -> Result<Vec<(usize, Val)>, AllocError>
+    requires kinds { hypermap.now.kinds ≡ kinds.now }
+    ensures touched { IfOk result (λ c.
+        map touched c.items ≡ touched_from 0 hypermap.now.kinds hypermap.now.worths) }
+    ensures values { IfOk result (λ c.
+        AreValuesFrom 0 hypermap.now.kinds (map touched c.items)) }
+{
+    let _ = hypermap.len();
+    let mut values = Vec::new(alloc);
+    for reducer in 0..kinds.len() {
+        let room = kinds.len() - reducer;
+        push_touched(&mut values, hypermap, reducer, &kinds[reducer], room)?;
+    }
+    Ok(values)
+}
+
+/// Puts a copy of a reducer's value behind the others, unless it is the identity; the first makes room for so many.
+fn push_touched<V: View>(
+    values: &mut Vec<(usize, Val)>,
+    hypermap: &Hypermap<V>,
+    reducer: usize,
+    kind: &Kind,
+    room: usize,
+) -> Result<(), AllocError>
+    requires there { reducer < length hypermap.now.kinds }
+    requires kind { IsAt hypermap.now.kinds reducer kind.now }
+    ensures pushed { (w : Worth) → IsAt hypermap.now.worths reducer w → OnOk result
+        (map touched values.new.items ≡ map touched values.old.items ++ touched_at reducer kind.now w) }
+{
+    let _ = hypermap.len();
+    match hypermap.used_value(reducer)? {
+        Some(value) => push_value(values, reducer, kind, value, room),
+        None => Ok(()),
+    }
+}
+
+/// Puts a value behind the others, unless it is the identity; the first makes room for so many.
+fn push_value(
+    values: &mut Vec<(usize, Val)>,
+    reducer: usize,
+    kind: &Kind,
+    value: Val,
+    room: usize,
+) -> Result<(), AllocError>
+    ensures pushed { OnOk result (map touched values.new.items
+        ≡ map touched values.old.items ++ touched_at reducer kind.now (meaning value)) }
+{
+    if !is_identity(kind, &value) {
+        if values.is_empty() {
+            values.reserve_exact(room)?;
+        }
+        values.push((reducer, value))?;
+    }
+    Ok(())
+}
+
+/// A layer's own readings, each once, and then those that it shares. Those of one instance alone are handed on as they are.
+fn kept_reads(alloc: Global, notes: &Notes, shared: &[Readings]) -> Result<Readings, AllocError>
+    ensures kept { IfOk result (λ r. r ≡ once notes.now ++ all_of shared.now) }
+{
+    if notes.is_empty() && shared.len() == 1 {
+        return shared[0].share();
+    }
+    let own = distinct_readings(alloc, notes.readings())?;
+    let parts = shares(alloc, shared)?;
+    Readings::new(alloc, own, parts)
+}
+
+/// The same readings once more, without spare room.
+fn shares(alloc: Global, shared: &[Readings]) -> Result<Vec<Readings>, AllocError>
+    ensures same { IfOk result (λ parts. parts.items ≡ shared.now) }
+{
+    let mut parts = Vec::new(alloc);
+    parts.reserve_exact(shared.len())?;
+    for part in shared {
+        parts.push(part.share()?)?;
+    }
+    Ok(parts)
+}
+
+/// Each reading once, in the order in which they were first made.
+fn distinct_readings(alloc: Global, found: &[Reading]) -> Result<Vec<Reading>, AllocError>
+    ensures once { IfOk result (λ rs. map note_of rs.items ≡ once (map note_of found.now)) }
+{
+    if found.len() > FEW {
+        let seen = distinct(alloc, found)?;
+        return readings(alloc, seen.as_slice());
+    }
+    if are_distinct(found) {
+        return Vec::from_slice(alloc, found);
+    }
+    distinct_of_few(alloc, found)
+}
+
+/// Whether no reading stands twice among these, which are few.
+fn are_distinct(found: &[Reading]) -> bool
+    ensures distinct { result ≡ true → once (map note_of found.now) ≡ map note_of found.now }
+{
+    for i in 0..found.len() {
+        if is_among(&found[..i], &found[i]) {
+            return false;
+        }
+    }
+    true
+}
+
+/// The readings, each once; by looking through those before it.
+fn distinct_of_few(alloc: Global, found: &[Reading]) -> Result<Vec<Reading>, AllocError>
+    ensures once { IfOk result (λ seen. map note_of seen.items ≡ once (map note_of found.now)) }
+{
+    let mut seen = Vec::new(alloc);
+    for reading in found {
+        mark_few(&mut seen, reading)?;
+    }
+    Ok(seen)
+}
+
+/// Puts in a reading, unless it is there.
+fn mark_few(seen: &mut Vec<Reading>, reading: &Reading) -> Result<(), AllocError>
+    ensures put { OnOk result
+        (map note_of seen.new.items ≡ put_note (map note_of seen.old.items) (note_of reading.now)) }
+{
+    if is_among(seen, reading) {
+        return Ok(());
+    }
+    match seen.push(*reading) {
+        Ok(()) => Ok(()),
+        Err(_) => Err(AllocError),
+    }
+}
+
+/// Whether a reading is among those.
+fn is_among(seen: &[Reading], reading: &Reading) -> bool
+    ensures among { result ≡ list_any (same_note (note_of reading.now)) (map note_of seen.now) }
+{
+    for other in seen {
+        if is_same(reading, other) {
+            return true;
+        }
+    }
+    false
+}
+
+/// Whether two readings are the same.
+#[tactic(auto, using(crate::proofs::Marks::derived_same))]
+fn is_same(left: &Reading, right: &Reading) -> bool
+    ensures same { result ≡ same_note (note_of left.now) (note_of right.now) }
+{
+    left.note() == right.note()
+}
+
+/// The readings, each once, as notes.
+fn distinct(alloc: Global, found: &[Reading]) -> Result<IndexSet<Note>, AllocError>
+    ensures once { IfOk result (λ seen. seen.keys ≡ once (map note_of found.now)) }
+{
+    let mut seen = IndexSet::new(alloc);
+    for reading in found {
+        mark(&mut seen, reading.note())?;
+    }
+    Ok(seen)
+}
+
+/// Puts in a note, unless it is there.
+fn mark(seen: &mut IndexSet<Note>, note: Note) -> Result<(), AllocError>
+    ensures put { OnOk result (seen.new.keys ≡ put_note seen.old.keys note) }
+{
+    match seen.insert(note) {
+        Ok(_) => Ok(()),
+        Err(_) => Err(AllocError),
+    }
+}
+
+/// The numbers of the procedures whose flags are up, each with its revision number.
+fn entries(
+    alloc: Global,
+    flags: &[bool],
+    program: &Checked,
+) -> Result<Vec<(usize, u64)>, AllocError>
+    ensures entries { IfOk result (λ es.
+        es.items ≡ entries_from 0 program.now.revisions flags.now) }
+{
+    let mut entries = Vec::new(alloc);
+    for procedure in 0..flags.len() {
+        if flags[procedure] {
+            push_entry(&mut entries, procedure, program)?;
+        }
+    }
+    Ok(entries)
+}
+
+/// Puts the number of a procedure, where there is one, with its revision number behind the others.
+fn push_entry(
+    entries: &mut Vec<(usize, u64)>,
+    procedure: usize,
+    program: &Checked,
+) -> Result<(), AllocError>
+    ensures pushed { OnOk result (entries.new.items
+        ≡ entries.old.items ++ entry_of procedure (slice_get program.now.revisions procedure)) }
+{
+    if let Some(revision) = program.revision_at(procedure) {
+        entries.push((procedure, revision))?;
+    }
+    Ok(())
+}

@@ -1,0 +1,235 @@
+//! What a strand has counted and recorded of memo instances.
+ghost use Rattle.std.specs.Prelude.{◌≡◌, suc, ◌+◌, IfOk, OnErr, OnOk, All};
+ghost use Rattle.monoid_laws.specs.Kinds.{IsMonoid};
+ghost use Rattle.rerun_records.specs.Named.{AreValuesFrom, HaveValues};
+ghost use Rattle.positions.specs.Layers.{multiplied, covered, absorbing};
+ghost use Rattle.positions.specs.Tallies.{no_tally, passing, answering, opening, is_own, closing, tallies_joined};
+ghost use Rattle.layers.specs.Folds.{IsSameButWorths, HasSameProduct, BothHaveValues};
+
+use crate::layer::Layer;
+use crate::recording::Opened;
+use linked_program::checked::Checked;
+use rerun_records::record::Record;
+use std::alloc::{AllocError, Global};
+use std::marker::Model;
+use view_pool::View;
+
+/// The memo instances whose layers are open, the topmost last; the records made; and how many instances were executed, answered
+/// by a record, and executed without a layer.
+#[derive(Drop)]
+pub struct Tally {
+    opened: Vec<Opened>,
+    made: Vec<Record>,
+    executed: u64,
+    reused: u64,
+    unrecorded: u64,
+}
+
+impl Model for Tally {
+    ghost use Rattle.std.specs.Prelude.{reverse};
+    ghost use Rattle.positions.specs.Tallies.{PlainTally};
+
+    ghost Value = { PlainTally };
+
+    ghost view = { λ t. record { opened = reverse t.opened.items; made = t.made.items; executed = t.executed; reused = t.reused; unrecorded = t.unrecorded } };
+}
+
+/// One more; refused where the count is at its limit.
+fn one_more(count: u64) -> Result<u64, AllocError>
+    ensures more { IfOk result (λ n. n ≡ suc count) }
+{
+    sum(count, 1)
+}
+
+/// The sum of two counts; refused where it is past the limit.
+fn sum(left: u64, right: u64) -> Result<u64, AllocError>
+    ensures sum { IfOk result (λ n. n ≡ left + right) }
+{
+    match left.checked_add(right) {
+        Some(count) => Ok(count),
+        None => Err(AllocError),
+    }
+}
+
+impl Tally {
+    /// Nothing counted, and no records. It takes no memory.
+    pub fn new(alloc: Global) -> Tally
+        ensures none { result ≡ no_tally }
+    {
+        Tally {
+            opened: Vec::new(alloc),
+            made: Vec::new(alloc),
+            executed: 0,
+            reused: 0,
+            unrecorded: 0,
+        }
+    }
+
+    /// An instance is executed in the layer below; refused where a count is at its limit.
+    pub fn pass(&mut self) -> Result<(), AllocError>
+        ensures passed { OnOk result (self.new ≡ passing self.old) }
+        ensures unchanged { OnErr result (self.new ≡ self.old) }
+    {
+        let executed = one_more(self.executed)?;
+        self.unrecorded = one_more(self.unrecorded)?;
+        self.executed = executed;
+        Ok(())
+    }
+
+    /// A record answers an instance at that depth: what the record has goes behind the layer. Where memory is refused, or the
+    /// count is at its limit, nothing has changed but the layer's values.
+    pub fn reuse<V: View>(
+        &mut self,
+        alloc: Global,
+        layer: &mut Layer<V>,
+        record: &Record,
+        depth: u32,
+    ) -> Result<(), AllocError>
+        requires monoids { All IsMonoid layer.old.kinds }
+        requires values { AreValuesFrom 0 layer.old.kinds record.now.contribution }
+        ensures answered { OnOk result (self.new ≡ answering self.old) }
+        ensures absorbed { OnOk result (layer.new ≡ absorbing record.now depth layer.old) }
+        ensures unchanged { OnErr result (self.new ≡ self.old) }
+        ensures partly { OnErr result (IsSameButWorths layer.old layer.new) }
+    {
+        let reused = one_more(self.reused)?;
+        layer.absorb(alloc, record, depth)?;
+        self.reused = reused;
+        Ok(())
+    }
+
+    /// An instance is executed in a layer of its own; refused for want of memory, or where the count is at its limit.
+    pub fn open(&mut self, opened: Opened) -> Result<(), AllocError>
+        ensures opened { OnOk result (self.new ≡ opening opened self.old) }
+        ensures unchanged { OnErr result (self.new ≡ self.old) }
+    {
+        let executed = one_more(self.executed)?;
+        self.opened.reserve(1)?;
+        self.opened.push_reserved(opened);
+        self.executed = executed;
+        Ok(())
+    }
+
+    /// Whether the topmost open layer is that of the instance whose name is so long.
+    pub fn is_own(&self, depth: usize) -> bool
+        ensures own { result ≡ is_own self.now.opened depth }
+    {
+        match self.opened.last() {
+            Some(opened) => opened.depth() == depth,
+            None => false,
+        }
+    }
+
+    /// The topmost layer, whose instance is over with that value, becomes a record and goes behind the layer below it. Where
+    /// memory is refused, some reducers have moved to the lower layer and the others have not, and nothing else has changed.
+    pub fn close<V: View>(
+        &mut self,
+        alloc: Global,
+        top: &mut Layer<V>,
+        below: &mut Layer<V>,
+        value: i64,
+        program: &Checked,
+    ) -> Result<(), AllocError>
+        requires kinds { top.old.kinds ≡ program.now.kinds }
+        requires same_kinds { below.old.kinds ≡ top.old.kinds }
+        requires monoids { All IsMonoid below.old.kinds }
+        ensures closed { OnOk result
+            (self.new ≡ closing program.now.revisions top.old value self.old) }
+        ensures covered { OnOk result (below.new ≡ covered below.old top.old) }
+        ensures top_kinds { top.new.kinds ≡ top.old.kinds }
+        ensures below_kinds { below.new.kinds ≡ below.old.kinds }
+        ensures values { HaveValues top.old.kinds self.old.made
+            → HaveValues top.old.kinds self.new.made }
+        ensures unchanged { OnErr result (self.new ≡ self.old) }
+        ensures top_kept { OnErr result (IsSameButWorths top.old top.new) }
+        ensures below_kept { OnErr result (IsSameButWorths below.old below.new) }
+        ensures product { OnErr result (HasSameProduct below.old top.old below.new top.new) }
+    {
+        self.made.reserve(1)?;
+        let recording = top.recording(alloc, program)?;
+        below.cover(top, recording.reads())?;
+        if let Some(opened) = self.opened.pop() {
+            self.made.push_reserved(recording.record(opened, value));
+        }
+        Ok(())
+    }
+
+    /// Puts the right strand's tally behind this one, and its layer behind this one's. Where memory is refused, some reducers
+    /// have moved to the left and the others have not, and nothing else has changed.
+    pub fn join<V: View>(
+        &mut self,
+        right: &mut Tally,
+        layer: &mut Layer<V>,
+        behind: &mut Layer<V>,
+    ) -> Result<(), AllocError>
+        requires kinds { layer.old.kinds ≡ behind.old.kinds }
+        requires monoids { All IsMonoid layer.old.kinds }
+        ensures joined { OnOk result (self.new ≡ tallies_joined self.old right.old) }
+        ensures multiplied { OnOk result (layer.new ≡ multiplied layer.old behind.old) }
+        ensures left_kinds { layer.new.kinds ≡ layer.old.kinds }
+        ensures right_kinds { behind.new.kinds ≡ behind.old.kinds }
+        ensures values { BothHaveValues self.old.made right.old.made self.new.made }
+        ensures left_unchanged { OnErr result (self.new ≡ self.old) }
+        ensures right_unchanged { OnErr result (right.new ≡ right.old) }
+        ensures left_kept { OnErr result (IsSameButWorths layer.old layer.new) }
+        ensures right_kept { OnErr result (IsSameButWorths behind.old behind.new) }
+        ensures product { OnErr result (HasSameProduct layer.old behind.old layer.new behind.new) }
+    {
+        let executed = sum(self.executed, right.executed)?;
+        let reused = sum(self.reused, right.reused)?;
+        let unrecorded = sum(self.unrecorded, right.unrecorded)?;
+        self.made.reserve(right.made.len())?;
+        layer.multiply(behind)?;
+        let _ = self.made.append(&mut right.made);
+        self.executed = executed;
+        self.reused = reused;
+        self.unrecorded = unrecorded;
+        Ok(())
+    }
+
+    /// Puts the right strand's tally behind this one, where no views are folded; refused for want of memory, or where a count
+    /// is past its limit.
+    pub fn take_over(&mut self, right: &mut Tally) -> Result<(), AllocError>
+        ensures joined { OnOk result (self.new ≡ tallies_joined self.old right.old) }
+        ensures values { BothHaveValues self.old.made right.old.made self.new.made }
+        ensures left_unchanged { OnErr result (self.new ≡ self.old) }
+        ensures right_unchanged { OnErr result (right.new ≡ right.old) }
+    {
+        let executed = sum(self.executed, right.executed)?;
+        let reused = sum(self.reused, right.reused)?;
+        let unrecorded = sum(self.unrecorded, right.unrecorded)?;
+        self.made.append(&mut right.made)?;
+        self.executed = executed;
+        self.reused = reused;
+        self.unrecorded = unrecorded;
+        Ok(())
+    }
+
+    /// How many instances were executed.
+    pub fn executed(&self) -> u64
+        ensures executed { result ≡ self.now.executed }
+    {
+        self.executed
+    }
+
+    /// How many instances a record answered.
+    pub fn reused(&self) -> u64
+        ensures reused { result ≡ self.now.reused }
+    {
+        self.reused
+    }
+
+    /// How many instances were executed without a layer.
+    pub fn unrecorded(&self) -> u64
+        ensures unrecorded { result ≡ self.now.unrecorded }
+    {
+        self.unrecorded
+    }
+
+    /// The records made. It takes no memory.
+    pub fn into_records(self) -> Vec<Record>
+        ensures made { result.items ≡ self.made }
+    {
+        self.made
+    }
+}

@@ -1,0 +1,93 @@
+-- Many small steps: one behind another.
+use Rattle.std.proofs.Common.{◌≡◌, ℕ, ℤ, pos, Bool, List, [], ◌∷◌, length, take, Option, Some, None, Ok, Err, refl, sym, ap, ◌∙◌, subst}
+use Rattle.evaluation.specs.declared.slot.Slot.{Slot}
+use Rattle.evaluation.specs.declared.note.Note.{Note}
+use Rattle.evaluation.specs.declared.stop.Stop.{Stop}
+use Rattle.evaluation.specs.declared.stop.Stop.TheVariants.{NoMemory, Fault}
+use Rattle.evaluation.specs.Values.{NumberedOut}
+use Rattle.linked_program.specs.declared.code.Instruction.{Instruction}
+use Rattle.positions.specs.declared.work.Position.{Position}
+use Rattle.positions.specs.declared.work.Work.{Work}
+use Rattle.positions.specs.declared.work.Work.TheVariants.{Block, Over}
+use Rattle.positions.specs.Code.{instruction_inside}
+use Rattle.positions.specs.declared.phase.Phase.TheVariants.{Running, Returning}
+use Rattle.positions.specs.Setting.{Setting}
+use Rattle.positions.specs.Activations.{PlainActivation, outside, at, next_of}
+use Rattle.positions.specs.Layers.{PlainLayer, noting}
+use Rattle.positions.specs.Strands.{PlainStrand}
+use Rattle.positions.specs.Advance.{performed, gone_by, worked, advanced}
+use Rattle.layers.specs.Ends.{HasNoted}
+use Rattle.layers.proofs.Kept.{first_kept, take_all}
+use Rattle.own_statements.specs.declared.statements.Did.{Did}
+use Rattle.own_statements.specs.declared.statements.Did.TheVariants.{Nothing, Next, Moved, Gave}
+use Rattle.own_statements.specs.Paths.{IsPath, here, on, topped, ComesTo, Does}
+
+-- readings that are forgotten again
+pub forget_noted : (ns : List Note) (l m : PlainLayer) → m ≡ noting ns l → record m { notes = take (length l.notes) m.notes } ≡ l
+forget_noted ns l m e = ap (λ (k : PlainLayer). record k { notes = take (length l.notes) k.notes }) e ∙ ap (λ xs. record l { notes = xs }) (first_kept l.keeps l.notes ns)
+
+pub forget_stopped : {A B : Type 0} (view : B → A) (o : NumberedOut A) (l m : PlainLayer) (e : Stop) → HasNoted view o l m (Err e) → record m { notes = take (length l.notes) m.notes } ≡ l
+forget_stopped view o l m (Fault k) h = forget_noted o.notes l m h.1
+forget_stopped view o l m NoMemory h = ap (λ (k : PlainLayer). record k { notes = take (length l.notes) k.notes }) h ∙ ap (λ xs. record l { notes = xs }) (take_all l.notes)
+
+module _ (setting : Setting) where
+  -- one path behind another
+  pub path_join : (s t u : PlainStrand) → IsPath setting s t → IsPath setting t u → IsPath setting s u
+  path_join s t u p here = p
+  path_join s t u p (on v w q e) = on v w (path_join s t v p q) e
+
+  -- ---- the statements of an instance, in whatever strand
+
+  -- two meanings that say the same of the instance
+  pub does_as : (passes : Bool) (p : Position) (f g : Bool → PlainStrand → PlainStrand) (a : PlainActivation) (l : PlainLayer) (did : Did) (b : PlainActivation) (m : PlainLayer)
+      → ((kit : Bool) (s : PlainStrand) → f kit (topped Running (at (Block p) a) l s) ≡ g kit (topped Running (at (Block p) a) l s)) → Does passes p f a l did b m → Does passes p g a l did b m
+  does_as passes p f g a l Nothing b m e h = h
+  does_as passes p f g a l Next b m e h = λ s may kit. h s may kit ∙ e kit s
+  does_as passes p f g a l Moved b m e h = λ s may kit. h s may kit ∙ e kit s
+  does_as passes p f g a l (Gave v) b m e h = λ s may kit. h s may kit ∙ e kit s
+
+  -- an instance goes behind its block, whatever it has left
+  outside_at : (w : Work) (left children procedure : ℕ) (slots : List Slot) (outer : List Position) (v : Work) (spawned : Bool) (into : Option ℕ)
+      → outside (record { left = left; children = children; procedure = procedure; slots = slots; outer = outer; work = w; spawned = spawned; into = into })
+      ≡ outside (record { left = left; children = children; procedure = procedure; slots = slots; outer = outer; work = v; spawned = spawned; into = into })
+  outside_at w left children procedure slots [] v spawned into = refl
+  outside_at w left children procedure slots (p ∷ rest) v spawned into = refl
+
+  module _ (passes : Bool) (a : PlainActivation) (l : PlainLayer) where
+    -- one stretch behind another
+    pub come_join : (b : PlainActivation) (m : PlainLayer) (given : Option ℤ) (c : PlainActivation) (n : PlainLayer) → ComesTo setting passes a l None b m → ComesTo setting passes b m given c n → ComesTo setting passes a l given c n
+    come_join b m given c n h k s may = path_join (topped Running a l s) (topped Running b m s) _ (h s may) (k s may)
+
+    pub come_over : (b : PlainActivation) (m : PlainLayer) → ComesTo setting passes a l None b m → b.work ≡ Over → ComesTo setting passes a l (Some (pos 0)) b m
+    come_over b m come over s may = on (topped Running b m s) (topped (Returning (pos 0)) b m s) (come s may) (λ kit. sym (ap (λ w. worked setting kit w (topped Running b m s)) over))
+
+    -- a stretch within a block, so far
+    module _ (p : Position) (b : PlainActivation) (m : PlainLayer) (come : ComesTo setting passes a l None (at (Block p) b) m) where
+      -- the block's end
+      pub come_out : (c : PlainActivation) → None ≡ instruction_inside setting.codes b.procedure (length b.outer) p → c ≡ outside b → ComesTo setting passes a l None c m
+      come_out c found is s may =
+          let x = topped Running (at (Block p) b) m s in
+          let same : topped Running c m s ≡ topped Running (outside (at (Block p) b)) m s = ap (λ (y : PlainActivation). topped Running y m s) (is ∙ outside_at b.work b.left b.children b.procedure b.slots b.outer (Block p) b.spawned b.into) in
+          on x (topped Running c m s) (come s may) (λ kit. same ∙ ap (λ o. gone_by setting kit p o x) found)
+
+      module _ (i : Instruction) (found : Some i ≡ instruction_inside setting.codes b.procedure (length b.outer) p) (c : PlainActivation) (n : PlainLayer) where
+        abbrev pub meaning_there : Bool → PlainStrand → PlainStrand
+        meaning_there kit = performed setting kit p i.number i.operation
+
+        -- the meaning of the statement there is the next small step
+        is_step : (kit : Bool) (s : PlainStrand) → meaning_there kit (topped Running (at (Block p) b) m s) ≡ advanced setting kit (topped Running (at (Block p) b) m s)
+        is_step kit s = ap (λ o. gone_by setting kit p o (topped Running (at (Block p) b) m s)) found
+
+        pub come_next : Does passes p meaning_there b m Next c n → ComesTo setting passes a l None (at (Block (next_of p)) c) n
+        come_next h s may = on (topped Running (at (Block p) b) m s) (topped Running (at (Block (next_of p)) c) n s) (come s may) (λ kit. h s may kit ∙ is_step kit s)
+
+        pub come_moved : Does passes p meaning_there b m Moved c n → ComesTo setting passes a l None c n
+        come_moved h s may = on (topped Running (at (Block p) b) m s) (topped Running c n s) (come s may) (λ kit. h s may kit ∙ is_step kit s)
+
+        pub come_gave : (v : ℤ) → Does passes p meaning_there b m (Gave v) c n → ComesTo setting passes a l (Some v) (at (Block p) c) n
+        come_gave v h s may = on (topped Running (at (Block p) b) m s) (topped (Returning v) (at (Block p) c) n s) (come s may) (λ kit. h s may kit ∙ is_step kit s)
+
+        pub come_none : Does passes p meaning_there b m Nothing c n → ComesTo setting passes a l None (at (Block p) c) n
+        come_none h s may =
+            subst (λ (y : PlainActivation). IsPath setting (topped Running a l s) (topped Running (at (Block p) y) n s)) (sym h.0)
+            (subst (λ (z : PlainLayer). IsPath setting (topped Running a l s) (topped Running (at (Block p) b) z s)) (sym h.1) (come s may))

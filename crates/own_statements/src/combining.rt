@@ -1,0 +1,233 @@
+//! Updates of reducers in the topmost layer.
+ghost use Rattle.std.specs.Prelude.{◌≡◌, ◌+◌, ◌<◌, ◌^◌, ◌∷◌, [], true, false, length, map, slice_get};
+ghost use Rattle.linked_program.specs.CodeView.{expression as plain};
+ghost use Rattle.evaluation.specs.Values.{values_at};
+ghost use Rattle.positions.specs.Advance.{evaluated, combining};
+ghost use Rattle.own_statements.specs.Paths.{Does, OnNext, IsInBlock, Takes, Combines};
+
+use crate::statements::Did;
+use activations::activation::Activation;
+use activations::setting::Setting;
+use layers::layer::Layer;
+use layers::updating::arity;
+use linked_program::checked::Checked;
+use linked_program::code::Expression;
+use positions::work::Position;
+use view_pool::View;
+
+/// Combines what the expressions' values name with a reducer's value; one or two numbers need no list.
+#[inline(always)]
+pub fn combine_some<V: View>(
+    layer: &mut Layer<V>,
+    setting: Setting<'_>,
+    passes_syncs: bool,
+    statement: u32,
+    place: Position,
+    reducer: usize,
+    expressions: &[Expression],
+    top: &mut Activation,
+    numbers: &mut Vec<i64>,
+) -> Did
+    requires room { place.index + 1 < 2 ^ 64 }
+    requires kinds { layer.old.kinds ≡ setting.program.now.kinds }
+    ensures done { Does passes_syncs place (λ kit. evaluated statement (values_at setting.entry.tables.now.tables top.old.slots (map plain expressions.now)) (combining (slice_get setting.entry.program.now.kinds reducer) statement place reducer)) top.old layer.old result top.new layer.new }
+    ensures same_block { OnNext result (IsInBlock top.old top.new) }
+    ensures kinds { layer.new.kinds ≡ layer.old.kinds }
+{
+    let count = expressions.len();
+    if count == 1 && takes(setting.program, reducer, count) {
+        let first = &expressions[0];
+        return combine_one(
+            layer,
+            setting,
+            passes_syncs,
+            statement,
+            place,
+            reducer,
+            first,
+            top,
+        );
+    }
+    if count == 2 && takes(setting.program, reducer, count) {
+        let first = &expressions[0];
+        let second = &expressions[1];
+        return combine_two(
+            layer,
+            setting,
+            passes_syncs,
+            statement,
+            place,
+            reducer,
+            first,
+            second,
+            top,
+        );
+    }
+    combine_all(
+        layer,
+        setting,
+        passes_syncs,
+        statement,
+        place,
+        reducer,
+        expressions,
+        top,
+        numbers,
+    )
+}
+
+/// The same for one expression, where the reducer takes one number.
+#[inline(always)]
+fn combine_one<V: View>(
+    layer: &mut Layer<V>,
+    setting: Setting<'_>,
+    passes_syncs: bool,
+    statement: u32,
+    place: Position,
+    reducer: usize,
+    expression: &Expression,
+    top: &mut Activation,
+) -> Did
+    requires room { place.index + 1 < 2 ^ 64 }
+    requires takes { Takes setting.program.now.kinds reducer 1 }
+    requires kinds { layer.old.kinds ≡ setting.program.now.kinds }
+    ensures done { Does passes_syncs place (λ kit. evaluated statement (values_at setting.entry.tables.now.tables top.old.slots (plain expression.now ∷ [])) (combining (slice_get setting.entry.program.now.kinds reducer) statement place reducer)) top.old layer.old result top.new layer.new }
+    ensures same_block { OnNext result (IsInBlock top.old top.new) }
+    ensures kinds { layer.new.kinds ≡ layer.old.kinds }
+{
+    let before = layer.readings();
+    match layer.value(expression, top.slots(), setting.tables) {
+        Ok(number) => {
+            if combine_fitting(layer, setting.program, reducer, &[number]) {
+                return Did::Next;
+            }
+            layer.forget(before);
+            Did::Nothing
+        }
+        Err(_) => {
+            layer.forget(before);
+            Did::Nothing
+        }
+    }
+}
+
+/// The same for two expressions, where the reducer takes two numbers.
+fn combine_two<V: View>(
+    layer: &mut Layer<V>,
+    setting: Setting<'_>,
+    passes_syncs: bool,
+    statement: u32,
+    place: Position,
+    reducer: usize,
+    first: &Expression,
+    second: &Expression,
+    top: &mut Activation,
+) -> Did
+    requires room { place.index + 1 < 2 ^ 64 }
+    requires takes { Takes setting.program.now.kinds reducer 2 }
+    requires kinds { layer.old.kinds ≡ setting.program.now.kinds }
+    ensures done { Does passes_syncs place (λ kit. evaluated statement (values_at setting.entry.tables.now.tables top.old.slots (plain first.now ∷ plain second.now ∷ [])) (combining (slice_get setting.entry.program.now.kinds reducer) statement place reducer)) top.old layer.old result top.new layer.new }
+    ensures same_block { OnNext result (IsInBlock top.old top.new) }
+    ensures kinds { layer.new.kinds ≡ layer.old.kinds }
+{
+    let before = layer.readings();
+    match layer.pair(first, second, top.slots(), setting.tables) {
+        Ok(pair) => {
+            if combine_fitting(layer, setting.program, reducer, &[pair.0, pair.1]) {
+                return Did::Next;
+            }
+            layer.forget(before);
+            Did::Nothing
+        }
+        Err(_) => {
+            layer.forget(before);
+            Did::Nothing
+        }
+    }
+}
+
+/// The same for whatever expressions.
+fn combine_all<V: View>(
+    layer: &mut Layer<V>,
+    setting: Setting<'_>,
+    passes_syncs: bool,
+    statement: u32,
+    place: Position,
+    reducer: usize,
+    expressions: &[Expression],
+    top: &mut Activation,
+    numbers: &mut Vec<i64>,
+) -> Did
+    requires room { place.index + 1 < 2 ^ 64 }
+    requires kinds { layer.old.kinds ≡ setting.program.now.kinds }
+    ensures done { Does passes_syncs place (λ kit. evaluated statement (values_at setting.entry.tables.now.tables top.old.slots (map plain expressions.now)) (combining (slice_get setting.entry.program.now.kinds reducer) statement place reducer)) top.old layer.old result top.new layer.new }
+    ensures same_block { OnNext result (IsInBlock top.old top.new) }
+    ensures kinds { layer.new.kinds ≡ layer.old.kinds }
+{
+    let before = layer.readings();
+    if layer
+        .values(expressions, top.slots(), setting.tables, numbers)
+        .is_err()
+    {
+        layer.forget(before);
+        return Did::Nothing;
+    }
+    if combine(layer, setting.program, reducer, numbers) {
+        return Did::Next;
+    }
+    layer.forget(before);
+    Did::Nothing
+}
+
+/// Combines the element that the numbers name on the right of a reducer's value; false where they name none, or memory is
+/// refused, and then nothing has changed.
+fn combine<V: View>(
+    layer: &mut Layer<V>,
+    program: &Checked,
+    reducer: usize,
+    numbers: &mut Vec<i64>,
+) -> bool
+    requires kinds { layer.old.kinds ≡ program.now.kinds }
+    ensures combined { result ≡ true → Combines (slice_get program.now.kinds reducer) reducer numbers.old.items layer.old layer.new }
+    ensures unchanged { result ≡ false → layer.new ≡ layer.old }
+    ensures kinds { layer.new.kinds ≡ layer.old.kinds }
+{
+    match program.kinds().get(reducer) {
+        None => true,
+        Some(kind) => match layer.update(kind, reducer, numbers) {
+            Ok(named) => named,
+            Err(_) => false,
+        },
+    }
+}
+
+/// The same where they are as many as the reducer takes.
+#[inline(always)]
+fn combine_fitting<V: View>(
+    layer: &mut Layer<V>,
+    program: &Checked,
+    reducer: usize,
+    numbers: &[i64],
+) -> bool
+    requires kinds { layer.old.kinds ≡ program.now.kinds }
+    requires takes { Takes program.now.kinds reducer (length numbers.now) }
+    ensures combined { result ≡ true → Combines (slice_get program.now.kinds reducer) reducer numbers.now layer.old layer.new }
+    ensures unchanged { result ≡ false → layer.new ≡ layer.old }
+    ensures kinds { layer.new.kinds ≡ layer.old.kinds }
+{
+    match program.kinds().get(reducer) {
+        None => true,
+        Some(kind) => layer.update_fitting(kind, reducer, numbers).is_ok(),
+    }
+}
+
+/// Whether a reducer of the program takes so many numbers.
+#[inline(always)]
+fn takes(program: &Checked, reducer: usize, count: usize) -> bool
+    ensures takes { result ≡ true → Takes program.now.kinds reducer count }
+{
+    match program.kinds().get(reducer) {
+        None => false,
+        Some(kind) => arity(kind) == count,
+    }
+}

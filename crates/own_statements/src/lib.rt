@@ -1,0 +1,7 @@
+//! What an instance does by itself: statements that enter no other instance, over the topmost layer alone.
+#![tactic(auto)]
+
+mod combining;
+pub mod filling;
+pub mod runs;
+pub mod statements;

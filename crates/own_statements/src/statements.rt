@@ -1,0 +1,213 @@
+//! The statements that an instance does by itself: they enter no other instance.
+ghost use Rattle.std.specs.Prelude.{◌≡◌, ◌+◌, ◌<◌, ◌^◌, if◌then◌else◌};
+ghost use Rattle.linked_program.specs.CodeView.{expression as plain};
+ghost use Rattle.evaluation.specs.Values.{value_at};
+ghost use Rattle.positions.specs.Strands.{is_entry};
+ghost use Rattle.positions.specs.Advance.{evaluated, binding, choosing, giving, moved_on, performed};
+ghost use Rattle.activations.specs.Given.{lent};
+ghost use Rattle.own_statements.specs.Paths.{Does, OnNext, IsInBlock};
+
+use crate::combining::combine_some;
+use activations::activation::Activation;
+use activations::setting::Setting;
+use evaluation::slot::Slot;
+use input_tables::Tables;
+use layers::layer::Layer;
+use linked_program::code::{Expression, Instruction, Operation};
+use positions::work::Position;
+use view_pool::View;
+
+/// What was done of a statement or a stretch of them: nothing; all of it, and the next statement of the block is next; all of it,
+/// and the instance goes on elsewhere; all of it, which gave that value back.
+#[derive(Clone, Copy)]
+pub enum Did {
+    Nothing,
+    Next,
+    Moved,
+    Gave(i64),
+}
+
+/// One statement. Where the next one of the block is next, what the instance has left is not noted.
+#[inline(always)]
+pub fn perform<V: View>(
+    layer: &mut Layer<V>,
+    setting: Setting<'_>,
+    passes_syncs: bool,
+    place: Position,
+    instruction: &Instruction,
+    top: &mut Activation,
+    numbers: &mut Vec<i64>,
+) -> Did
+    requires room { place.index + 1 < 2 ^ 64 }
+    requires kinds { layer.old.kinds ≡ setting.program.now.kinds }
+    ensures done { Does passes_syncs place (λ kit. performed (lent setting.entry) kit place instruction.now.number instruction.now.operation) top.old layer.old result top.new layer.new }
+    ensures same_block { OnNext result (IsInBlock top.old top.new) }
+    ensures kinds { layer.new.kinds ≡ layer.old.kinds }
+{
+    let number = instruction.number;
+    match &instruction.operation {
+        Operation::Bind(name, value) => {
+            bind(
+                layer,
+                setting.tables,
+                passes_syncs,
+                number,
+                place,
+                *name,
+                value,
+                top,
+            )
+        }
+        Operation::Update(reducer, values) => {
+            let values = values.as_slice();
+            combine_some(
+                layer,
+                setting,
+                passes_syncs,
+                number,
+                place,
+                *reducer,
+                values,
+                top,
+                numbers,
+            )
+        }
+        Operation::If(condition, first, second) => {
+            choose(
+                layer,
+                setting.tables,
+                passes_syncs,
+                number,
+                place,
+                condition,
+                *first,
+                *second,
+                top,
+            )
+        }
+        Operation::Return(value) => {
+            give(
+                layer,
+                setting.tables,
+                passes_syncs,
+                number,
+                place,
+                value,
+                top,
+            )
+        }
+        Operation::Sync => pass_sync(layer, passes_syncs, place, top),
+        _ => Did::Nothing,
+    }
+}
+
+/// A sync, where it may be passed.
+#[inline(always)]
+fn pass_sync<V: View>(
+    layer: &mut Layer<V>,
+    passes_syncs: bool,
+    place: Position,
+    top: &mut Activation,
+) -> Did
+    requires room { place.index + 1 < 2 ^ 64 }
+    ensures done { Does passes_syncs place (λ kit s. if is_entry s then s else moved_on place s) top.old layer.old result top.new layer.new }
+    ensures same_block { OnNext result (IsInBlock top.old top.new) }
+    ensures kinds { layer.new.kinds ≡ layer.old.kinds }
+{
+    let _ = top.left();
+    if passes_syncs {
+        Did::Next
+    } else {
+        Did::Nothing
+    }
+}
+
+/// Puts the value of an expression into a slot.
+#[inline(always)]
+fn bind<V: View>(
+    layer: &mut Layer<V>,
+    tables: &Tables,
+    passes_syncs: bool,
+    statement: u32,
+    place: Position,
+    name: usize,
+    expression: &Expression,
+    top: &mut Activation,
+) -> Did
+    requires room { place.index + 1 < 2 ^ 64 }
+    ensures done { Does passes_syncs place (λ kit. evaluated statement (value_at tables.now.tables top.old.slots (plain expression.now)) (binding place name)) top.old layer.old result top.new layer.new }
+    ensures same_block { OnNext result (IsInBlock top.old top.new) }
+    ensures kinds { layer.new.kinds ≡ layer.old.kinds }
+{
+    let before = layer.readings();
+    match layer.value(expression, top.slots(), tables) {
+        Ok(value) => {
+            top.bind(Some(name), Slot::Has(value));
+            Did::Next
+        }
+        Err(_) => {
+            layer.forget(before);
+            Did::Nothing
+        }
+    }
+}
+
+/// Goes into one of two blocks by a condition.
+#[inline(always)]
+fn choose<V: View>(
+    layer: &mut Layer<V>,
+    tables: &Tables,
+    passes_syncs: bool,
+    statement: u32,
+    place: Position,
+    condition: &Expression,
+    first: usize,
+    second: usize,
+    top: &mut Activation,
+) -> Did
+    requires room { place.index + 1 < 2 ^ 64 }
+    ensures done { Does passes_syncs place (λ kit. evaluated statement (value_at tables.now.tables top.old.slots (plain condition.now)) (choosing place first second)) top.old layer.old result top.new layer.new }
+    ensures same_block { OnNext result (IsInBlock top.old top.new) }
+    ensures kinds { layer.new.kinds ≡ layer.old.kinds }
+{
+    let before = layer.readings();
+    match layer.value(condition, top.slots(), tables) {
+        Ok(value) => {
+            let block = if value == 0 { second } else { first };
+            if top.go_inside(block, place).is_err() {
+                layer.forget(before);
+                return Did::Nothing;
+            }
+            Did::Moved
+        }
+        Err(_) => {
+            layer.forget(before);
+            Did::Nothing
+        }
+    }
+}
+
+/// Gives the value of an expression back.
+#[inline(always)]
+fn give<V: View>(
+    layer: &mut Layer<V>,
+    tables: &Tables,
+    passes_syncs: bool,
+    statement: u32,
+    place: Position,
+    expression: &Expression,
+    top: &mut Activation,
+) -> Did
+    ensures done { Does passes_syncs place (λ kit. evaluated statement (value_at tables.now.tables top.old.slots (plain expression.now)) giving) top.old layer.old result top.new layer.new }
+    ensures same_block { OnNext result (IsInBlock top.old top.new) }
+    ensures kinds { layer.new.kinds ≡ layer.old.kinds }
+{
+    let before = layer.readings();
+    match layer.value(expression, top.slots(), tables) {
+        Ok(value) => Did::Gave(value),
+        Err(_) => {
+            layer.forget(before);
+            Did::Nothing
+        }
+    }
+}

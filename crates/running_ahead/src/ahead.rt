@@ -1,0 +1,394 @@
+//! Many small steps in one go: those for which no kit is needed, and which spawn nothing.
+ghost use Rattle.std.specs.Prelude.{◌≡◌, ◌+◌, ◌<◌, ◌^◌, ◌++◌, ◌∷◌, [], ℕ, true, false, length, map, None};
+ghost use Rattle.program_tree.specs.declared.Way.TheVariants.{Call};
+ghost use Rattle.linked_program.specs.CodeView.{expression as plain, slots_of};
+ghost use Rattle.evaluation.specs.Values.{entry_at};
+ghost use Rattle.positions.specs.Activations.{ShareFits, WorkFits, next_of as place_after};
+ghost use Rattle.positions.specs.Setting.{Setting as PlainSetting};
+ghost use Rattle.positions.specs.Strands.{entry_by};
+ghost use Rattle.positions.specs.Tallies.{is_own};
+ghost use Rattle.positions.specs.Advance.{called, evaluated, performed, turn_slots, rest_of as later_of};
+ghost use Rattle.activations.specs.Given.{lent};
+ghost use Rattle.activations.specs.Slots.{laid_over};
+ghost use Rattle.own_statements.specs.Paths.{phase_by};
+ghost use Rattle.small_steps.specs.Steps.{nested_plain};
+ghost use Rattle.running_ahead.specs.Ahead.{IsAhead, GoesAhead, GoesAheadBy, CameBy, OnBack, IsBackWith};
+
+use activations::activation::next_of;
+use activations::code::{LoopCode, instruction, loop_code};
+use activations::setting::Setting;
+use activations::shares::{number_of, rest_of};
+use evaluation::slot::Slot;
+use linked_program::code::{Expression, Instruction, Operation};
+use own_statements::filling::fills;
+use own_statements::runs::{call, run};
+use positions::phase::Phase;
+use positions::start::Start;
+use positions::work::{Loop, Position, Share, Work};
+use program_tree::Way;
+use small_steps::machine::Machine;
+use std::alloc::Global;
+use std::mem;
+use view_pool::View;
+
+// How many stretches of small steps, and how many iterations of a loop, are done in one go.
+const STRETCHES: u32 = 1024;
+
+const ITERATIONS: u32 = 1024;
+
+/// What came of an instance that was to be called: nothing was done; it is over, and its value went to the one that called it; or
+/// it stands on the strand and has more to do.
+#[derive(Clone, Copy)]
+pub enum Came {
+    Nowhere,
+    Back,
+    Stays,
+}
+
+/// Does small steps of its instances.
+#[tactic(auto, using(crate::proofs::Paths::ahead_here, crate::proofs::Paths::ahead_join))]
+pub fn run_ahead<V: View>(machine: &mut Machine<V>, alloc: Global, setting: Setting<'_>)
+    requires kinds { machine.old.layer.kinds ≡ setting.program.now.kinds }
+    ensures ahead { IsAhead (lent setting.entry) machine.old machine.new }
+{
+    for _ in 0..STRETCHES {
+        if !go_ahead(machine, alloc, setting) {
+            return;
+        }
+    }
+}
+
+/// Does small steps of its topmost instance, or of one that this calls; whether there may be more.
+#[tactic(auto, using(crate::proofs::Paths::ahead_here, crate::proofs::Paths::ahead_join))]
+fn go_ahead<V: View>(machine: &mut Machine<V>, alloc: Global, setting: Setting<'_>) -> bool
+    requires kinds { machine.old.layer.kinds ≡ setting.program.now.kinds }
+    ensures ahead { IsAhead (lent setting.entry) machine.old machine.new }
+{
+    match machine.phase {
+        Phase::Running => match machine.top.work() {
+            Work::Block(_) => block_ahead(machine, alloc, setting),
+            Work::Over => block_ahead(machine, alloc, setting),
+            Work::Turns(site, share) => turns_ahead(machine, alloc, setting, site, share),
+            _ => false,
+        },
+        Phase::Returning(value) => sync_ahead(machine, value),
+        Phase::Leaving(value) => leave_ahead(machine, value),
+        _ => false,
+    }
+}
+
+/// What is left of the topmost instance's blocks.
+#[tactic(auto, using(crate::proofs::Paths::ahead_here, crate::proofs::Paths::ahead_join))]
+fn block_ahead<V: View>(machine: &mut Machine<V>, alloc: Global, setting: Setting<'_>) -> bool
+    requires running { machine.old.phase ≡ Phase.Running }
+    requires kinds { machine.old.layer.kinds ≡ setting.program.now.kinds }
+    ensures ahead { IsAhead (lent setting.entry) machine.old machine.new }
+{
+    match statements_ahead(machine, setting) {
+        Some(value) => sync_ahead(machine, value),
+        None => call_ahead(machine, alloc, setting),
+    }
+}
+
+/// The statements that the topmost instance does by itself, as far as to the one that gives a value back.
+fn statements_ahead<V: View>(machine: &mut Machine<V>, setting: Setting<'_>) -> Option<i64>
+    requires running { machine.old.phase ≡ Phase.Running }
+    requires kinds { machine.old.layer.kinds ≡ setting.program.now.kinds }
+    ensures ahead { IsAhead (lent setting.entry) machine.old machine.new }
+    ensures phase { machine.new.phase ≡ phase_by result }
+{
+    let passes_syncs = !machine.is_entry();
+    match run(
+        &mut machine.layer,
+        setting,
+        passes_syncs,
+        &mut machine.top,
+        &mut machine.numbers,
+    ) {
+        Some(value) => {
+            machine.phase = Phase::Returning(value);
+            Some(value)
+        }
+        None => None,
+    }
+}
+
+/// The implicit sync of the topmost instance, whose value that is, where no layer is closed.
+fn sync_ahead<V: View>(machine: &mut Machine<V>, value: i64) -> bool
+    requires returning { machine.old.phase ≡ Phase.Returning value }
+    ensures ahead { (setting : PlainSetting) → IsAhead setting machine.old machine.new }
+{
+    if machine.is_entry() || machine.tally.is_own(machine.path.len()) {
+        return false;
+    }
+    machine.phase = Phase::Leaving(value);
+    leave_ahead(machine, value)
+}
+
+/// The topmost instance's value goes to the one below it.
+fn leave_ahead<V: View>(machine: &mut Machine<V>, value: i64) -> bool
+    requires leaving { machine.old.phase ≡ Phase.Leaving value }
+    ensures ahead { (setting : PlainSetting) → IsAhead setting machine.old machine.new }
+{
+    if machine.below.is_empty() {
+        return false;
+    }
+    machine.leave(value);
+    true
+}
+
+/// The topmost instance's next statement, where that calls an instance of a procedure that isn't marked memo.
+fn call_ahead<V: View>(machine: &mut Machine<V>, alloc: Global, setting: Setting<'_>) -> bool
+    requires running { machine.old.phase ≡ Phase.Running }
+    requires kinds { machine.old.layer.kinds ≡ setting.program.now.kinds }
+    ensures ahead { IsAhead (lent setting.entry) machine.old machine.new }
+{
+    match machine.top.work() {
+        Work::Block(place) => match instruction(
+            setting.program,
+            machine.top.procedure(),
+            machine.top.depth(),
+            place,
+        ) {
+            Some(instruction) => enter_ahead(machine, alloc, setting, place, instruction),
+            None => false,
+        },
+        _ => false,
+    }
+}
+
+/// The same of the statement at that place.
+fn enter_ahead<V: View>(
+    machine: &mut Machine<V>,
+    alloc: Global,
+    setting: Setting<'_>,
+    place: Position,
+    instruction: &Instruction,
+) -> bool
+    requires room { place.index + 1 < 2 ^ 64 }
+    requires kinds { machine.old.layer.kinds ≡ setting.program.now.kinds }
+    requires running { machine.old.phase ≡ Phase.Running }
+    ensures ahead { GoesAheadBy (lent setting.entry) (λ kit. performed (lent setting.entry) kit place instruction.now.number instruction.now.operation) machine.old machine.new }
+{
+    match &instruction.operation {
+        Operation::Enter(into, way, callee, arguments) => {
+            let arguments = arguments.as_slice();
+            enter_by(
+                machine,
+                alloc,
+                setting,
+                instruction.number,
+                place,
+                *way,
+                *into,
+                *callee,
+                arguments,
+            )
+        }
+        _ => false,
+    }
+}
+
+/// Calls an instance, where its procedure isn't marked memo, and does its statements.
+fn enter_by<V: View>(
+    machine: &mut Machine<V>,
+    alloc: Global,
+    setting: Setting<'_>,
+    statement: u32,
+    place: Position,
+    way: Way,
+    into: Option<usize>,
+    callee: usize,
+    arguments: &[Expression],
+) -> bool
+    requires room { place.index + 1 < 2 ^ 64 }
+    requires kinds { machine.old.layer.kinds ≡ setting.program.now.kinds }
+    requires running { machine.old.phase ≡ Phase.Running }
+    ensures ahead { GoesAheadBy (lent setting.entry) (λ kit. called (lent setting.entry) kit statement way into (Work.Block (place_after place)) callee (map plain arguments.now) machine.old.top.slots) machine.old machine.new }
+{
+    match way {
+        Way::Call => {
+            if setting.program.is_memo(callee) {
+                false
+            } else {
+                enter_plain_ahead(
+                    machine, alloc, setting, statement, place, into, callee, arguments,
+                )
+            }
+        }
+        Way::Spawn => false,
+    }
+}
+
+/// Calls an instance of a procedure that isn't marked memo, and does its statements.
+fn enter_plain_ahead<V: View>(
+    machine: &mut Machine<V>,
+    alloc: Global,
+    setting: Setting<'_>,
+    statement: u32,
+    place: Position,
+    into: Option<usize>,
+    callee: usize,
+    arguments: &[Expression],
+) -> bool
+    requires room { place.index + 1 < 2 ^ 64 }
+    requires kinds { machine.old.layer.kinds ≡ setting.program.now.kinds }
+    requires running { machine.old.phase ≡ Phase.Running }
+    ensures ahead { GoesAhead (lent setting.entry) (evaluated statement (entry_at setting.entry.tables.now.tables machine.old.top.slots (slots_of setting.entry.program.now.codes callee) (map plain arguments.now)) (nested_plain statement Call into (Work.Block (place_after place)) callee)) machine.old machine.new }
+{
+    let work = Work::Block(next_of(place));
+    match child_ahead(machine, alloc, setting, into, work, callee, arguments, None) {
+        Came::Nowhere => false,
+        Came::Back => true,
+        Came::Stays => true,
+    }
+}
+
+/// Enters the iterations of a loop that has so many left, one after another, where their procedure isn't marked memo, and does
+/// their statements; or ends the loop. False where nothing is left that could be done so.
+fn turns_ahead<V: View>(
+    machine: &mut Machine<V>,
+    alloc: Global,
+    setting: Setting<'_>,
+    site: Loop,
+    share: Share,
+) -> bool
+    requires fits { ShareFits site share }
+    requires there { machine.old.top.work ≡ Work.Turns site share }
+    requires kinds { machine.old.layer.kinds ≡ setting.program.now.kinds }
+    requires running { machine.old.phase ≡ Phase.Running }
+    ensures ahead { IsAhead (lent setting.entry) machine.old machine.new }
+{
+    let code = loop_code(setting.program, machine.top.procedure(), site);
+    let is_memo = setting.program.is_memo(code.callee);
+    let mut share = share;
+    for _ in 0..ITERATIONS {
+        if share.count == 0 {
+            machine.phase = Phase::Returning(0);
+            return true;
+        }
+        if is_memo {
+            return false;
+        }
+        match turn_ahead(machine, alloc, setting, code, site, share) {
+            Came::Back => share = rest_of(site, share),
+            Came::Stays => return true,
+            Came::Nowhere => return false,
+        }
+    }
+    true
+}
+
+/// Enters the next iteration of a loop that has more, of a procedure that isn't marked memo.
+#[inline(always)]
+fn turn_ahead<V: View>(
+    machine: &mut Machine<V>,
+    alloc: Global,
+    setting: Setting<'_>,
+    code: LoopCode,
+    site: Loop,
+    share: Share,
+) -> Came
+    requires fits { ShareFits site share }
+    requires more { 0 < share.count }
+    requires kinds { machine.old.layer.kinds ≡ setting.program.now.kinds }
+    requires running { machine.old.phase ≡ Phase.Running }
+    ensures came { CameBy result (machine.new ≡ machine.old) (GoesAhead (lent setting.entry) (evaluated code.entry.number (entry_at setting.entry.tables.now.tables (turn_slots (record { number = code.entry.number; variable = code.entry.variable; grain = code.entry.grain; callee = code.entry.callee; arguments = code.entry.arguments.now }) site share machine.old) (slots_of setting.entry.program.now.codes code.entry.callee) (map plain code.entry.arguments.now)) (nested_plain code.entry.number Call None (Work.Turns site (later_of share)) code.entry.callee)) machine.old machine.new) }
+    ensures back { OnBack result (IsBackWith (Work.Turns site (later_of share)) machine.old machine.new) }
+{
+    let work = Work::Turns(site, rest_of(site, share));
+    let number = Slot::Has(number_of(site, share));
+    child_ahead(
+        machine,
+        alloc,
+        setting,
+        None,
+        work,
+        code.callee,
+        code.arguments,
+        Some((code.variable, number)),
+    )
+}
+
+/// Calls an instance of that procedure, which isn't marked memo, with those arguments, over the topmost instance's slots, of
+/// which one may hold something else meanwhile; and does the statements that it does by itself. What is left then is as `work`
+/// says. It stands on the strand only where it has more to do.
+#[inline(always)]
+fn child_ahead<V: View>(
+    machine: &mut Machine<V>,
+    alloc: Global,
+    setting: Setting<'_>,
+    into: Option<usize>,
+    work: Work,
+    callee: usize,
+    arguments: &[Expression],
+    meanwhile: Option<(usize, Slot)>,
+) -> Came
+    requires fits { WorkFits work }
+    requires kinds { machine.old.layer.kinds ≡ setting.program.now.kinds }
+    requires running { machine.old.phase ≡ Phase.Running }
+    ensures came { CameBy result (machine.new ≡ machine.old) ((statement : ℕ) → GoesAhead (lent setting.entry) (evaluated statement (entry_at setting.entry.tables.now.tables (laid_over meanwhile machine.old.top.slots) (slots_of setting.entry.program.now.codes callee) (map plain arguments.now)) (nested_plain statement Call into work callee)) machine.old machine.new) }
+    ensures back { OnBack result (IsBackWith work machine.old machine.new) }
+{
+    let left = machine.top.left();
+    if left == 0 || ends_otherwise(machine) {
+        return Came::Nowhere;
+    }
+    let Some(number) = machine.top.children().checked_add(1) else {
+        return Came::Nowhere;
+    };
+    if machine.path.reserve(1).is_err() || machine.below.reserve(1).is_err() {
+        return Came::Nowhere;
+    }
+    let size = setting.program.slots(callee);
+    if !fills(
+        &mut machine.layer,
+        &mut machine.spares.child,
+        &mut machine.top,
+        meanwhile,
+        size,
+        arguments,
+        setting.tables,
+    ) {
+        return Came::Nowhere;
+    }
+    match call(
+        &mut machine.layer,
+        setting,
+        callee,
+        left - 1,
+        &mut machine.spares.child,
+        &mut machine.numbers,
+    ) {
+        Some(value) => {
+            machine.top.wait(false, into, work);
+            machine.top.receive(value);
+            Came::Back
+        }
+        None => {
+            let blank = machine.spares.blank(alloc);
+            let child = mem::replace(&mut machine.spares.child, blank);
+            machine.path.push_reserved(number);
+            let mut parent = mem::replace(&mut machine.top, child);
+            parent.wait(false, into, work);
+            machine.below.push_reserved(parent);
+            Came::Stays
+        }
+    }
+}
+
+/// Whether a called child of the topmost instance would end otherwise than by going back to it: it is where the strand begins,
+/// or the topmost layer is its own.
+fn ends_otherwise<V: View>(machine: &Machine<V>) -> bool
+    ensures entry { result ≡ false → (number : ℕ) → entry_by machine.now.start (machine.now.path ++ number ∷ []) ≡ false }
+    ensures own { result ≡ false → (number : ℕ) → is_own machine.now.tally.opened (length (machine.now.path ++ number ∷ [])) ≡ false }
+{
+    let length = machine.path.len() + 1;
+    if machine.tally.is_own(length) {
+        return true;
+    }
+    match machine.start {
+        Start::Root => false,
+        Start::Behind { depth, child: _ } => depth == length,
+    }
+}

@@ -1,0 +1,4 @@
+//! Many small steps of a strand in one go.
+#![tactic(auto)]
+
+pub mod ahead;

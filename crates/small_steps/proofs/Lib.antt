@@ -1,0 +1,7 @@
+pub mod Crosses
+pub mod Ready
+pub mod Keeping
+pub mod Supplies
+pub mod Refusals
+pub mod Memos
+pub mod Nesting

@@ -1,0 +1,32 @@
+use Rattle.std.proofs.Common.{◌≡◌, ◌∙◌, map, subst, Some}
+use Rattle.linked_program.specs.CodeView.{expression as plain}
+use Rattle.evaluation.specs.Values.{values_at}
+use Rattle.positions.specs.Advance.{evaluated, nested_memo}
+use Rattle.small_steps.specs.Ends.{Evaluates}
+use Rattle.activations.specs.Given.{lent}
+use Rattle.small_steps.specs.Steps.{GivesNone}
+use Rattle.small_steps.proofs.Nesting.{evaluated_some, evaluated_none}
+use Rattle.small_steps.proofs.Supplies.{holds_as, kits_stay}
+use Rattle.small_steps.proofs.machine.Machine.enter_memo_by.Goals as goal
+
+pub returns-in-Ok-clause-entered : goal.returns-in-Ok-clause-entered
+returns-in-Ok-clause-entered g c =
+    let e = c.args.entrance in
+    let s = c.args.self.now in
+    let mid = c.values.new.self in
+    let out = values_at c.args.setting.tables.now.tables s.top.slots (map plain c.args.arguments.now) in
+    let ends : Evaluates (λ u. c.values.new.numbers.items) e.statement out s mid (Some c.in-Some.field-0) =
+    subst (λ r. Evaluates (λ u. c.values.new.numbers.items) e.statement out s mid r) c.in-Some.is c.in_ok-values.ensures.evaluated in
+    holds_as (g.K.KitSource.lacks c.args.kits.now) (GivesNone g.K.KitSource.gives c.args.kits.now)
+    (λ kit. c.nest_memo.new.self ≡ nested_memo (lent c.args.setting) kit e.statement e.way e.into e.work e.callee c.values.new.numbers.items mid)
+    (λ kit. c.nest_memo.new.self ≡ evaluated e.statement out (nested_memo (lent c.args.setting) kit e.statement e.way e.into e.work e.callee) s)
+    (λ kit h. h ∙ evaluated_some (λ u. c.values.new.numbers.items) e.statement out (nested_memo (lent c.args.setting) kit e.statement e.way e.into e.work e.callee) s mid c.in-Some.field-0 ends)
+    c.in-Ok.ensures.nested
+
+pub returns-in-None-clause-kits : goal.returns-in-None-clause-kits
+returns-in-None-clause-kits g c =
+    let s = c.args.self.now in
+    let out = values_at c.args.setting.tables.now.tables s.top.slots (map plain c.args.arguments.now) in
+    kits_stay g.K.KitSource.fits g.K.KitSource.gives g.K.KitSource.free g.K.KitSource.total c.args.setting.program.now.kinds c.args.kits.now s.lower c.values.new.self.lower c.requires.supplied.given
+    (evaluated_none {B = Unit {0}} (λ u. c.values.new.numbers.items) c.args.entrance.statement out s c.values.new.self
+    (subst (λ r. Evaluates (λ u. c.values.new.numbers.items) c.args.entrance.statement out s c.values.new.self r) c.in-None.is c.in_ok-values.ensures.evaluated))

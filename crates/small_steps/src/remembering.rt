@@ -1,0 +1,207 @@
+// Memo instances that are called and spawned: their arguments are kept, by which a record of them is looked up.
+ghost use Rattle.std.specs.Prelude.{◌≡◌, [], true, false, ◌<◌, OnErr, OnOk, IfOk, map};
+ghost use Rattle.linked_program.specs.CodeView.{expression as plain, memo_of};
+ghost use Rattle.evaluation.specs.Slots.{slots_for};
+ghost use Rattle.evaluation.specs.Values.{values_at};
+ghost use Rattle.positions.specs.Activations.{WorkFits};
+ghost use Rattle.positions.specs.Advance.{answer_for, evaluated, nested, nested_memo, pushed, recalled};
+ghost use Rattle.activations.specs.Given.{lent};
+ghost use Rattle.small_steps.specs.Steps.{GivesNone, HoldsBy, IsSupplied, IsValued, KeepsKits, took_back};
+
+use crate::machine::Machine;
+use activations::activation::{Activation, FIRST, Waiting};
+use activations::setting::Setting;
+use evaluation::slot::Slot;
+use linked_program::code::Expression;
+use meaning::FaultKind;
+use positions::phase::Phase;
+use positions::work::Work;
+use program_tree::Way;
+use std::alloc::{AllocError, Global};
+use std::mem;
+use view_pool::{Kit, KitSource, View};
+
+/// How an instance is entered: at that statement, called or spawned, for the value in that slot, with that left behind it, and
+/// as one of that procedure.
+#[derive(Clone, Copy)]
+pub(crate) struct Entrance {
+    pub(crate) statement: u32,
+    pub(crate) way: Way,
+    pub(crate) into: Option<usize>,
+    pub(crate) work: Work,
+    pub(crate) callee: usize,
+}
+
+/// The slots of an instance of so many names that is entered with these values, in that empty list.
+fn slots_with(room: Vec<Slot>, size: usize, values: &[i64]) -> Result<Vec<Slot>, AllocError>
+    requires empty { room.items ≡ [] }
+    ensures slots { IfOk result (λ v. v.items ≡ slots_for size values.now) }
+{
+    let mut slots = room;
+    slots.reserve(size)?;
+    for value in values {
+        slots.push(Slot::Has(*value))?;
+    }
+    slots.resize(size, Slot::Unset)?;
+    Ok(slots)
+}
+
+impl<V: View> Machine<V> {
+    /// Calls or spawns an instance of a memo procedure, or is faulted at that statement.
+    pub(crate) fn enter_memo<K: KitSource<Kit<V>>>(
+        &mut self,
+        alloc: Global,
+        setting: Setting<'_>,
+        entrance: Entrance,
+        arguments: &[Expression],
+        kits: &mut K,
+    ) -> Result<(), AllocError>
+        requires fits { WorkFits entrance.work }
+        requires running { self.old.phase ≡ Phase.Running }
+        requires memo { memo_of setting.program.now.codes entrance.callee ≡ true }
+        requires supplied { IsSupplied K.fits K.gives K.free K.total setting.program.now.kinds kits.old setting.records.now self.old.layer.kinds self.old.lower }
+        ensures entered { OnOk result (HoldsBy (K.lacks kits.old) (GivesNone K.gives kits.old)
+            (λ kit. self.new ≡ evaluated entrance.statement (values_at setting.entry.tables.now.tables self.old.top.slots (map plain arguments.now)) (nested_memo (lent setting.entry) kit entrance.statement entrance.way entrance.into entrance.work entrance.callee) self.old)) }
+        ensures refused { OnErr result (IsValued self.old self.new) }
+        ensures kits { KeepsKits K.fits K.gives K.free K.total setting.entry.program.now.kinds kits.old kits.new self.old.lower self.new.lower }
+    {
+        let mut numbers = mem::replace(&mut self.numbers, Vec::new(alloc));
+        let outcome = self.enter_memo_by(alloc, setting, entrance, arguments, &mut numbers, kits);
+        self.numbers = numbers;
+        outcome
+    }
+
+    /// The same, by the arguments that are put into `numbers`.
+    fn enter_memo_by<K: KitSource<Kit<V>>>(
+        &mut self,
+        alloc: Global,
+        setting: Setting<'_>,
+        entrance: Entrance,
+        arguments: &[Expression],
+        numbers: &mut Vec<i64>,
+        kits: &mut K,
+    ) -> Result<(), AllocError>
+        requires fits { WorkFits entrance.work }
+        requires running { self.old.phase ≡ Phase.Running }
+        requires memo { memo_of setting.program.now.codes entrance.callee ≡ true }
+        requires supplied { IsSupplied K.fits K.gives K.free K.total setting.program.now.kinds kits.old setting.records.now self.old.layer.kinds self.old.lower }
+        ensures entered { OnOk result (HoldsBy (K.lacks kits.old) (GivesNone K.gives kits.old)
+            (λ kit. self.new ≡ evaluated entrance.statement (values_at setting.entry.tables.now.tables self.old.top.slots (map plain arguments.now)) (nested_memo (lent setting.entry) kit entrance.statement entrance.way entrance.into entrance.work entrance.callee) self.old)) }
+        ensures refused { OnErr result (IsValued self.old self.new) }
+        ensures kits { KeepsKits K.fits K.gives K.free K.total setting.entry.program.now.kinds kits.old kits.new self.old.lower self.new.lower }
+    {
+        let before = self.layer.readings();
+        match self.values(setting.tables, entrance.statement, arguments, numbers)? {
+            Some(()) => match self.nest_memo(alloc, setting, entrance, numbers, kits) {
+                Ok(()) => Ok(()),
+                Err(AllocError) => {
+                    self.forget(before);
+                    Err(AllocError)
+                }
+            },
+            None => Ok(()),
+        }
+    }
+
+    /// Enters an instance of a memo procedure with those arguments; or too deep.
+    pub(crate) fn nest_memo<K: KitSource<Kit<V>>>(
+        &mut self,
+        alloc: Global,
+        setting: Setting<'_>,
+        entrance: Entrance,
+        numbers: &mut Vec<i64>,
+        kits: &mut K,
+    ) -> Result<(), AllocError>
+        requires fits { WorkFits entrance.work }
+        requires running { self.old.phase ≡ Phase.Running }
+        requires memo { memo_of setting.program.now.codes entrance.callee ≡ true }
+        requires supplied { IsSupplied K.fits K.gives K.free K.total setting.program.now.kinds kits.old setting.records.now self.old.layer.kinds self.old.lower }
+        ensures nested { OnOk result (HoldsBy (K.lacks kits.old) (GivesNone K.gives kits.old)
+            (λ kit. self.new ≡ nested_memo (lent setting.entry) kit entrance.statement entrance.way entrance.into entrance.work entrance.callee numbers.old.items self.old)) }
+        ensures refused { OnErr result (IsValued self.old self.new) }
+        ensures kits { KeepsKits K.fits K.gives K.free K.total setting.entry.program.now.kinds kits.old kits.new self.old.lower self.new.lower }
+    {
+        let room = self.spares.slots(alloc);
+        let slots = slots_with(room, setting.program.slots(entrance.callee), numbers)?;
+        mem::swap(&mut self.arguments, numbers);
+        match self.nest_remembered(alloc, setting, entrance, slots, kits) {
+            Ok(()) => Ok(()),
+            Err(AllocError) => {
+                mem::swap(&mut self.arguments, numbers);
+                Err(AllocError)
+            }
+        }
+    }
+
+    /// Enters an instance of a memo procedure, whose arguments are kept, with those slots; or too deep.
+    fn nest_remembered<K: KitSource<Kit<V>>>(
+        &mut self,
+        alloc: Global,
+        setting: Setting<'_>,
+        entrance: Entrance,
+        slots: Vec<Slot>,
+        kits: &mut K,
+    ) -> Result<(), AllocError>
+        requires fits { WorkFits entrance.work }
+        requires running { self.old.phase ≡ Phase.Running }
+        requires memo { memo_of setting.program.now.codes entrance.callee ≡ true }
+        requires supplied { IsSupplied K.fits K.gives K.free K.total setting.program.now.kinds kits.old setting.records.now self.old.layer.kinds self.old.lower }
+        ensures nested { OnOk result (HoldsBy (K.lacks kits.old) (GivesNone K.gives kits.old)
+            (λ kit. self.new ≡ nested (lent setting.entry) kit entrance.statement entrance.way entrance.into entrance.work entrance.callee slots.items self.old)) }
+        ensures refused { OnErr result (IsValued self.old self.new) }
+        ensures kits { KeepsKits K.fits K.gives K.free K.total setting.entry.program.now.kinds kits.old kits.new self.old.lower self.new.lower }
+    {
+        let left = self.top.left();
+        if left == 0 {
+            self.fault(entrance.statement, FaultKind::TooDeep);
+            return Ok(());
+        }
+        let places = Vec::new(alloc);
+        let child = Activation::new(entrance.callee, slots, places, Work::Block(FIRST), left - 1);
+        match entrance.way {
+            Way::Call => self.call_memo(alloc, setting, child, entrance, kits),
+            Way::Spawn => self.push_spawned(child, entrance.work, entrance.into),
+        }
+    }
+
+    /// Calls a memo child: a record answers it, or it begins.
+    fn call_memo<K: KitSource<Kit<V>>>(
+        &mut self,
+        alloc: Global,
+        setting: Setting<'_>,
+        child: Activation,
+        entrance: Entrance,
+        kits: &mut K,
+    ) -> Result<(), AllocError>
+        requires fits { WorkFits entrance.work }
+        requires running { self.old.phase ≡ Phase.Running }
+        requires supplied { IsSupplied K.fits K.gives K.free K.total setting.program.now.kinds kits.old setting.records.now self.old.layer.kinds self.old.lower }
+        ensures recalled { OnOk result (HoldsBy (K.lacks kits.old) (GivesNone K.gives kits.old)
+            (λ kit. self.new ≡ recalled (lent setting.entry) kit (answer_for (lent setting.entry) (pushed child false entrance.into entrance.work Phase.Entering self.old)) (pushed child false entrance.into entrance.work Phase.Entering self.old))) }
+        ensures refused { OnErr result (IsValued self.old self.new) }
+        ensures kits { KeepsKits K.fits K.gives K.free K.total setting.entry.program.now.kinds kits.old kits.new self.old.lower self.new.lower }
+    {
+        let before = self.top.waiting();
+        self.push_called(child, entrance.work, entrance.into, Phase::Entering)?;
+        match self.recall(alloc, setting, kits) {
+            Ok(()) => Ok(()),
+            Err(AllocError) => {
+                self.take_back(before);
+                Err(AllocError)
+            }
+        }
+    }
+
+    /// Takes a called child away again; the instance under it waits as it did before.
+    fn take_back(&mut self, before: Waiting)
+        requires fits { WorkFits before.work }
+        ensures taken { self.new ≡ took_back self.old.below before.spawned before.into before.work self.old }
+    {
+        if let Some(mut parent) = self.below.pop() {
+            parent.wait_again(before);
+            self.top = parent;
+            let _ = self.path.pop();
+            self.phase = Phase::Running;
+        }
+    }
+}
