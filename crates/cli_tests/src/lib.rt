@@ -1,35 +1,20 @@
-//! The program's parts in memory: lines, files, scripts, sessions, streams and answers, against what was found by hand.
+//! The program's calls in memory: each once as it is meant, and with streams, views and memory that fail. What a session of the
+//! program shows stands in tests/.
 #![tactic(auto)]
 
 #[cfg(test)]
-mod answer_tests;
+mod beginning_tests;
 #[cfg(test)]
-mod edit_tests;
-#[cfg(test)]
-mod example_tests;
-#[cfg(test)]
-mod explain_tests;
-#[cfg(test)]
-mod line_tests;
+mod ending_tests;
 #[cfg(test)]
 mod memory_tests;
 #[cfg(test)]
-mod notes_tests;
-#[cfg(test)]
-mod program_tests;
-#[cfg(test)]
-mod reason_tests;
-#[cfg(test)]
-mod reporting;
-#[cfg(test)]
-mod row_tests;
+mod prepared_tests;
 #[cfg(test)]
 mod running;
 #[cfg(test)]
-mod script_tests;
-#[cfg(test)]
-mod session_tests;
-#[cfg(test)]
 mod stream_tests;
 #[cfg(test)]
-mod trace_tests;
+mod text_tests;
+#[cfg(test)]
+mod word_tests;

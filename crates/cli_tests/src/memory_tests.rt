@@ -1,4 +1,5 @@
-// Where memory is refused, a report ends by want of memory after a beginning of its answers, or is as it should be.
+// Where memory is refused, a report ends by want of memory after a beginning of its answers, or is as it should be; and a report whose
+// trace finds no room.
 use crate::running::prepare_error;
 use cli::files::FileSource;
 use cli::program::report_on;
@@ -35,62 +36,123 @@ const ASKED: Options<'static> = Options {
     explain: true,
 };
 
-// A program's file; that of the tables is empty. How long a trace gets is counted.
+// What was written into a place that takes no memory.
+#[derive(Clone, Copy)]
+struct Page {
+    bytes: [u8; 128],
+    len: usize,
+}
+
+impl Page {
+    fn text(&self) -> &[u8] {
+        &self.bytes[..self.len.min(128)]
+    }
+}
+
+const EMPTY: Page = Page {
+    bytes: [0; 128],
+    len: 0,
+};
+
+// Writes so many bytes on a page.
+#[derive(Clone, Copy)]
+struct Pen<'a> {
+    page: &'a Cell<Page>,
+    room: usize,
+}
+
+impl<'a> Write for Pen<'a> {
+    fn write(&mut self, buf: &[u8]) -> io::Result<usize> {
+        let mut page = self.page.get();
+        if page.len >= self.room.min(128) || buf.is_empty() {
+            return Err(io::Error::from(ErrorKind::WriteZero));
+        }
+        page.bytes[page.len] = buf[0];
+        page.len += 1;
+        self.page.set(page);
+        Ok(1)
+    }
+
+    fn flush(&mut self) -> io::Result<()> {
+        Ok(())
+    }
+}
+
+// A program's file; that of the tables is empty. The trace has room for so many bytes.
 #[derive(Clone, Copy)]
 struct Program<'a> {
     text: &'a [u8],
-    trace: &'a Cell<usize>,
+    trace: &'a Cell<Page>,
+    room: usize,
 }
 
 impl<'a> FileSource for Program<'a> {
-    type Made = Length<'a>;
+    type Made = Pen<'a>;
 
     fn read(&self, alloc: Global, path: &str) -> io::Result<Vec<u8>> {
         let text = if path == "p" { self.text } else { b"" };
         Ok(Vec::from_slice(alloc, text)?)
     }
 
-    fn make(&self, _path: &str) -> io::Result<Length<'a>> {
-        Ok(Length { bytes: self.trace })
+    fn make(&self, _path: &str) -> io::Result<Pen<'a>> {
+        Ok(Pen {
+            page: self.trace,
+            room: self.room,
+        })
     }
 }
 
-// A writer that counts its bytes, and takes no memory.
+// What a report has written, and its status.
 #[derive(Clone, Copy)]
-struct Length<'a> {
-    bytes: &'a Cell<usize>,
+struct Report {
+    answers: Page,
+    trace: Page,
+    counts: Page,
+    status: u8,
 }
 
-impl<'a> Write for Length<'a> {
-    fn write(&mut self, buf: &[u8]) -> io::Result<usize> {
-        self.bytes.set(self.bytes.get().saturating_add(buf.len()));
-        Ok(buf.len())
-    }
-
-    fn flush(&mut self) -> io::Result<()> {
-        Ok(())
-    }
-}
-
-// A writer that takes no memory.
-#[derive(Drop)]
-struct Page {
-    bytes: [u8; 64],
-    len: usize,
-}
-
-impl Write for Page {
-    fn write(&mut self, buf: &[u8]) -> io::Result<usize> {
-        if self.len >= 64 || buf.is_empty() {
-            return Err(io::Error::from(ErrorKind::WriteZero));
-        }
-        self.bytes[self.len] = buf[0];
-        self.len += 1;
-        Ok(1)
-    }
-
-    fn flush(&mut self) -> io::Result<()> {
-        Ok(())
+// Does a report whose trace has room for so many bytes.
+fn reported(
+    rt: &(impl Abort + Threads + Wait + Sync),
+    alloc: Global,
+    text: &[u8],
+    script: &[u8],
+    room: usize,
+) -> Report {
+    let make = |kind: Kind| -> Result<PlainView, AllocError> { Ok(PlainView::new(alloc, kind)) };
+    let mut reader = script;
+    let (answers, trace, counts) = (Cell::new(EMPTY), Cell::new(EMPTY), Cell::new(EMPTY));
+    let ended = report_on(
+        rt,
+        alloc,
+        ASKED,
+        &make,
+        &Program {
+            text,
+            trace: &trace,
+            room,
+        },
+        &mut reader,
+        &mut Pen {
+            page: &answers,
+            room: 128,
+        },
+        Pen {
+            page: &counts,
+            room: 128,
+        },
+        Explainer::new(alloc, io::sink()),
+        &mut Failures::none(),
+    );
+    let status = match ended {
+        Ok(()) => 0,
+        Err(error) => status(&error),
+    };
+    Report {
+        answers: answers.get(),
+        trace: trace.get(),
+        counts: counts.get(),
+        status,
     }
 }
 
@@ -103,35 +165,15 @@ fn is_written(
     script: &[u8],
     answers: &[u8],
 ) -> bool {
-    let make = |kind: Kind| -> Result<PlainView, AllocError> { Ok(PlainView::new(alloc, kind)) };
-    let mut reader = script;
-    let mut page = Page {
-        bytes: [0; 64],
-        len: 0,
-    };
-    let (trace, counts) = (Cell::new(0), Cell::new(0));
-    let ended = report_on(
-        rt,
-        alloc,
-        ASKED,
-        &make,
-        &Program {
-            text,
-            trace: &trace,
-        },
-        &mut reader,
-        &mut page,
-        Length { bytes: &counts },
-        Explainer::new(alloc, io::sink()),
-        &mut Failures::none(),
-    );
-    let written = &page.bytes[..page.len.min(64)];
-    if (trace.get() == 0) != (counts.get() == 0) {
+    let report = reported(rt, alloc, text, script, 128);
+    let written = report.answers.text();
+    if (report.trace.len == 0) != (report.counts.len == 0) {
         return false;
     }
-    match ended {
-        Ok(()) => written == answers,
-        Err(error) => status(&error) == 3 && answers.starts_with(written),
+    match report.status {
+        0 => written == answers,
+        3 => answers.starts_with(written),
+        _ => false,
     }
 }
 
@@ -152,6 +194,15 @@ fn of_edits(rt: HostRuntime) {
     let script = b"define\nproc leaf(v) { return v; }\nend\nrun\nput t 1 2\n";
     let answers = b"ok\nrun 1\nresult 3\ntotal 9\nrefused E4\n";
     assert!(&rt; is_written(&rt, rt.alloc(), FIRST, script, answers));
+}
+
+// The answer to the run that couldn't be noted isn't written, nor are its counts.
+#[test]
+fn a_trace_without_room(rt: HostRuntime) {
+    let report = reported(&rt, rt.alloc(), FIRST, b"here\nrun\n", 7);
+    assert_eq!(&rt; report.answers.text(), b"refused E19 1\n".as_slice());
+    assert_eq!(&rt; report.trace.text(), b"run 1\nf".as_slice());
+    assert_eq!(&rt; (report.counts.len, report.status), (0, 1));
 }
 
 #[test]

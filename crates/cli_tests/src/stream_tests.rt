@@ -1,8 +1,7 @@
-// Readers and writers that fail in mid-stream, or only for a moment.
-use crate::running::{ended_by, session};
-use cli::notes::NoNotes;
+// Readers and writers that fail in mid-stream, or only for a moment; and sessions over them.
+use crate::running::{ended, session};
 use program_endings::session_error::SessionError;
-use program_endings::streams::{Failures, read_all, write_whole};
+use program_endings::streams::{Failures, flush, read_all, write_whole};
 use std::alloc::Global;
 use std::io;
 use std::io::{ErrorKind, Read, Write};
@@ -10,9 +9,10 @@ use std::process::Abort;
 use std::sync::Wait;
 use std::thread::Threads;
 
-// A reader that gives one byte of `run` and an end of line a call, and errors of this kind before some.
+// A reader that gives one byte of a text a call, and errors of this kind before some.
 #[derive(Drop)]
 struct Halting {
+    text: &'static [u8],
     given: usize,
     error: ErrorKind,
     at: usize,
@@ -25,21 +25,31 @@ impl Read for Halting {
             self.times -= 1;
             return Err(io::Error::from(self.error));
         }
-        if self.given >= 4 || buf.is_empty() {
+        if self.given >= self.text.len() || buf.is_empty() {
             return Ok(0);
         }
-        buf[0] = b"run\n"[self.given];
+        buf[0] = self.text[self.given];
         self.given += 1;
         Ok(1)
     }
 }
 
-// A writer that takes so many bytes a call, with an error of its kind before the first and before the first flush.
+fn halting_reader(text: &'static [u8], error: ErrorKind, at: usize, times: usize) -> Halting {
+    Halting {
+        text,
+        given: 0,
+        error,
+        at,
+        times,
+    }
+}
+
+// A writer that takes so many bytes in all, with an error of its kind before the first and before the first flush.
 #[derive(Drop)]
 struct Slow {
     error: Option<ErrorKind>,
     flush_error: Option<ErrorKind>,
-    most: usize,
+    room: usize,
     taken: Vec<u8>,
 }
 
@@ -48,8 +58,9 @@ impl Write for Slow {
         if let Some(error) = self.error.take() {
             return Err(io::Error::from(error));
         }
-        let count = buf.len().min(self.most);
+        let count = buf.len().min(self.room).min(1);
         self.taken.extend_from_slice(&buf[..count])?;
+        self.room -= count;
         Ok(count)
     }
 
@@ -61,98 +72,63 @@ impl Write for Slow {
     }
 }
 
-fn slow_writer(alloc: Global, error: Option<ErrorKind>, flush_error: Option<ErrorKind>) -> Slow {
+fn slow_writer(
+    alloc: Global,
+    error: Option<ErrorKind>,
+    flush_error: Option<ErrorKind>,
+    room: usize,
+) -> Slow {
     Slow {
         error,
         flush_error,
-        most: 1,
+        room,
         taken: Vec::new(alloc),
     }
 }
 
-fn halting_reader(error: ErrorKind, at: usize, times: usize) -> Halting {
-    Halting {
-        given: 0,
-        error,
-        at,
-        times,
-    }
-}
-
-// The session's answer over these streams, one worker, and which of them failed.
-fn noting<R: Read, W: Write>(
-    rt: &(impl Abort + Threads + Wait + Sync),
-    alloc: Global,
-    reader: &mut R,
-    writer: &mut W,
-    failures: &mut Failures,
-) -> Result<(), SessionError> {
-    let session = session(rt, alloc, b"proc main() { return 4; }", "", 1);
-    ended_by(
-        rt,
-        alloc,
-        session,
-        1,
-        &mut NoNotes,
-        reader,
-        writer,
-        failures,
-    )
-}
+const RUN: &[u8] = b"run\n";
 
 #[test]
-fn interrupted_reads_are_done_again(rt: HostRuntime) {
-    let mut reader = halting_reader(ErrorKind::Interrupted, 2, 3);
+fn reads_that_are_interrupted_or_refused(rt: HostRuntime) {
     let mut failures = Failures::none();
+    let mut reader = halting_reader(RUN, ErrorKind::Interrupted, 2, 3);
     let read = read_all(rt.alloc(), &mut reader, &mut failures).expect(&rt, "bytes");
-    assert_eq!(&rt; read.as_slice(), b"run\n".as_slice());
-    assert_eq!(&rt; failures.noted(), (false, false));
-}
-
-#[test]
-fn a_read_fails_in_mid_stream(rt: HostRuntime) {
-    for at in 0..5 {
-        let mut reader = halting_reader(ErrorKind::ConnectionReset, at, 1);
-        let mut writer = slow_writer(rt.alloc(), None, None);
-        let mut failures = Failures::none();
-        let ended = noting(&rt, rt.alloc(), &mut reader, &mut writer, &mut failures);
-        assert!(&rt; matches!(&ended, Err(SessionError::Read)));
-        assert_eq!(&rt; writer.taken.len(), 0);
-        assert_eq!(&rt; failures.noted(), (true, false));
-    }
-}
-
-#[test]
-fn a_reader_without_memory(rt: HostRuntime) {
-    let mut reader = halting_reader(ErrorKind::OutOfMemory, 1, 1);
-    let mut failures = Failures::none();
+    assert_eq!(&rt; read.as_slice(), RUN);
+    let mut reader = halting_reader(RUN, ErrorKind::OutOfMemory, 1, 1);
     let read = read_all(rt.alloc(), &mut reader, &mut failures);
     assert!(&rt; matches!(&read, Err(SessionError::NoMemory)));
     assert_eq!(&rt; failures.noted(), (false, false));
 }
 
 #[test]
-fn interrupted_writes_are_done_again(rt: HostRuntime) {
-    let mut writer = slow_writer(rt.alloc(), Some(ErrorKind::Interrupted), None);
+fn writes_that_are_interrupted_or_take_nothing(rt: HostRuntime) {
     let mut failures = Failures::none();
+    let mut writer = slow_writer(rt.alloc(), INTERRUPTED, INTERRUPTED, 3);
     write_whole(&mut writer, b"ok\n", &mut failures).expect(&rt, "written");
+    flush(&mut writer, &mut failures).expect(&rt, "flushed");
     assert_eq!(&rt; writer.taken.as_slice(), b"ok\n".as_slice());
     assert_eq!(&rt; failures.noted(), (false, false));
-}
-
-#[test]
-fn a_writer_that_takes_nothing(rt: HostRuntime) {
-    let mut writer = slow_writer(rt.alloc(), None, None);
-    writer.most = 0;
-    let mut failures = Failures::none();
     let written = write_whole(&mut writer, b"ok\n", &mut failures);
     assert!(&rt; matches!(&written, Err(SessionError::Write)));
-    assert_eq!(&rt; writer.taken.len(), 0);
+    assert_eq!(&rt; writer.taken.len(), 3);
     assert_eq!(&rt; failures.noted(), (false, true));
 }
 
-fn ending(ended: &Result<(), SessionError>) -> &'static str {
-    match ended {
+// How a session ends over these streams.
+fn ending(
+    rt: &(impl Abort + Threads + Wait + Sync),
+    alloc: Global,
+    reader: &mut Halting,
+    writer: &mut Slow,
+    failures: &mut Failures,
+) -> &'static str {
+    let session = session(
+        rt,
+        alloc,
+        b"proc main() { return 4; }",
+        "[t]\ncolumns = [\"a\"]\nrows = []\n",
+    );
+    match &ended(rt, alloc, session, reader, writer, failures) {
         Ok(()) => "done",
         Err(SessionError::NoMemory) => "no memory",
         Err(SessionError::NoKit) => "no kit",
@@ -160,6 +136,19 @@ fn ending(ended: &Result<(), SessionError>) -> &'static str {
         Err(SessionError::Read) => "failed input",
         Err(SessionError::Write) => "failed output",
         Err(SessionError::Notes) => "failed notes",
+    }
+}
+
+#[test]
+fn a_read_fails_in_mid_stream(rt: HostRuntime) {
+    for at in 0..5 {
+        let mut reader = halting_reader(RUN, ErrorKind::ConnectionReset, at, 1);
+        let mut writer = slow_writer(rt.alloc(), None, None, 100);
+        let mut failures = Failures::none();
+        let ended = ending(&rt, rt.alloc(), &mut reader, &mut writer, &mut failures);
+        assert_eq!(&rt; ended, "failed input");
+        assert_eq!(&rt; writer.taken.len(), 0);
+        assert_eq!(&rt; failures.noted(), (true, false));
     }
 }
 
@@ -191,11 +180,11 @@ const ENDINGS: [Ending; 6] = [
 
 fn ends_so(rt: &(impl Abort + Threads + Wait + Sync), alloc: Global, row: Ending) {
     let (error, flush_error, wanted, taken, marks) = row;
-    let mut writer = slow_writer(alloc, error, flush_error);
-    let mut reader = b"run\n".as_slice();
+    let mut writer = slow_writer(alloc, error, flush_error, 100);
+    let mut reader = halting_reader(RUN, ErrorKind::Interrupted, 0, 0);
     let mut failures = Failures::none();
-    let ended = noting(rt, alloc, &mut reader, &mut writer, &mut failures);
-    assert_eq!(rt; ending(&ended), wanted, "{error:?} {flush_error:?}");
+    let ended = ending(rt, alloc, &mut reader, &mut writer, &mut failures);
+    assert_eq!(rt; ended, wanted, "{error:?} {flush_error:?}");
     assert_eq!(rt;
         writer.taken.as_slice(),
         taken.as_bytes(),
@@ -209,4 +198,64 @@ fn endings_by_the_writer(rt: HostRuntime) {
     for row in ENDINGS {
         ends_so(&rt, rt.alloc(), row);
     }
+}
+
+const REFUSED: &[u8] = b"put stock 1 2
+put t 1 2 3
+put t 2147483648 1
+del t 9
+hello
+define
+proc main() { x = spawn line(1); return x; }
+end
+run
+";
+
+const REFUSED_ANSWERS: &[u8] = b"refused E4
+refused E5
+refused E6
+refused E7
+refused E19 5
+refused E9 C1 main 1
+run 1
+result 4
+";
+
+// The answers to refused edits, to a writer that takes so many bytes; how the session ends, and what was written.
+fn answers_into(
+    rt: &(impl Abort + Threads + Wait + Sync),
+    alloc: Global,
+    room: usize,
+) -> (&'static str, Vec<u8>) {
+    let mut reader = halting_reader(REFUSED, ErrorKind::Interrupted, 0, 0);
+    let mut writer = slow_writer(alloc, None, None, room);
+    let failures = &mut Failures::none();
+    let ended = ending(rt, alloc, &mut reader, &mut writer, failures);
+    (ended, writer.taken)
+}
+
+// A beginning of the answers is written, as long as there is room.
+#[test]
+fn each_failed_write(rt: HostRuntime) {
+    for room in 0..REFUSED_ANSWERS.len() {
+        let (ended, taken) = answers_into(&rt, rt.alloc(), room);
+        assert_eq!(&rt; ended, "failed output");
+        assert_eq!(&rt; taken.as_slice(), &REFUSED_ANSWERS[..room]);
+    }
+    let (ended, taken) = answers_into(&rt, rt.alloc(), REFUSED_ANSWERS.len());
+    assert_eq!(&rt; ended, "done");
+    assert_eq!(&rt; taken.as_slice(), REFUSED_ANSWERS);
+}
+
+#[test]
+fn no_kit(rt: HostRuntime) {
+    let alloc = rt.alloc();
+    let mut session = session(&rt, alloc, b"proc main() { return 4; }", "");
+    let _pool = session.take_pool(alloc);
+    let mut reader = b"here\nrun\n".as_slice();
+    let mut written = Vec::new(alloc);
+    let failures = &mut Failures::none();
+    let ended = ended(&rt, alloc, session, &mut reader, &mut written, failures);
+    assert!(&rt; matches!(&ended, Err(SessionError::NoKit)));
+    assert_eq!(&rt; written.as_slice(), b"refused E19 1\n".as_slice());
 }

@@ -1,0 +1,40 @@
+// Kits, and sessions that can't begin.
+use cli::beginning::{BeginError, begin};
+use cli::kits::kits_for;
+use monoid_laws::Kind;
+use prepared_program::prepare::PrepareError;
+use std::alloc::{AllocError, Global};
+use view_pool::PlainView;
+
+#[test]
+fn kits_of_a_session(rt: HostRuntime) {
+    let alloc = rt.alloc();
+    let make = |kind: Kind| -> Result<PlainView, AllocError> { Ok(PlainView::new(alloc, kind)) };
+    let kits = kits_for(alloc, &[Kind::Add, Kind::List], 3, &make).expect(&rt, "memory");
+    assert_eq!(&rt; kits.len(), 3);
+}
+
+// Why no session begins with so many kits of such views.
+fn begin_error<M: Fn(Kind) -> Result<PlainView, AllocError>>(
+    alloc: Global,
+    kits: usize,
+    make: &M,
+) -> Option<BeginError>
+    requires callable { M.IsAlwaysCallable make.now }
+{
+    let program = b"reducer total : add; proc main() { return 0; }";
+    begin(alloc, program, "", kits, make).err()
+}
+
+#[test]
+fn views_of_another_kind_and_no_kits(rt: HostRuntime) {
+    let alloc = rt.alloc();
+    let other = |_kind: Kind| -> Result<PlainView, AllocError> {
+        Ok(PlainView::new(alloc, Kind::Mul))
+    };
+    let refused = begin_error(alloc, 1, &other);
+    assert!(&rt; matches!(&refused, Some(BeginError::Prepare(PrepareError::NoMemory))));
+    let make = |kind: Kind| -> Result<PlainView, AllocError> { Ok(PlainView::new(alloc, kind)) };
+    let refused = begin_error(alloc, 0, &make);
+    assert!(&rt; matches!(&refused, Some(BeginError::NoKit)));
+}
