@@ -100,11 +100,22 @@ const TWICE: [(&str, &str, &str, &str); 3] = [
     ),
 ];
 
+/// The numbers behind two texts that are put into the program of a text.
+fn numbers_behind(
+    rt: &impl Abort,
+    alloc: Global,
+    program: &str,
+    first: &str,
+    second: &str,
+) -> String {
+    let old = checked(rt, alloc, program);
+    answers_to_both(rt, alloc, &old, first, second)
+}
+
 #[test]
 fn numbers_behind_texts(rt: HostRuntime) {
     for (program, first, second, wanted) in TWICE {
-        let old = checked(&rt, rt.alloc(), program);
-        let found = answers_to_both(&rt, rt.alloc(), &old, first, second);
+        let found = numbers_behind(&rt, rt.alloc(), program, first, second);
         assert_eq!(&rt; found.as_str(), wanted);
     }
 }

@@ -63,31 +63,39 @@ fn before(rt: &impl Abort, alloc: Global, counter: u64) -> Checked
     Checked::new(program, Vec::new(alloc), codes, kinds, 0, numbers, counter)
 }
 
-/// Texts, and the answers to them in the place of that program and as definitions. The rules come before the numbers, and where no
-/// procedure is changed no number is needed.
-const ANSWERS: [(&str, &str, &str); 3] = [
-    ("proc main() { return 1; }", "refused E18", "refused E18"),
+/// The answers to a text in the place of a program, and as a definition.
+fn answers(rt: &impl Abort, alloc: Global, old: &Checked, text: &str) -> String {
+    let mut answers = revisions::answer_to(rt, alloc, old, text);
+    answers.push_str(" and ").expect(rt, "memory");
+    let defined = defines::answer_to(rt, alloc, old, text);
+    answers.push_str(&defined).expect(rt, "memory");
+    answers
+}
+
+/// Texts where no number is left. The rules come before the numbers, and where no procedure is changed no number is needed.
+const ANSWERS: [(&str, &str); 3] = [
+    ("proc main() { return 1; }", "refused E18 and refused E18"),
     (
         "proc main(x) { }",
-        "refused E9 C7 main 1",
-        "refused E9 C7 main 1",
+        "refused E9 C7 main 1 and refused E9 C7 main 1",
     ),
     (
         "\n\nproc main() { }",
-        "main 0 false; 18446744073709551615",
-        "main 0 false; 18446744073709551615",
+        "main 0 false; 18446744073709551615 and main 0 false; 18446744073709551615",
     ),
 ];
+
+/// Compares the answers where no number is left.
+fn are_answered(rt: &impl Abort, alloc: Global, old: &Checked) {
+    for (text, wanted) in ANSWERS {
+        assert_eq!(rt; answers(rt, alloc, old, text).as_str(), wanted);
+    }
+}
 
 #[test]
 fn no_number_is_left(rt: HostRuntime) {
     let old = before(&rt, rt.alloc(), u64::MAX);
-    for (text, redefined, defined) in ANSWERS {
-        let found = revisions::answer_to(&rt, rt.alloc(), &old, text);
-        assert_eq!(&rt; found.as_str(), redefined);
-        let found = defines::answer_to(&rt, rt.alloc(), &old, text);
-        assert_eq!(&rt; found.as_str(), defined);
-    }
+    are_answered(&rt, rt.alloc(), &old);
 }
 
 #[test]

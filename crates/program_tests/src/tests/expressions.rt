@@ -240,16 +240,21 @@ fn arguments_are_right(rt: &impl Abort, alloc: Global, program: &Checked, tables
     assert!(rt; give_two(alloc, program, 2, tables, Err(by_zero)));
 }
 
+/// The slots of instances that are entered.
+fn slots_are_right(rt: &impl Abort, alloc: Global, program: &Checked, tables: &Tables) {
+    for (size, slots) in ENTERED {
+        assert!(rt; enters(alloc, program, size, tables, slots));
+    }
+    assert!(rt; fills(rt, alloc, program, tables));
+}
+
 #[test]
 fn expressions_have_their_values(rt: HostRuntime) {
     let tables = sales(&rt, rt.alloc());
     let program = checked_on(&rt, rt.alloc(), TEXT, &tables);
     values_are_right(&rt, rt.alloc(), &program, &tables);
     arguments_are_right(&rt, rt.alloc(), &program, &tables);
-    for (size, slots) in ENTERED {
-        assert!(&rt; enters(rt.alloc(), &program, size, &tables, slots));
-    }
-    assert!(&rt; fills(&rt, rt.alloc(), &program, &tables));
+    slots_are_right(&rt, rt.alloc(), &program, &tables);
 }
 
 /// A limit, and behind it a list of two notes.

@@ -44,11 +44,18 @@ fn has_its_code(rt: &impl Abort, program: &Checked) {
 
 const NUMBERS: [(&str, usize); 4] = [("leaf", 0), ("main", 1), ("extra", 2), ("other", 3)];
 
-/// The kinds of the reducers, the columns of the second table, and the numbers of the procedures.
+/// How many columns the table of that number has.
+fn columns_of(program: &Checked, number: usize) -> usize {
+    match program.tables().get(number) {
+        Some(table) => table.columns.len(),
+        None => 0,
+    }
+}
+
+/// The kinds of the reducers, the columns of the tables, and the numbers of the procedures.
 fn has_its_names(rt: &impl Abort, program: &Checked) {
     assert_eq!(rt; program.kinds(), [Kind::Max].as_slice());
-    let columns = program.tables().get(1).map(|table| table.columns.len());
-    assert_eq!(rt; columns, Some(2));
+    assert_eq!(rt; (columns_of(program, 0), columns_of(program, 1)), (1, 2));
     for (name, number) in NUMBERS {
         let found = procedure_number(&program.program().declarations, name);
         assert_eq!(rt; found, number, "of {name}");

@@ -83,11 +83,15 @@ const ANSWERS: [(&str, &str); 3] = [
     ("", "refused E9 C7 main 0"),
 ];
 
+/// Compares the answers to texts in the place of `THREE`.
+fn are_answered(rt: &impl Abort, alloc: Global, before: &Checked) {
+    for (text, wanted) in ANSWERS {
+        assert_eq!(rt; answer_to(rt, alloc, before, text).as_str(), wanted);
+    }
+}
+
 #[test]
 fn an_unchanged_procedure_keeps_its_number(rt: HostRuntime) {
     let before = checked(&rt, rt.alloc(), THREE);
-    for (text, wanted) in ANSWERS {
-        let found = answer_to(&rt, rt.alloc(), &before, text);
-        assert_eq!(&rt; found.as_str(), wanted);
-    }
+    are_answered(&rt, rt.alloc(), &before);
 }

@@ -42,14 +42,29 @@ fn seen(
     (records.len(), values)
 }
 
-/// What is seen after these were committed, at once and one after another.
+/// Commits these, at once and one after another.
+fn commit_each(
+    rt: &impl Abort,
+    alloc: Global,
+    records: &mut Records,
+    commits: &[&[Made]],
+    tables: &Tables,
+    program: &Checked,
+)
+    requires in_step { IsInStep tables.now.tables records.old }
+    ensures in_step { IsInStep tables.now.tables records.new }
+{
+    for rows in commits {
+        commit_all(rt, records, made(rt, alloc, rows), tables, program);
+    }
+}
+
+/// What is seen after these were committed.
 fn after(rt: &impl Abort, alloc: Global, commits: &[&[Made]]) -> (usize, [Option<i64>; 3]) {
     let tables = sales(rt, alloc);
     let program = checked(rt, alloc, LINES, &tables);
     let mut records = Records::new(alloc);
-    for rows in commits {
-        commit_all(rt, &mut records, made(rt, alloc, rows), &tables, &program);
-    }
+    commit_each(rt, alloc, &mut records, commits, &tables, &program);
     seen(rt, alloc, &records, &tables, &program)
 }
 
