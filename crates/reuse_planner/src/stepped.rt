@@ -129,6 +129,8 @@ fn obey<V: View>(alloc: Global, session: &mut Session<V>, command: &Command<'_>)
 {
     match command {
         Command::Edit(edit) => Answer::Edit(session.apply(alloc, edit)),
-        Command::Run { workers, steps } => Answer::Run(session.run(alloc, *workers, steps)),
+        Command::Run { workers, steps } => Answer::Run(run_session(
+            alloc, session, *workers, steps,
+        )),
     }
 }
