@@ -42,26 +42,7 @@ impl<V: View> Stepped for Session<V> {
         ensures free { length self.new.kits.kits ≡ length self.old.kits.kits }
         ensures total { self.new.kits.total ≡ self.old.kits.total }
     {
-        self.note_inlined(0);
-        if self.has_no_kit() {
-            return RunAnswer::NoKit;
-        }
-        self.kept();
-        let pool = self.take_pool(alloc);
-        let ended = run_on(
-            alloc,
-            self.checked(),
-            self.tables(),
-            self.records(),
-            pool,
-            workers,
-            steps,
-        );
-        self.note_inlined(ended.inlined);
-        if self.settle(ended.pool, ended.made).is_err() {
-            return RunAnswer::NoMemory;
-        }
-        ended.answer
+        run_session(alloc, self, workers, steps)
     }
 
     /// Does commands in their order, each in the session that those before have left. Whatever the edits and runs before it,
@@ -78,6 +59,51 @@ impl<V: View> Stepped for Session<V> {
         obey_all(alloc, self, commands, &mut answers);
         Ok(answers)
     }
+}
+
+/// A session's run by so many workers, which take these steps.
+fn run_session<V: View>(
+    alloc: Global,
+    session: &mut Session<V>,
+    workers: usize,
+    steps: &[Step],
+) -> RunAnswer
+    // A result or a fault is the elision's of the program on the tables, from scratch.
+    ensures elision { IsFromScratch (standing_of session.old) result }
+    // The steps lead to that end by the definitions, or to none.
+    ensures led { IsLed session.old workers steps.now session.new.inlined result }
+    ensures no_kit { result ≡ RunAnswer.NoKit ↔ session.old.kits.kits ≡ [] }
+    ensures recorded { LeavesRecords session.old result session.new.records }
+    // Where each execution was recorded, nothing is left to execute.
+    ensures quiet { IsQuietAfter result session.new }
+    ensures rest { session.new ≡ record session.old {
+      kits = session.new.kits;
+      records = session.new.records;
+      inlined = session.new.inlined;
+    } }
+    ensures free { length session.new.kits.kits ≡ length session.old.kits.kits }
+    ensures total { session.new.kits.total ≡ session.old.kits.total }
+{
+    session.note_inlined(0);
+    if session.has_no_kit() {
+        return RunAnswer::NoKit;
+    }
+    session.kept();
+    let pool = session.take_pool(alloc);
+    let ended = run_on(
+        alloc,
+        session.checked(),
+        session.tables(),
+        session.records(),
+        pool,
+        workers,
+        steps,
+    );
+    session.note_inlined(ended.inlined);
+    if session.settle(ended.pool, ended.made).is_err() {
+        return RunAnswer::NoMemory;
+    }
+    ended.answer
 }
 
 /// Does commands in their order, for whose answers there is room.
@@ -103,6 +129,8 @@ fn obey<V: View>(alloc: Global, session: &mut Session<V>, command: &Command<'_>)
 {
     match command {
         Command::Edit(edit) => Answer::Edit(session.apply(alloc, edit)),
-        Command::Run { workers, steps } => Answer::Run(session.run(alloc, *workers, steps)),
+        Command::Run { workers, steps } => Answer::Run(run_session(
+            alloc, session, *workers, steps,
+        )),
     }
 }

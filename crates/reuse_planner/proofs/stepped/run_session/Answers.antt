@@ -1,29 +1,30 @@
-use Rattle.std.proofs.Common.{◌≡◌, [], map, sym, ap, ◌∙◌}
+use Rattle.std.proofs.Common.{◌≡◌, [], map, sym, ap, subst, ◌∙◌}
 use Rattle.rerun_records.specs.Record.{settled as settled_one}
 use Rattle.rerun_records.specs.Commits.{put_records}
+use Rattle.numbered_runs.specs.Sound.{AreSoundFor}
 use Rattle.kept_session.specs.Sessions.{PlainSession, stock_of}
 use Rattle.reuse_planner.proofs.Ending.{where_ok}
 use Rattle.reuse_planner.proofs.Outcomes.{elision_back, led_back, news_back, recorded_back, quiet_back}
-use Rattle.reuse_planner.proofs.stepped.SessionStepped.run.Goals as goal
+use Rattle.reuse_planner.proofs.stepped.run_session.Goals as goal
 
 pub settle-requires-clause-new : goal.settle-requires-clause-new
 settle-requires-clause-new g c κs within =
-    let s = c.args.self.now in
+    let s = c.args.session.now in
     let t = c.take_pool-pool.new.self in
     let same : t ≡ record s { kits = stock_of []; inlined = 0 } = c.take_pool-pool.ensures.left ∙ ap (λ (z : PlainSession). record z { kits = stock_of [] }) c.note_inlined.ensures.noted in
     news_back s t same c.checked.result.now c.tables.result.now c.records.result.now c.checked.ensures.checked c.tables.ensures.tables c.records.ensures.records c.note_inlined-2.new.self c.run_on-ended.result.inlined c.note_inlined-2.ensures.noted
-    c.run_on-ended.result.answer c.run_on-ended.result.made.items c.run_on-ended.ensures.recorded c.kept.ensures.sound
+    c.run_on-ended.result.answer c.run_on-ended.result.made.items c.run_on-ended.ensures.recorded (subst (λ (z : PlainSession). AreSoundFor z.checked z.records) c.note_inlined.ensures.noted c.kept.ensures.sound)
 
 pub returns-clause-elision : goal.returns-clause-elision
 returns-clause-elision g c =
-    let s = c.args.self.now in
+    let s = c.args.session.now in
     let t = c.take_pool-pool.new.self in
     let same : t ≡ record s { kits = stock_of []; inlined = 0 } = c.take_pool-pool.ensures.left ∙ ap (λ (z : PlainSession). record z { kits = stock_of [] }) c.note_inlined.ensures.noted in
     elision_back s t same c.checked.result.now c.tables.result.now c.records.result.now c.checked.ensures.checked c.tables.ensures.tables c.records.ensures.records c.run_on-ended.result.answer c.run_on-ended.ensures.elision
 
 pub returns-clause-led : goal.returns-clause-led
 returns-clause-led g c =
-    let s = c.args.self.now in
+    let s = c.args.session.now in
     let t = c.take_pool-pool.new.self in
     let same : t ≡ record s { kits = stock_of []; inlined = 0 } = c.take_pool-pool.ensures.left ∙ ap (λ (z : PlainSession). record z { kits = stock_of [] }) c.note_inlined.ensures.noted in
     let after : PlainSession = record c.note_inlined-2.new.self { kits = c.run_on-ended.result.pool; records = c.settle.new.self.records } in
@@ -34,7 +35,7 @@ returns-clause-led g c =
 
 pub returns-clause-recorded : goal.returns-clause-recorded
 returns-clause-recorded g c =
-    let s = c.args.self.now in
+    let s = c.args.session.now in
     let t = c.take_pool-pool.new.self in
     let same : t ≡ record s { kits = stock_of []; inlined = 0 } = c.take_pool-pool.ensures.left ∙ ap (λ (z : PlainSession). record z { kits = stock_of [] }) c.note_inlined.ensures.noted in
     let put : map settled_one c.settle.new.self.records ≡ put_records (map settled_one c.note_inlined-2.new.self.records) c.run_on-ended.result.made.items =
@@ -44,7 +45,7 @@ returns-clause-recorded g c =
 
 pub returns-clause-quiet : goal.returns-clause-quiet
 returns-clause-quiet g c =
-    let s = c.args.self.now in
+    let s = c.args.session.now in
     let t = c.take_pool-pool.new.self in
     let same : t ≡ record s { kits = stock_of []; inlined = 0 } = c.take_pool-pool.ensures.left ∙ ap (λ (z : PlainSession). record z { kits = stock_of [] }) c.note_inlined.ensures.noted in
     let put : map settled_one c.settle.new.self.records ≡ put_records (map settled_one c.note_inlined-2.new.self.records) c.run_on-ended.result.made.items =
@@ -52,4 +53,4 @@ returns-clause-quiet g c =
     let after : PlainSession = record c.note_inlined-2.new.self { kits = c.run_on-ended.result.pool; records = c.settle.new.self.records } in
     let settled : c.settle.new.self ≡ after = where_ok c.settle.result (c.settle.new.self ≡ after) (sym c.is_err.ensures.value ∙ c.if-is_err.false) c.settle.ensures.settled in
     quiet_back s t same c.checked.result.now c.tables.result.now c.records.result.now c.checked.ensures.checked c.tables.ensures.tables c.records.ensures.records c.note_inlined-2.new.self c.run_on-ended.result.inlined c.note_inlined-2.ensures.noted
-    c.run_on-ended.result.answer c.run_on-ended.result.made.items c.run_on-ended.ensures.recorded c.kept.ensures.sound c.settle.new.self c.run_on-ended.result.pool settled put
+    c.run_on-ended.result.answer c.run_on-ended.result.made.items c.run_on-ended.ensures.recorded (subst (λ (z : PlainSession). AreSoundFor z.checked z.records) c.note_inlined.ensures.noted c.kept.ensures.sound) c.settle.new.self c.run_on-ended.result.pool settled put
