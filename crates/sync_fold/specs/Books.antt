@@ -11,7 +11,7 @@ use Rattle.right_strands.specs.Pairs.{PlainPair, is_over, is_waiting, may_pair}
 use Rattle.strand_list.specs.declared.rest.Rest.{Rest}
 use Rattle.strand_list.specs.Laying.{state_as}
 use Rattle.strand_list.specs.Pages.{stands, position, are_neighbours}
-use Rattle.strand_list.specs.Chronicled.{PlainChronicle, unless, unless_allowed, rest_refusal}
+use Rattle.strand_list.specs.Chronicled.{PlainChronicle, Took, unless, unless_allowed, rest_refusal}
 use Rattle.sync_fold.specs.declared.laid.Laid.{Laid}
 use Rattle.sync_fold.specs.declared.laid.Laid.TheVariants.{Nothing, Whole, Half, Lent}
 use Rattle.strand_list.specs.declared.error.BookError.{BookError}
