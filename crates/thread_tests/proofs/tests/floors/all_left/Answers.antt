@@ -1,7 +1,7 @@
 use denote.Param.Send.{sendable}
 use Rattle.view_pool.proofs.plain_view.PlainView.TheSendSync as views
 use Rattle.threaded_driver.proofs.Crosses.{floor_sync}
-use Rattle.thread_tests.proofs.tests.floors.finished.Goals as goal
+use Rattle.thread_tests.proofs.tests.floors.all_left.Goals as goal
 
 -- the closure borrows the floor and the runtime
 pub map_vec-requires-sync-F : goal.map_vec-requires-sync-F
