@@ -1,4 +1,4 @@
-//! Programs on several workers, step by step, against answers that were found by hand and against the plain slow program.
+//! Runs of `Core` and of sessions by given steps, against answers and counts that were found by hand.
 #![tactic(auto)]
 
 #[cfg(test)]

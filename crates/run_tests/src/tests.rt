@@ -1,10 +1,13 @@
-//! Runs of whole programs by steps. What is wanted was found by hand, or is the answer of the slow serial program.
+//! Runs and sessions by steps that are given. What is wanted was found by hand.
 
+mod anew;
+mod exhausted;
 mod given_up;
-mod lists;
 mod playing;
-mod printing;
-mod programs;
-mod random;
 mod refusals;
+mod refused;
 mod rows;
+mod script_rows;
+mod scripts;
+mod sessions;
+mod words;

@@ -1,4 +1,4 @@
-//! Sessions: edits, and runs one after another, against answers and counts that were found by hand and against the plain slow program.
+//! Sessions and runs by edits and steps that are drawn, against the plain slow program.
 #![tactic(auto)]
 
 #[cfg(test)]

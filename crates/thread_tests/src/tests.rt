@@ -1,6 +1,5 @@
 //! Whole runs of sessions. What is wanted was worked out by hand; gates hold workers so that they do at the same time what is tested.
 
-mod answers;
 mod beginning;
 mod counting;
 mod deques;
@@ -11,5 +10,4 @@ mod refusals;
 mod refused_folds;
 mod reruns;
 mod strands;
-mod stubborn;
 mod views;

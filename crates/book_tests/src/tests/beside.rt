@@ -7,9 +7,7 @@ ghost use Rattle.rerun_records.specs.Named.{HaveValues};
 ghost use Rattle.positions.specs.Setting.{setting_with};
 ghost use Rattle.numbered_runs.specs.News.{AreSound};
 
-use super::beginning::kits;
 use super::crew::{Crew, Ended};
-use super::drawn::Dice;
 use super::printing::{answer_text, end_text, standing_text};
 use input_tables::Tables;
 use linked_program::checked::Checked;
@@ -20,6 +18,8 @@ use right_strands::run::{Run, Scene};
 use std::alloc::Global;
 use std::marker::Brand;
 use std::process::Abort;
+use test_kit::beginnings::kits;
+use test_kit::drawn::Dice;
 use view_pool::{Kit, PlainView, Pool, View};
 use worker_core::run::Core;
 
@@ -235,8 +235,8 @@ pub fn beside(
 {
     session.kept();
     let (program, tables, records) = (session.checked(), session.tables(), session.records());
-    let first = Pool::new(kits(rt, alloc, program.kinds(), count));
-    let second = Pool::new(kits(rt, alloc, program.kinds(), count));
+    let first = Pool::new(kits(alloc, program.kinds(), count).expect(rt, "kits"));
+    let second = Pool::new(kits(alloc, program.kinds(), count).expect(rt, "kits"));
     run_beside::<Brand, PlainView>(
         rt, alloc, program, tables, records, first, second, workers, seed,
     )

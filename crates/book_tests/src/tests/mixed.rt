@@ -12,7 +12,6 @@ ghost use Rattle.rerun_records.specs.Named.{HaveValues};
 ghost use Rattle.positions.specs.Setting.{setting_with};
 ghost use Rattle.numbered_runs.specs.News.{AreSound};
 
-use super::beginning::{kits, session};
 use super::crew::Crew;
 use super::printing::standing_text;
 use super::words::{digit, place};
@@ -22,11 +21,14 @@ use rerun_records::records::Records;
 use reuse_planner::Session;
 use right_strands::laid::Piece;
 use right_strands::run::{Run, Scene};
+use session_kit::owners::in_session;
 use std::alloc::Global;
 use std::fmt::Write;
 use std::marker::Brand;
 use std::process::Abort;
 use sync_fold::BookError;
+use test_kit::beginnings::kits;
+use test_kit::texts::SALES;
 use view_pool::{Kit, PlainView, Pool, View};
 
 /// Both runs.
@@ -196,8 +198,8 @@ fn refused_with(
 ) -> String {
     session.kept();
     let (program, tables, records) = (session.checked(), session.tables(), session.records());
-    let first = Pool::new(kits(rt, alloc, program.kinds(), 6));
-    let second = Pool::new(kits(rt, alloc, program.kinds(), 6));
+    let first = Pool::new(kits(alloc, program.kinds(), 6).expect(rt, "kits"));
+    let second = Pool::new(kits(alloc, program.kinds(), 6).expect(rt, "kits"));
     // Rattle picks no run at a call with a text that is lent.
     let line = String::from_str(alloc, line).expect(rt, "memory");
     run_mixed::<Brand, PlainView>(rt, alloc, program, tables, records, first, second, line)
@@ -205,6 +207,12 @@ fn refused_with(
 
 /// What is refused of a line with runs of the program that a text is.
 pub fn refused(rt: &impl Abort, alloc: Global, text: &str, line: &str) -> String {
-    let session = session(rt, alloc, text);
-    refused_with(rt, alloc, &session, line)
+    let refused = in_session(
+        alloc,
+        text,
+        SALES,
+        1,
+        |session| refused_with(rt, alloc, session, line),
+    );
+    refused.expect(rt, "a session")
 }

@@ -1,9 +1,9 @@
 //! What the book refuses, in the order in which the causes are looked for. A refusal changes nothing.
 
 use super::mixed::refused;
-use super::programs::{FIRST_LIST, TWO_FAULTS};
 use std::alloc::Global;
 use std::process::Abort;
+use test_kit::texts::{FIRST_LIST, TWO_FAULTS};
 
 fn are_refused(rt: &impl Abort, alloc: Global, text: &str, rows: &[(&str, &str)]) {
     for (line, wanted) in rows {

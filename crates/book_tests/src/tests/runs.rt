@@ -1,15 +1,14 @@
 //! Runs whose workers share the book, by one to five workers with one to six kits or many, beside the same steps of a `Core`.
 ghost use Rattle.std.specs.Prelude.{◌<◌};
 
-use super::beginning::session;
 use super::beside::beside;
-use super::programs::{
-    FAULTS_IN_RECORDS, FIRST_LIST, LINES, LOOP, NESTED_READS, PAIRS, TWO_FAULTS,
-};
+use super::programs::{FAULTS_IN_RECORDS, PAIRS};
 use reuse_planner::{Session, Stepped};
 use session_edits::Edit;
+use session_kit::owners::in_session;
 use std::alloc::Global;
 use std::process::Abort;
+use test_kit::texts::{FIRST_LIST, LINES, LOOP, NESTED_READS, SALES, TWO_FAULTS};
 use view_pool::PlainView;
 use worker_core::Step;
 
@@ -71,8 +70,14 @@ fn runs_of(rt: &impl Abort, alloc: Global, session: &Session<PlainView>, wanted:
 
 /// The same of the program that a text is.
 fn all_runs(rt: &impl Abort, alloc: Global, text: &str, wanted: &str) -> Seen {
-    let session = session(rt, alloc, text);
-    runs_of(rt, alloc, &session, wanted)
+    let seen = in_session(
+        alloc,
+        text,
+        SALES,
+        1,
+        |session| runs_of(rt, alloc, session, wanted),
+    );
+    seen.expect(rt, "a session")
 }
 
 /// Runs of all programs; each is stolen from and folded.
@@ -110,19 +115,25 @@ fn run_once(rt: &impl Abort, alloc: Global, session: &mut Session<PlainView>) {
     assert!(rt; session.apply(alloc, &put).is_ok());
 }
 
-/// Runs of that session, by one to five workers.
-fn runs_again(rt: &impl Abort, alloc: Global, session: &Session<PlainView>, wanted: &str) {
+/// Runs of a session over the records of its first run, by one to five workers.
+fn runs_again(rt: &impl Abort, alloc: Global, session: &mut Session<PlainView>, wanted: &str) {
+    run_once(rt, alloc, session);
     for workers in 1..6 {
         let told = beside(rt, alloc, session, workers, 64, workers as u64);
         assert_eq!(rt; told.end.as_str(), wanted);
     }
 }
 
-/// Runs of a program over the records of its first run.
+/// The same of a program.
 fn rerun(rt: &impl Abort, alloc: Global, text: &str, wanted: &str) {
-    let mut session = session(rt, alloc, text);
-    run_once(rt, alloc, &mut session);
-    runs_again(rt, alloc, &session, wanted);
+    let done = in_session(
+        alloc,
+        text,
+        SALES,
+        64,
+        |session| runs_again(rt, alloc, session, wanted),
+    );
+    done.expect(rt, "a session");
 }
 
 /// The same of all programs.

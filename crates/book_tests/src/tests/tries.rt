@@ -8,12 +8,10 @@ ghost use Rattle.rerun_records.specs.Named.{HaveValues};
 ghost use Rattle.positions.specs.Setting.{setting_with};
 ghost use Rattle.numbered_runs.specs.News.{AreSound};
 
-use super::beginning::{kits, session_with};
 use super::crew::{Crew, Ended};
 use super::mixed::{go_on, standing};
 use super::printing::answer_text;
 use super::programs::TWO_LISTS;
-use super::stubborn::Stubborn;
 use super::words::place;
 use frames::answer::RunAnswer;
 use input_tables::Tables;
@@ -22,35 +20,30 @@ use monoid_laws::Kind;
 use rerun_records::records::Records;
 use reuse_planner::Session;
 use right_strands::run::{Run, Scene};
-use std::alloc::Global;
+use session_kit::owners::in_session;
+use std::alloc::{AllocError, Global};
 use std::marker::Brand;
 use std::process::Abort;
 use std::sync::Arc;
 use std::sync::atomic::{AtomicUsize, Ordering};
 use sync_fold::BookError;
+use test_kit::beginnings::{kits, kits_by};
+use test_kit::refusing::{Refuses, Stubborn};
+use test_kit::texts::SALES;
 use view_pool::{Kit, PlainView, Pool, View};
 
-/// A kit of two lists, of which those refuse once that are to, for a program whose reducers are two lists.
-fn kit(
-    rt: &impl Abort,
-    alloc: Global,
-    kinds: &[Kind],
-    refuses: (bool, bool),
-    drops: &Arc<AtomicUsize>,
-) -> Kit<Stubborn>
-    ensures kinds { result ≡ kinds.now }
-{
-    match kinds {
-        [Kind::List, Kind::List] => {
-            let one = Stubborn::new(alloc, refuses.0, drops.clone().expect(rt, "memory"));
-            let two = Stubborn::new(alloc, refuses.1, drops.clone().expect(rt, "memory"));
-            Kit::reset(vec![in alloc; one, two].expect(rt, "memory"))
-        }
-        _ => panic!(rt; "other kinds"),
-    }
+/// A list that refuses once, if it is to.
+fn list(alloc: Global, refuses: bool, drops: &Arc<AtomicUsize>) -> Result<Stubborn, AllocError> {
+    let refuses = if refuses {
+        Refuses::Absorb
+    } else {
+        Refuses::Nothing
+    };
+    Stubborn::new(alloc, refuses, drops)
 }
 
-/// Two such kits. The second one, of which these lists refuse once, is taken first.
+/// Two kits of two lists, for a program whose reducers are two lists. The second kit, of which these lists refuse once, is taken
+/// first.
 fn pool(
     rt: &impl Abort,
     alloc: Global,
@@ -60,9 +53,13 @@ fn pool(
 ) -> Pool<Kit<Stubborn>>
     ensures kits { All (λ k. k ≡ kinds.now) result.kits }
 {
-    let one = kit(rt, alloc, kinds, (false, false), drops);
-    let two = kit(rt, alloc, kinds, second, drops);
-    Pool::new(vec![in alloc; one, two].expect(rt, "memory"))
+    let made = AtomicUsize::new(0);
+    let make = |_kind: Kind| match made.fetch_add(1, Ordering::SeqCst) {
+        2 => list(alloc, second.0, drops),
+        3 => list(alloc, second.1, drops),
+        _ => list(alloc, false, drops),
+    };
+    Pool::new(kits_by(alloc, kinds, 2, &make).expect(rt, "kits"))
 }
 
 /// The child of `main` is at its end, and `main` is at its sync: the first strand is worker 0's, the other worker 1's. Both are
@@ -199,15 +196,31 @@ fn is_tried(
     let drops = Arc::new(alloc, AtomicUsize::new(0)).expect(rt, "memory");
     let text = tried_in(rt, alloc, session, refuses, again, &drops);
     assert_eq!(rt; text.as_str(), wanted);
-    assert_eq!(rt; drops.load(Ordering::Relaxed), 4);
+    assert_eq!(rt; drops.load(Ordering::SeqCst), 4);
 }
 
 /// The same however the fold is tried again.
-fn all_tries(rt: &impl Abort, alloc: Global, refuses: (bool, bool)) {
-    let session = session_with(rt, alloc, TWO_LISTS, 1);
+fn all_tries_in(
+    rt: &impl Abort,
+    alloc: Global,
+    session: &Session<PlainView>,
+    refuses: (bool, bool),
+) {
     for (again, wanted) in TRIES {
-        is_tried(rt, alloc, &session, refuses, again, wanted);
+        is_tried(rt, alloc, session, refuses, again, wanted);
     }
+}
+
+/// The same in a session of its own.
+fn all_tries(rt: &impl Abort, alloc: Global, refuses: (bool, bool)) {
+    let done = in_session(
+        alloc,
+        TWO_LISTS,
+        SALES,
+        1,
+        |session| all_tries_in(rt, alloc, session, refuses),
+    );
+    done.expect(rt, "a session");
 }
 
 const TRIES: [(Again, &str); 3] = [
@@ -241,7 +254,7 @@ fn both_lists_refuse(rt: HostRuntime) {
 fn plainly(rt: &impl Abort, alloc: Global, session: &Session<PlainView>) -> String {
     session.kept();
     let (program, tables, records) = (session.checked(), session.tables(), session.records());
-    let pool = Pool::new(kits(rt, alloc, program.kinds(), 2));
+    let pool = Pool::new(kits(alloc, program.kinds(), 2).expect(rt, "kits"));
     let refuses = (false, false);
     let again = Again::Twice;
     folds::<Brand, PlainView>(rt, alloc, program, tables, records, pool, refuses, again)
@@ -249,6 +262,13 @@ fn plainly(rt: &impl Abort, alloc: Global, session: &Session<PlainView>) -> Stri
 
 #[test]
 fn one_fold(rt: HostRuntime) {
-    let session = session_with(&rt, rt.alloc(), TWO_LISTS, 1);
-    assert_eq!(&rt; plainly(&rt, rt.alloc(), &session).as_str(), WANTED);
+    let found = in_session(
+        rt.alloc(),
+        TWO_LISTS,
+        SALES,
+        1,
+        |session| plainly(&rt, rt.alloc(), session),
+    );
+    let found = found.expect(&rt, "a session");
+    assert_eq!(&rt; found.as_str(), WANTED);
 }

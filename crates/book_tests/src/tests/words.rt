@@ -1,8 +1,8 @@
 //! Histories as words of four letters at most, and lists of strands as text.
 
-use numbered_runs::step::{BookStep, Place, StrandLine};
+use numbered_runs::step::{BookStep, Place};
+use session_kit::answers::strands_text;
 use std::alloc::Global;
-use std::fmt::Write;
 use std::process::Abort;
 use sync_fold::replay;
 
@@ -50,19 +50,10 @@ fn steps(rt: &impl Abort, alloc: Global, line: &str) -> Vec<BookStep> {
     steps
 }
 
-/// A list as text: the place and the state of each strand.
-fn list_text(rt: &impl Abort, alloc: Global, lines: &[StrandLine]) -> String {
-    let mut text = String::new(alloc);
-    for line in lines {
-        write!(text, "{:?} {:?};", line.place, line.state).expect(rt, "memory");
-    }
-    text
-}
-
 /// The list that a history leaves, or why it leaves none.
 fn replayed_text(rt: &impl Abort, alloc: Global, steps: &[BookStep]) -> String {
     match replay(alloc, steps) {
-        Ok(lines) => list_text(rt, alloc, &lines),
+        Ok(lines) => strands_text(alloc, &lines).expect(rt, "memory"),
         Err(error) => format!(in alloc; "{error}").expect(rt, "memory"),
     }
 }

@@ -1,46 +1,49 @@
 //! Runs over lists that count their drops, to the end or given up in the middle, and runs that memory is refused for.
+ghost use Rattle.std.specs.Prelude.{◌≡◌, All};
 
-use super::lists::{CountedList, Refuses, kits_of_lists};
-use super::playing::{Played, checked, kits, play_checked, sales, take_all};
-use super::programs::{FIRST, FIRST_LIST};
+use super::playing::{Played, play_over, take_all};
+use monoid_laws::Kind;
+use reuse_planner::Session;
+use session_kit::owners::in_session;
 use std::alloc::{AllocError, Global};
 use std::process::Abort;
 use std::sync::Arc;
 use std::sync::atomic::{AtomicUsize, Ordering};
-use std::test::Fail;
-use view_pool::View;
-use worker_core::records::no_records;
+use test_kit::beginnings::kits_by;
+use test_kit::refusing::{Refuses, Stubborn};
+use test_kit::texts::{FIRST, FIRST_LIST, SALES};
+use view_pool::{Kit, Pool, View};
 use worker_core::run::Core;
 
 const TO_THE_END: &str = "W0* P0 S10 W1* I1 W1* L1 W0* L0 F0@1 W0* L0";
 
 /// Gives a run up in the middle, and plays another to its end over its kit.
-fn again(rt: &impl Abort, alloc: Global, text: &str) -> (Played, Played) {
-    let tables = sales(rt, alloc);
-    let program = checked(rt, alloc, text, &tables);
-    let pool = kits(rt, alloc, program.kinds(), 1);
-    let (first, pool) = play_checked(rt, alloc, &program, &tables, pool, 1, "W0* P0 W0*");
+fn again<V: View>(rt: &impl Abort, alloc: Global, session: &mut Session<V>, wanted: &str) {
+    session.kept();
+    let pool = session.take_pool(alloc);
+    let (first, pool) = play_over(rt, alloc, session, pool, 1, "W0* P0 W0*");
     assert_eq!(rt; pool.free(), 1);
     let line = "W0* P0 W0* O0 W0* P0 W0* O0 W0* L0";
-    let (second, _pool) = play_checked(rt, alloc, &program, &tables, pool, 1, line);
-    (first, second)
+    let (second, _pool) = play_over(rt, alloc, session, pool, 1, line);
+    assert!(rt; first.leads_to("", "unfinished\n") && second.leads_to("", wanted));
+}
+
+fn again_in(rt: &impl Abort, alloc: Global, text: &str, wanted: &str) {
+    let done = in_session(
+        alloc,
+        text,
+        SALES,
+        1,
+        |session| again(rt, alloc, session, wanted),
+    );
+    done.expect(rt, "a session");
 }
 
 /// A run given up leaves its kit at the identities.
 #[test]
 fn kit_used_again(rt: HostRuntime) {
-    for (text, answer) in [(FIRST_LIST, "result 3; 1 2 9"), (FIRST, "result 3; 12")] {
-        let (first, second) = again(&rt, rt.alloc(), text);
-        assert!(rt; first.leads_to("", "unfinished") && second.leads_to("", answer));
-    }
-}
-
-fn list(
-    alloc: Global,
-    refuses: Refuses,
-    drops: &Arc<AtomicUsize>,
-) -> Result<CountedList, AllocError> {
-    Ok(CountedList::new(alloc, refuses, drops.clone()?))
+    again_in(&rt, rt.alloc(), FIRST_LIST, "result 3\nseen 1 2 9\n");
+    again_in(&rt, rt.alloc(), FIRST, "result 3\ntotal 12\n");
 }
 
 fn boxed(
@@ -48,134 +51,169 @@ fn boxed(
     refuses: Refuses,
     drops: &Arc<AtomicUsize>,
 ) -> Result<Box<dyn View>, AllocError> {
-    let view: Box<dyn View> = Box::new(alloc, list(alloc, refuses, drops)?)?;
+    let view: Box<dyn View> = Box::new(alloc, Stubborn::new(alloc, refuses, drops)?)?;
     Ok(view)
 }
 
-/// Runs `FIRST_LIST` over two kits of lists.
-fn over_lists<V: View, F: Fn() -> Result<V, AllocError>>(
+/// Runs a session's program by a line of steps of two workers, over two kits of lists that are made so.
+fn over_lists<V: View, W: View, F: Fn(Kind) -> Result<V, AllocError>>(
     rt: &impl Abort,
     alloc: Global,
+    session: &Session<W>,
     line: &str,
     make: &F,
 ) -> Played
     requires { F.IsAlwaysCallable make.now }
 {
-    let tables = sales(rt, alloc);
-    let program = checked(rt, alloc, FIRST_LIST, &tables);
-    let pool = kits_of_lists(rt, alloc, program.kinds(), 2, make);
-    let (played, _pool) = play_checked(rt, alloc, &program, &tables, pool, 2, line);
+    let kits = kits_by(alloc, session.checked().kinds(), 2, make).expect(rt, "kits");
+    let (played, _pool) = play_over(rt, alloc, session, Pool::new(kits), 2, line);
     played
 }
 
-/// Runs `FIRST_LIST` over two boxed lists that refuse so, and counts the drops.
-fn over_boxes(rt: &impl Abort, alloc: Global, refuses: Refuses, line: &str) -> (Played, usize) {
+/// A row below, over two boxed lists. Each box is dropped once.
+fn over_boxes<W: View>(rt: &impl Abort, alloc: Global, session: &Session<W>, row: Row) {
+    let (refuses, line, refused, strands, is_over, answer) = row;
     let drops = Arc::new(alloc, AtomicUsize::new(0)).expect(rt, "memory");
-    let make = || boxed(alloc, refuses, &drops);
-    let played = over_lists(rt, alloc, line, &make);
-    (played, drops.load(Ordering::Relaxed))
+    let make = |_kind: Kind| boxed(alloc, refuses, &drops);
+    let played = over_lists(rt, alloc, session, line, &make);
+    assert!(rt; played.leads_to(refused, answer), "after {line}");
+    assert_eq!(rt; played.strands.as_str(), strands);
+    assert_eq!(rt;
+        (played.is_over, drops.load(Ordering::SeqCst)),
+        (is_over, 2)
+    );
 }
 
-/// Lines over lists that refuse so: what is refused, the strands, whether the run is over, and the answer.
-const ROWS: [(Refuses, &str, &str, &str, bool, &str); 7] = [
+/// A line over lists that refuse so: what is refused, the strands, whether the run is over, and the answer.
+type Row = (
+    Refuses,
+    &'static str,
+    &'static str,
+    &'static str,
+    bool,
+    &'static str,
+);
+
+const ROWS: [Row; 7] = [
     (
         Refuses::Nothing,
         "",
         "",
-        "root held by 0",
+        "[] Held(0);",
         false,
-        "unfinished",
+        "unfinished\n",
     ),
     (
         Refuses::Nothing,
         "W0* P0 S10",
         "",
-        "root held by 0, 1 held by 1",
+        "[] Held(0);[1] Held(1);",
         false,
-        "unfinished",
+        "unfinished\n",
     ),
     (
         Refuses::Nothing,
         "W0* P0 S10 W1* I1 W1* L1 W0* L0",
         "",
-        "root ended, 1 stalled",
+        "[] Ended;[1] Stalled;",
         false,
-        "unfinished",
+        "unfinished\n",
     ),
     (
         Refuses::Nothing,
         TO_THE_END,
         "",
-        "root finished",
+        "[] Finished;",
         true,
-        "result 3; 1 2 9",
+        "result 3\nseen 1 2 9\n",
     ),
     // A fold that is refused is done again.
     (
         Refuses::Absorb,
         "W0* P0 S10 W1* I1 W1* L1 W0* L0 F0@1",
         "F0@1 out of memory;",
-        "root ended, 1 stalled",
+        "[] Ended;[1] Stalled;",
         false,
-        "unfinished",
+        "unfinished\n",
     ),
     (
         Refuses::Absorb,
         "W0* P0 S10 W1* I1 W1* L1 W0* L0 F0@1 F0@1 W0* L0",
         "F0@1 out of memory;",
-        "root finished",
+        "[] Finished;",
         true,
-        "result 3; 1 2 9",
+        "result 3\nseen 1 2 9\n",
     ),
     // An update that is refused memory makes the run fail: no step is taken any more.
     (
         Refuses::Update,
         "W0* I0 W0 W0 W0 S00 S10 F0@1 L0",
         "W0 out of memory;W0 refused E16;S00 refused E16;S10 refused E16;F0@1 refused E16;L0 refused E16;",
-        "root held by 0",
+        "[] Held(0);",
         true,
-        "no memory",
+        "no memory\n",
     ),
 ];
 
-/// Each box is dropped once.
-#[test]
-fn refused_memory(rt: HostRuntime) {
-    for (refuses, line, refused, strands, is_over, answer) in ROWS {
-        let (played, drops) = over_boxes(&rt, rt.alloc(), refuses, line);
-        assert!(rt; played.leads_to(refused, answer), "after {line}");
-        assert_eq!(rt; played.strands.as_str(), strands);
-        assert_eq!(rt; (played.is_over, drops), (is_over, 2));
+fn all_over_boxes<W: View>(rt: &impl Abort, alloc: Global, session: &Session<W>) {
+    for row in ROWS {
+        over_boxes(rt, alloc, session, row);
     }
 }
 
-/// Takes the steps of a line over two kits, and lets the run go.
-fn let_go<V: View, F: Fn() -> Result<V, AllocError>>(
+#[test]
+fn refused_memory(rt: HostRuntime) {
+    let done = in_session(
+        rt.alloc(),
+        FIRST_LIST,
+        SALES,
+        1,
+        |session| all_over_boxes(&rt, rt.alloc(), session),
+    );
+    done.expect(&rt, "a session");
+}
+
+/// Takes the steps of a line in a run over these kits, and lets the run go.
+fn let_go<V: View, W: View>(
     rt: &impl Abort,
     alloc: Global,
+    session: &Session<W>,
+    pool: Pool<Kit<V>>,
     line: &str,
-    make: &F,
 )
-    requires { F.IsAlwaysCallable make.now }
+    requires kits { All (λ k. k ≡ session.now.checked.kinds) pool.kits }
 {
-    let tables = sales(rt, alloc);
-    let program = checked(rt, alloc, FIRST_LIST, &tables);
-    let records = no_records(alloc, &program);
-    let pool = kits_of_lists(rt, alloc, program.kinds(), 2, make);
-    let Ok(mut core) = Core::start(alloc, &program, &tables, &records, pool, 2) else {
+    session.kept();
+    let (program, tables, records) = (session.checked(), session.tables(), session.records());
+    let Ok(mut core) = Core::start(alloc, program, tables, records, pool, 2) else {
         panic!(rt; "not started");
     };
     let _refused = take_all(rt, alloc, &mut core, line);
 }
 
-#[test]
-fn each_view_is_dropped_once_with_its_run(rt: HostRuntime) -> Result<(), Fail> {
-    let alloc = rt.alloc();
+/// The same over two kits of lists, each of which is dropped once.
+fn drops_each<W: View>(rt: &impl Abort, alloc: Global, session: &Session<W>, line: &str) {
+    let drops = Arc::new(alloc, AtomicUsize::new(0)).expect(rt, "memory");
+    let make = |_kind: Kind| Stubborn::new(alloc, Refuses::Nothing, &drops);
+    let kits = kits_by(alloc, session.checked().kinds(), 2, &make).expect(rt, "kits");
+    let_go(rt, alloc, session, Pool::new(kits), line);
+    assert_eq!(rt; drops.load(Ordering::SeqCst), 2, "after {line}");
+}
+
+fn all_are_dropped<W: View>(rt: &impl Abort, alloc: Global, session: &Session<W>) {
     for line in ["", "W0* P0 S10 W1* I1 W1*", TO_THE_END] {
-        let drops = Arc::new(alloc, AtomicUsize::new(0))?;
-        let make = || list(alloc, Refuses::Nothing, &drops);
-        let_go(&rt, alloc, line, &make);
-        assert_eq!(rt; drops.load(Ordering::Relaxed), 2, "after {line}");
+        drops_each(rt, alloc, session, line);
     }
-    Ok(())
+}
+
+#[test]
+fn each_view_is_dropped_once_with_its_run(rt: HostRuntime) {
+    let done = in_session(
+        rt.alloc(),
+        FIRST_LIST,
+        SALES,
+        1,
+        |session| all_are_dropped(&rt, rt.alloc(), session),
+    );
+    done.expect(&rt, "a session");
 }

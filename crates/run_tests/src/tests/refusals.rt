@@ -1,9 +1,13 @@
 //! Steps that are refused, in the order in which the causes are looked for.
 
-use super::playing::{checked, kits, play, sales};
-use super::programs::FIRST_LIST;
+use super::playing::play;
+use reuse_planner::Session;
+use session_kit::owners::in_session;
+use std::alloc::Global;
+use std::process::Abort;
+use test_kit::texts::{FIRST_LIST, SALES};
+use view_pool::{Kit, Pool, View};
 use worker_core::StartError;
-use worker_core::records::no_records;
 use worker_core::run::Core;
 
 /// Workers, kits, a line, and what of it is refused.
@@ -61,20 +65,28 @@ fn step_refusals(rt: HostRuntime) {
 fn the_only_kit(rt: HostRuntime) {
     let line = "W0* P0 S10 W0* O0 W0* P0 S10 W0* O0 W0* L0";
     let played = play(&rt, rt.alloc(), FIRST_LIST, 2, 1, line);
-    assert!(rt; played.leads_to("S10 refused E15;S10 refused E15;", "result 3; 1 2 9"));
+    assert!(rt; played.leads_to("S10 refused E15;S10 refused E15;", "result 3\nseen 1 2 9\n"));
+}
+
+/// Why a session's program isn't begun without kits, and how many come back.
+fn refusal<V: View>(rt: &impl Abort, alloc: Global, session: &Session<V>) -> (StartError, usize) {
+    session.kept();
+    let (program, tables, records) = (session.checked(), session.tables(), session.records());
+    let none: Pool<Kit<V>> = Pool::new(Vec::new(alloc));
+    match Core::start(alloc, program, tables, records, none, 1) {
+        Err((error, pool)) => (error, pool.total()),
+        Ok(_) => panic!(rt; "started"),
+    }
 }
 
 #[test]
 fn no_kit_to_start_with(rt: HostRuntime) {
-    let tables = sales(&rt, rt.alloc());
-    let program = checked(&rt, rt.alloc(), FIRST_LIST, &tables);
-    let records = no_records(rt.alloc(), &program);
-    let pool = kits(&rt, rt.alloc(), program.kinds(), 0);
-    match Core::start(rt.alloc(), &program, &tables, &records, pool, 1) {
-        Err((error, pool)) => {
-            assert_eq!(rt; error, StartError::NoKit);
-            assert_eq!(rt; pool.total(), 0);
-        }
-        Ok(_) => panic!(rt; "started"),
-    }
+    let found = in_session(
+        rt.alloc(),
+        FIRST_LIST,
+        SALES,
+        1,
+        |session| refusal(&rt, rt.alloc(), session),
+    );
+    assert_eq!(rt; found, Some((StartError::NoKit, 0)));
 }

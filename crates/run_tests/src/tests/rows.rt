@@ -1,17 +1,20 @@
 //! Programs, lines of steps, and where these lead.
 
 use super::playing::play;
-use super::programs::*;
+use test_kit::texts::{
+    AFFINE, FIRST, FIRST_LIST, FIRST_TWO, LAST_TWO, LOOP, LOOP_FAULT, TABLE, TWO_FAULTS, WRAPPING,
+};
 
 /// The spawned child is run by worker 0, what follows it by worker 1.
 const STOLEN_ONCE: &str = "W0* P0 S10 W1* L1 W0* L0 F0@1 W0* L0";
 
-const FOLDED_ONCE: &str = "split root 1 by 1, stall 1, end root, fold root 1 by 0, finish root";
+const FOLDED_ONCE: &str =
+    "run 1\nsplit root 1 by 1\nstall 1\nend root\nfold root 1 by 0\nfinish root\n";
 
 const TWO_STEALS: &str = "W0* P0 S10 W1* P1 S21 W2* L2 W1* L1 F2@2 W2* L2 W0* L0 F0@1 W0* L0";
 
 const TWO_FOLDS: &str =
-    "split root 1 by 1, split 1 2 by 2, stall 2, end 1, fold 1 2 by 2, stall 1, end root, fold root 1 by 0, finish root";
+    "run 1\nsplit root 1 by 1\nsplit 1 2 by 2\nstall 2\nend 1\nfold 1 2 by 2\nstall 1\nend root\nfold root 1 by 0\nfinish root\n";
 
 const POPPED: &str = "W0* P0 W0* O0 W0* P0 W0* O0 W0* L0";
 
@@ -21,43 +24,73 @@ const HALVES: &str = "W0* P0 S10 W0* I0 W0* L0 W1* I1 W1* L1 F0@1.1 W0* L0";
 
 /// Programs and lines in which nothing is refused, with so many workers and as many kits; the answer and the history.
 const ROWS: [(&str, usize, &str, &str, &str); 13] = [
-    (FIRST_LIST, 1, POPPED, "result 3; 1 2 9", "finish root"),
-    (FIRST, 1, POPPED, "result 3; 12", "finish root"),
-    (FIRST_LIST, 1, INLINED, "result 3; 1 2 9", "finish root"),
-    (FIRST, 1, INLINED, "result 3; 12", "finish root"),
-    (FIRST_LIST, 3, TWO_STEALS, "result 3; 1 2 9", TWO_FOLDS),
-    (FIRST_TWO, 3, TWO_STEALS, "result 3; 1 2", TWO_FOLDS),
-    (LAST_TWO, 3, TWO_STEALS, "result 3; 2 9", TWO_FOLDS),
-    (AFFINE, 2, STOLEN_ONCE, "result 0; 6 7", FOLDED_ONCE),
+    (
+        FIRST_LIST,
+        1,
+        POPPED,
+        "result 3\nseen 1 2 9\n",
+        "run 1\nfinish root\n",
+    ),
+    (
+        FIRST,
+        1,
+        POPPED,
+        "result 3\ntotal 12\n",
+        "run 1\nfinish root\n",
+    ),
+    (
+        FIRST_LIST,
+        1,
+        INLINED,
+        "result 3\nseen 1 2 9\n",
+        "run 1\nfinish root\n",
+    ),
+    (
+        FIRST,
+        1,
+        INLINED,
+        "result 3\ntotal 12\n",
+        "run 1\nfinish root\n",
+    ),
+    (
+        FIRST_LIST,
+        3,
+        TWO_STEALS,
+        "result 3\nseen 1 2 9\n",
+        TWO_FOLDS,
+    ),
+    (FIRST_TWO, 3, TWO_STEALS, "result 3\nseen 1 2\n", TWO_FOLDS),
+    (LAST_TWO, 3, TWO_STEALS, "result 3\nseen 2 9\n", TWO_FOLDS),
+    (AFFINE, 2, STOLEN_ONCE, "result 0\nf 6 7\n", FOLDED_ONCE),
     (
         WRAPPING,
         2,
         STOLEN_ONCE,
-        "result 0; -9223372036854775808",
+        "result 0\ntotal -9223372036854775808\n",
         FOLDED_ONCE,
     ),
-    (TABLE, 2, STOLEN_ONCE, "result 0; 2", FOLDED_ONCE),
+    (TABLE, 2, STOLEN_ONCE, "result 0\nm 2\n", FOLDED_ONCE),
     (
         LOOP,
         2,
         HALVES,
-        "result 0; 0 1 2 3",
-        "split root 1.1 by 1, end root, stall 1.1, fold root 1.1 by 0, finish root",
+        "result 0\nseen 0 1 2 3\n",
+        "run 1\nsplit root 1.1 by 1\nend root\nstall 1.1\nfold root 1.1 by 0\nfinish root\n",
     ),
     (
         LOOP_FAULT,
         2,
         HALVES,
-        "fault DivideByZero in main at 1",
-        "split root 1.1 by 1, fault root, stall 1.1, fold root 1.1 by 0, fault root",
+        "fault divide by zero in main at 1\n",
+        "run 1\nsplit root 1.1 by 1\nfault root\nstall 1.1\nfold root 1.1 by 0\nfault root\n",
     ),
     // In time the missing row comes first.
     (
         TWO_FAULTS,
         2,
         "W0* P0 S10 W1* L1 W0* L0 F0@1 L0",
-        "fault DivideByZero in bad at 1",
-        "split root 1 by 1, fault 1, fault root, fold root 1 by 0, fault root",
+        "fault divide by zero in bad at 1\n",
+        "run 1\nsplit root 1 by 1\nfault 1\nfault root\nfold root 1 by 0\nfault root\n",
     ),
 ];
 
@@ -70,19 +103,22 @@ fn answers_and_histories(rt: HostRuntime) {
     }
 }
 
+/// Programs and lines, and the strands of three workers then.
+const STANDING: [(&str, &str, &str); 5] = [
+    (FIRST_LIST, "", "[] Held(0);"),
+    (FIRST_LIST, "W0* P0 S10", "[] Held(0);[1] Held(1);"),
+    (
+        FIRST_LIST,
+        "W0* P0 S10 W1* P1 S21 W2* L2 W1* L1",
+        "[] Held(0);[1] Ended;[2] Stalled;",
+    ),
+    (FIRST_LIST, TWO_STEALS, "[] Finished;"),
+    (LOOP, "W0* P0 S10", "[] Held(0);[1, 1] Held(1);"),
+];
+
 #[test]
 fn strands_where_a_run_stands(rt: HostRuntime) {
-    for (text, line, strands) in [
-        (FIRST_LIST, "", "root held by 0"),
-        (FIRST_LIST, "W0* P0 S10", "root held by 0, 1 held by 1"),
-        (
-            FIRST_LIST,
-            "W0* P0 S10 W1* P1 S21 W2* L2 W1* L1",
-            "root held by 0, 1 ended, 2 stalled",
-        ),
-        (FIRST_LIST, TWO_STEALS, "root finished"),
-        (LOOP, "W0* P0 S10", "root held by 0, 1.1 held by 1"),
-    ] {
+    for (text, line, strands) in STANDING {
         let played = play(&rt, rt.alloc(), text, 3, 3, line);
         assert_eq!(rt; played.strands.as_str(), strands, "after {line}");
     }

@@ -1,33 +1,14 @@
-//! Numbers, edits and steps that are drawn.
-ghost use Rattle.std.specs.Prelude.{◌≡◌, ◌<◌};
+//! Steps that are drawn.
+ghost use Rattle.std.specs.Prelude.{◌<◌};
 
-use super::beginning::kits;
 use reuse_planner::Session;
 use std::alloc::Global;
 use std::process::Abort;
+use test_kit::beginnings::kits;
+use test_kit::drawn::Dice;
 use view_pool::{Pool, View};
 use worker_core::run::Core;
 use worker_core::{Place, Step, StrandLine};
-
-/// A source of numbers, the same in each run.
-#[derive(Drop)]
-pub struct Dice {
-    pub state: u64,
-}
-
-impl Dice {
-    /// The next number below this one.
-    pub fn below(&mut self, limit: usize) -> usize
-        requires { 0 < limit }
-        ensures { result < limit }
-    {
-        self.state = self
-            .state
-            .wrapping_mul(6364136223846793005)
-            .wrapping_add(1442695040888963407);
-        (self.state >> 33) as usize % limit
-    }
-}
 
 /// The place of any strand.
 fn any_place<V: View>(
@@ -89,7 +70,7 @@ fn go_anyhow<V: View>(
 )
     requires { 0 < workers }
 {
-    for _ in 0..300 {
+    for _ in 0..400 {
         let step = any_step(rt, alloc, core, dice, workers);
         take(rt, alloc, core, step, steps);
     }
@@ -147,7 +128,23 @@ fn go_to_the_end<V: View>(
     }
 }
 
-/// Steps that are drawn, refused ones among them, and then as many as lead a run of the session to its end.
+/// Takes steps that are drawn, refused ones among them, and then as many as lead a run to its end.
+pub fn drive<V: View>(
+    rt: &impl Abort,
+    alloc: Global,
+    core: &mut Core<'_, V>,
+    dice: &mut Dice,
+    workers: usize,
+) -> Vec<Step>
+    requires { 0 < workers }
+{
+    let mut steps = Vec::new(alloc);
+    go_anyhow(rt, alloc, core, dice, workers, &mut steps);
+    go_to_the_end(rt, alloc, core, workers, &mut steps);
+    steps
+}
+
+/// Such steps of a run of a session.
 pub fn any_steps<V: View>(
     rt: &impl Abort,
     alloc: Global,
@@ -159,12 +156,9 @@ pub fn any_steps<V: View>(
 {
     session.kept();
     let (program, tables, records) = (session.checked(), session.tables(), session.records());
-    let pool = Pool::new(kits(rt, alloc, program.kinds(), session.kits().0));
-    let Ok(mut core) = Core::start(alloc, program, tables, records, pool, workers) else {
+    let kits = kits(alloc, program.kinds(), session.kits().0).expect(rt, "kits");
+    let Ok(mut core) = Core::start(alloc, program, tables, records, Pool::new(kits), workers) else {
         panic!(rt; "not started");
     };
-    let mut steps = Vec::new(alloc);
-    go_anyhow(rt, alloc, &mut core, dice, workers, &mut steps);
-    go_to_the_end(rt, alloc, &mut core, workers, &mut steps);
-    steps
+    drive(rt, alloc, &mut core, dice, workers)
 }

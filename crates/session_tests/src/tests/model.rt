@@ -1,12 +1,11 @@
 //! What a session is compared with: the rows of its table, and the text that each of its procedures has, edited by themselves.
-ghost use Rattle.std.specs.Prelude.{◌≡◌, ◌<◌};
 
-use super::drawn::Dice;
 use procedure_parser::parse;
 use program_tree::Program;
 use serial_oracle::{Row, TableRows};
 use std::alloc::Global;
 use std::process::Abort;
+use test_kit::drawn::Dice;
 
 const REDUCERS: &str = "reducer total : add;
 reducer top : argmax;

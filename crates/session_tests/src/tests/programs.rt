@@ -1,34 +1,92 @@
-//! Programs and tables as text.
+//! Programs of any steps, as text.
 
-pub const SALES: &str =
-    "[sales]\ncolumns = [\"qty\", \"price\"]\nrows = [[1, 2, 5], [2, 3, 7], [3, 1, 100]]\n";
+use test_kit::texts::{
+    AFFINE, FIRST_LIST, FIRST_TWO, LAST_TWO, LOOP, LOOP_FAULT, TABLE, TWO_FAULTS, WRAPPING,
+};
 
-pub const FIRST_LIST: &str = "reducer seen : list;
+/// Spawns and calls under one another, in each branch of an `if`.
+const TREE: &str = "reducer seen : list;
+reducer best : argmax;
 proc leaf(v) { update seen v; return v; }
-proc main() { x = spawn leaf(1); y = spawn leaf(2); update seen 9; sync; return x + y; }
+proc pair(v) {
+    x = spawn leaf(v);
+    update best v % 7, v;
+    y = call leaf(v + 2);
+    sync;
+    update seen x;
+    return x + y;
+}
+proc tree(n) {
+    update seen n;
+    if n > 0 {
+        x = spawn tree(n - 1);
+        y = spawn pair(n * 10);
+        update seen 0 - n;
+        sync;
+        z = call pair(x);
+        return x + y + z;
+    } else {
+        spawn leaf(5);
+        update best 3, n;
+    }
+    return 1;
+}
+proc main() { a = spawn tree(3); b = call tree(2); spawn leaf(b); sync; return a + b; }
 ";
 
-/// As the first one, with recorded leaves.
-pub const MEMO_LIST: &str = "reducer seen : list;
-memo proc leaf(v) { update seen v; return v; }
-proc main() { x = spawn leaf(1); y = spawn leaf(2); update seen 9; sync; return x + y; }
+/// Loops in loops, in parts of two, over the rows of a table.
+const LOOPS: &str = "reducer total : add;
+reducer f : affine;
+reducer last : last 3;
+proc cell(i, j) { update total i * j; update f 2, i; update last i * 10 + j; }
+proc row(i) {
+    if has sales[i] { update total sales[i].qty * sales[i].price; }
+    cilk_for j in 0 .. i grain 2 : cell(i, j);
+    update total 1;
+}
+proc main() { cilk_for i in 0 .. limit sales + 2 : row(i); sync; t = read total; return t; }
 ";
 
-pub const LINES: &str = "reducer total : add;
-reducer top : argmax;
-memo proc line(r) { v = sales[r].qty * sales[r].price; update total v; update top v, r; return v; }
-proc main() { cilk_for r in 1 .. limit sales : line(r); t = read total; return t; }
+/// The fault of one strand stands behind those of others.
+const TREE_FAULT: &str = "reducer seen : list;
+proc tree(n) {
+    update seen n;
+    if n > 0 {
+        x = spawn tree(n - 1);
+        y = spawn tree(n - 2);
+        update seen 10 / (n - 3);
+        sync;
+        return x + y;
+    }
+    return 1;
+}
+proc main() { a = spawn tree(2); b = spawn tree(4); c = spawn tree(3); sync; return a; }
 ";
 
-/// A memo instance reads what those that it enters read.
-pub const NESTED_READS: &str = "reducer total : add;
-memo proc line(r) { if has sales[r] { v = sales[r].qty * sales[r].price; update total v; } }
-memo proc all() { cilk_for r in 1 .. limit sales : line(r); }
-proc main() { call all(); t = read total; return t; }
+const TOO_DEEP: &str = "reducer total : add;
+proc down(n) { spawn down(n + 1); update total n; }
+proc main() { spawn down(2); update total 1; return 0; }
 ";
 
-/// Sixty instances under one another, and one more.
-pub const COUNTDOWN: &str = "reducer steps : add;
-memo proc down(n) { update steps 1; if n > 0 { call down(n - 1); } return n; }
-proc main() { v = call down(60); return v; }
+const BAD_ELEMENT: &str = "reducer parity : table 2 unit 0 [0, 1, 1, 0];
+proc one(v) { update parity v; }
+proc main() { cilk_for i in 0 .. 5 grain 2 : one(i - 2 * (i / 2)); spawn one(2); update parity 3; return 0; }
 ";
+
+/// All of them.
+pub const ALL: [&str; 14] = [
+    FIRST_LIST,
+    FIRST_TWO,
+    LAST_TWO,
+    AFFINE,
+    WRAPPING,
+    TABLE,
+    TWO_FAULTS,
+    LOOP,
+    LOOP_FAULT,
+    TREE,
+    LOOPS,
+    TREE_FAULT,
+    TOO_DEEP,
+    BAD_ELEMENT,
+];

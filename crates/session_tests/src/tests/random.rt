@@ -1,18 +1,19 @@
 //! Sessions by any edits and runs, of one to five workers or sixteen with one to six kits or many: the answers are those of the slow serial
 //! program from scratch, and what a run executes and has answered by records is what that one needs by the session's records.
-ghost use Rattle.std.specs.Prelude.{◌≡◌, ◌<◌};
 
-use super::beginning::in_session;
-use super::drawn::{Dice, any_steps};
+use super::drawn::any_steps;
 use super::model::Model;
-use super::playing::{no_answers, play};
 use super::slow::{Needed, needs_of, scratch_text};
-use linked_program::checked::Checked;
 use reuse_planner::{Session, Stepped};
+use session_kit::answers::answer_text;
+use session_kit::owners::in_session;
+use session_kit::scripts::played;
 use std::alloc::Global;
 use std::process::Abort;
 use std::sync::Wait;
 use std::thread::Threads;
+use test_kit::drawn::Dice;
+use test_kit::texts::SALES;
 use threaded_driver::{NoGate, run_threads};
 use view_pool::View;
 use worker_core::RunAnswer;
@@ -38,14 +39,14 @@ type Seen = (bool, bool);
 
 /// Edits a session once, and its model.
 fn edit<V: View>(
-    rt: &(impl Abort + Threads + Wait + Sync),
+    rt: &impl Abort,
     alloc: Global,
     session: &mut Session<V>,
     model: &mut Model,
     dice: &mut Dice,
 ) {
     let drawn = model.edit(rt, alloc, dice);
-    let found = play(rt, alloc, session, 1, drawn.script.as_bytes());
+    let found = played(alloc, session, drawn.script.as_bytes()).expect(rt, "memory");
     assert_eq!(rt; found.lines.as_str(), drawn.answer, "{}", drawn.script);
 }
 
@@ -55,13 +56,6 @@ fn needed<V: View>(rt: &impl Abort, alloc: Global, session: &Session<V>, model: 
     let needed = needs_of(rt, alloc, session, model);
     assert_eq!(rt; needed.text.as_str(), wanted.as_str());
     needed
-}
-
-/// Compares the lines of an answer.
-fn is_noted(rt: &impl Abort, alloc: Global, program: &Checked, answer: &RunAnswer, wanted: &str) {
-    let mut answers = no_answers(alloc);
-    answers.note(alloc, program, answer).expect(rt, "memory");
-    assert_eq!(rt; answers.lines.as_str(), wanted);
 }
 
 /// Compares the counts of a run that has finished.
@@ -90,7 +84,8 @@ fn run_beside<V: View>(
 ) -> Seen {
     let needed = needed(rt, alloc, session, model);
     let answer = any_run(rt, alloc, session, dice);
-    is_noted(rt, alloc, session.checked(), &answer, &needed.text);
+    let text = answer_text(alloc, session.checked(), &answer).expect(rt, "memory");
+    assert_eq!(rt; text.as_str(), needed.text.as_str());
     seen(rt, &answer, &needed)
 }
 
@@ -152,13 +147,14 @@ fn any_session(
     seed: u64,
 ) -> Seen {
     let text = first_text(rt, alloc);
-    in_session(
-        rt,
+    let seen = in_session(
         alloc,
         &text,
+        SALES,
         count,
         |session| any_runs_with(rt, alloc, session, count, seed),
-    )
+    );
+    seen.expect(rt, "a session")
 }
 
 /// Sessions with so many kits.

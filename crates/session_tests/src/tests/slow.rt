@@ -1,5 +1,4 @@
 //! What the slow serial program makes of a session's program and tables, from scratch and by the session's records.
-ghost use Rattle.std.specs.Prelude.{◌≡◌, ◌<◌, length};
 
 use super::fitting::are_fit;
 use super::model::Model;
@@ -35,14 +34,19 @@ fn answer_text(rt: &impl Abort, alloc: Global, program: &Program, answer: &Answe
     text
 }
 
+/// The text of what a program comes to from scratch, on the model's tables.
+pub fn text_of(rt: &impl Abort, alloc: Global, program: &Program, model: &Model) -> String {
+    let sales = model.tables(rt, alloc);
+    let Ok(answer) = from_scratch(alloc, program, &[sales]) else {
+        panic!(rt; "memory");
+    };
+    answer_text(rt, alloc, program, &answer)
+}
+
 /// The text of what the model comes to from scratch.
 pub fn scratch_text(rt: &impl Abort, alloc: Global, model: &Model) -> String {
     let program = model.program(rt, alloc);
-    let sales = model.tables(rt, alloc);
-    let Ok(answer) = from_scratch(alloc, &program, &[sales]) else {
-        panic!(rt; "memory");
-    };
-    answer_text(rt, alloc, &program, &answer)
+    text_of(rt, alloc, &program, model)
 }
 
 /// The name of the procedure of that number.

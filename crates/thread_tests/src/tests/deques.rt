@@ -1,16 +1,22 @@
 //! What goes through the deques.
 
-use super::beginning::{answer, session_on};
+use super::beginning::is_answered;
 use super::counting::{Held, PushBesideSteal, UntilStolen};
-use super::programs::{LEVELS, LEVELS_TO_A_FAULT, NESTED, ONES, SALES};
+use super::programs::{LEVELS, LEVELS_TO_A_FAULT, NESTED, ONES};
 use threaded_driver::NoGate;
 
 #[test]
 fn pushes_and_steals(rt: HostRuntime) {
     let gate = UntilStolen::new();
-    let mut session = session_on(&rt, rt.alloc(), ONES, SALES, 4);
-    let found = answer(&rt, rt.alloc(), &mut session, 4, &gate);
-    assert_eq!(&rt; found.as_str(), "result 120\ntotal 120\n");
+    is_answered(
+        &rt,
+        rt.alloc(),
+        ONES,
+        4,
+        4,
+        &gate,
+        "result 120\ntotal 120\n",
+    );
     let (pushes, steals) = gate.counts();
     assert!(&rt;
         steals > 0 && pushes >= steals,
@@ -22,20 +28,17 @@ fn pushes_and_steals(rt: HostRuntime) {
 #[test]
 fn many_continuations(rt: HostRuntime) {
     let gate = Held::new();
-    let mut session = session_on(&rt, rt.alloc(), LEVELS, SALES, 4);
-    let found = answer(&rt, rt.alloc(), &mut session, 1, &gate);
-    assert_eq!(&rt; found.as_str(), "result 16065\ntotal 16065\n");
+    let wanted = "result 16065\ntotal 16065\n";
+    is_answered(&rt, rt.alloc(), LEVELS, 4, 1, &gate, wanted);
     assert_eq!(&rt; gate.most(), 504);
-    let found = answer(&rt, rt.alloc(), &mut session, 4, &NoGate);
-    assert_eq!(&rt; found.as_str(), "result 16065\ntotal 16065\n");
+    is_answered(&rt, rt.alloc(), LEVELS, 4, 4, &NoGate, wanted);
 }
 
 #[test]
 fn over_a_thousand_continuations(rt: HostRuntime) {
     let gate = Held::new();
-    let mut session = session_on(&rt, rt.alloc(), LEVELS_TO_A_FAULT, SALES, 4);
-    let found = answer(&rt, rt.alloc(), &mut session, 1, &gate);
-    assert_eq!(&rt; found.as_str(), "fault divide by zero in level at 4\n");
+    let wanted = "fault divide by zero in level at 4\n";
+    is_answered(&rt, rt.alloc(), LEVELS_TO_A_FAULT, 4, 1, &gate, wanted);
     assert_eq!(&rt; gate.most(), 1008);
 }
 
@@ -43,8 +46,6 @@ fn over_a_thousand_continuations(rt: HostRuntime) {
 #[test]
 fn push_beside_a_steal(rt: HostRuntime) {
     let gate = PushBesideSteal::new();
-    let mut session = session_on(&rt, rt.alloc(), NESTED, SALES, 2);
-    let found = answer(&rt, rt.alloc(), &mut session, 2, &gate);
-    assert_eq!(&rt; found.as_str(), "result 3\ntotal 3\n");
+    is_answered(&rt, rt.alloc(), NESTED, 2, 2, &gate, "result 3\ntotal 3\n");
     assert!(&rt; gate.have_met());
 }

@@ -7,12 +7,13 @@ ghost use Rattle.rerun_records.specs.Named.{HaveValues};
 ghost use Rattle.positions.specs.Setting.{setting_with};
 ghost use Rattle.numbered_runs.specs.News.{AreSound};
 
-use super::beginning::{session_on, text_of};
-use super::programs::{FIRST, LINES, SALES, SALES_WITH_A_GAP};
 use frames::answer::RunAnswer;
 use input_tables::Tables;
 use linked_program::checked::Checked;
 use rerun_records::records::Records;
+use reuse_planner::Session;
+use session_kit::answers::answer_text;
+use session_kit::owners::in_session;
 use std::alloc::Global;
 use std::marker::Brand;
 use std::process::Abort;
@@ -20,6 +21,7 @@ use std::sync::Wait;
 use std::sync::ledger::{Blank, Ledger};
 use std::thread;
 use std::thread::Threads;
+use test_kit::texts::{FIRST, LINES, SALES, SALES_WITH_A_GAP};
 use threaded_driver::{
     Deques, Floor, NewDeques, NoGate, Run, Seat, StartError, Stocked, deques_of, work,
 };
@@ -35,18 +37,32 @@ struct Came {
 }
 
 /// A thread for each seat, until all have left.
-fn finished<J, D, R>(rt: &R, floor: Floor<'_, J, D, PlainView>, seats: Vec<Seat<J, D>>) -> Came
+fn all_left<J, D, R>(
+    rt: &R,
+    floor: &Floor<'_, J, D, PlainView>,
+    seats: Vec<Seat<J, D>>,
+) -> Vec<Seat<J, D>>
 where
     J: Run + Ledger + Stocked + Send + Sync,
     D: Deques + Send + Sync,
     R: Abort + Threads + Wait + Sync,
     requires some { 0 < length seats.items }
+    ensures left { All (λ seat. 0 < seat.left) result.items }
+    ensures some { 0 < length result.items }
 {
-    let shared = &floor;
     let life = |seat: Seat<J, D>| -> Seat<J, D>
         ensures { 0 < result.left }
-    { work(rt, shared, seat, &NoGate) };
-    let seats = thread::map_vec(rt, seats, &life).expect(rt, "threads");
+    { work(rt, floor, seat, &NoGate) };
+    thread::map_vec(rt, seats, &life).expect(rt, "threads")
+}
+/// What a run came to that all have left.
+fn came<J, D>(rt: &impl Abort, floor: Floor<'_, J, D, PlainView>, seats: Vec<Seat<J, D>>) -> Came
+where
+    J: Run + Ledger + Stocked + Send,
+    D: Deques,
+    requires some { 0 < length seats.items }
+    requires left { All (λ seat. 0 < seat.left) seats.items }
+{
     match floor.finish(seats) {
         Ok((answer, pool, made, steps)) => Came {
             answer,
@@ -56,6 +72,18 @@ where
         },
         Err(_) => panic!(rt; "a mismatch"),
     }
+}
+
+/// The same, by a thread for each seat.
+fn finished<J, D, R>(rt: &R, floor: Floor<'_, J, D, PlainView>, seats: Vec<Seat<J, D>>) -> Came
+where
+    J: Run + Ledger + Stocked + Send + Sync,
+    D: Deques + Send + Sync,
+    R: Abort + Threads + Wait + Sync,
+    requires some { 0 < length seats.items }
+{
+    let seats = all_left(rt, &floor, seats);
+    came(rt, floor, seats)
 }
 
 /// What a run comes to that is given up before a worker has come: the first strand has a kit.
@@ -137,25 +165,39 @@ where
     through::<J, Brand, R>(rt, alloc, program, tables, records, pool, deques, gives_up)
 }
 
-/// A session's program on its tables by so many workers; the session has no kits behind it.
+/// What a run came to, as text.
+fn told(rt: &impl Abort, alloc: Global, program: &Checked, came: &Came) -> String {
+    let text = answer_text(alloc, program, &came.answer).expect(rt, "memory");
+    let has_steps = came.steps > 0;
+    let told = format!(in alloc;
+        "{text}{} home, {} records, {has_steps}",
+        came.home, came.records
+    );
+    told.expect(rt, "memory")
+}
+
+/// Why it wasn't begun, and how many kits are home.
+fn not_begun(rt: &impl Abort, alloc: Global, refused: (StartError, usize)) -> String {
+    format!(in alloc; "{refused:?}").expect(rt, "memory")
+}
+
+/// Runs a session's program on its tables by so many workers, with its kits or with none; the session has no kits behind it.
 fn on_a_floor<R: Abort + Threads + Wait + Sync>(
     rt: &R,
     alloc: Global,
-    text: &str,
-    rows: &str,
-    kits: usize,
+    session: &mut Session<PlainView>,
+    has_kits: bool,
     workers: usize,
     gives_up: bool,
-) -> Result<(String, usize, usize, usize), (StartError, usize)>
+) -> String
     requires workers { (0 < workers) × (workers ≤ 16) }
 {
-    let mut session = session_on(rt, alloc, text, rows, kits.max(1));
     session.kept();
     let pool = session.take_pool(alloc);
-    let pool = if kits == 0 {
-        Pool::new(Vec::new(alloc))
-    } else {
+    let pool = if has_kits {
         pool
+    } else {
+        Pool::new(Vec::new(alloc))
     };
     let came = by_workers::<Brand, R>(
         rt,
@@ -167,49 +209,71 @@ fn on_a_floor<R: Abort + Threads + Wait + Sync>(
         Blank::new(workers as u64),
         workers,
         gives_up,
-    )?;
-    let text = text_of(rt, alloc, session.checked(), &came.answer);
-    Ok((text, came.home, came.records, came.steps))
-}
-
-#[test]
-fn result_on_a_floor(rt: HostRuntime) {
-    match on_a_floor(&rt, rt.alloc(), LINES, SALES, 8, 2, false) {
-        Ok((text, home, records, steps)) => {
-            assert_eq!(&rt; text.as_str(), "result 131\ntotal 131\ntop 100 3\n");
-            assert_eq!(&rt; (home, records), (8, 3));
-            assert!(&rt; steps > 0);
-        }
-        Err(_) => panic!(&rt; "not begun"),
+    );
+    match came {
+        Ok(came) => told(rt, alloc, session.checked(), &came),
+        Err(refused) => not_begun(rt, alloc, refused),
     }
 }
 
-/// A run that has ended by a fault leaves no records.
-#[test]
-fn fault_on_a_floor(rt: HostRuntime) {
-    match on_a_floor(&rt, rt.alloc(), LINES, SALES_WITH_A_GAP, 8, 4, false) {
-        Ok((text, home, records, _)) => {
-            assert_eq!(&rt; text.as_str(), "fault missing row in line at 1\n");
-            assert_eq!(&rt; (home, records), (8, 0));
-        }
-        Err(_) => panic!(&rt; "not begun"),
-    }
+/// A program and its tables; whether there are kits, how many workers, and whether the run is given up; and what it comes to, last
+/// whether its list of strands has had steps.
+type Row = (&'static str, &'static str, bool, usize, bool, &'static str);
+
+const ROWS: [Row; 4] = [
+    (
+        LINES,
+        SALES,
+        true,
+        2,
+        false,
+        "result 131\ntotal 131\ntop 100 3\n8 home, 3 records, true",
+    ),
+    // A run that has ended by a fault leaves no records.
+    (
+        LINES,
+        SALES_WITH_A_GAP,
+        true,
+        4,
+        false,
+        "fault missing row in line at 1\n8 home, 0 records, true",
+    ),
+    (FIRST, SALES, false, 2, false, "(NoKit, 0)"),
+    // The first strand has a kit.
+    (
+        FIRST,
+        SALES,
+        true,
+        2,
+        true,
+        "unfinished\n7 home, 0 records, false",
+    ),
+];
+
+/// Compares what a row comes to.
+fn comes_to<R: Abort + Threads + Wait + Sync>(rt: &R, alloc: Global, row: Row) {
+    let (text, rows, has_kits, workers, gives_up, wanted) = row;
+    let found = in_session(
+        alloc,
+        text,
+        rows,
+        8,
+        |session| on_a_floor(
+            rt,
+            alloc,
+            session,
+            has_kits,
+            workers.max(1).min(16),
+            gives_up,
+        ),
+    );
+    let found = found.expect(rt, "a session");
+    assert_eq!(rt; found.as_str(), wanted);
 }
 
 #[test]
-fn no_floor_without_a_kit(rt: HostRuntime) {
-    match on_a_floor(&rt, rt.alloc(), FIRST, SALES, 0, 2, false) {
-        Ok(_) => panic!(&rt; "begun"),
-        Err(refused) => assert_eq!(&rt; refused, (StartError::NoKit, 0)),
-    }
-}
-
-#[test]
-fn floor_is_given_up(rt: HostRuntime) {
-    match on_a_floor(&rt, rt.alloc(), FIRST, SALES, 8, 2, true) {
-        Ok((text, home, _, _)) => {
-            assert_eq!(&rt; (text.as_str(), home), ("unfinished\n", 7));
-        }
-        Err(_) => panic!(&rt; "not begun"),
+fn runs_on_a_floor(rt: HostRuntime) {
+    for row in ROWS {
+        comes_to(&rt, rt.alloc(), row);
     }
 }

@@ -1,40 +1,80 @@
-//! Runs that memory may be refused to.
+//! Runs that memory may be refused to, and runs without kits.
 
-use super::beginning::{session_on, text_of};
-use super::programs::{LINES, SALES};
+use super::beginning::{answer, outcome};
 use reuse_planner::Session;
+use session_kit::owners::in_session;
 use std::alloc::Global;
 use std::process::Abort;
 use std::sync::Wait;
 use std::thread::Threads;
-use threaded_driver::{NoGate, run_threads};
-use view_pool::PlainView;
+use test_kit::texts::{FIRST, LINES, SALES};
+use threaded_driver::NoGate;
+use view_pool::View;
 
 const WANTED: &str = "result 131\ntotal 131\ntop 100 3\n";
 
 /// Whether a run by two threads has finished. One that hasn't was refused memory.
-fn has_finished<R: Abort + Threads + Wait + Sync>(
+fn has_finished<V: View + Send, R: Abort + Threads + Wait + Sync>(
     rt: &R,
     alloc: Global,
-    session: &mut Session<PlainView>,
+    session: &mut Session<V>,
 ) -> bool {
-    let (answer, _history) = run_threads(rt, alloc, session, 2, &NoGate).expect(rt, "no mismatch");
-    let text = text_of(rt, alloc, session.checked(), &answer);
+    let text = outcome(rt, alloc, session, 2, &NoGate);
     assert!(rt; text.as_str() == WANTED || text.as_str() == "no memory\n");
     text.as_str() == WANTED
 }
 
 /// Where one allocation is refused, one of the two runs finishes: the session's program and tables are as before, and it has
 /// the records of the runs that have finished.
+fn one_finishes<V: View + Send, R: Abort + Threads + Wait + Sync>(
+    rt: &R,
+    alloc: Global,
+    session: &mut Session<V>,
+) {
+    let first = has_finished(rt, alloc, session);
+    assert_eq!(rt; session.records().len(), if first { 3 } else { 0 });
+    let second = has_finished(rt, alloc, session);
+    assert!(rt; first || second);
+    assert_eq!(rt; session.records().len(), 3);
+}
+
 #[test]
 fn one_of_two_runs_finishes(rt: HostRuntime) {
-    let mut session = session_on(&rt, rt.alloc(), LINES, SALES, 64);
-    let first = has_finished(&rt, rt.alloc(), &mut session);
-    assert_eq!(&rt; session.records().len(), if first { 3 } else { 0 });
-    let second = has_finished(&rt, rt.alloc(), &mut session);
-    assert_eq!(&rt;
-        session.records().len(),
-        if first || second { 3 } else { 0 }
+    let done = in_session(
+        rt.alloc(),
+        LINES,
+        SALES,
+        64,
+        |session| one_finishes(&rt, rt.alloc(), session),
     );
-    assert!(&rt; first || second);
+    done.expect(&rt, "a session");
+}
+
+/// Takes the pool out: how many of its kits are free, and how many it has.
+fn kits_taken_out<V: View>(alloc: Global, session: &mut Session<V>) -> (usize, usize) {
+    let pool = session.take_pool(alloc);
+    (pool.free(), pool.total())
+}
+
+/// A session whose pool is out has no run.
+fn has_no_run<V: View + Send, R: Abort + Threads + Wait + Sync>(
+    rt: &R,
+    alloc: Global,
+    session: &mut Session<V>,
+) {
+    assert_eq!(rt; kits_taken_out(alloc, session), (2, 2));
+    let found = answer(rt, alloc, session, 2, &NoGate);
+    assert_eq!(rt; found.as_str(), "no kit\n");
+}
+
+#[test]
+fn no_kit(rt: HostRuntime) {
+    let done = in_session(
+        rt.alloc(),
+        FIRST,
+        SALES,
+        2,
+        |session| has_no_run(&rt, rt.alloc(), session),
+    );
+    done.expect(&rt, "a session");
 }

@@ -1,41 +1,72 @@
 //! What is done again in a second run.
 
-use super::beginning::{answer, session_on};
+use super::beginning::answer;
 use super::counting::Updates;
-use super::programs::{LINES, SALES};
+use reuse_planner::Session;
 use session_edits::Edit;
+use session_kit::owners::in_session;
+use std::alloc::Global;
+use std::process::Abort;
+use std::sync::Wait;
+use std::thread::Threads;
+use test_kit::texts::{LINES, SALES};
+use view_pool::View;
 
-/// Each of the three lines updates both reducers; then all three are answered by records.
-#[test]
-fn rerun_is_quiet(rt: HostRuntime) {
+/// Compares what a run by so many threads comes to, and how many updates there were.
+fn updates<V: View + Send, R: Abort + Threads + Wait + Sync>(
+    rt: &R,
+    alloc: Global,
+    session: &mut Session<V>,
+    workers: usize,
+    wanted: &str,
+    count: usize,
+) {
     let updates = Updates::new();
-    let mut session = session_on(&rt, rt.alloc(), LINES, SALES, 64);
-    for wanted in [6, 0] {
-        let found = answer(&rt, rt.alloc(), &mut session, 2, &updates);
-        assert_eq!(&rt; found.as_str(), "result 131\ntotal 131\ntop 100 3\n");
-        assert_eq!(&rt; updates.taken(), wanted);
-    }
+    let found = answer(rt, alloc, session, workers, &updates);
+    assert_eq!(rt; found.as_str(), wanted);
+    assert_eq!(rt; updates.taken(), count);
 }
 
-/// Only the line that was put is done again.
-#[test]
-fn rerun_of_one_line(rt: HostRuntime) {
-    let updates = Updates::new();
-    let mut session = session_on(&rt, rt.alloc(), LINES, SALES, 64);
-    let found = answer(&rt, rt.alloc(), &mut session, 4, &updates);
-    assert_eq!(&rt;
-        (found.as_str(), updates.taken()),
-        ("result 131\ntotal 131\ntop 100 3\n", 6)
-    );
+const FIRST_LINES: &str = "result 131\ntotal 131\ntop 100 3\n";
+
+/// Each of the three lines updates both reducers; then all three are answered by records, and then two of them.
+fn less_is_done<V: View + Send, R: Abort + Threads + Wait + Sync>(
+    rt: &R,
+    alloc: Global,
+    session: &mut Session<V>,
+    workers: usize,
+) {
+    updates(rt, alloc, session, workers, FIRST_LINES, 6);
+    updates(rt, alloc, session, workers, FIRST_LINES, 0);
     let put = Edit::Put {
         table: "sales",
         row: 2,
-        values: vec![in rt.alloc(); 4, 7].expect(&rt, "memory"),
+        values: vec![in alloc; 4, 7].expect(rt, "memory"),
     };
-    assert!(&rt; session.apply(rt.alloc(), &put).is_ok());
-    let found = answer(&rt, rt.alloc(), &mut session, 4, &updates);
-    assert_eq!(&rt;
-        (found.as_str(), updates.taken()),
-        ("result 138\ntotal 138\ntop 100 3\n", 2)
+    assert!(rt; session.apply(alloc, &put).is_ok());
+    updates(
+        rt,
+        alloc,
+        session,
+        workers,
+        "result 138\ntotal 138\ntop 100 3\n",
+        2,
     );
+}
+
+fn less_is_done_by<R: Abort + Threads + Wait + Sync>(rt: &R, alloc: Global, workers: usize) {
+    let done = in_session(
+        alloc,
+        LINES,
+        SALES,
+        64,
+        |session| less_is_done(rt, alloc, session, workers),
+    );
+    done.expect(rt, "a session");
+}
+
+#[test]
+fn reruns_are_quiet(rt: HostRuntime) {
+    less_is_done_by(&rt, rt.alloc(), 2);
+    less_is_done_by(&rt, rt.alloc(), 4);
 }

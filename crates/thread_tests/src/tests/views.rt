@@ -1,23 +1,40 @@
 //! A view of the tests' own, whose updates wait for one another, and which counts its drops.
-ghost use Rattle.std.specs.Prelude.{◌≡◌, All, IfOk};
 
-use super::beginning::{answer, checked, tables};
+use super::beginning::answer;
 use super::meeting::Together;
-use super::programs::{FIRST, SALES};
 use monoid_laws::{InjectError, Kind, Val};
 use reuse_planner::Session;
 use std::alloc::{AllocError, Global};
 use std::process::Abort;
-use std::sync::Arc;
 use std::sync::atomic::{AtomicUsize, Ordering};
+use std::sync::{Arc, Wait};
+use std::thread::Threads;
+use test_kit::beginnings::{checked, kits_by, tables};
+use test_kit::texts::{FIRST, SALES};
 use threaded_driver::NoGate;
-use view_pool::{Kit, PlainView, View};
+use view_pool::{PlainView, View};
 
 /// A view whose updates wait for one another, and which counts its drops.
 struct Waiting {
     view: PlainView,
     together: Arc<Together>,
     drops: Arc<AtomicUsize>,
+}
+
+impl Waiting {
+    /// A plain view of that kind, whose updates wait so.
+    fn new(
+        alloc: Global,
+        kind: Kind,
+        together: &Arc<Together>,
+        drops: &Arc<AtomicUsize>,
+    ) -> Result<Waiting, AllocError> {
+        Ok(Waiting {
+            view: PlainView::new(alloc, kind),
+            together: together.clone()?,
+            drops: drops.clone()?,
+        })
+    }
 }
 
 impl Drop for Waiting {
@@ -63,57 +80,32 @@ impl View for Waiting {
     }
 }
 
-/// A kit of one such view, for a program whose one reducer is a sum.
-fn kit(
-    rt: &impl Abort,
-    alloc: Global,
-    kinds: &[Kind],
-    together: &Arc<Together>,
-    drops: &Arc<AtomicUsize>,
-) -> Result<Kit<Waiting>, AllocError>
-    ensures kinds { IfOk result (λ kit. kit ≡ kinds.now) }
-{
-    match kinds {
-        [Kind::Add] => {
-            let mut views = Vec::new(alloc);
-            let waiting = Waiting {
-                view: PlainView::new(alloc, Kind::Add),
-                together: together.clone()?,
-                drops: drops.clone()?,
-            };
-            views.push(waiting)?;
-            Ok(Kit::reset(views))
-        }
-        _ => panic!(rt; "another kind"),
-    }
-}
-
-/// Two such kits.
-fn two_kits(
-    rt: &impl Abort,
-    alloc: Global,
-    kinds: &[Kind],
-    together: &Arc<Together>,
-    drops: &Arc<AtomicUsize>,
-) -> Vec<Kit<Waiting>>
-    ensures kits { All (λ k. k ≡ kinds.now) result.items }
-{
-    let first = kit(rt, alloc, kinds, together, drops).expect(rt, "memory");
-    let second = kit(rt, alloc, kinds, together, drops).expect(rt, "memory");
-    vec![in alloc; first, second].expect(rt, "memory")
-}
-
-/// The session of the first program, over two such kits.
+/// The session of the first program, over two kits of such views.
 fn session(
     rt: &impl Abort,
     alloc: Global,
     together: &Arc<Together>,
     drops: &Arc<AtomicUsize>,
 ) -> Session<Waiting> {
-    let tables = tables(rt, alloc, SALES);
-    let program = checked(rt, alloc, FIRST, &tables);
-    let kits = two_kits(rt, alloc, program.kinds(), together, drops);
+    let tables = tables(alloc, SALES).expect(rt, "tables");
+    let program = checked(alloc, FIRST, &tables).expect(rt, "a program");
+    let make = |kind: Kind| Waiting::new(alloc, kind, together, drops);
+    let kits = kits_by(alloc, program.kinds(), 2, &make).expect(rt, "kits");
     Session::new(alloc, program, tables, kits).expect(rt, "a session")
+}
+
+/// Runs that session, in which no view is dropped.
+fn both_update(
+    rt: &(impl Abort + Threads + Wait + Sync),
+    alloc: Global,
+    together: &Arc<Together>,
+    drops: &Arc<AtomicUsize>,
+) {
+    let mut session = session(rt, alloc, together, drops);
+    let found = answer(rt, alloc, &mut session, 2, &NoGate);
+    assert_eq!(rt; found.as_str(), "result 3\ntotal 12\n");
+    assert!(rt; together.have_met());
+    assert_eq!(rt; drops.load(Ordering::SeqCst), 0);
 }
 
 /// The first update ends only once a second one has begun, in a view of another strand. Each of the two views is dropped once, with
@@ -122,11 +114,6 @@ fn session(
 fn two_views_at_once(rt: HostRuntime) {
     let together = Arc::new(rt.alloc(), Together::of(2)).expect(&rt, "memory");
     let drops = Arc::new(rt.alloc(), AtomicUsize::new(0)).expect(&rt, "memory");
-    let mut session = session(&rt, rt.alloc(), &together, &drops);
-    let found = answer(&rt, rt.alloc(), &mut session, 2, &NoGate);
-    assert_eq!(&rt; found.as_str(), "result 3\ntotal 12\n");
-    assert!(&rt; together.have_met());
-    assert_eq!(&rt; drops.load(Ordering::SeqCst), 0);
-    drop(session);
+    both_update(&rt, rt.alloc(), &together, &drops);
     assert_eq!(&rt; drops.load(Ordering::SeqCst), 2);
 }

@@ -1,0 +1,216 @@
+//! Calls that memory is refused for leave the session as it was, and are done when they are tried again. With ample memory none is
+//! refused: what refuses each allocation in turn is run over the built tests.
+
+use input_tables::Tables;
+use linked_program::checked::Checked;
+use reuse_planner::{Answer, ApplyError, Command, Session, Stepped};
+use session_kit::owners::in_session;
+use session_kit::scripts::session_commands;
+use std::alloc::{AllocError, Global};
+use std::fmt::Write;
+use std::process::Abort;
+use test_kit::texts::{LINES, SALES};
+use view_pool::View;
+use worker_core::{Record, RunAnswer};
+
+/// Writes a cell, or that there is none.
+fn push_cell(text: &mut String, cell: Option<i64>) -> Result<(), AllocError> {
+    match cell {
+        Some(value) => write!(text, " {value}"),
+        None => write!(text, " -"),
+    }
+}
+
+/// Writes how many edits the tables have had, and of the sales the limit and the cells.
+fn push_tables(text: &mut String, tables: &Tables) -> Result<(), AllocError> {
+    let (edits, limit) = (tables.edit_number(), tables.limit(0));
+    write!(text, "{edits} edits, limit {limit}:")?;
+    for row in [1, 2, 3] {
+        push_cell(text, tables.cell(0, row, 0))?;
+        push_cell(text, tables.cell(0, row, 1))?;
+    }
+    Ok(())
+}
+
+/// Writes the revision number of `line`, and the least one that was never used.
+fn push_program(text: &mut String, program: &Checked) -> Result<(), AllocError> {
+    let counter = program.counter();
+    match program.revision("line") {
+        Some(number) => write!(text, "\nline {number} of {counter}"),
+        None => write!(text, "\nno line of {counter}"),
+    }
+}
+
+/// Writes a record's procedure, its arguments and its value.
+fn push_record(text: &mut String, record: &Record) -> Result<(), AllocError> {
+    let (procedure, value) = (record.procedure(), record.value());
+    write!(text, "\n{procedure}:")?;
+    for argument in record.arguments() {
+        write!(text, " {argument}")?;
+    }
+    write!(text, " is {value}")
+}
+
+/// Writes what a session holds, as far as it can be read, and how many of its kits are free.
+fn push_standing<V: View>(text: &mut String, session: &Session<V>) -> Result<(), AllocError> {
+    push_tables(text, session.tables())?;
+    push_program(text, session.checked())?;
+    for record in session.records().as_slice() {
+        push_record(text, record)?;
+    }
+    let (free, total) = session.kits();
+    write!(text, "\n{free} of {total} kits")
+}
+
+/// What a session holds, as a text.
+fn standing<V: View>(rt: &impl Abort, alloc: Global, session: &Session<V>) -> String {
+    let mut text = String::new(alloc);
+    push_standing(&mut text, session).expect(rt, "memory");
+    text
+}
+
+/// What the call that a command names answers.
+fn call<V: View>(alloc: Global, session: &mut Session<V>, command: &Command<'_>) -> Answer {
+    match command {
+        Command::Edit(edit) => Answer::Edit(session.apply(alloc, edit)),
+        Command::Run { workers, steps } => Answer::Run(session.run(alloc, *workers, steps)),
+    }
+}
+
+/// Whether a command was refused for want of memory.
+fn is_refused(answer: &Answer) -> bool {
+    match answer {
+        Answer::Edit(edited) => matches!(edited, Err(ApplyError::NoMemory)),
+        Answer::Run(came) => matches!(came, RunAnswer::NoMemory),
+    }
+}
+
+/// Makes the calls that commands name, until memory is refused for one: whether it was.
+fn is_call_refused<V: View>(
+    alloc: Global,
+    session: &mut Session<V>,
+    commands: &[Command<'_>],
+) -> bool {
+    for command in commands {
+        let answer = call(alloc, session, command);
+        if is_refused(&answer) {
+            return true;
+        }
+    }
+    false
+}
+
+/// Plays commands: whether memory was refused for their answers, or for one of them.
+fn is_play_refused<V: View>(
+    alloc: Global,
+    session: &mut Session<V>,
+    commands: &[Command<'_>],
+) -> bool {
+    let Ok(answers) = session.play(alloc, commands) else {
+        return true;
+    };
+    answers.iter().any(|answer| is_refused(answer))
+}
+
+/// Does commands by the calls that they name, or has them played: whether memory was refused.
+fn lacks_memory<V: View>(
+    alloc: Global,
+    session: &mut Session<V>,
+    commands: &[Command<'_>],
+    are_played: bool,
+) -> bool {
+    if are_played {
+        is_play_refused(alloc, session, commands)
+    } else {
+        is_call_refused(alloc, session, commands)
+    }
+}
+
+/// Does one command. Where memory is refused for it the session is as it was, and the command is done when it is tried again.
+fn is_done<V: View>(
+    rt: &impl Abort,
+    alloc: Global,
+    session: &mut Session<V>,
+    one: &[Command<'_>],
+    is_played: bool,
+) {
+    let before = standing(rt, alloc, session);
+    if lacks_memory(alloc, session, one, is_played) {
+        let after = standing(rt, alloc, session);
+        assert_eq!(rt;
+            after.as_str(),
+            before.as_str(),
+            "changed by what was refused"
+        );
+        let lacks_again = lacks_memory(alloc, session, one, is_played);
+        assert!(rt; !lacks_again, "refused once more");
+    }
+}
+
+/// Edits of each kind, each between two runs but the delete, which goes with the define.
+const SCRIPT: &[u8] = b"run
+put sales 2 4 7
+run
+define
+memo proc line(r) { v = sales[r].qty; update total v; return v; }
+end
+del sales 3
+run
+";
+
+/// The third record is one of the first run.
+const AFTER: &str = "2 edits, limit 3: 2 5 4 7 - -
+line 2 of 3
+0: 1 is 2
+0: 2 is 4
+0: 3 is 100
+3 of 3 kits";
+
+/// Does commands, one after another.
+fn all_done<V: View>(
+    rt: &impl Abort,
+    alloc: Global,
+    session: &mut Session<V>,
+    commands: &[Command<'_>],
+    are_played: bool,
+) {
+    for one in commands.chunks(1) {
+        is_done(rt, alloc, session, one, are_played);
+    }
+}
+
+/// Does the script.
+fn are_done<V: View>(rt: &impl Abort, alloc: Global, session: &mut Session<V>, are_played: bool) {
+    let commands = session_commands(alloc, SCRIPT).expect(rt, "memory");
+    all_done(rt, alloc, session, &commands, are_played);
+}
+
+/// Compares what the script leaves: whatever was refused, the commands have been done.
+fn is_left<V: View>(rt: &impl Abort, alloc: Global, session: &mut Session<V>, are_played: bool) {
+    are_done(rt, alloc, session, are_played);
+    let found = standing(rt, alloc, session);
+    assert_eq!(rt; found.as_str(), AFTER);
+}
+
+/// Compares it in a new session.
+fn is_left_so(rt: &impl Abort, alloc: Global, are_played: bool) {
+    let done = in_session(
+        alloc,
+        LINES,
+        SALES,
+        3,
+        |session| is_left(rt, alloc, session, are_played),
+    );
+    done.expect(rt, "a session");
+}
+
+#[test]
+fn calls_that_are_refused(rt: HostRuntime) {
+    is_left_so(&rt, rt.alloc(), false);
+}
+
+/// Memory may be refused for the answers too, before any command is done.
+#[test]
+fn commands_that_are_refused(rt: HostRuntime) {
+    is_left_so(&rt, rt.alloc(), true);
+}
