@@ -3,7 +3,7 @@
 use super::answers::{push_answer, push_counts};
 use linked_program::checked::Checked;
 use numbered_runs::step::Step;
-use reuse_planner::{Answer, ApplyError, Command, Session};
+use reuse_planner::{Answer, ApplyError, Command, Session, Stepped};
 use script_reader::command::Command as Line;
 use script_reader::script::commands;
 use std::alloc::{AllocError, Global};
