@@ -15,16 +15,25 @@ use view_pool::PlainView;
 const LEAVES: &str =
     "reducer total : add; proc leaf(v) { update total v; return v; } proc main() { x = spawn leaf(1); y = spawn leaf(2); update total 9; sync; return x + y; }";
 
+/// Whether a strand begins with the program.
+fn begins_first(alloc: Global, strand: &Strand<PlainView>) -> bool {
+    match strand.begins_behind(alloc) {
+        Ok(place) => place.is_empty(),
+        Err(_) => false,
+    }
+}
+
+/// Whether a strand has no answer yet.
+fn is_unfinished(alloc: Global, strand: &Strand<PlainView>) -> bool {
+    matches!(&strand.answer(alloc), RunAnswer::Unfinished)
+}
+
 /// The first strand, which has done nothing, is known as that, and has no answer.
 fn is_first(rt: &impl Abort, alloc: Global, program: &Checked, strand: &Strand<PlainView>) {
-    assert_eq!(rt; strand.begins_behind(alloc).expect(rt, "memory").len(), 0);
-    assert_eq!(rt; strand.name().len(), 0);
-    assert!(rt; strand.is_behind(&[]));
-    assert!(rt; !strand.is_behind(&[1]));
-    assert_eq!(rt; strand.phase(), Phase::Entering);
+    assert!(rt; begins_first(alloc, strand) && is_unfinished(alloc, strand));
+    assert!(rt; strand.name().is_empty() && strand.is_behind(&[]) && !strand.is_behind(&[1]));
+    assert!(rt; strand.phase() == Phase::Entering && strand.returned().is_none());
     assert!(rt; !strand.at_update(program));
-    assert_eq!(rt; strand.returned(), None);
-    assert!(rt; matches!(&strand.answer(alloc), RunAnswer::Unfinished));
 }
 
 /// Whether an entered leaf stands at its update, and no longer once that is done.

@@ -234,6 +234,12 @@ pub fn run(
 /// A program, the number that its thefts stay below, and its answer.
 pub type Row = (&'static str, usize, &'static str);
 
+/// A run with so many thefts gives the answer of the row, and all kits are home then.
+fn agrees(rt: &impl Abort, ran: &Ran, row: &Row, thefts: usize) {
+    assert_eq!(rt; ran.answer.as_str(), row.2, "{thefts} thefts: {}", row.0);
+    assert!(rt; ran.kits == KITS);
+}
+
 /// The program of a row gives the answer with each number of thefts, whichever way the other children go, as the plain slow program
 /// does. All kits are home then.
 fn all_answer(rt: &impl Abort, alloc: Global, program: &Checked, tables: &Tables, row: &Row) {
@@ -242,8 +248,7 @@ fn all_answer(rt: &impl Abort, alloc: Global, program: &Checked, tables: &Tables
     for thefts in 0..row.1 {
         for child in [Child::Called, Child::PutBack, Child::Alone, Child::Ahead] {
             let ran = run(rt, alloc, program, tables, thefts, child);
-            assert_eq!(rt; ran.answer.as_str(), row.2, "{thefts} thefts: {}", row.0);
-            assert_eq!(rt; ran.kits, KITS);
+            agrees(rt, &ran, row, thefts);
         }
     }
 }
