@@ -34,10 +34,10 @@ module _ (setting : Setting) where
   -- the steps are those of the definitions, whichever records by name there are
   pub steps_of : (memory : Memory) → HasItsTables (record setting { memory = memory }) → IsLinked (record setting { memory = memory }) → HasItsRecords (record setting { memory = memory })
       → (s t : PlainStrand) → IsPath setting s t → IsPathOf (record setting { memory = memory }) s t
-  steps_of memory same linked known s t here = here
+  steps_of memory same linked known s t here = IsPathOf.here
   steps_of memory same linked known s t (on u v p e) =
       let i = record setting { memory = memory } in
-      on u v (steps_of memory same linked known s u p) (λ kit. e kit ∙ advanced_same setting memory kit u) (λ kit.
+      IsPathOf.on u v (steps_of memory same linked known s u p) (λ kit. e kit ∙ advanced_same setting memory kit u) (λ kit.
       let is : advanced i kit u ≡ v = sym (e kit ∙ advanced_same setting memory kit u) in
       record {
         step = subst (λ (z : PlainStrand). IsSmallStep i kit u z) is (small_step_is i same linked known kit u);
