@@ -1,12 +1,12 @@
 #!/usr/bin/env python3
-"""Tests of tools/tables_from_csv: what it makes of files, and what it says where something doesn't fit."""
+"""The tools' own tests: what tables_from_csv makes of files, and what it says where something doesn't fit."""
 import os
 import subprocess
 import sys
 import tempfile
 import unittest
 
-TOOL = os.path.join(os.path.dirname(os.path.realpath(__file__)), "../../tools/tables_from_csv")
+TOOL = os.path.join(os.path.dirname(os.path.realpath(__file__)), "tables_from_csv")
 SALES = "Day,Shop,Unit price,qty\n2025-01-01,North,2.50,3\n2025-01-02,South,4.75,2\n2025-01-02,North,,2\n2025-01-03,North,1,1\n"
 
 
@@ -66,4 +66,7 @@ class TablesFromCsv(unittest.TestCase):
 
 
 if __name__ == "__main__":
-    unittest.main()
+    result = unittest.TextTestRunner(stream=sys.stdout, verbosity=0).run(unittest.defaultTestLoader.loadTestsFromTestCase(TablesFromCsv))
+    failed = len(result.failures) + len(result.errors)
+    print(f"{result.testsRun - failed} passed, {failed} failed")
+    sys.exit(int(failed > 0))
