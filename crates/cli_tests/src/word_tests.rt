@@ -64,7 +64,7 @@ const LINES: [(&[&str], &str); 10] = [
     ),
     (
         &[],
-        "usage: cilkreport PROGRAM TABLES [--workers 1..16] [--kits 1..4096] [--trace FILE] [--stats] [--explain]",
+        "usage: cilkreport PROGRAM TABLES [--workers 1..16] [--kits 1..4096] [--trace FILE] [--stats] [--explain]\n       cilkreport --print PROGRAM",
     ),
 ];
 
