@@ -56,7 +56,7 @@ where
     thread::map_vec(rt, seats, &life).expect(rt, "threads")
 }
 /// What a run came to that all have left.
-fn came<J, D>(rt: &impl Abort, floor: Floor<'_, J, D, PlainView>, seats: Vec<Seat<J, D>>) -> Came
+fn of_all<J, D>(rt: &impl Abort, floor: Floor<'_, J, D, PlainView>, seats: Vec<Seat<J, D>>) -> Came
 where
     J: Run + Ledger + Stocked + Send,
     D: Deques,
@@ -83,7 +83,7 @@ where
     requires some { 0 < length seats.items }
 {
     let seats = all_left(rt, &floor, seats);
-    came(rt, floor, seats)
+    of_all(rt, floor, seats)
 }
 
 /// What a run comes to that is given up before a worker has come: the first strand has a kit.
