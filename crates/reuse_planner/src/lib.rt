@@ -7,4 +7,4 @@ mod stepped;
 
 pub use commands::{Answer, Command};
 pub use kept_session::{ApplyError, Session};
-pub use stepped::Stepped;
+pub use stepped::{play_session, run_session};

@@ -12,57 +12,10 @@ use std::alloc::{AllocError, Global};
 use view_pool::View;
 use worker_core::{RunAnswer, Step};
 
-/// What is run by steps that are given.
-pub trait Stepped {
-    /// Runs the program by so many workers, which take these steps.
-    fn run(&mut self, alloc: Global, workers: usize, steps: &[Step]) -> RunAnswer;
-
-    /// Does commands in their order, each in what those before have left.
-    fn play(&mut self, alloc: Global, commands: &[Command<'_>]) -> Result<Vec<Answer>, AllocError>;
-}
-
-impl<V: View> Stepped for Session<V> {
-    /// Runs the program by so many workers, which take these steps. A step that can't be taken is passed over, a push for which
-    /// memory is refused is done as an inline, and where memory is refused for another step the run ends. The records that hold
-    /// now answer memo instances; those of a run that has finished are put among the others, all or none.
-    fn run(&mut self, alloc: Global, workers: usize, steps: &[Step]) -> RunAnswer
-        // A result or a fault is the elision's of the program on the tables, from scratch.
-        ensures elision { IsFromScratch (standing_of self.old) result }
-        // The steps lead to that end by the definitions, or to none.
-        ensures led { IsLed self.old workers steps.now self.new.inlined result }
-        ensures no_kit { result ≡ RunAnswer.NoKit ↔ self.old.kits.kits ≡ [] }
-        ensures recorded { LeavesRecords self.old result self.new.records }
-        // Where each execution was recorded, nothing is left to execute.
-        ensures quiet { IsQuietAfter result self.new }
-        ensures rest { self.new ≡ record self.old {
-          kits = self.new.kits;
-          records = self.new.records;
-          inlined = self.new.inlined;
-        } }
-        ensures free { length self.new.kits.kits ≡ length self.old.kits.kits }
-        ensures total { self.new.kits.total ≡ self.old.kits.total }
-    {
-        run_session(alloc, self, workers, steps)
-    }
-
-    /// Does commands in their order, each in the session that those before have left. Whatever the edits and runs before it,
-    /// each run that comes to its end answers the elision of the program on the tables as they are then, done from scratch.
-    /// Where memory is refused for the answers nothing is done.
-    fn play(&mut self, alloc: Global, commands: &[Command<'_>]) -> Result<Vec<Answer>, AllocError>
-        ensures elision { IfOk result (λ answers.
-            AnswerElision (standing_of self.old) commands.now answers.items) }
-        ensures done { IfOk result (λ answers.
-            AreDone self.old commands.now answers.items self.new) }
-        ensures same { OnErr result (self.new ≡ self.old) }
-    {
-        let mut answers = Vec::with_capacity(alloc, commands.len())?;
-        obey_all(alloc, self, commands, &mut answers);
-        Ok(answers)
-    }
-}
-
-/// A session's run by so many workers, which take these steps.
-fn run_session<V: View>(
+/// Runs the program by so many workers, which take these steps. A step that can't be taken is passed over, a push for which
+/// memory is refused is done as an inline, and where memory is refused for another step the run ends. The records that hold
+/// now answer memo instances; those of a run that has finished are put among the others, all or none.
+pub fn run_session<V: View>(
     alloc: Global,
     session: &mut Session<V>,
     workers: usize,
@@ -104,6 +57,25 @@ fn run_session<V: View>(
         return RunAnswer::NoMemory;
     }
     ended.answer
+}
+
+/// Does commands in their order, each in the session that those before have left. Whatever the edits and runs before it,
+/// each run that comes to its end answers the elision of the program on the tables as they are then, done from scratch.
+/// Where memory is refused for the answers nothing is done.
+pub fn play_session<V: View>(
+    alloc: Global,
+    session: &mut Session<V>,
+    commands: &[Command<'_>],
+) -> Result<Vec<Answer>, AllocError>
+    ensures elision { IfOk result (λ answers.
+        AnswerElision (standing_of session.old) commands.now answers.items) }
+    ensures done { IfOk result (λ answers.
+        AreDone session.old commands.now answers.items session.new) }
+    ensures same { OnErr result (session.new ≡ session.old) }
+{
+    let mut answers = Vec::with_capacity(alloc, commands.len())?;
+    obey_all(alloc, session, commands, &mut answers);
+    Ok(answers)
 }
 
 /// Does commands in their order, for whose answers there is room.

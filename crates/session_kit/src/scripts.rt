@@ -3,7 +3,7 @@
 use super::answers::{push_answer, push_counts};
 use linked_program::checked::Checked;
 use numbered_runs::step::Step;
-use reuse_planner::{Answer, ApplyError, Command, Session, Stepped};
+use reuse_planner::{Answer, ApplyError, Command, Session, play_session};
 use script_reader::command::Command as Line;
 use script_reader::script::commands;
 use std::alloc::{AllocError, Global};
@@ -123,7 +123,7 @@ pub fn played<V: View>(
     script: &[u8],
 ) -> Result<Answers, AllocError> {
     let asked = session_commands(alloc, script)?;
-    let given = session.play(alloc, &asked)?;
+    let given = play_session(alloc, session, &asked)?;
     let mut answers = Answers::none(alloc);
     let lines = commands(alloc, script)?;
     answers.note_all(alloc, session.checked(), &lines, &given)?;

@@ -3,7 +3,7 @@ ghost use Rattle.std.specs.Prelude.{◌<◌};
 
 use super::beside::beside;
 use super::programs::{FAULTS_IN_RECORDS, PAIRS};
-use reuse_planner::{Session, Stepped};
+use reuse_planner::{Session, run_session};
 use session_edits::Edit;
 use session_kit::owners::in_session;
 use std::alloc::Global;
@@ -106,7 +106,7 @@ fn steps(rt: &impl Abort, alloc: Global) -> Vec<Step> {
 
 /// Runs the session of a program once, and then puts the second row anew.
 fn run_once(rt: &impl Abort, alloc: Global, session: &mut Session<PlainView>) {
-    let _ = session.run(alloc, 1, &steps(rt, alloc));
+    let _ = run_session(alloc, session, 1, &steps(rt, alloc));
     let put = Edit::Put {
         table: "sales",
         row: 2,

@@ -3,7 +3,7 @@
 
 use input_tables::Tables;
 use linked_program::checked::Checked;
-use reuse_planner::{Answer, ApplyError, Command, Session, Stepped};
+use reuse_planner::{Answer, ApplyError, Command, Session, play_session, run_session};
 use session_kit::owners::in_session;
 use session_kit::scripts::session_commands;
 use std::alloc::{AllocError, Global};
@@ -73,7 +73,9 @@ fn standing<V: View>(rt: &impl Abort, alloc: Global, session: &Session<V>) -> St
 fn call<V: View>(alloc: Global, session: &mut Session<V>, command: &Command<'_>) -> Answer {
     match command {
         Command::Edit(edit) => Answer::Edit(session.apply(alloc, edit)),
-        Command::Run { workers, steps } => Answer::Run(session.run(alloc, *workers, steps)),
+        Command::Run { workers, steps } => Answer::Run(run_session(
+            alloc, session, *workers, steps,
+        )),
     }
 }
 
@@ -106,7 +108,7 @@ fn is_play_refused<V: View>(
     session: &mut Session<V>,
     commands: &[Command<'_>],
 ) -> bool {
-    let Ok(answers) = session.play(alloc, commands) else {
+    let Ok(answers) = play_session(alloc, session, commands) else {
         return true;
     };
     answers.iter().any(|answer| is_refused(answer))

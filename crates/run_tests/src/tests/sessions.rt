@@ -3,7 +3,7 @@ ghost use Rattle.std.specs.Prelude.{◌≡◌, All};
 
 use super::words::steps;
 use rerun_records::key::Key;
-use reuse_planner::{Command, Session, Stepped};
+use reuse_planner::{Command, Session, play_session, run_session};
 use session_edits::Edit;
 use session_kit::answers::counted_text;
 use session_kit::owners::in_session;
@@ -29,7 +29,7 @@ fn led<V: View>(
     line: &str,
 ) -> String {
     let steps = steps(rt, alloc, line);
-    let answer = session.run(alloc, workers, &steps);
+    let answer = run_session(alloc, session, workers, &steps);
     assert_eq!(rt; session.last_inlined(), 0);
     counted_text(alloc, session.checked(), &answer).expect(rt, "memory")
 }
@@ -210,7 +210,7 @@ fn played_lines<V: View>(
     session: &mut Session<V>,
     commands: &[Command<'_>],
 ) -> String {
-    let given = session.play(alloc, commands).expect(rt, "memory");
+    let given = play_session(alloc, session, commands).expect(rt, "memory");
     let mut answers = Answers::none(alloc);
     for answer in &given {
         let noted = answers.note(alloc, session.checked(), answer);

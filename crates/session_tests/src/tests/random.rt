@@ -4,7 +4,7 @@
 use super::drawn::any_steps;
 use super::model::Model;
 use super::slow::{Needed, needs_of, scratch_text};
-use reuse_planner::{Session, Stepped};
+use reuse_planner::{Session, run_session};
 use session_kit::answers::answer_text;
 use session_kit::owners::in_session;
 use session_kit::scripts::played;
@@ -31,7 +31,7 @@ fn any_run<V: View>(
         return answer;
     }
     let steps = any_steps(rt, alloc, session, dice, workers);
-    session.run(alloc, workers, &steps)
+    run_session(alloc, session, workers, &steps)
 }
 
 /// Whether some instance was answered by a record, and whether some run ended by a fault.

@@ -1,5 +1,0 @@
-use Rattle.reuse_planner.proofs.Playing.{answer_elision}
-use Rattle.reuse_planner.proofs.stepped.SessionStepped.play.Goals as goal
-
-pub returns-clause-elision : goal.returns-clause-elision
-returns-clause-elision g c = answer_elision c.args.self.now c.obey_all.new.session c.args.commands.now c.obey_all.new.answers.items c.obey_all.ensures.done
