@@ -40,17 +40,27 @@ fn read_again(
 ) -> Option<String> {
     let held = held_words(rt, alloc).ok()?;
     let words = lent(alloc, held.as_slice()).ok()?;
-    let (program, tables) = match asked_by(alloc, words.as_slice()).ok()? {
-        Asked::Session(options) => (options.program, Some(options.tables)),
-        Asked::Print(path) => (path, None),
-    };
+    match asked_by(alloc, words.as_slice()).ok()? {
+        Asked::Session(options) => {
+            let files = SystemFiles { rt };
+            let tables = files.read(alloc, options.tables).ok()?;
+            reasons_beside(rt, alloc, error, options.program, tables.as_slice())
+        }
+        Asked::Print(path) => reasons_beside(rt, alloc, error, path, &[]),
+    }
+}
+
+// The lines of a refusal, where the program's file can be read, and the tables are text.
+fn reasons_beside(
+    rt: &(impl Runtime + AllocGlobal),
+    alloc: Global,
+    error: &PrepareError,
+    path: &str,
+    tables: &[u8],
+) -> Option<String> {
     let files = SystemFiles { rt };
-    let program = files.read(alloc, program).ok()?;
-    let tables = match tables {
-        Some(path) => files.read(alloc, path).ok()?,
-        None => Vec::new(alloc),
-    };
-    let tables = str::from_utf8(tables.as_slice()).ok()?;
+    let program = files.read(alloc, path).ok()?;
+    let tables = str::from_utf8(tables).ok()?;
     reasons(alloc, error, program.as_slice(), tables).ok()
 }
 
