@@ -1,5 +1,5 @@
 -- The answer of a strand is that of what it stands for.
-use Rattle.std.proofs.Common.{◌≡◌, ℤ, List, [], ◌∷◌, Option, Some, None, refl, sym, ◌∙◌, ap, subst}
+use Rattle.std.proofs.Common.{◌≡◌, ℤ, List, [], ◌∷◌, Some, None, refl, sym, ◌∙◌, ap, subst}
 use Rattle.monoid_laws.specs.Worth.{Worth}
 use Rattle.meaning.specs.Outcome.{Place, Fault as NamedFault}
 use Rattle.meaning.specs.SmallStep.{entering, running, spawning, returning, leaving, broken, Parent}

@@ -16,7 +16,7 @@ use Rattle.small_steps.specs.Steps.{IsWhole}
 use Rattle.own_statements.specs.Paths.{IsPath, here, on}
 use Rattle.running_ahead.specs.Ahead.{IsAhead}
 use Rattle.frames.specs.Paths.{IsPathOf}
-use Rattle.frames.proofs.Memories.{advanced_same}
+use Rattle.answered_loops.proofs.Memories.{advanced_same}
 
 module _ (setting : Setting) where
   layered_along : (s t : PlainStrand) → IsPath setting s t → IsLayered s → IsLayered t

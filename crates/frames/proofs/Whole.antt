@@ -4,7 +4,6 @@ use Rattle.std.proofs.lemmas.List.Elements.{All-cons, All-tail, All-nil}
 use Rattle.monoid_laws.specs.declared.Kind.{Kind}
 use Rattle.rerun_records.specs.Record.{PlainRecord}
 use Rattle.rerun_records.specs.Named.{AreValuesFrom, HaveValues}
-use Rattle.positions.specs.declared.phase.Fault.{Fault}
 use Rattle.positions.specs.declared.phase.Phase.{Phase}
 use Rattle.positions.specs.declared.phase.Phase.TheVariants.{Entering, Running, AtSpawn, Returning, Leaving, Broken}
 use Rattle.positions.specs.Setting.{Setting}
@@ -13,7 +12,7 @@ use Rattle.positions.specs.Layers.{PlainLayer}
 use Rattle.positions.specs.Tallies.{PlainTally}
 use Rattle.positions.specs.Strands.{PlainStrand, PlainTask, IsLayered, IsLayeredAt}
 use Rattle.positions.specs.Advance.{advanced}
-use Rattle.positions.specs.Moves.{resumed, resumed_by, returned_at, joined_at, joined_after, joined_ended, joined, lowest_alone, FoldsViews}
+use Rattle.positions.specs.Moves.{resumed, resumed_by, returned_at, joined_at, joined_after, joined_ended, joined, lowest_alone}
 use Rattle.positions.proofs.Layered.{layers_kept}
 use Rattle.strand_moves.specs.Joins.{IsDone, HasFault, with_worths}
 use Rattle.small_steps.specs.Steps.{IsWhole, IsValued, revalued, revalued_first}

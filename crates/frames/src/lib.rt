@@ -4,6 +4,7 @@
 mod advance;
 mod ahead;
 pub mod answer;
+mod answering;
 mod ending;
 mod joining;
 mod moves;

@@ -9,7 +9,7 @@ use Rattle.positions.specs.Setting.{Setting, setting_with}
 use Rattle.positions.specs.Advance.{advanced}
 use Rattle.positions.specs.Strands.{PlainStrand}
 use Rattle.activations.specs.Given.{given}
-use Rattle.frames.proofs.Memories.{advanced_same}
+use Rattle.answered_loops.proofs.Memories.{advanced_same}
 use Rattle.right_strands.specs.Picked.{IsSet}
 use Rattle.right_strands.specs.Remembering.{Remembers, recalling}
 

@@ -5,6 +5,7 @@ ghost use Rattle.meaning.specs.SmallStep.{same_name};
 ghost use Rattle.positions.specs.Advance.{advanced, pause_of};
 ghost use Rattle.positions.specs.Moves.{inlined, detached, attached, resumed, stolen, lowest_alone, at_update};
 ghost use Rattle.positions.specs.Simulation.{place_of};
+ghost use Rattle.answered_loops.specs.Ways.{IsWay};
 ghost use Rattle.strand_moves.specs.Joins.{HasFault};
 ghost use Rattle.own_statements.specs.Paths.{IsPath};
 ghost use Rattle.small_steps.specs.Steps.{GivesNone, HoldsBy};
@@ -139,6 +140,28 @@ impl<J: Run, V: View> RightStrand<J, V> {
     {
         self.strand
             .run_ahead(alloc, scene.program, scene.tables, scene.records);
+    }
+
+    /// Where the topmost instance is a loop's over a memo procedure, has records answer iterations: all those of a half that is halved
+    /// again, where they can, or the first ones of those that are left one by one. Whether any were answered. Where memory is refused
+    /// the strand has failed.
+    #[inline(always)]
+    pub fn answer_ahead(&mut self, alloc: Global, scene: &Scene<'_, J>) -> Result<bool, AllocError>
+        ensures way { OnOk result (IsWay J.setting self.old.strand self.new.strand) }
+        ensures going { OnOk result (self.new.failed ≡ self.old.failed) }
+        ensures failed { OnErr result (self.new.failed ≡ true) }
+        ensures lower { self.new.strand.lower ≡ self.old.strand.lower }
+    {
+        match self
+            .strand
+            .answer_ahead(alloc, scene.program, scene.tables, scene.records)
+        {
+            Ok(done) => Ok(done),
+            Err(error) => {
+                self.failed = true;
+                Err(error)
+            }
+        }
     }
 
     /// The point at which the strand is, or Working where it can go on.

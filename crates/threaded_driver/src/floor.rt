@@ -211,7 +211,7 @@ impl<J: Run + Ledger + Stocked + Send, D: Deques, V: View> Floor<'_, J, D, V> {
         let is_watched = gate.watches_updates();
         let mut supply = Supply::new(rt, &self.desk, self.kits, held);
         for _ in 0..STEPS {
-            self.go_ahead(number, is_watched, strand, gate);
+            self.go_ahead(number, is_watched, strand, gate)?;
             match strand.advance(self.alloc, &self.scene, &mut supply)? {
                 Paused::Working => {}
                 paused => return Ok(paused),
@@ -220,24 +220,29 @@ impl<J: Run + Ledger + Stocked + Send, D: Deques, V: View> Floor<'_, J, D, V> {
         Ok(Paused::Working)
     }
 
-    /// Small steps that need no kit; where updates are watched none, and the gate is told of an update that is next.
+    /// Small steps that need no kit, and iterations that records answer; where updates are watched none, and the gate is told of an
+    /// update that is next. Want of memory is the only error.
     #[inline(always)]
-    #[tactic(auto, using(crate::proofs::Staying::stays_along))]
+    #[tactic(auto, using(crate::proofs::Staying::stays_along, crate::proofs::Staying::stays_way))]
     fn go_ahead<G: Gate>(
         &self,
         number: usize,
         is_watched: bool,
         strand: &mut RightStrand<J, V>,
         gate: &G,
-    )
-        ensures spot { spot_of strand.new.strand ≡ spot_of strand.old.strand }
+    ) -> Result<(), AllocError>
+        ensures spot { OnOk result (spot_of strand.new.strand ≡ spot_of strand.old.strand) }
         ensures lower { strand.new.strand.lower ≡ strand.old.strand.lower }
     {
-        if !is_watched {
-            strand.run_ahead(self.alloc, &self.scene);
-        } else if strand.at_update(&self.scene) {
-            gate.at(number, Point::Update);
+        if is_watched {
+            if strand.at_update(&self.scene) {
+                gate.at(number, Point::Update);
+            }
+            return Ok(());
         }
+        strand.run_ahead(self.alloc, &self.scene);
+        let _ = strand.answer_ahead(self.alloc, &self.scene)?;
+        Ok(())
     }
 
     /// At a spawn: puts the continuation off and goes on with the child, or makes the child a call where there is no room for

@@ -12,7 +12,7 @@ use Rattle.positions.proofs.Pauses.{pause_is}
 use Rattle.positions.proofs.Working.{working_is}
 use Rattle.activations.specs.Given.{given}
 use Rattle.small_steps.specs.Steps.{GivesNone, HoldsBy, IsStepOf}
-use Rattle.frames.proofs.Memories.{advanced_same}
+use Rattle.answered_loops.proofs.Memories.{advanced_same}
 use Rattle.small_steps.proofs.Supplies.{holds_as}
 use Rattle.frames.proofs.Whole.{advanced_whole, valued_whole}
 use Rattle.small_steps.proofs.Keeping.{kinds_kept}

@@ -1,4 +1,4 @@
-use Rattle.std.proofs.Common.{◌≡◌, sym, ◌∙◌, subst}
+use Rattle.std.proofs.Common.{sym, ◌∙◌, subst}
 use Rattle.positions.specs.Setting.{Setting}
 use Rattle.own_statements.specs.Paths.{IsPath}
 use Rattle.right_strands.specs.Rightness.{PlainRight}

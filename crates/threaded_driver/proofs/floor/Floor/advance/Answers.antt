@@ -11,12 +11,12 @@ loop-preserved g c =
     let room : suc (length c.loop.strand.strand.lower) + c.loop.supply.free ≤ c.loop.supply.total = c.loop.invariant.1 in
     let kits : length c.advance.new.self.strand.lower + c.advance.new.kits.free ≡ length s.lower + c.loop.supply.free = c.in_ok-paused.ensures.kits in
     let total : c.advance.new.kits.total ≡ c.loop.supply.total = c.in_ok-paused.ensures.total in
-    (stays ∙ c.go_ahead.ensures.spot ∙ c.loop.invariant.0, omega arith)
+    (stays ∙ c.in_ok-go_ahead.ensures.spot ∙ c.loop.invariant.0, omega arith)
 
 pub returns-in_default : goal.returns-in_default
 returns-in_default g c =
     let s = c.go_ahead.new.strand.strand in
     record {
-      spot = stays_after _ _ g.J.Run.setting s c.advance.new.self.strand c.in_ok-paused.ensures.advanced ∙ c.go_ahead.ensures.spot ∙ c.loop.invariant.0;
+      spot = stays_after _ _ g.J.Run.setting s c.advance.new.self.strand c.in_ok-paused.ensures.advanced ∙ c.in_ok-go_ahead.ensures.spot ∙ c.loop.invariant.0;
       returned = returned_after _ _ g.J.Run.setting s c.advance.new.self.strand c.in_ok-paused.paused c.in_ok-paused.ensures.pause c.in_ok-paused.ensures.advanced;
     }

@@ -1,0 +1,248 @@
+-- A half of a loop whose iterations records answer.
+use Rattle.std.proofs.Common.{◌≡◌, ℕ, zero, suc, ◌+◌, ◌-◌, ◌/◌, ◌≤◌, ◌==◌, ℤ, pos, ◌+ℤ◌, Bool, true, false, if◌then◌else◌, List, [], ◌∷◌, ◌++◌, length, take, drop, None, refl, sym, ap, ◌∙◌, subst, arith}
+use Rattle.std.proofs.lemmas.List.{length-append, take-append-drop, length-drop}
+use Rattle.std.proofs.Math.Seq.{length-take-le}
+use Rattle.evaluation.specs.declared.slot.Slot.{Slot}
+use Rattle.rerun_records.specs.Record.{PlainRecord}
+use Rattle.positions.specs.declared.work.Loop.{Loop}
+use Rattle.positions.specs.declared.work.Share.{Share}
+use Rattle.positions.specs.declared.work.Work.{Work}
+use Rattle.positions.specs.declared.work.Work.TheVariants.{Over, Halves, Second, Turns}
+use Rattle.positions.specs.declared.phase.Phase.TheVariants.{Running, Returning, Leaving}
+use Rattle.positions.specs.Setting.{Setting}
+use Rattle.positions.specs.Activations.{PlainActivation, at, waiting, made}
+use Rattle.positions.specs.Code.{PlainLoop, loop_at}
+use Rattle.positions.specs.Layers.{PlainLayer, absorbing}
+use Rattle.positions.specs.Strands.{PlainStrand}
+use Rattle.positions.specs.Advance.{in_phase, giving, with_top, split, left_of, right_of, turn_by, worked, closed, owns_top}
+use Rattle.positions.specs.Moves.{inlined}
+use Rattle.answered_loops.specs.Ways.{IsNext, IsWay, here, on, as_call}
+use Rattle.answered_loops.specs.Answered.{IsOfMemo, IsAnswer, AreAnswers, iteration_depth, absorbed, answered_more, last_arguments, behind_turns, turned_to, halved_to, is_by_turns, ended_by, ended, HasAnswers, with_answers, standing, half_answered, turns_answered, IsInside}
+use Rattle.answered_loops.proofs.Ways.{way_join}
+use Rattle.answered_loops.proofs.Turns.{path_back, turns_way}
+
+-- ---- lists of records
+
+absorbed_append : (d : ℕ) (xs ys : List PlainRecord) (l : PlainLayer) → absorbed d (xs ++ ys) l ≡ absorbed d ys (absorbed d xs l)
+absorbed_append d [] ys l = refl
+absorbed_append d (x ∷ xs) ys l = absorbed_append d xs ys (absorbing x d l)
+
+last_append : (vs : List ℤ) (xs ys : List PlainRecord) → last_arguments vs (xs ++ ys) ≡ last_arguments (last_arguments vs xs) ys
+last_append vs [] ys = refl
+last_append vs (x ∷ xs) ys = last_append x.arguments xs ys
+
+-- what the first leave, and then the others, is what all leave
+pub answers_append : (d : ℕ) (xs ys : List PlainRecord) (s : PlainStrand) → with_answers d ys (with_answers d xs s) ≡ with_answers d (xs ++ ys) s
+answers_append d xs ys s =
+    let sums : (s.tally.reused + length xs) + length ys ≡ s.tally.reused + (length xs + length ys) = omega arith in
+    let layer = absorbed d ys (absorbed d xs s.layer) in
+    ap (λ n. record s { layer = layer; arguments = last_arguments (last_arguments s.arguments xs) ys; tally = record s.tally { reused = n } }) (sums ∙ ap (λ n. s.tally.reused + n) (sym (length-append xs ys)))
+    ∙ ap (λ m. record s { layer = m; arguments = last_arguments (last_arguments s.arguments xs) ys; tally = answered_more (length (xs ++ ys)) s.tally }) (sym (absorbed_append d xs ys s.layer))
+    ∙ ap (λ vs. record s { layer = absorbed d (xs ++ ys) s.layer; arguments = vs; tally = answered_more (length (xs ++ ys)) s.tally }) (sym (last_append s.arguments xs ys))
+
+module _ (setting : Setting) (j : PlainLoop) (slots : List Slot) (left : ℕ) (low : ℤ) where
+  answers_take : (m i : ℕ) (rs : List PlainRecord) → AreAnswers setting j slots left low i rs → AreAnswers setting j slots left low i (take m rs)
+  answers_take zero i rs h = tt
+  answers_take (suc m) i [] h = tt
+  answers_take (suc m) i (r ∷ rs) h = (h.0, answers_take m (i + 1) rs h.1)
+
+  answers_drop : (m i : ℕ) (rs : List PlainRecord) → AreAnswers setting j slots left low i rs → AreAnswers setting j slots left low (i + m) (drop m rs)
+  answers_drop zero i rs h = subst (λ n. AreAnswers setting j slots left low n rs) (let e : i ≡ i + 0 = omega arith in e) h
+  answers_drop (suc m) i [] h = tt
+  answers_drop (suc m) i (r ∷ rs) h = subst (λ n. AreAnswers setting j slots left low n (drop m rs)) (let e : (i + 1) + m ≡ i + suc m = omega arith in e) (answers_drop m (i + 1) rs h.1)
+
+  -- one record more
+  pub answers_more : (i n : ℕ) (rs : List PlainRecord) (r : PlainRecord) → n ≡ i + length rs → AreAnswers setting j slots left low i rs → IsAnswer setting j slots left (low +ℤ pos n) r → AreAnswers setting j slots left low i (rs ++ r ∷ [])
+  answers_more i n [] r e h a =
+      let same : n ≡ i = omega arith in
+      (subst (λ m. IsAnswer setting j slots left (low +ℤ pos m) r) same a, tt)
+  answers_more i n (x ∷ rs) r e h a =
+      let long : n ≡ (i + 1) + length rs = omega arith in
+      (h.0, answers_more (i + 1) n rs r long h.1 a)
+
+-- ---- one half
+
+turned_work : (n : ℕ) (l : Loop) (h : Share) (a : PlainActivation) → (turned_to n l h a).work ≡ Turns l (behind_turns n h)
+turned_work zero l h a =
+    let first : h.first ≡ h.first + 0 = omega arith in
+    let count : h.count ≡ h.count - 0 = omega arith in
+    ap (λ f. Turns l (record { first = f; count = h.count })) first ∙ ap (λ c. Turns l (record { first = h.first + 0; count = c })) count
+turned_work (suc n) l h a = refl
+
+inside_longer : (s : PlainStrand) (x : ℕ) → IsInside s → (path : List ℕ) → length (s.path ++ x ∷ []) ≤ length path → length s.path ≤ length path
+inside_longer s x h path long =
+    let e : length (s.path ++ x ∷ []) ≡ length s.path + 1 = length-append s.path (x ∷ []) in
+    omega arith
+
+module _ (setting : Setting) (l : Loop) where
+  -- the half's end, where its topmost instance has that left in the end
+  abbrev pub leaves_with : ℕ → List PlainRecord → PlainActivation → PlainStrand → PlainStrand
+  leaves_with d rs b s = record (with_answers d rs s) { top = b; phase = Leaving (pos 0) }
+
+  -- such halves that may be halved so many times are answered
+  abbrev pub IsAnswered : ℕ → Type 0
+  IsAnswered k = (h : Share) (a : PlainActivation) (s : PlainStrand) (rs : List PlainRecord) → IsInside s → IsOfMemo setting (loop_at setting.codes a.procedure l) a.left → length rs ≡ h.count → AreAnswers setting (loop_at setting.codes a.procedure l) a.slots a.left l.low h.first rs
+      → IsWay setting (standing (Halves l k h) a s) (leaves_with (iteration_depth a) rs (ended setting.codes l k h a) s)
+
+  -- the implicit sync
+  syncs : (v : ℤ) (s : PlainStrand) → IsInside s → IsNext setting (in_phase (Returning v) s) (in_phase (Leaving v) s)
+  syncs v s inside kit =
+      let x = in_phase (Returning v) s in
+      let both = inside s.path (omega arith) in
+      sym (ap (λ c. if c then x else if owns_top x then closed setting v x else in_phase (Leaving v) x) both.0 ∙ ap (λ c. if c then closed setting v x else in_phase (Leaving v) x) both.1)
+
+  module _ (k : ℕ) (h : Share) (a : PlainActivation) (s : PlainStrand) (rs : List PlainRecord) (inside : IsInside s) (is : IsOfMemo setting (loop_at setting.codes a.procedure l) a.left) (all : length rs ≡ h.count)
+      (answers : AreAnswers setting (loop_at setting.codes a.procedure l) a.slots a.left l.low h.first rs) where
+    abbrev here_now : PlainStrand
+    here_now = standing (Halves l k h) a s
+
+    abbrev d : ℕ
+    d = iteration_depth a
+
+    abbrev goes_by : Bool → PlainStrand
+    goes_by b = (if b then with_top (at (Turns l h) here_now.top) here_now else split l (k - 1) h here_now)
+
+    -- one by one
+    one_by_one : is_by_turns setting.codes a l k h.count ≡ true → IsWay setting here_now (leaves_with d rs (ended setting.codes l k h a) s)
+    one_by_one e =
+        let begin = standing (Turns l h) a s in
+        let to : IsNext setting here_now begin = λ kit. sym (ap goes_by e) in
+        let b = turned_to (length rs) l h a in
+        let done = record (with_answers d rs s) { top = b; phase = Running } in
+        let turns : IsWay setting begin done = turns_way setting l rs h a s is (let fits : length rs ≤ h.count = omega arith in fits) answers in
+        let none : h.count - length rs ≡ 0 = omega arith in
+        let over : IsNext setting done (giving (pos 0) done) = λ kit. sym (ap (λ w. worked setting kit w done) (turned_work (length rs) l h a)
+        ∙ ap (λ c. if c then giving (pos 0) done else turn_by setting kit (loop_at setting.codes b.procedure l) l (behind_turns (length rs) h) done) (ap (λ n. n == 0) none)) in
+        let leaves : IsNext setting (giving (pos 0) done) (leaves_with d rs b s) = syncs (pos 0) done inside in
+        let way : IsWay setting here_now (leaves_with d rs b s) =
+        on (giving (pos 0) done) (leaves_with d rs b s) (on done (giving (pos 0) done) (way_join setting here_now begin done (on here_now begin here to) turns) over) leaves in
+        let same : b ≡ ended setting.codes l k h a = ap (λ n. turned_to n l h a) all ∙ sym (ap (λ c. ended_by c l h a) e) in
+        subst (λ (x : PlainActivation). IsWay setting here_now (leaves_with d rs x s)) same way
+
+  -- halved once more
+  module _ (k : ℕ) (again : IsAnswered k) (h : Share) (a : PlainActivation) (s : PlainStrand) (rs : List PlainRecord) (inside : IsInside s) (is : IsOfMemo setting (loop_at setting.codes a.procedure l) a.left) (all : length rs ≡ h.count)
+      (answers : AreAnswers setting (loop_at setting.codes a.procedure l) a.slots a.left l.low h.first rs) where
+    abbrev whole_now : PlainStrand
+    whole_now = standing (Halves l (suc k) h) a s
+
+    abbrev depth : ℕ
+    depth = iteration_depth a
+
+    abbrev xs : List PlainRecord
+    xs = take (h.count / 2) rs
+
+    abbrev ys : List PlainRecord
+    ys = drop (h.count / 2) rs
+
+    -- the instance under its first half, and under its second half
+    abbrev under_first : PlainActivation
+    under_first = waiting true None (Second l k (right_of h)) a
+
+    abbrev under_second : PlainActivation
+    under_second = waiting false None Over (record under_first { slots = [] })
+
+    abbrev beside_first : PlainStrand
+    beside_first = record s { path = s.path ++ (a.children + 1) ∷ []; below = under_first ∷ s.below }
+
+    abbrev first_done : PlainStrand
+    first_done = with_answers depth xs s
+
+    abbrev beside_second : PlainStrand
+    beside_second = record first_done { path = s.path ++ ((a.children + 1) + 1) ∷ []; below = under_second ∷ s.below }
+
+    abbrev both_done : PlainStrand
+    both_done = with_answers depth ys first_done
+
+    abbrev child_of_half : Share → PlainActivation
+    child_of_half j = made a.procedure a.slots (Halves l k j) a.left
+
+    abbrev spawned : PlainStrand
+    spawned = split l k h whole_now
+
+    abbrev at_first : PlainStrand
+    at_first = standing (Halves l k (left_of h)) (child_of_half (left_of h)) beside_first
+
+    abbrev at_second : PlainStrand
+    at_second = standing (Halves l k (right_of h)) (child_of_half (right_of h)) beside_second
+
+    abbrev first_leaves : PlainStrand
+    first_leaves = leaves_with depth xs (ended setting.codes l k (left_of h) (child_of_half (left_of h))) beside_first
+
+    abbrev between : PlainStrand
+    between = standing (Second l k (right_of h)) under_first first_done
+
+    abbrev second_leaves : PlainStrand
+    second_leaves = leaves_with depth ys (ended setting.codes l k (right_of h) (child_of_half (right_of h))) beside_second
+
+    abbrev behind : PlainStrand
+    behind = standing Over under_second both_done
+
+    spawns : is_by_turns setting.codes a l (suc k) h.count ≡ false → IsNext setting whole_now spawned
+    spawns e kit =
+        let less : suc k - 1 ≡ k = omega arith in
+        sym (ap (λ b. if b then with_top (at (Turns l h) whole_now.top) whole_now else split l (suc k - 1) h whole_now) e ∙ ap (λ n. split l n h whole_now) less)
+
+    enters : IsNext setting (inlined spawned) at_first
+    enters kit = refl
+
+    first_back : IsNext setting first_leaves between
+    first_back kit = ap (λ p. record between { path = p }) (sym (path_back s.path (a.children + 1)))
+
+    second_begins : IsNext setting between at_second
+    second_begins kit = refl
+
+    second_back : IsNext setting second_leaves behind
+    second_back kit = ap (λ p. record behind { path = p }) (sym (path_back s.path ((a.children + 1) + 1)))
+
+    gives : IsNext setting behind (giving (pos 0) behind)
+    gives kit = refl
+
+    first_way : IsWay setting at_first first_leaves
+    first_way =
+        let half : length (take (h.count / 2) rs) ≡ h.count / 2 = length-take-le (h.count / 2) rs (let fits : h.count / 2 ≤ length rs = omega arith in fits) in
+        again (left_of h) (child_of_half (left_of h)) beside_first xs (λ path long. inside path (inside_longer s (a.children + 1) inside path long)) is half (answers_take setting (loop_at setting.codes a.procedure l) a.slots a.left l.low (h.count / 2) h.first rs answers)
+
+    second_way : IsWay setting at_second second_leaves
+    second_way =
+        let half : length (drop (h.count / 2) rs) ≡ h.count - h.count / 2 = length-drop (h.count / 2) rs ∙ ap (λ n. n - h.count / 2) all in
+        again (right_of h) (child_of_half (right_of h)) beside_second ys (λ path long. inside path (inside_longer s ((a.children + 1) + 1) inside path long)) is half (answers_drop setting (loop_at setting.codes a.procedure l) a.slots a.left l.low (h.count / 2) h.first rs answers)
+
+    by_halves : is_by_turns setting.codes a l (suc k) h.count ≡ false → IsWay setting whole_now (leaves_with depth rs (ended setting.codes l (suc k) h a) s)
+    by_halves e =
+        let to_first : IsWay setting whole_now at_first = on (inlined spawned) at_first (as_call spawned (inlined spawned) (on whole_now spawned here (spawns e)) refl refl) enters in
+        let to_second : IsWay setting whole_now at_second = on between at_second (on first_leaves between (way_join setting whole_now at_first first_leaves to_first first_way) first_back) second_begins in
+        let end = leaves_with depth ys (halved_to a) first_done in
+        let two : (a.children + 1) + 1 ≡ a.children + 2 = omega arith in
+        let leaves : IsNext setting (giving (pos 0) behind) (leaves_with depth ys under_second first_done) = syncs (pos 0) behind inside in
+        let way : IsWay setting whole_now (leaves_with depth ys under_second first_done) =
+        on (giving (pos 0) behind) (leaves_with depth ys under_second first_done) (on behind (giving (pos 0) behind) (on second_leaves behind (way_join setting whole_now at_second second_leaves to_second second_way) second_back) gives) leaves in
+        let top : under_second ≡ ended setting.codes l (suc k) h a = ap (λ n. record (halved_to a) { children = n }) two ∙ sym (ap (λ c. ended_by c l h a) e) in
+        let state : both_done ≡ with_answers depth rs s = answers_append depth xs ys s ∙ ap (λ zs. with_answers depth zs s) (take-append-drop (h.count / 2) rs) in
+        subst (λ (x : PlainActivation). IsWay setting whole_now (leaves_with depth rs x s)) top
+        (subst (λ (x : PlainStrand). IsWay setting whole_now (record x { top = under_second; phase = Leaving (pos 0) })) state way)
+
+  half_by : (b : Bool) (k : ℕ) → IsAnswered k → (h : Share) (a : PlainActivation) (s : PlainStrand) (rs : List PlainRecord) → IsInside s → IsOfMemo setting (loop_at setting.codes a.procedure l) a.left → length rs ≡ h.count
+      → AreAnswers setting (loop_at setting.codes a.procedure l) a.slots a.left l.low h.first rs → is_by_turns setting.codes a l (suc k) h.count ≡ b
+      → IsWay setting (standing (Halves l (suc k) h) a s) (leaves_with (iteration_depth a) rs (ended setting.codes l (suc k) h a) s)
+  half_by true k again h a s rs inside is all answers e = one_by_one (suc k) h a s rs inside is all answers e
+  half_by false k again h a s rs inside is all answers e = by_halves k again h a s rs inside is all answers e
+
+  pub half_way : (k : ℕ) → IsAnswered k
+  half_way zero h a s rs inside is all answers = one_by_one zero h a s rs inside is all answers refl
+  half_way (suc k) h a s rs inside is all answers = half_by (is_by_turns setting.codes a l (suc k) h.count) k (half_way k) h a s rs inside is all answers refl
+
+-- ---- of a strand as it stands
+
+module _ (setting : Setting) where
+  stands : (l : Loop) (w : Work) (s : PlainStrand) → s.phase ≡ Running → s.top.work ≡ w → standing w s.top s ≡ s
+  stands l w s running there = ap (λ v. record s { top = at v s.top; phase = Running }) (sym there) ∙ ap (λ p. record s { phase = p }) (sym running)
+
+  pub half_answers : (s : PlainStrand) (l : Loop) (k : ℕ) (h : Share) (rs : List PlainRecord) → s.phase ≡ Running → s.top.work ≡ Halves l k h → IsInside s → length rs ≡ h.count → HasAnswers setting l s.top h.first rs
+      → IsWay setting s (half_answered setting.codes l k h rs s)
+  half_answers s l k h rs running there inside all has =
+      subst (λ (x : PlainStrand). IsWay setting x (half_answered setting.codes l k h rs s)) (stands l (Halves l k h) s running there) (half_way setting l k h s.top s rs inside has.of_memo all has.answers)
+
+  pub turns_answer : (s : PlainStrand) (l : Loop) (h : Share) (rs : List PlainRecord) → s.phase ≡ Running → s.top.work ≡ Turns l h → length rs ≤ h.count → HasAnswers setting l s.top h.first rs
+      → IsWay setting s (turns_answered l h rs s)
+  turns_answer s l h rs running there fits has =
+      subst (λ (x : PlainStrand). IsWay setting x (turns_answered l h rs s)) (stands l (Turns l h) s running there) (turns_way setting l rs h s.top s has.of_memo fits has.answers)

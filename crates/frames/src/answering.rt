@@ -1,0 +1,52 @@
+// Iterations of a loop over a memo procedure that records answer, in one go.
+ghost use Rattle.std.specs.Prelude.{◌≡◌, List, All, OnOk};
+ghost use Rattle.monoid_laws.specs.Kinds.{IsMonoid};
+ghost use Rattle.meaning.specs.Records.{Kept};
+ghost use Rattle.rerun_records.specs.Doubted.{IsInStep};
+ghost use Rattle.rerun_records.specs.Named.{AreKept, HaveValues};
+ghost use Rattle.positions.specs.Setting.{HasItsTables, setting_with};
+ghost use Rattle.activations.specs.Given.{given};
+ghost use Rattle.answered_loops.specs.Ways.{IsWay, IsWayOf};
+
+use crate::strand::Strand;
+use activations::setting::Setting;
+use input_tables::Tables;
+use linked_program::checked::Checked;
+use loop_answers::answering::answer_ahead;
+use rerun_records::records::Records;
+use std::alloc::{AllocError, Global};
+use view_pool::View;
+
+impl<V: View> Strand<V> {
+    /// Where the topmost instance is a loop's over a memo procedure, has records answer iterations: all those of a half that is halved
+    /// again, where they can, or the first ones of those that are left one by one. Whether any were answered. Where memory is refused
+    /// the strand can't go on.
+    #[inline(always)]
+    pub fn answer_ahead(
+        &mut self,
+        alloc: Global,
+        program: &Checked,
+        tables: &Tables,
+        records: &Records,
+    ) -> Result<bool, AllocError>
+        requires kinds { self.old.layer.kinds ≡ program.now.kinds }
+        requires monoids { All IsMonoid program.now.kinds }
+        requires values { HaveValues program.now.kinds records.now }
+        requires in_step { IsInStep tables.now.tables records.now }
+        ensures way { OnOk result (IsWay (given program.now tables.now records.now) self.old self.new) }
+        ensures steps { OnOk result ((kept : List Kept) → AreKept program.now kept records.now
+            → HasItsTables (setting_with program.now tables.now.tables kept records.now)
+            → IsWayOf (setting_with program.now tables.now.tables kept records.now) self.old self.new) }
+        ensures lower { self.new.lower ≡ self.old.lower }
+        ensures kinds { self.new.layer.kinds ≡ self.old.layer.kinds }
+    {
+        program.linked();
+        program.revised();
+        let setting = Setting {
+            program,
+            tables,
+            records,
+        };
+        answer_ahead(&mut self.machine, alloc, setting)
+    }
+}

@@ -1,0 +1,4 @@
+pub mod Lists
+pub mod Calls
+pub mod Opened
+pub mod Replays

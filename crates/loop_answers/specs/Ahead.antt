@@ -1,0 +1,42 @@
+-- What records that answer a loop's iterations leave of a strand.
+use Rattle.std.specs.Prelude.{◌≡◌, ℕ, zero, suc, ◌+◌, Bool, true, false, List, None, pos}
+use Rattle.linked_program.specs.declared.code.Expression.{Expression}
+use Rattle.rerun_records.specs.Record.{PlainRecord}
+use Rattle.positions.specs.declared.phase.Phase.TheVariants.{Leaving}
+use Rattle.positions.specs.declared.work.Work.{Work}
+use Rattle.positions.specs.Setting.{Setting}
+use Rattle.positions.specs.Activations.{PlainActivation}
+use Rattle.positions.specs.Code.{PlainLoop}
+use Rattle.positions.specs.Strands.{PlainStrand}
+use Rattle.answered_loops.specs.Ways.{IsWay}
+use Rattle.answered_loops.specs.Answered.{with_answers, iteration_depth, halved_to}
+
+-- a loop's statement by its parts
+abbrev pub loop_with : ℕ → ℕ → ℕ → ℕ → List Expression → PlainLoop
+loop_with number variable grain callee arguments = record { number = number; variable = variable; grain = grain; callee = callee; arguments = arguments }
+
+-- many steps lead from the one to the other, and the layers below the topmost one, the kinds and the records made stay
+pub record IsAnsweredAhead (setting : Setting) (s t : PlainStrand) : Type 0 where
+  pub way : IsWay setting s t
+  pub lower : t.lower ≡ s.lower
+  pub kinds : t.layer.kinds ≡ s.layer.kinds
+  pub made : t.tally.made ≡ s.tally.made
+
+-- all is as it was but for the topmost layer, whose kinds stay, the arguments and the count of instances that records answered
+pub record IsSameButAnswers (s t : PlainStrand) : Type 0 where
+  pub is : t ≡ record s { layer = t.layer; arguments = t.arguments; tally = record s.tally { reused = t.tally.reused } }
+  pub kinds : t.layer.kinds ≡ s.layer.kinds
+
+-- where that was done, and else
+abbrev pub DoneBy : Bool → Type 0 → Type 0 → Type 0
+DoneBy true done same = done
+DoneBy false done same = same
+
+-- an instance that has called so many more, whose values went to no slot, with that left
+abbrev pub called_more : ℕ → Work → PlainActivation → PlainActivation
+called_more zero w a = a
+called_more (suc n) w a = record a { children = a.children + suc n; spawned = false; into = None; work = w }
+
+-- a half of a loop that is halved again and that these records answer leaves
+abbrev pub halves_left : List PlainRecord → PlainStrand → PlainStrand
+halves_left rs s = record (with_answers (iteration_depth s.top) rs s) { top = halved_to s.top; phase = Leaving (pos 0) }

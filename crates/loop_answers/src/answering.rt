@@ -1,0 +1,170 @@
+//! Where the topmost instance of a strand is a loop's over a memo procedure: whether records answer its iterations, and which.
+ghost use Rattle.std.specs.Prelude.{◌≡◌, ◌≤◌, ◌==◌, ◌||◌, nat_le, ℕ, true, false, length, All, OnErr, OnOk};
+ghost use Rattle.monoid_laws.specs.Kinds.{IsMonoid};
+ghost use Rattle.rerun_records.specs.Named.{HaveValues};
+ghost use Rattle.positions.specs.Activations.{ShareFits};
+ghost use Rattle.positions.specs.Tallies.{is_own};
+ghost use Rattle.activations.specs.Given.{lent};
+ghost use Rattle.answered_loops.specs.Answered.{IsInside};
+ghost use Rattle.loop_answers.specs.Ahead.{IsAnsweredAhead, IsSameButAnswers};
+
+use crate::finding::answers;
+use crate::taking::{end_halves, end_turns};
+use activations::code::loop_code;
+use activations::setting::Setting;
+use layers::tally::Tally;
+use positions::phase::Phase;
+use positions::start::Start;
+use positions::work::{Loop, Share, Work};
+use small_steps::machine::Machine;
+use std::alloc::{AllocError, Global};
+use view_pool::View;
+
+// How many iterations are looked at in one go. What was looked up of a half that records don't answer as a whole is looked up once
+// more in its own halves, so with few iterations little is lost by a record that isn't valid any more.
+const ITERATIONS: u32 = 64;
+
+/// Where the topmost instance is a loop's over a memo procedure, has records answer iterations: all those of a half that is halved
+/// again, where they can, or the first ones of those that are left one by one. Whether any were answered. Where memory is refused
+/// the strand can't go on.
+#[inline(always)]
+#[tactic(auto, using(crate::proofs::Replays::answered_same))]
+pub fn answer_ahead<V: View>(
+    machine: &mut Machine<V>,
+    alloc: Global,
+    setting: Setting<'_>,
+) -> Result<bool, AllocError>
+    requires layered { machine.old.phase ≡ Phase.Running → length machine.old.tally.opened ≡ length machine.old.lower }
+    requires kinds { machine.old.layer.kinds ≡ setting.program.now.kinds }
+    requires monoids { All IsMonoid setting.program.now.kinds }
+    requires values { HaveValues setting.program.now.kinds setting.records.now }
+    ensures ahead { OnOk result (IsAnsweredAhead (lent setting.entry) machine.old machine.new) }
+    ensures refused { OnErr result (IsSameButAnswers machine.old machine.new) }
+{
+    if setting.records.is_empty() {
+        return Ok(false);
+    }
+    match machine.phase {
+        Phase::Running => match machine.top.work() {
+            Work::Halves(site, halvings, share) => {
+                answer_half(machine, alloc, setting, site, halvings, share)
+            }
+            Work::Turns(site, share) => answer_turns(machine, alloc, setting, site, share),
+            _ => Ok(false),
+        },
+        _ => Ok(false),
+    }
+}
+
+/// All iterations of a half that is halved again, where records answer them.
+#[tactic(auto, using(crate::proofs::Replays::answered_same))]
+fn answer_half<V: View>(
+    machine: &mut Machine<V>,
+    alloc: Global,
+    setting: Setting<'_>,
+    site: Loop,
+    halvings: u32,
+    share: Share,
+) -> Result<bool, AllocError>
+    requires fits { ShareFits site share }
+    requires there { machine.old.top.work ≡ Work.Halves site halvings share }
+    requires running { machine.old.phase ≡ Phase.Running }
+    requires layered { length machine.old.tally.opened ≡ length machine.old.lower }
+    requires kinds { machine.old.layer.kinds ≡ setting.program.now.kinds }
+    requires monoids { All IsMonoid setting.program.now.kinds }
+    requires values { HaveValues setting.program.now.kinds setting.records.now }
+    ensures ahead { OnOk result (IsAnsweredAhead (lent setting.entry) machine.old machine.new) }
+    ensures refused { OnErr result (IsSameButAnswers machine.old machine.new) }
+{
+    if share.count > ITERATIONS {
+        return Ok(false);
+    }
+    let code = loop_code(setting.program, machine.top.procedure(), site);
+    let by_turns = goes_by_turns(halvings, share.count, code.grain);
+    if by_turns {
+        return Ok(false);
+    }
+    let Some(found) = answers(machine, alloc, setting, code, site, share, share.count) else {
+        return Ok(false);
+    };
+    if found.len() != share.count as usize {
+        return Ok(false);
+    }
+    if !is_inside(machine) {
+        return Ok(false);
+    }
+    end_halves(machine, alloc, &found)
+}
+
+/// The first of the iterations that are left one by one, as many as records answer.
+#[tactic(auto, using(crate::proofs::Replays::answered_same))]
+fn answer_turns<V: View>(
+    machine: &mut Machine<V>,
+    alloc: Global,
+    setting: Setting<'_>,
+    site: Loop,
+    share: Share,
+) -> Result<bool, AllocError>
+    requires fits { ShareFits site share }
+    requires there { machine.old.top.work ≡ Work.Turns site share }
+    requires running { machine.old.phase ≡ Phase.Running }
+    requires kinds { machine.old.layer.kinds ≡ setting.program.now.kinds }
+    requires monoids { All IsMonoid setting.program.now.kinds }
+    requires values { HaveValues setting.program.now.kinds setting.records.now }
+    ensures ahead { OnOk result (IsAnsweredAhead (lent setting.entry) machine.old machine.new) }
+    ensures refused { OnErr result (IsSameButAnswers machine.old machine.new) }
+{
+    let most = share.count.min(ITERATIONS);
+    let code = loop_code(setting.program, machine.top.procedure(), site);
+    let Some(found) = answers(machine, alloc, setting, code, site, share, most) else {
+        return Ok(false);
+    };
+    end_turns(machine, alloc, &found, site, share)
+}
+
+/// Whether so many iterations, which may be halved so many times, are done one by one.
+fn goes_by_turns(halvings: u32, count: u32, grain: u32) -> bool
+    ensures turns { result ≡ (halvings == 0 || nat_le count grain) }
+{
+    halvings == 0 || count <= grain
+}
+
+/// Whether the implicit syncs of the topmost instance, and of those above it, are passed and close no layer.
+fn is_inside<V: View>(machine: &Machine<V>) -> bool
+    requires layered { length machine.now.tally.opened ≡ length machine.now.lower }
+    ensures inside { result ≡ true → IsInside machine.now }
+{
+    let size = machine.path.len();
+    if !is_layer_below(machine, size) {
+        return false;
+    }
+    match machine.start {
+        Start::Root => true,
+        Start::Behind { depth, child: _ } => depth < size,
+    }
+}
+
+/// Whether the instance whose layer is the topmost open one, where one is open, has a name that is shorter than that.
+#[tactic(auto, using(crate::proofs::Opened::none_own))]
+fn is_layer_below<V: View>(machine: &Machine<V>, size: usize) -> bool
+    requires layered { length machine.now.tally.opened ≡ length machine.now.lower }
+    ensures below { result ≡ true → (n : ℕ) → size ≤ n → is_own machine.now.tally.opened n ≡ false }
+{
+    if machine.kits() == 1 {
+        return true;
+    }
+    is_own_before(&machine.tally, size)
+}
+
+/// Whether the topmost open layer is that of an instance with a name that is shorter than that.
+#[tactic(auto, using(crate::proofs::Opened::own_once))]
+fn is_own_before(tally: &Tally, size: usize) -> bool
+    ensures before { result ≡ true → (n : ℕ) → size ≤ n → is_own tally.now.opened n ≡ false }
+{
+    for behind in 0..size {
+        if tally.is_own(size - 1 - behind) {
+            return true;
+        }
+    }
+    false
+}

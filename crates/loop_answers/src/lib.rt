@@ -1,0 +1,6 @@
+//! Iterations of a loop over a memo procedure that records answer: many of them in one go.
+#![tactic(auto)]
+
+pub mod answering;
+mod finding;
+mod taking;

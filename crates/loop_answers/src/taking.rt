@@ -1,0 +1,150 @@
+//! What records that answer a loop's iterations leave of a strand.
+ghost use Rattle.std.specs.Prelude.{◌≡◌, ◌+◌, ◌-◌, ◌≤◌, ◌<◌, ◌^◌, length, map, All, OnErr, OnOk, IfOk};
+ghost use Rattle.monoid_laws.specs.Kinds.{IsMonoid};
+ghost use Rattle.rerun_records.specs.Named.{HaveValues};
+ghost use Rattle.positions.specs.Activations.{ShareFits, WorkFits};
+ghost use Rattle.answered_loops.specs.Answered.{absorbed, answered_more, last_arguments, with_answers, iteration_depth, turns_answered, turned_to, halved_to};
+ghost use Rattle.loop_answers.specs.Ahead.{called_more, halves_left, DoneBy, IsSameButAnswers};
+
+use activations::activation::Activation;
+use layers::layer::{DEEPEST, Layer};
+use layers::tally::Tally;
+use positions::phase::Phase;
+use positions::work::{Loop, Share, Work};
+use rerun_records::record::Record;
+use small_steps::machine::Machine;
+use std::alloc::{AllocError, Global};
+use view_pool::View;
+
+/// Has these records answer all iterations of a half that is halved again, which leaves; whether there is room for the numbers of
+/// its halves.
+pub(crate) fn end_halves<V: View>(
+    machine: &mut Machine<V>,
+    alloc: Global,
+    found: &[&Record],
+) -> Result<bool, AllocError>
+    requires monoids { All IsMonoid machine.old.layer.kinds }
+    requires values { HaveValues machine.old.layer.kinds (map (λ r. r.now) found.now) }
+    ensures ended { IfOk result (λ done. DoneBy done (machine.new ≡ halves_left (map (λ r. r.now) found.now) machine.old) (machine.new ≡ machine.old)) }
+    ensures refused { OnErr result (IsSameButAnswers machine.old machine.new) }
+{
+    if machine.top.children().checked_add(2).is_none() {
+        return Ok(false);
+    }
+    take_answers(machine, alloc, found)?;
+    call_halves(&mut machine.top, alloc);
+    machine.phase = Phase::Leaving(0);
+    Ok(true)
+}
+
+/// Has these records answer the first of the iterations that are left one by one; whether there are such, and room for their
+/// numbers.
+pub(crate) fn end_turns<V: View>(
+    machine: &mut Machine<V>,
+    alloc: Global,
+    found: &[&Record],
+    site: Loop,
+    share: Share,
+) -> Result<bool, AllocError>
+    requires fits { ShareFits site share }
+    requires few { length found.now ≤ share.count }
+    requires running { machine.old.phase ≡ Phase.Running }
+    requires monoids { All IsMonoid machine.old.layer.kinds }
+    requires values { HaveValues machine.old.layer.kinds (map (λ r. r.now) found.now) }
+    ensures ended { IfOk result (λ done. DoneBy done (machine.new ≡ turns_answered site share (map (λ r. r.now) found.now) machine.old) (machine.new ≡ machine.old)) }
+    ensures refused { OnErr result (IsSameButAnswers machine.old machine.new) }
+{
+    let count = found.len() as u32;
+    if count == 0 || machine.top.children().checked_add(count as usize).is_none() {
+        return Ok(false);
+    }
+    take_answers(machine, alloc, found)?;
+    call_turns(&mut machine.top, site, share, count);
+    Ok(true)
+}
+
+/// Has these records answer iterations of the topmost instance, a loop's.
+fn take_answers<V: View>(
+    machine: &mut Machine<V>,
+    alloc: Global,
+    found: &[&Record],
+) -> Result<(), AllocError>
+    requires monoids { All IsMonoid machine.old.layer.kinds }
+    requires values { HaveValues machine.old.layer.kinds (map (λ r. r.now) found.now) }
+    ensures taken { OnOk result (machine.new ≡ with_answers (iteration_depth machine.old.top) (map (λ r. r.now) found.now) machine.old) }
+    ensures refused { OnErr result (IsSameButAnswers machine.old machine.new) }
+{
+    let depth = DEEPEST.saturating_sub(machine.top.left().saturating_sub(1));
+    keep_last(&mut machine.arguments, found)?;
+    take_over(alloc, &mut machine.tally, &mut machine.layer, found, depth)
+}
+
+/// Has records answer instances at that depth, one after another: what they have goes behind the layer.
+fn take_over<V: View>(
+    alloc: Global,
+    tally: &mut Tally,
+    layer: &mut Layer<V>,
+    found: &[&Record],
+    depth: u32,
+) -> Result<(), AllocError>
+    requires monoids { All IsMonoid layer.old.kinds }
+    requires values { HaveValues layer.old.kinds (map (λ r. r.now) found.now) }
+    ensures answered { OnOk result (tally.new ≡ answered_more (length found.now) tally.old) }
+    ensures absorbed { OnOk result (layer.new ≡ absorbed depth (map (λ r. r.now) found.now) layer.old) }
+    ensures counted { tally.new ≡ record tally.old { reused = tally.new.reused } }
+    ensures kinds { layer.new.kinds ≡ layer.old.kinds }
+{
+    for record in found {
+        tally.reuse(alloc, layer, record, depth)?;
+    }
+    Ok(())
+}
+
+/// The arguments of the last of these records, where there is one.
+fn keep_last(arguments: &mut Vec<i64>, found: &[&Record]) -> Result<(), AllocError>
+    ensures last { OnOk result (arguments.new.items ≡ last_arguments arguments.old.items (map (λ r. r.now) found.now)) }
+{
+    if let Some(last) = found.last() {
+        arguments.clear();
+        arguments.extend_from_slice(last.arguments())?;
+    }
+    Ok(())
+}
+
+/// Has a loop's instance call both its halves; the second has its slots.
+fn call_halves(top: &mut Activation, alloc: Global)
+    requires room { top.old.children + 2 < 2 ^ 64 }
+    ensures halved { top.new ≡ halved_to top.old }
+{
+    call_more(top, 2, Work::Over);
+    let _ = top.take_slots(alloc);
+}
+
+/// Has a loop's instance call so many more of its iterations.
+#[tactic(auto, using(crate::proofs::Calls::turned_is))]
+fn call_turns(top: &mut Activation, site: Loop, share: Share, count: u32)
+    requires some { 0 < count }
+    requires room { top.old.children + count < 2 ^ 64 }
+    requires fits { ShareFits site share }
+    requires few { count ≤ share.count }
+    ensures turned { top.new ≡ turned_to count site share top.old }
+{
+    let rest = Share {
+        first: share.first + count,
+        count: share.count - count,
+    };
+    call_more(top, count, Work::Turns(site, rest));
+}
+
+/// Has an instance call so many more, one after another, whose values go to no slot, with that left in the end.
+fn call_more(top: &mut Activation, count: u32, work: Work)
+    requires room { top.old.children + count < 2 ^ 64 }
+    requires fits { WorkFits work }
+    ensures called { top.new ≡ called_more count work top.old }
+{
+    let mut called = 0;
+    while called < count {
+        top.wait(false, None, work);
+        called += 1;
+    }
+}
