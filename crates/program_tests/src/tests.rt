@@ -1,4 +1,4 @@
-//! Texts that become programs, checked programs and tables.
+//! Texts that become programs, checked programs and tables; and records of them.
 
 mod beginnings;
 mod defines;
@@ -10,6 +10,7 @@ mod looks;
 mod numbers;
 mod printing;
 mod programs;
+mod records;
 mod revisions;
 mod tables;
 mod tokens;

@@ -1,4 +1,5 @@
-//! Runs of `Core` and of sessions by given steps, against answers and counts that were found by hand.
+//! Runs of `Core` and of sessions by given steps, and histories of strands replayed, against answers, counts and lists that were found
+//! by hand.
 #![tactic(auto)]
 
 #[cfg(test)]

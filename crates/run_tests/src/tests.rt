@@ -1,6 +1,7 @@
 //! Runs and sessions by steps that are given. What is wanted was found by hand.
 
 mod anew;
+mod books;
 mod exhausted;
 mod given_up;
 mod playing;

@@ -9,5 +9,6 @@ mod programs;
 mod refusals;
 mod refused_folds;
 mod reruns;
+mod sessions;
 mod strands;
 mod views;

@@ -1,5 +1,0 @@
-use Rattle.std.proofs.Common.{[], ◌∷◌}
-use Rattle.deque_tests.proofs.tests.drained_where_all_was_taken.Given as goal
-
-abbrev pub ghosts-drained_in_time : goal.ghosts-drained_in_time
-ghosts-drained_in_time g a = record { deques = a.first ∷ a.second ∷ [] }

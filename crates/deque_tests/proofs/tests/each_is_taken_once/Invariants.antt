@@ -1,5 +1,0 @@
-use Rattle.std.proofs.Common.{[], ◌∷◌}
-use Rattle.deque_tests.proofs.tests.each_is_taken_once.Given as goal
-
-abbrev pub ghosts-three_rounds : goal.ghosts-three_rounds
-ghosts-three_rounds g a = record { deques = a.deque ∷ [] }

@@ -1,8 +1,0 @@
-use Rattle.std.proofs.Common.{map, drop}
-use Rattle.std.specs.Prelude.{All}
-use Rattle.monoid_laws.specs.Kinds.{AreWorths}
-use Rattle.serial_oracle.specs.Keeping.{kept}
-use Rattle.session_tests.proofs.tests.fitting.all_plain.Given as goal
-
-abbrev pub invariant-loop-one : goal.invariant-loop-one
-invariant-loop-one l = All (λ k. AreWorths l.kinds k.contribution) (map kept (drop l.one-index l.records)) → All (λ k. AreWorths l.kinds k.contribution) (map kept l.records)
