@@ -1,0 +1,76 @@
+//! A report inside a program of one's own: its tables are filled row by row, threads run it, an edit comes, and the values are
+//! read by their names. No script is written and no answer is parsed.
+#![tactic(auto)]
+
+use anyhow::{Context, Result, bail};
+use frames::answer::RunAnswer;
+use input_tables::Tables;
+use kept_session::Session;
+use monoid_laws::{Kind, Val};
+use report_session::opening::open;
+use report_session::values::value;
+use session_edits::Edit;
+use std::alloc::{AllocError, Global};
+use std::sync::Wait;
+use std::thread::Threads;
+use threaded_driver::{NoGate, run_threads};
+use view_pool::{PlainView, View};
+
+const REPORT: &[u8] = b"reducer total : add;
+memo proc line(r) { v = sales[r].qty * sales[r].price; update total v; return v; }
+proc main() { cilk_for r in 1 .. limit sales : line(r); return 0; }
+";
+
+const SHAPE: &str = "[sales]\ncolumns = [\"qty\", \"price\"]\nrows = []\n";
+
+const WORKERS: usize = 4;
+
+// The table of sales, its rows counted from 1.
+fn tables(alloc: Global) -> Result<Tables> {
+    let mut tables = Tables::from_toml(alloc, SHAPE)?;
+    for (row, cells) in [(1, [2, 5]), (2, [3, 7]), (3, [1, 100])] {
+        tables.put(alloc, "sales", row, &cells)?;
+    }
+    Ok(tables)
+}
+
+// Runs the report, and prints its total and what was done anew.
+fn run<V: View + Send>(
+    rt: &(impl Print + Threads + Wait + Sync),
+    alloc: Global,
+    session: &mut Session<V>,
+) -> Result<()> {
+    let Ok((answer, _)) = run_threads(rt, alloc, session, WORKERS, &NoGate) else {
+        bail!("the list of strands refused a worker");
+    };
+    let RunAnswer::Finished {
+        values,
+        executed,
+        ..
+    } = answer
+    else {
+        bail!("the run came to no result");
+    };
+    let Some(Val::Int(total)) = value(session.checked(), values.as_slice(), "total") else {
+        bail!("the report has no total");
+    };
+    println!(rt; "total {total}, lines done: {executed}")?;
+    Ok(())
+}
+
+fn main(rt: HostRuntime) -> Result<()> {
+    let alloc = rt.alloc();
+    let make = |kind: Kind| -> Result<PlainView, AllocError> { Ok(PlainView::new(alloc, kind)) };
+    let mut session = open(alloc, REPORT, tables(alloc)?, 64, &make).context("the report")?;
+    run(&rt, alloc, &mut session)?;
+    let mut cells = Vec::new(alloc);
+    cells.push(4)?;
+    cells.push(7)?;
+    let edit = Edit::Put {
+        table: "sales",
+        row: 2,
+        values: cells,
+    };
+    session.apply(alloc, &edit)?;
+    run(&rt, alloc, &mut session)
+}

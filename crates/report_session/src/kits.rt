@@ -1,0 +1,56 @@
+// Kits of views that the caller makes.
+ghost use Rattle.std.specs.Prelude.{◌≡◌, All, IfOk, length};
+
+use monoid_laws::Kind;
+use std::alloc::{AllocError, Global};
+use view_pool::{Kit, View};
+
+/// So many kits for these kinds, of views that the caller makes. Want of memory is the only error; a view of another kind counts
+/// as such.
+pub fn kits_for<V: View, M: Fn(Kind) -> Result<V, AllocError>>(
+    alloc: Global,
+    kinds: &[Kind],
+    count: usize,
+    make: &M,
+) -> Result<Vec<Kit<V>>, AllocError>
+    requires { M.IsAlwaysCallable make.now }
+    ensures kinds { IfOk result (λ kits. All (λ kit. kit ≡ kinds.now) kits.items) }
+    ensures count { IfOk result (λ kits. length kits.items ≡ count) }
+{
+    let mut kits = Vec::with_capacity(alloc, count)?;
+    for _ in 0..count {
+        kits.push(kit(alloc, kinds, make)?)?;
+    }
+    Ok(kits)
+}
+
+// A kit for these kinds.
+fn kit<V: View, M: Fn(Kind) -> Result<V, AllocError>>(
+    alloc: Global,
+    kinds: &[Kind],
+    make: &M,
+) -> Result<Kit<V>, AllocError>
+    requires { M.IsAlwaysCallable make.now }
+    ensures { IfOk result (λ kit. kit ≡ kinds.now) }
+{
+    let mut views = Vec::with_capacity(alloc, kinds.len())?;
+    for kind in kinds {
+        views.push(view(*kind, make)?)?;
+    }
+    Ok(Kit::reset(views))
+}
+
+// A view of that kind.
+fn view<V: View, M: Fn(Kind) -> Result<V, AllocError>>(
+    kind: Kind,
+    make: &M,
+) -> Result<V, AllocError>
+    requires { M.IsAlwaysCallable make.now }
+    ensures { IfOk result (λ view. V.kind_of view ≡ kind) }
+{
+    let view = make(kind)?;
+    if view.kind() == kind {
+        return Ok(view);
+    }
+    Err(AllocError)
+}
