@@ -8,7 +8,7 @@ from typing import Iterator, List, Optional, Tuple
 HERE = Path(__file__).resolve().parent
 TOP = HERE.parent
 
-SETTINGS = ("words", "line", "workers", "program", "tables", "script", "input", "output", "beginnings", "long")
+SETTINGS = ("words", "line", "workers", "program", "tables", "script", "input", "output", "beginnings", "long", "live", "terminal")
 EXPECTED = ("counts", "status", "said", "trace", "printed")
 WITH_BLOCKS = ("program", "tables", "said", "trace", "printed")
 
@@ -41,6 +41,8 @@ class Setting:
     output: bool = True
     beginnings: Tuple[int, ...] = ()
     long: bool = False
+    live: bool = False
+    terminal: bool = False
 
 
 @dataclass(frozen=True)
@@ -169,7 +171,7 @@ def with_part(setting: Setting, part: Part, path: Path) -> Setting:
         return replace(setting, **{part.kind: text_of(part, path)})
     if part.kind in ("input", "output"):
         return replace(setting, **{part.kind: part.rest != "none"})
-    return replace(setting, long=True) if part.kind == "long" else setting
+    return replace(setting, **{part.kind: True}) if part.kind in ("long", "live", "terminal") else setting
 
 
 def sessions_of(path: Path, lines: List[str]) -> List[Session]:

@@ -7,6 +7,7 @@ use monoid_laws::Kind;
 use program_reasons::script::Explainer;
 use program_reasons::{reasons_of, show};
 use std::alloc::AllocError;
+use std::io::IsTerminal;
 use std::process::ExitCode;
 use view_pool::{PlainView, View};
 
@@ -16,7 +17,7 @@ fn main(rt: HostRuntime) -> ExitCode {
         Ok(Box::new(alloc, PlainView::new(alloc, kind))?)
     };
     let explainer = Explainer::new(alloc, StandardError { rt: &rt });
-    let reported = report(&rt, alloc, &make, explainer);
+    let reported = report(&rt, alloc, &make, explainer, rt.stdin().is_terminal());
     let reasons = reasons_of(&rt, alloc, &reported);
     let status = ending(&rt, reported);
     show(&rt, reasons.as_str());

@@ -1,2 +1,1 @@
 pub mod Opening
-pub mod SameKind

@@ -8,9 +8,10 @@ use Rattle.program_endings.specs.declared.session_error.SessionError.TheVariants
 use Rattle.program_endings.specs.declared.program_error.ProgramError.{ProgramError}
 use Rattle.program_endings.specs.declared.program_error.ProgramError.TheVariants.{Line, File, Prepare, Session, Trace}
 use Rattle.script_session.specs.Answers.{first_answers}
+use Rattle.script_session.specs.Coming.{first_so_far}
 use Rattle.program_endings.specs.Endings.{CarriesRefusal}
 use Rattle.program_endings.specs.Failing.{IsFailed}
-use Rattle.program_endings.specs.Written.{HasBeginning}
+use Rattle.program_endings.specs.Written.{HasBeginning, WritesRead}
 use Rattle.prepared_program.specs.Preparing.{IsPrepared, IsRefused}
 
 -- the program and the tables are those of the files that the options name, and that of the tables is text
@@ -79,6 +80,13 @@ IsBegunOver held options known old new =
     (program tables script : List ℕ) → held options.program.now ≡ Some program → held options.tables.now ≡ Some tables
     → known ≡ Some script → IsBegun program tables script old new
 
+-- some bytes of the script were read, and the answers of such a program to the commands that are whole in them were written
+abbrev pub IsReadOver : (List ℕ → Option (List ℕ)) → Options → Option (List ℕ) → Option (List ℕ) → Option (List ℕ) → Option (List ℕ) → Type 0
+IsReadOver held options unread left old new =
+    (program tables_text : List ℕ) → held options.program.now ≡ Some program → held options.tables.now ≡ Some tables_text
+    → (checked : PlainChecked) × (tables : Tables) × IsPrepared program tables_text checked tables
+    × WritesRead (first_so_far checked tables) unread left old new
+
 -- a mismatch carries what the list of strands refused
 abbrev pub ReportsRefusal : ProgramError → Type 0
 ReportsRefusal (Line e) = Unit {0}
@@ -95,7 +103,7 @@ ReadsNothing (Prepare e) = Unit {0}
 ReadsNothing (Session e) = ⊥
 ReadsNothing (Trace path) = ⊥
 
--- the errors after which nothing was written
+-- the errors after which nothing was written, but in a live session
 abbrev pub WritesNothing : ProgramError → Type 0
 WritesNothing (Line e) = Unit {0}
 WritesNothing (File path) = Unit {0}

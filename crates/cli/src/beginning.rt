@@ -3,10 +3,10 @@ ghost use Rattle.std.specs.Prelude.{◌≡◌, IfOk, IfErr, length};
 ghost use Rattle.prepared_program.specs.Preparing.{IsPrepared};
 ghost use Rattle.cli.specs.Begun.{IsUnbegun};
 
-use crate::kits::kits_for;
 use kept_session::Session;
 use monoid_laws::Kind;
 use prepared_program::prepare::{PrepareError, prepare};
+use report_session::kits::kits_for;
 use std::alloc::{AllocError, Global};
 use thiserror::Error;
 use view_pool::View;

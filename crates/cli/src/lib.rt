@@ -1,10 +1,11 @@
 //! The program's parts: what it is given, what it reads and what it writes.
 #![tactic(auto)]
 
+pub mod asking;
 pub mod beginning;
-pub mod kits;
 pub mod program;
 
 pub use program_endings::files;
-pub use script_session::session;
+pub use report_session::kits;
+pub use script_session::{live, session};
 pub use session_notes::{explained, notes, run_notes};

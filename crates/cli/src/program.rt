@@ -1,11 +1,15 @@
 // The program: its line, its files, its session on standard input and output.
-ghost use Rattle.std.specs.Prelude.{◌≡◌, ◌≢◌, ◌↔◌, ◌<◌, ◌≤◌, Err, true, IfOk, IfErr, OnOk, OnErr, length, option_map};
+ghost use Rattle.std.specs.Prelude.{◌≡◌, ◌≢◌, ◌↔◌, ◌<◌, ◌≤◌, Err, false, true, [], IfOk, IfErr, OnOk, OnErr, length, option_map};
 ghost use Rattle.std.specs.Io.KnownBytes.{Keeps, IsAtEnd};
 ghost use Rattle.std.specs.Process.{exit_status};
 ghost use Rattle.program_endings.specs.Endings.{CarriesRefusal};
 ghost use Rattle.program_endings.specs.Statuses.{status_of};
-ghost use Rattle.cli.specs.Reports.{IsOpened, IsUnopened, IsUnmade, IsLate, IsReportedOver, IsBegunOver, ReadsNothing, ReportsRefusal, WritesNothing};
+ghost use Rattle.program_endings.specs.Written.{WritesAll, WritesBeginning, WritesRead};
+ghost use Rattle.script_session.specs.Answers.{answers_of};
+ghost use Rattle.script_session.specs.Coming.{session_so_far};
+ghost use Rattle.cli.specs.Reports.{IsOpened, IsUnopened, IsUnmade, IsLate, IsReportedOver, IsBegunOver, IsReadOver, ReadsNothing, ReportsRefusal, WritesNothing};
 
+use crate::asking::Asking;
 use crate::beginning::{BeginError, begin};
 use command_line::line::asked_by;
 use command_line::options::{Asked, Options};
@@ -18,8 +22,10 @@ use program_endings::program_error::{ProgramError, status};
 use program_endings::session_error::SessionError;
 use program_endings::streams::Failures;
 use program_formatter::formatting::format_file;
+use script_session::live::live_text;
 use script_session::session::session_text;
-use session_notes::explained::{Explain, Explained};
+use session_notes::explained::{Crew, Explain, Explained};
+use session_notes::notes::Notes;
 use session_notes::run_notes::{NotesError, RunNotes};
 use std::alloc::{AllocError, Global};
 use std::io;
@@ -54,12 +60,13 @@ pub fn ending(rt: &(impl Print + Eprint), reported: Result<(), ProgramError>) ->
 /// Does what the program's line asks for: a session, or printing a program in its normal form. Its errors are those of the
 /// line, of a file, of `prepare`, of the session and of the output, but for the want of a kit, since a line asks for one kit
 /// at least. The views are the caller's; one of another kind counts as want of memory. What is refused is explained where the
-/// line asks for it.
+/// line asks for it. The lines of a live session at a terminal are asked for on standard error, and what is refused is explained.
 pub fn report<V: View, M: Fn(Kind) -> Result<V, AllocError>, X: Explain + Drop>(
     rt: &(impl Runtime + AllocGlobal + Threads + Wait + Sync),
     alloc: Global,
     make: &M,
     explain: X,
+    is_terminal: bool,
 ) -> Result<(), ProgramError>
     requires callable { M.IsAlwaysCallable make.now }
     ensures kits { result ≢ Err (ProgramError.Session SessionError.NoKit) }
@@ -68,7 +75,7 @@ pub fn report<V: View, M: Fn(Kind) -> Result<V, AllocError>, X: Explain + Drop>(
     let held = held_words(rt, alloc).map_err(|error| ProgramError::Line(error))?;
     let words = lent(alloc, held.as_slice()).map_err(|error| ProgramError::Line(error))?;
     match asked_by(alloc, words.as_slice()).map_err(|error| ProgramError::Line(error))? {
-        Asked::Session(options) => report_by(rt, alloc, options, make, explain),
+        Asked::Session(options) => report_by(rt, alloc, options, make, explain, is_terminal),
         Asked::Print(path) => format_file(rt, alloc, path),
     }
 }
@@ -80,6 +87,7 @@ fn report_by<V: View, M: Fn(Kind) -> Result<V, AllocError>, X: Explain + Drop>(
     options: Options<'_>,
     make: &M,
     explain: X,
+    is_terminal: bool,
 ) -> Result<(), ProgramError>
     requires callable { M.IsAlwaysCallable make.now }
     requires workers { (0 < options.workers) × (options.workers ≤ 16) }
@@ -87,7 +95,11 @@ fn report_by<V: View, M: Fn(Kind) -> Result<V, AllocError>, X: Explain + Drop>(
     ensures kits { result ≢ Err (ProgramError.Session SessionError.NoKit) }
     ensures mismatch { IfErr result ReportsRefusal }
 {
-    let Ok(mut reader) = BufReader::new(alloc, rt.reader()) else {
+    let asks = options.live && is_terminal;
+    let mut options = options;
+    options.explain = options.explain || asks;
+    let asking = Asking::new(rt.reader(), StandardError { rt }, asks);
+    let Ok(mut reader) = BufReader::new(alloc, asking) else {
         return Err(no_memory());
     };
     let Ok(mut writer) = BufWriter::new(alloc, io::writer(rt)) else {
@@ -110,8 +122,8 @@ fn report_by<V: View, M: Fn(Kind) -> Result<V, AllocError>, X: Explain + Drop>(
 /// Does the session that the options ask for: its program and its tables are those of two files, its kits are of views
 /// that the caller makes, its script is all that the reader has, its answers go to the writer. The trace is a file that is
 /// made before the script is read; counts go to the writer of errors; what is refused is explained where the options ask
-/// for it. Where a file fails or is refused nothing is written;
-/// which streams failed is noted.
+/// for it. Where a file fails or is refused nothing is written; which streams failed is noted. A live session reads, answers and
+/// flushes line by line: after a failed read the answers to the commands that came whole are written, where otherwise nothing is.
 pub fn report_on<
     V: View,
     M: Fn(Kind) -> Result<V, AllocError>,
@@ -140,8 +152,14 @@ pub fn report_on<
     ensures unopened { IfErr result (IsUnopened (F.held files.now) options.entry) }
     ensures beginning { IsBegunOver (F.held files.now) options.entry
         (R.remaining reader.old) (W.contents writer.old) (W.contents writer.new) }
-    ensures unwritten { IfErr result (λ e. WritesNothing e
+    ensures unbegun { IfErr result (λ e. ReadsNothing e
         → Keeps (W.contents writer.old) (W.contents writer.new)) }
+    ensures unwritten { options.entry.live ≡ false → IfErr result (λ e. WritesNothing e
+        → Keeps (W.contents writer.old) (W.contents writer.new)) }
+    ensures read { options.entry.live ≡ true
+        → result ≡ Err (ProgramError.Session SessionError.Read)
+        → IsReadOver (F.held files.now) options.entry (R.remaining reader.old)
+        (R.remaining reader.new) (W.contents writer.old) (W.contents writer.new) }
     ensures unread { IfErr result (λ e. ReadsNothing e
         → Keeps (R.remaining reader.old) (R.remaining reader.new)) }
     ensures kits { 0 < options.entry.kits
@@ -157,15 +175,19 @@ pub fn report_on<
 {
     let session = session_of(alloc, options, make, files)?;
     let notes = notes_of(alloc, options, files, errors)?;
-    let explain = asked(options.explain, explain);
-    let mut notes = Explained { notes, explain };
-    match session_text(
+    let mut notes = Explained {
+        notes,
+        explain: asked(options.explain || options.why, explain),
+        refusals: options.explain,
+        crew: crew_of(options),
+    };
+    match answered(
         rt,
         alloc,
         session,
         options.workers,
+        options.live,
         &mut notes,
-        &NoGate,
         reader,
         writer,
         failures,
@@ -173,6 +195,47 @@ pub fn report_on<
         Ok(()) => Ok(()),
         Err(error) => Err(ended_by(alloc, options.trace, error, notes.notes.failure())),
     }
+}
+
+// Answers the script that the reader has: as its lines come in a live session, otherwise once it is read.
+fn answered<V: View, N: Notes, R: Read, W: Write>(
+    rt: &(impl Threads + Wait + Sync),
+    alloc: Global,
+    session: Session<V>,
+    workers: usize,
+    live: bool,
+    notes: &mut N,
+    reader: &mut R,
+    writer: &mut W,
+    failures: &mut Failures,
+) -> Result<(), SessionError>
+    requires workers { (0 < workers) × (workers ≤ 16) }
+    ensures answered { OnOk result (WritesAll (answers_of session)
+        (R.remaining reader.old) (W.contents writer.old) (W.contents writer.new)) }
+    ensures over { OnOk result (IsAtEnd (R.remaining reader.new)) }
+    ensures unread { live ≡ false → result ≡ Err SessionError.Read
+        → Keeps (W.contents writer.old) (W.contents writer.new) }
+    ensures read { live ≡ true → result ≡ Err SessionError.Read
+        → WritesRead (session_so_far session) (R.remaining reader.old) (R.remaining reader.new)
+        (W.contents writer.old) (W.contents writer.new) }
+    ensures beginning { WritesBeginning (answers_of session)
+        (R.remaining reader.old) (W.contents writer.old) (W.contents writer.new) }
+    ensures no_kit { result ≡ Err SessionError.NoKit → session.kits.kits ≡ [] }
+    ensures mismatch { IfErr result CarriesRefusal }
+    ensures input { result ≡ Err SessionError.Read → failures.new.input ≡ true }
+    ensures output { result ≡ Err SessionError.Write → failures.new.output ≡ true }
+    ensures unmarked { OnOk result (failures.new ≡ failures.old) }
+    ensures input_stays { result ≢ Err SessionError.Read
+        → failures.new.input ≡ failures.old.input }
+{
+    if live {
+        return live_text(
+            rt, alloc, session, workers, notes, &NoGate, reader, writer, failures,
+        );
+    }
+    session_text(
+        rt, alloc, session, workers, notes, &NoGate, reader, writer, failures,
+    )
 }
 
 // The session of a program's file and a tables' file.
@@ -239,6 +302,18 @@ fn notes_of<F: FileSource, E: Write + Drop>(
 // Who explains, where that is asked for.
 fn asked<X: Explain + Drop>(is_asked: bool, explain: X) -> Option<X> {
     if is_asked { Some(explain) } else { None }
+}
+
+// The crew of runs, where it is asked why they execute instances.
+fn crew_of(options: Options<'_>) -> Option<Crew> {
+    if options.why {
+        Some(Crew {
+            workers: options.workers,
+            kits: options.kits,
+        })
+    } else {
+        None
+    }
 }
 
 // What an error of a session is to the program, with the reason why a run couldn't be noted.

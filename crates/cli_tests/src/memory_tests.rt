@@ -34,6 +34,8 @@ const ASKED: Options<'static> = Options {
     trace: Some("T"),
     stats: true,
     explain: true,
+    live: false,
+    why: true,
 };
 
 // What was written into a place that takes no memory.

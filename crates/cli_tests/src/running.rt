@@ -1,5 +1,6 @@
 // Sessions of programs over tables, by one worker: the one place where these tests begin them and hand them a script.
 use cli::beginning::begin;
+use cli::live::live_text;
 use cli::notes::NoNotes;
 use cli::session::session_text;
 use monoid_laws::Kind;
@@ -32,6 +33,21 @@ pub fn ended<R: Read, W: Write>(
 ) -> Result<(), SessionError> {
     let notes = &mut NoNotes;
     session_text(
+        rt, alloc, session, 1, notes, &NoGate, reader, writer, failures,
+    )
+}
+
+// What a live session ends by over these streams.
+pub fn ended_live<R: Read, W: Write>(
+    rt: &(impl Threads + Wait + Sync),
+    alloc: Global,
+    session: Session<PlainView>,
+    reader: &mut R,
+    writer: &mut W,
+    failures: &mut Failures,
+) -> Result<(), SessionError> {
+    let notes = &mut NoNotes;
+    live_text(
         rt, alloc, session, 1, notes, &NoGate, reader, writer, failures,
     )
 }

@@ -1,5 +1,5 @@
 // Readers and writers that fail in mid-stream, or only for a moment; and sessions over them.
-use crate::running::{ended, session};
+use crate::running::{ended, ended_live, session};
 use program_endings::session_error::SessionError;
 use program_endings::streams::{Failures, flush, read_all, write_whole};
 use std::alloc::Global;
@@ -148,6 +148,42 @@ fn a_read_fails_in_mid_stream(rt: HostRuntime) {
         let ended = ending(&rt, rt.alloc(), &mut reader, &mut writer, &mut failures);
         assert_eq!(&rt; ended, "failed input");
         assert_eq!(&rt; writer.taken.len(), 0);
+        assert_eq!(&rt; failures.noted(), (true, false));
+    }
+}
+
+const LINES: &[u8] = b"here\nput t 1 2\nhere\n";
+
+// What a live session has answered once so many bytes of its script are read.
+fn answered_by(read: usize) -> &'static str {
+    if read < 5 {
+        return "";
+    }
+    if read < 15 {
+        return "refused E19 1\n";
+    }
+    "refused E19 1\nok\n"
+}
+
+#[test]
+fn a_read_of_a_live_session_fails(rt: HostRuntime) {
+    let alloc = rt.alloc();
+    for at in 0..LINES.len() {
+        let tables = "[t]\ncolumns = [\"a\"]\nrows = []\n";
+        let session = session(&rt, alloc, b"proc main() { return 4; }", tables);
+        let mut reader = halting_reader(LINES, ErrorKind::ConnectionReset, at, 1);
+        let mut written = Vec::new(alloc);
+        let mut failures = Failures::none();
+        let ended = ended_live(
+            &rt,
+            alloc,
+            session,
+            &mut reader,
+            &mut written,
+            &mut failures,
+        );
+        assert!(&rt; matches!(&ended, Err(SessionError::Read)));
+        assert_eq!(&rt; written.as_slice(), answered_by(at).as_bytes());
         assert_eq!(&rt; failures.noted(), (true, false));
     }
 }

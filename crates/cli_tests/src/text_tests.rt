@@ -102,7 +102,7 @@ const UNDER_REFUSALS: &str = "  2 | end
 fn words_under_refusals(rt: HostRuntime) {
     let alloc = rt.alloc();
     let mut text = String::new(alloc);
-    push_unknown(&mut text, b"run\nend\nrun\n", 2).expect(&rt, "memory");
+    push_unknown(&mut text, b"end", 2).expect(&rt, "memory");
     push_rule(&mut text, Rule::Waiting).expect(&rt, "memory");
     let program = b"proc main() {\nx = 1\nreturn x;\n}\n";
     push_bad_program(alloc, &mut text, program, 3).expect(&rt, "memory");

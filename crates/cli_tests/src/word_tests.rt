@@ -10,12 +10,20 @@ use std::alloc::{AllocError, Global};
 use std::fmt::Write;
 use std::process::Abort;
 
-// What a line gives: the two files, workers and kits, the trace, and whether runs are counted and refusals explained.
+// What a line gives: the two files, workers and kits, the trace, and whether runs are counted, refusals explained, lines done as they come and
+// reruns explained.
 fn given_text(alloc: Global, given: Options<'_>) -> Result<String, AllocError> {
     let trace = given.trace.unwrap_or("nowhere");
     format!(in alloc;
-        "{} {} {} {} {trace} {} {}",
-        given.program, given.tables, given.workers, given.kits, given.stats, given.explain
+        "{} {} {} {} {trace} {} {} {} {}",
+        given.program,
+        given.tables,
+        given.workers,
+        given.kits,
+        given.stats,
+        given.explain,
+        given.live,
+        given.why
     )
 }
 
@@ -28,43 +36,54 @@ fn said<'a>(alloc: Global, words: &'a [&'a str]) -> Result<String, AllocError> {
 }
 
 // Lines, and what they give. No session of the program has a line without its own name.
-const LINES: [(&[&str], &str); 10] = [
-    (&["cilkreport", "p", "t"], "p t 1 64 nowhere false false"),
+const LINES: [(&[&str], &str); 12] = [
+    (
+        &["cilkreport", "p", "t"],
+        "p t 1 64 nowhere false false false false",
+    ),
     (
         &["cilkreport", "p", "t", "--workers", "16"],
-        "p t 16 64 nowhere false false",
+        "p t 16 64 nowhere false false false false",
     ),
     (
         &["cilkreport", "--kits", "4096", "p", "t"],
-        "p t 1 4096 nowhere false false",
+        "p t 1 4096 nowhere false false false false",
     ),
     (
         &["cilkreport", "--workers=4", "p", "--kits", "+08", "t"],
-        "p t 4 8 nowhere false false",
+        "p t 4 8 nowhere false false false false",
     ),
     (
         &["cilkreport", "--stats", "p", "--trace", "runs", "t"],
-        "p t 1 64 runs true false",
+        "p t 1 64 runs true false false false",
     ),
     (
         &["cilkreport", "p", "t", "--trace=runs"],
-        "p t 1 64 runs false false",
+        "p t 1 64 runs false false false false",
     ),
     (
         &["cilkreport", "p", "t", "--stats"],
-        "p t 1 64 nowhere true false",
+        "p t 1 64 nowhere true false false false",
     ),
     (
         &["cilkreport", "p", "--explain", "t"],
-        "p t 1 64 nowhere false true",
+        "p t 1 64 nowhere false true false false",
     ),
     (
         &["cilkreport", "p", "t", "--stats", "--explain"],
-        "p t 1 64 nowhere true true",
+        "p t 1 64 nowhere true true false false",
+    ),
+    (
+        &["cilkreport", "p", "--live", "t"],
+        "p t 1 64 nowhere false false true false",
+    ),
+    (
+        &["cilkreport", "p", "--why", "t"],
+        "p t 1 64 nowhere false false false true",
     ),
     (
         &[],
-        "usage: cilkreport PROGRAM TABLES [--workers 1..16] [--kits 1..4096] [--trace FILE] [--stats] [--explain]\n       cilkreport --print PROGRAM",
+        "usage: cilkreport PROGRAM TABLES [--workers 1..16] [--kits 1..4096] [--trace FILE] [--stats] [--explain] [--live] [--why]\n       cilkreport --print PROGRAM",
     ),
 ];
 
@@ -102,7 +121,7 @@ fn push_command(text: &mut String, command: &Command<'_>) -> Result<(), AllocErr
     match command {
         Command::Run => writeln!(text, "run"),
         Command::Change(edit) => push_edit(text, edit),
-        Command::Unknown(line) => writeln!(text, "unknown {line}"),
+        Command::Unknown(number, _) => writeln!(text, "unknown {number}"),
     }
 }
 

@@ -137,7 +137,7 @@ no_print app words x e h other = λ path line. elim (subst (λ ks. HasKind ks x)
 -- lines written out
 
 abbrev paths_alone : Request
-paths_alone = record { program = codes "p.ck"; tables = codes "t.toml"; workers = 1; kits = 64; trace = None; stats = false; explain = false }
+paths_alone = record { program = codes "p.ck"; tables = codes "t.toml"; workers = 1; kits = 64; trace = None; stats = false; explain = false; live = false; why = false }
 
 pub two_workers : IsLine (codes "cilkreport" ∷ codes "p.ck" ∷ codes "--workers" ∷ codes "2" ∷ codes "t.toml" ∷ []) (record paths_alone { workers = 2 })
 unfolding given HasForm clap_on_literals
@@ -155,11 +155,13 @@ two_workers =
       trace_is = refl;
       stats_are = refl;
       explain_is = refl;
+      live_is = refl;
+      why_is = refl;
     }
 
 pub one_worker : IsLine (codes "cilkreport" ∷ codes "p.ck" ∷ codes "t.toml" ∷ []) paths_alone
 unfolding given HasForm clap_on_literals
-one_worker = record { form = refl; program_is = refl; tables_are = refl; workers_are = refl; kits_are = refl; trace_is = refl; stats_are = refl; explain_is = refl }
+one_worker = record { form = refl; program_is = refl; tables_are = refl; workers_are = refl; kits_are = refl; trace_is = refl; stats_are = refl; explain_is = refl; live_is = refl; why_is = refl }
 
 pub eight_kits : IsLine (codes "cilkreport" ∷ codes "--kits" ∷ codes "8" ∷ codes "p.ck" ∷ codes "t.toml" ∷ []) (record paths_alone { kits = 8 })
 unfolding given HasForm clap_on_literals
@@ -177,16 +179,26 @@ eight_kits =
       trace_is = refl;
       stats_are = refl;
       explain_is = refl;
+      live_is = refl;
+      why_is = refl;
     }
 
 pub traced : IsLine (codes "cilkreport" ∷ codes "--stats" ∷ codes "p.ck" ∷ codes "t.toml" ∷ codes "--trace" ∷ codes "runs" ∷ [])
     (record paths_alone { trace = Some (codes "runs"); stats = true })
 unfolding given HasForm clap_on_literals
-traced = record { form = refl; program_is = refl; tables_are = refl; workers_are = refl; kits_are = refl; trace_is = refl; stats_are = refl; explain_is = refl }
+traced = record { form = refl; program_is = refl; tables_are = refl; workers_are = refl; kits_are = refl; trace_is = refl; stats_are = refl; explain_is = refl; live_is = refl; why_is = refl }
 
 pub explained : IsLine (codes "cilkreport" ∷ codes "p.ck" ∷ codes "--explain" ∷ codes "t.toml" ∷ []) (record paths_alone { explain = true })
 unfolding given HasForm clap_on_literals
-explained = record { form = refl; program_is = refl; tables_are = refl; workers_are = refl; kits_are = refl; trace_is = refl; stats_are = refl; explain_is = refl }
+explained = record { form = refl; program_is = refl; tables_are = refl; workers_are = refl; kits_are = refl; trace_is = refl; stats_are = refl; explain_is = refl; live_is = refl; why_is = refl }
+
+pub line_by_line : IsLine (codes "cilkreport" ∷ codes "--live" ∷ codes "p.ck" ∷ codes "t.toml" ∷ []) (record paths_alone { live = true })
+unfolding given HasForm clap_on_literals
+line_by_line = record { form = refl; program_is = refl; tables_are = refl; workers_are = refl; kits_are = refl; trace_is = refl; stats_are = refl; explain_is = refl; live_is = refl; why_is = refl }
+
+pub with_reasons : IsLine (codes "cilkreport" ∷ codes "p.ck" ∷ codes "--why" ∷ codes "t.toml" ∷ []) (record paths_alone { why = true })
+unfolding given HasForm clap_on_literals
+with_reasons = record { form = refl; program_is = refl; tables_are = refl; workers_are = refl; kits_are = refl; trace_is = refl; stats_are = refl; explain_is = refl; live_is = refl; why_is = refl }
 
 pub no_tables : HasForm (codes "cilkreport" ∷ codes "p.ck" ∷ []) → ⊥
 unfolding HasForm clap_on_literals

@@ -26,14 +26,19 @@ flag_rule name = record (new_rule name) { long = Some name; action = Some SetTru
 abbrev pub with_version : App → App
 with_version app = record app { top = record app.top { has_version = true } }
 
--- the form of a line: PROGRAM TABLES [--workers N] [--kits N] [--trace FILE] [--stats] [--explain]; help and the version may be asked for
+-- the program's name; help and the version may be asked for
 abbrev pub program_form : App
 program_form = with_version (new_app (codes "cilkreport"))
 
+-- the same without its flags
+abbrev pub values_form : App
+values_form =
+    with_rule (with_rule (with_rule (with_rule (with_rule program_form (path_rule (codes "program"))) (path_rule (codes "tables")))
+    (option_rule (codes "workers"))) (option_rule (codes "kits"))) (option_rule (codes "trace"))
+
+-- the form of a line: PROGRAM TABLES [--workers N] [--kits N] [--trace FILE] [--stats] [--explain] [--live] [--why]
 abbrev pub line_form : App
-line_form =
-    with_rule (with_rule (with_rule (with_rule (with_rule (with_rule (with_rule program_form (path_rule (codes "program"))) (path_rule (codes "tables")))
-    (option_rule (codes "workers"))) (option_rule (codes "kits"))) (option_rule (codes "trace"))) (flag_rule (codes "stats"))) (flag_rule (codes "explain"))
+line_form = with_rule (with_rule (with_rule (with_rule values_form (flag_rule (codes "stats"))) (flag_rule (codes "explain"))) (flag_rule (codes "live"))) (flag_rule (codes "why"))
 
 -- the form of a line that asks for a program's normal form: --print PROGRAM; help and the version may be asked for
 abbrev pub print_form : App
@@ -72,6 +77,8 @@ pub record Request : Type 0 where
   pub trace : Option (List ℕ)
   pub stats : Bool
   pub explain : Bool
+  pub live : Bool
+  pub why : Bool
 
 -- the words are a line that asks for this
 pub record IsLine (words : List (List ℕ)) (r : Request) : Type 0 where
@@ -83,6 +90,8 @@ pub record IsLine (words : List (List ℕ)) (r : Request) : Type 0 where
   pub trace_is : given (codes "trace") words ≡ r.trace
   pub stats_are : is_set (given (codes "stats") words) ≡ r.stats
   pub explain_is : is_set (given (codes "explain") words) ≡ r.explain
+  pub live_is : is_set (given (codes "live") words) ≡ r.live
+  pub why_is : is_set (given (codes "why") words) ≡ r.why
 
 abbrev pub request_of : Options → Request
 request_of o = record {
@@ -93,6 +102,8 @@ request_of o = record {
   trace = option_map (λ t. t.now) o.trace;
   stats = o.stats;
   explain = o.explain;
+  live = o.live;
+  why = o.why;
 }
 
 -- the words are the line of these options

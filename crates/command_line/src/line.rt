@@ -1,7 +1,7 @@
 // The words of the program's line.
 ghost use Rattle.std.specs.Prelude.{◌≡◌, ◌≤◌, ℕ, List, IfOk, IfErr, IfSome, IfNone, OnOk, false, map, option_map};
 ghost use Rattle.clap.specs.Words.{app_of, found_of, first_value, kind_of, rule_of};
-ghost use Rattle.command_line.specs.Line.{line_form, print_form, given, is_set, flag_rule, option_rule, path_rule, HasForm, AsksFor, IsAsked, IsLineOf, IsNoLine, IsNothing, IsPrintLine, IsNoPrintLine, IsRefusedFor, IsRefusalOf, IsWithin};
+ghost use Rattle.command_line.specs.Line.{line_form, values_form, print_form, given, is_set, flag_rule, option_rule, path_rule, HasForm, AsksFor, IsAsked, IsLineOf, IsNoLine, IsNothing, IsPrintLine, IsNoPrintLine, IsRefusedFor, IsRefusalOf, IsWithin};
 ghost use Rattle.command_line.specs.declared.options.OptionsError.TheVariants as refusal;
 
 use crate::options::{Asked, Options, OptionsError, VERSION};
@@ -80,6 +80,8 @@ pub fn options<'a>(alloc: Global, words: &'a [&'a str]) -> Result<Options<'a>, O
             trace: matches.get_str("trace"),
             stats: is_given(matches.get_str("stats")),
             explain: is_given(matches.get_str("explain")),
+            live: is_given(matches.get_str("live")),
+            why: is_given(matches.get_str("why")),
         }),
         _ => Err(OptionsError::Usage),
     }
@@ -118,15 +120,25 @@ fn refusal(error: Error) -> OptionsError
 fn form<'a>(alloc: Global) -> Result<Command<'a>, AllocError>
     ensures { IfOk result (λ command. app_of command ≡ line_form) }
 {
+    let command = form_of_values(alloc)?;
+    command
+        .arg(flag(alloc, "stats"))?
+        .arg(flag(alloc, "explain"))?
+        .arg(flag(alloc, "live"))?
+        .arg(flag(alloc, "why"))
+}
+
+// The form of the line without its flags.
+fn form_of_values<'a>(alloc: Global) -> Result<Command<'a>, AllocError>
+    ensures { IfOk result (λ command. app_of command ≡ values_form) }
+{
     Command::new(alloc, "cilkreport")
         .version(VERSION)
         .arg(path(alloc, "program"))?
         .arg(path(alloc, "tables"))?
         .arg(option(alloc, "workers"))?
         .arg(option(alloc, "kits"))?
-        .arg(option(alloc, "trace"))?
-        .arg(flag(alloc, "stats"))?
-        .arg(flag(alloc, "explain"))
+        .arg(option(alloc, "trace"))
 }
 
 // A path that each line has.

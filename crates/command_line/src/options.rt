@@ -14,6 +14,10 @@ pub struct Options<'a> {
     pub stats: bool,
     /// What of the script is refused, and each fault of a run, is explained on standard error.
     pub explain: bool,
+    /// Each command is done, and answered, as soon as it is read.
+    pub live: bool,
+    /// It is said on standard error what each run's memo instances come to, and why the first are executed.
+    pub why: bool,
 }
 
 /// What the program's line asks for: a session with these options, or the normal form of the program at a path.
@@ -40,7 +44,7 @@ pub enum OptionsError {
 pub const VERSION: &str = "0.1.0";
 
 const USAGE: &str =
-    "usage: cilkreport PROGRAM TABLES [--workers 1..16] [--kits 1..4096] [--trace FILE] [--stats] [--explain]
+    "usage: cilkreport PROGRAM TABLES [--workers 1..16] [--kits 1..4096] [--trace FILE] [--stats] [--explain] [--live] [--why]
        cilkreport --print PROGRAM";
 
 const HELP: &str = "  PROGRAM         the file of the report program
@@ -50,6 +54,8 @@ const HELP: &str = "  PROGRAM         the file of the report program
   --trace FILE    writes the history of each run to FILE, otherwise nowhere
   --stats         writes the counts of each run to standard error, otherwise nowhere
   --explain       explains each refused line of the script and each fault on standard error
+  --live          does each command and answers it as soon as it is read; on a terminal asks for lines and explains
+  --why           says after each run how often each memo procedure was executed, and why, on standard error
   --print PROGRAM writes the program in its normal form to standard output; there are no tables and no other options
   -h, --help      prints this text
   -V, --version   prints the program's version

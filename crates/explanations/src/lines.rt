@@ -1,18 +1,21 @@
 //! Why a line of a script is no command.
 
-use crate::programs::{line_at, push_shown, wrong_byte};
+use crate::programs::{push_line_shown, wrong_byte};
 use crate::rules::push_line;
 use std::alloc::AllocError;
 
-/// Puts a line of a script that is no command, and what is wrong with it, at the end of the text. Want of memory is the only error.
-pub fn push_unknown(text: &mut String, script: &[u8], line: u32) -> Result<(), AllocError> {
-    push_shown(text, script, line)?;
-    let words = line_at(script, line);
+/// Puts a line of a script that is no command, with its number, and what is wrong with it, at the end of the text. Want of memory is
+/// the only error.
+pub fn push_unknown(text: &mut String, words: &[u8], number: usize) -> Result<(), AllocError> {
+    push_line_shown(text, words, number)?;
     match wrong_byte(words) {
         Some(wrong) => push_line(text, wrong),
         None => push_line(text, wrong_with(words)),
     }
 }
+
+const HELP: &str =
+    "The commands are `run`, `put TABLE ROW V ..`, `del TABLE ROW`, and `define`, then procedures on lines of their own, then `end`.";
 
 // What is wrong with a line that has no wrong byte.
 fn wrong_with(words: &[u8]) -> &'static str {
@@ -28,6 +31,9 @@ fn wrong_with(words: &[u8]) -> &'static str {
     }
     if first == b"end".as_slice() {
         return "No `define` is open that this could end.";
+    }
+    if first == b"help".as_slice() {
+        return HELP;
     }
     if first != b"define".as_slice() {
         return "A line begins with `run`, `put`, `del` or `define`, in lower case; a comment begins with `#`.";

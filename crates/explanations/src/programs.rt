@@ -71,8 +71,16 @@ pub fn push_shown(text: &mut String, program: &[u8], line: u32) -> Result<(), Al
     if line == 0 {
         return Ok(());
     }
-    let words = line_at(program, line);
-    write!(text, "  {line} | ")?;
+    push_line_shown(text, line_at(program, line), line as usize)
+}
+
+/// The same of a line by itself, with its number.
+pub(crate) fn push_line_shown(
+    text: &mut String,
+    words: &[u8],
+    number: usize,
+) -> Result<(), AllocError> {
+    write!(text, "  {number} | ")?;
     for byte in words.iter().take(MOST_SHOWN) {
         let shown = if is_of_a_text(*byte) {
             *byte as char

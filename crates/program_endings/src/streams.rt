@@ -1,9 +1,9 @@
-// Reading a stream to its end, and writing to one.
-ghost use Rattle.std.specs.Prelude.{◌≡◌, ◌≢◌, ◌<◌, ◌≤◌, Err, false, true, length, take, IfOk, IfErr, OnOk, OnErr, IfSome, IfNone};
+// Reading a stream to its end or line by line, and writing to one.
+ghost use Rattle.std.specs.Prelude.{◌≡◌, ◌≢◌, ◌<◌, ◌≤◌, ◌++◌, ◌∷◌, [], All, Err, false, true, length, take, IfOk, IfErr, OnOk, OnErr, IfSome, IfNone};
 ghost use Rattle.std.specs.Io.KnownBytes.{Appends, Keeps, Consumes, IsAtEnd};
 ghost use Rattle.std.specs.IoError.{error_kind};
 ghost use Rattle.program_endings.specs.Endings.{IsReaderError, IsWriterError};
-ghost use Rattle.program_endings.specs.Written.{HasBeginning};
+ghost use Rattle.program_endings.specs.Written.{HasBeginning, IsNoEnd};
 
 use crate::session_error::SessionError;
 use std::alloc::Global;
@@ -47,8 +47,8 @@ impl Failures {
         (self.input, self.output)
     }
 
-    // Notes that the reader failed.
-    fn of_input(&mut self) -> SessionError
+    /// Notes that the reader failed, for who has read 2^64 - 1 times and seen no end.
+    pub fn of_input(&mut self) -> SessionError
         ensures error { result ≡ SessionError.Read }
         ensures noted { self.new.input ≡ true }
         ensures others { self.new.output ≡ self.old.output }
@@ -80,6 +80,7 @@ impl Failures {
             n ≡ 0 → 0 < length buffer.new → IsAtEnd (R.remaining reader.new))) }
         ensures interrupted { IfOk result (λ read.
             IfNone read (Keeps (R.remaining reader.old) (R.remaining reader.new))) }
+        ensures kept { OnErr result (Keeps (R.remaining reader.old) (R.remaining reader.new)) }
         ensures refused { IfErr result IsReaderError }
         ensures noted { result ≡ Err SessionError.Read → self.new.input ≡ true }
         ensures unmarked { result ≢ Err SessionError.Read → self.new ≡ self.old }
@@ -168,6 +169,44 @@ pub fn read_all<R: Read>(
             None => {}
             Some(0) => return Ok(script),
             Some(count) => script.extend_from_slice(&chunk[..count])?,
+        }
+    }
+    Err(failures.of_input())
+}
+
+/// Puts the next line of a reader in the place of what is in the buffer, without its end, and says whether it has one: the last
+/// line has none. Not a byte behind its end is read. Refused as by `read_all`; where a read fails, the buffer has what was read of
+/// the line.
+pub fn read_line<R: Read>(
+    reader: &mut R,
+    line: &mut Vec<u8>,
+    failures: &mut Failures,
+) -> Result<bool, SessionError>
+    ensures ended { IfOk result (λ ended. ended ≡ true → Consumes (R.remaining reader.old)
+        (R.remaining reader.new) (line.new.items ++ 10 ∷ [])) }
+    ensures last { IfOk result (λ ended. ended ≡ false
+        → Consumes (R.remaining reader.old) (R.remaining reader.new) line.new.items) }
+    ensures over { IfOk result (λ ended. ended ≡ false → IsAtEnd (R.remaining reader.new)) }
+    ensures failed { result ≡ Err SessionError.Read
+        → Consumes (R.remaining reader.old) (R.remaining reader.new) line.new.items }
+    ensures one { All IsNoEnd line.new.items }
+    ensures refused { IfErr result IsReaderError }
+    ensures noted { result ≡ Err SessionError.Read → failures.new.input ≡ true }
+    ensures unmarked { result ≢ Err SessionError.Read → failures.new ≡ failures.old }
+    ensures others { failures.new.output ≡ failures.old.output }
+{
+    line.clear();
+    let mut byte = [0];
+    for _ in 0..u64::MAX {
+        match failures.read(reader, &mut byte)? {
+            None => {}
+            Some(0) => return Ok(false),
+            Some(_) if byte[0] == b'\n' => return Ok(true),
+            Some(_) => {
+                if line.push(byte[0]).is_err() {
+                    return Err(SessionError::NoMemory);
+                }
+            }
         }
     }
     Err(failures.of_input())

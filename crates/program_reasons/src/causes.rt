@@ -37,9 +37,9 @@ pub fn explanation(
             push_edit_refusal(&mut text, error)?;
             push_under_edit(alloc, &mut text, edit, error, checked, tables)?;
         }
-        Cause::Line(script, line) => {
-            answers::push_unknown(&mut text, line)?;
-            push_unknown(&mut text, script, u32::try_from(line).unwrap_or(0))?;
+        Cause::Line(line, number) => {
+            answers::push_unknown(&mut text, number)?;
+            push_unknown(&mut text, line, number)?;
         }
         Cause::Fault(number, fault) => push_run(alloc, &mut text, number, *fault, checked, tables)?,
     }

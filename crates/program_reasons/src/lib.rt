@@ -2,6 +2,7 @@
 #![tactic(auto)]
 
 pub mod causes;
+mod reuse;
 pub mod script;
 
 use crate::causes::push_holder;

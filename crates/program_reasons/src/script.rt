@@ -1,10 +1,15 @@
-//! Explanations of what a session refuses, and of its runs' faults, on a stream.
+//! Explanations of what a session refuses, of its runs' faults and of what their memo instances come to, on a stream.
+
+ghost use Rattle.rerun_records.specs.Doubted.{IsInStep};
 
 use crate::causes::explanation;
-use cli::explained::{Cause, Explain};
+use crate::reuse::{outcome_text, reuse_text};
+use cli::explained::{Cause, Crew, Explain};
+use frames::answer::RunAnswer;
 use input_tables::Tables;
 use linked_program::checked::Checked;
 use program_endings::streams::{Failures, flush, write_whole};
+use rerun_records::records::Records;
 use std::alloc::Global;
 use std::io::Write;
 
@@ -13,12 +18,18 @@ use std::io::Write;
 pub struct Explainer<W: Write + Drop> {
     alloc: Global,
     to: W,
+    /// What the memo instances of the run come to that began last.
+    reuse: Option<String>,
 }
 
 impl<W: Write + Drop> Explainer<W> {
     /// Who explains to that stream.
     pub fn new(alloc: Global, to: W) -> Explainer<W> {
-        Explainer { alloc, to }
+        Explainer {
+            alloc,
+            to,
+            reuse: None,
+        }
     }
 
     // Writes a text, as far as the stream takes it.
@@ -34,6 +45,18 @@ impl<W: Write + Drop> Explain for Explainer<W> {
     fn explain(&mut self, cause: Cause<'_>, checked: &Checked, tables: &Tables) {
         if let Ok(text) = explanation(self.alloc, cause, checked, tables) {
             self.write(text.as_str());
+        }
+    }
+
+    fn begin(&mut self, crew: Crew, checked: &Checked, tables: &Tables, records: &Records) {
+        self.reuse = reuse_text(self.alloc, crew, checked, tables, records).ok();
+    }
+
+    fn end(&mut self, number: usize, answer: &RunAnswer) {
+        if let Some(reuse) = self.reuse.take() {
+            if let Ok(text) = outcome_text(self.alloc, number, reuse.as_str(), answer) {
+                self.write(text.as_str());
+            }
         }
     }
 }

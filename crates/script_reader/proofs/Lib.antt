@@ -1,3 +1,4 @@
+pub mod Beginnings
 pub mod Defines
 pub mod Digits
 pub mod Places

@@ -1,3 +1,4 @@
+pub mod Beginnings
 pub mod Commands
 pub mod Digits
 pub mod Lines

@@ -6,6 +6,6 @@ use session_edits::Edit;
 pub enum Command<'a> {
     Run,
     Change(Edit<'a>),
-    /// A line that is no command, by its number, counted from 1.
-    Unknown(usize),
+    /// A line that is no command: its number, counted from 1, and the line without its end.
+    Unknown(usize, &'a [u8]),
 }

@@ -14,10 +14,11 @@ use crate::words::{are_only, is_all_shown, is_comment, words};
 use session_edits::Edit;
 use std::alloc::{AllocError, Global};
 
-// The command of these words, on a line of this number; no words are none.
+// The command of these words, of this line with this number; no words are none.
 fn words_command<'a>(
     alloc: Global,
     number: usize,
+    line: &'a [u8],
     words: &[&'a [u8]],
 ) -> Result<Option<Command<'a>>, AllocError>
     requires { every (every is_shown) (bytes_of words.now) ≡ true }
@@ -31,16 +32,16 @@ fn words_command<'a>(
         return Ok(Some(Command::Run));
     }
     match edit(alloc, words)? {
-        None => Ok(Some(Command::Unknown(number))),
+        None => Ok(Some(Command::Unknown(number, line))),
         Some(edit) => Ok(Some(Command::Change(edit))),
     }
 }
 
-// The command of a line of this number, by its words; a comment and a line without words have none.
-fn line_command<'a>(
+/// The command of a line of this number, by its words; a comment and a line without words have none.
+pub(crate) fn line_command<'a>(
     alloc: Global,
     number: usize,
-    line: &[u8],
+    line: &'a [u8],
     words: &[&'a [u8]],
 ) -> Result<Option<Command<'a>>, AllocError>
     requires { bytes_of words.now ≡ words_of line.now }
@@ -50,9 +51,9 @@ fn line_command<'a>(
         return Ok(None);
     }
     if !is_all_shown(line) {
-        return Ok(Some(Command::Unknown(number)));
+        return Ok(Some(Command::Unknown(number, line)));
     }
-    words_command(alloc, number, words)
+    words_command(alloc, number, line, words)
 }
 
 // The line with the `end` of a define whose text begins at this line, if there is one.
@@ -89,11 +90,12 @@ fn define_at<'a>(
     ensures found { IfOk result (λ found.
         commands_at script.now (Some line) ≡ said found.0 ∷ commands_at script.now found.1) }
 {
+    let begun = &script[line.begin..line.end];
     let Some(first) = next_line(script, line) else {
-        return Ok((Command::Unknown(line.number), None));
+        return Ok((Command::Unknown(line.number, begun), None));
     };
     match end_of_define(alloc, script, first)? {
-        None => Ok((Command::Unknown(line.number), None)),
+        None => Ok((Command::Unknown(line.number, begun), None)),
         Some(end) => {
             let text = &script[first.begin..end.begin];
             Ok((Command::Change(Edit::Define(text)), next_line(script, end)))

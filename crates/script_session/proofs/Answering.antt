@@ -1,5 +1,5 @@
 -- The answers to commands, one after another.
-use Rattle.std.proofs.Common.{◌≡◌, ℕ, ◌+◌, ◌<◌, ◌≤◌, List, [], ◌++◌, map, drop, length, get_or, refl, ap, sym, subst, ◌∙◌, add-one, arith}
+use Rattle.std.proofs.Common.{◌≡◌, ℕ, ◌+◌, ◌<◌, ◌≤◌, List, ◌++◌, map, drop, length, get_or, refl, sym, subst, add-one, arith}
 use Rattle.std.proofs.Math.Seq.{drop-cons}
 use Rattle.meaning.specs.Script as script
 use Rattle.meaning.specs.Edits.{Standing}
@@ -17,18 +17,16 @@ pub answers_from-drop : (s : Standing) (runs k : ℕ) (items : List Command) (d 
 answers_from-drop s runs k items d h = rw (add-one k, drop-cons items k d h) refl
 
 -- one more answer, where `all` are those that are written and those that are left
-pub one_more_answer : (s t : Standing) (runs after k : ℕ) (items : List Command) (command : Command) (done all cleared text shown : List ℕ)
+pub one_more_answer : (s t : Standing) (runs after k : ℕ) (items : List Command) (command : Command) (done all : List ℕ)
     → k < length items → command ≡ get_or items k command
-    → cleared ≡ [] → text ≡ cleared ++ answer_text s runs (said command) → shown ≡ text
     → t ≡ standing_after s (said command) → after ≡ runs_after runs (said command)
     → done ++ answers_from s runs (map said (drop k items)) ≡ all
-    → done ++ (shown ++ answers_from t after (map said (drop (k + 1) items))) ≡ all
-one_more_answer s t runs after k items command done all cleared text shown h at empty is shows left counted before =
-    let plain : shown ≡ answer_text s runs (said command) = shows ∙ is ∙ ap (λ xs. xs ++ answer_text s runs (said command)) empty in
+    → done ++ (answer_text s runs (said command) ++ answers_from t after (map said (drop (k + 1) items))) ≡ all
+one_more_answer s t runs after k items command done all h at left counted before =
     let own : answers_from s runs (map said (drop k items)) ≡ answer_text s runs (said command) ++ answers_from (standing_after s (said command)) (runs_after runs (said command)) (map said (drop (k + 1) items)) =
     subst (λ (x : Command). answers_from s runs (map said (drop k items)) ≡ answer_text s runs (said x) ++ answers_from (standing_after s (said x)) (runs_after runs (said x)) (map said (drop (k + 1) items))) (sym at)
     (answers_from-drop s runs k items command h) in
-    rw (plain, left, counted) (subst (λ xs. done ++ xs ≡ all) own before)
+    rw (left, counted) (subst (λ xs. done ++ xs ≡ all) own before)
 
 -- the answers of a session whose tables nothing was edited of
 pub first_written : (s : PlainSession) → s.tables.edits ≡ 0 → (P : List ℕ → Type 0) (script : List ℕ) → P (answers_of s script)

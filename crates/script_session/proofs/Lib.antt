@@ -1,2 +1,3 @@
 pub mod Answering
+pub mod Coming
 pub mod Errors

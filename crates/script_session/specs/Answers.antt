@@ -1,5 +1,5 @@
 -- The text of the answers to a script.
-use Rattle.std.specs.Prelude.{ℕ, true, List}
+use Rattle.std.specs.Prelude.{ℕ, List}
 use Rattle.meaning.specs.Tables.{Tables}
 use Rattle.meaning.specs.Statements.{reducers}
 use Rattle.meaning.specs.Elision.{from_scratch}

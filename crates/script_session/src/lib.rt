@@ -1,4 +1,5 @@
 //! A session's script and its answers, from a reader to a writer.
 #![tactic(auto)]
 
+pub mod live;
 pub mod session;

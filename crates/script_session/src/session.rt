@@ -1,5 +1,5 @@
 // The answers to a session's script, from a reader to a writer.
-ghost use Rattle.std.specs.Prelude.{◌≡◌, ◌≢◌, ◌+◌, ◌<◌, ◌≤◌, ◌^◌, [], true, Err, length, IfOk, IfErr, OnOk, OnErr};
+ghost use Rattle.std.specs.Prelude.{◌≡◌, ◌≢◌, ◌⊎◌, ◌+◌, ◌<◌, ◌≤◌, ◌^◌, [], true, Err, length, IfOk, IfErr, OnOk, OnErr};
 ghost use Rattle.std.specs.Io.KnownBytes.{Appends, Keeps, IsAtEnd};
 ghost use Rattle.meaning.specs.Text.{edit_text, runs_after};
 ghost use Rattle.session_edits.specs.Said as edits;
@@ -9,7 +9,7 @@ ghost use Rattle.kept_session.specs.Applied.{edited};
 ghost use Rattle.trace_report.specs.Outcomes.{Extends};
 ghost use Rattle.script_session.specs.Answers.{answer_text, answers_of, left_by_edit, run_answer, standing_after};
 ghost use Rattle.run_terms.specs.Come.{HasCome, HasEnded};
-ghost use Rattle.program_endings.specs.Endings.{CarriesRefusal, IsAnswerError, IsRunError};
+ghost use Rattle.program_endings.specs.Endings.{CarriesRefusal, IsAnswerError, IsRunError, IsWriterError};
 ghost use Rattle.program_endings.specs.Written.{HasBeginning, WritesAll, WritesBeginning};
 
 use frames::answer::RunAnswer;
@@ -123,18 +123,56 @@ fn answer_script<V: View, N: Notes, W: Write>(
         Err(_) => return Err(SessionError::NoMemory),
     };
     let mut runs = 0;
-    let mut text = String::new(alloc);
     for command in commands.iter() {
-        text.clear();
-        runs = answer(
-            rt, alloc, session, workers, notes, gate, script, runs, command, &mut text,
+        runs = answer_written(
+            rt, alloc, session, workers, notes, gate, runs, command, writer, failures,
         )?;
-        write_whole(writer, text.as_bytes(), failures)?;
     }
     Ok(())
 }
 
-// Puts the answer to a command of a script, after so many runs, at the end of the text, and gives the number of runs after it.
+/// Writes the answer to a command, after so many runs, and gives the number of runs after it.
+pub(crate) fn answer_written<V: View, N: Notes, W: Write>(
+    rt: &(impl Threads + Wait + Sync),
+    alloc: Global,
+    session: &mut Session<V>,
+    workers: usize,
+    notes: &mut N,
+    gate: &impl Gate,
+    runs: usize,
+    command: &Command<'_>,
+    writer: &mut W,
+    failures: &mut Failures,
+) -> Result<usize, SessionError>
+    requires few { runs + 1 < 2 ^ 64 }
+    requires workers { (0 < workers) × (workers ≤ 16) }
+    ensures written { OnOk result (Appends (W.contents writer.old) (W.contents writer.new)
+        (answer_text (standing_of session.old) runs (said command.now))) }
+    ensures beginning { HasBeginning (W.contents writer.old) (W.contents writer.new)
+        (answer_text (standing_of session.old) runs (said command.now)) }
+    ensures after { OnOk result (standing_of session.new
+        ≡ standing_after (standing_of session.old) (said command.now)) }
+    ensures runs { IfOk result (λ n. n ≡ runs_after runs (said command.now)) }
+    ensures refused { IfErr result (λ e. IsAnswerError e ⊎ IsWriterError e) }
+    ensures mismatch { IfErr result CarriesRefusal }
+    ensures no_kit { result ≡ Err SessionError.NoKit → session.old.kits.kits ≡ [] }
+    ensures free { OnOk result (length session.new.kits.kits ≡ length session.old.kits.kits) }
+    ensures output { result ≡ Err SessionError.Write → failures.new.output ≡ true }
+    ensures unmarked { result ≢ Err SessionError.Write → failures.new ≡ failures.old }
+    ensures input { failures.new.input ≡ failures.old.input }
+    ensures notes { result ≡ Err SessionError.Notes → N.failed notes.new ≡ true }
+    ensures notes_stay { result ≢ Err SessionError.Notes
+        → N.failed notes.new ≡ N.failed notes.old }
+{
+    let mut text = String::new(alloc);
+    let runs = answer(
+        rt, alloc, session, workers, notes, gate, runs, command, &mut text,
+    )?;
+    write_whole(writer, text.as_bytes(), failures)?;
+    Ok(runs)
+}
+
+// Puts the answer to a command, after so many runs, at the end of the text, and gives the number of runs after it.
 fn answer<V: View, N: Notes>(
     rt: &(impl Threads + Wait + Sync),
     alloc: Global,
@@ -142,7 +180,6 @@ fn answer<V: View, N: Notes>(
     workers: usize,
     notes: &mut N,
     gate: &impl Gate,
-    script: &[u8],
     runs: usize,
     command: &Command<'_>,
     text: &mut String,
@@ -163,10 +200,10 @@ fn answer<V: View, N: Notes>(
         → N.failed notes.new ≡ N.failed notes.old }
 {
     match command {
-        Command::Unknown(line) => {
-            push_unknown(text, *line)?;
+        Command::Unknown(number, line) => {
+            push_unknown(text, *number)?;
             notes.explain(
-                Cause::Line(script, *line),
+                Cause::Line(*line, *number),
                 session.checked(),
                 session.tables(),
             );
@@ -210,7 +247,7 @@ fn change<V: View, N: Notes>(
     }
 }
 
-// Runs once, puts the line of the run of that number and what it came to at the end of the text, and tells the notes of it.
+// Runs once, puts the line of the run of that number and what it came to at the end of the text, and tells the notes of it, before and after.
 fn run_once<V: View, N: Notes>(
     rt: &(impl Threads + Wait + Sync),
     alloc: Global,
@@ -233,6 +270,8 @@ fn run_once<V: View, N: Notes>(
     ensures notes_stay { result ≢ Err SessionError.Notes
         → N.failed notes.new ≡ N.failed notes.old }
 {
+    session.kept();
+    notes.begin(session.checked(), session.tables(), session.records());
     let (answer, history) = run_threads(rt, alloc, session, workers, gate)?;
     ended(&answer)?;
     let shown = answer_text(alloc, number, session.checked(), &answer)?;

@@ -65,7 +65,7 @@ impl Answers {
     ) -> Result<(), AllocError> {
         let mut next = 0;
         for line in script {
-            if let Line::Unknown(number) = line {
+            if let Line::Unknown(number, _) = line {
                 push_unknown(&mut self.lines, *number)?;
             } else if next < answers.len() {
                 self.note(alloc, program, &answers[next])?;
@@ -93,7 +93,7 @@ pub fn steps_alone(alloc: Global) -> Result<Vec<Step>, AllocError> {
 /// What a line of a script asks of a session; one that is no command asks for nothing.
 fn session_command<'a>(alloc: Global, line: Line<'a>) -> Result<Option<Command<'a>>, AllocError> {
     Ok(match line {
-        Line::Unknown(_) => None,
+        Line::Unknown(..) => None,
         Line::Change(edit) => Some(Command::Edit(edit)),
         Line::Run => Some(Command::Run {
             workers: 1,

@@ -1,12 +1,14 @@
 // Who is told of a session's runs.
 ghost use Rattle.std.specs.Prelude.{◌≡◌, Bool, true, false};
 ghost use Rattle.run_terms.specs.Come.{HasEnded};
+ghost use Rattle.rerun_records.specs.Doubted.{IsInStep};
 
 use crate::explained::Cause;
 use frames::answer::RunAnswer;
 use input_tables::Tables;
 use linked_program::checked::Checked;
 use numbered_runs::step::BookStep;
+use rerun_records::records::Records;
 
 /// Who is told of each run that came to a result or a fault, and of what is refused.
 pub trait Notes {
@@ -25,6 +27,12 @@ pub trait Notes {
         requires ended { HasEnded answer.now }
         ensures failed { result ≡ false → failed self.new ≡ true }
         ensures unmarked { result ≡ true → failed self.new ≡ failed self.old };
+
+    /// Tells that a run begins, with the program, the tables and the records as they are then. That it isn't noted is no failure.
+    fn begin(&mut self, _checked: &Checked, _tables: &Tables, _records: &Records)
+        requires in_step { IsInStep _tables.now.tables _records.now }
+        ensures kept { failed self.new ≡ failed self.old }
+    {}
 
     /// Tells of an edit or a line that is refused, or of a run's fault, with the program and the tables as they are then.
     /// That it isn't explained is no failure.

@@ -3,6 +3,7 @@ use Rattle.std.proofs.lemmas.Result.{err_from_is_err_and}
 use Rattle.std.specs.Io.KnownBytes.{Appends}
 use Rattle.program_endings.specs.Written.{HasBeginning}
 use Rattle.script_session.proofs.Answering.{first_written}
+use Rattle.script_session.proofs.Coming.{first_read}
 use Rattle.cli.proofs.Opening.{unmade_unopened, late_unopened, late_read}
 use Rattle.cli.proofs.program.report_on.Goals as goal
 
@@ -18,7 +19,7 @@ returns-in-Ok-clause-answered g c program tables script p t s =
       session.checked,
       session.tables.tables,
       opened.1,
-      first_written session c.in_ok-session.ensures.unedited (Appends (g.W.Write.contents c.args.writer.now) (g.W.Write.contents c.session_text.new.writer)) script wrote,
+      first_written session c.in_ok-session.ensures.unedited (Appends (g.W.Write.contents c.args.writer.now) (g.W.Write.contents c.answered.new.writer)) script wrote,
     )
 
 pub returns-in-Ok-clause-beginning : goal.returns-in-Ok-clause-beginning
@@ -30,7 +31,7 @@ returns-in-Ok-clause-beginning g c program tables script p t s =
       session.checked,
       session.tables.tables,
       opened.1,
-      first_written session c.in_ok-session.ensures.unedited (HasBeginning (g.W.Write.contents c.args.writer.now) (g.W.Write.contents c.session_text.new.writer)) script wrote,
+      first_written session c.in_ok-session.ensures.unedited (HasBeginning (g.W.Write.contents c.args.writer.now) (g.W.Write.contents c.answered.new.writer)) script wrote,
     )
 
 pub returns-clause-beginning : goal.returns-clause-beginning
@@ -42,7 +43,7 @@ returns-clause-beginning g c program tables script p t s =
       session.checked,
       session.tables.tables,
       opened.1,
-      first_written session c.in_ok-session.ensures.unedited (HasBeginning (g.W.Write.contents c.args.writer.now) (g.W.Write.contents c.session_text.new.writer)) script wrote,
+      first_written session c.in_ok-session.ensures.unedited (HasBeginning (g.W.Write.contents c.args.writer.now) (g.W.Write.contents c.answered.new.writer)) script wrote,
     )
 
 pub returns-in_err-notes-clause-unopened : goal.returns-in_err-notes-clause-unopened
@@ -57,3 +58,13 @@ returns-clause-unopened g c =
 
 pub returns-clause-unread : goal.returns-clause-unread
 returns-clause-unread g c h = absurd (late_read _ c.ended_by.result c.ended_by.ensures.named h)
+
+pub returns-clause-read : goal.returns-clause-read
+returns-clause-read g c live is program tables p t =
+    let session = c.in_ok-session.session in
+    let opened = c.in_ok-session.ensures.opened program tables p t in (
+      session.checked,
+      session.tables.tables,
+      opened.1,
+      first_read session c.in_ok-session.ensures.unedited _ _ _ _ (c.in-Err.ensures.read live (let e = c.ended_by.ensures.input.0 cc in cc)),
+    )

@@ -1,4 +1,4 @@
-use Rattle.std.proofs.Common.{◌∙◌, sym}
+use Rattle.std.proofs.Common.{◌∙◌}
 use Rattle.command_line.proofs.Lines.{no_path, no_print, path_found}
 use Rattle.command_line.proofs.line.printed_path.Goals as goal
 

@@ -1,39 +1,35 @@
-use Rattle.std.proofs.Common.{◌∙◌, ap, map, subst, append_assoc}
+use Rattle.std.proofs.Common.{◌∙◌, [], ap, map, refl, subst, append_assoc, arith}
 use Rattle.std.proofs.lemmas.Result.{err_from_is_err_and}
 use Rattle.script_reader.specs.Said.{said}
 use Rattle.kept_session.specs.Sessions.{standing_of}
 use Rattle.script_session.specs.Answers.{answers_from}
 use Rattle.program_endings.specs.Written.{HasBeginning}
 use Rattle.script_session.proofs.Answering.{one_more_answer, runs_after-le}
-use Rattle.script_session.proofs.Errors.{handed_on, answer_not_read, writer_not_read}
-use Rattle.program_endings.proofs.Written.{Appends-more, beginning_of, beginning_after}
+use Rattle.script_session.proofs.Errors.{handed_on, written_not_read}
+use Rattle.program_endings.proofs.Written.{Appends-more, Appends-nothing, beginning_of, beginning_after}
 use Rattle.script_session.proofs.session.answer_script.Goals as goal
 
 pub returns-in_err-runs-clause-beginning : goal.returns-in_err-runs-clause-beginning
 returns-in_err-runs-clause-beginning g c =
     let w = c.loop-command.invariant.written in
     let all = ap (map said) c.deref-command-items.ensures.value ∙ c.in-Ok.ensures in
-    subst (λ cs. HasBeginning (g.W.Write.contents c.args.writer.now) (g.W.Write.contents c.loop-command.writer) (answers_from (standing_of c.args.session.now) 0 cs)) all
-    (beginning_of _ _ w.0 _ _ w.1 w.2)
+    let next = one_more_answer (standing_of c.loop-command.session) _ c.loop-command.runs _ c.loop-command.command-index c.deref-command-items.result.now c.command-item.result w.0 _ c.loop-command-test.true c.command-item.is refl refl w.2 in
+    subst (λ cs. HasBeginning (g.W.Write.contents c.args.writer.now) (g.W.Write.contents c.answer_written.new.writer) (answers_from (standing_of c.args.session.now) 0 cs)) all
+    (beginning_after _ _ _ w.0 _ _ _ w.1 c.in_err-runs.ensures.beginning next)
 
-pub returns-in_err-write_whole-clause-beginning : goal.returns-in_err-write_whole-clause-beginning
-returns-in_err-write_whole-clause-beginning g c =
-    let w = c.loop-command.invariant.written in
-    let all = ap (map said) c.deref-command-items.ensures.value ∙ c.in-Ok.ensures in
-    let next = one_more_answer (standing_of c.loop-command.session) (standing_of c.answer.new.session) c.loop-command.runs c.in_ok-runs.runs c.loop-command.command-index c.deref-command-items.result.now c.command-item.result w.0 _ _ _ _ c.loop-command-test.true c.command-item.is c.clear.ensures.bytes c.in_ok-runs.ensures.answered c.as_bytes.ensures.value c.in_ok-runs.ensures.after c.in_ok-runs.ensures.runs w.2 in
-    subst (λ cs. HasBeginning (g.W.Write.contents c.args.writer.now) (g.W.Write.contents c.write_whole.new.writer) (answers_from (standing_of c.args.session.now) 0 cs)) all
-    (beginning_after _ _ _ w.0 _ _ _ w.1 c.in_err-write_whole.ensures.beginning next)
+pub loop-command-init : goal.loop-command-init
+loop-command-init g c = record { free = refl; few = omega arith; unmarked = refl; noted = refl; written = ([], Appends-nothing _, refl) }
 
 pub loop-command-preserved : goal.loop-command-preserved
 loop-command-preserved g c =
     let w = c.loop-command.invariant.written in
-    let next = one_more_answer (standing_of c.loop-command.session) (standing_of c.answer.new.session) c.loop-command.runs c.in_ok-runs.runs c.loop-command.command-index c.deref-command-items.result.now c.command-item.result w.0 _ _ _ _ c.loop-command-test.true c.command-item.is c.clear.ensures.bytes c.in_ok-runs.ensures.answered c.as_bytes.ensures.value c.in_ok-runs.ensures.after c.in_ok-runs.ensures.runs w.2 in
+    let next = one_more_answer (standing_of c.loop-command.session) (standing_of c.answer_written.new.session) c.loop-command.runs c.in_ok-runs.runs c.loop-command.command-index c.deref-command-items.result.now c.command-item.result w.0 _ c.loop-command-test.true c.command-item.is c.in_ok-runs.ensures.after c.in_ok-runs.ensures.runs w.2 in
     record {
       free = c.in_ok-runs.ensures.free ∙ c.loop-command.invariant.free;
       few = runs_after-le _ _ _ _ c.in_ok-runs.ensures.runs c.loop-command.invariant.few;
-      unmarked = c.in_ok-write_whole.ensures.unmarked (λ e. cc) ∙ c.loop-command.invariant.unmarked;
+      unmarked = c.in_ok-runs.ensures.unmarked (λ e. cc) ∙ c.loop-command.invariant.unmarked;
       noted = c.in_ok-runs.ensures.notes_stay (λ e. cc) ∙ c.loop-command.invariant.noted;
-      written = (_, Appends-more _ _ _ w.0 _ w.1 c.in_ok-write_whole.ensures.written, rw append_assoc next);
+      written = (_, Appends-more _ _ _ w.0 _ w.1 c.in_ok-runs.ensures.written, rw append_assoc next);
     }
 
 pub returns-clause-beginning : goal.returns-clause-beginning
@@ -46,7 +42,7 @@ returns-clause-beginning g c =
 pub returns-in_err-runs-clause-read : goal.returns-in_err-runs-clause-read
 returns-in_err-runs-clause-read g c =
     let p = err_from_is_err_and c.from_residual.result c.from_residual.ensures.1 in
-    handed_on c.from_residual.result c.in_err-runs.field-0.0 p.0 p.1 p.2 (answer_not_read c.in_err-runs.field-0.0 c.in_err-runs.ensures.refused)
+    handed_on c.from_residual.result c.in_err-runs.field-0.0 p.0 p.1 p.2 (written_not_read c.in_err-runs.field-0.0 c.in_err-runs.ensures.refused)
 
 pub returns-in_err-runs-clause-notes_stay : goal.returns-in_err-runs-clause-notes_stay
 returns-in_err-runs-clause-notes_stay g c h =
@@ -54,8 +50,3 @@ returns-in_err-runs-clause-notes_stay g c h =
     let is = p.1 in
     let same = p.2 in
     c.in_err-runs.ensures.notes_stay (λ e. h cc) ∙ c.loop-command.invariant.noted
-
-pub returns-in_err-write_whole-clause-read : goal.returns-in_err-write_whole-clause-read
-returns-in_err-write_whole-clause-read g c =
-    let p = err_from_is_err_and c.from_residual-in_err-write_whole.result c.from_residual-in_err-write_whole.ensures.1 in
-    handed_on c.from_residual-in_err-write_whole.result c.in_err-write_whole.field-0.0 p.0 p.1 p.2 (writer_not_read c.in_err-write_whole.field-0.0 c.in_err-write_whole.ensures.refused)

@@ -1,5 +1,0 @@
-use Rattle.std.proofs.Common.{◌≡◌, ◌++◌, map, drop}
-use Rattle.cli.proofs.kits.kit.Given as goal
-
-abbrev pub invariant-loop-kind : goal.invariant-loop-kind
-invariant-loop-kind g l = map g.V.View.kind_of l.views.items ++ drop l.kind-index l.kinds ≡ l.kinds

@@ -1,6 +1,0 @@
-use Rattle.std.proofs.Common.{◌∙◌, sym}
-use Rattle.cli.proofs.SameKind.{same_kind}
-use Rattle.cli.proofs.kits.view.Goals as goal
-
-pub returns-then-eq : goal.returns-then-eq
-returns-then-eq g c = let same = same_kind c.kind.result c.args.kind (sym c.eq.ensures ∙ c.if-eq.true) in sym c.kind.ensures ∙ same

@@ -1,0 +1,238 @@
+// The answers to a session's script as its lines come.
+ghost use Rattle.std.specs.Prelude.{◌≡◌, ◌≢◌, ◌+◌, ◌<◌, ◌≤◌, ◌^◌, [], true, Err, length, IfOk, IfErr, OnOk, OnErr};
+ghost use Rattle.std.specs.Io.KnownBytes.{Appends, IsAtEnd};
+ghost use Rattle.meaning.specs.Text.{runs_after};
+ghost use Rattle.script_reader.specs.Beginnings.{command_by, command_left, with_line};
+ghost use Rattle.script_reader.specs.Said.{said};
+ghost use Rattle.kept_session.specs.Sessions.{standing_of};
+ghost use Rattle.script_session.specs.Answers.{answer_text, answers_of, standing_after};
+ghost use Rattle.script_session.specs.Coming.{answer_to, runs_behind, session_so_far, standing_behind};
+ghost use Rattle.program_endings.specs.Endings.{CarriesRefusal};
+ghost use Rattle.program_endings.specs.Written.{HasBeginning, WritesAll, WritesBeginning, WritesRead};
+
+use crate::session::answer_written;
+use kept_session::Session;
+use program_endings::session_error::SessionError;
+use program_endings::streams::{Failures, flush, read_line};
+use script_reader::command::Command;
+use script_reader::open_script::{Found, OpenScript};
+use session_edits::Edit;
+use session_notes::notes::Notes;
+use std::alloc::Global;
+use std::io::{Read, Write};
+use std::sync::Wait;
+use std::thread::Threads;
+use threaded_driver::Gate;
+use view_pool::View;
+
+/// Answers the script that a reader has as its lines come: each command is done as soon as its last line is read, and its answer
+/// is written and flushed before a byte of the next line is read. What is answered, by whom it is noted, and what ends it early is
+/// as of `session_text`, but for two things: after a failed read the answers to the commands that came whole are written, and
+/// 2^64 - 2 lines without an end count as a failed read. Of lines that are done nothing is kept.
+pub fn live_text<V: View, N: Notes, R: Read, W: Write>(
+    rt: &(impl Threads + Wait + Sync),
+    alloc: Global,
+    session: Session<V>,
+    workers: usize,
+    notes: &mut N,
+    gate: &impl Gate,
+    reader: &mut R,
+    writer: &mut W,
+    failures: &mut Failures,
+) -> Result<(), SessionError>
+    requires workers { (0 < workers) × (workers ≤ 16) }
+    ensures answered { OnOk result (WritesAll (answers_of session)
+        (R.remaining reader.old) (W.contents writer.old) (W.contents writer.new)) }
+    ensures over { OnOk result (IsAtEnd (R.remaining reader.new)) }
+    ensures read { result ≡ Err SessionError.Read
+        → WritesRead (session_so_far session) (R.remaining reader.old) (R.remaining reader.new)
+        (W.contents writer.old) (W.contents writer.new) }
+    ensures beginning { WritesBeginning (answers_of session)
+        (R.remaining reader.old) (W.contents writer.old) (W.contents writer.new) }
+    ensures no_kit { result ≡ Err SessionError.NoKit → session.kits.kits ≡ [] }
+    ensures mismatch { IfErr result CarriesRefusal }
+    ensures input { result ≡ Err SessionError.Read → failures.new.input ≡ true }
+    ensures output { result ≡ Err SessionError.Write → failures.new.output ≡ true }
+    ensures unmarked { OnOk result (failures.new ≡ failures.old) }
+    ensures input_stays { result ≢ Err SessionError.Read
+        → failures.new.input ≡ failures.old.input }
+    ensures output_unread { result ≡ Err SessionError.Read
+        → failures.new.output ≡ failures.old.output }
+    ensures output_stays { failures.old.output ≡ true → failures.new.output ≡ true }
+    ensures notes { result ≡ Err SessionError.Notes → N.failed notes.new ≡ true }
+    ensures notes_stay { result ≢ Err SessionError.Notes
+        → N.failed notes.new ≡ N.failed notes.old }
+{
+    let mut session = session;
+    let mut script = OpenScript::new(alloc);
+    let mut line = Vec::new(alloc);
+    let mut runs = 0;
+    for _ in 0..u64::MAX - 1 {
+        let ended = read_line(reader, &mut line, failures)?;
+        runs = answer_line(
+            rt,
+            alloc,
+            &mut session,
+            workers,
+            notes,
+            gate,
+            &mut script,
+            runs,
+            line.as_slice(),
+            writer,
+            failures,
+        )?;
+        if !ended {
+            return answer_rest(
+                rt,
+                alloc,
+                &mut session,
+                workers,
+                notes,
+                gate,
+                &script,
+                runs,
+                writer,
+                failures,
+            );
+        }
+    }
+    Err(failures.of_input())
+}
+
+/// Answers the command that the next line of a script ends, if it ends one, after so many runs: its answer is written and flushed.
+/// Gives the number of runs after it. It ends as `session_text` where it can't be answered, and the script is lost then.
+pub fn answer_line<V: View, N: Notes, W: Write>(
+    rt: &(impl Threads + Wait + Sync),
+    alloc: Global,
+    session: &mut Session<V>,
+    workers: usize,
+    notes: &mut N,
+    gate: &impl Gate,
+    script: &mut OpenScript,
+    runs: usize,
+    line: &[u8],
+    writer: &mut W,
+    failures: &mut Failures,
+) -> Result<usize, SessionError>
+    requires room { script.old.passed + 1 < 2 ^ 64 }
+    requires few { runs + 1 < 2 ^ 64 }
+    requires workers { (0 < workers) × (workers ≤ 16) }
+    ensures written { OnOk result (Appends (W.contents writer.old) (W.contents writer.new)
+        (answer_to (standing_of session.old) runs (command_by script.old line.now))) }
+    ensures beginning { HasBeginning (W.contents writer.old) (W.contents writer.new)
+        (answer_to (standing_of session.old) runs (command_by script.old line.now)) }
+    ensures after { OnOk result (standing_of session.new
+        ≡ standing_behind (standing_of session.old) (command_by script.old line.now)) }
+    ensures runs { IfOk result (λ n. n ≡ runs_behind runs (command_by script.old line.now)) }
+    ensures taken { OnOk result (script.new ≡ with_line script.old line.now) }
+    ensures read { OnErr result (result ≢ Err SessionError.Read) }
+    ensures mismatch { IfErr result CarriesRefusal }
+    ensures no_kit { result ≡ Err SessionError.NoKit → session.old.kits.kits ≡ [] }
+    ensures free { OnOk result (length session.new.kits.kits ≡ length session.old.kits.kits) }
+    ensures output { result ≡ Err SessionError.Write → failures.new.output ≡ true }
+    ensures unmarked { OnOk result (failures.new ≡ failures.old) }
+    ensures input { failures.new.input ≡ failures.old.input }
+    ensures output_stays { failures.old.output ≡ true → failures.new.output ≡ true }
+    ensures notes { result ≡ Err SessionError.Notes → N.failed notes.new ≡ true }
+    ensures notes_stay { result ≢ Err SessionError.Notes
+        → N.failed notes.new ≡ N.failed notes.old }
+{
+    match script.take_line(line) {
+        Err(_) => Err(SessionError::NoMemory),
+        Ok(Found::Nothing) => Ok(runs),
+        Ok(Found::Command(command)) => answer_now(
+            rt, alloc, session, workers, notes, gate, runs, &command, writer, failures,
+        ),
+        Ok(Found::Define(text)) => {
+            let command = Command::Change(Edit::Define(text.as_slice()));
+            answer_now(
+                rt, alloc, session, workers, notes, gate, runs, &command, writer, failures,
+            )
+        }
+    }
+}
+
+// Answers the command that is left where no line comes any more, if there is one.
+fn answer_rest<V: View, N: Notes, W: Write>(
+    rt: &(impl Threads + Wait + Sync),
+    alloc: Global,
+    session: &mut Session<V>,
+    workers: usize,
+    notes: &mut N,
+    gate: &impl Gate,
+    script: &OpenScript,
+    runs: usize,
+    writer: &mut W,
+    failures: &mut Failures,
+) -> Result<(), SessionError>
+    requires few { runs + 1 < 2 ^ 64 }
+    requires workers { (0 < workers) × (workers ≤ 16) }
+    ensures written { OnOk result (Appends (W.contents writer.old) (W.contents writer.new)
+        (answer_to (standing_of session.old) runs (command_left script.now))) }
+    ensures beginning { HasBeginning (W.contents writer.old) (W.contents writer.new)
+        (answer_to (standing_of session.old) runs (command_left script.now)) }
+    ensures read { OnErr result (result ≢ Err SessionError.Read) }
+    ensures mismatch { IfErr result CarriesRefusal }
+    ensures no_kit { result ≡ Err SessionError.NoKit → session.old.kits.kits ≡ [] }
+    ensures output { result ≡ Err SessionError.Write → failures.new.output ≡ true }
+    ensures unmarked { OnOk result (failures.new ≡ failures.old) }
+    ensures input { failures.new.input ≡ failures.old.input }
+    ensures output_stays { failures.old.output ≡ true → failures.new.output ≡ true }
+    ensures notes { result ≡ Err SessionError.Notes → N.failed notes.new ≡ true }
+    ensures notes_stay { result ≢ Err SessionError.Notes
+        → N.failed notes.new ≡ N.failed notes.old }
+{
+    match script.rest() {
+        None => Ok(()),
+        Some(command) => match answer_now(
+            rt, alloc, session, workers, notes, gate, runs, &command, writer, failures,
+        ) {
+            Ok(_) => Ok(()),
+            Err(error) => Err(error),
+        },
+    }
+}
+
+// Writes the answer to a command after so many runs, flushes it, and gives the number of runs after it.
+fn answer_now<V: View, N: Notes, W: Write>(
+    rt: &(impl Threads + Wait + Sync),
+    alloc: Global,
+    session: &mut Session<V>,
+    workers: usize,
+    notes: &mut N,
+    gate: &impl Gate,
+    runs: usize,
+    command: &Command<'_>,
+    writer: &mut W,
+    failures: &mut Failures,
+) -> Result<usize, SessionError>
+    requires few { runs + 1 < 2 ^ 64 }
+    requires workers { (0 < workers) × (workers ≤ 16) }
+    ensures written { OnOk result (Appends (W.contents writer.old) (W.contents writer.new)
+        (answer_text (standing_of session.old) runs (said command.now))) }
+    ensures beginning { HasBeginning (W.contents writer.old) (W.contents writer.new)
+        (answer_text (standing_of session.old) runs (said command.now)) }
+    ensures after { OnOk result (standing_of session.new
+        ≡ standing_after (standing_of session.old) (said command.now)) }
+    ensures runs { IfOk result (λ n. n ≡ runs_after runs (said command.now)) }
+    ensures read { OnErr result (result ≢ Err SessionError.Read) }
+    ensures mismatch { IfErr result CarriesRefusal }
+    ensures no_kit { result ≡ Err SessionError.NoKit → session.old.kits.kits ≡ [] }
+    ensures free { OnOk result (length session.new.kits.kits ≡ length session.old.kits.kits) }
+    ensures output { result ≡ Err SessionError.Write → failures.new.output ≡ true }
+    ensures unmarked { OnOk result (failures.new ≡ failures.old) }
+    ensures input { failures.new.input ≡ failures.old.input }
+    ensures output_stays { failures.old.output ≡ true → failures.new.output ≡ true }
+    ensures notes { result ≡ Err SessionError.Notes → N.failed notes.new ≡ true }
+    ensures notes_stay { result ≢ Err SessionError.Notes
+        → N.failed notes.new ≡ N.failed notes.old }
+{
+    let answered = answer_written(
+        rt, alloc, session, workers, notes, gate, runs, command, writer, failures,
+    );
+    let flushed = flush(writer, failures);
+    let runs = answered?;
+    flushed?;
+    Ok(runs)
+}
