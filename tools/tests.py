@@ -1,11 +1,18 @@
 #!/usr/bin/env python3
 """The tools' own tests: what tables_from_csv makes of files, and what it says where something doesn't fit."""
+import argparse
+import contextlib
+import importlib.util
+import io
 import os
+import re
 import subprocess
 import sys
 import tempfile
 import unittest
+from importlib.machinery import SourceFileLoader
 
+sys.dont_write_bytecode = True
 TOOL = os.path.join(os.path.dirname(os.path.realpath(__file__)), "tables_from_csv")
 SALES = "Day,Shop,Unit price,qty\n2025-01-01,North,2.50,3\n2025-01-02,South,4.75,2\n2025-01-02,North,,2\n2025-01-03,North,1,1\n"
 
@@ -24,7 +31,7 @@ class TablesFromCsv(unittest.TestCase):
         return done.stdout, done.stderr, done.returncode
 
     def refused(self, text, *words):
-        out, said, status = self.made(text, "sales.csv", *words)
+        out, said, status = self.made(text, *words, "sales.csv")
         self.assertEqual((out, status), ("", 1))
         return said.splitlines()[-1]
 
@@ -34,8 +41,8 @@ class TablesFromCsv(unittest.TestCase):
         rows = "  [1, 20089, 1, 250, 3],\n  [2, 20090, 2, 475, 2],\n  [4, 20091, 1, 100, 1],\n"
         self.assertEqual(out, f'[sales]\ncolumns = ["day", "shop", "unit_price", "qty"]\nrows = [\n{rows}]\n')
         self.assertEqual(status, 0)
-        self.assertIn("column 'Unit price' is called unit_price", said)
-        self.assertIn("1 lines are left out", said)
+        left_out = "sales.csv: 1 line is left out, in which a value is missing. Its number is left out too: ask `has`\n"
+        self.assertEqual(said, f"sales.csv: columns day (Day), shop (Shop), unit_price (Unit price)\n{left_out}")
         with open(f"{self.folder}/sales.shop.codes.csv", encoding="utf-8") as file:
             self.assertEqual(file.read().split(), ["code,text", "1,North", "2,South"])
 
@@ -44,29 +51,140 @@ class TablesFromCsv(unittest.TestCase):
         out, _, _ = self.made("shop\nWest\nSouth\n", "sales.csv", "--code", "sales:shop")
         self.assertEqual(out, '[sales]\ncolumns = ["shop"]\nrows = [\n  [1, 3],\n  [2, 2],\n]\n')
 
+    def test_a_file_of_codes_that_is_none(self):
+        for text in ("code,text\nNorth\n", "code,text\nNorth,1\n"):
+            with open(f"{self.folder}/sales.shop.codes.csv", "w", encoding="utf-8") as file:
+                file.write(text)
+            self.assertEqual(self.refused("shop\nNorth\n", "--code", "shop"), "./sales.shop.codes.csv: isn't a file of codes: each line has a number and a text")
+
     def test_rows_by_a_column(self):
         out, _, _ = self.made("id,v\n7,1\n3,2\n", "--table", "t=sales.csv", "--row", "id")
         self.assertEqual(out, '[t]\ncolumns = ["v"]\nrows = [\n  [7, 1],\n  [3, 2],\n]\n')
 
+    def test_the_rows_column_needs_no_other_option(self):
+        out, _, _ = self.made("id,a,b\n7,1,5\n3,2,6\n", "--row", "id", "--columns", "b", "sales.csv")
+        self.assertEqual(out, '[sales]\ncolumns = ["b"]\nrows = [\n  [7, 5],\n  [3, 6],\n]\n')
+
     def test_names_of_the_language(self):
         out, said, _ = self.made("2nd,limit,a b,a-b\n1,2,3,4\n", "2025 Sales.csv", name="2025 Sales.csv")
         self.assertTrue(out.startswith('[c_2025_sales]\ncolumns = ["c_2nd", "limit_", "a_b", "a_b_2"]\n'), out)
-        self.assertIn("the table is called c_2025_sales", said)
+        self.assertEqual(said, "2025 Sales.csv: table c_2025_sales, columns c_2nd (2nd), limit_ (limit), a_b (a b), a_b_2 (a-b)\n")
+
+    def rows(self, text, *words):
+        """The rows that the tool makes of a file, each as its numbers."""
+        out, said, status = self.made(text, *words, "sales.csv")
+        self.assertEqual(status, 0, said)
+        return re.findall(r"^  \[(.*)\],$", out, re.MULTILINE)
+
+    def test_what_parts_columns(self):
+        for mark, words in ((";", (";",)), ("\t", ("tab", "\t", "\\t")), ("|", ("|",))):
+            for word in words:
+                self.assertEqual(self.rows(f"a{mark}b\n1{mark}2\n", "--parted-by", word), ["1, 1, 2"])
+        self.assertEqual(self.rows("a;b\n1\n", "--parted-by", ","), ["1, 1"])
+        self.assertEqual(self.rows("a;b,c\n1,2\n"), ["1, 1, 2"])
+        for mark, called, cure in ((";", "`;`", "';'"), ("\t", "tab", "tab")):
+            why = f"its first line is one column, with a {called} in it: --parted-by {cure} where that parts columns, else --parted-by ','"
+            self.assertEqual(self.refused(f"a{mark}b\n1{mark}2\n"), f"sales.csv: {why}")
+        for word in ("", ";;", "\n", '"'):
+            self.assertEqual(self.refused("a\n1\n", "--parted-by", word), f"--parted-by takes a mark such as ';' or the word tab, and not {word!r}")
+
+    def test_decimal_commas(self):
+        words = ("--parted-by", ";", "--scale", "price=100")
+        self.assertEqual(self.rows("price\n2,50\n-3\n", *words, "--decimal-comma"), ["1, 250", "2, -300"])
+        self.assertEqual(self.refused("price\n2,50\n", *words), "sales.csv: line 2: column price: '2,50' isn't a number: --decimal-comma takes such ones")
+        self.assertEqual(self.refused("price\n1.250,50\n", *words, "--decimal-comma"), "sales.csv: line 2: column price: '1.250,50' isn't a number with a decimal comma")
+
+    def test_dates_in_other_forms(self):
+        # 2025-04-08 is 55 years and 97 days behind 1970-01-01, and 14 of the years have a day more.
+        text = "Day,back\n08.04.2025,4/8/25\n1.1.1970,12/31/69\n"
+        self.assertEqual(self.rows(text, "--date", "Day=%d.%m.%Y", "--date", "back=%m/%d/%y"), ["1, 20186, 20186", "2, 0, -1"])
+        self.assertEqual(self.rows("d\n2025-04-08 23:59\n", "--date", "d=%Y-%m-%d %H:%M"), ["1, 20186"])
+        for day in ("08.04.2025", "4/8/25", "2025/04/08", "8-4-2025", "2025-04-08 10:00"):
+            why = "isn't a number: days are written 2025-04-08, or in the form of --date COLUMN=%d.%m.%Y"
+            self.assertEqual(self.refused(f"d\n{day}\n"), f"sales.csv: line 2: column d: '{day}' {why}")
+        self.assertEqual(self.refused("d\n31.04.2025\n", "--date", "d=%d.%m.%Y"), "sales.csv: line 2: column d: '31.04.2025' isn't a day in the form %d.%m.%Y")
+        for form in ("", "%d.%m.", "%Y", "%d.%m.%Y %Q", "%", "%d %d %m %Y"):
+            why = f"--date takes COLUMN=FORM with day, month and year, as day=%d.%m.%Y, and not d={form}"
+            self.assertEqual(self.refused("d\n31.04.2025\n", "--date", f"d={form}"), why)
+
+    def test_columns_by_either_name(self):
+        for name in ("Unit price", "unit_price", "sales:Unit price", "sales:unit_price"):
+            self.assertEqual(self.rows("Unit price,b\n2.5,1\n", "--scale", f"{name}=10"), ["1, 25, 1"])
+        # A title goes before the new name of another column, and the words for one table before those for all.
+        self.assertEqual(self.rows("A b,a_b\n1,2\n", "--columns", "a_b"), ["1, 2"])
+        self.assertEqual(self.rows("A b,a_b\n1,2\n", "--columns", "a_b_2, A b"), ["1, 1, 2"])
+        self.assertEqual(self.rows("v\n2\n", "--scale", "v=10", "--scale", "sales:v=100"), ["1, 200"])
+        self.assertEqual(self.rows("v,v\n2,3\n"), ["1, 2, 3"])
+
+    def test_columns_that_there_are_not(self):
+        self.made("Member\n1\n", name="loans.csv")
+        there = "loans.csv has Member; sales.csv has Fine (EUR), b"
+        for option, word in (("--code", "fine"), ("--row", "id"), ("--columns", "x"), ("--code", "loans:b"), ("--scale", "Fine=100"), ("--date", "x=%d.%m.%Y"), ("--empty", "x=0")):
+            said = self.refused("Fine (EUR),b\n1,2\n", "loans.csv", option, word)
+            self.assertEqual(said, f"{option} {word.partition('=')[0]}: no file has such a column. {there}")
+
+    def test_numbers_for_missing_values(self):
+        self.assertEqual(self.rows("a,b\n1,\n,2\n", "--empty", "a=-1", "--skip-empty"), ["2, -1, 2"])
+        self.assertEqual(self.rows("day,b\n,1\n2025-04-08,2\n", "--empty", "day=0"), ["1, 0, 1", "2, 20186, 2"])
+        self.assertEqual(self.rows("shop,b\n,1\nNorth,2\n", "--code", "shop", "--empty", "shop=0"), ["1, 0, 1", "2, 1, 2"])
+        for number in ("", "1.5", "9223372036854775808"):
+            self.assertEqual(self.refused("a\n1\n", "--empty", f"a={number}"), f"--empty takes COLUMN=NUMBER of 64 bits, as returned=0, and not a={number}")
+
+    def test_lines_that_are_left_out(self):
+        _, said, _ = self.made("a,b\n1,\n,2\n3,4\n", "sales.csv", "--skip-empty")
+        self.assertEqual(self.rows("id,v\n,1\n5,2\n7,\n", "--skip-empty", "--row", "id"), ["5, 2"])
+        self.assertEqual(said, "sales.csv: 2 lines are left out, in which a value is missing. Their numbers are left out too: ask `has`\n")
+
+    def test_a_file_that_was_read_before_is_read_as_if_it_were_not(self):
+        loader = SourceFileLoader("tables_from_csv", TOOL)
+        tool = importlib.util.module_from_spec(importlib.util.spec_from_loader(loader.name, loader))
+        loader.exec_module(tool)
+        form, path, before = argparse.ArgumentParser(), f"{self.folder}/sales.csv", []
+        tool.add_options(form)
+        words = ["--code", "shop", "--codes-in", self.folder, "--row", "id", "--skip-empty"]
+        for text, kept in (
+            ("id,shop,v\n1,North,2\n2,South,3\n", True),
+            ("id,shop,v\n1,North,2\n3,West,\n4,South,3\n", True),
+            ("id,v,shop\n1,2,North\n2,3,North\n", True),
+            ("id,v,shop\n1,2,East\n2,3,North\n", False),
+            ("id,v,shop\n1,2,Hill\n2,3,East\n", True),
+        ):
+            with open(path, "w", encoding="utf-8") as file:
+                file.write(text)
+            options = tool.Options(form.parse_args(words))
+            with contextlib.redirect_stderr(io.StringIO()):
+                fresh, known = tool.tables_of([path], options), tool.tables_of([path], options, before)
+            self.assertEqual([(table.name, table.rows) for table in known], [(table.name, table.rows) for table in fresh])
+            before = known
+            if kept:
+                tool.write_codes(known)
 
     def test_what_does_not_fit(self):
         self.assertEqual(self.refused("v\n1\nx\n"), "sales.csv: line 3: column v: 'x' isn't a number: a text column is taken by --code, or left out by --columns")
         self.assertEqual(self.refused("v\n2.5\n"), "sales.csv: line 2: column v: '2.5' isn't a whole number: --scale makes it one")
         self.assertEqual(self.refused("v\n9223372036854775808\n"), "sales.csv: line 2: column v: '9223372036854775808' has no room in 64 bits")
+        self.assertEqual(self.refused("v\n1e999999\n", "--scale", "v=10"), "sales.csv: line 2: column v: '1e999999' has no room in 64 bits")
         self.assertEqual(self.refused("d\n2025-02-30\n"), "sales.csv: line 2: column d: '2025-02-30' isn't a day of the calendar")
-        self.assertEqual(self.refused("a,b\n1,\n"), "sales.csv: line 2: column b: a value is missing: --skip-empty leaves such lines out")
+        self.assertEqual(self.refused("a,b\n1,\n"), "sales.csv: line 2: column b: a value is missing: --skip-empty leaves such lines out, --empty COLUMN=0 takes a number for it")
         self.assertEqual(self.refused("a,b\n1\n"), "sales.csv: line 2: 1 cells, where the first line names 2")
         self.assertEqual(self.refused("id,v\n1,2\n1,3\n", "--row", "id"), "sales.csv: line 3: column id: row 1 stands there twice")
         self.assertEqual(self.refused("id,v\n-1,2\n", "--row", "id"), "sales.csv: line 2: column id: row -1 is outside 0 to 2147483647")
+        self.assertEqual(self.refused("v,id\nx,L1\n", "--row", "id"), "sales.csv: line 2: column id: 'L1' isn't a row's number: --row takes a column of whole numbers")
+        self.assertEqual(self.refused("id,v\n1.5,2\n", "--row", "id"), "sales.csv: line 2: column id: '1.5' isn't a row's number: --row takes a column of whole numbers")
+        self.assertEqual(self.refused("id,v\n,2\n", "--row", "id"), "sales.csv: line 2: column id: the row's number is missing: --skip-empty leaves such lines out")
+        self.assertEqual(self.refused("id,v\n1,2\n", "--row", "id", "--row", "v"), "sales.csv: --row takes one column of a file, and not id, v")
+        self.assertEqual(self.refused("v\n1\n", "--scale", "v"), "--scale takes COLUMN=FACTOR, as price=100, and not v")
+        self.assertEqual(self.refused("v\nx\n", "--code", "v", "--codes-in", "nowhere"), "nowhere/sales.v.codes.csv.new: No such file or directory")
+        self.assertEqual(self.refused("\n1\n"), "sales.csv: its first line names no column")
+        self.assertEqual(self.refused(""), "sales.csv: its first line names no column")
         self.assertEqual(self.refused("a,b,c,d,e,f,g,h,i\n" + "1," * 8 + "1\n"), "sales.csv: 9 columns of values, where a table has 1 to 8: --columns A,B takes some")
 
 
 if __name__ == "__main__":
-    result = unittest.TextTestRunner(stream=sys.stdout, verbosity=0).run(unittest.defaultTestLoader.loadTestsFromTestCase(TablesFromCsv))
+    # Those of the smaller tools, of the picture of a trace and of examples/year stand in modules beside this one.
+    sys.dont_write_bytecode = True
+    suite = unittest.defaultTestLoader.loadTestsFromNames(["__main__", "text_and_edit_tests", "picture_tests", "tutorial_tests"])
+    result = unittest.TextTestRunner(stream=sys.stdout, verbosity=0).run(suite)
     failed = len(result.failures) + len(result.errors)
-    print(f"{result.testsRun - failed} passed, {failed} failed")
+    print(f"{result.testsRun - len(result.skipped) - failed} passed, {failed} failed")
     sys.exit(int(failed > 0))
