@@ -21,13 +21,12 @@ memo proc line(r) { v = sales[r].qty * sales[r].price; update total v; return v;
 proc main() { cilk_for r in 1 .. limit sales : line(r); return 0; }
 ";
 
-const SHAPE: &str = "[sales]\ncolumns = [\"qty\", \"price\"]\nrows = []\n";
-
 const WORKERS: usize = 4;
 
 // The table of sales, its rows counted from 1.
 fn tables(alloc: Global) -> Result<Tables> {
-    let mut tables = Tables::from_toml(alloc, SHAPE)?;
+    let mut tables = Tables::new(alloc);
+    tables.add(alloc, "sales", &["qty", "price"])?;
     for (row, cells) in [(1, [2, 5]), (2, [3, 7]), (3, [1, 100])] {
         tables.put(alloc, "sales", row, &cells)?;
     }

@@ -1,4 +1,5 @@
 pub mod Accepted
+pub mod Added
 pub mod Counts
 pub mod Laid
 pub mod Listed

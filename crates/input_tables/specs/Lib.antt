@@ -1,3 +1,4 @@
+pub mod Adding
 pub mod Document
 pub mod Edited
 pub mod Faults

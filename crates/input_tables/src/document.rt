@@ -12,7 +12,8 @@ use crate::table::{Table, table_in};
 use std::alloc::Global;
 use toml::{Table as Document, Value};
 
-const MOST_TABLES: usize = 64;
+/// How many tables there may be.
+pub const MOST_TABLES: usize = 64;
 
 /// The tables of a document in byte order of their names; refused at the 65th, else at the first faulty one, or for want of
 /// memory.

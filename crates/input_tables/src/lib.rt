@@ -1,6 +1,7 @@
-//! The tables that a program reads, from the text of a TOML document.
+//! The tables that a program reads, from the text of a TOML document or made by calls.
 #![tactic(auto)]
 
+mod adding;
 mod cells;
 mod document;
 mod names;
@@ -12,5 +13,5 @@ mod shapes;
 mod table;
 mod tables;
 
-pub use refusal::{EditError, TablesError};
+pub use refusal::{AddError, EditError, TablesError};
 pub use tables::Tables;

@@ -82,3 +82,16 @@ pub fn index_of(names: &[String], name: &str) -> usize
     }
     names.len()
 }
+
+/// The place of a name, or the number of names where it isn't among them.
+pub fn place_of(names: &[&str], name: &str) -> usize
+    ensures place { result ≡ index_of (map (λ n. n.now) names.now) name.now }
+    ensures within { result ≤ length names.now }
+{
+    for (place, other) in names.iter().enumerate() {
+        if *other == name {
+            return place;
+        }
+    }
+    names.len()
+}

@@ -1,8 +1,9 @@
-// Why a document of tables or an edit of one is refused.
+// Why a document of tables, a table that is added or an edit is refused.
 
 ghost use Rattle.std.specs.Prelude.{◌≡◌};
 ghost use Rattle.input_tables.specs.declared.refusal.Fault.TheVariants.{NoMemory};
 ghost use Rattle.input_tables.specs.declared.refusal.TablesError.TheVariants as tables;
+ghost use Rattle.input_tables.specs.declared.refusal.AddError.TheVariants as add;
 ghost use Rattle.input_tables.specs.declared.refusal.EditError.TheVariants as edit;
 
 use std::alloc::{AllocError, AllocFailed};
@@ -17,6 +18,31 @@ pub enum TablesError {
     NotToml,
     #[error("refused E3 {table}")]
     Shape { table: String },
+}
+
+/// Why a table is not added.
+#[derive(Debug, Drop, Error)]
+pub enum AddError {
+    #[error("out of memory")]
+    NoMemory,
+    /// There are 64 tables.
+    #[error("there are 64 tables")]
+    TooManyTables,
+    /// There is a table of the name.
+    #[error("there is a table of that name")]
+    TableTwice,
+    /// The table's name hasn't the form of a name in a program.
+    #[error("the table's name is no name")]
+    TableName,
+    /// There is no column, or there are more than 8.
+    #[error("a table has 1 to 8 columns")]
+    ColumnCount,
+    /// A column's name hasn't the form of a name in a program.
+    #[error("a column's name is no name")]
+    ColumnName,
+    /// Two columns have one name.
+    #[error("two columns have one name")]
+    ColumnTwice,
 }
 
 /// Why an edit of tables is refused.
@@ -77,6 +103,22 @@ impl<T: Drop> From<AllocFailed<T>> for TablesError {
 
     fn from(_e: AllocFailed<T>) -> TablesError {
         TablesError::NoMemory
+    }
+}
+
+impl From<AllocError> for AddError {
+    ghost from_gives = { λ _ e. e ≡ add.NoMemory };
+
+    fn from(_e: AllocError) -> AddError {
+        AddError::NoMemory
+    }
+}
+
+impl<T: Drop> From<AllocFailed<T>> for AddError {
+    ghost from_gives = { λ _ e. e ≡ add.NoMemory };
+
+    fn from(_e: AllocFailed<T>) -> AddError {
+        AddError::NoMemory
     }
 }
 

@@ -14,6 +14,9 @@ use crate::rows::Rows;
 use std::alloc::Global;
 use toml::{Table as Members, Value};
 
+/// How many columns a table may have.
+pub const MOST_COLUMNS: usize = 8;
+
 /// The array at a key.
 pub fn array_at<'a>(members: &'a Members, key: &str) -> Option<&'a Vec<Value>>
     ensures { option_map (λ items. array_view items.now) result
@@ -44,7 +47,7 @@ pub fn columns_in(alloc: Global, items: &[Value]) -> Result<Vec<String>, Fault>
         ≡ Some (map string_bytes columns.items)) }
     ensures refused { IfErr result (IsFaulty (columns_in (items_view items.now))) }
 {
-    if items.is_empty() || 8 < items.len() {
+    if items.is_empty() || MOST_COLUMNS < items.len() {
         return Err(Fault::Shape);
     }
     columns_from(alloc, items)

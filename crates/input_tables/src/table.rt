@@ -5,6 +5,7 @@ ghost use Rattle.std.specs.Str.{bytes_eq};
 ghost use Rattle.toml.specs.View.{view, table_view};
 ghost use Rattle.meaning.specs.Tables.{row_of, at_column, is_there, above_all, index_of};
 ghost use Rattle.meaning.specs.Edits.{with_rows, row_put, row_gone, in_range, table_of};
+ghost use Rattle.input_tables.specs.Adding.{without_rows};
 ghost use Rattle.input_tables.specs.Edited.{names_of, RowsFit};
 ghost use Rattle.input_tables.specs.Shapes.{table_in, listed_in, with_rows_of};
 ghost use Rattle.input_tables.specs.Faults.{IsFaulty};
@@ -38,6 +39,19 @@ impl Model for Table {
 }
 
 impl Table {
+    /// A table without rows.
+    pub fn without_rows(alloc: Global, name: &str, columns: &[&str]) -> Result<Table, AllocError>
+        ensures { IfOk result (λ table. table ≡ without_rows name.now (map (λ c. c.now) columns.now)) }
+    {
+        let name = String::from_str(alloc, name)?;
+        let columns = copies(alloc, columns)?;
+        Ok(Table {
+            name,
+            columns,
+            rows: Rows::new(alloc),
+        })
+    }
+
     /// Whether the table has this name.
     pub fn is_called(&self, name: &str) -> bool
         ensures { result ≡ bytes_eq self.now.called name.now }
@@ -131,6 +145,17 @@ impl Table {
     {
         self.rows.delete(row);
     }
+}
+
+// Copies of names.
+fn copies(alloc: Global, names: &[&str]) -> Result<Vec<String>, AllocError>
+    ensures { IfOk result (λ made. map string_bytes made.items ≡ map (λ n. n.now) names.now) }
+{
+    let mut made = Vec::with_capacity(alloc, names.len())?;
+    for name in names {
+        made.push(String::from_str(alloc, name)?)?;
+    }
+    Ok(made)
 }
 
 /// The table of a name, and its place.

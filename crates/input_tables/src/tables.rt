@@ -1,22 +1,26 @@
-// Tables that are read from a document and edited.
+// Tables that are read from a document or added, and edited.
 
-ghost use Rattle.std.specs.Prelude.{◌≡◌, ℕ, suc, ℤ, List, true, ◌<◌, length, IfOk, IfErr, OnOk, OnErr, IfSome, IfNone, Some, Ok, [], option_map, option_copied, slice_get, map, string_bytes};
+ghost use Rattle.std.specs.Prelude.{◌≡◌, ℕ, suc, ℤ, List, true, ◌<◌, length, IfOk, IfErr, OnOk, OnErr, IfSome, IfNone, Some, None, Ok, [], option_map, option_copied, slice_get, map, string_bytes};
 ghost use Rattle.program_tree.specs.Plain.{Name};
 ghost use Rattle.program_tree.specs.View.{Lined};
 ghost use Rattle.meaning.specs.Tables.{index_of, columns_of, cell_of, has_row, limit_of};
 ghost use Rattle.input_tables.specs.Document.{reading, HasCause};
+ghost use Rattle.input_tables.specs.Adding.{refusal, own_refusal, unless_refused, IsAddCause, without_rows, with_table, rowless};
+ghost use Rattle.input_tables.specs.Shapes.{table_in};
 ghost use Rattle.meaning.specs.Records.{Revised};
 ghost use Rattle.meaning.specs.Edits.{after_put, after_delete, in_range, table_of};
 ghost use Rattle.input_tables.specs.Edited.{beside, IsEditCause, IsDeleteCause, edited, changed_at, row_into, row_out_of, names_of, columns_at, cell_at, has_at, limit_at, CellsFit};
 
+use crate::adding;
 use crate::document::tables_in;
-use crate::refusal::{EditError, TablesError};
+use crate::refusal::{AddError, EditError, TablesError};
 use crate::shapes::is_row_number;
 use crate::table::{Table, find};
 use std::alloc::{AllocError, Global};
 use std::marker::Model;
 
-/// Tables in byte order of their names, and how many of their edits were accepted.
+/// Tables, and how many of their edits were accepted. Those of a document stand in byte order of their names, and tables
+/// that are added stand behind them.
 #[derive(Drop)]
 pub struct Tables {
     listed: Vec<Table>,
@@ -52,6 +56,28 @@ impl Tables {
             Err(error) if error.is_memory() => Err(TablesError::NoMemory),
             Err(_) => Err(TablesError::NotToml),
         }
+    }
+
+    /// Adds a table without rows, of that name and with these columns, behind the others. Refused where no document could
+    /// have it beside them, by the first cause in the order of `AddError`, or for want of memory; a refusal changes nothing.
+    /// It is no edit, so `edit_number` stays. Reports name their tables, so none can tell in which order they stand.
+    #[tactic(auto, using(crate::proofs::Added::in_document))]
+    pub fn add(&mut self, alloc: Global, name: &str, columns: &[&str]) -> Result<(), AddError>
+        ensures added { OnOk result (self.new
+            ≡ with_table self.old (without_rows name.now (map (λ c. c.now) columns.now))) }
+        ensures allowed { OnOk result (refusal self.old.tables name.now
+            (map (λ c. c.now) columns.now) ≡ None) }
+        ensures refused { IfErr result (IsAddCause (refusal self.old.tables name.now
+            (map (λ c. c.now) columns.now))) }
+        ensures read { table_in name.now (rowless (map (λ c. c.now) columns.now))
+            ≡ unless_refused (own_refusal name.now (map (λ c. c.now) columns.now))
+            (without_rows name.now (map (λ c. c.now) columns.now)) }
+        ensures same { OnErr result (self.new ≡ self.old) }
+    {
+        adding::check(&self.listed, name, columns)?;
+        let table = Table::without_rows(alloc, name, columns)?;
+        self.listed.push(table)?;
+        Ok(())
     }
 
     /// How many edits were accepted.
