@@ -9,7 +9,7 @@ use Rattle.program_tree.specs.View.{deed, statements, statements_of, block, decl
 use Rattle.program_tree.specs.Plain.{Name, Deed, bind, enter, read, sync, update, choose, loop, give, Body, end, step, Decl, reducer, procedure, Tree}
 use Rattle.token_scanner.specs.declared.token.Mark.TheVariants as mark
 use Rattle.token_scanner.specs.Words.{Word, Sign}
-use Rattle.program_printer.specs.Spelling.{written, starts_else, PutsBlock}
+use Rattle.token_spelling.specs.Spelling.{written, starts_else, PutsBlock}
 use Rattle.program_printer.specs.Printing.{deed_words, body_words, else_words, is_end, memo_words, proc_words, decl_words, printed_words}
 
 pub deed_first : (names : List Name) (d : Deed) (us : List Word) → starts_else (deed_words names d us) ≡ false

@@ -5,7 +5,7 @@ use Rattle.token_scanner.specs.Words.{Word, Sign, Number}
 use Rattle.token_scanner.specs.Words as word
 use Rattle.std.specs.declared.string.String.{String}
 use Rattle.std.specs.Global.{Global}
-use Rattle.program_printer.specs.Spelling.{Puts}
+use Rattle.token_spelling.specs.Spelling.{Puts}
 use Rattle.program_tree.specs.declared.Expr.{Expr}
 use Rattle.program_tree.specs.View.{term}
 use Rattle.program_printer.specs.Printing.{term_words, more_terms, terms_words, more_numbers, numbers_words, more_names, names_words}

@@ -9,7 +9,7 @@ use Rattle.token_scanner.specs.declared.token.Mark.{Mark}
 use Rattle.token_scanner.specs.declared.token.Mark.TheVariants.{OpenBrace, CloseBrace, Semicolon}
 use Rattle.token_scanner.specs.Words.{Word, Name, Number, Sign, Bad, Over}
 use Rattle.token_scanner.specs.Scanning.{scan, word_at, mark_of, single_of, name_of, number_of, keyword_of, is_letter, is_digit, is_space, belongs, front_len, decimal, tokens_of}
-use Rattle.program_printer.specs.Spelling.{mark_text, word_text, gap, starts_else, written}
+use Rattle.token_spelling.specs.Spelling.{mark_text, word_text, gap, starts_else, written}
 use Rattle.program_printer.specs.Tokens.{IsName, IsToken, AllTokens, bare}
 
 on_bool : (b : Bool) → (b ≡ true) ⊎ (b ≡ false)

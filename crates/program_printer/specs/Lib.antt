@@ -1,3 +1,2 @@
-pub mod Spelling
 pub mod Printing
 pub mod Tokens

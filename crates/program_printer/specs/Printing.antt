@@ -13,7 +13,7 @@ use Rattle.token_scanner.specs.declared.token.Mark.{Mark}
 use Rattle.token_scanner.specs.declared.token.Mark.TheVariants as mark
 use Rattle.token_scanner.specs.Words.{Word, Sign, Number}
 use Rattle.token_scanner.specs.Words as word
-use Rattle.program_printer.specs.Spelling.{written}
+use Rattle.token_spelling.specs.Spelling.{written}
 
 abbrev pub operator_mark : Operator → Mark
 operator_mark Add = mark.Plus

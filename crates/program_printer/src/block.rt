@@ -5,7 +5,7 @@ ghost use Rattle.program_tree.specs.Plain.{Body, choose};
 ghost use Rattle.program_tree.specs.View.{term, deed, statements, statements_of, block};
 ghost use Rattle.token_scanner.specs.Words.{Word, Sign};
 ghost use Rattle.token_scanner.specs.declared.token.Mark.TheVariants as mark;
-ghost use Rattle.program_printer.specs.Spelling.{Puts, Grows, GrowsByBlock};
+ghost use Rattle.token_spelling.specs.Spelling.{Puts, Grows, GrowsByBlock};
 ghost use Rattle.program_printer.specs.Printing.{test_words, deed_words, body_words, else_words, is_end, names_of};
 
 use crate::expression::put_expression;
@@ -34,7 +34,7 @@ fn is_empty(procedure: &Procedure, levels: usize, number: usize) -> bool
 }
 
 /// Puts the condition of an `if` and the mark that opens its block at the end of the text.
-#[tactic(auto, unfolding(crate::specs::Spelling::written))]
+#[tactic(auto, unfolding(token_spelling::specs::Spelling::written))]
 fn put_test(text: &mut String, procedure: &Procedure, condition: &Expr) -> Result<(), AllocError>
     ensures { OnOk result (Grows text.old text.new (test_words (names_of procedure.now) (term condition.now))) }
 {
@@ -44,7 +44,7 @@ fn put_test(text: &mut String, procedure: &Procedure, condition: &Expr) -> Resul
 }
 
 /// Puts the mark that closes a block at the end of the text.
-#[tactic(auto, unfolding(crate::specs::Spelling::written))]
+#[tactic(auto, unfolding(token_spelling::specs::Spelling::written))]
 pub fn put_close(text: &mut String) -> Result<(), AllocError>
     ensures { OnOk result (GrowsByBlock text.old text.new (λ us. Sign mark.CloseBrace ∷ us)) }
 {
@@ -52,7 +52,7 @@ pub fn put_close(text: &mut String) -> Result<(), AllocError>
 }
 
 /// Puts the marks between an `if`'s block and its `else`'s at the end of the text.
-#[tactic(auto, unfolding(crate::specs::Spelling::written))]
+#[tactic(auto, unfolding(token_spelling::specs::Spelling::written))]
 fn put_otherwise(text: &mut String) -> Result<(), AllocError>
     ensures { OnOk result (Grows text.old text.new (λ us. Sign mark.CloseBrace ∷ Sign mark.Else ∷ Sign mark.OpenBrace ∷ us)) }
 {

@@ -7,7 +7,7 @@ ghost use Rattle.program_tree.specs.Plain as plain;
 ghost use Rattle.token_scanner.specs.Words.{Word, Sign, Number};
 ghost use Rattle.token_scanner.specs.Words as word;
 ghost use Rattle.token_scanner.specs.declared.token.Mark.TheVariants as mark;
-ghost use Rattle.program_printer.specs.Spelling.{Puts, Grows, GrowsByBlock};
+ghost use Rattle.token_spelling.specs.Spelling.{Puts, Grows, GrowsByBlock};
 ghost use Rattle.program_printer.specs.Printing.{more_numbers, numbers_words, table_words, kind_words, more_names, names_words, memo_words, decl_words, names_of, opening_words};
 
 use crate::block::{put_block, put_close};
@@ -27,7 +27,7 @@ fn put_more_numbers(text: &mut String, numbers: &[u8]) -> Result<(), AllocError>
 }
 
 /// Puts a comma and a number at the end of the text.
-#[tactic(auto, unfolding(crate::specs::Spelling::written))]
+#[tactic(auto, unfolding(token_spelling::specs::Spelling::written))]
 fn put_next_number(text: &mut String, number: u8) -> Result<(), AllocError>
     ensures { OnOk result (Grows text.old text.new (λ us. Sign mark.Comma ∷ Number (pos number) ∷ us)) }
 {
@@ -35,7 +35,7 @@ fn put_next_number(text: &mut String, number: u8) -> Result<(), AllocError>
 }
 
 /// Puts a number at the end of the text.
-#[tactic(auto, unfolding(crate::specs::Spelling::written))]
+#[tactic(auto, unfolding(token_spelling::specs::Spelling::written))]
 fn put_number(text: &mut String, number: u8) -> Result<(), AllocError>
     ensures { OnOk result (Grows text.old text.new (λ us. Number (pos number) ∷ us)) }
 {
@@ -56,7 +56,7 @@ fn put_numbers(text: &mut String, numbers: &[u8]) -> Result<(), AllocError>
 }
 
 /// Puts what a table is at the end of the text: its size, its unit and its numbers, row by row.
-#[tactic(auto, unfolding(crate::specs::Spelling::written))]
+#[tactic(auto, unfolding(token_spelling::specs::Spelling::written))]
 fn put_table(text: &mut String, table: &Table) -> Result<(), AllocError>
     ensures { OnOk result (Grows text.old text.new (table_words table.now)) }
 {
@@ -68,7 +68,7 @@ fn put_table(text: &mut String, table: &Table) -> Result<(), AllocError>
 }
 
 /// Puts a kind at the end of the text.
-#[tactic(auto, unfolding(crate::specs::Spelling::written))]
+#[tactic(auto, unfolding(token_spelling::specs::Spelling::written))]
 fn put_kind(text: &mut String, kind: &Kind) -> Result<(), AllocError>
     ensures { OnOk result (Grows text.old text.new (kind_words kind.now)) }
 {
@@ -91,7 +91,7 @@ fn put_kind(text: &mut String, kind: &Kind) -> Result<(), AllocError>
 }
 
 /// Puts a reducer at the end of the text.
-#[tactic(auto, unfolding(crate::specs::Spelling::written))]
+#[tactic(auto, unfolding(token_spelling::specs::Spelling::written))]
 fn put_reducer(text: &mut String, reducer: &Reducer) -> Result<(), AllocError>
     ensures { OnOk result (Grows text.old text.new (decl_words (plain.reducer (red reducer.now)))) }
 {
@@ -102,7 +102,7 @@ fn put_reducer(text: &mut String, reducer: &Reducer) -> Result<(), AllocError>
 }
 
 /// Puts a comma and a name at the end of the text.
-#[tactic(auto, unfolding(crate::specs::Spelling::written))]
+#[tactic(auto, unfolding(token_spelling::specs::Spelling::written))]
 fn put_next_name(text: &mut String, name: &str) -> Result<(), AllocError>
     ensures { OnOk result (Grows text.old text.new (λ us. Sign mark.Comma ∷ word.Name name.now ∷ us)) }
 {
@@ -120,7 +120,7 @@ fn put_more_names(text: &mut String, names: &[String]) -> Result<(), AllocError>
 }
 
 /// Puts a name at the end of the text.
-#[tactic(auto, unfolding(crate::specs::Spelling::written))]
+#[tactic(auto, unfolding(token_spelling::specs::Spelling::written))]
 fn put_name(text: &mut String, name: &str) -> Result<(), AllocError>
     ensures { OnOk result (Grows text.old text.new (λ us. word.Name name.now ∷ us)) }
 {
@@ -149,7 +149,7 @@ fn parameters(procedure: &Procedure) -> &[String]
 }
 
 /// Puts the mark of a procedure that is recorded at the end of the text.
-#[tactic(auto, unfolding(crate::specs::Spelling::written))]
+#[tactic(auto, unfolding(token_spelling::specs::Spelling::written))]
 fn put_memo(text: &mut String, memo: bool) -> Result<(), AllocError>
     ensures { OnOk result (Grows text.old text.new (memo_words memo)) }
 {
@@ -157,7 +157,7 @@ fn put_memo(text: &mut String, memo: bool) -> Result<(), AllocError>
 }
 
 /// Puts the name of a procedure, its parameters and the mark that opens its block at the end of the text.
-#[tactic(auto, unfolding(crate::specs::Spelling::written))]
+#[tactic(auto, unfolding(token_spelling::specs::Spelling::written))]
 fn put_head(text: &mut String, procedure: &Procedure) -> Result<(), AllocError>
     ensures { OnOk result (Grows text.old text.new (opening_words procedure.now)) }
 {

@@ -5,12 +5,13 @@ ghost use Rattle.program_tree.specs.Plain.{cell, binary};
 ghost use Rattle.program_tree.specs.View.{term};
 ghost use Rattle.token_scanner.specs.Words.{Word, Sign};
 ghost use Rattle.token_scanner.specs.declared.token.Mark.TheVariants as mark;
-ghost use Rattle.program_printer.specs.Spelling.{Puts, Grows};
+ghost use Rattle.token_spelling.specs.Spelling.{Puts, Grows};
 ghost use Rattle.program_printer.specs.Printing.{variable, term_words, operator_mark, names_of};
 
 use program_tree::{Expr, Operator, Procedure};
 use std::alloc::AllocError;
 use std::fmt::Write;
+use token_spelling::{put_close, put_open};
 
 /// The name of a variable; none has a number past the pool's end.
 pub fn variable(procedure: &Procedure, number: usize) -> &str
@@ -23,7 +24,7 @@ pub fn variable(procedure: &Procedure, number: usize) -> &str
 }
 
 /// Puts an operator at the end of the text.
-#[tactic(auto, unfolding(crate::specs::Spelling::written))]
+#[tactic(auto, unfolding(token_spelling::specs::Spelling::written))]
 fn put_operator(text: &mut String, operator: Operator) -> Result<(), AllocError>
     ensures { OnOk result (Grows text.old text.new (λ us. Sign (operator_mark operator) ∷ us)) }
 {
@@ -42,25 +43,9 @@ fn put_operator(text: &mut String, operator: Operator) -> Result<(), AllocError>
     }
 }
 
-/// Puts the beginning of an expression in parentheses at the end of the text.
-#[tactic(auto, unfolding(crate::specs::Spelling::written))]
-fn put_open(text: &mut String) -> Result<(), AllocError>
-    ensures { OnOk result (Grows text.old text.new (λ us. Sign mark.OpenParen ∷ us)) }
-{
-    text.push_str("( ")
-}
-
-/// Puts the end of an expression in parentheses at the end of the text.
-#[tactic(auto, unfolding(crate::specs::Spelling::written))]
-fn put_close(text: &mut String) -> Result<(), AllocError>
-    ensures { OnOk result (Grows text.old text.new (λ us. Sign mark.CloseParen ∷ us)) }
-{
-    text.push_str(") ")
-}
-
 /// Puts a cell at the end of the text.
 #[cycle(expressions)]
-#[tactic(auto, unfolding(crate::specs::Spelling::written))]
+#[tactic(auto, unfolding(token_spelling::specs::Spelling::written))]
 fn put_cell(
     text: &mut String,
     procedure: &Procedure,
@@ -95,7 +80,7 @@ fn put_binary(
 
 /// Puts an expression at the end of the text.
 #[cycle(expressions)]
-#[tactic(auto, unfolding(crate::specs::Spelling::written))]
+#[tactic(auto, unfolding(token_spelling::specs::Spelling::written))]
 pub fn put_expression(
     text: &mut String,
     procedure: &Procedure,

@@ -6,29 +6,22 @@ ghost use Rattle.program_tree.specs.View.{term};
 ghost use Rattle.token_scanner.specs.Words.{Word, Sign, Number};
 ghost use Rattle.token_scanner.specs.Words as word;
 ghost use Rattle.token_scanner.specs.declared.token.Mark.TheVariants as mark;
-ghost use Rattle.program_printer.specs.Spelling.{Puts, Grows};
+ghost use Rattle.token_spelling.specs.Spelling.{Puts, Grows};
 ghost use Rattle.program_printer.specs.Printing.{variable, term_words, terms_words, more_terms, entry_words, bound_words, way_mark, deed_words, names_of, range_words, loop_words};
 
 use crate::expression::{put_expression, variable};
 use program_tree::{Expr, Procedure, Way};
 use std::alloc::AllocError;
 use std::fmt::Write;
+use token_spelling::put_end;
 
 /// Puts a variable and the mark behind it that binds it at the end of the text.
-#[tactic(auto, unfolding(crate::specs::Spelling::written))]
+#[tactic(auto, unfolding(token_spelling::specs::Spelling::written))]
 fn put_target(text: &mut String, procedure: &Procedure, number: usize) -> Result<(), AllocError>
     ensures { OnOk result (Grows text.old text.new (λ us. word.Name (variable (names_of procedure.now) number) ∷ Sign mark.Assign ∷ us)) }
 {
     let name = variable(procedure, number);
     write!(text, "{name} = ")
-}
-
-/// Puts the end of a statement at the end of the text.
-#[tactic(auto, unfolding(crate::specs::Spelling::written))]
-fn put_end(text: &mut String) -> Result<(), AllocError>
-    ensures { OnOk result (Grows text.old text.new (λ us. Sign mark.Semicolon ∷ us)) }
-{
-    text.push_str(";\n")
 }
 
 /// Puts expressions, each behind a comma, at the end of the text.
@@ -42,7 +35,7 @@ fn put_more(text: &mut String, procedure: &Procedure, exprs: &[Expr]) -> Result<
 }
 
 /// Puts a comma and an expression at the end of the text.
-#[tactic(auto, unfolding(crate::specs::Spelling::written))]
+#[tactic(auto, unfolding(token_spelling::specs::Spelling::written))]
 fn put_next(text: &mut String, procedure: &Procedure, expr: &Expr) -> Result<(), AllocError>
     ensures { OnOk result (Grows text.old text.new (λ us. Sign mark.Comma ∷ term_words (names_of procedure.now) (term expr.now) us)) }
 {
@@ -68,7 +61,7 @@ fn put_expressions(
 }
 
 /// Puts the name of the procedure that is entered, its arguments and the end of the statement at the end of the text.
-#[tactic(auto, unfolding(crate::specs::Spelling::written))]
+#[tactic(auto, unfolding(token_spelling::specs::Spelling::written))]
 pub fn put_entry(
     text: &mut String,
     procedure: &Procedure,
@@ -98,7 +91,7 @@ fn put_bound(
 }
 
 /// Puts the word for how a procedure is entered at the end of the text.
-#[tactic(auto, unfolding(crate::specs::Spelling::written))]
+#[tactic(auto, unfolding(token_spelling::specs::Spelling::written))]
 fn put_way(text: &mut String, way: Way) -> Result<(), AllocError>
     ensures { OnOk result (Grows text.old text.new (λ us. Sign (way_mark way) ∷ us)) }
 {
@@ -148,7 +141,7 @@ pub fn put_enter(
 }
 
 /// Puts a statement that binds a variable to a reducer's value at the end of the text.
-#[tactic(auto, unfolding(crate::specs::Spelling::written))]
+#[tactic(auto, unfolding(token_spelling::specs::Spelling::written))]
 pub fn put_read(
     text: &mut String,
     procedure: &Procedure,
@@ -163,7 +156,7 @@ pub fn put_read(
 }
 
 /// Puts a statement that waits for all children at the end of the text.
-#[tactic(auto, unfolding(crate::specs::Spelling::written))]
+#[tactic(auto, unfolding(token_spelling::specs::Spelling::written))]
 pub fn put_sync(text: &mut String) -> Result<(), AllocError>
     ensures { OnOk result (Grows text.old text.new
         (λ us. Sign mark.Sync ∷ Sign mark.Semicolon ∷ us)) }
@@ -172,7 +165,7 @@ pub fn put_sync(text: &mut String) -> Result<(), AllocError>
 }
 
 /// Puts a statement that updates a reducer at the end of the text.
-#[tactic(auto, unfolding(crate::specs::Spelling::written))]
+#[tactic(auto, unfolding(token_spelling::specs::Spelling::written))]
 pub fn put_update(
     text: &mut String,
     procedure: &Procedure,
@@ -188,7 +181,7 @@ pub fn put_update(
 }
 
 /// Puts the bounds of a loop and its grain at the end of the text.
-#[tactic(auto, unfolding(crate::specs::Spelling::written))]
+#[tactic(auto, unfolding(token_spelling::specs::Spelling::written))]
 fn put_range(
     text: &mut String,
     procedure: &Procedure,
@@ -205,7 +198,7 @@ fn put_range(
 }
 
 /// Puts what stands before the procedure that a loop enters at the end of the text.
-#[tactic(auto, unfolding(crate::specs::Spelling::written))]
+#[tactic(auto, unfolding(token_spelling::specs::Spelling::written))]
 pub fn put_loop_head(
     text: &mut String,
     procedure: &Procedure,
@@ -223,7 +216,7 @@ pub fn put_loop_head(
 }
 
 /// Puts a statement that gives the procedure's value at the end of the text.
-#[tactic(auto, unfolding(crate::specs::Spelling::written))]
+#[tactic(auto, unfolding(token_spelling::specs::Spelling::written))]
 pub fn put_return(text: &mut String, procedure: &Procedure, value: &Expr) -> Result<(), AllocError>
     ensures { OnOk result (Grows text.old text.new
         (deed_words (names_of procedure.now) (give (term value.now)))) }

@@ -1,6 +1,6 @@
 use Rattle.std.proofs.Common.{◌≡◌, ◌++◌, List, map, string_bytes, drop}
 use Rattle.token_scanner.specs.Words.{Word}
-use Rattle.program_printer.specs.Spelling.{written}
+use Rattle.token_spelling.specs.Spelling.{written}
 use Rattle.program_printer.specs.Printing.{more_names}
 use Rattle.program_printer.proofs.declaration.put_more_names.Given as goal
 

@@ -1,7 +1,7 @@
 use Rattle.std.proofs.Common.{◌≡◌, ◌++◌, List, map, string_bytes, drop}
 use Rattle.program_tree.specs.View.{term}
 use Rattle.token_scanner.specs.Words.{Word}
-use Rattle.program_printer.specs.Spelling.{written}
+use Rattle.token_spelling.specs.Spelling.{written}
 use Rattle.program_printer.specs.Printing.{more_terms}
 use Rattle.program_printer.proofs.statement.put_more.Given as goal
 
