@@ -4,6 +4,7 @@ use Rattle.std.proofs.lemmas.List.{length-append, take-append-drop, length-drop}
 use Rattle.std.proofs.Math.Seq.{length-take-le}
 use Rattle.evaluation.specs.declared.slot.Slot.{Slot}
 use Rattle.rerun_records.specs.Record.{PlainRecord}
+use Rattle.rerun_records.specs.Sums.{arguments_of_last}
 use Rattle.positions.specs.declared.work.Loop.{Loop}
 use Rattle.positions.specs.declared.work.Share.{Share}
 use Rattle.positions.specs.declared.work.Work.{Work}
@@ -17,17 +18,17 @@ use Rattle.positions.specs.Strands.{PlainStrand}
 use Rattle.positions.specs.Advance.{in_phase, giving, with_top, split, left_of, right_of, turn_by, worked, closed, owns_top}
 use Rattle.positions.specs.Moves.{inlined}
 use Rattle.answered_loops.specs.Ways.{IsNext, IsWay, here, on, as_call}
-use Rattle.answered_loops.specs.Answered.{IsOfMemo, IsAnswer, AreAnswers, iteration_depth, absorbed, answered_more, last_arguments, behind_turns, turned_to, halved_to, is_by_turns, ended_by, ended, HasAnswers, with_answers, standing, half_answered, turns_answered, IsInside}
+use Rattle.answered_loops.specs.Answered.{IsOfMemo, IsAnswer, AreAnswers, iteration_depth, absorbed, answered_more, behind_turns, turned_to, halved_to, is_by_turns, ended_by, ended, HasAnswers, with_answers, standing, half_answered, turns_answered, IsInside}
 use Rattle.answered_loops.proofs.Ways.{way_join}
 use Rattle.answered_loops.proofs.Turns.{path_back, turns_way}
 
 -- ---- lists of records
 
-absorbed_append : (d : ℕ) (xs ys : List PlainRecord) (l : PlainLayer) → absorbed d (xs ++ ys) l ≡ absorbed d ys (absorbed d xs l)
+pub absorbed_append : (d : ℕ) (xs ys : List PlainRecord) (l : PlainLayer) → absorbed d (xs ++ ys) l ≡ absorbed d ys (absorbed d xs l)
 absorbed_append d [] ys l = refl
 absorbed_append d (x ∷ xs) ys l = absorbed_append d xs ys (absorbing x d l)
 
-last_append : (vs : List ℤ) (xs ys : List PlainRecord) → last_arguments vs (xs ++ ys) ≡ last_arguments (last_arguments vs xs) ys
+pub last_append : (vs : List ℤ) (xs ys : List PlainRecord) → arguments_of_last vs (xs ++ ys) ≡ arguments_of_last (arguments_of_last vs xs) ys
 last_append vs [] ys = refl
 last_append vs (x ∷ xs) ys = last_append x.arguments xs ys
 
@@ -36,8 +37,8 @@ pub answers_append : (d : ℕ) (xs ys : List PlainRecord) (s : PlainStrand) → 
 answers_append d xs ys s =
     let sums : (s.tally.reused + length xs) + length ys ≡ s.tally.reused + (length xs + length ys) = omega arith in
     let layer = absorbed d ys (absorbed d xs s.layer) in
-    ap (λ n. record s { layer = layer; arguments = last_arguments (last_arguments s.arguments xs) ys; tally = record s.tally { reused = n } }) (sums ∙ ap (λ n. s.tally.reused + n) (sym (length-append xs ys)))
-    ∙ ap (λ m. record s { layer = m; arguments = last_arguments (last_arguments s.arguments xs) ys; tally = answered_more (length (xs ++ ys)) s.tally }) (sym (absorbed_append d xs ys s.layer))
+    ap (λ n. record s { layer = layer; arguments = arguments_of_last (arguments_of_last s.arguments xs) ys; tally = record s.tally { reused = n } }) (sums ∙ ap (λ n. s.tally.reused + n) (sym (length-append xs ys)))
+    ∙ ap (λ m. record s { layer = m; arguments = arguments_of_last (arguments_of_last s.arguments xs) ys; tally = answered_more (length (xs ++ ys)) s.tally }) (sym (absorbed_append d xs ys s.layer))
     ∙ ap (λ vs. record s { layer = absorbed d (xs ++ ys) s.layer; arguments = vs; tally = answered_more (length (xs ++ ys)) s.tally }) (sym (last_append s.arguments xs ys))
 
 module _ (setting : Setting) (j : PlainLoop) (slots : List Slot) (left : ℕ) (low : ℤ) where
@@ -51,14 +52,12 @@ module _ (setting : Setting) (j : PlainLoop) (slots : List Slot) (left : ℕ) (l
   answers_drop (suc m) i [] h = tt
   answers_drop (suc m) i (r ∷ rs) h = subst (λ n. AreAnswers setting j slots left low n (drop m rs)) (let e : (i + 1) + m ≡ i + suc m = omega arith in e) (answers_drop m (i + 1) rs h.1)
 
-  -- one record more
-  pub answers_more : (i n : ℕ) (rs : List PlainRecord) (r : PlainRecord) → n ≡ i + length rs → AreAnswers setting j slots left low i rs → IsAnswer setting j slots left (low +ℤ pos n) r → AreAnswers setting j slots left low i (rs ++ r ∷ [])
-  answers_more i n [] r e h a =
-      let same : n ≡ i = omega arith in
-      (subst (λ m. IsAnswer setting j slots left (low +ℤ pos m) r) same a, tt)
-  answers_more i n (x ∷ rs) r e h a =
-      let long : n ≡ (i + 1) + length rs = omega arith in
-      (h.0, answers_more (i + 1) n rs r long h.1 a)
+  -- those behind as many as there are
+  pub answers_behind : (i n : ℕ) (xs ys : List PlainRecord) → n ≡ i + length xs → AreAnswers setting j slots left low i xs → AreAnswers setting j slots left low n ys → AreAnswers setting j slots left low i (xs ++ ys)
+  answers_behind i n [] ys e h a = subst (λ m. AreAnswers setting j slots left low m ys) (let same : n ≡ i = omega arith in same) a
+  answers_behind i n (x ∷ xs) ys e h a =
+      let long : n ≡ (i + 1) + length xs = omega arith in
+      (h.0, answers_behind (i + 1) n xs ys long h.1 a)
 
 -- ---- one half
 

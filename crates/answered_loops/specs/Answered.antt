@@ -7,6 +7,7 @@ use Rattle.evaluation.specs.declared.slot.Slot.{Slot}
 use Rattle.evaluation.specs.declared.slot.Slot.TheVariants.{Has}
 use Rattle.evaluation.specs.Values.{values_at, pure}
 use Rattle.rerun_records.specs.Record.{PlainRecord}
+use Rattle.rerun_records.specs.Sums.{arguments_of_last}
 use Rattle.positions.specs.declared.work.Loop.{Loop}
 use Rattle.positions.specs.declared.work.Share.{Share}
 use Rattle.positions.specs.declared.work.Work.{Work}
@@ -59,11 +60,6 @@ absorbed d (r ∷ rs) l = absorbed d rs (absorbing r d l)
 abbrev pub answered_more : ℕ → PlainTally → PlainTally
 answered_more n t = record t { reused = t.reused + n }
 
--- the arguments of the last of them
-abbrev pub last_arguments : List ℤ → List PlainRecord → List ℤ
-last_arguments vs [] = vs
-last_arguments vs (r ∷ rs) = last_arguments r.arguments rs
-
 -- the iterations behind the first n
 abbrev pub behind_turns : ℕ → Share → Share
 behind_turns n h = record { first = h.first + n; count = h.count - n }
@@ -91,7 +87,7 @@ ended codes l k h a = ended_by (is_by_turns codes a l k h.count) l h a
 
 -- what records of iterations leave of a strand, whose topmost instance is their loop's
 abbrev pub with_answers : ℕ → List PlainRecord → PlainStrand → PlainStrand
-with_answers d rs s = record s { layer = absorbed d rs s.layer; arguments = last_arguments s.arguments rs; tally = answered_more (length rs) s.tally }
+with_answers d rs s = record s { layer = absorbed d rs s.layer; arguments = arguments_of_last s.arguments rs; tally = answered_more (length rs) s.tally }
 
 -- the topmost instance is a loop's that has that left
 abbrev pub standing : Work → PlainActivation → PlainStrand → PlainStrand

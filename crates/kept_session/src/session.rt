@@ -191,6 +191,6 @@ impl<V: View> Session<V> {
         self.checked.linked();
         self.checked.revised();
         self.kits = pool;
-        self.records.commit(made, &self.tables, &self.checked)
+        self.records.keep(made, &self.tables, &self.checked)
     }
 }

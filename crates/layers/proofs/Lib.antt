@@ -4,7 +4,6 @@ pub mod Lowest
 pub mod Kept
 pub mod Updates
 pub mod Flags
-pub mod Absorbed
 pub mod Empties
 pub mod Marks
 pub mod Touches

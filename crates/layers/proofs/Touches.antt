@@ -14,8 +14,7 @@ use Rattle.rerun_records.specs.Named.{IsValueAt, AreValuesFrom, HaveValues}
 use Rattle.positions.specs.Values.{same_worth}
 use Rattle.positions.specs.Tallies.{touched_from, entries_from}
 use Rattle.layers.specs.Recordings.{touched_at, entry_of}
-use Rattle.layers.proofs.Worths.{each}
-use Rattle.layers.proofs.Absorbed.{values_lower}
+use Rattle.rerun_records.proofs.Absorbed.{each, values_lower}
 
 -- ---- the values of reducers
 
@@ -134,11 +133,6 @@ same_identity (k.Table t) = grind (arith, common_steps)
 pub identity_untouched : (i : ℕ) (k : Kind) (w : Worth) → w ≡ identity_of k → touched_at i k w ≡ []
 identity_untouched i k w e =
     ap (λ v. cond (same_worth v (identity_of k)) [] ((i, v) ∷ [])) e ∙ ap (λ b. cond b [] ((i, identity_of k) ∷ [])) (same_identity k)
-
-pub same_at : {A : Type 0} (xs : List A) (i : ℕ) (x y : A) → i < length xs → x ≡ get_or xs i x → y ≡ get_or xs i y → x ≡ y
-same_at [] i x y l e f = absurd (omega arith)
-same_at (z ∷ xs) zero x y l e f = let p : x ≡ z = e in let q : y ≡ z = f in p ∙ sym q
-same_at (z ∷ xs) (suc i) x y l e f = same_at xs i x y (omega arith) e f
 
 -- what is known of an option's value
 pub some_is : {A : Type 0} (P : A → Type 0) (o : Option A) (x : A) → o ≡ Some x → IfSome o P → P x

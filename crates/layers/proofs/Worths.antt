@@ -6,13 +6,8 @@ use Rattle.std.proofs.Math.Seq.{take-length}
 use Rattle.monoid_laws.specs.declared.Kind.{Kind}
 use Rattle.monoid_laws.specs.Worth.{Worth}
 use Rattle.monoid_laws.specs.Kinds.{AreWorths}
+use Rattle.rerun_records.proofs.Absorbed.{each}
 use Rattle.hypermaps.specs.Layer.{IsAt}
-
-pub each : (cs : List Kind) (ws : List Worth) → AreWorths cs ws → length cs ≡ length ws
-each [] [] h = refl
-each [] (w ∷ ws) h = elim h [ ]
-each (c ∷ cs) [] h = elim h [ ]
-each (c ∷ cs) (w ∷ ws) h = let e : length cs ≡ length ws = each cs ws h.1 in cc
 
 pub read_in : (cs : List Kind) (ws : List Worth) (r : ℕ) (w : Worth) → AreWorths cs ws → r < length cs → IsAt ws r w → slice_get ws r ≡ Some w
 read_in cs ws r w h l i = slice_get_read ws (length cs) r w (each cs ws h) l i

@@ -1,7 +1,7 @@
 //! A layer of a strand: the views of a kit, and what was read and entered since they were opened.
 ghost use Rattle.std.specs.Prelude.{◌≡◌, ◌∷◌, [], ◌<◌, IfOk, IfErr, Some, true, false, length, map, take, slice_get};
 ghost use Rattle.monoid_laws.specs.declared.Kind.{Kind};
-ghost use Rattle.monoid_laws.specs.Kinds.{meaning};
+ghost use Rattle.monoid_laws.specs.Kinds.{AreWorths, meaning};
 ghost use Rattle.linked_program.specs.CodeView.{expression as plain};
 ghost use Rattle.meaning.specs.Statements.{number_of};
 ghost use Rattle.evaluation.specs.Values.{value_at, values_at, entry_at, bounds_at};
@@ -111,6 +111,13 @@ impl<V: View> Layer<V> {
         } = self;
         spares.keep_layer(notes, entered);
         hypermap.close()
+    }
+
+    /// What the type keeps: each reducer's value is of its kind.
+    pub fn of_kinds(&self)
+        ensures worths { AreWorths self.now.kinds self.now.worths }
+    {
+        let _ = self.hypermap.len();
     }
 
     /// How many readings it has noted.

@@ -98,6 +98,30 @@ impl Tally {
         Ok(())
     }
 
+    /// One record answers so many instances at that depth: what it has goes behind the layer, once. Where memory is refused, or
+    /// the count is past its limit, nothing has changed but the layer's values.
+    pub fn reuse_for<V: View>(
+        &mut self,
+        alloc: Global,
+        layer: &mut Layer<V>,
+        record: &Record,
+        instances: u32,
+        depth: u32,
+    ) -> Result<(), AllocError>
+        requires monoids { All IsMonoid layer.old.kinds }
+        requires values { AreValuesFrom 0 layer.old.kinds record.now.contribution }
+        ensures answered { OnOk result
+            (self.new ≡ record self.old { reused = self.old.reused + instances }) }
+        ensures absorbed { OnOk result (layer.new ≡ absorbing record.now depth layer.old) }
+        ensures unchanged { OnErr result (self.new ≡ self.old) }
+        ensures partly { OnErr result (IsSameButWorths layer.old layer.new) }
+    {
+        let reused = sum(self.reused, u64::from(instances))?;
+        layer.absorb(alloc, record, depth)?;
+        self.reused = reused;
+        Ok(())
+    }
+
     /// An instance is executed in a layer of its own; refused for want of memory, or where the count is at its limit.
     pub fn open(&mut self, opened: Opened) -> Result<(), AllocError>
         ensures opened { OnOk result (self.new ≡ opening opened self.old) }

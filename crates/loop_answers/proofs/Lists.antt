@@ -1,11 +1,14 @@
--- Records one after another: what is known of each, and what they leave so far.
-use Rattle.std.proofs.Common.{◌≡◌, ℕ, suc, ◌+◌, ◌-◌, ◌<◌, ℤ, List, [], ◌∷◌, map, length, drop, get_or, slice_get, All, Some, sym, ap, ◌∙◌, subst, arith}
-use Rattle.std.proofs.lemmas.List.{drop_more, get_or-map, length-map}
+-- Batches one after another: what is known of each, and what they leave so far.
+use Rattle.std.proofs.Common.{◌≡◌, ℕ, suc, ◌+◌, ◌-◌, ◌<◌, ◌≤◌, ℤ, List, [], ◌∷◌, map, length, drop, get_or, slice_get, All, Some, sym, ap, ◌∙◌, subst, arith}
+use Rattle.std.proofs.lemmas.List.{drop_more, drop_all, get_or-map, length-map}
 use Rattle.std.proofs.lemmas.List.Elements.{All-get_or}
+use Rattle.rerun_records.specs.declared.batch.Batch.{Batch}
 use Rattle.rerun_records.specs.Record.{PlainRecord}
+use Rattle.rerun_records.specs.Sums.{arguments_of_last}
 use Rattle.positions.specs.Layers.{PlainLayer, absorbing}
-use Rattle.positions.specs.Tallies.{PlainTally, answering}
-use Rattle.answered_loops.specs.Answered.{absorbed, answered_more, last_arguments}
+use Rattle.positions.specs.Tallies.{PlainTally}
+use Rattle.answered_loops.specs.Answered.{absorbed, answered_more}
+use Rattle.loop_answers.specs.Batches.{instances_in}
 
 drop_mapped : {A B : Type 0} (f : A → B) (xs : List A) (i : ℕ) (e : A) → i < length xs → e ≡ get_or xs i e → drop i (map f xs) ≡ f e ∷ drop (i + 1) (map f xs)
 drop_mapped f xs i e l at =
@@ -23,13 +26,29 @@ pub absorbs_more : {A : Type 0} (f : A → PlainRecord) (d : ℕ) (xs : List A) 
 absorbs_more f d xs i e l m total within at is so_far =
     ap (absorbed d (drop (i + 1) (map f xs))) is ∙ ap (λ rs. absorbed d rs l) (sym (drop_mapped f xs i e within at)) ∙ so_far
 
-pub counts_more : (i : ℕ) (s t u : PlainTally) → t ≡ answered_more i s → u ≡ answering t → u ≡ answered_more (i + 1) s
-counts_more i s t u e f =
-    let more : suc (s.reused + i) ≡ s.reused + (i + 1) = omega arith in
-    f ∙ ap answering e ∙ ap (λ n. record s { reused = n }) more
+-- nothing but that count has changed since
+pub still_same : (s t u : PlainTally) (n : ℕ) → t ≡ record s { reused = t.reused } → u ≡ record t { reused = n } → u ≡ record s { reused = u.reused }
+still_same s t u n e f =
+    f ∙ ap (λ (x : PlainTally). record x { reused = n }) e ∙ ap (λ m. record s { reused = m }) (sym (ap (λ (x : PlainTally). x.reused) f))
+
+-- and counted
+pub counts_more : (xs : List Batch) (i : ℕ) (b : Batch) (t u total : PlainTally) → i < length xs → b ≡ get_or xs i b → u ≡ record t { reused = t.reused + b.count } → answered_more (instances_in (drop i xs)) t ≡ total
+    → answered_more (instances_in (drop (i + 1) xs)) u ≡ total
+counts_more xs i b t u total within at is so_far =
+    let rest = instances_in (drop (i + 1) xs) in
+    let more : (t.reused + b.count) + rest ≡ t.reused + (b.count + rest) = omega arith in
+    ap (answered_more rest) is
+    ∙ ap (λ n. record t { reused = n }) more
+    ∙ ap (λ bs. answered_more (instances_in bs) t) (sym (drop_more xs i b within ∙ ap (λ c. c ∷ drop (i + 1) xs) (sym at)))
+    ∙ so_far
+
+pub counts_all : (xs : List Batch) (i : ℕ) (t total : PlainTally) → length xs ≤ i → answered_more (instances_in (drop i xs)) t ≡ total → t ≡ total
+counts_all xs i t total over so_far =
+    let none : t.reused ≡ t.reused + 0 = omega arith in
+    ap (λ n. record t { reused = n }) none ∙ ap (λ bs. answered_more (instances_in bs) t) (sym (drop_all i xs over)) ∙ so_far
 
 -- the arguments of the last one
-pub last_at : {A : Type 0} (f : A → PlainRecord) (vs : List ℤ) (xs : List A) (x : A) → Some x ≡ slice_get xs (length xs - 1) → last_arguments vs (map f xs) ≡ (f x).arguments
+pub last_at : {A : Type 0} (f : A → PlainRecord) (vs : List ℤ) (xs : List A) (x : A) → Some x ≡ slice_get xs (length xs - 1) → arguments_of_last vs (map f xs) ≡ (f x).arguments
 last_at f vs [] x e = absurd cc
 last_at f vs (y ∷ []) x e = ap (λ (z : PlainRecord). z.arguments) (ap f (let q : y ≡ x = cc in q))
 last_at f vs (y ∷ z ∷ zs) x e =

@@ -1,15 +1,12 @@
 -- What records that answer a loop's iterations leave of a strand.
-use Rattle.std.specs.Prelude.{◌≡◌, ℕ, zero, suc, ◌+◌, Bool, true, false, List, None, pos}
+use Rattle.std.specs.Prelude.{◌≡◌, ℕ, zero, suc, ◌+◌, Bool, true, false, List, None}
 use Rattle.linked_program.specs.declared.code.Expression.{Expression}
-use Rattle.rerun_records.specs.Record.{PlainRecord}
-use Rattle.positions.specs.declared.phase.Phase.TheVariants.{Leaving}
 use Rattle.positions.specs.declared.work.Work.{Work}
 use Rattle.positions.specs.Setting.{Setting}
 use Rattle.positions.specs.Activations.{PlainActivation}
 use Rattle.positions.specs.Code.{PlainLoop}
 use Rattle.positions.specs.Strands.{PlainStrand}
 use Rattle.answered_loops.specs.Ways.{IsWay}
-use Rattle.answered_loops.specs.Answered.{with_answers, iteration_depth, halved_to}
 
 -- a loop's statement by its parts
 abbrev pub loop_with : ℕ → ℕ → ℕ → ℕ → List Expression → PlainLoop
@@ -36,7 +33,3 @@ DoneBy false done same = same
 abbrev pub called_more : ℕ → Work → PlainActivation → PlainActivation
 called_more zero w a = a
 called_more (suc n) w a = record a { children = a.children + suc n; spawned = false; into = None; work = w }
-
--- a half of a loop that is halved again and that these records answer leaves
-abbrev pub halves_left : List PlainRecord → PlainStrand → PlainStrand
-halves_left rs s = record (with_answers (iteration_depth s.top) rs s) { top = halved_to s.top; phase = Leaving (pos 0) }

@@ -1,6 +1,6 @@
 //! Where the topmost instance of a strand is a loop's over a memo procedure: whether records answer its iterations, and which.
 ghost use Rattle.std.specs.Prelude.{◌≡◌, ◌≤◌, ◌==◌, ◌||◌, nat_le, ℕ, true, false, length, All, OnErr, OnOk};
-ghost use Rattle.monoid_laws.specs.Kinds.{IsMonoid};
+ghost use Rattle.monoid_laws.specs.Kinds.{AreWorths, IsMonoid};
 ghost use Rattle.rerun_records.specs.Named.{HaveValues};
 ghost use Rattle.positions.specs.Activations.{ShareFits};
 ghost use Rattle.positions.specs.Tallies.{is_own};
@@ -8,7 +8,7 @@ ghost use Rattle.activations.specs.Given.{lent};
 ghost use Rattle.answered_loops.specs.Answered.{IsInside};
 ghost use Rattle.loop_answers.specs.Ahead.{IsAnsweredAhead, IsSameButAnswers};
 
-use crate::finding::answers;
+use crate::finding::{Wanted, answers};
 use crate::taking::{end_halves, end_turns};
 use activations::code::loop_code;
 use activations::setting::Setting;
@@ -19,10 +19,6 @@ use positions::work::{Loop, Share, Work};
 use small_steps::machine::Machine;
 use std::alloc::{AllocError, Global};
 use view_pool::View;
-
-// How many iterations are looked at in one go. What was looked up of a half that records don't answer as a whole is looked up once
-// more in its own halves, so with few iterations little is lost by a record that isn't valid any more.
-const ITERATIONS: u32 = 64;
 
 /// Where the topmost instance is a loop's over a memo procedure, has records answer iterations: all those of a half that is halved
 /// again, where they can, or the first ones of those that are left one by one. Whether any were answered. Where memory is refused
@@ -76,24 +72,26 @@ fn answer_half<V: View>(
     ensures ahead { OnOk result (IsAnsweredAhead (lent setting.entry) machine.old machine.new) }
     ensures refused { OnErr result (IsSameButAnswers machine.old machine.new) }
 {
-    if share.count > ITERATIONS {
-        return Ok(false);
-    }
     let code = loop_code(setting.program, machine.top.procedure(), site);
     let by_turns = goes_by_turns(halvings, share.count, code.grain);
     if by_turns {
         return Ok(false);
     }
-    let Some(found) = answers(machine, alloc, setting, code, site, share, share.count) else {
+    let wanted = Wanted {
+        most: share.count,
+        all: true,
+    };
+    let Some(found) = answers(machine, alloc, setting, code, site, share, wanted) else {
         return Ok(false);
     };
-    if found.len() != share.count as usize {
+    if found.count != share.count {
         return Ok(false);
     }
     if !is_inside(machine) {
         return Ok(false);
     }
-    end_halves(machine, alloc, &found)
+    of_kinds(machine);
+    end_halves(machine, alloc, &found.batches)
 }
 
 /// The first of the iterations that are left one by one, as many as records answer.
@@ -114,12 +112,23 @@ fn answer_turns<V: View>(
     ensures ahead { OnOk result (IsAnsweredAhead (lent setting.entry) machine.old machine.new) }
     ensures refused { OnErr result (IsSameButAnswers machine.old machine.new) }
 {
-    let most = share.count.min(ITERATIONS);
+    let wanted = Wanted {
+        most: share.count,
+        all: false,
+    };
     let code = loop_code(setting.program, machine.top.procedure(), site);
-    let Some(found) = answers(machine, alloc, setting, code, site, share, most) else {
+    let Some(found) = answers(machine, alloc, setting, code, site, share, wanted) else {
         return Ok(false);
     };
+    of_kinds(machine);
     end_turns(machine, alloc, &found, site, share)
+}
+
+/// What the layer keeps: each reducer's value is of its kind.
+fn of_kinds<V: View>(machine: &Machine<V>)
+    ensures worths { AreWorths machine.now.layer.kinds machine.now.layer.worths }
+{
+    machine.layer.of_kinds();
 }
 
 /// Whether so many iterations, which may be halved so many times, are done one by one.

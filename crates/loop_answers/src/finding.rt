@@ -1,14 +1,17 @@
-//! The records that answer a loop's iterations.
-ghost use Rattle.std.specs.Prelude.{◌≡◌, ◌+◌, ◌-◌, ◌≤◌, ◌<◌, pos, ◌+ℤ◌, true, length, map, IfSome, slice_set};
+//! The batches of records that answer a loop's iterations.
+ghost use Rattle.std.specs.Prelude.{◌≡◌, ◌+◌, ◌-◌, ◌≤◌, ◌<◌, pos, ◌+ℤ◌, true, ◌&&◌, length, map, take, drop, Some, IfSome, slice_set};
 ghost use Rattle.linked_program.specs.CodeView.{expression as plain};
 ghost use Rattle.evaluation.specs.declared.slot.Slot.TheVariants.{Has};
 ghost use Rattle.evaluation.specs.Values.{values_at, pure};
 ghost use Rattle.meaning.specs.Elision.{depth_limit};
+ghost use Rattle.rerun_records.specs.Named.{HaveValues};
+ghost use Rattle.rerun_records.specs.Validity.{valid_at};
 ghost use Rattle.positions.specs.Activations.{ShareFits};
 ghost use Rattle.positions.specs.Code.{loop_at};
 ghost use Rattle.activations.specs.Given.{lent};
-ghost use Rattle.answered_loops.specs.Answered.{IsAnswer, HasAnswers};
+ghost use Rattle.answered_loops.specs.Arguments.{counts, are_fixed, is_fixed, is_slot};
 ghost use Rattle.loop_answers.specs.Ahead.{loop_with};
+ghost use Rattle.loop_answers.specs.Batches.{instances_in, HasBatches, IsBatchFrom, CountsAt, AreArguments};
 
 use activations::code::LoopCode;
 use activations::setting::Setting;
@@ -19,14 +22,46 @@ use input_tables::Tables;
 use layers::layer::DEEPEST;
 use linked_program::code::Expression;
 use positions::work::{Loop, Share};
-use rerun_records::record::Record;
+use rerun_records::batch::Batch;
 use small_steps::machine::Machine;
 use std::alloc::Global;
 use std::mem;
 use view_pool::View;
 
-/// The records that answer a loop's iterations, those from the first on, one after another as far as there are such, at most so
-/// many; none where the loop isn't over a memo procedure, or has no room for iterations.
+/// So many batches are looked up at most in one go, and so many single records among them: what is found of a half that isn't
+/// answered as a whole is looked up once more in its own halves, and a single record costs as much as a wide batch.
+const BATCHES: u32 = 2048;
+
+const SINGLES: u32 = 64;
+
+/// Records that go together begin at a multiple of this.
+const WIDTH: u32 = 32;
+
+/// Batches that answer a loop's iterations one after another, and how many iterations those are.
+#[derive(Drop)]
+pub(crate) struct Found<'a> {
+    pub(crate) batches: Vec<Batch<'a>>,
+    pub(crate) count: u32,
+}
+
+/// How many iterations are asked for at most, and whether fewer are of no use.
+#[derive(Clone, Copy)]
+pub(crate) struct Wanted {
+    pub(crate) most: u32,
+    pub(crate) all: bool,
+}
+
+/// Iterations of a loop: the number of the first, how many at most, their depth, and which argument is the number.
+#[derive(Clone, Copy)]
+struct Ahead {
+    number: i64,
+    most: u32,
+    depth: u32,
+    counted: Option<usize>,
+}
+
+/// Batches that answer a loop's iterations, those from the first on, one after another as far as there are such, at most so many
+/// iterations; none where the loop is over a procedure whose instances aren't recorded, or there is no room to enter them.
 pub(crate) fn answers<'a, V: View>(
     machine: &mut Machine<V>,
     alloc: Global,
@@ -34,14 +69,16 @@ pub(crate) fn answers<'a, V: View>(
     code: LoopCode<'_>,
     site: Loop,
     share: Share,
-    most: u32,
-) -> Option<Vec<&'a Record>>
+    wanted: Wanted,
+) -> Option<Found<'a>>
     requires fits { ShareFits site share }
-    requires most { most ≤ share.count }
+    requires most { wanted.most ≤ share.count }
     requires code { loop_with code.number code.variable code.grain code.callee code.arguments.now ≡ loop_at setting.program.now.codes machine.old.top.procedure site }
+    requires values { HaveValues setting.program.now.kinds setting.records.now }
     ensures unchanged { machine.new ≡ machine.old }
-    ensures few { IfSome result (λ found. length found.items ≤ most) }
-    ensures answers { IfSome result (λ found. HasAnswers (lent setting.entry) site machine.old.top share.first (map (λ r. r.now) found.items)) }
+    ensures count { IfSome result (λ found. found.count ≡ instances_in found.batches.items) }
+    ensures few { IfSome result (λ found. found.count ≤ wanted.most) }
+    ensures answers { IfSome result (λ found. HasBatches (lent setting.entry) site machine.old.top share.first found.batches.items) }
 {
     let mut numbers = mem::replace(&mut machine.numbers, Vec::new(alloc));
     let found = answers_by(
@@ -51,7 +88,7 @@ pub(crate) fn answers<'a, V: View>(
         code,
         site,
         share,
-        most,
+        wanted,
         &mut numbers,
     );
     machine.numbers = numbers;
@@ -66,58 +103,254 @@ fn answers_by<'a, V: View>(
     code: LoopCode<'_>,
     site: Loop,
     share: Share,
-    most: u32,
+    wanted: Wanted,
     numbers: &mut Vec<i64>,
-) -> Option<Vec<&'a Record>>
+) -> Option<Found<'a>>
     requires fits { ShareFits site share }
-    requires most { most ≤ share.count }
+    requires most { wanted.most ≤ share.count }
     requires code { loop_with code.number code.variable code.grain code.callee code.arguments.now ≡ loop_at setting.program.now.codes machine.old.top.procedure site }
+    requires values { HaveValues setting.program.now.kinds setting.records.now }
     ensures unchanged { machine.new ≡ machine.old }
-    ensures few { IfSome result (λ found. length found.items ≤ most) }
-    ensures answers { IfSome result (λ found. HasAnswers (lent setting.entry) site machine.old.top share.first (map (λ r. r.now) found.items)) }
+    ensures count { IfSome result (λ found. found.count ≡ instances_in found.batches.items) }
+    ensures few { IfSome result (λ found. found.count ≤ wanted.most) }
+    ensures answers { IfSome result (λ found. HasBatches (lent setting.entry) site machine.old.top share.first found.batches.items) }
 {
     let left = machine.top.left();
-    if left == 0 || !setting.program.is_memo(code.callee) {
+    if left == 0 || wanted.most == 0 || !setting.program.is_memo(code.callee) {
         return None;
     }
     let depth = DEEPEST.saturating_sub(left - 1);
     if depth == 0 {
         return None;
     }
-    let mut found = Vec::new(alloc);
-    for i in 0..most {
-        let number = number_behind(site, share, i);
-        match answer_of(machine, alloc, setting, code, depth, number, numbers) {
-            Some(record) => {
-                if found.push(record).is_err() {
-                    return Some(found);
+    let begin = number_behind(site, share, 0);
+    let counted = counted_from(machine, alloc, setting.tables, code, begin, numbers);
+    let mut batches = Vec::new(alloc);
+    let mut count = 0;
+    let mut singles = 0;
+    for _ in 0..BATCHES {
+        if count == wanted.most {
+            return Some(Found { batches, count });
+        }
+        let ahead = Ahead {
+            number: number_behind(site, share, count),
+            most: wanted.most - count,
+            depth,
+            counted,
+        };
+        match batch_from(machine, alloc, setting, code, ahead, numbers) {
+            Some(batch) => {
+                singles = singles_with(singles, batch);
+                if is_in_vain(wanted, ahead, batch, singles) {
+                    return Some(Found { batches, count });
                 }
+                if batches.push(batch).is_err() {
+                    return Some(Found { batches, count });
+                }
+                count += batch.count;
             }
-            None => return Some(found),
+            None => return Some(Found { batches, count }),
         }
     }
-    Some(found)
+    Some(Found { batches, count })
 }
 
-/// The record that answers a loop's iteration of that number at that depth.
-fn answer_of<'a, V: View>(
+/// How many single records there are with that batch.
+fn singles_with(singles: u32, batch: Batch<'_>) -> u32 {
+    if batch.count == 1 {
+        return singles.saturating_add(1);
+    }
+    singles
+}
+
+/// Whether it is of no use to look further: too many single records were found, or many iterations are all asked for, and a record
+/// stands alone where a wide batch is to begin, so that one behind it isn't valid any more, or no argument counts up.
+fn is_in_vain(wanted: Wanted, ahead: Ahead, batch: Batch<'_>, singles: u32) -> bool {
+    if singles > SINGLES {
+        return true;
+    }
+    if !wanted.all || wanted.most <= SINGLES || batch.count > 1 {
+        return false;
+    }
+    let is_begin = ahead.number % i64::from(WIDTH) == 0 && ahead.most >= WIDTH;
+    is_begin || ahead.counted.is_none()
+}
+
+/// The batch that answers a loop's iterations from that number on; `numbers` are the arguments of another iteration, where one of
+/// them counts up.
+fn batch_from<'a, V: View>(
     machine: &mut Machine<V>,
     alloc: Global,
     setting: Setting<'a>,
     code: LoopCode<'_>,
-    depth: u32,
-    number: i64,
+    ahead: Ahead,
     numbers: &mut Vec<i64>,
-) -> Option<&'a Record>
-    requires deep { 0 < depth }
-    requires depth { depth ≡ depth_limit - (machine.old.top.left - 1) }
+) -> Option<Batch<'a>>
+    requires some { 0 < ahead.most }
+    requires deep { 0 < ahead.depth }
+    requires depth { ahead.depth ≡ depth_limit - (machine.old.top.left - 1) }
+    requires counted { IfSome ahead.counted (CountsAt machine.old.top.slots code.variable (map plain code.arguments.now)) }
+    requires known { IfSome ahead.counted (λ place. AreArguments setting.tables.now.tables machine.old.top.slots code.variable (map plain code.arguments.now) numbers.old.items) }
+    requires values { HaveValues setting.program.now.kinds setting.records.now }
     ensures unchanged { machine.new ≡ machine.old }
-    ensures answer { IfSome result (λ r. IsAnswer (lent setting.entry) (loop_with code.entry.number code.entry.variable code.entry.grain code.entry.callee code.entry.arguments.now) machine.old.top.slots machine.old.top.left number r.now) }
+    ensures batch { IfSome result (IsBatchFrom (lent setting.entry) (loop_with code.entry.number code.entry.variable code.entry.grain code.entry.callee code.entry.arguments.now) machine.old.top.slots machine.old.top.left ahead.number ahead.most) }
+    ensures known { IfSome ahead.counted (λ place. AreArguments setting.entry.tables.now.tables machine.old.top.slots code.entry.variable (map plain code.entry.arguments.now) numbers.new.items) }
 {
-    if !unread_values_at(machine, alloc, setting.tables, code, number, numbers) {
+    match ahead.counted {
+        Some(place) => {
+            put_number(numbers, place, ahead.number);
+            setting.records.batch(
+                code.callee,
+                numbers,
+                place,
+                ahead.most,
+                ahead.depth,
+                setting.tables,
+                setting.program,
+            )
+        }
+        None => single_at(machine, alloc, setting, code, ahead, numbers),
+    }
+}
+
+/// Puts a number in the place of another one.
+fn put_number(numbers: &mut Vec<i64>, place: usize, number: i64)
+    requires within { place < length numbers.old.items }
+    ensures put { numbers.new.items ≡ slice_set numbers.old.items place number }
+{
+    numbers[place] = number;
+}
+
+/// The record that answers a loop's iteration of that number.
+fn single_at<'a, V: View>(
+    machine: &mut Machine<V>,
+    alloc: Global,
+    setting: Setting<'a>,
+    code: LoopCode<'_>,
+    ahead: Ahead,
+    numbers: &mut Vec<i64>,
+) -> Option<Batch<'a>>
+    requires some { 0 < ahead.most }
+    requires deep { 0 < ahead.depth }
+    requires depth { ahead.depth ≡ depth_limit - (machine.old.top.left - 1) }
+    requires values { HaveValues setting.program.now.kinds setting.records.now }
+    ensures unchanged { machine.new ≡ machine.old }
+    ensures batch { IfSome result (IsBatchFrom (lent setting.entry) (loop_with code.entry.number code.entry.variable code.entry.grain code.entry.callee code.entry.arguments.now) machine.old.top.slots machine.old.top.left ahead.number ahead.most) }
+{
+    if !unread_values_at(machine, alloc, setting.tables, code, ahead.number, numbers) {
         return None;
     }
-    setting.records.valid(code.callee, numbers, depth, setting.tables, setting.program)
+    single(setting, code.callee, numbers, ahead.depth)
+}
+
+/// The record of one instance, where it is valid.
+fn single<'a>(
+    setting: Setting<'a>,
+    procedure: usize,
+    arguments: &[i64],
+    depth: u32,
+) -> Option<Batch<'a>>
+    ensures single { IfSome result (λ b. (b.count ≡ 1) × (valid_at setting.entry.program.now.revisions setting.entry.tables.now.tables depth setting.entry.records.now procedure arguments.now ≡ Some b.sum.now)) }
+{
+    match setting.records.valid(procedure, arguments, depth, setting.tables, setting.program) {
+        Some(sum) => Some(Batch { sum, count: 1 }),
+        None => None,
+    }
+}
+
+/// The place of the argument that counts up from one of a loop's iterations to the next, where one does; in `numbers` are the
+/// arguments of that iteration then.
+fn counted_from<V: View>(
+    machine: &mut Machine<V>,
+    alloc: Global,
+    tables: &Tables,
+    code: LoopCode<'_>,
+    number: i64,
+    numbers: &mut Vec<i64>,
+) -> Option<usize>
+    ensures unchanged { machine.new ≡ machine.old }
+    ensures counted { IfSome result (CountsAt machine.old.top.slots code.entry.variable (map plain code.entry.arguments.now)) }
+    ensures known { IfSome result (λ place. AreArguments tables.now.tables machine.old.top.slots code.entry.variable (map plain code.entry.arguments.now) numbers.new.items) }
+{
+    let counted = counted_place(machine, code);
+    if !unread_values_at(machine, alloc, tables, code, number, numbers) {
+        return None;
+    }
+    counted
+}
+
+/// The place of the argument that is the number of a loop's iteration, where it counts up from one to the next and all others
+/// stay.
+fn counted_place<V: View>(machine: &Machine<V>, code: LoopCode<'_>) -> Option<usize>
+    ensures counted { IfSome result (CountsAt machine.now.top.slots code.entry.variable (map plain code.entry.arguments.now)) }
+{
+    if code.variable >= machine.top.slots().len() {
+        return None;
+    }
+    counted_argument(code.arguments, code.variable)
+}
+
+/// The place of that slot among arguments that are numbers and slots, where it stands once.
+fn counted_argument(arguments: &[Expression], variable: usize) -> Option<usize>
+    ensures counted { IfSome result (λ place. counts variable place (map plain arguments.now) ≡ true) }
+{
+    for place in 0..arguments.len() {
+        if counts_at(arguments, variable, place) {
+            return Some(place);
+        }
+    }
+    None
+}
+
+/// Whether that slot stands at that place alone, and the other arguments are numbers and slots.
+#[tactic(auto, using(crate::proofs::Counted::goes_by))]
+fn counts_at(arguments: &[Expression], variable: usize, place: usize) -> bool
+    requires within { place < length arguments.now }
+    ensures counts { result ≡ true → counts variable place (map plain arguments.now) ≡ true }
+{
+    if !is_slot(&arguments[place], variable) {
+        return false;
+    }
+    others_are_fixed(arguments, variable, place)
+}
+
+/// Whether all but that at a place are numbers and slots other than that.
+fn others_are_fixed(arguments: &[Expression], variable: usize, place: usize) -> bool
+    requires within { place < length arguments.now }
+    ensures fixed { result ≡ (are_fixed variable (map plain (take place arguments.now)) && are_fixed variable (map plain (drop (place + 1) arguments.now))) }
+{
+    are_fixed(&arguments[..place], variable) && are_fixed(&arguments[place + 1..], variable)
+}
+
+/// Whether all are numbers and slots other than that.
+fn are_fixed(arguments: &[Expression], variable: usize) -> bool
+    ensures fixed { result ≡ are_fixed variable (map plain arguments.now) }
+{
+    for argument in arguments {
+        if !is_fixed(argument, variable) {
+            return false;
+        }
+    }
+    true
+}
+
+fn is_fixed(argument: &Expression, variable: usize) -> bool
+    ensures fixed { result ≡ is_fixed variable (plain argument.now) }
+{
+    match argument {
+        Expression::Number(_) => true,
+        Expression::Slot(slot) => *slot != variable,
+        _ => false,
+    }
+}
+
+fn is_slot(argument: &Expression, variable: usize) -> bool
+    ensures slot { result ≡ is_slot variable (plain argument.now) }
+{
+    match argument {
+        Expression::Slot(slot) => *slot == variable,
+        _ => false,
+    }
 }
 
 /// The arguments of a loop's iteration of that number, in place of what was in `numbers`; false where there are none, or something

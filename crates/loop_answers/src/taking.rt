@@ -1,31 +1,34 @@
-//! What records that answer a loop's iterations leave of a strand.
-ghost use Rattle.std.specs.Prelude.{◌≡◌, ◌+◌, ◌-◌, ◌≤◌, ◌<◌, ◌^◌, length, map, All, OnErr, OnOk, IfOk};
+//! What batches that answer a loop's iterations leave of a strand.
+ghost use Rattle.std.specs.Prelude.{◌≡◌, ◌+◌, ◌-◌, ◌≤◌, ◌<◌, ◌^◌, All, OnErr, OnOk, IfOk};
 ghost use Rattle.monoid_laws.specs.Kinds.{IsMonoid};
 ghost use Rattle.rerun_records.specs.Named.{HaveValues};
+ghost use Rattle.rerun_records.specs.Sums.{arguments_of_last};
 ghost use Rattle.positions.specs.Activations.{ShareFits, WorkFits};
-ghost use Rattle.answered_loops.specs.Answered.{absorbed, answered_more, last_arguments, with_answers, iteration_depth, turns_answered, turned_to, halved_to};
-ghost use Rattle.loop_answers.specs.Ahead.{called_more, halves_left, DoneBy, IsSameButAnswers};
+ghost use Rattle.answered_loops.specs.Answered.{absorbed, answered_more, iteration_depth, turned_to, halved_to};
+ghost use Rattle.loop_answers.specs.Ahead.{called_more, DoneBy, IsSameButAnswers};
+ghost use Rattle.loop_answers.specs.Batches.{sums_of, instances_in, with_batches, halves_left, turns_left};
 
+use crate::finding::Found;
 use activations::activation::Activation;
 use layers::layer::{DEEPEST, Layer};
 use layers::tally::Tally;
 use positions::phase::Phase;
 use positions::work::{Loop, Share, Work};
-use rerun_records::record::Record;
+use rerun_records::batch::Batch;
 use small_steps::machine::Machine;
 use std::alloc::{AllocError, Global};
 use view_pool::View;
 
-/// Has these records answer all iterations of a half that is halved again, which leaves; whether there is room for the numbers of
+/// Has these batches answer all iterations of a half that is halved again, which leaves; whether there is room for the numbers of
 /// its halves.
 pub(crate) fn end_halves<V: View>(
     machine: &mut Machine<V>,
     alloc: Global,
-    found: &[&Record],
+    found: &[Batch<'_>],
 ) -> Result<bool, AllocError>
     requires monoids { All IsMonoid machine.old.layer.kinds }
-    requires values { HaveValues machine.old.layer.kinds (map (λ r. r.now) found.now) }
-    ensures ended { IfOk result (λ done. DoneBy done (machine.new ≡ halves_left (map (λ r. r.now) found.now) machine.old) (machine.new ≡ machine.old)) }
+    requires values { HaveValues machine.old.layer.kinds (sums_of found.now) }
+    ensures ended { IfOk result (λ done. DoneBy done (machine.new ≡ halves_left found.now machine.old) (machine.new ≡ machine.old)) }
     ensures refused { OnErr result (IsSameButAnswers machine.old machine.new) }
 {
     if machine.top.children().checked_add(2).is_none() {
@@ -37,41 +40,47 @@ pub(crate) fn end_halves<V: View>(
     Ok(true)
 }
 
-/// Has these records answer the first of the iterations that are left one by one; whether there are such, and room for their
+/// Has these batches answer the first of the iterations that are left one by one; whether there are such, and room for their
 /// numbers.
 pub(crate) fn end_turns<V: View>(
     machine: &mut Machine<V>,
     alloc: Global,
-    found: &[&Record],
+    found: &Found<'_>,
     site: Loop,
     share: Share,
 ) -> Result<bool, AllocError>
     requires fits { ShareFits site share }
-    requires few { length found.now ≤ share.count }
+    requires count { found.now.count ≡ instances_in found.now.batches.items }
+    requires few { found.now.count ≤ share.count }
     requires running { machine.old.phase ≡ Phase.Running }
     requires monoids { All IsMonoid machine.old.layer.kinds }
-    requires values { HaveValues machine.old.layer.kinds (map (λ r. r.now) found.now) }
-    ensures ended { IfOk result (λ done. DoneBy done (machine.new ≡ turns_answered site share (map (λ r. r.now) found.now) machine.old) (machine.new ≡ machine.old)) }
+    requires values { HaveValues machine.old.layer.kinds (sums_of found.now.batches.items) }
+    ensures ended { IfOk result (λ done. DoneBy done (machine.new ≡ turns_left site share found.now.batches.items machine.old) (machine.new ≡ machine.old)) }
     ensures refused { OnErr result (IsSameButAnswers machine.old machine.new) }
 {
-    let count = found.len() as u32;
-    if count == 0 || machine.top.children().checked_add(count as usize).is_none() {
+    if found.count == 0
+        || machine
+            .top
+            .children()
+            .checked_add(found.count as usize)
+            .is_none()
+    {
         return Ok(false);
     }
-    take_answers(machine, alloc, found)?;
-    call_turns(&mut machine.top, site, share, count);
+    take_answers(machine, alloc, &found.batches)?;
+    call_turns(&mut machine.top, site, share, found.count);
     Ok(true)
 }
 
-/// Has these records answer iterations of the topmost instance, a loop's.
+/// Has these batches answer iterations of the topmost instance, a loop's.
 fn take_answers<V: View>(
     machine: &mut Machine<V>,
     alloc: Global,
-    found: &[&Record],
+    found: &[Batch<'_>],
 ) -> Result<(), AllocError>
     requires monoids { All IsMonoid machine.old.layer.kinds }
-    requires values { HaveValues machine.old.layer.kinds (map (λ r. r.now) found.now) }
-    ensures taken { OnOk result (machine.new ≡ with_answers (iteration_depth machine.old.top) (map (λ r. r.now) found.now) machine.old) }
+    requires values { HaveValues machine.old.layer.kinds (sums_of found.now) }
+    ensures taken { OnOk result (machine.new ≡ with_batches (iteration_depth machine.old.top) found.now machine.old) }
     ensures refused { OnErr result (IsSameButAnswers machine.old machine.new) }
 {
     let depth = DEEPEST.saturating_sub(machine.top.left().saturating_sub(1));
@@ -79,34 +88,34 @@ fn take_answers<V: View>(
     take_over(alloc, &mut machine.tally, &mut machine.layer, found, depth)
 }
 
-/// Has records answer instances at that depth, one after another: what they have goes behind the layer.
+/// Has batches answer instances at that depth, one after another: what they have goes behind the layer.
 fn take_over<V: View>(
     alloc: Global,
     tally: &mut Tally,
     layer: &mut Layer<V>,
-    found: &[&Record],
+    found: &[Batch<'_>],
     depth: u32,
 ) -> Result<(), AllocError>
     requires monoids { All IsMonoid layer.old.kinds }
-    requires values { HaveValues layer.old.kinds (map (λ r. r.now) found.now) }
-    ensures answered { OnOk result (tally.new ≡ answered_more (length found.now) tally.old) }
-    ensures absorbed { OnOk result (layer.new ≡ absorbed depth (map (λ r. r.now) found.now) layer.old) }
+    requires values { HaveValues layer.old.kinds (sums_of found.now) }
+    ensures answered { OnOk result (tally.new ≡ answered_more (instances_in found.now) tally.old) }
+    ensures absorbed { OnOk result (layer.new ≡ absorbed depth (sums_of found.now) layer.old) }
     ensures counted { tally.new ≡ record tally.old { reused = tally.new.reused } }
     ensures kinds { layer.new.kinds ≡ layer.old.kinds }
 {
-    for record in found {
-        tally.reuse(alloc, layer, record, depth)?;
+    for batch in found {
+        tally.reuse_for(alloc, layer, batch.sum, batch.count, depth)?;
     }
     Ok(())
 }
 
-/// The arguments of the last of these records, where there is one.
-fn keep_last(arguments: &mut Vec<i64>, found: &[&Record]) -> Result<(), AllocError>
-    ensures last { OnOk result (arguments.new.items ≡ last_arguments arguments.old.items (map (λ r. r.now) found.now)) }
+/// The arguments of the last of these instances, where there is one.
+fn keep_last(arguments: &mut Vec<i64>, found: &[Batch<'_>]) -> Result<(), AllocError>
+    ensures last { OnOk result (arguments.new.items ≡ arguments_of_last arguments.old.items (sums_of found.now)) }
 {
     if let Some(last) = found.last() {
         arguments.clear();
-        arguments.extend_from_slice(last.arguments())?;
+        arguments.extend_from_slice(last.sum.arguments())?;
     }
     Ok(())
 }

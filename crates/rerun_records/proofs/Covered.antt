@@ -195,7 +195,7 @@ none_rests note s (c ∷ cs) e h =
       | false ↦ λ r. none_rests note s cs e (right_not (lies_in c s) (list_any (λ c. lies_in c s) cs) h)
     ] refl
 
-untouched : (spans : List Span) (changes : List (ℕ × ℤ)) (note : Note) → is_touched spans changes ≡ false → is_covered_by spans note ≡ true → list_any (rests_on note) changes ≡ false
+pub untouched : (spans : List Span) (changes : List (ℕ × ℤ)) (note : Note) → is_touched spans changes ≡ false → is_covered_by spans note ≡ true → list_any (rests_on note) changes ≡ false
 untouched [] changes note h e = absurd (true≢false (sym e))
 untouched (s ∷ ss) changes note h e =
     elim (covers note s) as (λ b. covers note s ≡ b → b || is_covered_by ss note ≡ true → list_any (rests_on note) changes ≡ false) [

@@ -4,6 +4,7 @@ use Rattle.std.proofs.Crossing.{crosses, Vec-send, Vec-sync}
 use Rattle.indexmap.proofs.set.IndexSet.TheSendSync as sets
 use Rattle.std.proofs.hash.FoldHasher.TheSendSync as folds
 use Rattle.monoid_laws.proofs.Val.TheSendSync as vals
+use Rattle.monoid_laws.proofs.Kind.TheSendSync as kinds
 use Rattle.evaluation.proofs.reading.Reading.TheSendSync as reading
 use Rattle.rerun_records.proofs.spans.Span.TheSendSync as spans
 use Rattle.rerun_records.proofs.nested.Nested.TheSendSync as nested
@@ -11,6 +12,9 @@ use Rattle.rerun_records.specs.contracts.readings.Node as Node
 use Rattle.rerun_records.specs.contracts.readings.Readings as Readings
 use Rattle.rerun_records.specs.contracts.record.Record as Record
 use Rattle.rerun_records.specs.contracts.records.Records as Records
+use Rattle.rerun_records.specs.contracts.block.Block as Block
+use Rattle.rerun_records.specs.contracts.level.Level as Level
+use Rattle.rerun_records.specs.contracts.blocks.Blocks as Blocks
 use Rattle.rerun_records.proofs.readings.Below.TheLaws.TheKnot.{both_send-Node, both_sync-Node}
 
 node_send : IsSend (Node.the_field).row
@@ -45,8 +49,26 @@ record_send = let s = readings_send in search (sendable, crosses, vals.the_send,
 pub record_sync : IsSync (Record.the_field).row
 record_sync = let y = readings_sync in search (sendable, crosses, vals.the_sync, nested.the_sync) depth 20
 
+block_send : IsSend (Block.the_field).row
+block_send = let s = record_send in search (sendable, crosses) depth 20
+
+block_sync : IsSync (Block.the_field).row
+block_sync = let y = record_sync in search (sendable, crosses) depth 20
+
+level_send : IsSend (Level.the_field).row
+level_send = let s = block_send in search (sendable, crosses) depth 20
+
+level_sync : IsSync (Level.the_field).row
+level_sync = let y = block_sync in search (sendable, crosses) depth 20
+
+blocks_send : IsSend (Blocks.the_field).row
+blocks_send = let s = level_send in search (sendable, crosses, kinds.the_send) depth 20
+
+blocks_sync : IsSync (Blocks.the_field).row
+blocks_sync = let y = level_sync in search (sendable, crosses, kinds.the_sync) depth 20
+
 pub records_send : IsSend (Records.the_field).row
-records_send = let s = record_send in search (sendable, crosses, sets.the_send, folds.the_send) depth 20
+records_send = let s = record_send in let b = blocks_send in search (sendable, crosses, sets.the_send, folds.the_send) depth 20
 
 pub records_sync : IsSync (Records.the_field).row
-records_sync = let y = record_sync in search (sendable, crosses, sets.the_sync, folds.the_sync) depth 20
+records_sync = let y = record_sync in let b = blocks_sync in search (sendable, crosses, sets.the_sync, folds.the_sync) depth 20

@@ -1,7 +1,7 @@
 -- How a record is found among those that stand, and whether it is valid.
-use Rattle.std.proofs.Common.{◌≡◌, ℕ, ℤ, Bool, true, false, cond, List, [], ◌∷◌, length, Some, None, sym, ap, ◌∙◌, subst}
-use Rattle.std.specs.Prelude.{slice_get, nat_lt}
-use Rattle.std.specs.List.{find, position, position_or_len}
+use Rattle.std.proofs.Common.{◌≡◌, ℕ, ℤ, Bool, true, false, cond, List, [], ◌∷◌, Some, None, sym, ap, ◌∙◌, subst}
+use Rattle.std.specs.Prelude.{slice_get}
+use Rattle.std.specs.List.{find}
 use Rattle.program_tree.specs.Plain.{Name}
 use Rattle.meaning.specs.Every.{every}
 use Rattle.meaning.specs.Tables.{Tables}
@@ -10,13 +10,9 @@ use Rattle.rerun_records.specs.Validity.{record_valid, only_valid, valid_at}
 use Rattle.rerun_records.specs.Doubted.{in_step, reads_in_step, IsInStep}
 use Rattle.rerun_records.specs.Moments.{doubts_at, doubted_by, standing}
 use Rattle.rerun_records.proofs.Members.{left_is, right_is}
-use Rattle.rerun_records.proofs.Standing.{found_stands, none_stands}
+use Rattle.rerun_records.proofs.Standing.{none_stands}
 
-place_of : (b : Bool) (i n : ℕ) → Some i ≡ cond b (Some n) None → n ≡ i
-place_of true i n e = cc
-place_of false i n e = absurd cc
-
-passes_found : (p q : PlainRecord → Bool) (rs : List PlainRecord) (r : PlainRecord) → every q rs ≡ true → find p rs ≡ Some r → q r ≡ true
+pub passes_found : (p q : PlainRecord → Bool) (rs : List PlainRecord) (r : PlainRecord) → every q rs ≡ true → find p rs ≡ Some r → q r ≡ true
 passes_found p q [] r e f = absurd cc
 passes_found p q (x ∷ xs) r e f =
     elim (p x) as (λ b. cond b (Some x) (find p xs) ≡ Some r → q r ≡ true) [
@@ -25,10 +21,7 @@ passes_found p q (x ∷ xs) r e f =
     ] f
 
 module _ (changes : List (ℕ × ℤ)) (ns : List ℕ) (rs : List PlainRecord) (procedure : ℕ) (arguments : List ℤ) where
-  module _ (place : ℕ) (k : PlainRecord) (at : Some place ≡ position (is_of procedure arguments) rs) (is : Some k ≡ find (is_of procedure arguments) rs) where
-    found_so : find (is_of procedure arguments) (standing changes ns rs) ≡ Some (doubted_by (doubts_at changes (slice_get ns place)) k)
-    found_so = found_stands changes procedure arguments ns rs place k (place_of (nat_lt (position_or_len (is_of procedure arguments) rs) (length rs)) place (position_or_len (is_of procedure arguments) rs) at) (sym is)
-
+  module _ (place : ℕ) (k : PlainRecord) (found_so : find (is_of procedure arguments) (standing changes ns rs) ≡ Some (doubted_by (doubts_at changes (slice_get ns place)) k)) where
     pub found_in_step : (tables : Tables) (now : List PlainRecord) (doubts : Doubts) → standing changes ns rs ≡ now → IsInStep tables now → doubts ≡ doubts_at changes (slice_get ns place)
         → every (in_step tables doubts) k.reads ≡ true
     found_in_step tables now doubts n h d =

@@ -1,4 +1,6 @@
 pub mod Members
+pub mod Absorbed
+pub mod Summed
 pub mod Covered
 pub mod Puts
 pub mod InStep
@@ -8,5 +10,12 @@ pub mod Marks
 pub mod Numbers
 pub mod SameBut
 pub mod Lookups
+pub mod Singles
 pub mod NodeNotes
+pub mod SameKinds
+pub mod Homes
+pub mod Touched
+pub mod Leaves
+pub mod Wholes
 pub mod Crosses
+pub mod Rows

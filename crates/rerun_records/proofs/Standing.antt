@@ -3,6 +3,7 @@ use Rattle.std.proofs.Common.{◌≡◌, ℕ, zero, suc, ◌+◌, ◌≤◌, ◌
 use Rattle.std.specs.Prelude.{slice_get, slice_set}
 use Rattle.std.specs.List.{find, position_or_len, AllByRecursion, IsDistinct}
 use Rattle.std.proofs.lemmas.Bool.{le-leb}
+use Rattle.std.proofs.lemmas.List.{length-set}
 use Rattle.std.proofs.Math.Seq.{drop-length}
 use Rattle.indexmap.specs.IndexSet.{replace_key}
 use Rattle.meaning.specs.Every.{every}
@@ -133,6 +134,23 @@ module _ (changes : List (ℕ × ℤ)) where
       (left_is (is_moment (length changes) n) (every (is_moment (length changes)) ns) e)
       (stamped_moments ns place (right_is (is_moment (length changes) n) (every (is_moment (length changes)) ns) e))
 
+  set_moments : (ns : List ℕ) (place : ℕ) → every (is_moment (length changes)) ns ≡ true → every (is_moment (length changes)) (slice_set ns place (length changes)) ≡ true
+  set_moments [] place e = e
+  set_moments (n ∷ ns) zero e = both (is_moment (length changes) (length changes)) (every (is_moment (length changes)) ns) now_moment (right_is (is_moment (length changes) n) (every (is_moment (length changes)) ns) e)
+  set_moments (n ∷ ns) (suc place) e =
+      both (is_moment (length changes) n) (every (is_moment (length changes)) (slice_set ns place (length changes))) (left_is (is_moment (length changes) n) (every (is_moment (length changes)) ns) e)
+      (set_moments ns place (right_is (is_moment (length changes) n) (every (is_moment (length changes)) ns) e))
+
+  -- where the record at a place stands since now
+  pub set_stand : (ns ms : List ℕ) (rs : List PlainRecord) (place : ℕ) → ms ≡ slice_set ns place (length changes) → AreStanding changes ns rs → AreStanding changes ms rs
+  set_stand ns ms rs place e h = record {
+    single = h.single;
+    settled_are = h.settled_are;
+    places = ap length e ∙ length-set ns place (length changes) ∙ h.places;
+    moments_are = rw e (set_moments ns place h.moments_are);
+    few = h.few;
+  }
+
   module _ (ns ms : List ℕ) (rs now : List PlainRecord) (r : PlainRecord) (place : ℕ) (keys : now ≡ replace_key same_instance rs r) (made : settled r ≡ r) (found : place ≡ at r rs)
       (stamps : ms ≡ stamped ns place (length changes)) (h : AreStanding changes ns rs) where
     -- with a record put in, all stand
@@ -154,6 +172,13 @@ module _ (changes : List (ℕ × ℤ)) where
 
     pub place_there : place ≤ length ns
     place_there = rw (found, h.places) (place_within r rs)
+
+-- a record is there only within
+pub get_within : (rs : List PlainRecord) (ns : List ℕ) (i : ℕ) (r : PlainRecord) → length ns ≡ length rs → slice_get rs i ≡ Some r → i < length ns
+get_within [] ns i r e f = absurd cc
+get_within (x ∷ xs) [] i r e f = absurd (omega (arith, e))
+get_within (x ∷ xs) (n ∷ ns) zero r e f = omega arith
+get_within (x ∷ xs) (n ∷ ns) (suc i) r e f = let shorter : length ns ≡ length xs = omega (arith, e) in let h = get_within xs ns i r shorter f in omega (arith, h)
 
 -- at most one more
 pub one_longer : (ns : List ℕ) (place n : ℕ) → length (stamped ns place n) ≤ length ns + 1

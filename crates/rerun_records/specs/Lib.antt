@@ -7,3 +7,8 @@ pub mod Doubted
 pub mod Moments
 pub mod Named
 pub mod Nested
+pub mod Batches
+pub mod Sums
+pub mod Summing
+pub mod Blocks
+pub mod Gathering

@@ -1,5 +1,5 @@
 // Rows that were changed, and since when records stand.
-ghost use Rattle.std.specs.Prelude.{◌≡◌, ◌<◌, ◌≤◌, ◌++◌, ◌∷◌, [], true, false, length, map, option_copied, replicate, slice_get, vec_capacity, cond};
+ghost use Rattle.std.specs.Prelude.{◌≡◌, Some, ◌<◌, ◌≤◌, ◌++◌, ◌∷◌, [], true, false, length, map, option_copied, replicate, slice_get, slice_set, vec_capacity, cond};
 ghost use Rattle.std.specs.List.{list_any};
 ghost use Rattle.meaning.specs.Every.{every};
 ghost use Rattle.evaluation.specs.Short.{note_of};
@@ -87,5 +87,24 @@ pub(crate) fn stand(moments: &mut Vec<u32>, place: usize, now: usize)
         moments[place] = now as u32;
     } else {
         moments.push_reserved(now as u32);
+    }
+}
+
+/// Has the record at that place stand since now, when there are so many changes.
+pub(crate) fn stamp(moments: &mut Vec<u32>, place: usize, now: usize)
+    requires few { now < never }
+    requires within { place < length moments.old.items }
+    ensures stamped { moments.new.items ≡ slice_set moments.old.items place now }
+{
+    moments[place] = now as u32;
+}
+
+/// Whether the record at that place stands since now, when there are so many changes.
+pub(crate) fn is_stamped(moments: &[u32], place: usize, now: usize) -> bool
+    ensures stamped { result ≡ true → slice_get moments.now place ≡ Some now }
+{
+    match moments.get(place) {
+        Some(moment) => *moment as usize == now,
+        None => false,
     }
 }

@@ -1,6 +1,6 @@
 //! What instances have read, each by reference to what the instances below it have.
-ghost use Rattle.std.specs.Prelude.{◌≡◌, ◌++◌, IfOk, OnOk, map, true};
-ghost use Rattle.std.specs.List.{flat_map};
+ghost use Rattle.std.specs.Prelude.{◌≡◌, ◌++◌, IfOk, OnOk, map, true, false};
+ghost use Rattle.std.specs.List.{flat_map, list_any};
 ghost use Rattle.meaning.specs.Every.{every};
 ghost use Rattle.evaluation.specs.declared.note.Note.{Note as PlainNote};
 ghost use Rattle.rerun_records.specs.Record.{rows};
@@ -8,7 +8,8 @@ ghost use Rattle.evaluation.specs.Short.{note_of};
 ghost use Rattle.rerun_records.specs.Spans.{is_covered_by};
 ghost use Rattle.rerun_records.specs.Readings.{all_of, node_notes, shared_notes, held_notes, is_covered, is_covered_share, is_covered_below};
 ghost use Rattle.rerun_records.specs.Validity.{note_agrees};
-ghost use Rattle.rerun_records.specs.Doubted.{agrees_if_changed, in_step};
+ghost use Rattle.rerun_records.specs.Doubted.{rests_on, agrees_if_changed, in_step};
+ghost use Rattle.rerun_records.specs.Blocks.{is_apart};
 
 use crate::changes::is_among;
 use crate::spans::{Span, are_touched, put_read, put_spans};
@@ -104,6 +105,14 @@ impl Readings {
             return true;
         }
         node_doubted_agrees(&self.node, changes, tables)
+    }
+
+    /// Whether one of these changes, each given by its table's number and the row, may have changed what was read, by its own
+    /// readings and the spans of the others.
+    pub(crate) fn are_touched(&self, changes: &[(usize, i64)]) -> bool
+        ensures apart { result ≡ false → every (is_apart changes.now) self.now ≡ true }
+    {
+        node_is_touched(&self.node, changes)
     }
 
     /// Copies of all of them, in order: for who looks at a record from outside.
@@ -226,6 +235,33 @@ fn doubted_parts_agree(parts: &[Arc<Node>], changes: &[(usize, i64)], tables: &T
         }
     }
     true
+}
+
+// Whether one of the changes may have changed what was read there or below.
+fn node_is_touched(node: &Node, changes: &[(usize, i64)]) -> bool
+    requires covered { is_covered node.now ≡ true }
+    ensures apart { result ≡ false → every (is_apart changes.now) (node_notes node.now) ≡ true }
+{
+    if are_own_touched(&node.own, changes) {
+        return true;
+    }
+    match &node.below {
+        Some(below) => are_touched(&below.spans, changes),
+        None => false,
+    }
+}
+
+// Whether one of the changes may have changed one of these readings.
+fn are_own_touched(own: &[Reading], changes: &[(usize, i64)]) -> bool
+    ensures touched { result
+        ≡ list_any (λ note. list_any (rests_on note) changes.now) (map note_of own.now) }
+{
+    for reading in own {
+        if is_among(reading, changes) {
+            return true;
+        }
+    }
+    false
 }
 
 // Puts the notes of a node and of those below it behind others.

@@ -1,5 +1,5 @@
 //! The record of a memo instance that is over.
-ghost use Rattle.std.specs.Prelude.{◌≡◌, ◌+◌, suc, map, nat_eq, nat_le, ◌++◌, true, option_copied};
+ghost use Rattle.std.specs.Prelude.{◌≡◌, ◌+◌, ◌&&◌, suc, map, nat_eq, nat_le, ◌++◌, true, option_copied};
 ghost use Rattle.std.specs.Cmp.Lexicographic.{pointwise};
 ghost use Rattle.std.specs.Cmp.Rules.{comparing, hashing};
 ghost use Rattle.std.specs.Hash as fed;
@@ -151,6 +151,15 @@ impl Record {
         doubted_agree(&self.reads, changes, tables)
             && are_current(self.nested.entered(), program)
             && fits(depth, self.nested.height())
+    }
+
+    /// Whether the procedures entered are as they were, and an instance at that depth with as many nested in it stays within the
+    /// limit.
+    pub(crate) fn is_allowed(&self, depth: u32, program: &Checked) -> bool
+        ensures allowed { result ≡ (every (has_revision program.now.revisions) self.now.entered
+            && nat_le (depth + self.now.height) (suc depth_limit)) }
+    {
+        are_current(self.nested.entered(), program) && fits(depth, self.nested.height())
     }
 
     /// Whether the tables hold what was read.

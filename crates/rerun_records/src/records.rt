@@ -1,5 +1,6 @@
 //! The records of a session.
-ghost use Rattle.std.specs.Prelude.{◌≡◌, ◌↔◌, IsTrue, List, [], length, ◌<◌, ◌≤◌, ◌+◌, OnOk, OnErr, option_copied, map, vec_capacity};
+ghost use Rattle.std.specs.Prelude.{◌≡◌, ◌↔◌, IsTrue, ℕ, List, [], length, ◌<◌, ◌≤◌, ◌+◌, Some, None, OnOk, OnErr, IfSome, IfNone, option_copied, map, true, slice_get, vec_capacity};
+ghost use Rattle.std.specs.List.{find};
 ghost use Rattle.std.specs.Cmp.Rules.{comparing, hashing};
 ghost use Rattle.indexmap.specs.IndexSet.{spare};
 ghost use Rattle.std.proofs.Common.{rules};
@@ -10,14 +11,20 @@ ghost use Rattle.rerun_records.specs.Moments.{standing, AreStanding, first_momen
 ghost use Rattle.meaning.specs.Tables.{Tables as PlainTables};
 ghost use Rattle.rerun_records.specs.Commits.{put_record, put_records, AreSingle};
 ghost use Rattle.rerun_records.specs.Named.{looked_up, FindsNamed, CommitsNamed, HaveValues};
-ghost use Rattle.monoid_laws.specs.declared.Kind.{Kind};
+ghost use Rattle.rerun_records.specs.Batches.{IsBatch};
+ghost use Rattle.rerun_records.specs.Blocks.{BlockFits, BlocksFit, stands_at};
+ghost use Rattle.monoid_laws.specs.declared.Kind.{Kind as PlainKind};
 
-use crate::changes::{NEVER, changes_since, is_listed, stand};
+use crate::batch::Batch;
+use crate::block::Block;
+use crate::blocks::{Blocks, Width};
+use crate::changes::{NEVER, changes_since, is_listed, is_stamped, stamp, stand};
 use crate::key::Key;
 use crate::record::Record;
 use indexmap::{Equivalent, IndexSet};
 use input_tables::Tables;
 use linked_program::checked::Checked;
+use monoid_laws::Kind;
 use std::alloc::{AllocError, Global};
 use std::hash::{Hash, Hasher};
 use std::marker::Model;
@@ -37,18 +44,21 @@ pub struct Records {
     moments: Vec<u32>,
     // The rows that were changed, by their tables' numbers.
     changes: Vec<(usize, i64)>,
+    // Records in a row that stand, so that what they have together answers them all.
+    blocks: Blocks,
 }
 
 impl Model for Records {
     ghost use Rattle.std.specs.Prelude.{List};
     ghost use Rattle.rerun_records.specs.Record.{PlainRecord};
     ghost use Rattle.rerun_records.specs.Moments.{standing, AreStanding};
+    ghost use Rattle.rerun_records.specs.Blocks.{BlocksFit};
 
     ghost Value = { List PlainRecord };
 
     ghost view = { λ r. standing r.changes.items r.moments.items r.by_instance.keys };
 
-    ghost invariant = { λ r. AreStanding r.changes.items r.moments.items r.by_instance.keys };
+    ghost invariant = { λ r. AreStanding r.changes.items r.moments.items r.by_instance.keys × BlocksFit (standing r.changes.items r.moments.items r.by_instance.keys) r.blocks };
 }
 
 // An instance that a record is looked up for.
@@ -79,6 +89,7 @@ impl Records {
             by_instance: IndexSet::new(alloc),
             moments: Vec::new(alloc),
             changes: Vec::new(alloc),
+            blocks: Blocks::new(alloc),
         }
     }
 
@@ -124,20 +135,201 @@ impl Records {
         ensures valid { option_copied result ≡ valid_at program.now.revisions tables.now.tables depth
             self.now procedure arguments.now }
     {
+        match self.place_of(procedure, arguments) {
+            Some((place, record)) => self.valid_in(place, record, depth, tables, program),
+            None => None,
+        }
+    }
+
+    /// The record of the procedure of that number with these arguments, valid or not, and its place.
+    pub(crate) fn place_of(&self, procedure: usize, arguments: &[i64]) -> Option<(usize, &Record)>
+        ensures there { IfSome result (λ found.
+            slice_get (map settled self.now) found.0 ≡ Some found.1.now) }
+        ensures procedure { IfSome result (λ found. found.1.now.procedure ≡ procedure) }
+        ensures arguments { IfSome result (λ found. found.1.now.arguments ≡ arguments.now) }
+        ensures none { IfNone result (find (is_of procedure arguments.now) self.now ≡ None) }
+    {
         match self.by_instance.get_full(Asked {
             procedure,
             arguments,
         }) {
+            Some((place, record)) => Some((place, record)),
+            None => None,
+        }
+    }
+
+    // The record at that place, where it is valid now for an instance at that depth.
+    fn valid_in<'a>(
+        &self,
+        place: usize,
+        record: &'a Record,
+        depth: u32,
+        tables: &Tables,
+        program: &Checked,
+    ) -> Option<&'a Record>
+        requires in_step { IsInStep tables.now.tables self.now }
+        requires there { slice_get (map settled self.now) place ≡ Some record.now }
+        ensures valid { option_copied result ≡ valid_at program.now.revisions tables.now.tables depth
+            self.now record.now.procedure record.now.arguments }
+    {
+        let changes = changes_since(&self.changes, &self.moments, place);
+        if !record.stays_valid(depth, changes, tables, program) {
+            return None;
+        }
+        record.settled();
+        Some(record)
+    }
+
+    /// Instances that records answer: that of the procedure of that number with these arguments, at that depth, and those with
+    /// the next greater numbers in the counted argument, in all as many as are known to go together, at most so many. None where
+    /// the first has no valid record. It takes no memory.
+    pub fn batch(
+        &self,
+        procedure: usize,
+        arguments: &[i64],
+        counted: usize,
+        most: u32,
+        depth: u32,
+        tables: &Tables,
+        program: &Checked,
+    ) -> Option<Batch<'_>>
+        requires in_step { IsInStep tables.now.tables self.now }
+        requires values { HaveValues program.now.kinds self.now }
+        requires counted { counted < length arguments.now }
+        requires some { 0 < most }
+        ensures batch { IfSome result (λ b. IsBatch program.now tables.now.tables depth self.now
+            procedure arguments.now counted most b.count b.sum.now) }
+    {
+        match self.place_of(procedure, arguments) {
             Some((place, record)) => {
-                let changes = changes_since(&self.changes, &self.moments, place);
-                if !record.stays_valid(depth, changes, tables, program) {
-                    return None;
-                }
-                record.settled();
-                Some(record)
+                self.batch_at(place, record, counted, most, depth, tables, program)
             }
             None => None,
         }
+    }
+
+    // The same for the instance of the record at that place: by a block that begins there, or by the record alone.
+    fn batch_at<'a>(
+        &'a self,
+        place: usize,
+        record: &'a Record,
+        counted: usize,
+        most: u32,
+        depth: u32,
+        tables: &Tables,
+        program: &Checked,
+    ) -> Option<Batch<'a>>
+        requires in_step { IsInStep tables.now.tables self.now }
+        requires values { HaveValues program.now.kinds self.now }
+        requires there { slice_get (map settled self.now) place ≡ Some record.now }
+        requires counted { counted < length record.now.arguments }
+        requires some { 0 < most }
+        ensures batch { IfSome result (λ b. IsBatch program.now tables.now.tables depth self.now
+            record.now.procedure record.now.arguments counted most b.count b.sum.now) }
+    {
+        match self.blocks.widest(place, counted, most, depth, program) {
+            Some(block) => Some(Batch::whole(block)),
+            None => self.batch_of_one(place, record, counted, most, depth, tables, program),
+        }
+    }
+
+    // The same by the record alone.
+    fn batch_of_one<'a>(
+        &self,
+        place: usize,
+        record: &'a Record,
+        counted: usize,
+        most: u32,
+        depth: u32,
+        tables: &Tables,
+        program: &Checked,
+    ) -> Option<Batch<'a>>
+        requires in_step { IsInStep tables.now.tables self.now }
+        requires values { HaveValues program.now.kinds self.now }
+        requires there { slice_get (map settled self.now) place ≡ Some record.now }
+        requires counted { counted < length record.now.arguments }
+        requires some { 0 < most }
+        ensures batch { IfSome result (λ b. IsBatch program.now tables.now.tables depth self.now
+            record.now.procedure record.now.arguments counted most b.count b.sum.now) }
+    {
+        match self.valid_in(place, record, depth, tables, program) {
+            Some(record) => Some(Batch::one(record)),
+            None => None,
+        }
+    }
+
+    /// Has the record at that place stand since now, where the tables hold what it read: whether they do.
+    pub(crate) fn stand_now(&mut self, place: usize, tables: &Tables) -> bool
+        requires in_step { IsInStep tables.now.tables self.old }
+        ensures in_step { IsInStep tables.now.tables self.new }
+        ensures same { map settled self.new ≡ map settled self.old }
+        ensures kept { (p : ℕ) → stands_at self.old p ≡ true → stands_at self.new p ≡ true }
+        ensures stands { result ≡ true → stands_at self.new place ≡ true }
+    {
+        self.stands_now(place) || self.compare_one(place, tables)
+    }
+
+    // Whether no row was changed since the record at that place stands.
+    fn stands_now(&self, place: usize) -> bool
+        ensures stands { result ≡ true → stands_at self.now place ≡ true }
+    {
+        is_stamped(&self.moments, place, self.changes.len())
+    }
+
+    // Compares the record at that place with the tables: where they agree with it, it stands since now.
+    fn compare_one(&mut self, place: usize, tables: &Tables) -> bool
+        requires in_step { IsInStep tables.now.tables self.old }
+        ensures in_step { IsInStep tables.now.tables self.new }
+        ensures same { map settled self.new ≡ map settled self.old }
+        ensures kept { (p : ℕ) → stands_at self.old p ≡ true → stands_at self.new p ≡ true }
+        ensures stands { result ≡ true → stands_at self.new place ≡ true }
+    {
+        match self.by_instance.get_index(place) {
+            Some(record) => {
+                if !record.agrees(tables) {
+                    return false;
+                }
+                stamp(&mut self.moments, place, self.changes.len());
+                true
+            }
+            None => false,
+        }
+    }
+
+    /// Lends the block of that width that may have the record at that place as part, where one has, for reducers of these kinds.
+    pub(crate) fn block_at(&self, width: Width, place: usize, kinds: &[Kind]) -> Option<&Block>
+        ensures fits { IfSome result (λ b. BlockFits kinds.now self.now b.now) }
+    {
+        self.blocks.at(width, place, kinds)
+    }
+
+    /// Adds a block for reducers of these kinds, in the place of those of its width that have one of its records as part. Blocks for
+    /// others are dropped. Where memory is refused it isn't added.
+    pub(crate) fn add_block(
+        &mut self,
+        alloc: Global,
+        width: Width,
+        kinds: &[Kind],
+        block: Block,
+    ) -> Result<(), AllocError>
+        requires fits { BlockFits kinds.now self.old block }
+        ensures same { self.new ≡ self.old }
+    {
+        self.blocks.have_kinds(alloc, kinds)?;
+        self.blocks.add(width, block)
+    }
+
+    /// Whether all records may be put into blocks, and not only those at the places that are due.
+    pub(crate) fn are_all_due(&self) -> bool {
+        self.blocks.are_all_due()
+    }
+
+    /// Takes out the places of records that may be put into blocks: those put in since that was done last, and those of which a
+    /// block was dropped, by one of its records.
+    pub(crate) fn take_due(&mut self, alloc: Global) -> Vec<u32>
+        ensures same { self.new ≡ self.old }
+    {
+        self.blocks.take_due(alloc)
     }
 
     /// The record of a key that is valid now for an instance at that depth, where there is one. It takes no memory.
@@ -175,7 +367,7 @@ impl Records {
             (map settled self.new ≡ put_records (map settled self.old) records.items) }
         ensures in_step { OnOk result (IsInStep tables.now.tables self.new) }
         ensures named { OnOk result (CommitsNamed program.now self.old records.items self.new) }
-        ensures values { OnOk result ((kinds : List Kind) → HaveValues kinds self.old
+        ensures values { OnOk result ((kinds : List PlainKind) → HaveValues kinds self.old
             → HaveValues kinds records.items → HaveValues kinds self.new) }
         ensures same { OnErr result (self.new ≡ self.old) }
     {
@@ -184,6 +376,7 @@ impl Records {
         put_all(
             &mut self.by_instance,
             &mut self.moments,
+            &mut self.blocks,
             &self.changes,
             records,
         );
@@ -200,6 +393,8 @@ impl Records {
     {
         if !is_listed(&mut self.changes, table, row) {
             self.doubt_all();
+        } else {
+            self.blocks.row_changed(table, row);
         }
     }
 
@@ -209,6 +404,7 @@ impl Records {
         ensures in_step { (tables : PlainTables) → IsInStep tables self.new }
         ensures same { map settled self.new ≡ map settled self.old }
     {
+        self.blocks.clear();
         self.changes.clear();
         self.moments.fill(NEVER);
     }
@@ -229,6 +425,7 @@ impl Records {
         ensures in_step { IsInStep tables.now.tables self.new }
         ensures same { map settled self.new ≡ map settled self.old }
     {
+        self.blocks.clear();
         self.changes.clear();
         compare_all(self.by_instance.as_slice(), &mut self.moments, tables);
     }
@@ -262,21 +459,24 @@ fn first_moment(record: &Record, tables: &Tables) -> u32
 fn put_all(
     by_instance: &mut IndexSet<Record>,
     moments: &mut Vec<u32>,
+    blocks: &mut Blocks,
     changes: &[(usize, i64)],
     records: Vec<Record>,
 )
     requires room { length records.items ≤ spare by_instance.old }
     requires places { length moments.old.items + length records.items ≤ vec_capacity moments.old }
     requires standing { AreStanding changes.now moments.old.items by_instance.old.keys }
+    requires fit { BlocksFit (standing changes.now moments.old.items by_instance.old.keys) blocks.old }
     ensures put { standing changes.now moments.new.items by_instance.new.keys
         ≡ put_records (standing changes.now moments.old.items by_instance.old.keys) records.items }
     ensures standing { AreStanding changes.now moments.new.items by_instance.new.keys }
+    ensures fit { BlocksFit (standing changes.now moments.new.items by_instance.new.keys) blocks.new }
     ensures settled { map settled (standing changes.now moments.new.items by_instance.new.keys)
         ≡ put_records (map settled (standing changes.now moments.old.items by_instance.old.keys))
         records.items }
 {
     for record in records {
-        put(by_instance, moments, changes, record);
+        put(by_instance, moments, blocks, changes, record);
     }
 }
 
@@ -284,12 +484,14 @@ fn put_all(
 fn put(
     by_instance: &mut IndexSet<Record>,
     moments: &mut Vec<u32>,
+    blocks: &mut Blocks,
     changes: &[(usize, i64)],
     made: Record,
 )
     requires room { 0 < spare by_instance.old }
     requires place { length moments.old.items < vec_capacity moments.old }
     requires standing { AreStanding changes.now moments.old.items by_instance.old.keys }
+    requires fit { BlocksFit (standing changes.now moments.old.items by_instance.old.keys) blocks.old }
     ensures put { standing changes.now moments.new.items by_instance.new.keys
         ≡ put_record (standing changes.now moments.old.items by_instance.old.keys) made }
     ensures room { spare by_instance.old ≤ spare by_instance.new + 1 }
@@ -297,8 +499,10 @@ fn put(
     ensures capacity { vec_capacity moments.new ≡ vec_capacity moments.old }
     ensures made { settled made ≡ made }
     ensures standing { AreStanding changes.now moments.new.items by_instance.new.keys }
+    ensures fit { BlocksFit (standing changes.now moments.new.items by_instance.new.keys) blocks.new }
 {
     made.settled();
     let (place, _) = by_instance.replace_full(made).unwrap();
+    blocks.put_in(place);
     stand(moments, place, changes.len());
 }

@@ -1,14 +1,12 @@
 -- Memo instances that are entered, and layers that close.
-use Rattle.std.proofs.Common.{◌≡◌, ℕ, zero, suc, ◌-◌, ◌⊎◌, Bool, true, false, cond, ℤ, List, [], ◌∷◌, ◌++◌, reverse, All, Option, Some, None, Result, Ok, Err, OnOk, refl, sym, ap, ◌∙◌, subst, arith, inl, inr}
-use Rattle.std.specs.List.{find}
+use Rattle.std.proofs.Common.{◌≡◌, ℕ, zero, suc, ◌-◌, ◌⊎◌, Bool, true, false, ℤ, List, [], ◌∷◌, ◌++◌, reverse, Option, Some, None, Result, Ok, Err, OnOk, sym, ap, ◌∙◌, subst, inl, inr}
 use Rattle.std.proofs.lemmas.List.{reverse-append}
-use Rattle.std.proofs.lemmas.List.Elements.{All-tail}
 use Rattle.monoid_laws.specs.declared.Kind.{Kind}
 use Rattle.meaning.specs.Elision.{depth_limit}
 use Rattle.linked_program.specs.CodeView.{memo_of}
-use Rattle.rerun_records.specs.Record.{PlainRecord, is_of, settled}
-use Rattle.rerun_records.specs.Validity.{only_valid, record_valid}
+use Rattle.rerun_records.specs.Record.{PlainRecord}
 use Rattle.rerun_records.specs.Named.{AreValuesFrom, HaveValues}
+use Rattle.rerun_records.proofs.Singles.{valid_values}
 use Rattle.positions.specs.declared.work.Position.{Position}
 use Rattle.positions.specs.declared.work.Work.TheVariants.{Block}
 use Rattle.positions.specs.declared.phase.Phase.TheVariants.{Leaving}
@@ -21,28 +19,10 @@ use Rattle.small_steps.specs.Steps.{HoldsBy}
 
 -- ---- the record that answers is one of the records
 
-found_by : {A : Type 0} (P : A → Type 0) (is : Bool) (y x : A) (found : Option A) → P y → (found ≡ Some x → P x) → cond is (Some y) found ≡ Some x → P x
-found_by P true y x found h f e = subst P (let q : y ≡ x = cc in q) h
-found_by P false y x found h f e = f e
-
-found_has : {A : Type 0} (P : A → Type 0) (test : A → Bool) (xs : List A) (x : A) → All P xs → find test xs ≡ Some x → P x
-found_has P test [] x h e = absurd cc
-found_has P test (y ∷ xs) x h e = found_by P (test y) y x (find test xs) (h 0 y (omega arith)) (λ f. found_has P test xs x (All-tail P y xs h) f) e
-
-valid_has : (P : PlainRecord → Type 0) (valid : Bool) (r x : PlainRecord) → P r → Some x ≡ cond valid (Some r) None → P x
-valid_has P true r x h e = subst P (let q : r ≡ x = cc in q) h
-valid_has P false r x h e = absurd cc
-
 module _ (setting : Setting) where
-  only_has : (P : PlainRecord → Type 0) (depth : ℕ) (o : Option PlainRecord) (x : PlainRecord) → ((r : PlainRecord) → o ≡ Some r → P (settled r)) → Some x ≡ only_valid setting.program.revisions setting.tables depth o → P x
-  only_has P depth None x h e = absurd cc
-  only_has P depth (Some r) x h e = valid_has P (record_valid setting.program.revisions setting.tables depth r) (settled r) x (h r refl) e
-
   record_values : (ks : List Kind) (depth procedure : ℕ) (arguments : List ℤ) (r : PlainRecord) → HaveValues ks setting.records → Some r ≡ record_for setting depth procedure arguments → AreValuesFrom 0 ks r.contribution
   record_values ks zero procedure arguments r h e = absurd cc
-  record_values ks (suc d) procedure arguments r h e =
-      only_has (λ (q : PlainRecord). AreValuesFrom 0 ks q.contribution) (suc d) (find (is_of procedure arguments) setting.records) r
-      (λ q f. found_has (λ (q : PlainRecord). AreValuesFrom 0 ks q.contribution) (is_of procedure arguments) setting.records q h f) e
+  record_values ks (suc d) procedure arguments r h e = valid_values setting.program.revisions setting.tables ks (suc d) procedure arguments setting.records r h e
 
   pub answer_values : (s : PlainStrand) (r : PlainRecord) (ks : List Kind) → s.layer.kinds ≡ ks → HaveValues ks setting.records → Some r ≡ answer_for setting s → AreValuesFrom 0 s.layer.kinds r.contribution
   answer_values s r ks e h f = subst (λ cs. AreValuesFrom 0 cs r.contribution) (sym e) (record_values ks (depth_limit - s.top.left) s.top.procedure s.arguments r h f)

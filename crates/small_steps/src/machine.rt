@@ -70,10 +70,7 @@ impl<V: View> Machine<V> {
     pub fn is_entry(&self) -> bool
         ensures entry { result ≡ is_entry self.now }
     {
-        match self.start {
-            Start::Root => false,
-            Start::Behind { depth, child: _ } => self.path.len() == depth,
-        }
+        self.start.is_in(&self.path)
     }
 
     /// A fault at that statement of the topmost instance.

@@ -3,8 +3,7 @@ use Rattle.monoid_laws.specs.declared.Kind.{Kind}
 use Rattle.monoid_laws.specs.Worth.{Worth}
 use Rattle.rerun_records.specs.Record.{touched}
 use Rattle.rerun_records.specs.Named.{AreValuesFrom}
-use Rattle.layers.proofs.Absorbed.{there}
-use Rattle.layers.proofs.Worths.{each}
+use Rattle.rerun_records.proofs.Absorbed.{each, there}
 use Rattle.layers.proofs.Touches.{touched_next, touched_all, touched_values}
 use Rattle.layers.proofs.recording.contribution.Goals as goal
 

@@ -5,8 +5,8 @@ use Rattle.monoid_laws.specs.Kinds.{meaning}
 use Rattle.hypermaps.specs.Layer.{IsAt}
 use Rattle.rerun_records.specs.Record.{touched}
 use Rattle.layers.specs.Recordings.{touched_at}
-use Rattle.layers.proofs.Worths.{each}
-use Rattle.layers.proofs.Touches.{same_at, some_is, identity_untouched}
+use Rattle.rerun_records.proofs.Absorbed.{each, same_at}
+use Rattle.layers.proofs.Touches.{some_is, identity_untouched}
 use Rattle.layers.proofs.recording.push_touched.Goals as goal
 
 pub returns-in-Some : goal.returns-in-Some

@@ -1,33 +1,37 @@
-use Rattle.std.proofs.Common.{rules, to_z, of_z, w64, ◌≡◌, ◌+◌, ◌+ℤ◌, ℤ, pos, List, [], ◌∷◌, ◌++◌, map, length, sym, ap, ◌∙◌, subst}
-use Rattle.std.proofs.lemmas.List.{length-append, length-map, map-append}
-use Rattle.rerun_records.specs.Record.{PlainRecord}
+use Rattle.std.proofs.Common.{rules, to_z, of_z, w64, ◌≡◌, ◌+◌, ◌-◌, ◌≤◌, ◌+ℤ◌, ℤ, pos, List, [], ◌∷◌, ◌++◌, map, IfSome, sym, ap, ◌∙◌, subst, arith}
+use Rattle.linked_program.specs.CodeView.{expression as plain}
+use Rattle.rerun_records.specs.declared.batch.Batch.{Batch}
 use Rattle.positions.specs.Strands.{PlainStrand}
-use Rattle.answered_loops.specs.Answered.{IsAnswer, AreAnswers}
-use Rattle.answered_loops.proofs.Halves.{answers_more}
 use Rattle.activations.specs.Given.{lent}
 use Rattle.loop_answers.specs.Ahead.{loop_with}
+use Rattle.loop_answers.specs.Batches.{instances_in, AreBatches, IsBatchFrom, AreArguments}
+use Rattle.loop_answers.proofs.Batches.{instances_more, batches_more}
 use Rattle.loop_answers.proofs.finding.answers_by.Goals as goal
 
-pub loop-i-preserved : goal.loop-i-preserved
-loop-i-preserved g c =
+pub loop-preserved : goal.loop-preserved
+loop-preserved g c =
     let S = lent c.args.setting in
     let a = c.args.code in
     let j = loop_with a.number a.variable a.grain a.callee a.arguments.now in
     let s = c.args.machine.now in
-    let inv = c.loop-i.invariant in
-    let xs = c.loop-i.found.items in
-    let r = c.in-Some.record in
+    let inv = c.loop.invariant in
+    let xs : List Batch = c.loop.batches.items in
+    let b : Batch = c.in-Some.batch in
     let first = c.args.share.first in
-    let items : c.push.new.self.items ≡ xs ++ r ∷ [] = search rules in
-    let long : length (map (λ y. y.now) xs) ≡ c.loop-i.i = length-map xs (λ y. y.now) ∙ inv.count in
-    let v : ℤ = to_z w64 (of_z w64 c.number_behind-number.result) in
-    let same : v ≡ c.args.site.low +ℤ pos (first + c.loop-i.i) = search rules in
-    let answer : IsAnswer S j s.top.slots s.top.left (c.args.site.low +ℤ pos (first + c.loop-i.i)) r.now =
-    subst (λ (u : ℤ). IsAnswer S j s.top.slots s.top.left u r.now) same (subst (λ (x : PlainStrand). IsAnswer S j x.top.slots x.top.left v r.now) inv.same c.in-Some.ensures.answer) in
-    let more : AreAnswers S j s.top.slots s.top.left c.args.site.low first (map (λ y. y.now) xs ++ r.now ∷ []) =
-    answers_more S j s.top.slots s.top.left c.args.site.low first (first + c.loop-i.i) (map (λ y. y.now) xs) r.now (ap (λ n. first + n) (sym long)) inv.answers answer in
+    let low = c.args.site.low in
+    let left = c.args.wanted.most - c.loop.count in
+    let items : c.push.new.self.items ≡ xs ++ b ∷ [] = search rules in
+    let v : ℤ = to_z w64 (of_z w64 c.number_behind.result) in
+    let at : v ≡ low +ℤ pos (first + c.loop.count) = search rules in
+    let one : IsBatchFrom S j s.top.slots s.top.left v left b = subst (λ (x : PlainStrand). IsBatchFrom S j x.top.slots x.top.left v left b) inv.same c.in-Some.ensures.batch in
+    let more : AreBatches S j s.top.slots s.top.left low first (xs ++ b ∷ []) =
+    batches_more S j s.top.slots s.top.left low first xs b v left inv.batches one (at ∙ ap (λ n. low +ℤ pos (first + n)) inv.count) in
+    let fits : b.count ≤ left = one.few in
+    let before : c.loop.count ≤ c.args.wanted.most = inv.few in
     record {
-      same = c.answer_of.ensures.unchanged ∙ inv.same;
-      count = ap length items ∙ length-append xs (r ∷ []) ∙ ap (λ n. n + 1) inv.count;
-      answers = subst (λ (rs : List PlainRecord). AreAnswers S j s.top.slots s.top.left c.args.site.low first rs) (sym (ap (map (λ y. y.now)) items ∙ map-append (λ y. y.now) xs (r ∷ []))) more;
+      same = c.batch_from.ensures.unchanged ∙ inv.same;
+      known = subst (λ (x : PlainStrand). IfSome c.counted_from-counted.result (λ place. AreArguments c.args.setting.tables.now.tables x.top.slots a.variable (map plain a.arguments.now) c.batch_from.new.numbers.items)) inv.same c.batch_from.ensures.known;
+      count = ap (λ n. n + b.count) inv.count ∙ sym (instances_more xs b) ∙ ap instances_in (sym items);
+      few = omega arith;
+      batches = subst (λ (bs : List Batch). AreBatches S j s.top.slots s.top.left low first bs) (sym items) more;
     }

@@ -1,10 +1,12 @@
-use Rattle.std.proofs.Common.{◌≡◌, map, drop}
+use Rattle.std.proofs.Common.{◌≡◌, drop}
 use Rattle.answered_loops.specs.Answered.{absorbed, answered_more}
+use Rattle.loop_answers.specs.Batches.{sums_of, instances_in}
 use Rattle.loop_answers.proofs.taking.take_over.Given as goal
 
-abbrev pub invariant-loop-record : goal.invariant-loop-record
-invariant-loop-record g l = record {
+abbrev pub invariant-loop-batch : goal.invariant-loop-batch
+invariant-loop-batch g l = record {
   kinds : l.layer.kinds ≡ l.fn.layer.kinds;
-  answered : l.tally ≡ answered_more l.record-index l.fn.tally;
-  absorbed : absorbed l.depth (drop l.record-index (map (λ r. r.now) l.found)) l.layer ≡ absorbed l.depth (map (λ r. r.now) l.found) l.fn.layer;
+  counted : l.tally ≡ record l.fn.tally { reused = l.tally.reused };
+  answered : answered_more (instances_in (drop l.batch-index l.found)) l.tally ≡ answered_more (instances_in l.found) l.fn.tally;
+  absorbed : absorbed l.depth (drop l.batch-index (sums_of l.found)) l.layer ≡ absorbed l.depth (sums_of l.found) l.fn.layer;
 }

@@ -6,6 +6,7 @@ put-requires c = record {
   room = room_before _ _ _ _ c.loop-record.invariant.room c.in-Some.ensures.steps.0;
   place = place_before _ _ _ _ _ c.loop-record.invariant.places c.in-Some.ensures.steps.0;
   standing = c.loop-record.invariant.standing_are;
+  fit = c.loop-record.invariant.fit;
 }
 
 pub loop-record-preserved : goal.loop-record-preserved
@@ -17,6 +18,7 @@ loop-record-preserved c =
       room = room_after _ _ _ _ _ c.loop-record.invariant.room s c.put.ensures.room;
       places = places_after _ _ _ _ _ _ _ c.loop-record.invariant.places s c.put.ensures.places c.put.ensures.capacity;
       standing_are = c.put.ensures.standing;
+      fit = c.put.ensures.fit;
       put = still_put _ _ _ _ _ _ c.loop-record.invariant.put s c.put.ensures.put;
       settled_are = still_put_settled _ _ _ _ _ _ c.loop-record.invariant.settled_are s c.put.ensures.put c.put.ensures.made;
     }

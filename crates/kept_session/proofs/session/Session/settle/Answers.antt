@@ -1,17 +1,29 @@
 use Rattle.std.proofs.Common.{◌≡◌, All, sym, subst}
 use Rattle.linked_program.specs.Checked.{IsChecked}
 use Rattle.rerun_records.specs.Named.{HaveValues}
+use Rattle.rules_theory.proofs.Monoids.{checked_monoids}
 use Rattle.kept_session.specs.Sessions.{PlainSession, AreNewFor}
 use Rattle.kept_session.proofs.Doubts.{made_read_now, stay_in_step}
 use Rattle.kept_session.proofs.Keeping.{settled_keeps, settled_values}
 use Rattle.kept_session.proofs.session.Session.settle.Goals as goal
 
-pub commit-requires : goal.commit-requires
-commit-requires g c =
+pub keep-requires : goal.keep-requires
+keep-requires g c =
     let s = c.self.inside in
+    let is : IsChecked s.checked = record {
+      clean = c.clean.ensures.clean;
+      linked = c.linked.ensures.codes;
+      kinds_are = c.linked.ensures.kinds;
+      main_is = c.linked.ensures.main;
+      each = c.revised.ensures.each;
+      below = c.revised.ensures.below;
+    } in
     record {
       in_step = c.self.invariant.in_step;
       read_now = made_read_now s.checked s.tables c.args.made.items c.self.invariant.columns (subst (λ (x : PlainSession). AreNewFor x.checked x.tables c.args.made.items) (sym c.self.view_is) c.requires.new);
+      monoids = checked_monoids s.checked is;
+      values = c.self.invariant.values;
+      made_values = subst (λ (x : PlainSession). HaveValues x.checked.kinds c.args.made.items) (sym c.self.view_is) c.requires.values;
     }
 
 pub invariant_of-self : goal.invariant_of-self
@@ -27,11 +39,11 @@ invariant_of-self g c =
       below = c.revised.ensures.below;
     } in
     record {
-      kept = settled_keeps s.checked is s.tables c.commit.result s.records c.args.made.items c.commit.new.self c.commit.ensures.named c.commit.ensures.same keeps.kept
+      kept = settled_keeps s.checked is s.tables c.keep.result s.records c.args.made.items c.keep.new.self c.keep.ensures.named c.keep.ensures.same keeps.kept
           (subst (λ (x : PlainSession). AreNewFor x.checked x.tables c.args.made.items) (sym c.self.view_is) c.requires.new);
-      values = settled_values c.commit.result s.checked.kinds s.records c.args.made.items c.commit.new.self c.commit.ensures.values c.commit.ensures.same keeps.values
+      values = settled_values c.keep.result s.checked.kinds s.records c.args.made.items c.keep.new.self c.keep.ensures.values c.keep.ensures.same keeps.values
           (subst (λ (x : PlainSession). HaveValues x.checked.kinds c.args.made.items) (sym c.self.view_is) c.requires.values);
-      in_step = stay_in_step c.commit.result s.tables.tables s.records c.commit.new.self c.commit.ensures.in_step c.commit.ensures.same keeps.in_step;
+      in_step = stay_in_step c.keep.result s.tables.tables s.records c.keep.new.self c.keep.ensures.in_step c.keep.ensures.same keeps.in_step;
       columns = keeps.columns;
       kinds = subst (λ (x : PlainSession). All (λ k. k ≡ x.checked.kinds) c.args.pool.kits) (sym c.self.view_is) c.requires.kinds;
     }

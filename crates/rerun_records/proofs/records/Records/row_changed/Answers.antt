@@ -1,21 +1,31 @@
-use Rattle.std.proofs.Common.{◌≡◌, List, [], ◌∷◌, ◌++◌, ℕ, ℤ, map, sym, ap, ◌∙◌, subst, w64}
+use Rattle.std.proofs.Common.{◌≡◌, List, [], ◌∷◌, ◌++◌, ℕ, ℤ, true, Option, Some, map, sym, ap, ◌∙◌, subst, w64}
 use Rattle.std.proofs.lemmas.Int.{to_z-of_z}
 use Rattle.rerun_records.specs.Record.{settled}
 use Rattle.rerun_records.specs.Doubted.{IsInStep}
-use Rattle.rerun_records.specs.Moments.{AreStanding}
+use Rattle.rerun_records.specs.Moments.{AreStanding, standing}
+use Rattle.meaning.specs.Every.{every}
+use Rattle.rerun_records.specs.Blocks.{PlainBlock, BlocksFit, live_at, is_apart}
+use Rattle.rerun_records.proofs.Leaves.{marked_fits}
 use Rattle.rerun_records.proofs.Standing.{standing_settled}
 use Rattle.rerun_records.proofs.Marks.{listed_stand, listed_marked}
 use Rattle.rerun_records.proofs.records.Records.row_changed.Goals as goal
 
 pub invariant_of-self : goal.invariant_of-self
 invariant_of-self c =
-    subst (λ (cs : List (ℕ × ℤ)). AreStanding cs c.self.inside.moments.items c.self.inside.by_instance.keys) (sym (c.is_listed.ensures.unlisted c.if-not-is_listed.true)) c.self.invariant
+    let keys = c.self.inside.by_instance.keys in
+    let moments = c.self.inside.moments.items in
+    subst (λ (cs : List (ℕ × ℤ)). AreStanding cs moments keys × BlocksFit (standing cs moments keys) c.self.inside.blocks) (sym (c.is_listed.ensures.unlisted c.if-not-is_listed.true)) c.self.invariant
 
 pub invariant_of-self-else-not-is_listed : goal.invariant_of-self-else-not-is_listed
 invariant_of-self-else-not-is_listed c =
-    listed_stand c.self.inside.changes.items c.is_listed.new.changes.items (c.args.table, c.args.row) c.self.inside.moments.items c.self.inside.by_instance.keys
-    (subst (λ (z : ℤ). c.is_listed.new.changes.items ≡ c.self.inside.changes.items ++ (c.args.table, z) ∷ []) (to_z-of_z w64 _ c.ranges.row) (c.is_listed.ensures.listed c.if-not-is_listed.false))
-    (c.is_listed.ensures.few c.if-not-is_listed.false) c.self.invariant
+    let before = c.self.inside.changes.items in
+    let listed = subst (λ (z : ℤ). c.is_listed.new.changes.items ≡ before ++ (c.args.table, z) ∷ []) (to_z-of_z w64 _ c.ranges.row) (c.is_listed.ensures.listed c.if-not-is_listed.false) in
+    let blocks = c.row_changed.new.self in
+    let apart : List (Option PlainBlock) → ℤ → Type 0 = λ bs z. (n : ℕ) (b : PlainBlock) → live_at bs n ≡ Some b → every (is_apart ((c.args.table, z) ∷ [])) b.sum.reads ≡ true in (
+      listed_stand before c.is_listed.new.changes.items (c.args.table, c.args.row) c.self.inside.moments.items c.self.inside.by_instance.keys listed (c.is_listed.ensures.few c.if-not-is_listed.false) c.self.invariant.0,
+      marked_fits before c.is_listed.new.changes.items (c.args.table, c.args.row) c.self.inside.moments.items c.self.inside.by_instance.keys blocks c.self.inside.blocks listed c.self.invariant.1 c.row_changed.ensures.remain
+          (subst (apart blocks.fine) (to_z-of_z w64 _ c.ranges.row) c.row_changed.ensures.fine) (subst (apart blocks.wide) (to_z-of_z w64 _ c.ranges.row) c.row_changed.ensures.wide),
+    )
 
 pub returns-then-not-is_listed-clause-same : goal.returns-then-not-is_listed-clause-same
 returns-then-not-is_listed-clause-same c =
@@ -28,7 +38,7 @@ pub returns-else-not-is_listed-clause-marked : goal.returns-else-not-is_listed-c
 returns-else-not-is_listed-clause-marked c = λ before after same step.
     listed_marked c.self.inside.changes.items c.is_listed.new.changes.items c.args.table c.args.row c.self.inside.moments.items c.self.inside.by_instance.keys
     (subst (λ (z : ℤ). c.is_listed.new.changes.items ≡ c.self.inside.changes.items ++ (c.args.table, z) ∷ []) (to_z-of_z w64 _ c.ranges.row) (c.is_listed.ensures.listed c.if-not-is_listed.false))
-    (c.is_listed.ensures.few c.if-not-is_listed.false) c.self.invariant before after same (subst (IsInStep before) (sym c.self.view_is) step)
+    (c.is_listed.ensures.few c.if-not-is_listed.false) c.self.invariant.0 before after same (subst (IsInStep before) (sym c.self.view_is) step)
 
 pub returns-else-not-is_listed-clause-same : goal.returns-else-not-is_listed-clause-same
 returns-else-not-is_listed-clause-same c =

@@ -1,4 +1,4 @@
--- The values of a record that are combined with a layer's one after another.
+-- The values of a record that are combined with those of all reducers one after another.
 use Rattle.std.proofs.Common.{◌≡◌, ◌≢◌, ℕ, zero, suc, ◌+◌, ◌<◌, ◌≤◌, List, [], ◌∷◌, All, length, map, drop, slice_get, refl, sym, ap, ◌∙◌, subst, arith, get_or, set}
 use Rattle.std.proofs.lemmas.List.{get_or-set_other, set-set, drop_more, drop_all}
 use Rattle.monoid_laws.specs.declared.Kind.{Kind}
@@ -9,7 +9,13 @@ use Rattle.monoid_laws.proofs.Laws.{operate_right}
 use Rattle.monoid_laws.proofs.Rows.{operate_all_moved, operate_all_identities, AreWorths-set, AreWorths-at, AreWorths-identities}
 use Rattle.rerun_records.specs.Record.{touched}
 use Rattle.rerun_records.specs.Named.{IsValueAt, AreValuesFrom, filled}
-use Rattle.layers.proofs.Worths.{each}
+
+-- one value for each reducer
+pub each : (cs : List Kind) (ws : List Worth) → AreWorths cs ws → length cs ≡ length ws
+each [] [] h = refl
+each [] (w ∷ ws) h = elim h [ ]
+each (c ∷ cs) [] h = elim h [ ]
+each (c ∷ cs) (w ∷ ws) h = let e : length cs ≡ length ws = each cs ws h.1 in cc
 
 -- ---- where the values are
 
@@ -62,6 +68,11 @@ pub there : {A : Type 0} (xs : List A) (i : ℕ) → i < length xs → (x : A) �
 there [] i l = absurd (omega arith)
 there (x ∷ xs) zero l = (x, refl)
 there (x ∷ xs) (suc i) l = there xs i (omega arith)
+
+pub same_at : {A : Type 0} (xs : List A) (i : ℕ) (x y : A) → i < length xs → x ≡ get_or xs i x → y ≡ get_or xs i y → x ≡ y
+same_at [] i x y l e f = absurd (omega arith)
+same_at (z ∷ xs) zero x y l e f = let p : x ≡ z = e in let q : y ≡ z = f in p ∙ sym q
+same_at (z ∷ xs) (suc i) x y l e f = same_at xs i x y (omega arith) e f
 
 pub filled_right : (i : ℕ) (ks : List Kind) (acc : List Worth) (es : List (ℕ × Worth)) → AreWorths ks acc → AreValuesFrom i ks es → AreWorths ks (filled acc es)
 filled_right i ks acc [] a h = a

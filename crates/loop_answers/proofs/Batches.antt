@@ -1,0 +1,94 @@
+-- Batches: how more of them are known together, and that they leave what the records leave that they stand for.
+use Rattle.std.proofs.Common.{◌≡◌, ℕ, zero, suc, ◌+◌, ℤ, pos, ◌+ℤ◌, List, [], ◌∷◌, ◌++◌, length, refl, sym, ap, ◌∙◌, subst, arith, append_assoc}
+use Rattle.std.proofs.lemmas.List.{length-append, append-nil}
+use Rattle.monoid_laws.specs.declared.Kind.{Kind}
+use Rattle.monoid_laws.specs.Kinds.{AreWorths, operate_all, identities}
+use Rattle.monoid_laws.proofs.Rows.{operate_all_right, AreWorths-identities}
+use Rattle.evaluation.specs.declared.slot.Slot.{Slot}
+use Rattle.rerun_records.specs.declared.batch.Batch.{Batch}
+use Rattle.rerun_records.specs.Record.{PlainRecord}
+use Rattle.rerun_records.specs.Named.{HaveValues, filled}
+use Rattle.rerun_records.specs.Sums.{IsSumOf, arguments_of_last}
+use Rattle.positions.specs.Setting.{Setting}
+use Rattle.positions.specs.Code.{PlainLoop}
+use Rattle.positions.specs.Layers.{PlainLayer, absorbing}
+use Rattle.positions.specs.Strands.{PlainStrand}
+use Rattle.rerun_records.proofs.Absorbed.{filled_right}
+use Rattle.answered_loops.specs.Answered.{AreAnswers, absorbed, answered_more, with_answers}
+use Rattle.answered_loops.proofs.Sums.{absorbing_sum}
+use Rattle.answered_loops.proofs.Halves.{absorbed_append, last_append, answers_behind}
+use Rattle.loop_answers.specs.Batches.{sums_of, instances_in, AreSums, all_in, AreBatches, IsBatchFrom, with_batches}
+
+-- ---- lists
+
+pub instances_more : (bs : List Batch) (b : Batch) → instances_in (bs ++ b ∷ []) ≡ instances_in bs + b.count
+instances_more [] b = omega arith
+instances_more (c ∷ bs) b =
+    let sums : c.count + (instances_in bs + b.count) ≡ (c.count + instances_in bs) + b.count = omega arith in
+    ap (λ n. c.count + n) (instances_more bs b) ∙ sums
+
+all_more : (parts : List (List PlainRecord)) (rs : List PlainRecord) → all_in (parts ++ rs ∷ []) ≡ all_in parts ++ rs
+all_more [] rs = append-nil rs
+all_more (xs ∷ parts) rs = ap (λ ys. xs ++ ys) (all_more parts rs) ∙ sym (append_assoc xs (all_in parts) rs)
+
+module _ (kinds : List Kind) where
+  pub as_many : (parts : List (List PlainRecord)) (bs : List Batch) → AreSums kinds parts bs → length (all_in parts) ≡ instances_in bs
+  as_many [] [] h = refl
+  as_many [] (b ∷ bs) h = absurd h
+  as_many (rs ∷ parts) [] h = absurd h
+  as_many (rs ∷ parts) (b ∷ bs) h = length-append rs (all_in parts) ∙ ap (λ n. n + length (all_in parts)) h.1 ∙ ap (λ n. b.count + n) (as_many parts bs h.2)
+
+  sums_more : (parts : List (List PlainRecord)) (bs : List Batch) (rs : List PlainRecord) (b : Batch) → AreSums kinds parts bs → IsSumOf kinds rs b.sum.now → length rs ≡ b.count → AreSums kinds (parts ++ rs ∷ []) (bs ++ b ∷ [])
+  sums_more [] [] rs b h sum count = (sum, count, tt)
+  sums_more [] (c ∷ bs) rs b h sum count = absurd h
+  sums_more (xs ∷ parts) [] rs b h sum count = absurd h
+  sums_more (xs ∷ parts) (c ∷ bs) rs b h sum count = (h.0, h.1, sums_more parts bs rs b h.2 sum count)
+
+  pub sums_values : (parts : List (List PlainRecord)) (bs : List Batch) → AreSums kinds parts bs → HaveValues kinds (sums_of bs)
+  sums_values [] [] h k d l = absurd (let none : ⊥ = omega arith in none)
+  sums_values [] (b ∷ bs) h k d l = absurd h
+  sums_values (rs ∷ parts) [] h k d l = absurd h
+  sums_values (rs ∷ parts) (b ∷ bs) h zero d l = h.0.values
+  sums_values (rs ∷ parts) (b ∷ bs) h (suc k) d l = sums_values parts bs h.2 k d (omega arith)
+
+-- one batch more
+module _ (setting : Setting) (j : PlainLoop) (slots : List Slot) (left : ℕ) (low : ℤ) (i : ℕ) where
+  pub no_batches : AreBatches setting j slots left low i []
+  no_batches = record { parts = []; sums = tt; answers = tt }
+
+  pub batches_more : (bs : List Batch) (b : Batch) (number : ℤ) (most : ℕ) → AreBatches setting j slots left low i bs → IsBatchFrom setting j slots left number most b → number ≡ low +ℤ pos (i + instances_in bs)
+      → AreBatches setting j slots left low i (bs ++ b ∷ [])
+  batches_more bs b number most h one at =
+      let behind : i + instances_in bs ≡ i + length (all_in h.parts) = ap (λ n. i + n) (sym (as_many setting.kinds h.parts bs h.sums)) in
+      record {
+        parts = h.parts ++ one.members ∷ [];
+        sums = sums_more setting.kinds h.parts bs one.members b h.sums one.sum_is one.count_is;
+        answers = subst (AreAnswers setting j slots left low i) (sym (all_more h.parts one.members))
+            (answers_behind setting j slots left low i (i + instances_in bs) (all_in h.parts) one.members behind h.answers (one.answers low (i + instances_in bs) at));
+      }
+
+-- ---- what they leave
+
+absorbed_sums : (d : ℕ) (parts : List (List PlainRecord)) (bs : List Batch) (l : PlainLayer) → AreWorths l.kinds l.worths → AreSums l.kinds parts bs → absorbed d (sums_of bs) l ≡ absorbed d (all_in parts) l
+absorbed_sums d [] [] l are h = refl
+absorbed_sums d [] (b ∷ bs) l are h = absurd h
+absorbed_sums d (rs ∷ parts) [] l are h = absurd h
+absorbed_sums d (rs ∷ parts) (b ∷ bs) l are h =
+    let more : AreWorths l.kinds (operate_all l.kinds l.worths (filled (identities l.kinds) b.sum.now.contribution)) =
+    operate_all_right l.kinds l.worths (filled (identities l.kinds) b.sum.now.contribution) are (filled_right 0 l.kinds (identities l.kinds) b.sum.now.contribution (AreWorths-identities l.kinds) h.0.values) in
+    absorbed_sums d parts bs (absorbing b.sum.now d l) more h.2
+    ∙ ap (absorbed d (all_in parts)) (absorbing_sum d rs b.sum.now l are h.0)
+    ∙ sym (absorbed_append d rs (all_in parts) l)
+
+last_of_sums : (kinds : List Kind) (vs : List ℤ) (parts : List (List PlainRecord)) (bs : List Batch) → AreSums kinds parts bs → arguments_of_last vs (sums_of bs) ≡ arguments_of_last vs (all_in parts)
+last_of_sums kinds vs [] [] h = refl
+last_of_sums kinds vs [] (b ∷ bs) h = absurd h
+last_of_sums kinds vs (rs ∷ parts) [] h = absurd h
+last_of_sums kinds vs (rs ∷ parts) (b ∷ bs) h =
+    last_of_sums kinds b.sum.now.arguments parts bs h.2 ∙ ap (λ us. arguments_of_last us (all_in parts)) (sym (h.0.arguments vs)) ∙ sym (last_append vs rs (all_in parts))
+
+pub batches_leave : (d : ℕ) (parts : List (List PlainRecord)) (bs : List Batch) (s : PlainStrand) → AreWorths s.layer.kinds s.layer.worths → AreSums s.layer.kinds parts bs → with_batches d bs s ≡ with_answers d (all_in parts) s
+batches_leave d parts bs s are h =
+    ap (λ l. record s { layer = l; arguments = arguments_of_last s.arguments (sums_of bs); tally = answered_more (instances_in bs) s.tally }) (absorbed_sums d parts bs s.layer are h)
+    ∙ ap (λ vs. record s { layer = absorbed d (all_in parts) s.layer; arguments = vs; tally = answered_more (instances_in bs) s.tally }) (last_of_sums s.layer.kinds s.arguments parts bs h)
+    ∙ ap (λ n. record s { layer = absorbed d (all_in parts) s.layer; arguments = arguments_of_last s.arguments (all_in parts); tally = answered_more n s.tally }) (sym (as_many s.layer.kinds parts bs h))

@@ -1,0 +1,14 @@
+use Rattle.std.proofs.Common.{ℕ, ℤ, List, IfSome, subst}
+use Rattle.rerun_records.specs.Batches.{IsBatch}
+use Rattle.rerun_records.proofs.records.Records.batch.Goals as goal
+
+pub returns-in-Some : goal.returns-in-Some
+returns-in-Some c =
+    let P = c.args.program.now in
+    let T = c.args.tables.now.tables in
+    record {
+      batch =
+          subst (λ (xs : List ℤ). IfSome c.batch_at.result (λ b. IsBatch P T c.args.depth c.args.self.now c.args.procedure xs c.args.counted c.args.most b.count b.sum.now)) c.in-Some.ensures.arguments
+          (subst (λ (f : ℕ). IfSome c.batch_at.result (λ b. IsBatch P T c.args.depth c.args.self.now f c.in-Some.record.now.arguments c.args.counted c.args.most b.count b.sum.now)) c.in-Some.ensures.procedure
+          c.batch_at.ensures.batch);
+    }

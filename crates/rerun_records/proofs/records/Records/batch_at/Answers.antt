@@ -1,0 +1,20 @@
+use Rattle.std.proofs.Common.{subst}
+use Rattle.rerun_records.specs.Commits.{AreSingle}
+use Rattle.rerun_records.specs.Blocks.{BlocksFit}
+use Rattle.rerun_records.proofs.Standing.{standing_single}
+use Rattle.rerun_records.proofs.Leaves.{found_fits}
+use Rattle.rerun_records.proofs.Wholes.{batch_of_block}
+use Rattle.rerun_records.proofs.records.Records.batch_at.Goals as goal
+
+pub returns-in-Some : goal.returns-in-Some
+returns-in-Some c =
+    let P = c.args.program.now in
+    let T = c.args.tables.now.tables in
+    let records = c.args.self.now in
+    let single = subst AreSingle c.self.view_is (standing_single c.self.inside.changes.items c.self.inside.moments.items c.self.inside.by_instance.keys c.self.invariant.0.single) in
+    let fits = found_fits P.kinds records c.self.inside.blocks c.in-Some.block.now (subst (λ rs. BlocksFit rs c.self.inside.blocks) c.self.view_is c.self.invariant.1) c.in-Some.ensures.block in
+    record {
+      batch =
+          rw (c.whole.ensures.count, c.whole.ensures.whole)
+          (batch_of_block P T c.args.depth records c.args.place c.args.counted c.args.most c.args.record.now c.in-Some.block.now single c.requires.in_step c.requires.there fits c.in-Some.ensures.answers);
+    }

@@ -1,0 +1,13 @@
+use Rattle.rerun_records.proofs.Singles.{batch_of_one}
+use Rattle.rerun_records.proofs.records.Records.batch_of_one.Goals as goal
+
+pub returns-in-Some : goal.returns-in-Some
+returns-in-Some c =
+    let P = c.args.program.now in
+    let T = c.args.tables.now.tables in
+    let k = c.args.record.now in
+    record {
+      batch =
+          rw (c.one.ensures.count, c.one.ensures.one)
+          (batch_of_one P T c.args.depth c.args.self.now k.procedure k.arguments c.args.counted c.args.most c.in-Some.record.now c.requires.counted c.requires.some c.requires.values c.in-Some.ensures.valid);
+    }

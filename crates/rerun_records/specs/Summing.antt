@@ -1,0 +1,77 @@
+-- A sum of records as it is made, one record after another.
+use Rattle.std.specs.Prelude.{◌≡◌, ℕ, suc, nat_eq, max, ℤ, pos, Bool, ◌&&◌, cond, List, [], ◌∷◌, ◌++◌, Option, Some, None, slice_get}
+use Rattle.std.specs.List.{flat_map, list_any}
+use Rattle.monoid_laws.specs.Worth.{Worth}
+use Rattle.monoid_laws.specs.declared.Kind.{Kind}
+use Rattle.monoid_laws.specs.Kinds.{operate_all, identities, AreWorths}
+use Rattle.evaluation.specs.declared.note.Note.{Note}
+use Rattle.rerun_records.specs.Record.{PlainRecord, rows}
+use Rattle.rerun_records.specs.Named.{filled, SameMembers}
+use Rattle.rerun_records.specs.Sums.{contributed, highest, arguments_of_last}
+
+-- what the records have together so far: the values of all reducers, and procedure, arguments and value of the last record
+pub record PlainSum : Type 0 where
+  pub procedure : ℕ
+  pub arguments : List ℤ
+  pub value : ℤ
+  pub worths : List Worth
+  pub reads : List Note
+  pub entered : List (ℕ × ℕ)
+  pub height : ℕ
+
+abbrev pub same_entry : ℕ × ℕ → ℕ × ℕ → Bool
+same_entry e d = nat_eq e.0 d.0 && nat_eq e.1 d.1
+
+-- an entry behind the others, unless it is there
+abbrev pub put_entry : List (ℕ × ℕ) → ℕ × ℕ → List (ℕ × ℕ)
+put_entry es e = cond (list_any (same_entry e) es) es (es ++ e ∷ [])
+
+abbrev pub put_entries : List (ℕ × ℕ) → List (ℕ × ℕ) → List (ℕ × ℕ)
+put_entries es [] = es
+put_entries es (d ∷ ds) = put_entries (put_entry es d) ds
+
+-- values with the numbers of their reducers
+abbrev pub numbered_from : ℕ → List Worth → List (ℕ × Worth)
+numbered_from i [] = []
+numbered_from i (w ∷ ws) = (i, w) ∷ numbered_from (suc i) ws
+
+-- what the records have together
+abbrev pub summed : PlainSum → PlainRecord
+summed s = record { procedure = s.procedure; arguments = s.arguments; value = s.value; contribution = numbered_from 0 s.worths; reads = s.reads; entered = s.entered; height = s.height; doubted = rows [] }
+
+-- for reducers of these kinds
+module _ (kinds : List Kind) where
+  -- of no records
+  abbrev pub nothing_summed : PlainSum
+  nothing_summed = record { procedure = 0; arguments = []; value = pos 0; worths = identities kinds; reads = []; entered = []; height = 0 }
+
+  -- with one record more
+  abbrev pub added : PlainSum → PlainRecord → PlainSum
+  added s r =
+      record {
+        procedure = r.procedure;
+        arguments = r.arguments;
+        value = r.value;
+        worths = operate_all kinds s.worths (filled (identities kinds) r.contribution);
+        reads = s.reads ++ r.reads;
+        entered = put_entries s.entered r.entered;
+        height = max s.height r.height;
+      }
+
+  -- it has what the records have, one after another
+  pub record HasSummed (rs : List PlainRecord) (s : PlainSum) : Type 0 where
+    pub worths : s.worths ≡ contributed kinds (identities kinds) rs
+    pub right : AreWorths kinds s.worths
+    pub reads : s.reads ≡ flat_map (λ r. r.reads) rs
+    pub entered : SameMembers s.entered (flat_map (λ r. r.entered) rs)
+    pub height : s.height ≡ highest rs
+    pub arguments : s.arguments ≡ arguments_of_last [] rs
+
+-- the records at these places, one after another; a place at which none is counts for nothing
+abbrev pub got_before : Option PlainRecord → List PlainRecord → List PlainRecord
+got_before None rs = rs
+got_before (Some r) rs = r ∷ rs
+
+abbrev pub at_places : List PlainRecord → List ℕ → List PlainRecord
+at_places records [] = []
+at_places records (p ∷ ps) = got_before (slice_get records p) (at_places records ps)

@@ -1,0 +1,96 @@
+// Records in a row that one record stands for.
+ghost use Rattle.std.specs.Prelude.{◌≡◌, Some, true, false, slice_get};
+ghost use Rattle.meaning.specs.Every.{every};
+ghost use Rattle.rerun_records.specs.Blocks.{is_apart, Answers};
+
+use crate::record::Record;
+use linked_program::checked::Checked;
+use std::marker::Model;
+
+/// The places of records of one procedure, whose arguments go up by one in the counted one, and a record that has what theirs
+/// have together.
+#[derive(Drop)]
+pub(crate) struct Block {
+    places: Vec<u32>,
+    counted: usize,
+    sum: Record,
+}
+
+impl Model for Block {
+    ghost use Rattle.rerun_records.specs.Blocks.{PlainBlock};
+
+    ghost Value = { PlainBlock };
+
+    ghost view = { λ b. record { places = b.places.items; counted = b.counted; sum = b.sum } };
+}
+
+impl Block {
+    /// A block of these places.
+    pub(crate) fn new(places: Vec<u32>, counted: usize, sum: Record) -> Block
+        ensures block { result
+            ≡ record { places = places.items; counted = counted; sum = sum } }
+    {
+        Block {
+            places,
+            counted,
+            sum,
+        }
+    }
+
+    /// Lends the places.
+    pub(crate) fn places(&self) -> &[u32]
+        ensures places { result.now ≡ self.now.places }
+    {
+        &self.places
+    }
+
+    /// Which argument goes up.
+    pub(crate) fn counted(&self) -> usize
+        ensures counted { result ≡ self.now.counted }
+    {
+        self.counted
+    }
+
+    /// Lends the record that has what they have together.
+    pub(crate) fn sum(&self) -> &Record
+        ensures sum { result.now ≡ self.now.sum }
+    {
+        &self.sum
+    }
+
+    /// Whether one of these changes, each given by its table's number and the row, may have changed what was read.
+    pub(crate) fn is_touched(&self, changes: &[(usize, i64)]) -> bool
+        ensures apart { result ≡ false → every (is_apart changes.now) self.now.sum.reads ≡ true }
+    {
+        self.sum.reads().are_touched(changes)
+    }
+
+    /// Whether it begins at that place, counts that argument, has no more records than that, and its procedures and depth allow
+    /// it to answer.
+    pub(crate) fn answers(
+        &self,
+        place: usize,
+        counted: usize,
+        most: u32,
+        depth: u32,
+        program: &Checked,
+    ) -> bool
+        ensures answers { result ≡ true
+            → Answers program.now depth place counted most self.now }
+    {
+        self.begins_at(place)
+            && self.counted == counted
+            && self.places.len() <= most as usize
+            && self.sum.is_allowed(depth, program)
+    }
+
+    // Whether the first of its records has that place.
+    fn begins_at(&self, place: usize) -> bool
+        ensures begins { result ≡ true → slice_get self.now.places 0 ≡ Some place }
+    {
+        match self.places.first() {
+            Some(first) => *first as usize == place,
+            None => false,
+        }
+    }
+}

@@ -1,0 +1,208 @@
+// The blocks of a session's records.
+ghost use Rattle.std.specs.Prelude.{◌≡◌, ◌⊎◌, ◌∷◌, ℕ, Some, List, [], IfSome, OnOk, true};
+ghost use Rattle.meaning.specs.Every.{every};
+ghost use Rattle.monoid_laws.specs.declared.Kind.{Kind as PlainKind};
+ghost use Rattle.rerun_records.specs.Blocks.{PlainBlock, PlainBlocks, BlocksRemain, IsFree, IsBlock, IsLive, live_at, is_apart, Answers};
+
+use crate::block::Block;
+use crate::due::Due;
+use crate::level::Level;
+use linked_program::checked::Checked;
+use monoid_laws::Kind;
+use std::alloc::{AllocError, Global};
+use std::marker::Model;
+use std::slice;
+
+/// So many rows are changed at least before all blocks are dropped, since each change is looked for in each block.
+const FEWEST: usize = 64;
+
+/// And one for so many blocks.
+const BLOCKS_A_CHANGE: usize = 32;
+
+/// The width of a block.
+#[derive(Clone, Copy)]
+pub(crate) enum Width {
+    Fine,
+    Wide,
+}
+
+/// Blocks of two widths, all for reducers of these kinds.
+#[derive(Drop)]
+pub(crate) struct Blocks {
+    kinds: Vec<Kind>,
+    fine: Level,
+    wide: Level,
+    // What was put in or dropped since blocks were made.
+    due: Due,
+    // How many rows were changed since.
+    changes: usize,
+}
+
+impl Model for Blocks {
+    ghost use Rattle.rerun_records.specs.Blocks.{PlainBlocks};
+
+    ghost Value = { PlainBlocks };
+
+    ghost view = { λ b. record { kinds = b.kinds.items; fine = b.fine; wide = b.wide } };
+}
+
+impl Blocks {
+    /// No blocks; it takes no memory.
+    pub(crate) fn new(alloc: Global) -> Blocks
+        ensures none { result ≡ record { kinds = []; fine = []; wide = [] } }
+    {
+        Blocks {
+            kinds: Vec::new(alloc),
+            fine: Level::new(alloc),
+            wide: Level::new(alloc),
+            due: Due::new(alloc),
+            changes: 0,
+        }
+    }
+
+    /// Drops the blocks that have the record at that place as part, and notes that it is due.
+    pub(crate) fn put_in(&mut self, place: usize)
+        ensures remain { BlocksRemain self.new self.old }
+        ensures free { IsFree place self.new.fine × IsFree place self.new.wide }
+    {
+        self.fine.drop_at(place, &mut self.due);
+        self.wide.drop_at(place, &mut self.due);
+        match u32::try_from(place) {
+            Ok(place) => self.due.note(place),
+            Err(_) => {}
+        }
+    }
+
+    /// Drops the blocks that rest on a changed row, given by its table's number and its own; or all, where many rows were changed
+    /// since blocks were made.
+    pub(crate) fn row_changed(&mut self, table: usize, row: i64)
+        ensures remain { BlocksRemain self.new self.old }
+        ensures fine { (n : ℕ) (b : PlainBlock) → live_at self.new.fine n ≡ Some b
+            → every (is_apart ((table, row) ∷ [])) b.sum.reads ≡ true }
+        ensures wide { (n : ℕ) (b : PlainBlock) → live_at self.new.wide n ≡ Some b
+            → every (is_apart ((table, row) ∷ [])) b.sum.reads ≡ true }
+    {
+        self.changes = self.changes.saturating_add(1);
+        if self.changes > FEWEST && self.changes > self.fine.len() / BLOCKS_A_CHANGE {
+            self.clear();
+        } else {
+            let change = (table, row);
+            self.fine
+                .drop_touched(slice::from_ref(&change), &mut self.due);
+            self.wide
+                .drop_touched(slice::from_ref(&change), &mut self.due);
+        }
+    }
+
+    /// Drops all blocks.
+    pub(crate) fn clear(&mut self)
+        ensures kinds { self.new.kinds ≡ self.old.kinds }
+        ensures none { (self.new.fine ≡ []) × (self.new.wide ≡ []) }
+    {
+        if self.fine.len() > 0 {
+            self.due.note_all();
+        }
+        self.fine.clear();
+        self.wide.clear();
+    }
+
+    /// The widest block that begins at that place, counts that argument, has no more records than that, and answers an instance
+    /// at that depth.
+    pub(crate) fn widest(
+        &self,
+        place: usize,
+        counted: usize,
+        most: u32,
+        depth: u32,
+        program: &Checked,
+    ) -> Option<&Block>
+        ensures block { IfSome result (λ b. IsBlock program.now.kinds self.now b.now) }
+        ensures answers { IfSome result (λ b.
+            Answers program.now depth place counted most b.now) }
+    {
+        if let Some(block) = self.wide.at(place) {
+            if block.answers(place, counted, most, depth, program)
+                && self.are_for(program.kinds())
+            {
+                return Some(block);
+            }
+        }
+        if let Some(block) = self.fine.at(place) {
+            if block.answers(place, counted, most, depth, program)
+                && self.are_for(program.kinds())
+            {
+                return Some(block);
+            }
+        }
+        None
+    }
+
+    /// The block of that width that may have the record at that place as part, where one has, for reducers of these kinds.
+    pub(crate) fn at(&self, width: Width, place: usize, kinds: &[Kind]) -> Option<&Block>
+        ensures block { IfSome result (λ b. IsBlock kinds.now self.now b.now) }
+    {
+        if !self.are_for(kinds) {
+            return None;
+        }
+        match width {
+            Width::Fine => self.fine.at(place),
+            Width::Wide => self.wide.at(place),
+        }
+    }
+
+    // Whether the blocks are for reducers of these kinds.
+    fn are_for(&self, kinds: &[Kind]) -> bool
+        ensures kinds { result ≡ true → self.now.kinds ≡ kinds.now }
+    {
+        are_same(&self.kinds, kinds)
+    }
+
+    /// Has the blocks be for reducers of these kinds, for which those for others are dropped.
+    pub(crate) fn have_kinds(&mut self, alloc: Global, kinds: &[Kind]) -> Result<(), AllocError>
+        ensures remain { BlocksRemain self.new self.old ⊎ ((self.new.fine ≡ []) × (self.new.wide ≡ [])) }
+        ensures kinds { OnOk result (self.new.kinds ≡ kinds.now) }
+    {
+        if !self.are_for(kinds) {
+            self.clear();
+            let mut copied = Vec::new(alloc);
+            copied.extend_from_slice(kinds)?;
+            self.kinds = copied;
+        }
+        Ok(())
+    }
+
+    /// Adds a block of that width, in the place of those that have one of its records as part. Where memory is refused it isn't
+    /// added.
+    pub(crate) fn add(&mut self, width: Width, block: Block) -> Result<(), AllocError>
+        ensures kinds { self.new.kinds ≡ self.old.kinds }
+        ensures fine { (n : ℕ) (b : PlainBlock) → live_at self.new.fine n ≡ Some b
+            → (b ≡ block) ⊎ (live_at self.old.fine n ≡ Some b) }
+        ensures wide { (n : ℕ) (b : PlainBlock) → live_at self.new.wide n ≡ Some b
+            → (b ≡ block) ⊎ (live_at self.old.wide n ≡ Some b) }
+    {
+        match width {
+            Width::Fine => self.fine.add(block, &mut self.due),
+            Width::Wide => self.wide.add(block, &mut self.due),
+        }
+    }
+
+    /// Whether all records may be put into blocks, in place of those at the places that are due.
+    pub(crate) fn are_all_due(&self) -> bool {
+        self.due.are_all()
+    }
+
+    /// Takes out the places of records that may be put into blocks, and begins to count changes anew.
+    pub(crate) fn take_due(&mut self, alloc: Global) -> Vec<u32>
+        ensures same { self.new ≡ self.old }
+    {
+        self.changes = 0;
+        self.due.take(alloc)
+    }
+}
+
+// Whether these kinds are the same.
+fn are_same(kinds: &[Kind], others: &[Kind]) -> bool
+    ensures same { result ≡ true → kinds.now ≡ others.now }
+{
+    *kinds == *others
+}
