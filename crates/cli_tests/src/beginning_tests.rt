@@ -1,18 +1,9 @@
-// Kits, and sessions that can't begin.
+// Sessions that can't begin.
 use cli::beginning::{BeginError, begin};
-use cli::kits::kits_for;
 use monoid_laws::Kind;
 use prepared_program::prepare::PrepareError;
 use std::alloc::{AllocError, Global};
 use view_pool::PlainView;
-
-#[test]
-fn kits_of_a_session(rt: HostRuntime) {
-    let alloc = rt.alloc();
-    let make = |kind: Kind| -> Result<PlainView, AllocError> { Ok(PlainView::new(alloc, kind)) };
-    let kits = kits_for(alloc, &[Kind::Add, Kind::List], 3, &make).expect(&rt, "memory");
-    assert_eq!(&rt; kits.len(), 3);
-}
 
 // Why no session begins with so many kits of such views.
 fn begin_error<M: Fn(Kind) -> Result<PlainView, AllocError>>(

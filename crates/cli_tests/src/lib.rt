@@ -14,7 +14,3 @@ mod prepared_tests;
 mod running;
 #[cfg(test)]
 mod stream_tests;
-#[cfg(test)]
-mod text_tests;
-#[cfg(test)]
-mod word_tests;

@@ -179,23 +179,30 @@ fn is_written(
     }
 }
 
-#[test]
-fn of_a_report(rt: HostRuntime) {
-    let answers = b"run 1\nresult 3\ntotal 12\nrefused E19 2\n";
-    assert!(&rt; is_written(&rt, rt.alloc(), FIRST, b"run\nhere\n", answers));
-}
+// Programs, scripts and their answers: a report, one of a fault, and edits.
+const REPORTS: [(&[u8], &[u8], &[u8]); 3] = [
+    (
+        FIRST,
+        b"run\nhere\n",
+        b"run 1\nresult 3\ntotal 12\nrefused E19 2\n",
+    ),
+    (
+        DEEP,
+        b"run\nhere\n",
+        b"run 1\nfault too deep in f at 1\nrefused E19 2\n",
+    ),
+    (
+        FIRST,
+        b"define\nproc leaf(v) { return v; }\nend\nrun\nput t 1 2\n",
+        b"ok\nrun 1\nresult 3\ntotal 9\nrefused E4\n",
+    ),
+];
 
 #[test]
-fn of_a_fault(rt: HostRuntime) {
-    let answers = b"run 1\nfault too deep in f at 1\nrefused E19 2\n";
-    assert!(&rt; is_written(&rt, rt.alloc(), DEEP, b"run\nhere\n", answers));
-}
-
-#[test]
-fn of_edits(rt: HostRuntime) {
-    let script = b"define\nproc leaf(v) { return v; }\nend\nrun\nput t 1 2\n";
-    let answers = b"ok\nrun 1\nresult 3\ntotal 9\nrefused E4\n";
-    assert!(&rt; is_written(&rt, rt.alloc(), FIRST, script, answers));
+fn of_reports(rt: HostRuntime) {
+    for (text, script, answers) in REPORTS {
+        assert!(&rt; is_written(&rt, rt.alloc(), text, script, answers));
+    }
 }
 
 // The answer to the run that couldn't be noted isn't written, nor are its counts.

@@ -114,6 +114,10 @@ fn writes_that_are_interrupted_or_take_nothing(rt: HostRuntime) {
     assert_eq!(&rt; failures.noted(), (false, true));
 }
 
+const RETURNS_4: &[u8] = b"proc main() { return 4; }";
+
+const NO_ROWS: &str = "[t]\ncolumns = [\"a\"]\nrows = []\n";
+
 // How a session ends over these streams.
 fn ending(
     rt: &(impl Abort + Threads + Wait + Sync),
@@ -122,12 +126,7 @@ fn ending(
     writer: &mut Slow,
     failures: &mut Failures,
 ) -> &'static str {
-    let session = session(
-        rt,
-        alloc,
-        b"proc main() { return 4; }",
-        "[t]\ncolumns = [\"a\"]\nrows = []\n",
-    );
+    let session = session(rt, alloc, RETURNS_4, NO_ROWS);
     match &ended(rt, alloc, session, reader, writer, failures) {
         Ok(()) => "done",
         Err(SessionError::NoMemory) => "no memory",
@@ -165,26 +164,27 @@ fn answered_by(read: usize) -> &'static str {
     "refused E19 1\nok\n"
 }
 
+// Whether the read of a live session fails before the byte of that number, and what it has answered by then.
+fn fails_live(
+    rt: &(impl Abort + Threads + Wait + Sync),
+    alloc: Global,
+    at: usize,
+    failures: &mut Failures,
+) -> (bool, Vec<u8>) {
+    let session = session(rt, alloc, RETURNS_4, NO_ROWS);
+    let mut reader = halting_reader(LINES, ErrorKind::ConnectionReset, at, 1);
+    let mut written = Vec::new(alloc);
+    let ended = ended_live(rt, alloc, session, &mut reader, &mut written, failures);
+    (matches!(&ended, Err(SessionError::Read)), written)
+}
+
 #[test]
 fn a_read_of_a_live_session_fails(rt: HostRuntime) {
-    let alloc = rt.alloc();
     for at in 0..LINES.len() {
-        let tables = "[t]\ncolumns = [\"a\"]\nrows = []\n";
-        let session = session(&rt, alloc, b"proc main() { return 4; }", tables);
-        let mut reader = halting_reader(LINES, ErrorKind::ConnectionReset, at, 1);
-        let mut written = Vec::new(alloc);
         let mut failures = Failures::none();
-        let ended = ended_live(
-            &rt,
-            alloc,
-            session,
-            &mut reader,
-            &mut written,
-            &mut failures,
-        );
-        assert!(&rt; matches!(&ended, Err(SessionError::Read)));
+        let (fails, written) = fails_live(&rt, rt.alloc(), at, &mut failures);
+        assert!(&rt; fails && failures.noted() == (true, false));
         assert_eq!(&rt; written.as_slice(), answered_by(at).as_bytes());
-        assert_eq!(&rt; failures.noted(), (true, false));
     }
 }
 
@@ -283,15 +283,23 @@ fn each_failed_write(rt: HostRuntime) {
     assert_eq!(&rt; taken.as_slice(), REFUSED_ANSWERS);
 }
 
+// Whether a session whose kits are taken out ends for want of a kit.
+fn lacks_kits(
+    rt: &(impl Abort + Threads + Wait + Sync),
+    alloc: Global,
+    written: &mut Vec<u8>,
+) -> bool {
+    let mut session = session(rt, alloc, RETURNS_4, "");
+    drop(session.take_pool(alloc));
+    let mut reader = b"here\nrun\n".as_slice();
+    let failures = &mut Failures::none();
+    let ended = ended(rt, alloc, session, &mut reader, written, failures);
+    matches!(&ended, Err(SessionError::NoKit))
+}
+
 #[test]
 fn no_kit(rt: HostRuntime) {
-    let alloc = rt.alloc();
-    let mut session = session(&rt, alloc, b"proc main() { return 4; }", "");
-    let _pool = session.take_pool(alloc);
-    let mut reader = b"here\nrun\n".as_slice();
-    let mut written = Vec::new(alloc);
-    let failures = &mut Failures::none();
-    let ended = ended(&rt, alloc, session, &mut reader, &mut written, failures);
-    assert!(&rt; matches!(&ended, Err(SessionError::NoKit)));
+    let mut written = Vec::new(rt.alloc());
+    assert!(&rt; lacks_kits(&rt, rt.alloc(), &mut written));
     assert_eq!(&rt; written.as_slice(), b"refused E19 1\n".as_slice());
 }

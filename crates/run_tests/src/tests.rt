@@ -1,14 +1,10 @@
 //! Runs and sessions by steps that are given. What is wanted was found by hand.
 
-mod anew;
-mod books;
-mod exhausted;
 mod given_up;
+mod histories;
 mod playing;
-mod refusals;
 mod refused;
+mod replays;
 mod rows;
-mod script_rows;
-mod scripts;
 mod sessions;
 mod words;

@@ -1,14 +1,11 @@
 //! Sessions that live as long as what is done in them.
-ghost use Rattle.std.specs.Prelude.{◌<◌};
 
-use input_tables::Tables;
 use monoid_laws::Kind;
 use reuse_planner::Session;
 use std::alloc::Global;
 use std::sync::Arc;
 use std::sync::atomic::AtomicUsize;
 use test_kit::beginnings::{checked, kits, kits_by, tables};
-use test_kit::exhausted::main_before;
 use test_kit::refusing::{Refuses, Stubborn};
 use view_pool::PlainView;
 
@@ -47,20 +44,5 @@ pub fn in_session_of_lists<T, F: FnOnce(&mut Session<Stubborn>) -> T>(
     let make = |_kind: Kind| Stubborn::new(alloc, refuses, drops);
     let kits = kits_by(alloc, program.kinds(), count, &make)?;
     let mut session = Session::new(alloc, program, tables, kits).ok()?;
-    Some(act(&mut session))
-}
-
-/// Does this in the session of `main` alone, with this as the least revision number that was never used, and one kit.
-pub fn in_session_before<T, F: FnOnce(&mut Session<PlainView>) -> T>(
-    alloc: Global,
-    counter: u64,
-    act: F,
-) -> Option<T>
-    requires some { 0 < counter }
-    requires act { F.IsAlwaysCallable act }
-{
-    let program = main_before(alloc, counter)?;
-    let kits = kits(alloc, program.kinds(), 1).ok()?;
-    let mut session = Session::new(alloc, program, Tables::new(alloc), kits).ok()?;
     Some(act(&mut session))
 }

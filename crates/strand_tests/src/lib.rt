@@ -1,5 +1,5 @@
-//! Programs on strands, against answers that were found by hand and against the plain slow program; and what strands are made of:
-//! reducers' values, views and deques.
+//! Programs on strands, against answers that were found by hand and against the plain slow program; hypermaps of views that refuse,
+//! and deques.
 #![tactic(auto)]
 
 #[cfg(test)]

@@ -1,9 +1,9 @@
-//! Programs, each on one strand or on several; values and views of reducers; deques.
+//! Programs, each on one strand or on several; hypermaps of views that refuse; deques.
 
 mod answers;
 mod deques;
 mod driving;
+mod folds;
 mod names;
-mod reducers;
 mod statements;
 mod thefts;

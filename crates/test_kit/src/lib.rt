@@ -3,6 +3,5 @@
 
 pub mod beginnings;
 pub mod drawn;
-pub mod exhausted;
 pub mod refusing;
 pub mod texts;

@@ -4,10 +4,6 @@
 pub const SALES: &str =
     "[sales]\ncolumns = [\"qty\", \"price\"]\nrows = [[1, 2, 5], [2, 3, 7], [3, 1, 100]]\n";
 
-/// The sales without the second row.
-pub const SALES_WITH_A_GAP: &str =
-    "[sales]\ncolumns = [\"qty\", \"price\"]\nrows = [[1, 2, 5], [3, 1, 100]]\n";
-
 /// Two spawned children, and what follows them.
 pub const FIRST: &str = "reducer total : add;
 proc leaf(v) { update total v; return v; }
@@ -85,10 +81,4 @@ proc main() { spawn one(1); update m 2; sync; return 0; }
 pub const LOOP_FAULT: &str = "reducer seen : list;
 proc one(i) { update seen i; }
 proc main() { cilk_for i in 0 .. 4 : one(1 / i); return 0; }
-";
-
-/// Sixty instances under one another, and one more.
-pub const COUNTDOWN: &str = "reducer steps : add;
-memo proc down(n) { update steps 1; if n > 0 { call down(n - 1); } return n; }
-proc main() { v = call down(60); return v; }
 ";

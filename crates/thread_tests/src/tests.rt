@@ -11,4 +11,3 @@ mod refused_folds;
 mod reruns;
 mod sessions;
 mod strands;
-mod views;

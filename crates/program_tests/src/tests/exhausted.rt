@@ -72,36 +72,42 @@ fn answers(rt: &impl Abort, alloc: Global, old: &Checked, text: &str) -> String 
     answers
 }
 
-/// Texts where no number is left. The rules come before the numbers, and where no procedure is changed no number is needed.
-const ANSWERS: [(&str, &str); 3] = [
-    ("proc main() { return 1; }", "refused E18 and refused E18"),
+/// The least number that was never used, a text, and what it is answered. Where no number is left the rules come before the numbers,
+/// and where no procedure is changed no number is needed.
+const ANSWERS: [(u64, &str, &str); 4] = [
     (
+        u64::MAX,
+        "proc main() { return 1; }",
+        "refused E18 and refused E18",
+    ),
+    (
+        u64::MAX,
         "proc main(x) { }",
         "refused E9 C7 main 1 and refused E9 C7 main 1",
     ),
     (
+        u64::MAX,
         "\n\nproc main() { }",
         "main 0 false; 18446744073709551615 and main 0 false; 18446744073709551615",
     ),
+    // The last number is given.
+    (
+        u64::MAX - 1,
+        "proc main() { return 1; }",
+        "main 18446744073709551614 false; 18446744073709551615 and main 18446744073709551614 false; 18446744073709551615",
+    ),
 ];
 
-/// Compares the answers where no number is left.
-fn are_answered(rt: &impl Abort, alloc: Global, old: &Checked) {
-    for (text, wanted) in ANSWERS {
-        assert_eq!(rt; answers(rt, alloc, old, text).as_str(), wanted);
+/// The answers behind that program.
+fn answers_before(rt: &impl Abort, alloc: Global, counter: u64, text: &str) -> String {
+    let old = before(rt, alloc, counter.max(1));
+    answers(rt, alloc, &old, text)
+}
+
+#[test]
+fn numbers_up_to_the_last(rt: HostRuntime) {
+    for (counter, text, wanted) in ANSWERS {
+        let found = answers_before(&rt, rt.alloc(), counter, text);
+        assert_eq!(&rt; found.as_str(), wanted);
     }
-}
-
-#[test]
-fn no_number_is_left(rt: HostRuntime) {
-    let old = before(&rt, rt.alloc(), u64::MAX);
-    are_answered(&rt, rt.alloc(), &old);
-}
-
-#[test]
-fn the_last_number_is_given(rt: HostRuntime) {
-    let old = before(&rt, rt.alloc(), u64::MAX - 1);
-    let found = revisions::answer_to(&rt, rt.alloc(), &old, "proc main() { return 1; }");
-    let wanted = "main 18446744073709551614 false; 18446744073709551615";
-    assert_eq!(&rt; found.as_str(), wanted);
 }

@@ -1,8 +1,6 @@
 //! Records by hand, for programs as text.
 
-mod commits;
-mod edits;
+mod doubts;
 mod making;
 mod parts;
 mod reads;
-mod reasons;

@@ -1,9 +1,9 @@
-//! Tables that are read and edited.
+//! Tables that are read, added to and edited.
 
 use super::beginnings::{SALES, sales};
 use super::looks::Look::{Cell, Column, Edits, Has, Limit, Named, Table, TwoColumns};
 use super::looks::{Look, wrong_answer};
-use input_tables::{EditError, Tables};
+use input_tables::{AddError, EditError, Tables};
 use std::alloc::Global;
 use std::process::Abort;
 
@@ -112,4 +112,53 @@ fn tables_are_edited(rt: HostRuntime) {
     assert!(&rt; wrong_answer(&tables, &EDITED).is_none());
     let exhausted = Err(EditError::Exhausted);
     assert!(&rt; is_refused(&rt, rt.alloc(), exhausted, "refused E18"));
+}
+
+const COLUMNS: [&str; 2] = ["qty", "price"];
+
+/// What is read of a table that is added behind the example's, and of a row that is put into it.
+const ADDED: [Look; 8] = [
+    Look::Tables(2),
+    Edits(1),
+    Table("sales", Some(0)),
+    Table("parts", Some(1)),
+    Named(1, "parts"),
+    TwoColumns(1, "qty", "price"),
+    Cell(1, 7, 1, Some(5)),
+    Limit(0, 4),
+];
+
+/// Tables that aren't added behind the example's, and why.
+const NOT_ADDED: [(&str, &[&str], &str); 6] = [
+    ("sales", &COLUMNS, "there is a table of that name"),
+    ("Parts", &COLUMNS, "the table's name is no name"),
+    ("memo", &COLUMNS, "the table's name is no name"),
+    ("parts", &[], "a table has 1 to 8 columns"),
+    ("parts", &["qty", "9"], "a column's name is no name"),
+    ("parts", &["qty", "qty"], "two columns have one name"),
+];
+
+/// Whether an addition is refused so.
+fn is_not_added(rt: &impl Abort, alloc: Global, added: Result<(), AddError>, wanted: &str) -> bool {
+    match added {
+        Ok(()) => false,
+        Err(error) => format!(in alloc; "{error}").expect(rt, "memory").as_str() == wanted,
+    }
+}
+
+/// Asks for tables that are refused, adds one, and puts a row into it.
+fn add(rt: &impl Abort, alloc: Global, tables: &mut Tables) {
+    for (table, columns, wanted) in NOT_ADDED {
+        let added = tables.add(alloc, table, columns);
+        assert!(rt; is_not_added(rt, alloc, added, wanted));
+    }
+    tables.add(alloc, "parts", &COLUMNS).expect(rt, "a table");
+    tables.put(alloc, "parts", 7, &[3, 5]).expect(rt, "a row");
+}
+
+#[test]
+fn tables_are_added(rt: HostRuntime) {
+    let mut tables = sales(&rt, rt.alloc());
+    add(&rt, rt.alloc(), &mut tables);
+    assert!(&rt; wrong_answer(&tables, &ADDED).is_none());
 }

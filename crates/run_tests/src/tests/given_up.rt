@@ -11,40 +11,11 @@ use std::sync::Arc;
 use std::sync::atomic::{AtomicUsize, Ordering};
 use test_kit::beginnings::kits_by;
 use test_kit::refusing::{Refuses, Stubborn};
-use test_kit::texts::{FIRST, FIRST_LIST, SALES};
+use test_kit::texts::{FIRST_LIST, SALES};
 use view_pool::{Kit, Pool, View};
 use worker_core::run::Core;
 
 const TO_THE_END: &str = "W0* P0 S10 W1* I1 W1* L1 W0* L0 F0@1 W0* L0";
-
-/// Gives a run up in the middle, and plays another to its end over its kit.
-fn again<V: View>(rt: &impl Abort, alloc: Global, session: &mut Session<V>, wanted: &str) {
-    session.kept();
-    let pool = session.take_pool(alloc);
-    let (first, pool) = play_over(rt, alloc, session, pool, 1, "W0* P0 W0*");
-    assert_eq!(rt; pool.free(), 1);
-    let line = "W0* P0 W0* O0 W0* P0 W0* O0 W0* L0";
-    let (second, _pool) = play_over(rt, alloc, session, pool, 1, line);
-    assert!(rt; first.leads_to("", "unfinished\n") && second.leads_to("", wanted));
-}
-
-fn again_in(rt: &impl Abort, alloc: Global, text: &str, wanted: &str) {
-    let done = in_session(
-        alloc,
-        text,
-        SALES,
-        1,
-        |session| again(rt, alloc, session, wanted),
-    );
-    done.expect(rt, "a session");
-}
-
-/// A run given up leaves its kit at the identities.
-#[test]
-fn kit_used_again(rt: HostRuntime) {
-    again_in(&rt, rt.alloc(), FIRST_LIST, "result 3\nseen 1 2 9\n");
-    again_in(&rt, rt.alloc(), FIRST, "result 3\ntotal 12\n");
-}
 
 fn boxed(
     alloc: Global,
@@ -70,9 +41,9 @@ fn over_lists<V: View, W: View, F: Fn(Kind) -> Result<V, AllocError>>(
     played
 }
 
-/// A row below, over two boxed lists. Each box is dropped once.
+/// A row below, over two kits of boxed lists. Each box is dropped once.
 fn over_boxes<W: View>(rt: &impl Abort, alloc: Global, session: &Session<W>, row: Row) {
-    let (refuses, line, refused, strands, is_over, answer) = row;
+    let (_, refuses, line, refused, strands, is_over, answer, boxes) = row;
     let drops = Arc::new(alloc, AtomicUsize::new(0)).expect(rt, "memory");
     let make = |_kind: Kind| boxed(alloc, refuses, &drops);
     let played = over_lists(rt, alloc, session, line, &make);
@@ -80,97 +51,133 @@ fn over_boxes<W: View>(rt: &impl Abort, alloc: Global, session: &Session<W>, row
     assert_eq!(rt; played.strands.as_str(), strands);
     assert_eq!(rt;
         (played.is_over, drops.load(Ordering::SeqCst)),
-        (is_over, 2)
+        (is_over, boxes)
     );
 }
 
-/// A line over lists that refuse so: what is refused, the strands, whether the run is over, and the answer.
+/// The same in a session of its program.
+fn over_boxes_in(rt: &impl Abort, alloc: Global, row: Row) {
+    let done = in_session(
+        alloc,
+        row.0,
+        SALES,
+        1,
+        |session| over_boxes(rt, alloc, session, row),
+    );
+    done.expect(rt, "a session");
+}
+
+/// A program and a line over lists that refuse so: what is refused, the strands, whether the run is over, the answer, and how many
+/// boxes there are.
 type Row = (
+    &'static str,
     Refuses,
     &'static str,
     &'static str,
     &'static str,
     bool,
     &'static str,
+    usize,
 );
 
-const ROWS: [Row; 7] = [
+const ROWS: [Row; 8] = [
     (
+        FIRST_LIST,
         Refuses::Nothing,
         "",
         "",
         "[] Held(0);",
         false,
         "unfinished\n",
+        2,
     ),
     (
+        FIRST_LIST,
         Refuses::Nothing,
         "W0* P0 S10",
         "",
         "[] Held(0);[1] Held(1);",
         false,
         "unfinished\n",
+        2,
     ),
     (
+        FIRST_LIST,
         Refuses::Nothing,
         "W0* P0 S10 W1* I1 W1* L1 W0* L0",
         "",
         "[] Ended;[1] Stalled;",
         false,
         "unfinished\n",
+        2,
     ),
     (
+        FIRST_LIST,
         Refuses::Nothing,
         TO_THE_END,
         "",
         "[] Finished;",
         true,
         "result 3\nseen 1 2 9\n",
+        2,
     ),
     // A fold that is refused is done again.
     (
+        FIRST_LIST,
         Refuses::Absorb,
         "W0* P0 S10 W1* I1 W1* L1 W0* L0 F0@1",
         "F0@1 out of memory;",
         "[] Ended;[1] Stalled;",
         false,
         "unfinished\n",
+        2,
     ),
     (
+        FIRST_LIST,
         Refuses::Absorb,
         "W0* P0 S10 W1* I1 W1* L1 W0* L0 F0@1 F0@1 W0* L0",
         "F0@1 out of memory;",
         "[] Finished;",
         true,
         "result 3\nseen 1 2 9\n",
+        2,
     ),
     // An update that is refused memory makes the run fail: no step is taken any more.
     (
+        FIRST_LIST,
         Refuses::Update,
         "W0* I0 W0 W0 W0 S00 S10 F0@1 L0",
         "W0 out of memory;W0 refused E16;S00 refused E16;S10 refused E16;F0@1 refused E16;L0 refused E16;",
         "[] Held(0);",
         true,
         "no memory\n",
+        2,
+    ),
+    // The first list refuses, and then, when the first has moved to the left, the second one.
+    (
+        TWO_LISTS,
+        Refuses::Absorb,
+        "W0* P0 S10 W1* L1 W0* L0 F0@1 F0@1 F0@1 W0* L0",
+        "F0@1 out of memory;F0@1 out of memory;",
+        "[] Finished;",
+        true,
+        "result 1\none 1 2\ntwo 1 2\n",
+        4,
     ),
 ];
 
-fn all_over_boxes<W: View>(rt: &impl Abort, alloc: Global, session: &Session<W>) {
-    for row in ROWS {
-        over_boxes(rt, alloc, session, row);
-    }
-}
+/// Two lists, the same.
+const TWO_LISTS: &str = "reducer one : list;
+reducer two : list;
+proc leaf(v) { update one v; update two v; return v; }
+proc main() { x = spawn leaf(1); update one 2; update two 2; sync; return x; }
+";
 
 #[test]
 fn refused_memory(rt: HostRuntime) {
-    let done = in_session(
-        rt.alloc(),
-        FIRST_LIST,
-        SALES,
-        1,
-        |session| all_over_boxes(&rt, rt.alloc(), session),
-    );
-    done.expect(&rt, "a session");
+    for row in ROWS {
+        over_boxes_in(&rt, rt.alloc(), row);
+    }
 }
 
 /// Takes the steps of a line in a run over these kits, and lets the run go.

@@ -22,65 +22,115 @@ const INLINED: &str = "W0* I0 W0* I0 W0* L0";
 
 const HALVES: &str = "W0* P0 S10 W0* I0 W0* L0 W1* I1 W1* L1 F0@1.1 W0* L0";
 
-/// Programs and lines in which nothing is refused, with so many workers and as many kits; the answer and the history.
-const ROWS: [(&str, usize, &str, &str, &str); 13] = [
+/// A program, workers, kits and a line; what of it is refused, the answer and the history.
+type Row = (
+    &'static str,
+    usize,
+    usize,
+    &'static str,
+    &'static str,
+    &'static str,
+    &'static str,
+);
+
+const ROWS: [Row; 14] = [
     (
         FIRST_LIST,
         1,
+        1,
         POPPED,
+        "",
         "result 3\nseen 1 2 9\n",
         "run 1\nfinish root\n",
     ),
     (
         FIRST,
         1,
+        1,
         POPPED,
+        "",
         "result 3\ntotal 12\n",
         "run 1\nfinish root\n",
     ),
     (
         FIRST_LIST,
         1,
+        1,
         INLINED,
+        "",
         "result 3\nseen 1 2 9\n",
         "run 1\nfinish root\n",
     ),
     (
         FIRST,
         1,
+        1,
         INLINED,
+        "",
         "result 3\ntotal 12\n",
         "run 1\nfinish root\n",
     ),
     (
         FIRST_LIST,
         3,
+        3,
         TWO_STEALS,
+        "",
         "result 3\nseen 1 2 9\n",
         TWO_FOLDS,
     ),
-    (FIRST_TWO, 3, TWO_STEALS, "result 3\nseen 1 2\n", TWO_FOLDS),
-    (LAST_TWO, 3, TWO_STEALS, "result 3\nseen 2 9\n", TWO_FOLDS),
-    (AFFINE, 2, STOLEN_ONCE, "result 0\nf 6 7\n", FOLDED_ONCE),
+    (
+        FIRST_TWO,
+        3,
+        3,
+        TWO_STEALS,
+        "",
+        "result 3\nseen 1 2\n",
+        TWO_FOLDS,
+    ),
+    (
+        LAST_TWO,
+        3,
+        3,
+        TWO_STEALS,
+        "",
+        "result 3\nseen 2 9\n",
+        TWO_FOLDS,
+    ),
+    (
+        AFFINE,
+        2,
+        2,
+        STOLEN_ONCE,
+        "",
+        "result 0\nf 6 7\n",
+        FOLDED_ONCE,
+    ),
     (
         WRAPPING,
         2,
+        2,
         STOLEN_ONCE,
+        "",
         "result 0\ntotal -9223372036854775808\n",
         FOLDED_ONCE,
     ),
-    (TABLE, 2, STOLEN_ONCE, "result 0\nm 2\n", FOLDED_ONCE),
+    (TABLE, 2, 2, STOLEN_ONCE, "", "result 0\nm 2\n", FOLDED_ONCE),
     (
         LOOP,
         2,
+        2,
         HALVES,
+        "",
         "result 0\nseen 0 1 2 3\n",
         "run 1\nsplit root 1.1 by 1\nend root\nstall 1.1\nfold root 1.1 by 0\nfinish root\n",
     ),
     (
         LOOP_FAULT,
         2,
+        2,
         HALVES,
+        "",
         "fault divide by zero in main at 1\n",
         "run 1\nsplit root 1.1 by 1\nfault root\nstall 1.1\nfold root 1.1 by 0\nfault root\n",
     ),
@@ -88,17 +138,29 @@ const ROWS: [(&str, usize, &str, &str, &str); 13] = [
     (
         TWO_FAULTS,
         2,
+        2,
         "W0* P0 S10 W1* L1 W0* L0 F0@1 L0",
+        "",
         "fault divide by zero in bad at 1\n",
         "run 1\nsplit root 1 by 1\nfault 1\nfault root\nfold root 1 by 0\nfault root\n",
+    ),
+    // The only kit: nothing can be stolen.
+    (
+        FIRST_LIST,
+        2,
+        1,
+        "W0* P0 S10 W0* O0 W0* P0 S10 W0* O0 W0* L0",
+        "S10 refused E15;S10 refused E15;",
+        "result 3\nseen 1 2 9\n",
+        "run 1\nfinish root\n",
     ),
 ];
 
 #[test]
 fn answers_and_histories(rt: HostRuntime) {
-    for (text, workers, line, answer, history) in ROWS {
-        let played = play(&rt, rt.alloc(), text, workers, workers, line);
-        assert!(rt; played.leads_to("", answer), "after {line}");
+    for (text, workers, count, line, refused, answer, history) in ROWS {
+        let played = play(&rt, rt.alloc(), text, workers, count, line);
+        assert!(rt; played.leads_to(refused, answer), "after {line}");
         assert_eq!(rt; played.history.as_str(), history);
     }
 }
@@ -121,5 +183,56 @@ fn strands_where_a_run_stands(rt: HostRuntime) {
     for (text, line, strands) in STANDING {
         let played = play(&rt, rt.alloc(), text, 3, 3, line);
         assert_eq!(rt; played.strands.as_str(), strands, "after {line}");
+    }
+}
+
+/// Workers, kits, a line, and what of it is refused, in the order in which the causes are looked for.
+const REFUSED: [(usize, usize, &str, &str); 8] = [
+    // Worker 0 has pushed nothing, and holds a strand.
+    (3, 64, "S10 S00", "S10 refused E14;S00 refused E13;"),
+    (
+        3,
+        64,
+        "P7 P0 I0 O0 L0",
+        "P7 refused E16;P0 refused E16;I0 refused E16;O0 refused E16;L0 refused E16;",
+    ),
+    (
+        3,
+        64,
+        "W0* W0 O0 L0",
+        "W0 refused E16;O0 refused E16;L0 refused E16;",
+    ),
+    // There is no such worker, before the worker holds a strand.
+    (
+        3,
+        64,
+        "S70 S07 F7@1",
+        "S70 refused E16;S07 refused E16;F7@1 refused E16;",
+    ),
+    // The worker holds a strand, before there is no such strand.
+    (
+        3,
+        64,
+        "S01 F0@1 F1@1",
+        "S01 refused E13;F0@1 refused E13;F1@1 refused E16;",
+    ),
+    // The continuation was stolen.
+    (3, 64, "W0* P0 S10 W0* O0", "O0 refused E14;"),
+    // The left strand has not ended, then it has, and the right one has not stalled.
+    (
+        3,
+        64,
+        "W0* P0 S10 F2@1 W0* L0 F0@1",
+        "F2@1 refused E16;F0@1 refused E16;",
+    ),
+    // There is nothing to take, before no kit is free.
+    (2, 1, "S10 W0* P0 S10", "S10 refused E14;S10 refused E15;"),
+];
+
+#[test]
+fn step_refusals(rt: HostRuntime) {
+    for (workers, count, line, refused) in REFUSED {
+        let played = play(&rt, rt.alloc(), FIRST_LIST, workers, count, line);
+        assert_eq!(rt; played.refused.as_str(), refused, "after {line}");
     }
 }

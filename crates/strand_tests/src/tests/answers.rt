@@ -8,10 +8,6 @@ use serial_oracle::{Answer, Row, TableRows, from_scratch};
 use std::alloc::{AllocError, Global};
 use std::process::Abort;
 
-/// Sales: for each row its number, a quantity and a price.
-pub const SALES: &str =
-    "[sales]\ncolumns = [\"qty\", \"price\"]\nrows = [[1, 2, 5], [2, 3, 7], [3, 1, 100]]\n";
-
 /// The rows of the sales.
 const CELLS: [[i64; 3]; 3] = [[1, 2, 5], [2, 3, 7], [3, 1, 100]];
 

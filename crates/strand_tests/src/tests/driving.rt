@@ -1,18 +1,14 @@
-//! How a program is read and run: on one strand, whose spawned children go different ways.
-ghost use Rattle.std.specs.Prelude.{◌≡◌, [], IfOk, All};
+//! How a program is run on one strand, whose spawned children go different ways.
+ghost use Rattle.std.specs.Prelude.{◌≡◌, [], All};
 ghost use Rattle.monoid_laws.specs.Kinds.{IsMonoid};
 
-use super::answers::SALES;
 use frames::strand::Strand;
 use input_tables::Tables;
 use linked_program::checked::Checked;
-use monoid_laws::Kind;
 use positions::phase::{Paused, Phase};
-use procedure_parser::parse;
 use rerun_records::records::Records;
 use rules_theory::checked_programs_keep_the_rules;
-use spawn_checker::check;
-use std::alloc::{AllocError, Global};
+use std::alloc::Global;
 use std::process::Abort;
 use strand_moves::task::Task;
 use view_pool::{Kit, PlainView, Pool};
@@ -20,41 +16,12 @@ use view_pool::{Kit, PlainView, Pool};
 /// More small steps than any of the programs takes.
 const STEPS: usize = 2000;
 
-/// The tables of which the programs speak.
-pub fn sales(rt: &impl Abort, alloc: Global) -> Tables {
-    Tables::from_toml(alloc, SALES).expect(rt, "tables")
-}
-
-/// The program of a text, checked against these tables.
-pub fn program_of(rt: &impl Abort, alloc: Global, text: &str, tables: &Tables) -> Checked {
-    let program = parse(alloc, text.as_bytes()).expect(rt, "a program");
-    check(alloc, program, tables).expect(rt, "no violation")
-}
-
-/// A kit of plain views of these kinds.
-fn kit(alloc: Global, kinds: &[Kind]) -> Result<Kit<PlainView>, AllocError>
-    ensures kinds { IfOk result (λ kit. kit ≡ kinds.now) }
-{
-    let mut views = Vec::new(alloc);
-    for i in 0..kinds.len() {
-        views.push(PlainView::new(alloc, kinds[i]))?;
-    }
-    Ok(Kit::reset(views))
-}
-
-/// A kit of the program's.
-pub fn own_kit(rt: &impl Abort, alloc: Global, program: &Checked) -> Kit<PlainView>
-    ensures kinds { result ≡ program.now.kinds }
-{
-    kit(alloc, program.kinds()).expect(rt, "memory")
-}
-
 /// The kits of a strand that has its own: none is free.
 fn no_kits(rt: &impl Abort, alloc: Global) -> Pool<Kit<PlainView>>
     ensures none { result.kits ≡ [] }
     ensures total { result.total ≡ 1 }
 {
-    let kit = kit(alloc, &[]).expect(rt, "memory");
+    let kit: Kit<PlainView> = Kit::reset(Vec::new(alloc));
     let mut pool = Pool::new(vec![in alloc; kit].expect(rt, "memory"));
     let _ = pool.take();
     pool
@@ -214,29 +181,6 @@ fn step(
     go_back(strand, parents);
 }
 
-/// So many small steps, or fewer where the strand comes to a point at which it pauses.
-pub fn small_steps(
-    rt: &impl Abort,
-    alloc: Global,
-    program: &Checked,
-    tables: &Tables,
-    strand: &mut Strand<PlainView>,
-    most: usize,
-)
-    requires kinds { strand.old.layer.kinds ≡ program.now.kinds }
-    requires lower { strand.old.lower ≡ [] }
-    ensures kinds { strand.new.layer.kinds ≡ strand.old.layer.kinds }
-    ensures lower { strand.new.lower ≡ [] }
-{
-    let mut pool = no_kits(rt, alloc);
-    for _ in 0..most {
-        if strand.pause(program) != Paused::Working {
-            break;
-        }
-        advance(rt, alloc, program, tables, strand, &mut pool);
-    }
-}
-
 /// The strand goes on to a point at which it pauses.
 pub fn to_pause(
     rt: &impl Abort,
@@ -250,7 +194,13 @@ pub fn to_pause(
     ensures kinds { strand.new.layer.kinds ≡ strand.old.layer.kinds }
     ensures lower { strand.new.lower ≡ [] }
 {
-    small_steps(rt, alloc, program, tables, strand, STEPS);
+    let mut pool = no_kits(rt, alloc);
+    for _ in 0..STEPS {
+        if strand.pause(program) != Paused::Working {
+            break;
+        }
+        advance(rt, alloc, program, tables, strand, &mut pool);
+    }
 }
 
 /// The number of the first step before which the strand was at its end.

@@ -1,7 +1,9 @@
 //! Programs on strands by given steps: each way of a spawned child, and continuations that are stolen.
 
-use super::driving::{Child, program_of, sales};
+use super::driving::Child;
 use super::thefts::{Row, rows_answer, run};
+use test_kit::beginnings::{checked, tables};
+use test_kit::texts::SALES;
 
 /// Programs that end with a value. The values stand in the order of the text, however often continuations are stolen.
 const ENDING: [Row; 10] = [
@@ -119,8 +121,8 @@ const OF_MANY: &str = "35 [Int(2811), List([99, 5])]";
 /// Main's loop, its share of it and the end of main are done by themselves, and what is behind each of them.
 #[test]
 fn most_steps_are_done_in_one_go(rt: HostRuntime) {
-    let tables = sales(&rt, rt.alloc());
-    let program = program_of(&rt, rt.alloc(), MANY, &tables);
+    let tables = tables(rt.alloc(), SALES).expect(&rt, "tables");
+    let program = checked(rt.alloc(), MANY, &tables).expect(&rt, "a program");
     let ran = run(&rt, rt.alloc(), &program, &tables, 0, Child::Ahead);
     assert_eq!(&rt; ran.answer.as_str(), OF_MANY);
     assert!(&rt; ran.steps <= 10);

@@ -3,33 +3,29 @@ ghost use Rattle.std.specs.Prelude.{◌≡◌, [], All};
 ghost use Rattle.monoid_laws.specs.Kinds.{IsMonoid};
 
 use super::answers::{answer_text, slow_text};
-use super::driving::{
-    Child, are_monoids, begin, go_on, own_kit, parent, program_of, sales, to_pause,
-};
+use super::driving::{Child, are_monoids, begin, go_on, parent, to_pause};
 use frames::strand::Strand;
 use input_tables::Tables;
 use linked_program::checked::Checked;
 use positions::phase::{Paused, Phase};
 use std::alloc::Global;
 use std::process::Abort;
+use test_kit::beginnings::{checked, kits, tables};
+use test_kit::texts::SALES;
 use view_pool::{Kit, PlainView, Pool};
 
 /// How many kits there are: one for each strand, and one more.
 const KITS: usize = 4;
 
 /// The kits of a program, all free.
-fn pool_of(rt: &impl Abort, alloc: Global, program: &Checked) -> Pool<Kit<PlainView>>
+pub fn pool_of(rt: &impl Abort, alloc: Global, program: &Checked) -> Pool<Kit<PlainView>>
     ensures kits { All (λ k. k ≡ program.now.kinds) result.kits }
 {
-    let one = own_kit(rt, alloc, program);
-    let two = own_kit(rt, alloc, program);
-    let three = own_kit(rt, alloc, program);
-    let four = own_kit(rt, alloc, program);
-    Pool::new(vec![in alloc; one, two, three, four].expect(rt, "memory"))
+    Pool::new(kits(alloc, program.kinds(), KITS).expect(rt, "memory"))
 }
 
 /// A free kit.
-fn taken(rt: &impl Abort, program: &Checked, pool: &mut Pool<Kit<PlainView>>) -> Kit<PlainView>
+pub fn taken(rt: &impl Abort, program: &Checked, pool: &mut Pool<Kit<PlainView>>) -> Kit<PlainView>
     requires kits { All (λ k. k ≡ program.now.kinds) pool.old.kits }
     ensures kits { All (λ k. k ≡ program.now.kinds) pool.new.kits }
     ensures kinds { result ≡ program.now.kinds }
@@ -255,9 +251,9 @@ fn all_answer(rt: &impl Abort, alloc: Global, program: &Checked, tables: &Tables
 
 /// The programs of the rows give their answers.
 pub fn rows_answer(rt: &impl Abort, alloc: Global, rows: &[Row]) {
-    let tables = sales(rt, alloc);
+    let tables = tables(alloc, SALES).expect(rt, "tables");
     for row in rows {
-        let program = program_of(rt, alloc, row.0, &tables);
+        let program = checked(alloc, row.0, &tables).expect(rt, "a program");
         all_answer(rt, alloc, &program, &tables, row);
     }
 }

@@ -71,48 +71,6 @@ impl Gate for Held {
     }
 }
 
-/// Holds the first worker at its first push until some worker has stolen.
-#[derive(Drop)]
-pub struct UntilStolen {
-    pushes: AtomicUsize,
-    steals: AtomicUsize,
-}
-
-impl UntilStolen {
-    /// Nothing was pushed or stolen so far.
-    pub fn new() -> UntilStolen {
-        UntilStolen {
-            pushes: AtomicUsize::new(0),
-            steals: AtomicUsize::new(0),
-        }
-    }
-
-    /// How many pushes and steals there were.
-    pub fn counts(&self) -> (usize, usize) {
-        (
-            self.pushes.load(Ordering::SeqCst),
-            self.steals.load(Ordering::SeqCst),
-        )
-    }
-}
-
-impl Gate for UntilStolen {
-    fn at(&self, worker: usize, point: Point) {
-        match point {
-            Point::Pushed => {
-                let before = self.pushes.fetch_add(1, Ordering::SeqCst);
-                if worker == 0 && before == 0 {
-                    reaches(&self.steals, 1);
-                }
-            }
-            Point::Stole => {
-                self.steals.fetch_add(1, Ordering::SeqCst);
-            }
-            Point::Popped | Point::Laid | Point::Folded | Point::Update => {}
-        }
-    }
-}
-
 /// Holds the first worker at its first push until the second one has stolen, and that one at its steal, where it has the lock, until
 /// the first one has pushed once more.
 #[derive(Drop)]

@@ -1,45 +1,26 @@
 //! What goes through the deques.
 
 use super::beginning::is_answered;
-use super::counting::{Held, PushBesideSteal, UntilStolen};
-use super::programs::{LEVELS, LEVELS_TO_A_FAULT, NESTED, ONES};
-use threaded_driver::NoGate;
+use super::counting::{Held, PushBesideSteal};
+use super::programs::{LEVELS, LEVELS_TO_A_FAULT, NESTED};
 
-#[test]
-fn pushes_and_steals(rt: HostRuntime) {
-    let gate = UntilStolen::new();
-    is_answered(
-        &rt,
-        rt.alloc(),
-        ONES,
-        4,
-        4,
-        &gate,
-        "result 120\ntotal 120\n",
-    );
-    let (pushes, steals) = gate.counts();
-    assert!(&rt;
-        steals > 0 && pushes >= steals,
-        "{pushes} pushes, {steals} steals"
-    );
-}
+/// Programs, their answers, and how many continuations the deque of one worker holds at most: in 63 loops, eight and sixteen each.
+const ROWS: [(&str, &str, i64); 2] = [
+    (LEVELS, "result 16065\ntotal 16065\n", 504),
+    (
+        LEVELS_TO_A_FAULT,
+        "fault divide by zero in level at 4\n",
+        1008,
+    ),
+];
 
-/// In 63 loops all iterations but the first one add 1.
 #[test]
 fn many_continuations(rt: HostRuntime) {
-    let gate = Held::new();
-    let wanted = "result 16065\ntotal 16065\n";
-    is_answered(&rt, rt.alloc(), LEVELS, 4, 1, &gate, wanted);
-    assert_eq!(&rt; gate.most(), 504);
-    is_answered(&rt, rt.alloc(), LEVELS, 4, 4, &NoGate, wanted);
-}
-
-#[test]
-fn over_a_thousand_continuations(rt: HostRuntime) {
-    let gate = Held::new();
-    let wanted = "fault divide by zero in level at 4\n";
-    is_answered(&rt, rt.alloc(), LEVELS_TO_A_FAULT, 4, 1, &gate, wanted);
-    assert_eq!(&rt; gate.most(), 1008);
+    for (text, wanted, most) in ROWS {
+        let gate = Held::new();
+        is_answered(&rt, rt.alloc(), text, 4, 1, &gate, wanted);
+        assert_eq!(&rt; gate.most(), most);
+    }
 }
 
 /// The second push takes place while the thief has the lock.

@@ -1,4 +1,4 @@
-//! Workers and updates that wait for one another.
+//! Workers that wait for one another.
 
 use std::alloc::{AllocError, Global};
 use std::sync::atomic::{AtomicBool, AtomicUsize, Ordering};
@@ -19,50 +19,13 @@ pub fn reaches(count: &AtomicUsize, wanted: usize) -> bool {
     false
 }
 
-/// So many that wait for one another.
-#[derive(Drop)]
-pub struct Together {
-    wanted: usize,
-    came: AtomicUsize,
-    in_vain: AtomicBool,
-}
-
-impl Together {
-    /// So many are wanted, and none is here.
-    pub fn of(wanted: usize) -> Together {
-        Together {
-            wanted,
-            came: AtomicUsize::new(0),
-            in_vain: AtomicBool::new(false),
-        }
-    }
-
-    /// One more is here.
-    pub fn come(&self) {
-        self.came.fetch_add(1, Ordering::SeqCst);
-    }
-
-    /// Waits until all are here; once one has waited in vain, nobody waits any more.
-    pub fn wait(&self) {
-        if self.in_vain.load(Ordering::SeqCst) {
-            return;
-        }
-        if !reaches(&self.came, self.wanted) {
-            self.in_vain.store(true, Ordering::SeqCst);
-        }
-    }
-
-    /// Whether all came, and none has waited in vain.
-    pub fn have_met(&self) -> bool {
-        self.came.load(Ordering::SeqCst) >= self.wanted && !self.in_vain.load(Ordering::SeqCst)
-    }
-}
-
 /// Holds each worker that comes to an update until so many workers have come to one.
 #[derive(Drop)]
 pub struct Meeting {
     is_here: Vec<AtomicBool>,
-    together: Together,
+    wanted: usize,
+    came: AtomicUsize,
+    in_vain: AtomicBool,
 }
 
 impl Meeting {
@@ -74,13 +37,15 @@ impl Meeting {
         }
         Ok(Meeting {
             is_here,
-            together: Together::of(wanted),
+            wanted,
+            came: AtomicUsize::new(0),
+            in_vain: AtomicBool::new(false),
         })
     }
 
     /// Whether all came, and none has waited in vain.
     pub fn was_held(&self) -> bool {
-        self.together.have_met()
+        self.came.load(Ordering::SeqCst) >= self.wanted && !self.in_vain.load(Ordering::SeqCst)
     }
 
     /// Notes that a worker is here, if it wasn't before.
@@ -89,9 +54,19 @@ impl Meeting {
             None => {}
             Some(flag) => {
                 if !flag.swap(true, Ordering::SeqCst) {
-                    self.together.come();
+                    self.came.fetch_add(1, Ordering::SeqCst);
                 }
             }
+        }
+    }
+
+    /// Waits until all are here; once one has waited in vain, nobody waits any more.
+    fn wait(&self) {
+        if self.in_vain.load(Ordering::SeqCst) {
+            return;
+        }
+        if !reaches(&self.came, self.wanted) {
+            self.in_vain.store(true, Ordering::SeqCst);
         }
     }
 }
@@ -100,7 +75,7 @@ impl Gate for Meeting {
     fn at(&self, worker: usize, point: Point) {
         if point == Point::Update {
             self.note(worker);
-            self.together.wait();
+            self.wait();
         }
     }
 }

@@ -1,13 +1,13 @@
-//! Runs that memory may be refused to, and runs without kits.
+//! Runs that memory may be refused to.
 
-use super::beginning::{answer, outcome};
+use super::beginning::outcome;
 use reuse_planner::Session;
 use session_kit::owners::in_session;
 use std::alloc::Global;
 use std::process::Abort;
 use std::sync::Wait;
 use std::thread::Threads;
-use test_kit::texts::{FIRST, LINES, SALES};
+use test_kit::texts::{LINES, SALES};
 use threaded_driver::NoGate;
 use view_pool::View;
 
@@ -46,35 +46,6 @@ fn one_of_two_runs_finishes(rt: HostRuntime) {
         SALES,
         64,
         |session| one_finishes(&rt, rt.alloc(), session),
-    );
-    done.expect(&rt, "a session");
-}
-
-/// Takes the pool out: how many of its kits are free, and how many it has.
-fn kits_taken_out<V: View>(alloc: Global, session: &mut Session<V>) -> (usize, usize) {
-    let pool = session.take_pool(alloc);
-    (pool.free(), pool.total())
-}
-
-/// A session whose pool is out has no run.
-fn has_no_run<V: View + Send, R: Abort + Threads + Wait + Sync>(
-    rt: &R,
-    alloc: Global,
-    session: &mut Session<V>,
-) {
-    assert_eq!(rt; kits_taken_out(alloc, session), (2, 2));
-    let found = answer(rt, alloc, session, 2, &NoGate);
-    assert_eq!(rt; found.as_str(), "no kit\n");
-}
-
-#[test]
-fn no_kit(rt: HostRuntime) {
-    let done = in_session(
-        rt.alloc(),
-        FIRST,
-        SALES,
-        2,
-        |session| has_no_run(&rt, rt.alloc(), session),
     );
     done.expect(&rt, "a session");
 }

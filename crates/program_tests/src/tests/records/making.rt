@@ -9,20 +9,12 @@ use evaluation::reading::readings;
 use input_tables::Tables;
 use linked_program::checked::Checked;
 use monoid_laws::Val;
-use procedure_parser::parse;
 use rerun_records::key::Key;
 use rerun_records::readings::Readings;
 use rerun_records::record::Record;
 use rerun_records::records::Records;
-use spawn_checker::check;
 use std::alloc::Global;
 use std::process::Abort;
-
-/// Three lines with quantities and prices.
-pub const SALES: &str = "[sales]
-columns = [\"qty\", \"price\"]
-rows = [[1, 2, 5], [2, 3, 7], [3, 1, 100]]
-";
 
 /// `line` is procedure 0, `down` is 1 and `main` is 2; `total` is reducer 0 and `top` is 1. Their revision numbers are 0, 1 and 2.
 pub const LINES: &str = "reducer total : add;
@@ -31,20 +23,9 @@ memo proc line(r) { v = sales[r].qty * sales[r].price; update total v; update to
 memo proc down(n) { if n > 0 { call down(n - 1); } return n; }
 proc main() { cilk_for r in 1 .. limit sales : line(r); return 0; }";
 
-/// The three lines.
-pub fn sales(rt: &impl Abort, alloc: Global) -> Tables {
-    Tables::from_toml(alloc, SALES).expect(rt, "tables")
-}
-
-/// The checked program that a text is.
-pub fn checked(rt: &impl Abort, alloc: Global, text: &str, tables: &Tables) -> Checked {
-    let program = parse(alloc, text.as_bytes()).expect(rt, "a program");
-    check(alloc, program, tables).expect(rt, "no violation")
-}
-
 /// A record of an instance with one argument in which its own procedure alone was entered: the procedure's number with its
 /// revision number, the argument, the value, which `total` is given too, and the height.
-pub fn record(
+fn record(
     rt: &impl Abort,
     alloc: Global,
     procedure: (usize, u64),
@@ -101,7 +82,8 @@ pub fn committed(
     ensures in_step { IsInStep tables.now.tables result }
 {
     let mut records = Records::new(alloc);
-    commit(rt, alloc, &mut records, made, tables, program);
+    let made = Vec::from_array(alloc, [made]).expect(rt, "memory");
+    commit_all(rt, &mut records, made, tables, program);
     records
 }
 
@@ -118,7 +100,7 @@ fn all_hold(records: &[Record], tables: &Tables, program: &Checked) -> bool
 }
 
 /// Commits records that hold now.
-pub fn commit_all(
+fn commit_all(
     rt: &impl Abort,
     records: &mut Records,
     made: Vec<Record>,
@@ -132,22 +114,6 @@ pub fn commit_all(
         panic!(rt; "a record that doesn't hold");
     }
     records.commit(made, tables, program).expect(rt, "memory");
-}
-
-/// Commits one more record, which holds now.
-pub fn commit(
-    rt: &impl Abort,
-    alloc: Global,
-    records: &mut Records,
-    made: Record,
-    tables: &Tables,
-    program: &Checked,
-)
-    requires in_step { IsInStep tables.now.tables records.old }
-    ensures in_step { IsInStep tables.now.tables records.new }
-{
-    let made = Vec::from_array(alloc, [made]).expect(rt, "memory");
-    commit_all(rt, records, made, tables, program);
 }
 
 /// The value that is looked up for a procedure and one argument at a depth.

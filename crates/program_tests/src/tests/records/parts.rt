@@ -1,6 +1,7 @@
 //! What a record gives back.
 
-use super::making::{LINES, cell, checked, committed, reads_of, sales, second_line};
+use super::super::beginnings::{checked_on, sales};
+use super::making::{LINES, cell, committed, reads_of, second_line};
 use evaluation::note::Note;
 use evaluation::reading::{Reading, readings};
 use monoid_laws::Val;
@@ -34,7 +35,7 @@ fn reads_second_line(alloc: Global, record: &Record) -> bool {
 /// Whether the record of `line` at row 2 is found, by the procedure's number, as it was committed.
 fn comes_back(rt: &impl Abort, alloc: Global) -> bool {
     let tables = sales(rt, alloc);
-    let program = checked(rt, alloc, LINES, &tables);
+    let program = checked_on(rt, alloc, LINES, &tables);
     let records = committed(rt, alloc, second_line(rt, alloc), &tables, &program);
     match records.valid(0, &[2], 64, &tables, &program) {
         Some(record) => {

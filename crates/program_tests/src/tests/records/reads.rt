@@ -1,6 +1,7 @@
 //! What an instance has read, and those below it by reference.
 
-use super::making::{cell, reads_of, sales};
+use super::super::beginnings::sales;
+use super::making::{cell, reads_of};
 use evaluation::note::Note;
 use rerun_records::readings::Readings;
 use std::alloc::Global;

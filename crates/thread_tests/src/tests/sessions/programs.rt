@@ -1,7 +1,8 @@
 //! Programs of any steps, as text.
 
 use test_kit::texts::{
-    AFFINE, FIRST_LIST, FIRST_TWO, LAST_TWO, LOOP, LOOP_FAULT, TABLE, TWO_FAULTS, WRAPPING,
+    AFFINE, FIRST_LIST, FIRST_TWO, LAST_TWO, LINES, LOOP, LOOP_FAULT, NESTED_READS, TABLE,
+    TWO_FAULTS, WRAPPING,
 };
 
 /// Spawns and calls under one another, in each branch of an `if`.
@@ -73,8 +74,34 @@ proc one(v) { update parity v; }
 proc main() { cilk_for i in 0 .. 5 grain 2 : one(i - 2 * (i / 2)); spawn one(2); update parity 3; return 0; }
 ";
 
+/// Recorded instances within recorded ones.
+const PAIRS: &str = "reducer seen : list;
+memo proc leaf(v) { update seen v; return v; }
+memo proc pair(v) {
+  x = spawn leaf(v);
+  y = spawn leaf(v + 1);
+  update seen 0 - v;
+  sync;
+  return x + y;
+}
+proc main() {
+  a = spawn pair(1);
+  b = spawn pair(3);
+  update seen 9;
+  sync;
+  c = call pair(5);
+  return a + b + c;
+}
+";
+
+/// The second of three recorded children ends by a fault, and so does the third.
+const FAULTS_IN_RECORDS: &str = "reducer seen : list;
+memo proc bad(n) { update seen n; if n > 1 { return 1 / 0; } return n; }
+proc main() { x = spawn bad(1); y = spawn bad(2); z = spawn bad(3); sync; return x + y + z; }
+";
+
 /// All of them.
-pub const ALL: [&str; 14] = [
+pub const ALL: [&str; 18] = [
     FIRST_LIST,
     FIRST_TWO,
     LAST_TWO,
@@ -89,4 +116,8 @@ pub const ALL: [&str; 14] = [
     TREE_FAULT,
     TOO_DEEP,
     BAD_ELEMENT,
+    LINES,
+    NESTED_READS,
+    PAIRS,
+    FAULTS_IN_RECORDS,
 ];

@@ -1,5 +1,0 @@
-use Rattle.std.proofs.Common.{◌≡◌, map, take}
-use Rattle.strand_tests.proofs.tests.driving.kit.Given as goal
-
-abbrev pub invariant-loop-i : goal.invariant-loop-i
-invariant-loop-i l = map (λ v. v.kind) l.views.items ≡ take l.i l.fn.kinds

@@ -1,0 +1,12 @@
+use Rattle.std.proofs.Common.{[]}
+use Rattle.positions.specs.Setting.{setting_with}
+use Rattle.thread_tests.proofs.tests.floors.given_up.Given as goal
+
+abbrev pub ghosts-by_workers-J-Run : goal.ghosts-by_workers-J-Run
+ghosts-by_workers-J-Run g a = record { setting = setting_with a.program.now a.tables.now.tables [] a.records.now }
+
+abbrev pub ghosts-by_workers-J-Ledger : goal.ghosts-by_workers-J-Ledger
+ghosts-by_workers-J-Ledger g a = record { name = a.blank.name; parts = a.blank.parts }
+
+abbrev pub ghosts-by_workers-J-Stocked : goal.ghosts-by_workers-J-Stocked
+ghosts-by_workers-J-Stocked g a = record { total = a.pool.total }
