@@ -29,7 +29,8 @@ class Part:
 
 @dataclass(frozen=True)
 class Setting:
-    """What a session runs. A text is None where there is no such file; a line stands for all words of the program's line."""
+    """What a session runs. A text is None where there is no such file; a line stands for all words of the program's line. The output
+    takes `all`, `none`, nothing since it is `closed`, or is `absent`; or, one run for each of the rooms, so many bytes."""
 
     words: Tuple[str, ...] = ()
     line: Optional[Tuple[str, ...]] = None
@@ -38,7 +39,8 @@ class Setting:
     tables: Optional[bytes] = b""
     script: Optional[bytes] = None
     input: bool = True
-    output: bool = True
+    output: str = "all"
+    rooms: Tuple[int, ...] = ()
     beginnings: Tuple[int, ...] = ()
     long: bool = False
     live: bool = False
@@ -169,8 +171,12 @@ def with_part(setting: Setting, part: Part, path: Path) -> Setting:
         return replace(setting, **{part.kind: numbers(part.rest)})
     if part.kind in ("program", "tables", "script"):
         return replace(setting, **{part.kind: text_of(part, path)})
-    if part.kind in ("input", "output"):
-        return replace(setting, **{part.kind: part.rest != "none"})
+    if part.kind == "input":
+        return replace(setting, input=part.rest != "none")
+    if part.kind == "output" and part.rest in ("none", "closed", "absent"):
+        return replace(setting, output=part.rest)
+    if part.kind == "output":
+        return replace(setting, rooms=numbers(part.rest))
     return replace(setting, **{part.kind: True}) if part.kind in ("long", "live", "terminal") else setting
 
 

@@ -18,9 +18,11 @@ printf '[sales' > no_toml
 printf '[sales]\ncolumns = ["qty"]\nrows = [[1]]\n' > short_row
 
 # Whether a run gave the right answer, or a beginning of it and `out of memory`. Lines under the first one of an error may be left out.
+# The runs whose counts are written are those that have a trace, where both are asked for.
 is_right() { # its status, the right one
+  if [ -e trace ] && [ "$(grep -c '^run' trace)" != "$(grep -c '^stats' err)" ]; then return 1; fi
   if [ "$1" = "$2" ] && cmp -s out right.out && [ "$(head -n 1 err)" = "$(head -n 1 right.err)" ]; then return 0; fi
-  [ "$1" = 3 ] && [ "$(cat err)" = "out of memory" ] && cmp -s -n "$(stat -c %s out)" out right.out
+  [ "$1" = 3 ] && [ "$(grep -v '^stats' err)" = "out of memory" ] && cmp -s -n "$(stat -c %s out)" out right.out
 }
 
 wrong=0
@@ -31,7 +33,7 @@ sweep() {
   while true; do
     refused=$((refused + 1))
     local found=0
-    rm -f reached
+    rm -f reached trace
     timeout 10 env REFUSED=$refused REACHED=reached LD_PRELOAD=./refuse.so "$program" "$@" < script > out 2> err || found=$?
     [ -e reached ] || break
     if ! is_right "$found" "$status"; then
@@ -42,6 +44,7 @@ sweep() {
   echo "$*: status $status, $((refused - 1)) allocations"
 }
 sweep good tables --workers 2
+sweep good tables --workers 1 --trace trace --stats
 sweep deep tables
 sweep no_text tables
 sweep unknown tables

@@ -7,12 +7,16 @@ use monoid_laws::Kind;
 use program_reasons::script::Explainer;
 use program_reasons::{reasons_of, show};
 use std::alloc::AllocError;
+use std::fs;
 use std::io::IsTerminal;
 use std::process::ExitCode;
 use view_pool::{PlainView, View};
 
 fn main(rt: HostRuntime) -> ExitCode {
     let alloc = rt.alloc();
+    // Where standard output is closed, say, the next file that is opened gets its number, and a trace would take the answers. So
+    // a folder takes these numbers first, of which nothing can be read, and to which nothing can be written.
+    let _held = [fs::open(&rt, "/"), fs::open(&rt, "/"), fs::open(&rt, "/")];
     let make = |kind: Kind| -> Result<Box<dyn View>, AllocError> {
         Ok(Box::new(alloc, PlainView::new(alloc, kind))?)
     };
