@@ -1,7 +1,8 @@
 #!/usr/bin/env bash
 # Prints what memory live sessions of so many commands take, that come through a pipe: puts into a table of ten rows and runs, by turns.
 # First the peak of the process in KiB, beside it that of the same script where it is read whole; then the seconds that both take. Fails
-# where the peak of the live session grows by more than a hundredth from the first number to the last, and where the answers differ.
+# where the peak of the live session grows by more than a tenth from the first number to the last (it differs by as much from run to run),
+# and where the answers differ.
 # Takes GNU time.
 #
 # usage: live_memory.sh [PROGRAM] [COMMANDS ..]      by default ./cilkreport as it is built, and 10000 100000 1000000 commands
