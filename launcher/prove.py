@@ -1,11 +1,11 @@
 #!/usr/bin/env python3
 """Runs `rt ci`, so that the proofs that most others wait for have all processors.
 
-`rt ci` shares idle processors among all its tasks that are ready. Those of crates without tests or edits have no work and
-are over at once, but they count, so a proof that nothing else runs beside gets one processor alone. Here such tasks come
-after all others. And a proof keeps the processors that it began with, of which a large one gets one, since each is reckoned
-to take the memory that the first one does. Here each proof of the longest chain, and of those that are nearly as long, gets
-as many as memory holds, up to four: the further ones share what the first has loaded.
+`rt ci` shares idle processors among all its tasks that are ready. The tests of crates that have none are over at once, but
+they count, so a proof that nothing else runs beside gets one processor alone. Here they come after all others, but for those
+of crates with edits, which wait for them. And a proof keeps the processors that it began with, of which a large one gets one,
+since each is reckoned to take the memory that the first one does. Here each proof of the longest chain, and of those that are
+nearly as long, gets as many as memory holds, up to four: the further ones share what the first has loaded.
 Where rt's files are made otherwise than this knows of, this is `rt ci` and no more.
 """
 import importlib.machinery
@@ -29,8 +29,13 @@ def loaded(path):
     return module
 
 
+def kind_of(name):
+    """What is done in a task: a proof, tests, edits, the check that these begin with, or what is left to do behind them."""
+    return name[1]
+
+
 def on_long_chains(tasks):
-    """The tasks of chains with nearly as much as the longest one's work; each task comes after those that it waits for."""
+    """The proofs and tests of chains with nearly as much as the longest one's work; each task comes after those that it waits for."""
     ahead, behind = {}, {}
     for name, (before, work, *_) in tasks.items():
         ahead[name] = work + max((ahead[other] for other in before), default=0)
@@ -40,7 +45,8 @@ def on_long_chains(tasks):
         for other in before:
             behind[other] = max(behind.get(other, 0), behind[name])
     longest = max(behind.values(), default=0)
-    return {name for name, (_, work, *_) in tasks.items() if ahead[name] + behind[name] - work >= LONG * longest}
+    long = {name for name, (_, work, *_) in tasks.items() if ahead[name] + behind[name] - work >= LONG * longest}
+    return {name for name in long if kind_of(name) in ("proof", "tests")}
 
 
 def with_jobs(rt, call):
@@ -62,17 +68,21 @@ def chain_first(rt, tasks):
     }
 
 
+def without_work(tasks):
+    """The tests of crates that have none, as far as no other task waits for them."""
+    waited_for = {other for before, *_ in tasks.values() for other in before}
+    return [name for name, (_, work, *_) in tasks.items() if kind_of(name) == "tests" and not work and name not in waited_for]
+
+
 def work_first(rt, in_lanes):
     """The same, with the tasks that have no work behind the others. A task is what it waits for, its work, its memory, and a call."""
 
     def run(tasks):
-        working = {name: task for name, task in tasks.items() if task[1]}
-        if any(before not in working for task in working.values() for before in task[0]):
-            return in_lanes(tasks)
-        given = in_lanes(chain_first(rt, working))
-        for name, (*_, call) in tasks.items():
-            if name not in given:
-                given[name] = call(given, 1)
+        behind = without_work(tasks)
+        given = in_lanes(chain_first(rt, {name: task for name, task in tasks.items() if name not in behind}))
+        for name in behind:
+            *_, call = tasks[name]
+            given[name] = call(given, 1)
         return given
 
     return run
