@@ -95,6 +95,9 @@ impl<V: View> Session<V> {
         }
     }
 
+    /// Ends the session: all that it holds is given back. A crate that ends its sessions so needn't prove how one is dropped.
+    pub fn end(self) {}
+
     /// Lends the program.
     pub fn checked(&self) -> &Checked
         ensures checked { result.now ≡ self.now.checked }

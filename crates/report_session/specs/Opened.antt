@@ -1,5 +1,5 @@
 -- What a session over given tables is to its program's text, and why it isn't opened.
-use Rattle.std.specs.Prelude.{◌≡◌, ℕ, List, []}
+use Rattle.std.specs.Prelude.{◌≡◌, ◌⊎◌, ℕ, List, []}
 use Rattle.program_tree.specs.Plain.{Tree}
 use Rattle.program_tree.specs.View.{tree, lines, Lined}
 use Rattle.source_tree.specs.Source.{Source}
@@ -32,3 +32,7 @@ IsUnopened text tables kits (Text line) = IsNoProgram text line
 IsUnopened text tables kits (Check rule name line) =
     (t : Tree) × (l : List Lined) × IsText text t l × checker.IsRefused (columned_of tables) t l (check.Check rule name line)
 IsUnopened text tables kits NoKit = kits ≡ 0
+
+-- want of memory, or there were to be no kits
+abbrev pub IsNoSession : ℕ → OpenError → Type 0
+IsNoSession kits e = (e ≡ NoMemory) ⊎ ((e ≡ NoKit) × (kits ≡ 0))

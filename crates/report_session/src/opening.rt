@@ -7,7 +7,7 @@ ghost use Rattle.meaning.specs.Tables.{Tables as TableModel};
 ghost use Rattle.procedure_parser.specs.Correct.{IsText, IsSource, IsFault, Answers};
 ghost use Rattle.linked_program.specs.TableNames.{columned_of};
 ghost use Rattle.spawn_checker.specs.Refused.{IsRefused};
-ghost use Rattle.report_session.specs.Opened.{IsProgramOver, IsUnopened};
+ghost use Rattle.report_session.specs.Opened.{IsNoSession, IsProgramOver, IsUnopened};
 
 use crate::kits::kits_for;
 use input_tables::Tables;
@@ -54,16 +54,51 @@ pub fn open<V: View, M: Fn(Kind) -> Result<V, AllocError>>(
     ensures records { IfOk result (λ session. session.records ≡ []) }
     ensures refused { IfErr result (IsUnopened program.now tables.tables kits) }
 {
-    let checked = match checked_over(alloc, program, &tables) {
-        Ok(checked) => checked,
-        Err(error) => return Err(error),
-    };
-    match kits_for(alloc, checked.kinds(), kits, make) {
+    match checked_over(alloc, program, &tables) {
+        Ok(checked) => begun(alloc, checked, tables, kits, make),
+        Err(error) => {
+            drop(tables);
+            Err(error)
+        }
+    }
+}
+
+// A session of a checked program over these tables, with so many kits. What is refused has been handed on all the same, so
+// that nothing of it is dropped here.
+fn begun<V: View, M: Fn(Kind) -> Result<V, AllocError>>(
+    alloc: Global,
+    checked: Checked,
+    tables: Tables,
+    count: usize,
+    make: &M,
+) -> Result<Session<V>, OpenError>
+    requires callable { M.IsAlwaysCallable make.now }
+    requires columns { checked.tables ≡ columned_of tables.tables }
+    ensures program { IfOk result (λ session. session.checked ≡ checked) }
+    ensures tables { IfOk result (λ session. session.tables ≡ tables) }
+    ensures free { IfOk result (λ session. length session.kits.kits ≡ count) }
+    ensures records { IfOk result (λ session. session.records ≡ []) }
+    ensures refused { IfErr result (IsNoSession count) }
+{
+    match kits_for(alloc, checked.kinds(), count, make) {
         Ok(kits) => match Session::new(alloc, checked, tables, kits) {
             Ok(session) => Ok(session),
             Err(_) => Err(OpenError::NoKit),
         },
-        Err(_) => Err(OpenError::NoMemory),
+        Err(_) => {
+            unbegun::<V>(alloc, checked, tables);
+            Err(OpenError::NoMemory)
+        }
+    }
+}
+
+// Gives a program and tables back by a session that is refused, since it would have no kits.
+fn unbegun<V: View>(alloc: Global, checked: Checked, tables: Tables)
+    requires columns { checked.tables ≡ columned_of tables.tables }
+{
+    match Session::<V>::new(alloc, checked, tables, Vec::new(alloc)) {
+        Ok(session) => session.end(),
+        Err(_) => {}
     }
 }
 
