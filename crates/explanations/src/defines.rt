@@ -1,7 +1,7 @@
 //! Why a text that defines procedures is refused.
 
 use crate::expected::push_expected;
-use crate::programs::{LOOKED_FOR, line_at, push_shown, wrong_byte};
+use crate::programs::{LOOKED_FOR, line_at, push_broken_line, push_shown, wrong_byte};
 use crate::rules::{push_line, push_rule};
 use crate::statements::{procedure_called, push_statement, statement_on};
 use linked_program::violation::Rule;
@@ -76,10 +76,9 @@ pub fn push_broken(
     line: u32,
 ) -> Result<(), AllocError> {
     if defines(alloc, define, holder)? {
-        push_shown(text, define, line)?;
-    } else {
-        push_older(text, program, holder, line)?;
+        return push_broken_line(alloc, text, define, rule, line);
     }
+    push_older(text, program, holder, line)?;
     push_rule(text, rule)
 }
 

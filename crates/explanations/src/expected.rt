@@ -1,7 +1,9 @@
 //! At which token a text is refused, and what could stand there.
 
 use crate::followers::{may_follow, push_followers};
+use crate::habits::{odd_in, push_habit};
 use crate::marks::{begins_declaration, mark_of, push_token};
+use crate::programs::{line_at, push_bytes};
 use procedure_parser::{TextError, parse};
 use std::alloc::{AllocError, Global};
 use token_scanner::{LONGEST_TEXT, Placed, Token, tokens};
@@ -32,8 +34,10 @@ pub fn push_expected(
     if beginning.len() > LONGEST_BEGINNING {
         return Ok(false);
     }
-    push_place(text, &tokens, at)?;
+    let words = line_at(program, line);
+    push_place(text, &tokens, at, words)?;
     push_wanted(alloc, text, beginning.as_str(), tokens.get(at))?;
+    push_habit(text, &tokens, at, words)?;
     Ok(true)
 }
 
@@ -89,11 +93,16 @@ fn written(
     Ok(text)
 }
 
-// Puts which token can't stand behind which one at the end of the text.
-fn push_place(text: &mut String, tokens: &[Placed], at: usize) -> Result<(), AllocError> {
+// Puts which token, of that line, can't stand behind which one at the end of the text.
+fn push_place(
+    text: &mut String,
+    tokens: &[Placed],
+    at: usize,
+    line: &[u8],
+) -> Result<(), AllocError> {
     match tokens.get(at) {
         None => text.push_str("  The text can't end")?,
-        Some(placed) => push_refused(text, placed.token)?,
+        Some(placed) => push_refused(text, placed.token, line)?,
     }
     if at == 0 {
         return text.push_str(" at the beginning. ");
@@ -104,15 +113,14 @@ fn push_place(text: &mut String, tokens: &[Placed], at: usize) -> Result<(), All
     }
 }
 
-// Puts the token that can't stand there at the end of the text.
-fn push_refused(text: &mut String, token: Token<'_>) -> Result<(), AllocError> {
-    if let Token::Bad = token {
-        return text.push_str(
-            "  What is no name, number or mark of the language (upper case, more than 32 bytes, a number that is too large) can't stand",
-        );
-    }
+// Puts the token that can't stand there, and is of that line, at the end of the text. One that is none of the language is the line's
+// first such, since a text is refused at the first.
+fn push_refused(text: &mut String, token: Token<'_>, line: &[u8]) -> Result<(), AllocError> {
     text.push_str("  `")?;
-    push_token(text, token)?;
+    match token {
+        Token::Bad => push_bytes(text, odd_in(line))?,
+        token => push_token(text, token)?,
+    }
     text.push_str("` can't stand")
 }
 

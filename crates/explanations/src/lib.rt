@@ -7,6 +7,7 @@ mod expected;
 mod expressions;
 pub mod faults;
 mod followers;
+mod habits;
 pub mod lines;
 mod marks;
 pub mod programs;

@@ -1,7 +1,9 @@
 //! Why a program's text isn't in the language, as far as its bytes tell.
 
 use crate::expected::push_expected;
-use crate::rules::push_line;
+use crate::rules::{push_line, push_rule_on};
+use crate::tables::is_of_tables;
+use linked_program::violation::Rule;
 use std::alloc::{AllocError, Global};
 use std::fmt::Write;
 
@@ -25,6 +27,12 @@ pub fn push_bad_program(
         return push_line(text, "The text has more than 1,048,576 bytes.");
     }
     push_shown(text, program, line)?;
+    if is_of_tables(alloc, program)? {
+        return push_line(
+            text,
+            "These are tables: PROGRAM, the file of the program, comes first, and TABLES behind it.",
+        );
+    }
     if let Some(wrong) = wrong_byte(line_at(program, line)) {
         return push_line(text, wrong);
     }
@@ -32,6 +40,19 @@ pub fn push_bad_program(
         return Ok(());
     }
     push_line(text, LOOKED_FOR)
+}
+
+/// Puts the line of a text that breaks a rule, what the rule asks for and how to mend it at the end of the text. Line 0 is none. Want of
+/// memory is the only error.
+pub fn push_broken_line(
+    alloc: Global,
+    text: &mut String,
+    program: &[u8],
+    rule: Rule,
+    line: u32,
+) -> Result<(), AllocError> {
+    push_shown(text, program, line)?;
+    push_rule_on(alloc, text, rule, line_at(program, line))
 }
 
 // What is said of a line with a byte that no text may have.
@@ -81,6 +102,12 @@ pub(crate) fn push_line_shown(
     number: usize,
 ) -> Result<(), AllocError> {
     write!(text, "  {number} | ")?;
+    push_bytes(text, words)?;
+    text.push_str("\n")
+}
+
+/// Puts bytes at the end of the text, as far as they aren't too many to be shown.
+pub(crate) fn push_bytes(text: &mut String, words: &[u8]) -> Result<(), AllocError> {
     for byte in words.iter().take(MOST_SHOWN) {
         let shown = if is_of_a_text(*byte) {
             *byte as char
@@ -92,5 +119,5 @@ pub(crate) fn push_line_shown(
     if words.len() > MOST_SHOWN {
         text.push_str(" ..")?;
     }
-    text.push_str("\n")
+    Ok(())
 }

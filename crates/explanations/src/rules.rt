@@ -1,13 +1,31 @@
 //! The rules of the language in a sentence each, and how to keep them.
 
+use crate::habits::binds_itself;
 use linked_program::violation::Rule;
-use std::alloc::AllocError;
+use std::alloc::{AllocError, Global};
 
 /// Puts what a broken rule asks for, and how to mend what breaks it, at the end of the text: two lines. Want of memory is the only
 /// error.
 pub fn push_rule(text: &mut String, rule: Rule) -> Result<(), AllocError> {
     push_line(text, asked_by(rule))?;
     push_line(text, mended_by(rule))
+}
+
+/// The same of a line that breaks the rule.
+pub(crate) fn push_rule_on(
+    alloc: Global,
+    text: &mut String,
+    rule: Rule,
+    line: &[u8],
+) -> Result<(), AllocError> {
+    if matches!(rule, Rule::Twice) && binds_itself(alloc, line)? {
+        push_line(text, asked_by(rule))?;
+        return push_line(
+            text,
+            "Bind another name, as `y = x + 1;`; what adds up over rows or calls is a reducer of kind `add`: `update total v;`.",
+        );
+    }
+    push_rule(text, rule)
 }
 
 /// Puts a line, a little to the right, at the end of the text. Want of memory is the only error.

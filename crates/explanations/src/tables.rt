@@ -1,8 +1,10 @@
 //! What is wrong with a tables' text.
 
+use crate::programs::{line_at, push_shown};
 use crate::rules::push_line;
 use std::alloc::{AllocError, Global};
 use std::collections::BTreeSet;
+use std::fmt::Write;
 use toml::{Table as Members, Value};
 
 const MOST_TABLES: usize = 64;
@@ -18,15 +20,57 @@ const KEYWORDS: [&str; 16] = [
     "grain", "return", "read", "has", "limit",
 ];
 
-/// Puts what the reader of TOML says of a text that isn't TOML at the end of the text. Want of memory is the only error.
+/// Puts the line of a text that isn't TOML, and what the reader of TOML says of it, at the end of the text. Want of memory is the only
+/// error.
 pub fn push_bad_toml(alloc: Global, text: &mut String, tables: &str) -> Result<(), AllocError> {
-    match toml::table_from_str(alloc, tables) {
-        Ok(_) => Ok(()),
-        Err(error) => push_line(text, error.message()),
+    let Err(error) = toml::table_from_str(alloc, tables) else {
+        return Ok(());
+    };
+    let bytes = tables.as_bytes();
+    if let Some(span) = error.span() {
+        push_shown(text, bytes, line_of(bytes, span.start))?;
+    }
+    push_line(text, error.message())?;
+    if is_of_commas(line_at(bytes, 1)) {
+        return push_line(
+            text,
+            "It looks like a CSV file: `tools/tables_from_csv FILE.csv > tables.toml` makes tables of one.",
+        );
+    }
+    Ok(())
+}
+
+// The number of the line, counted from 1, that the byte of that number, counted from 0, is of.
+fn line_of(bytes: &[u8], place: usize) -> u32 {
+    let mut line: u32 = 1;
+    for byte in bytes.iter().take(place) {
+        if *byte == b'\n' {
+            line = line.saturating_add(1);
+        }
+    }
+    line
+}
+
+// Whether a line is of words with marks between them, as the first of a CSV file is, and could be none of a file of tables.
+fn is_of_commas(line: &[u8]) -> bool {
+    line.iter().any(|byte| matches!(*byte, b',' | b';' | b'\t'))
+        && !line.iter().any(|byte| matches!(*byte, b'=' | b'[' | b'#'))
+}
+
+/// Whether a text is TOML that has a table. Want of memory is the only error.
+pub(crate) fn is_of_tables(alloc: Global, text: &[u8]) -> Result<bool, AllocError> {
+    let Ok(words) = str::from_utf8(text) else {
+        return Ok(false);
+    };
+    match toml::table_from_str(alloc, words) {
+        Ok(document) => Ok(document.values().any(|value| value.as_table().is_some())),
+        Err(error) if error.is_memory() => Err(AllocError),
+        Err(_) => Ok(false),
     }
 }
 
-/// Puts what is wrong with the table of that name at the end of the text. Want of memory is the only error.
+/// Puts what is wrong with the table of that name, and with which column or row of it, at the end of the text. Want of memory is the only
+/// error.
 pub fn push_bad_table(
     alloc: Global,
     text: &mut String,
@@ -40,32 +84,41 @@ pub fn push_bad_table(
         return push_line(text, "There are more than 64 tables.");
     }
     match document.get(name) {
-        Some(value) => push_line(text, wrong_with(alloc, name, value)?),
+        Some(value) => push_wrong(alloc, text, name, value),
         None => Ok(()),
     }
 }
 
-// What is wrong with a value that is no table of numbers: the first thing that is.
-fn wrong_with(alloc: Global, name: &str, value: &Value) -> Result<&'static str, AllocError> {
+// Puts the first that is wrong with a value that is no table of numbers.
+fn push_wrong(
+    alloc: Global,
+    text: &mut String,
+    name: &str,
+    value: &Value,
+) -> Result<(), AllocError> {
     if !is_name(name) {
-        return Ok(
+        return push_line(
+            text,
             "A table's name is a lower-case letter and then lower-case letters, digits and `_`, at most 32 bytes, and no keyword.",
         );
     }
     let Some(members) = value.as_table() else {
-        return Ok("This key has no table: write `[name]`, and `columns` and `rows` below it.");
+        return push_line(
+            text,
+            "This key has no table: write `[name]`, and `columns` and `rows` below it.",
+        );
     };
     let (Some(columns), Some(rows)) = (array_at(members, "columns"), array_at(members, "rows"))
     else {
-        return Ok("`columns` or `rows` is missing, or is no array.");
+        return push_line(text, "`columns` or `rows` is missing, or is no array.");
     };
     if members.len() != 2 {
-        return Ok("A table has no other keys than `columns` and `rows`.");
+        return push_line(text, "A table has no other keys than `columns` and `rows`.");
     }
-    match wrong_with_columns(columns) {
-        Some(wrong) => Ok(wrong),
-        None => wrong_with_rows(alloc, rows, columns.len()),
+    if push_wrong_columns(text, columns)? {
+        return Ok(());
     }
+    push_wrong_rows(alloc, text, columns, rows)
 }
 
 // The array at a key.
@@ -73,57 +126,164 @@ fn array_at<'a>(members: &'a Members, key: &str) -> Option<&'a Vec<Value>> {
     members.get(key)?.as_array()
 }
 
-fn wrong_with_columns(columns: &[Value]) -> Option<&'static str> {
+// Puts the first that is wrong with the columns, and answers whether there is such.
+fn push_wrong_columns(text: &mut String, columns: &[Value]) -> Result<bool, AllocError> {
     if columns.is_empty() || columns.len() > MOST_COLUMNS {
-        return Some("A table has 1 to 8 columns.");
+        let count = columns.len();
+        write!(
+            text,
+            "  A table has 1 to 8 columns, and `columns` has {count} entries.\n"
+        )?;
+        return Ok(true);
     }
     for (at, column) in columns.iter().enumerate() {
-        let Some(name) = column.as_str() else {
-            return Some("The columns are texts, in quotation marks.");
-        };
-        if !is_name(name) {
-            return Some(
-                "A column's name is a lower-case letter and then lower-case letters, digits and `_`, at most 32 bytes, and no keyword.",
-            );
+        if let Some(wrong) = wrong_with_column(columns, at, column) {
+            let entry = at.saturating_add(1);
+            write!(text, "  Entry {entry} of `columns`: {wrong}\n")?;
+            return Ok(true);
         }
-        if columns[..at]
-            .iter()
-            .any(|earlier| earlier.as_str() == Some(name))
-        {
-            return Some("Two columns have one name.");
-        }
+    }
+    Ok(false)
+}
+
+// What is wrong with a column behind so many others.
+fn wrong_with_column(columns: &[Value], at: usize, column: &Value) -> Option<&'static str> {
+    let Some(name) = column.as_str() else {
+        return Some("a column is a text, in quotation marks.");
+    };
+    if !is_name(name) {
+        return Some(
+            "a column's name is a lower-case letter and then lower-case letters, digits and `_`, at most 32 bytes, and no keyword.",
+        );
+    }
+    if columns
+        .iter()
+        .take(at)
+        .any(|earlier| earlier.as_str() == Some(name))
+    {
+        return Some("an earlier column has that name.");
     }
     None
 }
 
-fn wrong_with_rows(
+// Puts the first that is wrong with the rows.
+fn push_wrong_rows(
     alloc: Global,
+    text: &mut String,
+    columns: &[Value],
     rows: &[Value],
-    columns: usize,
-) -> Result<&'static str, AllocError> {
+) -> Result<(), AllocError> {
     let mut numbers = BTreeSet::new(alloc);
-    for row in rows {
-        let Some(cells) = row.as_array() else {
-            return Ok("A row is an array: its number, and then a value for each column.");
-        };
-        if cells.len() != columns.saturating_add(1) {
-            return Ok(
-                "A row has another number of values: its number, and then one for each column.",
-            );
-        }
-        if cells.iter().any(|cell| !cell.is_integer()) {
-            return Ok("A row has a value that is no whole number of 64 bits.");
-        }
-        match cells[0].as_integer() {
-            Some(number) if 0 <= number && number <= LAST_ROW => {
-                if !numbers.insert(number)? {
-                    return Ok("Two rows have one number.");
-                }
-            }
-            _ => return Ok("A row's number isn't in 0 to 2147483647."),
+    for (at, row) in rows.iter().enumerate() {
+        if push_wrong_row(text, &mut numbers, columns, at.saturating_add(1), row)? {
+            return Ok(());
         }
     }
-    Ok("It isn't of the shape that docs/LANGUAGE.md gives.")
+    push_line(text, "It isn't of the shape that docs/LANGUAGE.md gives.")
+}
+
+// Puts the first that is wrong with an entry of the rows, and answers whether there is such; the row's number is put among the others.
+fn push_wrong_row(
+    text: &mut String,
+    numbers: &mut BTreeSet<i64>,
+    columns: &[Value],
+    entry: usize,
+    row: &Value,
+) -> Result<bool, AllocError> {
+    let Some(cells) = row.as_array() else {
+        write!(
+            text,
+            "  Entry {entry} of `rows`: a row is an array, its number and then a value for each column.\n"
+        )?;
+        return Ok(true);
+    };
+    if push_wrong_count(text, columns, entry, cells)?
+        || push_wrong_value(text, columns, entry, cells)?
+    {
+        return Ok(true);
+    }
+    let Some(number) = number_of(cells) else {
+        return Ok(false);
+    };
+    if number < 0 || LAST_ROW < number {
+        write!(
+            text,
+            "  Entry {entry} of `rows`: a row's number is one of 0 to 2147483647, and {number} isn't.\n"
+        )?;
+        return Ok(true);
+    }
+    if numbers.insert(number)? {
+        return Ok(false);
+    }
+    write!(
+        text,
+        "  Entry {entry} of `rows`: an earlier row has the number {number}.\n"
+    )?;
+    Ok(true)
+}
+
+// The number of a row.
+fn number_of(cells: &[Value]) -> Option<i64> {
+    cells.first()?.as_integer()
+}
+
+// Puts that a row has too few or too many values, and answers whether it has.
+fn push_wrong_count(
+    text: &mut String,
+    columns: &[Value],
+    entry: usize,
+    cells: &[Value],
+) -> Result<bool, AllocError> {
+    let wanted = columns.len();
+    let found = cells.len().saturating_sub(1);
+    if !cells.is_empty() && found == wanted {
+        return Ok(false);
+    }
+    push_entry(text, entry, cells)?;
+    write!(
+        text,
+        "a row has its number and then one value for each column; columns {wanted}, values {found}.\n"
+    )?;
+    Ok(true)
+}
+
+// Puts which value of a row is no whole number, and answers whether one is.
+fn push_wrong_value(
+    text: &mut String,
+    columns: &[Value],
+    entry: usize,
+    cells: &[Value],
+) -> Result<bool, AllocError> {
+    for (place, cell) in cells.iter().enumerate() {
+        if !cell.is_integer() {
+            push_entry(text, entry, cells)?;
+            push_cell(text, columns, place)?;
+            text.push_str(" is no whole number of 64 bits.\n")?;
+            return Ok(true);
+        }
+    }
+    Ok(false)
+}
+
+// Puts which entry of the rows is spoken of, and its number, where it has one.
+fn push_entry(text: &mut String, entry: usize, cells: &[Value]) -> Result<(), AllocError> {
+    write!(text, "  Entry {entry} of `rows`")?;
+    if let Some(number) = number_of(cells) {
+        write!(text, ", row {number}")?;
+    }
+    text.push_str(": ")
+}
+
+// Puts which value of a row is spoken of: its number, which is the first, or that of a column.
+fn push_cell(text: &mut String, columns: &[Value], place: usize) -> Result<(), AllocError> {
+    if place == 0 {
+        return text.push_str("its number, the first value,");
+    }
+    let name = match columns.get(place - 1) {
+        Some(column) => column.as_str().unwrap_or(""),
+        None => "",
+    };
+    write!(text, "the value of `{name}`")
 }
 
 // Whether a text has the form of a name.
