@@ -14,3 +14,4 @@ pub mod programs;
 pub mod rules;
 mod statements;
 pub mod tables;
+pub mod words;

@@ -6,7 +6,7 @@ use std::alloc::{AllocError, Global};
 
 /// Puts what a broken rule asks for, and how to mend what breaks it, at the end of the text: two lines. Want of memory is the only
 /// error.
-pub fn push_rule(text: &mut String, rule: Rule) -> Result<(), AllocError> {
+pub(crate) fn push_rule(text: &mut String, rule: Rule) -> Result<(), AllocError> {
     push_line(text, asked_by(rule))?;
     push_line(text, mended_by(rule))
 }

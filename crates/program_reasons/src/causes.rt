@@ -1,6 +1,5 @@
 //! What is said of an edit or a line that is refused, and of a run's fault.
 
-use cli::explained::Cause;
 use explanations::edits::push_refused;
 use explanations::faults::push_fault;
 use explanations::lines::push_unknown;
@@ -11,6 +10,7 @@ use meaning::FaultKind;
 use missing_rows::first_missing;
 use positions::phase::Fault;
 use session_edits::{Edit, EditError};
+use session_notes::explained::Cause;
 use std::alloc::{AllocError, Global};
 use std::fmt::Write;
 use trace_report::answers;

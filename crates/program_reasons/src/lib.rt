@@ -2,35 +2,63 @@
 #![tactic(auto)]
 
 pub mod causes;
+mod failed;
 mod reuse;
 pub mod script;
 
 use crate::causes::push_holder;
+use crate::failed::{push_failed, push_failed_program};
 use command_line::line::asked_by;
-use command_line::options::Asked;
+use command_line::options::{Asked, OptionsError};
 use command_line::words::{held_words, lent};
-use explanations::programs::{push_bad_program, push_shown};
-use explanations::rules::push_rule;
+use explanations::programs::{push_bad_program, push_broken_line};
 use explanations::tables::{push_bad_table, push_bad_toml};
+use explanations::words::push_mistake;
 use prepared_program::prepare::PrepareError;
 use program_endings::files::{FileSource, SystemFiles};
 use program_endings::program_error::ProgramError;
 use std::alloc::{AllocError, Global};
+use std::fmt::Write;
 use std::rt::Runtime;
 
 /// The lines in plain words that belong under a report's error: those of a refused program, or of refused tables, which are read once
-/// more by the words of the program's line. There are none under other errors, and where a file can't be read any more.
+/// more by the words of the program's line; why a file failed; which word of the line is wrong. There are none under other errors, and
+/// where a refused file can't be read any more.
 pub fn reasons_of(
     rt: &(impl Runtime + AllocGlobal),
     alloc: Global,
     reported: &Result<(), ProgramError>,
 ) -> String {
-    match reported {
-        Err(ProgramError::Prepare(error)) => {
-            read_again(rt, alloc, error).unwrap_or_else(|| String::new(alloc))
-        }
-        _ => String::new(alloc),
+    let found = match reported {
+        Err(ProgramError::Prepare(error)) => read_again(rt, alloc, error),
+        Err(ProgramError::File(path)) => failed_again(rt, alloc, path.as_str()),
+        Err(ProgramError::Line(OptionsError::Usage)) => mistaken(rt, alloc),
+        _ => None,
+    };
+    found.unwrap_or_else(|| String::new(alloc))
+}
+
+// Which word of the program's line is wrong.
+fn mistaken(rt: &(impl Runtime + AllocGlobal), alloc: Global) -> Option<String> {
+    let held = held_words(rt, alloc).ok()?;
+    let words = lent(alloc, held.as_slice()).ok()?;
+    let mut usage = String::new(alloc);
+    write!(usage, "{}", OptionsError::Usage).ok()?;
+    let mut text = String::new(alloc);
+    push_mistake(&mut text, usage.as_str(), words.as_slice()).ok()?;
+    Some(text)
+}
+
+// Why a file of the program's line failed.
+fn failed_again(rt: &(impl Runtime + AllocGlobal), alloc: Global, path: &str) -> Option<String> {
+    let held = held_words(rt, alloc).ok()?;
+    let words = lent(alloc, held.as_slice()).ok()?;
+    let mut text = String::new(alloc);
+    match asked_by(alloc, words.as_slice()).ok()? {
+        Asked::Session(options) => push_failed(&mut text, rt, path, options).ok()?,
+        Asked::Print(_) => push_failed_program(&mut text, rt, path).ok()?,
     }
+    Some(text)
 }
 
 // The lines of a refusal, where the files of the program's line can be read.
@@ -80,8 +108,7 @@ pub fn reasons(
         PrepareError::Shape { table } => push_bad_table(alloc, &mut text, tables, table.as_str())?,
         PrepareError::Check { rule, name, line } => {
             push_holder(&mut text, name.as_str())?;
-            push_shown(&mut text, program, *line)?;
-            push_rule(&mut text, *rule)?;
+            push_broken_line(alloc, &mut text, program, *rule, *line)?;
         }
     }
     Ok(text)

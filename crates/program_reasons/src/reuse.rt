@@ -1,12 +1,12 @@
 // What is said of the memo instances of a run.
 ghost use Rattle.rerun_records.specs.Doubted.{IsInStep};
 
-use cli::explained::Crew;
 use frames::answer::RunAnswer;
 use input_tables::Tables;
 use linked_program::checked::Checked;
 use rerun_reasons::{push_reasons, reasons};
 use rerun_records::records::Records;
+use session_notes::explained::Crew;
 use std::alloc::{AllocError, Global};
 use std::fmt::Write;
 
