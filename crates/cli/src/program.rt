@@ -1,5 +1,5 @@
 // The program: its line, its files, its session on standard input and output.
-ghost use Rattle.std.specs.Prelude.{◌≡◌, ◌≢◌, ◌↔◌, ◌<◌, ◌≤◌, Err, false, true, [], IfOk, IfErr, OnOk, OnErr, length, option_map};
+ghost use Rattle.std.specs.Prelude.{◌≡◌, ◌≢◌, ◌↔◌, ◌<◌, ◌≤◌, Err, Some, false, true, [], IfOk, IfErr, OnOk, OnErr, length, option_map};
 ghost use Rattle.std.specs.Io.KnownBytes.{Keeps, IsAtEnd};
 ghost use Rattle.std.specs.Process.{exit_status};
 ghost use Rattle.program_endings.specs.Endings.{CarriesRefusal};
@@ -17,11 +17,12 @@ use command_line::words::{held_words, lent};
 use kept_session::Session;
 use monoid_laws::Kind;
 use program_endings::failing::{failed, failed_file, no_memory};
-use program_endings::files::{FileSource, StandardError, SystemFiles};
+use program_endings::files::{FileSource, StandardError};
 use program_endings::program_error::{ProgramError, status};
 use program_endings::session_error::SessionError;
 use program_endings::streams::Failures;
 use program_formatter::formatting::format_file;
+use report_files::ReportFiles;
 use script_session::live::live_text;
 use script_session::session::session_text;
 use session_notes::explained::{Crew, Explain, Explained};
@@ -60,7 +61,8 @@ pub fn ending(rt: &(impl Print + Eprint), reported: Result<(), ProgramError>) ->
 /// Does what the program's line asks for: a session, or printing a program in its normal form. Its errors are those of the
 /// line, of a file, of `prepare`, of the session and of the output, but for the want of a kit, since a line asks for one kit
 /// at least. The views are the caller's; one of another kind counts as want of memory. What is refused is explained where the
-/// line asks for it. The lines of a live session at a terminal are asked for on standard error, and what is refused is explained.
+/// line asks for it. At a terminal the lines of a live session are asked for on standard error, and what is refused is explained;
+/// of another session it is said there that commands are read to their end.
 pub fn report<V: View, M: Fn(Kind) -> Result<V, AllocError>, X: Explain + Drop>(
     rt: &(impl Runtime + AllocGlobal + Threads + Wait + Sync),
     alloc: Global,
@@ -76,7 +78,14 @@ pub fn report<V: View, M: Fn(Kind) -> Result<V, AllocError>, X: Explain + Drop>(
     let words = lent(alloc, held.as_slice()).map_err(|error| ProgramError::Line(error))?;
     match asked_by(alloc, words.as_slice()).map_err(|error| ProgramError::Line(error))? {
         Asked::Session(options) => report_by(rt, alloc, options, make, explain, is_terminal),
-        Asked::Print(path) => format_file(rt, alloc, path),
+        Asked::Print(path) => {
+            let files = ReportFiles {
+                rt,
+                program: path,
+                tables: path,
+            };
+            format_file(rt, alloc, path, &files)
+        }
     }
 }
 
@@ -95,10 +104,9 @@ fn report_by<V: View, M: Fn(Kind) -> Result<V, AllocError>, X: Explain + Drop>(
     ensures kits { result ≢ Err (ProgramError.Session SessionError.NoKit) }
     ensures mismatch { IfErr result ReportsRefusal }
 {
-    let asks = options.live && is_terminal;
     let mut options = options;
-    options.explain = options.explain || asks;
-    let asking = Asking::new(rt.reader(), StandardError { rt }, asks);
+    options.explain = options.explain || options.live && is_terminal;
+    let asking = Asking::new(rt.reader(), StandardError { rt }, is_terminal, options.live);
     let Ok(mut reader) = BufReader::new(alloc, asking) else {
         return Err(no_memory());
     };
@@ -110,7 +118,11 @@ fn report_by<V: View, M: Fn(Kind) -> Result<V, AllocError>, X: Explain + Drop>(
         alloc,
         options,
         make,
-        &SystemFiles { rt },
+        &ReportFiles {
+            rt,
+            program: options.program,
+            tables: options.tables,
+        },
         &mut reader,
         &mut writer,
         StandardError { rt },
@@ -338,6 +350,8 @@ fn ended_by(
 
 // The error of a run that couldn't be noted for that reason.
 fn unnoted(alloc: Global, trace: Option<&str>, failure: Option<NotesError>) -> ProgramError
+    ensures memory { failure ≡ Some NotesError.NoMemory
+        → result ≡ ProgramError.Session SessionError.NoMemory }
     ensures named { IsLate (option_map (λ t. t.now) trace.entry) result }
     ensures written { ¬ (WritesNothing result) }
     ensures kits { result ≢ ProgramError.Session SessionError.NoKit }
@@ -345,12 +359,27 @@ fn unnoted(alloc: Global, trace: Option<&str>, failure: Option<NotesError>) -> P
     ensures input { result ≢ ProgramError.Session SessionError.Read }
     ensures output { result ≢ ProgramError.Session SessionError.Write }
 {
-    match (trace, failure) {
-        (Some(path), Some(NotesError::Trace)) => match String::from_str(alloc, path) {
+    match failure {
+        Some(NotesError::NoMemory) => no_memory(),
+        Some(NotesError::Trace) => failed_trace(alloc, trace),
+        Some(NotesError::Counts) | None => ProgramError::Session(SessionError::Notes),
+    }
+}
+
+// The error of a trace that failed after it was made.
+fn failed_trace(alloc: Global, trace: Option<&str>) -> ProgramError
+    ensures named { IsLate (option_map (λ t. t.now) trace.entry) result }
+    ensures written { ¬ (WritesNothing result) }
+    ensures kits { result ≢ ProgramError.Session SessionError.NoKit }
+    ensures mismatch { ReportsRefusal result }
+    ensures input { result ≢ ProgramError.Session SessionError.Read }
+    ensures output { result ≢ ProgramError.Session SessionError.Write }
+{
+    match trace {
+        Some(path) => match String::from_str(alloc, path) {
             Ok(path) => ProgramError::Trace(path),
             Err(_) => no_memory(),
         },
-        (_, Some(NotesError::NoMemory)) => no_memory(),
-        _ => ProgramError::Session(SessionError::Notes),
+        None => ProgramError::Session(SessionError::Notes),
     }
 }

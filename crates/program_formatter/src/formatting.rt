@@ -9,7 +9,7 @@ use prepared_program::prepare::PrepareError;
 use printing_theory::normal_form;
 use procedure_parser::TextError;
 use program_endings::failing::{failed, no_memory};
-use program_endings::files::{FileSource, SystemFiles};
+use program_endings::files::FileSource;
 use program_endings::program_error::ProgramError;
 use program_endings::session_error::SessionError;
 use program_endings::streams::{Failures, flush, write_whole};
@@ -19,18 +19,18 @@ use std::io::{BufWriter, Write};
 use std::rt::Runtime;
 
 /// Writes the program of the file at a path in its normal form to standard output.
-pub fn format_file(
+pub fn format_file<F: FileSource>(
     rt: &(impl Runtime + AllocGlobal),
     alloc: Global,
     path: &str,
+    files: &F,
 ) -> Result<(), ProgramError>
     ensures refused { IfErr result IsFormatError }
 {
     let Ok(mut writer) = BufWriter::new(alloc, io::writer(rt)) else {
         return Err(no_memory());
     };
-    let files = SystemFiles { rt };
-    format_to(alloc, path, &files, &mut writer, &mut Failures::none())
+    format_to(alloc, path, files, &mut writer, &mut Failures::none())
 }
 
 /// Writes the program of the file at a path in its normal form. Where the file fails or is refused nothing is written; that

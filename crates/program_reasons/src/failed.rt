@@ -1,10 +1,10 @@
 // Why a file failed, as far as the system tells when it is asked once more.
 use command_line::options::Options;
+use report_files::is_one_file;
 use std::alloc::AllocError;
 use std::fmt::Write;
-use std::fs::{Files, Metadata, OpenOptions};
+use std::fs::{Files, OpenOptions};
 use std::io::ErrorKind;
-use std::os::unix::fs::MetadataExt;
 use std::{fs, io};
 
 /// Puts why the file at a path failed, which is one that the options name, at the end of the text; nothing where the system doesn't say.
@@ -15,6 +15,12 @@ pub fn push_failed(
     path: &str,
     options: Options<'_>,
 ) -> Result<(), AllocError> {
+    if options.trace == Some(path) && is_spared(files, path, options) {
+        return push_cause_line(
+            text,
+            "It is the file of the program or of the tables, which a trace would take the place of.",
+        );
+    }
     if path == options.program {
         return push_unread(text, files, path, "A read of it failed.");
     }
@@ -26,7 +32,7 @@ pub fn push_failed(
             "It is no text: tables are written in UTF-8.",
         );
     }
-    push_unmade(text, files, path, options)
+    push_unmade(text, files, path)
 }
 
 /// Puts why a program's file can't be read. Want of memory is the only error.
@@ -58,13 +64,13 @@ fn push_unread(
 
 const FOLDER: &str = "It is a folder.";
 
+// Whether a file is that of the program or of the tables, which no trace takes the place of.
+fn is_spared(files: &impl Files, path: &str, options: Options<'_>) -> bool {
+    is_one_file(files, path, options.program) || is_one_file(files, path, options.tables)
+}
+
 // Puts why a trace's file can't be made. It isn't emptied where it can.
-fn push_unmade(
-    text: &mut String,
-    files: &impl Files,
-    path: &str,
-    options: Options<'_>,
-) -> Result<(), AllocError> {
+fn push_unmade(text: &mut String, files: &impl Files, path: &str) -> Result<(), AllocError> {
     match fs::metadata(files, path) {
         Err(error) => push_cause(
             text,
@@ -72,28 +78,11 @@ fn push_unmade(
             "There is no folder to make it in, or it can't be made there.",
         ),
         Ok(found) if found.is_dir() => push_cause_line(text, FOLDER),
-        Ok(found) if is_one_of(files, &found, options) => push_cause_line(
-            text,
-            "It is the file of the program or of the tables, which a trace would take the place of.",
-        ),
         Ok(found) if found.is_file() => match OpenOptions::new().write(true).open(files, path) {
             Err(error) => push_cause(text, &error, "There is no such file."),
             Ok(_) => Ok(()),
         },
         Ok(_) => Ok(()),
-    }
-}
-
-// Whether a file is that of the program or of the tables.
-fn is_one_of(files: &impl Files, found: &Metadata, options: Options<'_>) -> bool {
-    is_at(files, found, options.program) || is_at(files, found, options.tables)
-}
-
-// Whether a file is the one at a path.
-fn is_at(files: &impl Files, found: &Metadata, path: &str) -> bool {
-    match fs::metadata(files, path) {
-        Ok(other) => found.dev() == other.dev() && found.ino() == other.ino(),
-        Err(_) => false,
     }
 }
 

@@ -15,10 +15,12 @@ use explanations::programs::{push_bad_program, push_broken_line};
 use explanations::tables::{push_bad_table, push_bad_toml};
 use explanations::words::push_mistake;
 use prepared_program::prepare::PrepareError;
-use program_endings::files::{FileSource, SystemFiles};
+use program_endings::files::FileSource;
 use program_endings::program_error::ProgramError;
+use report_files::ReportFiles;
 use std::alloc::{AllocError, Global};
 use std::fmt::Write;
+use std::fs;
 use std::rt::Runtime;
 
 /// The lines in plain words that belong under a report's error: those of a refused program, or of refused tables, which are read once
@@ -71,8 +73,7 @@ fn read_again(
     let words = lent(alloc, held.as_slice()).ok()?;
     match asked_by(alloc, words.as_slice()).ok()? {
         Asked::Session(options) => {
-            let files = SystemFiles { rt };
-            let tables = files.read(alloc, options.tables).ok()?;
+            let tables = fs::read(rt, options.tables).ok()?;
             reasons_beside(rt, alloc, error, options.program, tables.as_slice())
         }
         Asked::Print(path) => reasons_beside(rt, alloc, error, path, &[]),
@@ -87,7 +88,11 @@ fn reasons_beside(
     path: &str,
     tables: &[u8],
 ) -> Option<String> {
-    let files = SystemFiles { rt };
+    let files = ReportFiles {
+        rt,
+        program: path,
+        tables: path,
+    };
     let program = files.read(alloc, path).ok()?;
     let tables = str::from_utf8(tables).ok()?;
     reasons(alloc, error, program.as_slice(), tables).ok()
