@@ -1,10 +1,11 @@
 // Notes of runs, written: the history of each to the trace, and what is counted of each beside it.
-ghost use Rattle.std.specs.Prelude.{◌≡◌, ◌⊎◌, ℕ, List, None, Some, true, false, IfErr, IfOk, IsSome, OnOk, string_bytes};
+ghost use Rattle.std.specs.Prelude.{◌≡◌, ◌≢◌, ◌⊎◌, ℕ, List, None, Some, true, false, IfErr, IfOk, IsSome, OnOk, string_bytes};
 ghost use Rattle.std.specs.Io.KnownBytes.{Appends};
 ghost use Rattle.numbered_runs.specs.Named.{history as steps_of};
 ghost use Rattle.trace_report.specs.Traces.{stats_text, trace_text};
 ghost use Rattle.run_terms.specs.Come.{HasEnded};
 ghost use Rattle.session_notes.specs.declared.run_notes.NotesError.TheVariants as notes;
+ghost use Rattle.program_endings.specs.declared.session_error.SessionError.TheVariants as ended;
 ghost use Rattle.session_notes.specs.Noted.{Noted, has_failed, known_of, run_counts_text};
 
 use crate::notes::Notes;
@@ -158,7 +159,7 @@ fn counts_for<C: Write>(
     }
 }
 
-// Writes a text, if there is a writer for it.
+// Writes a text, if there is a writer for it; refused as by `write_text`.
 fn write_noted<W: Write>(
     to: &mut Option<W>,
     text: &str,
@@ -166,10 +167,11 @@ fn write_noted<W: Write>(
 ) -> Result<(), NotesError>
     ensures written { OnOk result
         (Appends (known_of W.contents to.old) (known_of W.contents to.new) text.now) }
+    ensures refused { IfErr result (λ e. (e ≡ notes.NoMemory) ⊎ (e ≡ failed)) }
 {
     match to {
         None => Ok(()),
-        Some(to) => write_text(to, text, failed),
+        Some(to) => write_text(to, text, failed, &mut Failures::none()),
     }
 }
 
@@ -198,17 +200,32 @@ fn counts_of(answer: &RunAnswer, history: &[BookStep], kits: (usize, usize)) -> 
     }
 }
 
-// Writes a text and flushes it; the error is the one for a write that failed, or that memory was refused.
-fn write_text<W: Write>(writer: &mut W, text: &str, failed: NotesError) -> Result<(), NotesError>
+// Writes a text and flushes it; the error is the one for a write or a flush that failed, which is noted, or that memory was refused.
+fn write_text<W: Write>(
+    writer: &mut W,
+    text: &str,
+    failed: NotesError,
+    failures: &mut Failures,
+) -> Result<(), NotesError>
     ensures written { OnOk result (Appends (W.contents writer.old) (W.contents writer.new) text.now) }
+    ensures unmarked { OnOk result (failures.new ≡ failures.old) }
+    ensures refused { IfErr result (λ e. ((e ≡ notes.NoMemory) × (failures.new ≡ failures.old))
+        ⊎ ((e ≡ failed) × (failures.new.output ≡ true))) }
 {
-    let mut failures = Failures::none();
-    write_whole(writer, text.as_bytes(), &mut failures).map_err(|error| reason(&error, failed))?;
-    flush(writer, &mut failures).map_err(|error| reason(&error, failed))
+    match write_whole(writer, text.as_bytes(), failures) {
+        Ok(()) => match flush(writer, failures) {
+            Ok(()) => Ok(()),
+            Err(error) => Err(reason(&error, failed)),
+        },
+        Err(error) => Err(reason(&error, failed)),
+    }
 }
 
 // What such an error of a write or a flush is to the notes.
-fn reason(error: &SessionError, failed: NotesError) -> NotesError {
+fn reason(error: &SessionError, failed: NotesError) -> NotesError
+    ensures memory { error.now ≡ ended.NoMemory → result ≡ notes.NoMemory }
+    ensures failed { error.now ≢ ended.NoMemory → result ≡ failed }
+{
     match error {
         SessionError::NoMemory => NotesError::NoMemory,
         _ => failed,
