@@ -12,6 +12,7 @@ mod table_check;
 mod table_rows;
 mod updating;
 
+pub use adding::{add_amount, merge_amounts};
 pub use combining::{combine, identity};
 pub use copying::copy_of;
 pub use elements::inject;

@@ -1,11 +1,16 @@
 //! Views of reducers, kits of them, and the pool of kits.
 #![tactic(auto)]
 
+mod amounts;
+mod flat_view;
 mod kit;
+mod lists;
+mod pieces;
 mod plain_view;
 mod pool;
 mod view;
 
+pub use flat_view::FlatView;
 pub use kit::Kit;
 pub use plain_view::PlainView;
 pub use pool::{KitSource, Pool};

@@ -1,15 +1,17 @@
-//! The product's own view: a plain value.
+//! The product's own view: it keeps a list, and amounts by key, in pieces.
 ghost use Rattle.std.specs.Prelude.{◌≡◌};
 ghost use Rattle.monoid_laws.specs.Kinds.{identity_of};
 
 use crate::View;
+use crate::pieces::{add_in_pieces, combine_in_pieces, copy_in_pieces};
 use monoid_laws::{InjectError, Kind, Val};
-use reducer_values::{add_element, combine, copy_of, identity};
+use reducer_values::identity;
 use std::alloc::{AllocError, Global};
 use std::marker::Model;
 use std::mem;
 
-/// A view that keeps a value of its kind.
+/// A view that keeps a value of its kind: a list in pieces of 64 numbers, and amounts in pieces of 64 keys, so that a fold moves
+/// pieces and copies few numbers.
 #[derive(Drop)]
 pub struct PlainView {
     alloc: Global,
@@ -51,11 +53,11 @@ impl View for PlainView {
     }
 
     fn update(&mut self, numbers: &[i64]) -> Result<(), InjectError> {
-        add_element(self.alloc, &self.kind, &mut self.value, numbers)
+        add_in_pieces(self.alloc, &self.kind, &mut self.value, numbers)
     }
 
     fn absorb(&mut self, value: Val) -> Result<(), Val> {
-        combine(self.alloc, self.kind, &mut self.value, value)
+        combine_in_pieces(self.alloc, self.kind, &mut self.value, value)
     }
 
     fn take(&mut self) -> Val {
@@ -67,6 +69,6 @@ impl View for PlainView {
     }
 
     fn export(&self) -> Result<Val, AllocError> {
-        copy_of(self.alloc, &self.value)
+        copy_in_pieces(self.alloc, &self.value)
     }
 }

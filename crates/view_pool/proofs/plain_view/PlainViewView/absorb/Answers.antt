@@ -6,7 +6,7 @@ use Rattle.view_pool.proofs.plain_view.PlainViewView.absorb.Goals as goal
 
 pub invariant_of-self : goal.invariant_of-self
 invariant_of-self c =
-    IsWorth-combined c.combine.result c.self.inside.kind (meaning c.self.inside.value) (meaning c.combine.new.left) (meaning c.args.value) c.combine.ensures.combined
-    (on_ok c.combine.result (IsWorth c.self.inside.kind (meaning c.args.value))
+    IsWorth-combined c.combine_in_pieces.result c.self.inside.kind (meaning c.self.inside.value) (meaning c.combine_in_pieces.new.left) (meaning c.args.value) c.combine_in_pieces.ensures.combined
+    (on_ok c.combine_in_pieces.result (IsWorth c.self.inside.kind (meaning c.args.value))
     (subst (λ (s : Seen). IsWorth s.kind (meaning c.args.value)) (sym c.self.view_is) c.requires.of_kind))
-    c.combine.ensures.refused c.self.invariant
+    c.combine_in_pieces.ensures.refused c.self.invariant

@@ -4,5 +4,5 @@ use Rattle.view_pool.proofs.plain_view.PlainViewView.update.Goals as goal
 
 pub invariant_of-self : goal.invariant_of-self
 invariant_of-self c =
-    IsWorth-combined c.add_element.result c.self.inside.kind (meaning c.self.inside.value) (meaning c.add_element.new.value) (element_of c.self.inside.kind c.args.numbers.now)
-    c.add_element.ensures.combined c.add_element.ensures.element c.add_element.ensures.refused c.self.invariant
+    IsWorth-combined c.add_in_pieces.result c.self.inside.kind (meaning c.self.inside.value) (meaning c.add_in_pieces.new.value) (element_of c.self.inside.kind c.args.numbers.now)
+    c.add_in_pieces.ensures.combined c.add_in_pieces.ensures.element c.add_in_pieces.ensures.refused c.self.invariant
