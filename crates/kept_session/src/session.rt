@@ -11,6 +11,7 @@ ghost use Rattle.kept_session.specs.Sessions.{AreNewFor, begun, stock_of, standi
 ghost use Rattle.kept_session.specs.Applied.{edited, IsApplyCause};
 
 use crate::refusal::ApplyError;
+use gathered_records::gathering::keep;
 use input_tables::Tables;
 use linked_program::checked::Checked;
 use numbered_runs::records::no_records;
@@ -194,6 +195,6 @@ impl<V: View> Session<V> {
         self.checked.linked();
         self.checked.revised();
         self.kits = pool;
-        self.records.keep(made, &self.tables, &self.checked)
+        keep(&mut self.records, made, &self.tables, &self.checked)
     }
 }

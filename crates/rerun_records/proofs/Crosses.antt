@@ -13,6 +13,7 @@ use Rattle.rerun_records.specs.contracts.readings.Readings as Readings
 use Rattle.rerun_records.specs.contracts.record.Record as Record
 use Rattle.rerun_records.specs.contracts.records.Records as Records
 use Rattle.rerun_records.specs.contracts.block.Block as Block
+use Rattle.rerun_records.specs.contracts.hull.Hull as Hull
 use Rattle.rerun_records.specs.contracts.level.Level as Level
 use Rattle.rerun_records.specs.contracts.blocks.Blocks as Blocks
 use Rattle.rerun_records.proofs.readings.Below.TheLaws.TheKnot.{both_send-Node, both_sync-Node}
@@ -55,11 +56,17 @@ block_send = let s = record_send in search (sendable, crosses) depth 20
 block_sync : IsSync (Block.the_field).row
 block_sync = let y = record_sync in search (sendable, crosses) depth 20
 
+hull_send : IsSend (Hull.the_field).row
+hull_send = search (sendable, crosses, spans.the_send) depth 20
+
+hull_sync : IsSync (Hull.the_field).row
+hull_sync = search (sendable, crosses, spans.the_sync) depth 20
+
 level_send : IsSend (Level.the_field).row
-level_send = let s = block_send in search (sendable, crosses) depth 20
+level_send = let s = block_send in let h = hull_send in search (sendable, crosses) depth 20
 
 level_sync : IsSync (Level.the_field).row
-level_sync = let y = block_sync in search (sendable, crosses) depth 20
+level_sync = let y = block_sync in let h = hull_sync in search (sendable, crosses) depth 20
 
 blocks_send : IsSend (Blocks.the_field).row
 blocks_send = let s = level_send in search (sendable, crosses, kinds.the_send) depth 20

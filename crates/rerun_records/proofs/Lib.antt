@@ -1,6 +1,5 @@
 pub mod Members
 pub mod Absorbed
-pub mod Summed
 pub mod Covered
 pub mod Puts
 pub mod InStep
@@ -15,7 +14,7 @@ pub mod NodeNotes
 pub mod SameKinds
 pub mod Homes
 pub mod Touched
+pub mod Hulls
 pub mod Leaves
 pub mod Wholes
 pub mod Crosses
-pub mod Rows

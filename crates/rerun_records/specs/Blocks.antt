@@ -1,5 +1,5 @@
 -- Blocks: records of one procedure whose arguments go up by one in one place, with one record that has what theirs have together.
-use Rattle.std.specs.Prelude.{◌≡◌, ◌⊎◌, ◌≤◌, ◌+◌, ℕ, suc, nat_eq, nat_le, ℤ, pos, ◌+ℤ◌, Bool, true, false, not, List, [], ◌∷◌, Option, Some, None, map, length, slice_get, slice_set}
+use Rattle.std.specs.Prelude.{◌≡◌, ◌⊎◌, ◌≤◌, ◌<◌, ◌+◌, ◌*◌, ℕ, suc, nat_eq, nat_le, ℤ, pos, ◌+ℤ◌, Bool, true, false, not, List, [], ◌∷◌, Option, Some, None, map, length, slice_get, slice_set}
 use Rattle.std.specs.List.{list_any}
 use Rattle.evaluation.specs.declared.note.Note.{Note}
 use Rattle.linked_program.specs.Checked.{PlainChecked}
@@ -9,6 +9,8 @@ use Rattle.monoid_laws.specs.declared.Kind.{Kind}
 use Rattle.rerun_records.specs.Record.{PlainRecord, settled}
 use Rattle.rerun_records.specs.Doubted.{is_doubted, rests_on}
 use Rattle.rerun_records.specs.Sums.{IsSumOf}
+use Rattle.rerun_records.specs.declared.spans.Span.{Span}
+use Rattle.rerun_records.specs.Spans.{is_covered_by, is_touched}
 use Rattle.rerun_records.specs.Validity.{has_revision}
 
 -- the places of records in order, which of their arguments counts up, and one record in the place of them all
@@ -99,26 +101,41 @@ is_home homes number place = is_number number (slice_get homes place)
 abbrev pub AreHoused : List ℕ → List (Option PlainBlock) → Type 0
 AreHoused homes blocks = (n : ℕ) (b : PlainBlock) → live_at blocks n ≡ Some b → every (is_home homes n) b.places ≡ true
 
--- ---- the blocks of two widths
+-- ---- hulls: spans of rows, each for so many blocks with numbers one after another
+
+-- what blocks have read lies in the hull of their number
+abbrev pub AreHulled : List (List Span) → List (Option PlainBlock) → Type 0
+AreHulled hulls blocks =
+    (i n : ℕ) (h : List Span) (b : PlainBlock) → slice_get hulls i ≡ Some h → i * 64 ≤ n → n < i * 64 + 64 → live_at blocks n ≡ Some b → every (is_covered_by h) b.sum.reads ≡ true
+
+-- there is a hull, and none of the changes lies in it
+abbrev pub is_hull_apart : List (ℕ × ℤ) → Option (List Span) → Bool
+is_hull_apart changes None = false
+is_hull_apart changes (Some h) = not (is_touched h changes)
+
+-- ---- the blocks of three widths
 
 pub record PlainBlocks : Type 0 where
   pub kinds : List Kind
   pub fine : List (Option PlainBlock)
+  pub middle : List (Option PlainBlock)
   pub wide : List (Option PlainBlock)
 
 pub record BlocksFit (records : List PlainRecord) (blocks : PlainBlocks) : Type 0 where
   pub fine : AllFit blocks.kinds records blocks.fine
+  pub middle : AllFit blocks.kinds records blocks.middle
   pub wide : AllFit blocks.kinds records blocks.wide
 
 pub record BlocksRemain (now before : PlainBlocks) : Type 0 where
   pub kinds : now.kinds ≡ before.kinds
   pub fine : Remain now.fine before.fine
+  pub middle : Remain now.middle before.middle
   pub wide : Remain now.wide before.wide
 
 -- one of these, for reducers of those kinds
 pub record IsBlock (kinds : List Kind) (blocks : PlainBlocks) (block : PlainBlock) : Type 0 where
   pub kinds_are : blocks.kinds ≡ kinds
-  pub live : IsLive blocks.fine block ⊎ IsLive blocks.wide block
+  pub live : IsLive blocks.fine block ⊎ (IsLive blocks.middle block ⊎ IsLive blocks.wide block)
 
 -- the block begins at that place, counts that argument, has no more records than that, and answers an instance at that depth
 pub record Answers (program : PlainChecked) (depth place counted most : ℕ) (block : PlainBlock) : Type 0 where

@@ -9,6 +9,4 @@ pub mod Named
 pub mod Nested
 pub mod Batches
 pub mod Sums
-pub mod Summing
 pub mod Blocks
-pub mod Gathering

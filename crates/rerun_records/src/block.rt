@@ -1,4 +1,4 @@
-// Records in a row that one record stands for.
+//! Records in a row that one record stands for.
 ghost use Rattle.std.specs.Prelude.{◌≡◌, Some, true, false, slice_get};
 ghost use Rattle.meaning.specs.Every.{every};
 ghost use Rattle.rerun_records.specs.Blocks.{is_apart, Answers};
@@ -10,7 +10,7 @@ use std::marker::Model;
 /// The places of records of one procedure, whose arguments go up by one in the counted one, and a record that has what theirs
 /// have together.
 #[derive(Drop)]
-pub(crate) struct Block {
+pub struct Block {
     places: Vec<u32>,
     counted: usize,
     sum: Record,
@@ -26,7 +26,7 @@ impl Model for Block {
 
 impl Block {
     /// A block of these places.
-    pub(crate) fn new(places: Vec<u32>, counted: usize, sum: Record) -> Block
+    pub fn new(places: Vec<u32>, counted: usize, sum: Record) -> Block
         ensures block { result
             ≡ record { places = places.items; counted = counted; sum = sum } }
     {
@@ -38,21 +38,21 @@ impl Block {
     }
 
     /// Lends the places.
-    pub(crate) fn places(&self) -> &[u32]
+    pub fn places(&self) -> &[u32]
         ensures places { result.now ≡ self.now.places }
     {
         &self.places
     }
 
     /// Which argument goes up.
-    pub(crate) fn counted(&self) -> usize
+    pub fn counted(&self) -> usize
         ensures counted { result ≡ self.now.counted }
     {
         self.counted
     }
 
     /// Lends the record that has what they have together.
-    pub(crate) fn sum(&self) -> &Record
+    pub fn sum(&self) -> &Record
         ensures sum { result.now ≡ self.now.sum }
     {
         &self.sum

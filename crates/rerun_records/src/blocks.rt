@@ -1,4 +1,4 @@
-// The blocks of a session's records.
+//! The blocks of a session's records.
 ghost use Rattle.std.specs.Prelude.{◌≡◌, ◌⊎◌, ◌∷◌, ℕ, Some, List, [], IfSome, OnOk, true};
 ghost use Rattle.meaning.specs.Every.{every};
 ghost use Rattle.monoid_laws.specs.declared.Kind.{Kind as PlainKind};
@@ -21,16 +21,18 @@ const BLOCKS_A_CHANGE: usize = 32;
 
 /// The width of a block.
 #[derive(Clone, Copy)]
-pub(crate) enum Width {
+pub enum Width {
     Fine,
+    Middle,
     Wide,
 }
 
-/// Blocks of two widths, all for reducers of these kinds.
+/// Blocks of three widths, all for reducers of these kinds.
 #[derive(Drop)]
 pub(crate) struct Blocks {
     kinds: Vec<Kind>,
     fine: Level,
+    middle: Level,
     wide: Level,
     // What was put in or dropped since blocks were made.
     due: Due,
@@ -43,17 +45,18 @@ impl Model for Blocks {
 
     ghost Value = { PlainBlocks };
 
-    ghost view = { λ b. record { kinds = b.kinds.items; fine = b.fine; wide = b.wide } };
+    ghost view = { λ b. record { kinds = b.kinds.items; fine = b.fine; middle = b.middle; wide = b.wide } };
 }
 
 impl Blocks {
     /// No blocks; it takes no memory.
     pub(crate) fn new(alloc: Global) -> Blocks
-        ensures none { result ≡ record { kinds = []; fine = []; wide = [] } }
+        ensures none { result ≡ record { kinds = []; fine = []; middle = []; wide = [] } }
     {
         Blocks {
             kinds: Vec::new(alloc),
             fine: Level::new(alloc),
+            middle: Level::new(alloc),
             wide: Level::new(alloc),
             due: Due::new(alloc),
             changes: 0,
@@ -63,9 +66,10 @@ impl Blocks {
     /// Drops the blocks that have the record at that place as part, and notes that it is due.
     pub(crate) fn put_in(&mut self, place: usize)
         ensures remain { BlocksRemain self.new self.old }
-        ensures free { IsFree place self.new.fine × IsFree place self.new.wide }
+        ensures free { IsFree place self.new.fine × IsFree place self.new.middle × IsFree place self.new.wide }
     {
         self.fine.drop_at(place, &mut self.due);
+        self.middle.drop_at(place, &mut self.due);
         self.wide.drop_at(place, &mut self.due);
         match u32::try_from(place) {
             Ok(place) => self.due.note(place),
@@ -79,6 +83,8 @@ impl Blocks {
         ensures remain { BlocksRemain self.new self.old }
         ensures fine { (n : ℕ) (b : PlainBlock) → live_at self.new.fine n ≡ Some b
             → every (is_apart ((table, row) ∷ [])) b.sum.reads ≡ true }
+        ensures middle { (n : ℕ) (b : PlainBlock) → live_at self.new.middle n ≡ Some b
+            → every (is_apart ((table, row) ∷ [])) b.sum.reads ≡ true }
         ensures wide { (n : ℕ) (b : PlainBlock) → live_at self.new.wide n ≡ Some b
             → every (is_apart ((table, row) ∷ [])) b.sum.reads ≡ true }
     {
@@ -89,6 +95,8 @@ impl Blocks {
             let change = (table, row);
             self.fine
                 .drop_touched(slice::from_ref(&change), &mut self.due);
+            self.middle
+                .drop_touched(slice::from_ref(&change), &mut self.due);
             self.wide
                 .drop_touched(slice::from_ref(&change), &mut self.due);
         }
@@ -97,12 +105,13 @@ impl Blocks {
     /// Drops all blocks.
     pub(crate) fn clear(&mut self)
         ensures kinds { self.new.kinds ≡ self.old.kinds }
-        ensures none { (self.new.fine ≡ []) × (self.new.wide ≡ []) }
+        ensures none { (self.new.fine ≡ []) × (self.new.middle ≡ []) × (self.new.wide ≡ []) }
     {
         if self.fine.len() > 0 {
             self.due.note_all();
         }
         self.fine.clear();
+        self.middle.clear();
         self.wide.clear();
     }
 
@@ -121,6 +130,13 @@ impl Blocks {
             Answers program.now depth place counted most b.now) }
     {
         if let Some(block) = self.wide.at(place) {
+            if block.answers(place, counted, most, depth, program)
+                && self.are_for(program.kinds())
+            {
+                return Some(block);
+            }
+        }
+        if let Some(block) = self.middle.at(place) {
             if block.answers(place, counted, most, depth, program)
                 && self.are_for(program.kinds())
             {
@@ -146,6 +162,7 @@ impl Blocks {
         }
         match width {
             Width::Fine => self.fine.at(place),
+            Width::Middle => self.middle.at(place),
             Width::Wide => self.wide.at(place),
         }
     }
@@ -159,7 +176,7 @@ impl Blocks {
 
     /// Has the blocks be for reducers of these kinds, for which those for others are dropped.
     pub(crate) fn have_kinds(&mut self, alloc: Global, kinds: &[Kind]) -> Result<(), AllocError>
-        ensures remain { BlocksRemain self.new self.old ⊎ ((self.new.fine ≡ []) × (self.new.wide ≡ [])) }
+        ensures remain { BlocksRemain self.new self.old ⊎ ((self.new.fine ≡ []) × (self.new.middle ≡ []) × (self.new.wide ≡ [])) }
         ensures kinds { OnOk result (self.new.kinds ≡ kinds.now) }
     {
         if !self.are_for(kinds) {
@@ -177,11 +194,14 @@ impl Blocks {
         ensures kinds { self.new.kinds ≡ self.old.kinds }
         ensures fine { (n : ℕ) (b : PlainBlock) → live_at self.new.fine n ≡ Some b
             → (b ≡ block) ⊎ (live_at self.old.fine n ≡ Some b) }
+        ensures middle { (n : ℕ) (b : PlainBlock) → live_at self.new.middle n ≡ Some b
+            → (b ≡ block) ⊎ (live_at self.old.middle n ≡ Some b) }
         ensures wide { (n : ℕ) (b : PlainBlock) → live_at self.new.wide n ≡ Some b
             → (b ≡ block) ⊎ (live_at self.old.wide n ≡ Some b) }
     {
         match width {
             Width::Fine => self.fine.add(block, &mut self.due),
+            Width::Middle => self.middle.add(block, &mut self.due),
             Width::Wide => self.wide.add(block, &mut self.due),
         }
     }

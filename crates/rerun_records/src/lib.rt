@@ -2,12 +2,12 @@
 #![tactic(auto)]
 
 pub mod batch;
-mod block;
-mod blocks;
+pub mod block;
+pub mod blocks;
 mod changes;
 mod due;
 pub mod edits;
-pub mod gathering;
+mod hull;
 pub mod key;
 pub mod laws;
 mod level;
@@ -15,8 +15,4 @@ mod nested;
 pub mod readings;
 pub mod record;
 pub mod records;
-mod row;
 mod spans;
-mod sums;
-mod tried;
-mod widening;

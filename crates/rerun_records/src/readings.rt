@@ -115,6 +115,15 @@ impl Readings {
         node_is_touched(&self.node, changes)
     }
 
+    /// Joins spans with the rows of what was read.
+    pub(crate) fn put_rows(&self, spans: &mut Vec<Span>) -> Result<(), AllocError>
+        ensures kept { OnOk result ((note : PlainNote) → is_covered_by spans.old.items note ≡ true
+            → is_covered_by spans.new.items note ≡ true) }
+        ensures put { OnOk result (every (is_covered_by spans.new.items) self.now ≡ true) }
+    {
+        put_node(&self.node, spans)
+    }
+
     /// Copies of all of them, in order: for who looks at a record from outside.
     pub fn notes(&self, alloc: Global) -> Result<Vec<Note>, AllocError>
         ensures notes { IfOk result (λ ns. ns.items ≡ self.now) }

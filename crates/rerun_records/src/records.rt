@@ -142,7 +142,7 @@ impl Records {
     }
 
     /// The record of the procedure of that number with these arguments, valid or not, and its place.
-    pub(crate) fn place_of(&self, procedure: usize, arguments: &[i64]) -> Option<(usize, &Record)>
+    pub fn place_of(&self, procedure: usize, arguments: &[i64]) -> Option<(usize, &Record)>
         ensures there { IfSome result (λ found.
             slice_get (map settled self.now) found.0 ≡ Some found.1.now) }
         ensures procedure { IfSome result (λ found. found.1.now.procedure ≡ procedure) }
@@ -259,7 +259,7 @@ impl Records {
     }
 
     /// Has the record at that place stand since now, where the tables hold what it read: whether they do.
-    pub(crate) fn stand_now(&mut self, place: usize, tables: &Tables) -> bool
+    pub fn stand_now(&mut self, place: usize, tables: &Tables) -> bool
         requires in_step { IsInStep tables.now.tables self.old }
         ensures in_step { IsInStep tables.now.tables self.new }
         ensures same { map settled self.new ≡ map settled self.old }
@@ -297,7 +297,7 @@ impl Records {
     }
 
     /// Lends the block of that width that may have the record at that place as part, where one has, for reducers of these kinds.
-    pub(crate) fn block_at(&self, width: Width, place: usize, kinds: &[Kind]) -> Option<&Block>
+    pub fn block_at(&self, width: Width, place: usize, kinds: &[Kind]) -> Option<&Block>
         ensures fits { IfSome result (λ b. BlockFits kinds.now self.now b.now) }
     {
         self.blocks.at(width, place, kinds)
@@ -305,7 +305,7 @@ impl Records {
 
     /// Adds a block for reducers of these kinds, in the place of those of its width that have one of its records as part. Blocks for
     /// others are dropped. Where memory is refused it isn't added.
-    pub(crate) fn add_block(
+    pub fn add_block(
         &mut self,
         alloc: Global,
         width: Width,
@@ -320,13 +320,13 @@ impl Records {
     }
 
     /// Whether all records may be put into blocks, and not only those at the places that are due.
-    pub(crate) fn are_all_due(&self) -> bool {
+    pub fn are_all_due(&self) -> bool {
         self.blocks.are_all_due()
     }
 
     /// Takes out the places of records that may be put into blocks: those put in since that was done last, and those of which a
     /// block was dropped, by one of its records.
-    pub(crate) fn take_due(&mut self, alloc: Global) -> Vec<u32>
+    pub fn take_due(&mut self, alloc: Global) -> Vec<u32>
         ensures same { self.new ≡ self.old }
     {
         self.blocks.take_due(alloc)

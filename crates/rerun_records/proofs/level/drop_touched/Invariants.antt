@@ -1,10 +1,11 @@
-use Rattle.std.proofs.Common.{◌≡◌, ◌<◌, ◌-◌, ℕ, true, Some, length}
+use Rattle.std.proofs.Common.{◌≡◌, ◌<◌, ◌-◌, ◌*◌, ℕ, true, Some, length}
 use Rattle.meaning.specs.Every.{every}
 use Rattle.rerun_records.specs.Blocks.{PlainBlock, live_at, Remain, is_apart}
 use Rattle.rerun_records.proofs.level.drop_touched.Given as goal
 
 abbrev pub invariant-loop-number : goal.invariant-loop-number
 invariant-loop-number l = record {
+  at : l.number ≡ l.group * 64;
   remain : Remain l.blocks.items l.fn.blocks.items;
   apart : (n : ℕ) (b : PlainBlock) → n < l.number → live_at l.blocks.items n ≡ Some b → every (is_apart l.changes) b.sum.reads ≡ true;
 }

@@ -39,11 +39,11 @@ invariant_of-self g c =
       below = c.revised.ensures.below;
     } in
     record {
-      kept = settled_keeps s.checked is s.tables c.keep.result s.records c.args.made.items c.keep.new.self c.keep.ensures.named c.keep.ensures.same keeps.kept
+      kept = settled_keeps s.checked is s.tables c.keep.result s.records c.args.made.items c.keep.new.records c.keep.ensures.named c.keep.ensures.same keeps.kept
           (subst (λ (x : PlainSession). AreNewFor x.checked x.tables c.args.made.items) (sym c.self.view_is) c.requires.new);
-      values = settled_values c.keep.result s.checked.kinds s.records c.args.made.items c.keep.new.self c.keep.ensures.values c.keep.ensures.same keeps.values
+      values = settled_values c.keep.result s.checked.kinds s.records c.args.made.items c.keep.new.records c.keep.ensures.values c.keep.ensures.same keeps.values
           (subst (λ (x : PlainSession). HaveValues x.checked.kinds c.args.made.items) (sym c.self.view_is) c.requires.values);
-      in_step = stay_in_step c.keep.result s.tables.tables s.records c.keep.new.self c.keep.ensures.in_step c.keep.ensures.same keeps.in_step;
+      in_step = stay_in_step c.keep.result s.tables.tables s.records c.keep.new.records c.keep.ensures.in_step c.keep.ensures.same keeps.in_step;
       columns = keeps.columns;
       kinds = subst (λ (x : PlainSession). All (λ k. k ≡ x.checked.kinds) c.args.pool.kits) (sym c.self.view_is) c.requires.kinds;
     }

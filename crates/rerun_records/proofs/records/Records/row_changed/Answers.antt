@@ -24,7 +24,8 @@ invariant_of-self-else-not-is_listed c =
     let apart : List (Option PlainBlock) → ℤ → Type 0 = λ bs z. (n : ℕ) (b : PlainBlock) → live_at bs n ≡ Some b → every (is_apart ((c.args.table, z) ∷ [])) b.sum.reads ≡ true in (
       listed_stand before c.is_listed.new.changes.items (c.args.table, c.args.row) c.self.inside.moments.items c.self.inside.by_instance.keys listed (c.is_listed.ensures.few c.if-not-is_listed.false) c.self.invariant.0,
       marked_fits before c.is_listed.new.changes.items (c.args.table, c.args.row) c.self.inside.moments.items c.self.inside.by_instance.keys blocks c.self.inside.blocks listed c.self.invariant.1 c.row_changed.ensures.remain
-          (subst (apart blocks.fine) (to_z-of_z w64 _ c.ranges.row) c.row_changed.ensures.fine) (subst (apart blocks.wide) (to_z-of_z w64 _ c.ranges.row) c.row_changed.ensures.wide),
+          (subst (apart blocks.fine) (to_z-of_z w64 _ c.ranges.row) c.row_changed.ensures.fine)
+          (subst (apart blocks.middle) (to_z-of_z w64 _ c.ranges.row) c.row_changed.ensures.middle) (subst (apart blocks.wide) (to_z-of_z w64 _ c.ranges.row) c.row_changed.ensures.wide),
     )
 
 pub returns-then-not-is_listed-clause-same : goal.returns-then-not-is_listed-clause-same

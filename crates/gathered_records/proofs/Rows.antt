@@ -1,0 +1,295 @@
+-- Records in a row, found one after another, and a block of them.
+use Rattle.std.proofs.Common.{◌≡◌, ℕ, zero, suc, ◌<◌, ℤ, Bool, true, List, [], ◌∷◌, ◌++◌, length, map, All, refl, sym, ap, ◌∙◌, subst, arith, take, get_or, ◌+◌}
+use Rattle.std.specs.Prelude.{◌+ℤ◌, pos, slice_get, slice_set, Some, None, Option, Result, Ok, Err, IfOk, ◌≤◌}
+use Rattle.std.proofs.lemmas.Int.{ints}
+use Rattle.std.proofs.lemmas.List.{append-nil, length-set, set-set, take_all, take_more}
+use Rattle.std.proofs.lemmas.List.Elements.{All-cons, All-head, All-tail, All-nil}
+use Rattle.monoid_laws.specs.declared.Kind.{Kind}
+use Rattle.monoid_laws.specs.Kinds.{IsMonoid}
+use Rattle.meaning.specs.Every.{every}
+use Rattle.meaning.specs.Commits.{committed}
+use Rattle.linked_program.specs.Checked.{PlainChecked, revised_of}
+use Rattle.rerun_records.specs.Record.{PlainRecord, settled}
+use Rattle.rerun_records.specs.Named.{AreValuesFrom, HaveValues, CommitsNamed}
+use Rattle.rerun_records.specs.Sums.{IsSumOf}
+use Rattle.gathered_records.specs.Summing.{PlainSum, at_places, got_before, added, summed, HasSummed}
+use Rattle.rerun_records.specs.Blocks.{PlainBlock, AreLeaves, BlockFits, stands_at}
+use Rattle.gathered_records.specs.Gathering.{PlainRow, moved_to, IsThere, AreInRow, IsPart}
+use Rattle.rerun_records.proofs.Members.{both, every_weaker}
+use Rattle.rerun_records.proofs.NodeNotes.{every_append}
+use Rattle.rerun_records.proofs.Puts.{same_values}
+use Rattle.gathered_records.proofs.Summed.{one_part_more, one_record_more, sum_is}
+use Rattle.rerun_records.proofs.Lookups.{same_but_doubts}
+
+-- ---- records at places
+
+pub at_more : (rs : List PlainRecord) (ps qs : List ℕ) → at_places rs (ps ++ qs) ≡ at_places rs ps ++ at_places rs qs
+at_more rs [] qs = refl
+at_more rs (p ∷ ps) qs = ap (got_before (slice_get rs p)) (at_more rs ps qs) ∙ before_more (slice_get rs p) (at_places rs ps) (at_places rs qs)
+  where
+    before_more : (o : Option PlainRecord) (xs ys : List PlainRecord) → got_before o (xs ++ ys) ≡ got_before o xs ++ ys
+    before_more None xs ys = refl
+    before_more (Some x) xs ys = refl
+
+pub at_one : (rs : List PlainRecord) (p : ℕ) (r : PlainRecord) → slice_get rs p ≡ Some r → at_places rs (p ∷ []) ≡ r ∷ []
+at_one rs p r e = ap (λ o. got_before o []) e
+
+got_all : (P : PlainRecord → Type 0) (rs : List PlainRecord) (p : ℕ) (xs : List PlainRecord) → All P rs → All P xs → All P (got_before (slice_get rs p) xs)
+got_all P [] p xs a b = b
+got_all P (r ∷ rs) zero xs a b = All-cons P r xs (All-head P r rs a) b
+got_all P (r ∷ rs) (suc p) xs a b = got_all P rs p xs (All-tail P r rs a) b
+
+pub got_has : (P : PlainRecord → Type 0) (rs : List PlainRecord) (p : ℕ) (r : PlainRecord) → All P rs → slice_get rs p ≡ Some r → P r
+got_has P [] p r a e = absurd cc
+got_has P (x ∷ xs) zero r a e = subst P (let s : x ≡ r = cc (e) in s) (All-head P x xs a)
+got_has P (x ∷ xs) (suc p) r a e = got_has P xs p r (All-tail P x xs a) e
+
+pub all_at : (P : PlainRecord → Type 0) (rs : List PlainRecord) (ps : List ℕ) → All P rs → All P (at_places rs ps)
+all_at P rs [] a = All-nil P
+all_at P rs (p ∷ ps) a = got_all P rs p (at_places rs ps) a (all_at P rs ps a)
+
+settled_twice : (rs : List PlainRecord) → map settled (map settled rs) ≡ map settled rs
+settled_twice [] = refl
+settled_twice (r ∷ rs) = ap (λ xs. settled r ∷ xs) (settled_twice rs)
+
+pub values_settled : (kinds : List Kind) (rs : List PlainRecord) → HaveValues kinds rs → HaveValues kinds (map settled rs)
+values_settled kinds rs h = same_values kinds rs (map settled rs) (settled_twice rs) h
+
+-- ---- leaves
+
+no_further : (v : ℤ) → v +ℤ pos 0 ≡ v
+no_further v = omega (arith, ints)
+
+one_further : (v : ℤ) (n : ℕ) → v +ℤ pos (suc n) ≡ (v +ℤ pos 1) +ℤ pos n
+one_further v n = omega (arith, ints)
+
+module _ (rs : List PlainRecord) (procedure : ℕ) (arguments : List ℤ) (counted : ℕ) where
+  pub leaves_are : (v : ℤ) (ps : List ℕ) (xs : List PlainRecord) → AreLeaves rs procedure arguments counted v ps xs → at_places rs ps ≡ xs
+  leaves_are v [] [] h = refl
+  leaves_are v [] (x ∷ xs) h = absurd h
+  leaves_are v (p ∷ ps) [] h = absurd h
+  leaves_are v (p ∷ ps) (x ∷ xs) h = ap (λ o. got_before o (at_places rs ps)) h.0.there ∙ ap (λ ys. x ∷ ys) (leaves_are (v +ℤ pos 1) ps xs h.1)
+
+  pub leaves_count : (v : ℤ) (ps : List ℕ) (xs : List PlainRecord) → AreLeaves rs procedure arguments counted v ps xs → length ps ≡ length xs
+  leaves_count v [] [] h = refl
+  leaves_count v [] (x ∷ xs) h = absurd h
+  leaves_count v (p ∷ ps) [] h = absurd h
+  leaves_count v (p ∷ ps) (x ∷ xs) h = ap suc (leaves_count (v +ℤ pos 1) ps xs h.1)
+
+  pub leaves_append : (v : ℤ) (ps qs : List ℕ) (xs ys : List PlainRecord) → AreLeaves rs procedure arguments counted v ps xs → AreLeaves rs procedure arguments counted (v +ℤ pos (length ps)) qs ys
+      → AreLeaves rs procedure arguments counted v (ps ++ qs) (xs ++ ys)
+  leaves_append v [] qs [] ys h g = subst (λ z. AreLeaves rs procedure arguments counted z qs ys) (no_further v) g
+  leaves_append v [] qs (x ∷ xs) ys h g = absurd h
+  leaves_append v (p ∷ ps) qs [] ys h g = absurd h
+  leaves_append v (p ∷ ps) qs (x ∷ xs) ys h g =
+      (h.0, leaves_append (v +ℤ pos 1) ps qs xs ys h.1 (subst (λ z. AreLeaves rs procedure arguments counted z qs ys) (one_further v (length ps)) g))
+
+-- the same with other arguments, where these are the same but for the counted one
+pub leaves_moved : (rs : List PlainRecord) (f g : ℕ) (a b : List ℤ) (counted : ℕ) (v : ℤ) (ps : List ℕ) (xs : List PlainRecord) → f ≡ g → ((z : ℤ) → slice_set a counted z ≡ slice_set b counted z)
+    → AreLeaves rs f a counted v ps xs → AreLeaves rs g b counted v ps xs
+leaves_moved rs f g a b counted v [] [] e same h = tt
+leaves_moved rs f g a b counted v [] (x ∷ xs) e same h = absurd h
+leaves_moved rs f g a b counted v (p ∷ ps) [] e same h = absurd h
+leaves_moved rs f g a b counted v (p ∷ ps) (x ∷ xs) e same h =
+    (record { there = h.0.there; procedure_is = h.0.procedure_is ∙ e; arguments_are = h.0.arguments_are ∙ same v }, leaves_moved rs f g a b counted (v +ℤ pos 1) ps xs e same h.1)
+
+set_there : (xs : List ℤ) (i : ℕ) (v : ℤ) → i < length xs → slice_get (slice_set xs i v) i ≡ Some v
+set_there [] i v l = absurd (omega (arith, l))
+set_there (x ∷ xs) zero v l = refl
+set_there (x ∷ xs) (suc i) v l = set_there xs i v (omega (arith, l))
+
+got_within : (xs : List ℤ) (i : ℕ) (v : ℤ) → slice_get xs i ≡ Some v → i < length xs
+got_within [] i v e = absurd cc
+got_within (x ∷ xs) zero v e = omega arith
+got_within (x ∷ xs) (suc i) v e = let l : i < length xs = got_within xs i v e in omega (arith, l)
+
+-- where the first is of the row at a number, all are of the row from that number on
+part_are : (rs : List PlainRecord) (row : PlainRow) (v : ℤ) (f : ℕ) (args : List ℤ) (u : ℤ) (ps : List ℕ) (xs : List PlainRecord) (place : ℕ) (it : PlainRecord)
+    → row.counted < length row.arguments → slice_get args row.counted ≡ Some u → slice_get ps 0 ≡ Some place
+    → slice_get rs place ≡ Some it → it.procedure ≡ row.procedure → it.arguments ≡ slice_set row.arguments row.counted v
+    → AreLeaves rs f args row.counted u ps xs → AreLeaves rs row.procedure row.arguments row.counted v ps xs
+part_are rs row v f args u [] xs place it w g b t p a l = absurd cc
+part_are rs row v f args u (q ∷ qs) [] place it w g b t p a l = absurd l
+part_are rs row v f args u (q ∷ qs) (x ∷ xs) place it w g b t p a l =
+    let at : q ≡ place = cc (b) in
+    let found : Some x ≡ Some it = sym l.0.there ∙ ap (slice_get rs) at ∙ t in
+    let same : x ≡ it = cc (found) in
+    let procedures : f ≡ row.procedure = sym l.0.procedure_is ∙ ap (λ r. r.procedure) same ∙ p in
+    let keys : slice_set args row.counted u ≡ slice_set row.arguments row.counted v = sym l.0.arguments_are ∙ ap (λ r. r.arguments) same ∙ a in
+    let got : Some u ≡ Some v = sym (set_there args row.counted u (got_within args row.counted u g)) ∙ ap (λ zs. slice_get zs row.counted) keys ∙ set_there row.arguments row.counted v w in
+    let numbers : u ≡ v = cc (got) in
+    subst (λ z. AreLeaves rs row.procedure row.arguments row.counted z (q ∷ qs) (x ∷ xs)) numbers
+    (leaves_moved rs f row.procedure args row.arguments row.counted u (q ∷ qs) (x ∷ xs) procedures
+    (λ z. sym (set-set args row.counted u z) ∙ ap (λ zs. slice_set zs row.counted z) keys ∙ set-set row.arguments row.counted v z) l)
+
+-- ---- records in a row
+
+pub none_in_row : (rs : List PlainRecord) (row : PlainRow) (first : ℤ) → AreInRow rs row first []
+none_in_row rs row first = record { leaves = tt; standing = refl }
+
+moved_set : (row other : PlainRow) → ((z : ℤ) → moved_to row z ≡ moved_to other z) → (z : ℤ) → slice_set row.arguments row.counted z ≡ slice_set other.arguments row.counted z
+moved_set row other e z =
+    let counts : other.counted ≡ row.counted = ap (λ r. r.counted) (sym (e z)) in
+    ap (λ r. r.arguments) (e z) ∙ ap (λ n. slice_set other.arguments n z) counts
+
+-- the same of a row that has gone on
+pub in_row_moved : (rs : List PlainRecord) (row other : PlainRow) (first : ℤ) (ps : List ℕ) → ((z : ℤ) → moved_to row z ≡ moved_to other z) → AreInRow rs row first ps → AreInRow rs other first ps
+in_row_moved rs row other first ps e h =
+    let counts : row.counted ≡ other.counted = ap (λ r. r.counted) (e first) in
+    record {
+      leaves = subst (λ n. AreLeaves (map settled rs) other.procedure other.arguments n first ps (at_places (map settled rs) ps)) counts
+          (leaves_moved (map settled rs) row.procedure other.procedure row.arguments other.arguments row.counted first ps (at_places (map settled rs) ps) (ap (λ r. r.procedure) (e first)) (moved_set row other e) h.leaves);
+      standing = h.standing;
+    }
+
+-- the same of records that stand still
+pub in_row_still : (old new : List PlainRecord) (row : PlainRow) (first : ℤ) (ps : List ℕ) → map settled new ≡ map settled old → ((p : ℕ) → stands_at old p ≡ true → stands_at new p ≡ true)
+    → AreInRow old row first ps → AreInRow new row first ps
+in_row_still old new row first ps same kept h = record {
+  leaves = subst (λ rs. AreLeaves rs row.procedure row.arguments row.counted first ps (at_places rs ps)) (sym same) h.leaves;
+  standing = every_weaker (stands_at old) (stands_at new) ps kept h.standing;
+}
+
+every_more : (p : ℕ → Bool) (ps qs : List ℕ) → every p ps ≡ true → every p qs ≡ true → every p (ps ++ qs) ≡ true
+every_more p ps qs e f = every_append p ps qs ∙ both (every p ps) (every p qs) e f
+
+module _ (rs : List PlainRecord) (row : PlainRow) (first : ℤ) (ps : List ℕ) (h : AreInRow rs row first ps) where
+  -- more behind them
+  in_row_more : (qs : List ℕ) (xs : List PlainRecord) → AreLeaves (map settled rs) row.procedure row.arguments row.counted (first +ℤ pos (length ps)) qs xs → every (stands_at rs) qs ≡ true → AreInRow rs row first (ps ++ qs)
+  in_row_more qs xs l s = record {
+    leaves =
+        subst (AreLeaves (map settled rs) row.procedure row.arguments row.counted first (ps ++ qs))
+        (ap (λ ys. at_places (map settled rs) ps ++ ys) (sym (leaves_are (map settled rs) row.procedure row.arguments row.counted (first +ℤ pos (length ps)) qs xs l)) ∙ sym (at_more (map settled rs) ps qs))
+        (leaves_append (map settled rs) row.procedure row.arguments row.counted first ps qs (at_places (map settled rs) ps) xs h.leaves l);
+    standing = every_more (stands_at rs) ps qs h.standing s;
+  }
+
+  -- one record more
+  pub in_row_next : (place : ℕ) → IsThere rs (moved_to row (first +ℤ pos (length ps))) place → stands_at rs place ≡ true → AreInRow rs row first (ps ++ place ∷ [])
+  in_row_next place t s =
+      in_row_more (place ∷ []) (t.it ∷ []) (record { there = t.there; procedure_is = t.procedure_is; arguments_are = t.arguments_are }, tt) (both (stands_at rs place) true s refl)
+
+  pub row_count : length ps ≡ length (at_places (map settled rs) ps)
+  row_count = leaves_count (map settled rs) row.procedure row.arguments row.counted first ps (at_places (map settled rs) ps) h.leaves
+
+  -- a block of them
+  pub block_fits : (kinds : List Kind) (s : PlainRecord) (counted : ℕ) → counted ≡ row.counted → counted < length row.arguments → IsSumOf kinds (at_places (map settled rs) ps) s
+      → BlockFits kinds rs (record { places = ps; counted = counted; sum = s })
+  block_fits kinds s counted e within is = record {
+    procedure = row.procedure;
+    arguments = slice_set row.arguments counted first;
+    first = first;
+    first_is = set_there row.arguments counted first within;
+    leaves = at_places (map settled rs) ps;
+    are_leaves =
+        leaves_moved (map settled rs) row.procedure row.procedure row.arguments (slice_set row.arguments counted first) counted first ps (at_places (map settled rs) ps) refl
+        (λ z. sym (set-set row.arguments counted first z)) (subst (λ n. AreLeaves (map settled rs) row.procedure row.arguments n first ps (at_places (map settled rs) ps)) (sym e) h.leaves);
+    standing = h.standing;
+    sum_is = is;
+  }
+
+  -- a block more behind them
+  module _ (kinds : List Kind) (b : PlainBlock) (part : IsPart kinds rs (moved_to row (first +ℤ pos (length ps))) b) (within : row.counted < length row.arguments) where
+    part_leaves : AreLeaves (map settled rs) row.procedure row.arguments row.counted (first +ℤ pos (length ps)) b.places part.fits.leaves
+    part_leaves =
+        part_are (map settled rs) row (first +ℤ pos (length ps)) part.fits.procedure part.fits.arguments part.fits.first b.places part.fits.leaves part.first part.there.it within
+        (subst (λ n. slice_get part.fits.arguments n ≡ Some part.fits.first) part.counts part.fits.first_is) part.begins part.there.there part.there.procedure_is part.there.arguments_are
+        (subst (λ n. AreLeaves (map settled rs) part.fits.procedure part.fits.arguments n part.fits.first b.places part.fits.leaves) part.counts part.fits.are_leaves)
+
+    part_in_row : AreInRow rs row first (ps ++ b.places)
+    part_in_row = in_row_more b.places part.fits.leaves part_leaves part.fits.standing
+
+    part_summed : (s : PlainSum) → HasSummed kinds (at_places (map settled rs) ps) s → HasSummed kinds (at_places (map settled rs) (ps ++ b.places)) (added kinds s b.sum)
+    part_summed s m =
+        subst (λ xs. HasSummed kinds xs (added kinds s b.sum))
+        (ap (λ ys. at_places (map settled rs) ps ++ ys) (sym (leaves_are (map settled rs) row.procedure row.arguments row.counted (first +ℤ pos (length ps)) b.places part.fits.leaves part_leaves)) ∙ sym (at_more (map settled rs) ps b.places))
+        (one_part_more kinds (at_places (map settled rs) ps) part.fits.leaves s b.sum m part.fits.sum_is)
+
+pub moved_twice : (row : PlainRow) (n z : ℤ) → moved_to (moved_to row n) z ≡ moved_to row z
+moved_twice row n z = ap (λ (zs : List ℤ). record row { arguments = zs }) (set-set row.arguments row.counted n z)
+
+-- a record stays where it is
+pub still_there : (old new : List PlainRecord) (row : PlainRow) (place : ℕ) → map settled new ≡ map settled old → IsThere old row place → IsThere new row place
+still_there old new row place same h = record { it = h.it; there = ap (λ rs. slice_get rs place) same ∙ h.there; procedure_is = h.procedure_is; arguments_are = h.arguments_are }
+
+-- the next record of a row was found and stands
+pub next_stands : (old new : List PlainRecord) (row other : PlainRow) (first : ℤ) (ps more : List ℕ) (n place : ℕ) → map settled new ≡ map settled old → ((p : ℕ) → stands_at old p ≡ true → stands_at new p ≡ true)
+    → other ≡ moved_to row (first +ℤ pos n) → n ≡ length ps → IsThere new other place → stands_at new place ≡ true → more ≡ ps ++ place ∷ []
+    → AreInRow old row first ps → AreInRow new other first more
+next_stands old new row other first ps more n place same kept moved count there stand is h =
+    subst (AreInRow new other first) (sym is)
+    (in_row_moved new row other first (ps ++ place ∷ []) (λ z. sym (ap (λ r. moved_to r z) moved ∙ moved_twice row (first +ℤ pos n) z))
+    (in_row_next new row first ps (in_row_still old new row first ps same kept h) place (subst (λ r. IsThere new r place) (moved ∙ ap (λ m. moved_to row (first +ℤ pos m)) count) there) stand))
+
+-- it wasn't
+pub stopped_in_row : (old new : List PlainRecord) (row other : PlainRow) (first : ℤ) (ps : List ℕ) → map settled new ≡ map settled old → ((p : ℕ) → stands_at old p ≡ true → stands_at new p ≡ true)
+    → ((z : ℤ) → moved_to other z ≡ moved_to row z) → AreInRow old row first ps → AreInRow new other first ps
+stopped_in_row old new row other first ps same kept moved h = in_row_moved new row other first ps (λ z. sym (moved z)) (in_row_still old new row first ps same kept h)
+
+pub some_there : (rs : List PlainRecord) (row : PlainRow) (first : ℤ) (ps : List ℕ) → AreInRow rs row first ps → 1 < length ps → 0 < length (at_places (map settled rs) ps)
+some_there rs row first ps h l = let e : length ps ≡ length (at_places (map settled rs) ps) = row_count rs row first ps h in omega (arith, l, e)
+
+pub part_is : (kinds : List Kind) (rs : List PlainRecord) (row : PlainRow) (b : PlainBlock) (counted first : ℕ) → BlockFits kinds rs b → b.counted ≡ counted → counted ≡ row.counted → slice_get b.places 0 ≡ Some first
+    → IsThere rs row first → IsPart kinds rs row b
+part_is kinds rs row b counted first f c d g t = record { fits = f; counts = c ∙ d; first = first; begins = g; there = t }
+
+within_before : (row other : PlainRow) (v : ℤ) → other ≡ moved_to row v → other.counted < length other.arguments → row.counted < length row.arguments
+within_before row other v e l =
+    let m : row.counted < length (slice_set row.arguments row.counted v) = subst (λ (r : PlainRow). r.counted < length r.arguments) e l in
+    subst (λ n. row.counted < n) (length-set row.arguments row.counted v) m
+
+-- the next block of a row was found, and put behind the others
+module _ (rs : List PlainRecord) (row other : PlainRow) (first : ℤ) (ps more : List ℕ) (n : ℕ) (kinds : List Kind) (b : PlainBlock) (moved : other ≡ moved_to row (first +ℤ pos n)) (count : n ≡ length ps)
+    (part : IsPart kinds rs other b) (within : other.counted < length other.arguments) (is : more ≡ ps ++ b.places) (h : AreInRow rs row first ps) where
+  there : IsPart kinds rs (moved_to row (first +ℤ pos (length ps))) b
+  there = subst (λ r. IsPart kinds rs r b) (moved ∙ ap (λ m. moved_to row (first +ℤ pos m)) count) part
+
+  inside : row.counted < length row.arguments
+  inside = within_before row other (first +ℤ pos n) moved within
+
+  pub next_part : AreInRow rs other first more
+  next_part =
+      subst (AreInRow rs other first) (sym is)
+      (in_row_moved rs row other first (ps ++ b.places) (λ z. sym (ap (λ r. moved_to r z) moved ∙ moved_twice row (first +ℤ pos n) z)) (part_in_row rs row first ps h kinds b there inside))
+
+  pub next_summed : (s new : PlainSum) → new ≡ added kinds s b.sum → HasSummed kinds (at_places (map settled rs) ps) s → HasSummed kinds (at_places (map settled rs) more) new
+  next_summed s new e m =
+      subst (λ qs. HasSummed kinds (at_places (map settled rs) qs) new) (sym is)
+      (subst (HasSummed kinds (at_places (map settled rs) (ps ++ b.places))) (sym e) (part_summed rs row first ps h kinds b there inside s m))
+
+-- ---- the sum of records at places
+
+pub record_more : (kinds : List Kind) (rs : List PlainRecord) (ps : List ℕ) (i p d : ℕ) (s new : PlainSum) → HaveValues kinds rs → i < length ps → p ≡ get_or ps i d
+    → (slice_get rs p ≡ None → new ≡ s) → ((r : PlainRecord) → slice_get rs p ≡ Some r → new ≡ added kinds s r) → HasSummed kinds (at_places rs (take i ps)) s
+    → HasSummed kinds (at_places rs (take (i + 1) ps)) new
+record_more kinds rs ps i p d s new values l at none some h =
+    let next : take (i + 1) ps ≡ take i ps ++ p ∷ [] = take_more ps i d l ∙ ap (λ q. take i ps ++ q ∷ []) (sym at) in
+    subst (λ qs. HasSummed kinds (at_places rs qs) new) (sym next)
+    (subst (λ xs. HasSummed kinds xs new) (sym (at_more rs (take i ps) (p ∷ [])))
+    (elim (slice_get rs p) as (λ o. slice_get rs p ≡ o → HasSummed kinds (at_places rs (take i ps) ++ got_before o []) new) [
+      | None ↦ λ e. subst (λ xs. HasSummed kinds xs new) (sym (append-nil (at_places rs (take i ps)))) (subst (HasSummed kinds (at_places rs (take i ps))) (sym (none e)) h)
+      | Some r ↦ λ e. subst (HasSummed kinds (at_places rs (take i ps) ++ r ∷ [])) (sym (some r e)) (one_record_more kinds (at_places rs (take i ps)) s r (got_has (λ q. AreValuesFrom 0 kinds q.contribution) rs p r values e) h)
+    ] refl))
+
+-- the record made of the sum, where memory for it was there
+pub sum_over : {E : Type 0} (made : Result PlainRecord E) (kinds : List Kind) (rs : List PlainRecord) (ps : List ℕ) (i : ℕ) (s : PlainSum) → All IsMonoid kinds → HaveValues kinds rs → 0 < length (at_places rs ps) → length ps ≤ i
+    → HasSummed kinds (at_places rs (take i ps)) s → IfOk made (λ x. x ≡ summed s) → IfOk made (λ x. IsSumOf kinds (at_places rs ps) x)
+sum_over (Err e) kinds rs ps i s monoids values some over h is = tt
+sum_over (Ok x) kinds rs ps i s monoids values some over h is =
+    subst (IsSumOf kinds (at_places rs ps)) (sym is)
+    (sum_is kinds (at_places rs ps) s monoids (all_at (λ q. AreValuesFrom 0 kinds q.contribution) rs ps values) some (subst (λ qs. HasSummed kinds (at_places rs qs) s) (take_all i ps over) h))
+
+pub wide_sum : (kinds : List Kind) (rs : List PlainRecord) (row : PlainRow) (first : ℤ) (ps : List ℕ) (s : PlainSum) → All IsMonoid kinds → HaveValues kinds rs → AreInRow rs row first ps → 0 < length ps
+    → HasSummed kinds (at_places (map settled rs) ps) s → IsSumOf kinds (at_places (map settled rs) ps) (summed s)
+wide_sum kinds rs row first ps s monoids values in_row some h =
+    sum_is kinds (at_places (map settled rs) ps) s monoids (all_at (λ q. AreValuesFrom 0 kinds q.contribution) (map settled rs) ps (values_settled kinds rs values))
+    (subst (λ n. 0 < n) (row_count rs row first ps in_row) some) h
+
+-- ---- what a commit and the gathering behind it leave
+
+pub still_named : (program : PlainChecked) (old made mid new : List PlainRecord) → map settled new ≡ map settled mid → CommitsNamed program old made mid → CommitsNamed program old made new
+still_named program old made mid new e h ks js a b = same_but_doubts (revised_of program) program.tables program.kinds (committed ks js) mid new e (h ks js a b)
+
+pub still_values : (old made mid new : List PlainRecord) → map settled new ≡ map settled mid → ((kinds : List Kind) → HaveValues kinds old → HaveValues kinds made → HaveValues kinds mid)
+    → (kinds : List Kind) → HaveValues kinds old → HaveValues kinds made → HaveValues kinds new
+still_values old made mid new e h kinds a b = same_values kinds mid new e (h kinds a b)

@@ -1,0 +1,216 @@
+-- A sum of records, made one record after another, and the sum of sums.
+use Rattle.std.proofs.Common.{◌≡◌, ℕ, zero, suc, ◌<◌, ℤ, true, false, cond, List, [], ◌∷◌, ◌++◌, length, All, Contains, ⊎_elim, refl, sym, ap, ◌∙◌, subst, arith, append_assoc, map, get_or, set}
+use Rattle.std.specs.Prelude.{max, nat_eq, slice_get, slice_set, Some, ◌||◌}
+use Rattle.std.specs.List.{flat_map, list_any}
+use Rattle.std.proofs.lemmas.List.{append-nil, get_or-map, length-map, map-append, map-set}
+use Rattle.std.proofs.lemmas.Grind.{flat_map-append}
+use Rattle.std.proofs.Math.Seq.{set-append_seam}
+use Rattle.std.proofs.lemmas.List.Elements.{All-head, All-tail, Contains-append_left, Contains-append_right, Contains-append_cases}
+use Rattle.std.proofs.lemmas.Bool.Decides.{Decides-eqb}
+use Rattle.monoid_laws.specs.declared.Kind.{Kind}
+use Rattle.monoid_laws.specs.declared.Val.{Val}
+use Rattle.monoid_laws.specs.Worth.{Worth}
+use Rattle.monoid_laws.specs.Kinds.{meaning, operate, operate_all, identities, AreWorths, IsWorth, IsMonoid}
+use Rattle.monoid_laws.proofs.Rows.{operate_all_identities, operate_all_assoc, operate_all_right, AreWorths-at, AreWorths-identities}
+use Rattle.rerun_records.specs.Record.{PlainRecord, touched}
+use Rattle.rerun_records.specs.Named.{filled, SameMembers, IsValueAt, AreValuesFrom, HaveValues}
+use Rattle.rerun_records.specs.Sums.{IsSumOf, contributed, highest, arguments_of_last}
+use Rattle.gathered_records.specs.Summing.{PlainSum, same_entry, put_entry, put_entries, numbered_from, summed, nothing_summed, added, HasSummed}
+use Rattle.rerun_records.proofs.Absorbed.{each, same_at, filled_right}
+use Rattle.rerun_records.proofs.Members.{left_is, right_is}
+use Rattle.rerun_records.proofs.Singles.{sum_of_one}
+
+-- ---- lists with the same members
+
+pub members_same : {A : Type 0} (xs ys : List A) → xs ≡ ys → SameMembers xs ys
+members_same xs ys e = subst (SameMembers xs) e (λ x. (λ c. c, λ c. c))
+
+pub members_then : {A : Type 0} (xs ys zs : List A) → SameMembers xs ys → SameMembers ys zs → SameMembers xs zs
+members_then xs ys zs f g x = (λ c. (g x).0 ((f x).0 c), λ c. (f x).1 ((g x).1 c))
+
+appended_in : {A : Type 0} (xs ys zs ws : List A) (x : A) → (Contains xs x → Contains ys x) → (Contains zs x → Contains ws x) → Contains (xs ++ zs) x → Contains (ys ++ ws) x
+appended_in xs ys zs ws x f g c = ⊎_elim (λ i. Contains-append_left ys ws x (f i)) (λ i. Contains-append_right ys ws x (g i)) (Contains-append_cases xs zs x c)
+
+pub members_append : {A : Type 0} (xs ys zs ws : List A) → SameMembers xs ys → SameMembers zs ws → SameMembers (xs ++ zs) (ys ++ ws)
+members_append xs ys zs ws f g x = (appended_in xs ys zs ws x (f x).0 (g x).0, appended_in ys xs ws zs x (f x).1 (g x).1)
+
+-- ---- entries, each once
+
+same_is : (e d : ℕ × ℕ) → same_entry e d ≡ true → e ≡ d
+same_is e d h =
+    let p : e.0 ≡ d.0 = (Decides-eqb e.0 d.0).0 (left_is (nat_eq e.0 d.0) (nat_eq e.1 d.1) h) in
+    let q : e.1 ≡ d.1 = (Decides-eqb e.1 d.1).0 (right_is (nat_eq e.0 d.0) (nat_eq e.1 d.1) h) in
+    ap (λ i. (i, e.1)) p ∙ ap (λ j. (d.0, j)) q
+
+there : (e : ℕ × ℕ) (es : List (ℕ × ℕ)) → list_any (same_entry e) es ≡ true → Contains es e
+there e [] h = absurd cc
+there e (d ∷ es) h =
+    elim (same_entry e d) as (λ b. same_entry e d ≡ b → b || list_any (same_entry e) es ≡ true → Contains (d ∷ es) e) [
+      | true ↦ λ s o. (0, omega arith, sym (same_is e d s))
+      | false ↦ λ s o. (let c : Contains es e = there e es o in (suc c.0, omega (arith, c.1), c.2))
+    ] refl h
+
+only_there : (e x : ℕ × ℕ) (es : List (ℕ × ℕ)) → Contains es e → Contains (e ∷ []) x → Contains es x
+only_there e x es h (zero, l, q) = subst (Contains es) q h
+only_there e x es h (suc i, l, q) = absurd (omega (arith, l))
+
+put_members : (es : List (ℕ × ℕ)) (e : ℕ × ℕ) → SameMembers (put_entry es e) (es ++ e ∷ [])
+put_members es e =
+    elim (list_any (same_entry e) es) as (λ b. list_any (same_entry e) es ≡ b → SameMembers (cond b es (es ++ e ∷ [])) (es ++ e ∷ [])) [
+      | true ↦ λ h x. (Contains-append_left es (e ∷ []) x, λ c. ⊎_elim (λ i. i) (λ i. only_there e x es (there e es h) i) (Contains-append_cases es (e ∷ []) x c))
+      | false ↦ λ h. members_same (es ++ e ∷ []) (es ++ e ∷ []) refl
+    ] refl
+
+pub entries_members : (es ds : List (ℕ × ℕ)) → SameMembers (put_entries es ds) (es ++ ds)
+entries_members es [] = members_same es (es ++ []) (sym (append-nil es))
+entries_members es (d ∷ ds) =
+    members_then (put_entries (put_entry es d) ds) (put_entry es d ++ ds) (es ++ d ∷ ds) (entries_members (put_entry es d) ds)
+    (members_then (put_entry es d ++ ds) ((es ++ d ∷ []) ++ ds) (es ++ d ∷ ds)
+    (members_append (put_entry es d) (es ++ d ∷ []) ds ds (put_members es d) (members_same ds ds refl))
+    (members_same ((es ++ d ∷ []) ++ ds) (es ++ d ∷ ds) (append_assoc es (d ∷ []) ds)))
+
+-- ---- the values of all reducers
+
+module _ (kinds : List Kind) where
+  -- the values that a record gives
+  abbrev pub given : PlainRecord → List Worth
+  given r = filled (identities kinds) r.contribution
+
+  pub given_right : (r : PlainRecord) → AreValuesFrom 0 kinds r.contribution → AreWorths kinds (given r)
+  given_right r v = filled_right 0 kinds (identities kinds) r.contribution (AreWorths-identities kinds) v
+
+  -- values that are there go before
+  pub contributed_behind : (ws vs : List Worth) (rs : List PlainRecord) → All IsMonoid kinds → AreWorths kinds ws → AreWorths kinds vs → HaveValues kinds rs
+      → operate_all kinds ws (contributed kinds vs rs) ≡ contributed kinds (operate_all kinds ws vs) rs
+  contributed_behind ws vs [] m a b v = refl
+  contributed_behind ws vs (r ∷ rs) m a b v =
+      let g : AreWorths kinds (given r) = given_right r (All-head (λ q. AreValuesFrom 0 kinds q.contribution) r rs v) in
+      contributed_behind ws (operate_all kinds vs (given r)) rs m a (operate_all_right kinds vs (given r) b g) (All-tail (λ q. AreValuesFrom 0 kinds q.contribution) r rs v)
+      ∙ ap (λ us. contributed kinds us rs) (sym (operate_all_assoc kinds ws vs (given r) m a b g))
+
+-- ---- all values with their reducers' numbers
+
+length_behind : {A : Type 0} (before : List A) (x : A) (i : ℕ) → i ≡ length before → suc i ≡ length (before ++ x ∷ [])
+length_behind [] x i e = ap suc e
+length_behind (b ∷ before) x i e = rw e (ap suc (length_behind before x (length before) refl))
+
+put_there : {A : Type 0} (before : List A) (x y : A) (xs : List A) (i : ℕ) → i ≡ length before → slice_set (before ++ x ∷ xs) i y ≡ (before ++ y ∷ []) ++ xs
+put_there before x y xs i e = rw e (set-append_seam before x xs y ∙ sym (append_assoc before (y ∷ []) xs))
+
+got_there : {A : Type 0} (before : List A) (x : A) (xs : List A) (i : ℕ) → i ≡ length before → slice_get (before ++ x ∷ xs) i ≡ Some x
+got_there [] x xs i e = rw e refl
+got_there (b ∷ before) x xs i e = rw e (got_there before x xs (length before) refl)
+
+all_filled : (before us ws : List Worth) (i : ℕ) → i ≡ length before → length us ≡ length ws → filled (before ++ us) (numbered_from i ws) ≡ before ++ ws
+all_filled before [] [] i e l = refl
+all_filled before [] (w ∷ ws) i e l = absurd (omega (arith, l))
+all_filled before (u ∷ us) [] i e l = absurd (omega (arith, l))
+all_filled before (u ∷ us) (w ∷ ws) i e l =
+    ap (λ acc. filled acc (numbered_from (suc i) ws)) (put_there before u w us i e)
+    ∙ all_filled (before ++ w ∷ []) us ws (suc i) (length_behind before w i e) (omega (arith, l))
+    ∙ append_assoc before (w ∷ []) ws
+
+numbered_values : (before ks : List Kind) (i : ℕ) (ws : List Worth) → i ≡ length before → AreWorths ks ws → AreValuesFrom i (before ++ ks) (numbered_from i ws)
+numbered_values before [] i [] e a = tt
+numbered_values before [] i (w ∷ ws) e a = absurd a
+numbered_values before (k ∷ ks) i [] e a = absurd a
+numbered_values before (k ∷ ks) i (w ∷ ws) e a = (
+  omega arith,
+  subst (λ o. IsValueAt o w) (sym (got_there before k ks i e)) a.0,
+  subst (λ all. AreValuesFrom (suc i) all (numbered_from (suc i) ws)) (append_assoc before (k ∷ []) ks)
+      (numbered_values (before ++ k ∷ []) ks (suc i) ws (length_behind before k i e) a.1),
+)
+
+identities_length : (ks : List Kind) → length (identities ks) ≡ length ks
+identities_length [] = refl
+identities_length (k ∷ ks) = ap suc (identities_length ks)
+
+-- one more value with its number
+pub numbered_next : (es new : List (ℕ × Val)) (vs rest : List Val) (v : Val) (total : List (ℕ × Worth))
+    → map touched es ++ numbered_from (length es) (map meaning vs) ≡ total → vs ≡ v ∷ rest → new ≡ es ++ (length es, v) ∷ []
+    → map touched new ++ numbered_from (length new) (map meaning rest) ≡ total
+numbered_next es new vs rest v total so_far is more =
+    let long : length new ≡ suc (length es) = ap length more ∙ sym (length_behind es (length es, v) (length es) refl) in
+    ap (λ n. map touched new ++ numbered_from n (map meaning rest)) long
+    ∙ ap (λ ds. map touched ds ++ numbered_from (suc (length es)) (map meaning rest)) more
+    ∙ ap (λ ds. ds ++ numbered_from (suc (length es)) (map meaning rest)) (map-append touched es ((length es, v) ∷ []))
+    ∙ append_assoc (map touched es) ((length es, meaning v) ∷ []) (numbered_from (suc (length es)) (map meaning rest))
+    ∙ ap (λ us. map touched es ++ numbered_from (length es) (map meaning us)) (sym is)
+    ∙ so_far
+
+-- ---- a value combined with that of its reducer
+
+mapped_at : {A B : Type 0} (f : A → B) (xs : List A) (i : ℕ) (x : A) → i < length xs → x ≡ get_or xs i x → f x ≡ get_or (map f xs) i (f x)
+mapped_at f xs i x l e = ap f e ∙ sym (get_or-map f xs i x (f x) l)
+
+module _ (ks : List Kind) (vs : List Val) (i : ℕ) (are : AreWorths ks (map meaning vs)) (within : i < length ks) where
+  pub held_within : i < length vs
+  held_within = let e : length ks ≡ length vs = each ks (map meaning vs) are ∙ length-map vs meaning in subst (λ n. i < n) e within
+
+  module _ (k : Kind) (v : Val) (at_k : k ≡ get_or ks i k) (at_v : v ≡ get_or vs i v) where
+    held_at : meaning v ≡ get_or (map meaning vs) i (meaning v)
+    held_at = mapped_at meaning vs i v held_within at_v
+
+    pub held_right : IsWorth k (meaning v)
+    held_right = AreWorths-at ks (map meaning vs) i k (meaning v) are within at_k held_at
+
+    pub put_back : (new : Val) (w : Worth) (c : Kind) (x : Worth) → c ≡ get_or ks i c → x ≡ get_or (map meaning vs) i x → meaning new ≡ operate k (meaning v) w
+        → map meaning (set vs i new) ≡ set (map meaning vs) i (operate c x w)
+    put_back new w c x at_c at_x e =
+        let same_kind : k ≡ c = same_at ks i k c within at_k at_c in
+        let same_worth : meaning v ≡ x = same_at (map meaning vs) i (meaning v) x (subst (λ n. i < n) (each ks (map meaning vs) are) within) held_at at_x in
+        map-set meaning vs i new ∙ ap (set (map meaning vs) i) (e ∙ ap (λ d. operate d (meaning v) w) same_kind ∙ ap (λ y. operate c y w) same_worth)
+
+-- ---- what is made of records one after another
+
+max_assoc : (a b c : ℕ) → max (max a b) c ≡ max a (max b c)
+max_assoc a b c = omega arith
+
+height_append : (rs ss : List PlainRecord) → highest (rs ++ ss) ≡ max (highest rs) (highest ss)
+height_append [] ss = omega arith
+height_append (r ∷ rs) ss = ap (max r.height) (height_append rs ss) ∙ sym (max_assoc r.height (highest rs) (highest ss))
+
+last_append : (vs : List ℤ) (rs ss : List PlainRecord) → arguments_of_last vs (rs ++ ss) ≡ arguments_of_last (arguments_of_last vs rs) ss
+last_append vs [] ss = refl
+last_append vs (r ∷ rs) ss = last_append r.arguments rs ss
+
+module _ (kinds : List Kind) where
+  contributed_append : (ws : List Worth) (rs ss : List PlainRecord) → contributed kinds ws (rs ++ ss) ≡ contributed kinds (contributed kinds ws rs) ss
+  contributed_append ws [] ss = refl
+  contributed_append ws (r ∷ rs) ss = contributed_append (operate_all kinds ws (filled (identities kinds) r.contribution)) rs ss
+
+  pub nothing_summed_so : HasSummed kinds [] (nothing_summed kinds)
+  nothing_summed_so = record { worths = refl; right = AreWorths-identities kinds; reads = refl; entered = members_same [] [] refl; height = refl; arguments = refl }
+
+  -- one part more, which is the sum of some records
+  pub one_part_more : (rs qs : List PlainRecord) (s : PlainSum) (part : PlainRecord) → HasSummed kinds rs s → IsSumOf kinds qs part → HasSummed kinds (rs ++ qs) (added kinds s part)
+  one_part_more rs qs s part h is = record {
+    worths = is.worths s.worths h.right ∙ ap (λ ws. contributed kinds ws qs) h.worths ∙ sym (contributed_append (identities kinds) rs qs);
+    right = operate_all_right kinds s.worths (given kinds part) h.right (given_right kinds part is.values);
+    reads = ap (λ ns. ns ++ part.reads) h.reads ∙ ap (λ ns. flat_map (λ r. r.reads) rs ++ ns) is.reads ∙ sym (flat_map-append (λ r. r.reads) rs qs);
+    entered =
+        members_then (put_entries s.entered part.entered) (s.entered ++ part.entered) (flat_map (λ r. r.entered) (rs ++ qs)) (entries_members s.entered part.entered)
+        (members_then (s.entered ++ part.entered) (flat_map (λ r. r.entered) rs ++ flat_map (λ r. r.entered) qs) (flat_map (λ r. r.entered) (rs ++ qs))
+        (members_append s.entered (flat_map (λ r. r.entered) rs) part.entered (flat_map (λ r. r.entered) qs) h.entered is.entered)
+        (members_same (flat_map (λ r. r.entered) rs ++ flat_map (λ r. r.entered) qs) (flat_map (λ r. r.entered) (rs ++ qs)) (sym (flat_map-append (λ r. r.entered) rs qs))));
+    height = ap (λ n. max n part.height) h.height ∙ ap (max (highest rs)) is.height ∙ sym (height_append rs qs);
+    arguments = sym (last_append [] rs qs ∙ is.arguments (arguments_of_last [] rs));
+  }
+
+  pub one_record_more : (rs : List PlainRecord) (s : PlainSum) (r : PlainRecord) → AreValuesFrom 0 kinds r.contribution → HasSummed kinds rs s → HasSummed kinds (rs ++ r ∷ []) (added kinds s r)
+  one_record_more rs s r v h = one_part_more rs (r ∷ []) s r h (sum_of_one kinds r v)
+
+  -- the record of the sum of some records
+  pub sum_is : (rs : List PlainRecord) (s : PlainSum) → All IsMonoid kinds → HaveValues kinds rs → 0 < length rs → HasSummed kinds rs s → IsSumOf kinds rs (summed s)
+  sum_is [] s monoids v l h = absurd (omega (arith, l))
+  sum_is (r ∷ rs) s monoids v l h = record {
+    worths = λ ws are.
+        ap (operate_all kinds ws) (all_filled [] (identities kinds) s.worths 0 refl (identities_length kinds ∙ each kinds s.worths h.right) ∙ h.worths)
+        ∙ contributed_behind kinds ws (identities kinds) (r ∷ rs) monoids are (AreWorths-identities kinds) v
+        ∙ ap (λ us. contributed kinds us (r ∷ rs)) (operate_all_identities kinds ws monoids are);
+    values = numbered_values [] kinds 0 s.worths refl h.right;
+    reads = h.reads;
+    entered = h.entered;
+    height = h.height;
+    arguments = λ vs. sym h.arguments;
+  }

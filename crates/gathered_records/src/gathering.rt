@@ -1,0 +1,413 @@
+//! Records in a row are gathered into blocks, so that what they have together answers them all.
+ghost use Rattle.std.specs.Prelude.{◌≡◌, ◌+ℤ◌, ℕ, ℤ, pos, true, List, IfOk, OnOk, OnErr, OnSome, IfSome, All, map};
+ghost use Rattle.monoid_laws.specs.declared.Kind.{Kind as PlainKind};
+ghost use Rattle.monoid_laws.specs.Kinds.{IsMonoid};
+ghost use Rattle.rerun_records.specs.Record.{settled};
+ghost use Rattle.rerun_records.specs.Commits.{put_records};
+ghost use Rattle.rerun_records.specs.Doubted.{IsInStep, ReadNow};
+ghost use Rattle.rerun_records.specs.Named.{HaveValues, CommitsNamed};
+ghost use Rattle.rerun_records.specs.Blocks.{stands_at};
+ghost use Rattle.gathered_records.specs.Gathering.{moved_to, IsThere, AreInRow};
+
+use crate::row::Row;
+use crate::sums::sum_at;
+use crate::tried::Tried;
+use crate::widening::widen_at;
+use input_tables::Tables;
+use linked_program::checked::Checked;
+use monoid_laws::Kind;
+use rerun_records::block::Block;
+use rerun_records::blocks::Width;
+use rerun_records::record::Record;
+use rerun_records::records::Records;
+use std::alloc::{AllocError, Global};
+
+/// A block begins at a multiple of its width or behind it, and ends before the next: so blocks of one width never lie across
+/// each other.
+pub(crate) const FINE: u64 = 16;
+
+/// Puts records in as `commit` does, and then makes blocks of those in a row.
+pub fn keep(
+    records: &mut Records,
+    made: Vec<Record>,
+    tables: &Tables,
+    program: &Checked,
+) -> Result<(), AllocError>
+    requires in_step { IsInStep tables.now.tables records.old }
+    requires read_now { ReadNow tables.now.tables made.items }
+    requires monoids { All IsMonoid program.now.kinds }
+    requires values { HaveValues program.now.kinds records.old }
+    requires made_values { HaveValues program.now.kinds made.items }
+    ensures committed { OnOk result
+        (map settled records.new ≡ put_records (map settled records.old) made.items) }
+    ensures in_step { OnOk result (IsInStep tables.now.tables records.new) }
+    ensures named { OnOk result (CommitsNamed program.now records.old made.items records.new) }
+    ensures values { OnOk result ((kinds : List PlainKind) → HaveValues kinds records.old
+        → HaveValues kinds made.items → HaveValues kinds records.new) }
+    ensures same { OnErr result (records.new ≡ records.old) }
+{
+    let alloc = *made.allocator();
+    records.commit(made, tables, program)?;
+    gather(records, alloc, tables, program);
+    Ok(())
+}
+
+// Makes blocks of records in a row that stand, as many as there is memory for: of those at the places that were put in, or
+// whose blocks were dropped, since it was done last. Nothing that can be told of the records changes but what is in doubt.
+fn gather(records: &mut Records, alloc: Global, tables: &Tables, program: &Checked)
+    requires in_step { IsInStep tables.now.tables records.old }
+    requires monoids { All IsMonoid program.now.kinds }
+    requires values { HaveValues program.now.kinds records.old }
+    ensures in_step { IsInStep tables.now.tables records.new }
+    ensures same { map settled records.new ≡ map settled records.old }
+{
+    let are_all = records.are_all_due();
+    let listed = records.take_due(alloc);
+    let _ = gather_due(records, alloc, are_all, &listed, tables, program);
+}
+
+// The same of all records, or of those at these places.
+fn gather_due(
+    records: &mut Records,
+    alloc: Global,
+    are_all: bool,
+    places: &[u32],
+    tables: &Tables,
+    program: &Checked,
+) -> Result<(), AllocError>
+    requires in_step { IsInStep tables.now.tables records.old }
+    requires monoids { All IsMonoid program.now.kinds }
+    requires values { HaveValues program.now.kinds records.old }
+    ensures in_step { IsInStep tables.now.tables records.new }
+    ensures same { map settled records.new ≡ map settled records.old }
+{
+    if are_all {
+        gather_all(records, alloc, tables, program)
+    } else {
+        gather_these(records, alloc, places, tables, program)
+    }
+}
+
+// The same of all records.
+fn gather_all(
+    records: &mut Records,
+    alloc: Global,
+    tables: &Tables,
+    program: &Checked,
+) -> Result<(), AllocError>
+    requires in_step { IsInStep tables.now.tables records.old }
+    requires monoids { All IsMonoid program.now.kinds }
+    requires values { HaveValues program.now.kinds records.old }
+    ensures in_step { IsInStep tables.now.tables records.new }
+    ensures same { map settled records.new ≡ map settled records.old }
+{
+    let all = places_to(alloc, records.len())?;
+    gather_these(records, alloc, &all, tables, program)
+}
+
+// The same of those at these places: first into fine blocks, then these into wider ones.
+#[tactic(auto, using(rerun_records::proofs::Puts::same_values))]
+fn gather_these(
+    records: &mut Records,
+    alloc: Global,
+    places: &[u32],
+    tables: &Tables,
+    program: &Checked,
+) -> Result<(), AllocError>
+    requires in_step { IsInStep tables.now.tables records.old }
+    requires monoids { All IsMonoid program.now.kinds }
+    requires values { HaveValues program.now.kinds records.old }
+    ensures in_step { IsInStep tables.now.tables records.new }
+    ensures same { map settled records.new ≡ map settled records.old }
+{
+    make_fine(records, alloc, places, tables, program)?;
+    make_wider(records, alloc, Width::Middle, places, program)?;
+    make_wider(records, alloc, Width::Wide, places, program)
+}
+
+// Makes fine blocks that have the records at these places as part.
+#[tactic(auto, using(rerun_records::proofs::Puts::same_values))]
+fn make_fine(
+    records: &mut Records,
+    alloc: Global,
+    places: &[u32],
+    tables: &Tables,
+    program: &Checked,
+) -> Result<(), AllocError>
+    requires in_step { IsInStep tables.now.tables records.old }
+    requires monoids { All IsMonoid program.now.kinds }
+    requires values { HaveValues program.now.kinds records.old }
+    ensures in_step { IsInStep tables.now.tables records.new }
+    ensures same { map settled records.new ≡ map settled records.old }
+{
+    let mut tried = Tried::new(alloc, records.len())?;
+    for place in places {
+        gather_at(records, alloc, *place as usize, &mut tried, tables, program);
+    }
+    Ok(())
+}
+
+// Makes blocks of that width that have the records at these places as part.
+fn make_wider(
+    records: &mut Records,
+    alloc: Global,
+    width: Width,
+    places: &[u32],
+    program: &Checked,
+) -> Result<(), AllocError>
+    requires monoids { All IsMonoid program.now.kinds }
+    requires values { HaveValues program.now.kinds records.old }
+    ensures same { records.new ≡ records.old }
+{
+    let mut tried = Tried::new(alloc, records.len())?;
+    for place in places {
+        widen_at(records, alloc, width, *place as usize, &mut tried, program);
+    }
+    Ok(())
+}
+
+// Makes a fine block that has the record at that place as part, where there is none and that wasn't tried.
+#[tactic(auto, using(rerun_records::proofs::Puts::same_values))]
+fn gather_at(
+    records: &mut Records,
+    alloc: Global,
+    place: usize,
+    tried: &mut Tried,
+    tables: &Tables,
+    program: &Checked,
+)
+    requires in_step { IsInStep tables.now.tables records.old }
+    requires monoids { All IsMonoid program.now.kinds }
+    requires values { HaveValues program.now.kinds records.old }
+    ensures in_step { IsInStep tables.now.tables records.new }
+    ensures same { map settled records.new ≡ map settled records.old }
+{
+    if tried.has(place) || has_block(records, Width::Fine, place, program.kinds()) {
+        return;
+    }
+    tried.put(place);
+    match row_at(records, alloc, place) {
+        Ok(Some(mut row)) => {
+            let _ = gather_row(records, alloc, &mut row, tried, tables, program);
+        }
+        _ => {}
+    }
+}
+
+// Makes a fine block of the records in that row.
+#[tactic(auto, using(rerun_records::proofs::Puts::same_values))]
+fn gather_row(
+    records: &mut Records,
+    alloc: Global,
+    row: &mut Row,
+    tried: &mut Tried,
+    tables: &Tables,
+    program: &Checked,
+) -> Result<(), AllocError>
+    requires in_step { IsInStep tables.now.tables records.old }
+    requires monoids { All IsMonoid program.now.kinds }
+    requires values { HaveValues program.now.kinds records.old }
+    ensures in_step { IsInStep tables.now.tables records.new }
+    ensures same { map settled records.new ≡ map settled records.old }
+{
+    let first = lowest(records, row);
+    let places = stand_in_row(records, alloc, row, first, tables)?;
+    tried.put_all(&places);
+    if places.len() < 2 {
+        return Ok(());
+    }
+    let sum = sum_at(alloc, program.kinds(), records.as_slice(), &places)?;
+    let block = Block::new(places, row.counted(), sum);
+    records.add_block(alloc, Width::Fine, program.kinds(), block)
+}
+
+// The least number from which on there are records in the row up to where it is, within a fine block's bounds.
+fn lowest(records: &Records, row: &mut Row) -> i64 {
+    let mut first = row.number();
+    for _ in 0..first.cast_unsigned() % FINE {
+        let Some(lower) = first.checked_sub(1) else {
+            return first;
+        };
+        row.go_to(lower);
+        if find_row(records, row).is_none() {
+            return first;
+        }
+        first = lower;
+    }
+    first
+}
+
+// The places of the records in a row from that number on that stand, within a fine block's bounds.
+fn stand_in_row(
+    records: &mut Records,
+    alloc: Global,
+    row: &mut Row,
+    first: i64,
+    tables: &Tables,
+) -> Result<Vec<u32>, AllocError>
+    requires in_step { IsInStep tables.now.tables records.old }
+    ensures in_step { IsInStep tables.now.tables records.new }
+    ensures same { map settled records.new ≡ map settled records.old }
+    ensures row { IfOk result (λ places. AreInRow records.new row.new first places.items) }
+{
+    let mut places = Vec::new(alloc);
+    for _ in (first.cast_unsigned() % FINE)..FINE {
+        match stand_next(records, row, first, places.len(), tables) {
+            Some(place) => places.push(place)?,
+            None => return Ok(places),
+        }
+    }
+    Ok(places)
+}
+
+// The place of the record so many further in the row, where there is one and it stands.
+#[tactic(auto, using(crate::proofs::Rows::still_there))]
+fn stand_next(
+    records: &mut Records,
+    row: &mut Row,
+    first: i64,
+    step: usize,
+    tables: &Tables,
+) -> Option<u32>
+    requires in_step { IsInStep tables.now.tables records.old }
+    ensures in_step { IsInStep tables.now.tables records.new }
+    ensures same { map settled records.new ≡ map settled records.old }
+    ensures kept { (p : ℕ) → stands_at records.old p ≡ true → stands_at records.new p ≡ true }
+    ensures row { (z : ℤ) → moved_to row.new z ≡ moved_to row.old z }
+    ensures there { IfSome result (λ place. IsThere records.new row.new place) }
+    ensures moved { OnSome result (row.new ≡ moved_to row.old (first +ℤ pos step)) }
+    ensures stands { IfSome result (λ place. stands_at records.new place ≡ true) }
+{
+    if !go_on(row, first, step) {
+        return None;
+    }
+    let place = find_row(records, row)?;
+    if records.stand_now(place as usize, tables) {
+        Some(place)
+    } else {
+        None
+    }
+}
+
+// The place of the record of the row's instance.
+pub(crate) fn find_row(records: &Records, row: &Row) -> Option<u32>
+    ensures there { IfSome result (λ place. IsThere records.now row.now place) }
+{
+    match records.place_of(row.procedure(), row.arguments()) {
+        Some((place, _)) => match u32::try_from(place) {
+            Ok(place) => Some(place),
+            Err(_) => None,
+        },
+        None => None,
+    }
+}
+
+// The row of the record at that place.
+fn row_at(records: &Records, alloc: Global, place: usize) -> Result<Option<Row>, AllocError> {
+    let all = records.as_slice();
+    match all.get(place) {
+        Some(record) => { row_of(alloc, record, counted_at(record, all, place)) }
+        None => Ok(None),
+    }
+}
+
+/// Whether a block of that width has the record at that place as part.
+pub(crate) fn has_block(records: &Records, width: Width, place: usize, kinds: &[Kind]) -> bool {
+    match records.block_at(width, place, kinds) {
+        Some(block) => is_part(block, place),
+        None => false,
+    }
+}
+
+/// The row of a record, of which that argument is counted, where there is one.
+pub(crate) fn row_of(
+    alloc: Global,
+    record: &Record,
+    counted: usize,
+) -> Result<Option<Row>, AllocError> {
+    if counted >= record.arguments().len() {
+        return Ok(None);
+    }
+    let row = Row::new(alloc, record.procedure(), record.arguments(), counted)?;
+    Ok(Some(row))
+}
+
+/// Goes so many instances on from that number, where there are so many.
+pub(crate) fn go_on(row: &mut Row, first: i64, step: usize) -> bool
+    ensures row { (z : ℤ) → moved_to row.new z ≡ moved_to row.old z }
+    ensures there { result ≡ true → row.new ≡ moved_to row.old (first +ℤ pos step) }
+{
+    match i64::try_from(step) {
+        Ok(step) => match first.checked_add(step) {
+            Some(number) => {
+                row.go_to(number);
+                true
+            }
+            None => false,
+        },
+        Err(_) => false,
+    }
+}
+
+/// Whether the record at that place is part of a block.
+pub(crate) fn is_part(block: &Block, place: usize) -> bool {
+    for other in block.places() {
+        if *other as usize == place {
+            return true;
+        }
+    }
+    false
+}
+
+// Which argument of the record at that place is counted: the one in which the next record or the one before it differs from it by
+// one, else the last.
+fn counted_at(record: &Record, records: &[Record], place: usize) -> usize {
+    match step_to(record, records.get(place.wrapping_add(1))) {
+        Some(counted) => counted,
+        None => match step_to(record, records.get(place.wrapping_sub(1))) {
+            Some(counted) => counted,
+            None => record.arguments().len().wrapping_sub(1),
+        },
+    }
+}
+
+// The one argument in which the other record of the same procedure differs, where it does by one.
+fn step_to(record: &Record, other: Option<&Record>) -> Option<usize> {
+    match other {
+        Some(other) if other.procedure() == record.procedure() => {
+            one_step(record.arguments(), other.arguments())
+        }
+        _ => None,
+    }
+}
+
+// The one place in which these differ, where they do by one.
+fn one_step(left: &[i64], right: &[i64]) -> Option<usize> {
+    let mut found = None;
+    for place in 0..left.len().min(right.len()) {
+        if left[place] != right[place] {
+            if found.is_some() || !is_next(left[place], right[place]) {
+                return None;
+            }
+            found = Some(place);
+        }
+    }
+    found
+}
+
+// Whether the numbers differ by one.
+fn is_next(left: i64, right: i64) -> bool {
+    left.wrapping_add(1) == right || right.wrapping_add(1) == left
+}
+
+// The first so many places.
+fn places_to(alloc: Global, count: usize) -> Result<Vec<u32>, AllocError> {
+    let mut places = Vec::new(alloc);
+    for place in 0..count {
+        match u32::try_from(place) {
+            Ok(place) => places.push(place)?,
+            Err(_) => return Ok(places),
+        }
+    }
+    Ok(places)
+}

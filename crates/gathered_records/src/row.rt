@@ -1,0 +1,79 @@
+// Instances whose arguments are the same but for one, which is counted up.
+ghost use Rattle.std.specs.Prelude.{◌≡◌, ◌<◌, length, slice_get, Some};
+ghost use Rattle.gathered_records.specs.Gathering.{moved_to};
+
+use std::alloc::{AllocError, Global};
+use std::marker::Model;
+
+/// The instance of a procedure with these arguments, of which one is counted up or down.
+#[derive(Drop)]
+pub(crate) struct Row {
+    procedure: usize,
+    arguments: Vec<i64>,
+    counted: usize,
+}
+
+impl Model for Row {
+    ghost use Rattle.std.specs.Prelude.{◌<◌, length};
+    ghost use Rattle.gathered_records.specs.Gathering.{PlainRow};
+
+    ghost Value = { PlainRow };
+
+    ghost view = { λ r. record { procedure = r.procedure; arguments = r.arguments.items; counted = r.counted } };
+
+    ghost invariant = { λ r. r.counted < length r.arguments.items };
+}
+
+impl Row {
+    /// The row of an instance.
+    pub(crate) fn new(
+        alloc: Global,
+        procedure: usize,
+        arguments: &[i64],
+        counted: usize,
+    ) -> Result<Row, AllocError>
+        requires counted { counted < length arguments.now }
+    {
+        Ok(Row {
+            procedure,
+            arguments: Vec::from_slice(alloc, arguments)?,
+            counted,
+        })
+    }
+
+    /// The number of the procedure.
+    pub(crate) fn procedure(&self) -> usize
+        ensures procedure { result ≡ self.now.procedure }
+    {
+        self.procedure
+    }
+
+    /// Lends the arguments.
+    pub(crate) fn arguments(&self) -> &[i64]
+        ensures arguments { result.now ≡ self.now.arguments }
+    {
+        &self.arguments
+    }
+
+    /// Which argument is counted.
+    pub(crate) fn counted(&self) -> usize
+        ensures counted { result ≡ self.now.counted }
+        ensures within { result < length self.now.arguments }
+    {
+        self.counted
+    }
+
+    /// The number in the counted argument.
+    pub(crate) fn number(&self) -> i64
+        ensures number { slice_get self.now.arguments self.now.counted ≡ Some result }
+    {
+        self.arguments[self.counted]
+    }
+
+    /// Goes to the instance with that number.
+    pub(crate) fn go_to(&mut self, number: i64)
+        ensures there { self.new ≡ moved_to self.old number }
+    {
+        self.arguments[self.counted] = number;
+    }
+}

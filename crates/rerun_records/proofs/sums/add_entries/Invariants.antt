@@ -1,6 +1,0 @@
-use Rattle.std.proofs.Common.{◌≡◌, drop}
-use Rattle.rerun_records.specs.Summing.{put_entries}
-use Rattle.rerun_records.proofs.sums.add_entries.Given as goal
-
-abbrev pub invariant-loop-entry : goal.invariant-loop-entry
-invariant-loop-entry l = put_entries l.entries.items (drop l.entry-index l.more) ≡ put_entries l.fn.entries.items l.more
