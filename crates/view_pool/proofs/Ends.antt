@@ -44,6 +44,10 @@ module _ {P : Type 0} where
   pub merged_more : (f : P → List (ℤ × ℤ)) (ps : List P) (p : P) (ys : List (ℤ × ℤ)) → IsRising (f p) → f p ≡ ys → merged (map f (ps ++ p ∷ [])) ≡ merge (merged (map f ps)) ys
   merged_more f ps p ys r e = ap merged (map-append f ps (p ∷ [])) ∙ merged-push (map f ps) (f p) r ∙ ap (merge (merged (map f ps))) e
 
+  -- the last one and one behind it as one
+  pub merged_two : (f : P → List (ℤ × ℤ)) (all rest new : List P) (p : P) → all ≡ rest ++ p ∷ [] → IsRising (f p) → merged (map f new) ≡ merge (merged (map f rest)) (f p) → merged (map f new) ≡ merged (map f all)
+  merged_two f all rest new p is r e = e ∙ sym (ap (λ l. merged (map f l)) is ∙ merged_more f rest p (f p) r refl)
+
 -- ---- keys that rise
 above_more : (j k : ℤ) (es : List (ℤ × ℤ)) → j <ℤ k → AreAbove k es → AreAbove j es
 above_more j k [] h a = tt

@@ -1,15 +1,18 @@
 //! Amounts by key, in pieces.
-ghost use Rattle.std.specs.Prelude.{◌≡◌, suc, ◌<◌, OnOk, OnErr, ◌∷◌, [], map, length, true, All, slice_index_or};
+ghost use Rattle.std.specs.Prelude.{◌≡◌, suc, OnOk, OnErr, ◌∷◌, [], map, length, true, false, slice_index_or};
 ghost use Rattle.monoid_laws.specs.Worth.{amounts, the_amounts};
 ghost use Rattle.monoid_laws.specs.Kinds.{merge, merged, meaning, IsAmounts, IsRising};
 
 use crate::pieces::FULL;
 use monoid_laws::Val;
-use reducer_values::add_amount;
+use reducer_values::{add_amount, merge_amounts};
 use std::alloc::{AllocError, Global};
 use std::mem;
 
-/// Makes whole amounts one piece. Where memory is refused they stay whole.
+/// More pieces than get shorter and shorter from the first to the last.
+const MOST_MERGES: usize = 64;
+
+/// Makes whole amounts one piece, and of the last pieces one where that keeps them few. Where memory is refused they stay as they are.
 pub(crate) fn split_amounts(alloc: Global, value: &mut Val)
     requires { IsAmounts (meaning value.old) }
     ensures { meaning value.new ≡ meaning value.old }
@@ -22,6 +25,7 @@ pub(crate) fn split_amounts(alloc: Global, value: &mut Val)
             pieces.push_reserved(mem::replace(held, Vec::new(alloc)));
             *value = Val::HistPieces(pieces);
         }
+        Val::HistPieces(pieces) => merge_last(alloc, pieces),
         _ => {}
     }
 }
@@ -54,6 +58,83 @@ fn rises(amounts: &[(i64, i64)]) -> bool
         i += 1;
     }
     true
+}
+
+/// Whether two pieces can be merged, and the second isn't the shorter.
+fn may_merge(left: &[(i64, i64)], right: &[(i64, i64)]) -> bool
+    ensures left { result ≡ true → IsRising left.now }
+    ensures right { result ≡ true → IsRising right.now }
+{
+    if left.len() > right.len() {
+        return false;
+    }
+    if !rises(left) {
+        return false;
+    }
+    rises(right)
+}
+
+/// Merges the last piece with one behind it, where the keys of both rise and it isn't the longer one; whether it did.
+fn merge_in_last(
+    alloc: Global,
+    pieces: &mut Vec<Vec<(i64, i64)>>,
+    last: usize,
+    right: &[(i64, i64)],
+) -> bool
+    requires { suc last ≡ length pieces.old.items }
+    ensures merged { result ≡ true → merged (map (λ p. p.items) pieces.new.items) ≡ merge (merged (map (λ p. p.items) pieces.old.items)) right.now }
+    ensures rising { result ≡ true → IsRising right.now }
+    ensures kept { result ≡ false → pieces.new ≡ pieces.old }
+{
+    let piece = &pieces[last];
+    if !may_merge(piece, right) {
+        return false;
+    }
+    match merge_amounts(alloc, piece, right) {
+        Ok(sums) => {
+            pieces[last] = sums;
+            true
+        }
+        Err(_) => false,
+    }
+}
+
+/// Merges the last piece, if there is one, with one behind it; whether it did.
+fn merge_behind(alloc: Global, pieces: &mut Vec<Vec<(i64, i64)>>, right: &[(i64, i64)]) -> bool
+    ensures merged { result ≡ true → merged (map (λ p. p.items) pieces.new.items) ≡ merge (merged (map (λ p. p.items) pieces.old.items)) right.now }
+    ensures rising { result ≡ true → IsRising right.now }
+    ensures kept { result ≡ false → pieces.new ≡ pieces.old }
+{
+    let count = pieces.len();
+    if count == 0 {
+        return false;
+    }
+    merge_in_last(alloc, pieces, count - 1, right)
+}
+
+/// Makes the last two pieces one, where neither is out of order and the last one isn't the shorter; whether it did.
+fn merge_two(alloc: Global, pieces: &mut Vec<Vec<(i64, i64)>>) -> bool
+    ensures { merged (map (λ p. p.items) pieces.new.items) ≡ merged (map (λ p. p.items) pieces.old.items) }
+{
+    let Some(right) = pieces.pop() else {
+        return false;
+    };
+    if merge_behind(alloc, pieces, &right) {
+        return true;
+    }
+    pieces.push_reserved(right);
+    false
+}
+
+/// Makes one of the last pieces as long as the last one isn't the shorter. So pieces stay few, and few of them hold one key.
+fn merge_last(alloc: Global, pieces: &mut Vec<Vec<(i64, i64)>>)
+    ensures { merged (map (λ p. p.items) pieces.new.items) ≡ merged (map (λ p. p.items) pieces.old.items) }
+{
+    for _ in 0..MOST_MERGES {
+        if !merge_two(alloc, pieces) {
+            return;
+        }
+    }
 }
 
 /// Makes amounts one piece that don't take another amount at a key.
@@ -129,6 +210,7 @@ fn add_to_pieces(
     if count > 0 && last_takes(pieces, count - 1, key) {
         return add_in_last(pieces, count - 1, key, amount);
     }
+    merge_last(alloc, pieces);
     begin_piece(alloc, pieces, key, amount)
 }
 

@@ -11,11 +11,12 @@ use std::alloc::{AllocError, Global};
 /// How many numbers or keys fill a piece.
 pub(crate) const FULL: usize = 64;
 
-/// How many numbers or keys a whole value holds.
+/// How many numbers or keys a whole value holds; more than fill a piece where there are pieces.
 fn count_of(value: &Val) -> usize {
     match value {
         Val::List(list) => list.len(),
         Val::Hist(held) => held.len(),
+        Val::Pieces(_) | Val::HistPieces(_) => FULL + 1,
         _ => 0,
     }
 }

@@ -1,4 +1,4 @@
-use Rattle.std.proofs.Common.{rules, ◌≡◌, ◌<◌, ◌≤◌, ◌-◌, ℤ, pos, arith, length, get_or}
+use Rattle.std.proofs.Common.{rules, ◌<◌, ◌≤◌, ◌-◌, ℤ, pos, arith, length, get_or}
 use Rattle.std.specs.Int.{w64}
 use Rattle.std.specs.Prelude.{FitsSigned, ◌<ℤ◌}
 use Rattle.std.proofs.lemmas.Int.{ints, to_z-of_z}
