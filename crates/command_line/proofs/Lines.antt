@@ -11,6 +11,7 @@ use Rattle.clap.proofs.OnLiterals.{clap_on_literals}
 use Rattle.clap.proofs.WalkLemmas.{first_value-rows}
 use Rattle.command_line.specs.declared.options.OptionsError.{OptionsError}
 use Rattle.command_line.specs.declared.options.OptionsError.TheVariants.{NoMemory, Usage, Help, Version}
+use Rattle.command_line.specs.declared.options.Views.TheVariants.{Plain, Flat, Mixed}
 use Rattle.command_line.specs.Line.{line_form, print_form, given, print_given, HasForm, HasPrintForm, IsPrintLine, IsNoPrintLine, IsLine, IsNoLine, Request, IsRefusalOf, IsRefusedFor, WantsHelp, WantsVersion}
 use Rattle.command_line.proofs.Faults.{HasOneAtMost, of_words, whole}
 
@@ -137,7 +138,7 @@ no_print app words x e h other = λ path line. elim (subst (λ ks. HasKind ks x)
 -- lines written out
 
 abbrev paths_alone : Request
-paths_alone = record { program = codes "p.ck"; tables = codes "t.toml"; workers = 1; kits = 64; trace = None; stats = false; explain = false; live = false; why = false }
+paths_alone = record { program = codes "p.ck"; tables = codes "t.toml"; workers = 1; kits = 64; views = Plain; trace = None; stats = false; explain = false; live = false; why = false }
 
 pub two_workers : IsLine (codes "cilkreport" ∷ codes "p.ck" ∷ codes "--workers" ∷ codes "2" ∷ codes "t.toml" ∷ []) (record paths_alone { workers = 2 })
 unfolding given HasForm clap_on_literals
@@ -152,6 +153,7 @@ two_workers =
       tables_are = refl;
       workers_are = ((written, (digit, tt)), refl, one, sixteen);
       kits_are = refl;
+      views_are = refl;
       trace_is = refl;
       stats_are = refl;
       explain_is = refl;
@@ -161,7 +163,7 @@ two_workers =
 
 pub one_worker : IsLine (codes "cilkreport" ∷ codes "p.ck" ∷ codes "t.toml" ∷ []) paths_alone
 unfolding given HasForm clap_on_literals
-one_worker = record { form = refl; program_is = refl; tables_are = refl; workers_are = refl; kits_are = refl; trace_is = refl; stats_are = refl; explain_is = refl; live_is = refl; why_is = refl }
+one_worker = record { form = refl; program_is = refl; tables_are = refl; workers_are = refl; kits_are = refl; views_are = refl; trace_is = refl; stats_are = refl; explain_is = refl; live_is = refl; why_is = refl }
 
 pub eight_kits : IsLine (codes "cilkreport" ∷ codes "--kits" ∷ codes "8" ∷ codes "p.ck" ∷ codes "t.toml" ∷ []) (record paths_alone { kits = 8 })
 unfolding given HasForm clap_on_literals
@@ -176,6 +178,7 @@ eight_kits =
       tables_are = refl;
       workers_are = refl;
       kits_are = ((written, (digit, tt)), refl, one, most);
+      views_are = refl;
       trace_is = refl;
       stats_are = refl;
       explain_is = refl;
@@ -186,19 +189,27 @@ eight_kits =
 pub traced : IsLine (codes "cilkreport" ∷ codes "--stats" ∷ codes "p.ck" ∷ codes "t.toml" ∷ codes "--trace" ∷ codes "runs" ∷ [])
     (record paths_alone { trace = Some (codes "runs"); stats = true })
 unfolding given HasForm clap_on_literals
-traced = record { form = refl; program_is = refl; tables_are = refl; workers_are = refl; kits_are = refl; trace_is = refl; stats_are = refl; explain_is = refl; live_is = refl; why_is = refl }
+traced = record { form = refl; program_is = refl; tables_are = refl; workers_are = refl; kits_are = refl; views_are = refl; trace_is = refl; stats_are = refl; explain_is = refl; live_is = refl; why_is = refl }
 
 pub explained : IsLine (codes "cilkreport" ∷ codes "p.ck" ∷ codes "--explain" ∷ codes "t.toml" ∷ []) (record paths_alone { explain = true })
 unfolding given HasForm clap_on_literals
-explained = record { form = refl; program_is = refl; tables_are = refl; workers_are = refl; kits_are = refl; trace_is = refl; stats_are = refl; explain_is = refl; live_is = refl; why_is = refl }
+explained = record { form = refl; program_is = refl; tables_are = refl; workers_are = refl; kits_are = refl; views_are = refl; trace_is = refl; stats_are = refl; explain_is = refl; live_is = refl; why_is = refl }
 
 pub line_by_line : IsLine (codes "cilkreport" ∷ codes "--live" ∷ codes "p.ck" ∷ codes "t.toml" ∷ []) (record paths_alone { live = true })
 unfolding given HasForm clap_on_literals
-line_by_line = record { form = refl; program_is = refl; tables_are = refl; workers_are = refl; kits_are = refl; trace_is = refl; stats_are = refl; explain_is = refl; live_is = refl; why_is = refl }
+line_by_line = record { form = refl; program_is = refl; tables_are = refl; workers_are = refl; kits_are = refl; views_are = refl; trace_is = refl; stats_are = refl; explain_is = refl; live_is = refl; why_is = refl }
 
 pub with_reasons : IsLine (codes "cilkreport" ∷ codes "p.ck" ∷ codes "--why" ∷ codes "t.toml" ∷ []) (record paths_alone { why = true })
 unfolding given HasForm clap_on_literals
-with_reasons = record { form = refl; program_is = refl; tables_are = refl; workers_are = refl; kits_are = refl; trace_is = refl; stats_are = refl; explain_is = refl; live_is = refl; why_is = refl }
+with_reasons = record { form = refl; program_is = refl; tables_are = refl; workers_are = refl; kits_are = refl; views_are = refl; trace_is = refl; stats_are = refl; explain_is = refl; live_is = refl; why_is = refl }
+
+pub flat_views : IsLine (codes "cilkreport" ∷ codes "--views" ∷ codes "flat" ∷ codes "p.ck" ∷ codes "t.toml" ∷ []) (record paths_alone { views = Flat })
+unfolding given HasForm clap_on_literals
+flat_views = record { form = refl; program_is = refl; tables_are = refl; workers_are = refl; kits_are = refl; views_are = refl; trace_is = refl; stats_are = refl; explain_is = refl; live_is = refl; why_is = refl }
+
+pub mixed_views : IsLine (codes "cilkreport" ∷ codes "p.ck" ∷ codes "t.toml" ∷ codes "--views" ∷ codes "mixed" ∷ []) (record paths_alone { views = Mixed })
+unfolding given HasForm clap_on_literals
+mixed_views = record { form = refl; program_is = refl; tables_are = refl; workers_are = refl; kits_are = refl; views_are = refl; trace_is = refl; stats_are = refl; explain_is = refl; live_is = refl; why_is = refl }
 
 pub no_tables : HasForm (codes "cilkreport" ∷ codes "p.ck" ∷ []) → ⊥
 unfolding HasForm clap_on_literals

@@ -1,5 +1,5 @@
 -- What the words of the program's line ask for, as clap reads them.
-use Rattle.std.specs.Prelude.{◌≡◌, ◌≢◌, ◌≤◌, ℕ, Bool, List, [], ◌∷◌, Option, Some, None, ⊤, true, false, codes, option_map}
+use Rattle.std.specs.Prelude.{◌≡◌, ◌≢◌, ◌≤◌, ℕ, Bool, List, [], ◌∷◌, Option, Some, None, ⊤, true, false, cond, codes, option_map}
 use Rattle.std.specs.Option.{option_map_or}
 use Rattle.std.specs.Str.{bytes_eq}
 use Rattle.std.specs.Str.Parse.{IsNumeral, digits_value, without_leading_plus}
@@ -12,6 +12,8 @@ use Rattle.command_line.specs.declared.options.Asked.TheVariants.{Session, Print
 use Rattle.command_line.specs.declared.options.Options.{Options}
 use Rattle.command_line.specs.declared.options.OptionsError.{OptionsError}
 use Rattle.command_line.specs.declared.options.OptionsError.TheVariants.{NoMemory, Usage, Help, Version}
+use Rattle.command_line.specs.declared.options.Views.{Views}
+use Rattle.command_line.specs.declared.options.Views.TheVariants.{Plain, Flat, Mixed}
 
 -- a path that each line has, an option that a line may have, and a flag
 abbrev pub path_rule : List ℕ → Rule
@@ -33,10 +35,10 @@ program_form = with_version (new_app (codes "cilkreport"))
 -- the same without its flags
 abbrev pub values_form : App
 values_form =
-    with_rule (with_rule (with_rule (with_rule (with_rule program_form (path_rule (codes "program"))) (path_rule (codes "tables")))
-    (option_rule (codes "workers"))) (option_rule (codes "kits"))) (option_rule (codes "trace"))
+    with_rule (with_rule (with_rule (with_rule (with_rule (with_rule program_form (path_rule (codes "program"))) (path_rule (codes "tables")))
+    (option_rule (codes "workers"))) (option_rule (codes "kits"))) (option_rule (codes "trace"))) (option_rule (codes "views"))
 
--- the form of a line: PROGRAM TABLES [--workers N] [--kits N] [--trace FILE] [--stats] [--explain] [--live] [--why]
+-- the form of a line: PROGRAM TABLES [--workers N] [--kits N] [--trace FILE] [--views SORT] [--stats] [--explain] [--live] [--why]
 abbrev pub line_form : App
 line_form = with_rule (with_rule (with_rule (with_rule values_form (flag_rule (codes "stats"))) (flag_rule (codes "explain"))) (flag_rule (codes "live"))) (flag_rule (codes "why"))
 
@@ -64,6 +66,16 @@ abbrev pub AsksFor : ℕ → ℕ → Option (List ℕ) → ℕ → Type 0
 AsksFor unsaid most None n = n ≡ unsaid
 AsksFor unsaid most (Some text) n = IsNumeral 10 (without_leading_plus text) × (digits_value 10 (without_leading_plus text) ≡ n) × (1 ≤ n) × (n ≤ most)
 
+-- the sort of views of that name
+abbrev pub views_named : List ℕ → Option Views
+views_named name =
+    cond (bytes_eq name (codes "plain")) (Some Plain) (cond (bytes_eq name (codes "flat")) (Some Flat) (cond (bytes_eq name (codes "mixed")) (Some Mixed) None))
+
+-- this sort of views is asked for: the plain ones where nothing is said, else those of that name
+abbrev pub AsksForViews : Option (List ℕ) → Views → Type 0
+AsksForViews None views = views ≡ Plain
+AsksForViews (Some name) views = views_named name ≡ Some views
+
 -- a flag is given: its text is `true`
 abbrev pub is_set : Option (List ℕ) → Bool
 is_set text = option_map_or (λ t. bytes_eq t (codes "true")) text false
@@ -74,6 +86,7 @@ pub record Request : Type 0 where
   pub tables : List ℕ
   pub workers : ℕ
   pub kits : ℕ
+  pub views : Views
   pub trace : Option (List ℕ)
   pub stats : Bool
   pub explain : Bool
@@ -87,6 +100,7 @@ pub record IsLine (words : List (List ℕ)) (r : Request) : Type 0 where
   pub tables_are : given (codes "tables") words ≡ Some r.tables
   pub workers_are : AsksFor 1 16 (given (codes "workers") words) r.workers
   pub kits_are : AsksFor 64 4096 (given (codes "kits") words) r.kits
+  pub views_are : AsksForViews (given (codes "views") words) r.views
   pub trace_is : given (codes "trace") words ≡ r.trace
   pub stats_are : is_set (given (codes "stats") words) ≡ r.stats
   pub explain_is : is_set (given (codes "explain") words) ≡ r.explain
@@ -99,6 +113,7 @@ request_of o = record {
   tables = o.tables.now;
   workers = o.workers;
   kits = o.kits;
+  views = o.views;
   trace = option_map (λ t. t.now) o.trace;
   stats = o.stats;
   explain = o.explain;

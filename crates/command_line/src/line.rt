@@ -1,10 +1,11 @@
 // The words of the program's line.
 ghost use Rattle.std.specs.Prelude.{◌≡◌, ◌≤◌, ℕ, List, IfOk, IfErr, IfSome, IfNone, OnOk, false, map, option_map};
 ghost use Rattle.clap.specs.Words.{app_of, found_of, first_value, kind_of, rule_of};
-ghost use Rattle.command_line.specs.Line.{line_form, values_form, print_form, given, is_set, flag_rule, option_rule, path_rule, HasForm, AsksFor, IsAsked, IsLineOf, IsNoLine, IsNothing, IsPrintLine, IsNoPrintLine, IsRefusedFor, IsRefusalOf, IsWithin};
+ghost use Rattle.command_line.specs.Line.{line_form, values_form, print_form, given, is_set, flag_rule, option_rule, path_rule, HasForm, AsksFor, IsAsked, IsLineOf, IsNoLine, IsNothing, IsPrintLine, IsNoPrintLine, IsRefusedFor, IsRefusalOf, IsWithin, AsksForViews, views_named};
 ghost use Rattle.command_line.specs.declared.options.OptionsError.TheVariants as refusal;
+ghost use Rattle.command_line.specs.declared.options.Views.{Views as TheViews};
 
-use crate::options::{Asked, Options, OptionsError, VERSION};
+use crate::options::{Asked, Options, OptionsError, VERSION, Views};
 use clap::error::ErrorKind;
 use clap::{Arg, ArgAction, ArgMatches, Command, Error};
 use std::alloc::{AllocError, Global};
@@ -71,12 +72,14 @@ pub fn options<'a>(alloc: Global, words: &'a [&'a str]) -> Result<Options<'a>, O
     let matches = matched(alloc, words)?;
     let workers = asked(matches.get_str("workers"), 1, 16)?;
     let kits = asked(matches.get_str("kits"), 64, 4096)?;
+    let views = asked_views(matches.get_str("views"))?;
     match (matches.get_str("program"), matches.get_str("tables")) {
         (Some(program), Some(tables)) => Ok(Options {
             program,
             tables,
             workers,
             kits,
+            views,
             trace: matches.get_str("trace"),
             stats: is_given(matches.get_str("stats")),
             explain: is_given(matches.get_str("explain")),
@@ -138,7 +141,8 @@ fn form_of_values<'a>(alloc: Global) -> Result<Command<'a>, AllocError>
         .arg(path(alloc, "tables"))?
         .arg(option(alloc, "workers"))?
         .arg(option(alloc, "kits"))?
-        .arg(option(alloc, "trace"))
+        .arg(option(alloc, "trace"))?
+        .arg(option(alloc, "views"))
 }
 
 // A path that each line has.
@@ -190,4 +194,35 @@ fn asked(text: Option<&str>, unsaid: usize, most: usize) -> Result<usize, Option
         return Ok(number);
     }
     Err(OptionsError::Usage)
+}
+
+// The sort of views that a text asks for; the plain ones where there is no text.
+fn asked_views(text: Option<&str>) -> Result<Views, OptionsError>
+    ensures asked { IfOk result (AsksForViews (option_map (λ t. t.now) text.entry)) }
+    ensures refused { IfErr result (λ error. (error ≡ refusal.Usage)
+        × ((v : TheViews) → AsksForViews (option_map (λ t. t.now) text.entry) v → ⊥)) }
+{
+    let Some(text) = text else {
+        return Ok(Views::Plain);
+    };
+    match views_named(text) {
+        Some(views) => Ok(views),
+        None => Err(OptionsError::Usage),
+    }
+}
+
+// The sort of views of that name, if there is one.
+fn views_named(name: &str) -> Option<Views>
+    ensures { result ≡ views_named name.now }
+{
+    if name == "plain" {
+        return Some(Views::Plain);
+    }
+    if name == "flat" {
+        return Some(Views::Flat);
+    }
+    if name == "mixed" {
+        return Some(Views::Mixed);
+    }
+    None
 }

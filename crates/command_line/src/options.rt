@@ -8,6 +8,7 @@ pub struct Options<'a> {
     pub tables: &'a str,
     pub workers: usize,
     pub kits: usize,
+    pub views: Views,
     /// The file that the history of each run is written to.
     pub trace: Option<&'a str>,
     /// The counts of each run are written to standard error.
@@ -18,6 +19,15 @@ pub struct Options<'a> {
     pub live: bool,
     /// It is said on standard error what each run's memo instances come to, and why the first are executed.
     pub why: bool,
+}
+
+/// How the views of a run's kits keep lists and amounts: in pieces, whole, or the one in the first, third .. kit and the other in the
+/// rest.
+#[derive(Clone, Copy, Debug, PartialEq, Eq)]
+pub enum Views {
+    Plain,
+    Flat,
+    Mixed,
 }
 
 /// What the program's line asks for: a session with these options, or the normal form of the program at a path.
@@ -44,13 +54,14 @@ pub enum OptionsError {
 pub const VERSION: &str = "0.1.0";
 
 const USAGE: &str =
-    "usage: cilkreport PROGRAM TABLES [--workers 1..16] [--kits 1..4096] [--trace FILE] [--stats] [--explain] [--live] [--why]
+    "usage: cilkreport PROGRAM TABLES [--workers 1..16] [--kits 1..4096] [--views plain|flat|mixed] [--trace FILE] [--stats] [--explain] [--live] [--why]
        cilkreport --print PROGRAM";
 
 const HELP: &str = "  PROGRAM         the file of the report program
   TABLES          the file of its tables, in TOML
   --workers N     how many threads run the program: 1 to 16, otherwise 1
   --kits N        how many views of all reducers a run may have at once: 1 to 4096, otherwise 64
+  --views SORT    how views keep lists and histograms: plain (in pieces), flat (whole) or mixed, otherwise plain
   --trace FILE    writes the history of each run to FILE, otherwise nowhere
   --stats         writes the counts of each run to standard error, otherwise nowhere
   --explain       explains each refused line of the script and each fault on standard error

@@ -12,4 +12,5 @@ returns c =
     let second = c.in_ok-arg-2.ensures.shape c.path-2.ensures.local ∙ ap₂ with_rule first c.path-2.ensures.rule in
     let third = c.in_ok-arg-3.ensures.shape c.option.ensures.local ∙ ap₂ with_rule second c.option.ensures.rule in
     let fourth = c.in_ok-arg-4.ensures.shape c.option-2.ensures.local ∙ ap₂ with_rule third c.option-2.ensures.rule in
-    IfOk-weaker c.arg-5.result _ _ (λ command h. h.shape c.option-3.ensures.local ∙ ap₂ with_rule fourth c.option-3.ensures.rule) c.arg-5.ensures
+    let fifth = c.in_ok-arg-5.ensures.shape c.option-3.ensures.local ∙ ap₂ with_rule fourth c.option-3.ensures.rule in
+    IfOk-weaker c.arg-6.result _ _ (λ command h. h.shape c.option-4.ensures.local ∙ ap₂ with_rule fifth c.option-4.ensures.rule) c.arg-6.ensures

@@ -1,5 +1,5 @@
 use Rattle.std.proofs.Common.{rules, ◌∙◌, refl, subst, sym}
-use Rattle.command_line.specs.Line.{AsksFor}
+use Rattle.command_line.specs.Line.{AsksFor, AsksForViews}
 use Rattle.command_line.specs.declared.options.OptionsError.TheVariants as refusal
 use Rattle.command_line.proofs.Lines.{as_usage, handed_on}
 use Rattle.command_line.proofs.line.options.Goals as goal
@@ -17,6 +17,13 @@ returns-in_err-kits-clause-refused c =
     let none = c.in_err-kits.ensures.refused in
     handed_on _ c.from_residual-in_err-kits.result _ c.from_residual-in_err-kits.ensures.1 c.in_ok-matches.ensures.form
     (λ r line. none.1 r.kits (subst (λ t. AsksFor 64 4096 t r.kits) (sym read) line.kits_are)) none.0
+
+pub returns-in_err-views-clause-refused : goal.returns-in_err-views-clause-refused
+returns-in_err-views-clause-refused c =
+    let read = c.get_str-3.ensures ∙ c.in_ok-matches.ensures.given _ in
+    let none = c.in_err-views.ensures.refused in
+    handed_on _ c.from_residual-in_err-views.result _ c.from_residual-in_err-views.ensures.1 c.in_ok-matches.ensures.form
+    (λ r line. none.1 r.views (subst (λ t. AsksForViews t r.views) (sym read) line.views_are)) none.0
 
 pub returns-clause-refused : goal.returns-clause-refused
 returns-clause-refused c = as_usage _ refusal.Usage c.in_ok-matches.ensures.form (search rules) refl
