@@ -3,6 +3,7 @@
 
 use cli::files::StandardError;
 use cli::program::{ending, report};
+use cli::sorts::Sort;
 use monoid_laws::Kind;
 use program_reasons::script::Explainer;
 use program_reasons::{reasons_of, show};
@@ -10,15 +11,18 @@ use std::alloc::AllocError;
 use std::fs;
 use std::io::IsTerminal;
 use std::process::ExitCode;
-use view_pool::{PlainView, View};
+use view_pool::{FlatView, PlainView, View};
 
 fn main(rt: HostRuntime) -> ExitCode {
     let alloc = rt.alloc();
     // Where standard output is closed, say, the next file that is opened gets its number, and a trace would take the answers. So
     // a folder takes these numbers first, of which nothing can be read, and to which nothing can be written.
     let _held = [fs::open(&rt, "/"), fs::open(&rt, "/"), fs::open(&rt, "/")];
-    let make = |kind: Kind| -> Result<Box<dyn View>, AllocError> {
-        Ok(Box::new(alloc, PlainView::new(alloc, kind))?)
+    let make = |sort: Sort, kind: Kind| -> Result<Box<dyn View>, AllocError> {
+        match sort {
+            Sort::Plain => Ok(Box::new(alloc, PlainView::new(alloc, kind))?),
+            Sort::Flat => Ok(Box::new(alloc, FlatView::new(alloc, kind))?),
+        }
     };
     let explainer = Explainer::new(alloc, StandardError { rt: &rt });
     let reported = report(&rt, alloc, &make, explainer, rt.stdin().is_terminal());

@@ -3,10 +3,11 @@ ghost use Rattle.std.specs.Prelude.{◌≡◌, IfOk, IfErr, length};
 ghost use Rattle.prepared_program.specs.Preparing.{IsPrepared};
 ghost use Rattle.cli.specs.Begun.{IsUnbegun};
 
+use crate::sorts::{Sort, kits_of};
+use command_line::options::Views;
 use kept_session::Session;
 use monoid_laws::Kind;
 use prepared_program::prepare::{PrepareError, prepare};
-use report_session::kits::kits_for;
 use std::alloc::{AllocError, Global};
 use thiserror::Error;
 use view_pool::View;
@@ -22,13 +23,15 @@ pub enum BeginError {
     NoKit,
 }
 
-/// The session of a program's text and tables' text, with so many kits of views that the caller makes; refused as by
+/// The session of a program's text and tables' text, with so many kits of views that the caller makes, of the sorts that are
+/// asked for; refused as by
 /// `prepare`, for want of memory where a view is of another kind, and where there are to be no kits.
-pub fn begin<V: View, M: Fn(Kind) -> Result<V, AllocError>>(
+pub fn begin<V: View, M: Fn(Sort, Kind) -> Result<V, AllocError>>(
     alloc: Global,
     program: &[u8],
     tables: &str,
     kits: usize,
+    views: Views,
     make: &M,
 ) -> Result<Session<V>, BeginError>
     requires callable { M.IsAlwaysCallable make.now }
@@ -39,7 +42,7 @@ pub fn begin<V: View, M: Fn(Kind) -> Result<V, AllocError>>(
     ensures refused { IfErr result (IsUnbegun program.now tables.now kits) }
 {
     match prepare(alloc, program, tables) {
-        Ok((checked, tables)) => match kits_for(alloc, checked.kinds(), kits, make) {
+        Ok((checked, tables)) => match kits_of(alloc, checked.kinds(), kits, views, make) {
             Ok(kits) => match Session::new(alloc, checked, tables, kits) {
                 Ok(session) => Ok(session),
                 Err(_) => Err(BeginError::NoKit),

@@ -4,6 +4,7 @@
 pub mod asking;
 pub mod beginning;
 pub mod program;
+pub mod sorts;
 
 pub use program_endings::files;
 pub use report_session::kits;

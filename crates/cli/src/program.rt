@@ -11,6 +11,7 @@ ghost use Rattle.cli.specs.Reports.{IsOpened, IsUnopened, IsUnmade, IsLate, IsRe
 
 use crate::asking::Asking;
 use crate::beginning::{BeginError, begin};
+use crate::sorts::Sort;
 use command_line::line::asked_by;
 use command_line::options::{Asked, Options};
 use command_line::words::{held_words, lent};
@@ -63,7 +64,7 @@ pub fn ending(rt: &(impl Print + Eprint), reported: Result<(), ProgramError>) ->
 /// at least. The views are the caller's; one of another kind counts as want of memory. What is refused is explained where the
 /// line asks for it. At a terminal the lines of a live session are asked for on standard error, and what is refused is explained;
 /// of another session it is said there that commands are read to their end.
-pub fn report<V: View, M: Fn(Kind) -> Result<V, AllocError>, X: Explain + Drop>(
+pub fn report<V: View, M: Fn(Sort, Kind) -> Result<V, AllocError>, X: Explain + Drop>(
     rt: &(impl Runtime + AllocGlobal + Threads + Wait + Sync),
     alloc: Global,
     make: &M,
@@ -90,7 +91,7 @@ pub fn report<V: View, M: Fn(Kind) -> Result<V, AllocError>, X: Explain + Drop>(
 }
 
 // Does the session that the options ask for, from standard input to standard output.
-fn report_by<V: View, M: Fn(Kind) -> Result<V, AllocError>, X: Explain + Drop>(
+fn report_by<V: View, M: Fn(Sort, Kind) -> Result<V, AllocError>, X: Explain + Drop>(
     rt: &(impl Runtime + AllocGlobal + Threads + Wait + Sync),
     alloc: Global,
     options: Options<'_>,
@@ -138,7 +139,7 @@ fn report_by<V: View, M: Fn(Kind) -> Result<V, AllocError>, X: Explain + Drop>(
 /// flushes line by line: after a failed read the answers to the commands that came whole are written, where otherwise nothing is.
 pub fn report_on<
     V: View,
-    M: Fn(Kind) -> Result<V, AllocError>,
+    M: Fn(Sort, Kind) -> Result<V, AllocError>,
     F: FileSource,
     R: Read,
     W: Write,
@@ -251,7 +252,7 @@ fn answered<V: View, N: Notes, R: Read, W: Write>(
 }
 
 // The session of a program's file and a tables' file.
-fn session_of<V: View, M: Fn(Kind) -> Result<V, AllocError>, F: FileSource>(
+fn session_of<V: View, M: Fn(Sort, Kind) -> Result<V, AllocError>, F: FileSource>(
     alloc: Global,
     options: Options<'_>,
     make: &M,
@@ -280,7 +281,14 @@ fn session_of<V: View, M: Fn(Kind) -> Result<V, AllocError>, F: FileSource>(
     let Ok(text) = str::from_utf8(tables.as_slice()) else {
         return Err(failed_file(alloc, options.tables));
     };
-    match begin(alloc, program.as_slice(), text, options.kits, make) {
+    match begin(
+        alloc,
+        program.as_slice(),
+        text,
+        options.kits,
+        options.views,
+        make,
+    ) {
         Ok(session) => Ok(session),
         Err(BeginError::Prepare(error)) => Err(ProgramError::Prepare(error)),
         Err(BeginError::NoKit) => Err(ProgramError::Session(SessionError::NoKit)),

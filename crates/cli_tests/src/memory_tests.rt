@@ -3,8 +3,9 @@
 use crate::running::prepare_error;
 use cli::files::FileSource;
 use cli::program::report_on;
+use cli::sorts::Sort;
 use command_line::line::options;
-use command_line::options::{Options, OptionsError};
+use command_line::options::{Options, OptionsError, Views};
 use monoid_laws::Kind;
 use prepared_program::prepare::PrepareError;
 use program_endings::program_error::status;
@@ -31,6 +32,7 @@ const ASKED: Options<'static> = Options {
     tables: "t",
     workers: 1,
     kits: 2,
+    views: Views::Plain,
     trace: Some("T"),
     stats: true,
     explain: true,
@@ -121,7 +123,9 @@ fn reported(
     script: &[u8],
     room: usize,
 ) -> Report {
-    let make = |kind: Kind| -> Result<PlainView, AllocError> { Ok(PlainView::new(alloc, kind)) };
+    let make = |_sort: Sort, kind: Kind| -> Result<PlainView, AllocError> {
+        Ok(PlainView::new(alloc, kind))
+    };
     let mut reader = script;
     let (answers, trace, counts) = (Cell::new(EMPTY), Cell::new(EMPTY), Cell::new(EMPTY));
     let ended = report_on(

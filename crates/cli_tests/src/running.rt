@@ -3,6 +3,8 @@ use cli::beginning::begin;
 use cli::live::live_text;
 use cli::notes::NoNotes;
 use cli::session::session_text;
+use cli::sorts::Sort;
+use command_line::options::Views;
 use kept_session::Session;
 use monoid_laws::Kind;
 use prepared_program::prepare::{PrepareError, prepare};
@@ -18,8 +20,10 @@ use view_pool::PlainView;
 
 // A session with a few kits.
 pub fn session(rt: &impl Abort, alloc: Global, program: &[u8], tables: &str) -> Session<PlainView> {
-    let make = |kind: Kind| -> Result<PlainView, AllocError> { Ok(PlainView::new(alloc, kind)) };
-    begin(alloc, program, tables, 8, &make).expect(rt, "a session")
+    let make = |_sort: Sort, kind: Kind| -> Result<PlainView, AllocError> {
+        Ok(PlainView::new(alloc, kind))
+    };
+    begin(alloc, program, tables, 8, Views::Plain, &make).expect(rt, "a session")
 }
 
 // What a session ends by over these streams.
