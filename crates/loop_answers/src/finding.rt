@@ -1,6 +1,6 @@
 //! The batches of records that answer a loop's iterations.
-ghost use Rattle.std.specs.Prelude.{◌≡◌, ◌+◌, ◌-◌, ◌≤◌, ◌<◌, pos, ◌+ℤ◌, true, ◌&&◌, length, map, take, drop, Some, IfSome, slice_set};
-ghost use Rattle.linked_program.specs.CodeView.{expression as plain};
+ghost use Rattle.std.specs.Prelude.{◌≡◌, ◌==◌, false, ◌+◌, ◌-◌, ◌≤◌, ◌<◌, pos, ◌+ℤ◌, true, ◌&&◌, length, map, take, drop, Some, IfSome, OnSome, slice_set};
+ghost use Rattle.linked_program.specs.CodeView.{expression as plain, memo_of};
 ghost use Rattle.evaluation.specs.declared.slot.Slot.TheVariants.{Has};
 ghost use Rattle.evaluation.specs.Values.{values_at, pure};
 ghost use Rattle.meaning.specs.Elision.{depth_limit};
@@ -35,7 +35,10 @@ const BATCHES: u32 = 2048;
 const SINGLES: u32 = 64;
 
 /// Records that go together begin at a multiple of this.
-const WIDTH: u32 = 32;
+const WIDTH: u32 = 16;
+
+/// There is room for so many batches at first.
+const FIRST_ROOM: usize = 64;
 
 /// Batches that answer a loop's iterations one after another, and how many iterations those are.
 #[derive(Drop)]
@@ -80,6 +83,8 @@ pub(crate) fn answers<'a, V: View>(
     ensures few { IfSome result (λ found. found.count ≤ wanted.most) }
     ensures answers { IfSome result (λ found. HasBatches (lent setting.entry) site machine.old.top share.first found.batches.items) }
 {
+    let place = counted_place(machine, code);
+    let tried = number_at(&machine.numbers, place);
     let mut numbers = mem::replace(&mut machine.numbers, Vec::new(alloc));
     let found = answers_by(
         machine,
@@ -89,13 +94,42 @@ pub(crate) fn answers<'a, V: View>(
         site,
         share,
         wanted,
+        tried,
         &mut numbers,
     );
+    if are_all(&found, wanted) {
+        keep_number(&mut numbers, place, tried);
+    }
     machine.numbers = numbers;
     found
 }
 
-/// The same, where `numbers` is for the arguments.
+/// The number at that place: where a search ended it was asked last.
+fn number_at(numbers: &[i64], place: Option<usize>) -> Option<i64> {
+    match place {
+        Some(place) => numbers.get(place).copied(),
+        None => None,
+    }
+}
+
+/// Puts a number in the place of the one there, where both are known.
+fn keep_number(numbers: &mut Vec<i64>, place: Option<usize>, number: Option<i64>) {
+    match (place, number) {
+        (Some(place), Some(number)) if place < numbers.len() => numbers[place] = number,
+        _ => {}
+    }
+}
+
+/// Whether all iterations that are wanted were found.
+fn are_all(found: &Option<Found<'_>>, wanted: Wanted) -> bool {
+    match found {
+        Some(found) => found.count == wanted.most,
+        None => false,
+    }
+}
+
+/// The same, where `numbers` is for the arguments. The iteration of the number that was tried is asked first, since a half was
+/// searched in vain as far as to there.
 fn answers_by<'a, V: View>(
     machine: &mut Machine<V>,
     alloc: Global,
@@ -104,6 +138,7 @@ fn answers_by<'a, V: View>(
     site: Loop,
     share: Share,
     wanted: Wanted,
+    tried: Option<i64>,
     numbers: &mut Vec<i64>,
 ) -> Option<Found<'a>>
     requires fits { ShareFits site share }
@@ -115,17 +150,20 @@ fn answers_by<'a, V: View>(
     ensures few { IfSome result (λ found. found.count ≤ wanted.most) }
     ensures answers { IfSome result (λ found. HasBatches (lent setting.entry) site machine.old.top share.first found.batches.items) }
 {
-    let left = machine.top.left();
-    if left == 0 || wanted.most == 0 || !setting.program.is_memo(code.callee) {
-        return None;
-    }
-    let depth = DEEPEST.saturating_sub(left - 1);
-    if depth == 0 {
-        return None;
-    }
+    let depth = depth_of(machine, setting, code, wanted)?;
     let begin = number_behind(site, share, 0);
     let counted = counted_from(machine, alloc, setting.tables, code, begin, numbers);
+    let first = Ahead {
+        number: begin,
+        most: wanted.most,
+        depth,
+        counted,
+    };
+    if is_stale(machine, alloc, setting, code, wanted, first, tried, numbers) {
+        return None;
+    }
     let mut batches = Vec::new(alloc);
+    let _ = batches.reserve(FIRST_ROOM);
     let mut count = 0;
     let mut singles = 0;
     for _ in 0..BATCHES {
@@ -153,6 +191,82 @@ fn answers_by<'a, V: View>(
         }
     }
     Some(Found { batches, count })
+}
+
+/// The depth of a loop's iterations, where some are wanted, their instances are recorded, and there is room to enter them.
+fn depth_of<V: View>(
+    machine: &Machine<V>,
+    setting: Setting<'_>,
+    code: LoopCode<'_>,
+    wanted: Wanted,
+) -> Option<u32>
+    ensures deep { IfSome result (λ depth. 0 < depth) }
+    ensures depth { IfSome result (λ depth. depth ≡ depth_limit - (machine.now.top.left - 1)) }
+    ensures some { OnSome result (0 < wanted.most) }
+    ensures memo { OnSome result (memo_of setting.entry.program.now.codes code.entry.callee ≡ true) }
+    ensures room { OnSome result ((machine.now.top.left == 0) ≡ false) }
+{
+    let left = machine.top.left();
+    if left == 0 || wanted.most == 0 || !setting.program.is_memo(code.callee) {
+        return None;
+    }
+    let depth = DEEPEST.saturating_sub(left - 1);
+    if depth == 0 {
+        return None;
+    }
+    Some(depth)
+}
+
+/// Whether the iteration of the number that was tried is one of these, which are all asked for, and it is of no use to look further.
+fn is_stale<V: View>(
+    machine: &mut Machine<V>,
+    alloc: Global,
+    setting: Setting<'_>,
+    code: LoopCode<'_>,
+    wanted: Wanted,
+    first: Ahead,
+    tried: Option<i64>,
+    numbers: &mut Vec<i64>,
+) -> bool
+    requires deep { 0 < first.depth }
+    requires depth { first.depth ≡ depth_limit - (machine.old.top.left - 1) }
+    requires counted { IfSome first.counted (CountsAt machine.old.top.slots code.variable (map plain code.arguments.now)) }
+    requires known { IfSome first.counted (λ place. AreArguments setting.tables.now.tables machine.old.top.slots code.variable (map plain code.arguments.now) numbers.old.items) }
+    requires values { HaveValues setting.program.now.kinds setting.records.now }
+    ensures unchanged { machine.new ≡ machine.old }
+    ensures known { IfSome first.counted (λ place. AreArguments setting.entry.tables.now.tables machine.old.top.slots code.entry.variable (map plain code.entry.arguments.now) numbers.new.items) }
+{
+    match behind_first(wanted, first, tried) {
+        Some((number, most)) => {
+            let ahead = Ahead {
+                number,
+                most,
+                depth: first.depth,
+                counted: first.counted,
+            };
+            match batch_from(machine, alloc, setting, code, ahead, numbers) {
+                Some(batch) => is_in_vain(wanted, ahead, batch, 1),
+                None => true,
+            }
+        }
+        None => false,
+    }
+}
+
+/// The number that was tried and how many iterations there are from there on, where it is that of one of these, and all are asked
+/// for.
+fn behind_first(wanted: Wanted, first: Ahead, tried: Option<i64>) -> Option<(i64, u32)>
+    ensures some { IfSome result (λ found. 0 < found.1) }
+{
+    if !wanted.all {
+        return None;
+    }
+    let number = tried?;
+    let behind = number.checked_sub(first.number)?;
+    match u32::try_from(behind) {
+        Ok(behind) if behind < first.most => Some((number, first.most - behind)),
+        _ => None,
+    }
 }
 
 /// How many single records there are with that batch.
