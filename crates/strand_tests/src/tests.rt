@@ -5,5 +5,6 @@ mod deques;
 mod driving;
 mod folds;
 mod names;
+mod pieces;
 mod statements;
 mod thefts;
