@@ -70,7 +70,10 @@ class Watching(Year):
     def started(self, command):
         """The watching, which is ended with the test as by Ctrl-C, and is not waited for without an end."""
         how = {"cwd": self.folder, "stdin": subprocess.DEVNULL, "stdout": subprocess.PIPE, "text": True}
+        # Tests that a shell runs in the background ignore Ctrl-C, and what they start would too.
+        before = signal.signal(signal.SIGINT, signal.default_int_handler)
         watching = subprocess.Popen(shlex.split(command), **how)
+        signal.signal(signal.SIGINT, before)
         limit = threading.Timer(page_commands.SECONDS, watching.kill)
         limit.start()
         self.addCleanup(limit.cancel)
