@@ -4,12 +4,7 @@
 # (some 2 us), light rows with grain 1, 64 and 1024, and fib(24) with spawns. Takes ./cilkreport as it is built, or another program
 # of that kind as its first word, and a quiet machine.
 set -eu
-program=$(realpath "${1:-$(dirname "$0")/../../crates/cilkreport/out/cilkreport}")
-room=$(mktemp -d)
-trap 'rm -rf "$room"' EXIT
-: > "$room/tables"
-: > "$room/nothing"
-echo run > "$room/once"
+source "$(dirname "$0")/room.sh"
 
 # A report whose loop goes over so many rows, in pieces of so many, each of which takes so many steps of a generator of numbers.
 rows() { # how many, the grain, how many steps

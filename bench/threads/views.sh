@@ -4,12 +4,7 @@
 # less that of the session without it. The answers of all have to be the same. Takes ./cilkreport as it is built, or another program of
 # that kind as its first word, and a quiet machine.
 set -eu
-program=$(realpath "${1:-$(dirname "$0")/../../crates/cilkreport/out/cilkreport}")
-room=$(mktemp -d)
-trap 'rm -rf "$room"' EXIT
-: > "$room/tables"
-: > "$room/nothing"
-echo run > "$room/once"
+source "$(dirname "$0")/room.sh"
 echo 'reducer seen : list; proc one(i) { update seen i; } proc main() { cilk_for i in 0 .. 1000000 grain 64 : one(i); return 0; }' > "$room/list"
 echo 'reducer h : hist; proc one(i) { update h i * 37 % 100, 1; } proc main() { cilk_for i in 0 .. 1000000 grain 64 : one(i); return 0; }' > "$room/hist"
 
