@@ -4,3 +4,4 @@ pub mod Lists
 pub mod Laws
 pub mod Rows
 pub mod SameTables
+pub mod SameKinds

@@ -11,7 +11,6 @@ pub mod SameBut
 pub mod Lookups
 pub mod Singles
 pub mod NodeNotes
-pub mod SameKinds
 pub mod Homes
 pub mod Touched
 pub mod Hulls

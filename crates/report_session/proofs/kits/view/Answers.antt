@@ -1,5 +1,5 @@
 use Rattle.std.proofs.Common.{◌∙◌, sym}
-use Rattle.report_session.proofs.SameKind.{same_kind}
+use Rattle.monoid_laws.proofs.SameKinds.{same_kind}
 use Rattle.report_session.proofs.kits.view.Goals as goal
 
 pub returns-then-eq : goal.returns-then-eq

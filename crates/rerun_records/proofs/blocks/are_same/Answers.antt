@@ -1,5 +1,5 @@
 use Rattle.std.proofs.Common.{sym, ◌∙◌}
-use Rattle.rerun_records.proofs.SameKinds.{same_kinds}
+use Rattle.monoid_laws.proofs.SameKinds.{same_kinds}
 use Rattle.rerun_records.proofs.blocks.are_same.Goals as goal
 
 pub returns : goal.returns
