@@ -66,7 +66,7 @@ fn gather(records: &mut Records, alloc: Global, tables: &Tables, program: &Check
     let _ = gather_due(records, alloc, are_all, &listed, tables, program);
 }
 
-// The same of all records, or of those at these places.
+// Makes such blocks of all records, or of those at these places.
 fn gather_due(
     records: &mut Records,
     alloc: Global,
@@ -88,7 +88,7 @@ fn gather_due(
     }
 }
 
-// The same of all records.
+// Makes the blocks of all records.
 fn gather_all(
     records: &mut Records,
     alloc: Global,
@@ -105,7 +105,7 @@ fn gather_all(
     gather_these(records, alloc, &all, tables, program)
 }
 
-// The same of those at these places: first into fine blocks, then these into wider ones.
+// Gathers the records at these places: first into fine blocks, then these into wider ones.
 #[tactic(auto, using(rerun_records::proofs::Puts::same_values))]
 fn gather_these(
     records: &mut Records,

@@ -10,7 +10,7 @@ ghost use Rattle.rerun_records.specs.Sums.{IsSumOf};
 ghost use Rattle.gathered_records.specs.Summing.{nothing_summed, added, summed, same_entry, put_entry, put_entries, numbered_from, at_places};
 
 use monoid_laws::{Kind, Val};
-use reducer_values::{combine, copy_of, identity};
+use reducer_values::{combine_copy, identity};
 use rerun_records::readings::Readings;
 use rerun_records::record::Record;
 use std::alloc::{AllocError, Global};
@@ -199,11 +199,7 @@ fn add_value(held: &mut Val, alloc: Global, kind: &Kind, value: &Val) -> Result<
     if !is_small(value) {
         return Err(AllocError);
     }
-    let copy = copy_of(alloc, value)?;
-    match combine(alloc, *kind, held, copy) {
-        Ok(()) => Ok(()),
-        Err(_) => Err(AllocError),
-    }
+    combine_copy(alloc, kind, held, value)
 }
 
 // The reducers' values with their numbers; refused where one of them is too long.
@@ -245,7 +241,7 @@ fn are_few<T: Drop>(pieces: &[Vec<T>]) -> bool {
     true
 }
 
-// The same readings once more behind the others.
+// Shares these readings, behind the others.
 fn add_reads(parts: &mut Vec<Readings>, reads: &Readings) -> Result<(), AllocError>
     ensures added { OnOk result (parts.new.items ≡ parts.old.items ++ reads.now ∷ []) }
 {

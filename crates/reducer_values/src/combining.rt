@@ -4,10 +4,11 @@ ghost use Rattle.monoid_laws.specs.Kinds.{operate, identity_of, meaning, IsWorth
 ghost use Rattle.reducer_values.specs.Forms.{is_fixed, IsBlank};
 
 use crate::adding::combine_amounts;
+use crate::copying::copy_of;
 use crate::fixed::{combine_fixed, is_fixed};
 use crate::joining::{combine_kept, combine_lists};
 use crate::{Kind, Val};
-use std::alloc::Global;
+use std::alloc::{AllocError, Global};
 
 /// The value that changes nothing. It takes no memory.
 pub fn identity(alloc: Global, kind: Kind) -> Val
@@ -57,11 +58,11 @@ fn is_blank(value: &Val) -> bool
 }
 
 /// Combines two values of a kind that takes memory.
-fn combine_growing(alloc: Global, kind: Kind, left: &mut Val, right: Val) -> Result<(), Val>
-    requires growing { is_fixed kind ≡ false }
-    requires left_value { IsWorth kind (meaning left.old) }
-    requires right_value { IsWorth kind (meaning right) }
-    ensures combined { OnOk result (meaning left.new ≡ operate kind (meaning left.old) (meaning right)) }
+fn combine_growing(alloc: Global, kind: &Kind, left: &mut Val, right: Val) -> Result<(), Val>
+    requires growing { is_fixed kind.now ≡ false }
+    requires left_value { IsWorth kind.now (meaning left.old) }
+    requires right_value { IsWorth kind.now (meaning right) }
+    ensures combined { OnOk result (meaning left.new ≡ operate kind.now (meaning left.old) (meaning right)) }
     ensures refused { OnErr result (meaning left.new ≡ meaning left.old) }
     ensures handed_back { IfErr result (λ v. v ≡ right) }
 {
@@ -73,18 +74,18 @@ fn combine_growing(alloc: Global, kind: Kind, left: &mut Val, right: Val) -> Res
 }
 
 /// Makes `left` the two combined, left then right; where memory is refused, hands `right` back.
-pub fn combine(alloc: Global, kind: Kind, left: &mut Val, right: Val) -> Result<(), Val>
-    requires left_value { IsWorth kind (meaning left.old) }
-    requires right_value { IsWorth kind (meaning right) }
+pub fn combine(alloc: Global, kind: &Kind, left: &mut Val, right: Val) -> Result<(), Val>
+    requires left_value { IsWorth kind.now (meaning left.old) }
+    requires right_value { IsWorth kind.now (meaning right) }
     ensures combined { OnOk result (meaning left.new
-        ≡ operate kind (meaning left.old) (meaning right)) }
+        ≡ operate kind.now (meaning left.old) (meaning right)) }
     ensures refused { OnErr result (meaning left.new ≡ meaning left.old) }
     ensures handed_back { IfErr result (λ v. v ≡ right) }
-    ensures fixed { is_fixed kind ≡ true → IsOk result }
-    ensures room { meaning left.old ≡ identity_of kind → IsOk result }
+    ensures fixed { is_fixed kind.now ≡ true → IsOk result }
+    ensures room { meaning left.old ≡ identity_of kind.now → IsOk result }
 {
     if is_fixed(kind) {
-        *left = combine_fixed(&kind, left, &right);
+        *left = combine_fixed(kind, left, &right);
         return Ok(());
     }
     match combine_growing(alloc, kind, left, right) {
@@ -96,5 +97,24 @@ pub fn combine(alloc: Global, kind: Kind, left: &mut Val, right: Val) -> Result<
             }
             Err(right)
         }
+    }
+}
+
+/// Combines a copy of a value on the right of another. It is refused for want of memory alone.
+pub fn combine_copy(
+    alloc: Global,
+    kind: &Kind,
+    held: &mut Val,
+    value: &Val,
+) -> Result<(), AllocError>
+    requires held { IsWorth kind.now (meaning held.old) }
+    requires value { IsWorth kind.now (meaning value.now) }
+    ensures combined { OnOk result
+        (meaning held.new ≡ operate kind.now (meaning held.old) (meaning value.now)) }
+{
+    let copy = copy_of(alloc, value)?;
+    match combine(alloc, kind, held, copy) {
+        Ok(()) => Ok(()),
+        Err(_) => Err(AllocError),
     }
 }

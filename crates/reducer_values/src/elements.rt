@@ -27,7 +27,7 @@ pub(crate) fn one_number(alloc: Global, kind: Kind, number: i64) -> Result<Val, 
 {
     let mut list = Vec::new(alloc);
     list.push(number)?;
-    keep(kind, &mut list);
+    keep(&kind, &mut list);
     Ok(Val::List(list))
 }
 

@@ -23,8 +23,8 @@ pub(crate) fn product_of(a: i64, b: i64) -> i64
 }
 
 /// Whether the values of a kind take no memory.
-pub(crate) fn is_fixed(kind: Kind) -> bool
-    ensures { result ≡ is_fixed kind }
+pub(crate) fn is_fixed(kind: &Kind) -> bool
+    ensures { result ≡ is_fixed kind.now }
 {
     match kind {
         Kind::List => false,

@@ -126,19 +126,19 @@ pub(crate) fn combine_lists(left: &mut Val, right: Val) -> Result<(), Val>
 }
 
 /// Keeps what a kind keeps of a list: the first numbers, the last ones, or all.
-pub(crate) fn keep(kind: Kind, list: &mut Vec<i64>)
-    ensures { list.new.items ≡ kept kind list.old.items }
+pub(crate) fn keep(kind: &Kind, list: &mut Vec<i64>)
+    ensures { list.new.items ≡ kept kind.now list.old.items }
 {
     match kind {
-        Kind::First(n) => list.truncate(n as usize),
-        Kind::Last(n) => keep_last(list, n as usize),
+        Kind::First(n) => list.truncate(*n as usize),
+        Kind::Last(n) => keep_last(list, *n as usize),
         _ => {}
     }
 }
 
 /// Joins a value to a list and keeps what the kind keeps, or hands the value back.
-fn join_kept(kind: Kind, list: &mut Vec<i64>, right: Val) -> Result<(), Val>
-    ensures joined { OnOk result (list.new.items ≡ kept kind (list.old.items ++ the_items (meaning right))) }
+fn join_kept(kind: &Kind, list: &mut Vec<i64>, right: Val) -> Result<(), Val>
+    ensures joined { OnOk result (list.new.items ≡ kept kind.now (list.old.items ++ the_items (meaning right))) }
     ensures refused { OnErr result (list.new.items ≡ list.old.items) }
     ensures handed_back { IfErr result (λ v. v ≡ right) }
 {
@@ -155,8 +155,13 @@ fn join_kept(kind: Kind, list: &mut Vec<i64>, right: Val) -> Result<(), Val>
 }
 
 /// Joins two lists of a kind and keeps what the kind keeps; the left one is whole afterwards.
-pub(crate) fn combine_kept(alloc: Global, kind: Kind, left: &mut Val, right: Val) -> Result<(), Val>
-    ensures joined { OnOk result (meaning left.new ≡ items (kept kind (the_items (meaning left.old) ++ the_items (meaning right)))) }
+pub(crate) fn combine_kept(
+    alloc: Global,
+    kind: &Kind,
+    left: &mut Val,
+    right: Val,
+) -> Result<(), Val>
+    ensures joined { OnOk result (meaning left.new ≡ items (kept kind.now (the_items (meaning left.old) ++ the_items (meaning right)))) }
     ensures refused { OnErr result (meaning left.new ≡ meaning left.old) }
     ensures handed_back { IfErr result (λ v. v ≡ right) }
 {

@@ -13,7 +13,7 @@ mod table_rows;
 mod updating;
 
 pub use adding::{add_amount, merge_amounts};
-pub use combining::{combine, identity};
+pub use combining::{combine, combine_copy, identity};
 pub use copying::copy_of;
 pub use elements::inject;
 pub use fixed::sum_of;

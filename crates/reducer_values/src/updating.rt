@@ -72,7 +72,7 @@ fn add_number(alloc: Global, kind: &Kind, value: &mut Val, number: i64) -> Resul
         Val::List(list) => push_kept(kind, list, number),
         other => {
             let element = one_number(alloc, *kind, number)?;
-            match combine(alloc, *kind, other, element) {
+            match combine(alloc, kind, other, element) {
                 Ok(()) => Ok(()),
                 Err(_) => Err(AllocError),
             }
@@ -90,7 +90,7 @@ fn add_at_key(alloc: Global, value: &mut Val, key: i64, amount: i64) -> Result<(
         Val::Hist(held) => add_amount(held, key, amount),
         other => {
             let element = one_amount(alloc, key, amount)?;
-            match combine(alloc, Kind::Hist, other, element) {
+            match combine(alloc, &Kind::Hist, other, element) {
                 Ok(()) => Ok(()),
                 Err(_) => Err(AllocError),
             }

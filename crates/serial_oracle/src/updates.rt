@@ -147,7 +147,7 @@ fn combine_into(alloc: Global, kind: Kind, left: &mut Val, right: Val) -> Result
     ensures of_kind { OnOk result (IsWorth kind (meaning left.new)) }
 {
     laws_of(kind);
-    match combine(alloc, kind, left, right) {
+    match combine(alloc, &kind, left, right) {
         Ok(()) => Ok(()),
         Err(_) => Err(AllocError),
     }

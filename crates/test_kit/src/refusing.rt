@@ -111,7 +111,7 @@ impl View for Stubborn {
                 Refuses::Nothing | Refuses::Update => {}
             }
         }
-        combine(self.alloc, Kind::List, &mut self.list, value)
+        combine(self.alloc, &Kind::List, &mut self.list, value)
     }
 
     fn take(&mut self) -> Val {

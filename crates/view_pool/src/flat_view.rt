@@ -55,7 +55,7 @@ impl View for FlatView {
     }
 
     fn absorb(&mut self, value: Val) -> Result<(), Val> {
-        combine(self.alloc, self.kind, &mut self.value, value)
+        combine(self.alloc, &self.kind, &mut self.value, value)
     }
 
     fn take(&mut self) -> Val {

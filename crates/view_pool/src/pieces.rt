@@ -61,22 +61,22 @@ fn join_short(kind: &Kind, left: &mut Val, right: &Val) -> bool
 /// Makes `left` the two combined, left then right; where memory is refused, hands `right` back. Pieces stay pieces.
 pub(crate) fn combine_in_pieces(
     alloc: Global,
-    kind: Kind,
+    kind: &Kind,
     left: &mut Val,
     right: Val,
 ) -> Result<(), Val>
-    requires left_value { IsWorth kind (meaning left.old) }
-    requires right_value { IsWorth kind (meaning right) }
+    requires left_value { IsWorth kind.now (meaning left.old) }
+    requires right_value { IsWorth kind.now (meaning right) }
     ensures combined { OnOk result (meaning left.new
-        ≡ operate kind (meaning left.old) (meaning right)) }
+        ≡ operate kind.now (meaning left.old) (meaning right)) }
     ensures refused { OnErr result (meaning left.new ≡ meaning left.old) }
     ensures handed_back { IfErr result (λ v. v ≡ right) }
-    ensures room { meaning left.old ≡ identity_of kind → IsOk result }
+    ensures room { meaning left.old ≡ identity_of kind.now → IsOk result }
 {
-    if join_short(&kind, left, &right) {
+    if join_short(kind, left, &right) {
         return Ok(());
     }
-    split_for(alloc, &kind, left, &right);
+    split_for(alloc, kind, left, &right);
     combine(alloc, kind, left, right)
 }
 

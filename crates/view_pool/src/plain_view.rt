@@ -57,7 +57,7 @@ impl View for PlainView {
     }
 
     fn absorb(&mut self, value: Val) -> Result<(), Val> {
-        combine_in_pieces(self.alloc, self.kind, &mut self.value, value)
+        combine_in_pieces(self.alloc, &self.kind, &mut self.value, value)
     }
 
     fn take(&mut self) -> Val {
