@@ -4,7 +4,7 @@ use Rattle.std.proofs.lemmas.List.{map-append}
 use Rattle.crossbeam_deque.specs.Tasks.{Pushes, Takes, Pops, Forks, Merges, Admits, Learns}
 use Rattle.stealing_deques.specs.declared.entry.PlainEntry.{PlainEntry}
 use Rattle.stealing_deques.specs.declared.entry.Knowledge.{Knowledge}
-use Rattle.stealing_deques.specs.Order.{GoesOn, IsBoundTo, IsInOrder, AreSeen, AreCounted, IfOne, knowing, owning, stealing, after_push, after_pop, after_steal}
+use Rattle.stealing_deques.specs.Order.{GoesOn, IsBoundTo, ComeBefore, IsInOrder, AreSeen, AreCounted, IfOne, knowing, owning, stealing, after_push, after_pop, after_steal}
 use Rattle.stealing_deques.proofs.Keeps as plain
 
 module _ {E : Type 0} (f : E → PlainEntry) where
@@ -21,7 +21,7 @@ module _ {E : Type 0} (f : E → PlainEntry) where
   pops port v may x items views h at =
       plain.pops port v may (f x) (map f items) views (subst (λ (l : List PlainEntry). IsInOrder l views) (map-append f items (x ∷ [])) h) at
 
-  pub takes : (port : ℕ) (v : Knowledge) → v.steals ≡ true → v.owns ≢ true → Takes Rule port v 1 (λ xs w. IfOne (map f xs) (λ c. w ≡ after_steal v c))
+  pub takes : (port : ℕ) (v : Knowledge) → v.steals ≡ true → v.owns ≢ true → Takes Rule port v 1 (λ xs w. IfOne (map f xs) (λ c. (w ≡ after_steal v c) × ComeBefore c.number v.stolen))
   takes port v may apart [] items views lo few h at = absurd (omega (arith, lo))
   takes port v may apart (x ∷ []) items views lo few h at = plain.steals_one port v (f x) may apart (map f items) views h at
   takes port v may apart (x ∷ y ∷ zs) items views lo few h at = absurd (omega (arith, few))

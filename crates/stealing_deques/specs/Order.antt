@@ -47,18 +47,30 @@ IsBoundTo (Some here) there = there ≡ here
 abbrev pub FitsOwner : ℕ → ℕ → List ℕ → List PlainEntry → ℕ → Knowledge → Type 0
 FitsOwner owner n popped items port v = v.owns ≡ true → (port ≡ owner) × (v.pushed ≡ n) × (v.popped ≡ popped) × EndsAt items v.here
 
-abbrev pub FitsThief : ℕ → List ℕ → ℕ → Knowledge → Type 0
+abbrev pub FitsThief : ℕ → List PlainEntry → ℕ → Knowledge → Type 0
 FitsThief thief stolen port v = v.steals ≡ true → (port ≡ thief) × (v.stolen ≡ stolen)
 
--- each push has the next number, and each number below it is held or was taken, once; the entries stand in the order of places
+-- the entries were pushed one after another, the first of them last, and all before the push of that number
+abbrev pub ComeBefore : ℕ → List PlainEntry → Type 0
+ComeBefore n [] = Unit {0}
+ComeBefore n (c ∷ cs) = (c.number < n) × ComeBefore c.number cs
+
+-- the entries that are held, turned round, in front of what was stolen: the last push first
+abbrev pub turned : List PlainEntry → List PlainEntry → List PlainEntry
+turned [] taken = taken
+turned (c ∷ cs) taken = turned cs (c ∷ taken)
+
+-- each push has the next number, and each number below it is held or was taken, once; the entries stand in the order of places and of
+-- their pushes, behind all that was stolen
 abbrev pub IsInOrder : List PlainEntry → List Knowledge → Type 0
 IsInOrder items views =
-    (owner : ℕ) × (thief : ℕ) × (n : ℕ) × (popped : List ℕ) × (stolen : List ℕ)
-    × ((x : ℕ) → (times x popped + times x stolen) + count_held x items ≡ once_below x n)
+    (owner : ℕ) × (thief : ℕ) × (n : ℕ) × (popped : List ℕ) × (stolen : List PlainEntry)
+    × ((x : ℕ) → (times x popped + count_held x stolen) + count_held x items ≡ once_below x n)
     × ((length popped + length stolen) + length items ≡ n)
+    × ComeBefore n (turned items stolen)
     × ((port : ℕ) (v : Knowledge) → get_elem? views port ≡ some v → FitsOwner owner n popped items port v × FitsThief thief stolen port v)
 
-abbrev pub knowing : Bool → Bool → ℕ → Option Spot → List ℕ → List ℕ → Knowledge
+abbrev pub knowing : Bool → Bool → ℕ → Option Spot → List ℕ → List PlainEntry → Knowledge
 knowing owns steals pushed here popped stolen = record { owns = owns; steals = steals; pushed = pushed; here = here; popped = popped; stolen = stolen }
 
 -- the two sides of what both ends know
@@ -79,7 +91,7 @@ abbrev pub after_pop : Knowledge → PlainEntry → Knowledge
 after_pop v c = record v { here = Some c.to; popped = c.number ∷ v.popped }
 
 abbrev pub after_steal : Knowledge → PlainEntry → Knowledge
-after_steal v c = record v { stolen = c.number ∷ v.stolen }
+after_steal v c = record v { stolen = c ∷ v.stolen }
 
 -- the fact holds of the one entry
 abbrev pub IfOne : List PlainEntry → (PlainEntry → Type 0) → Type 0
@@ -93,14 +105,15 @@ PlacesRise [] = Unit {0}
 PlacesRise (c ∷ []) = Unit {0}
 PlacesRise (c ∷ d ∷ cs) = GoesOn c.at.name d.at.name × PlacesRise (d ∷ cs)
 
--- the entries stand in order, and with what was stolen each number below the count of pushes stands once
+-- the entries stand in order, behind what was stolen, and with that each number below the count of pushes stands once
 abbrev pub AreSeen : Knowledge → List PlainEntry → Type 0
 AreSeen v items = PlacesRise items × EndsAt items v.here
-    × ((stolen : List ℕ)
-    × ((x : ℕ) → (times x v.popped + times x stolen) + count_held x items ≡ once_below x v.pushed)
-    × ((length v.popped + length stolen) + length items ≡ v.pushed))
+    × ((stolen : List PlainEntry)
+    × ((x : ℕ) → (times x v.popped + count_held x stolen) + count_held x items ≡ once_below x v.pushed)
+    × ((length v.popped + length stolen) + length items ≡ v.pushed)
+    × ComeBefore v.pushed (turned items stolen))
 
 -- each number below the count of pushes is held or was taken, once
 abbrev pub AreCounted : Knowledge → List PlainEntry → Type 0
-AreCounted v items = ((x : ℕ) → (times x v.popped + times x v.stolen) + count_held x items ≡ once_below x v.pushed)
+AreCounted v items = ((x : ℕ) → (times x v.popped + count_held x v.stolen) + count_held x items ≡ once_below x v.pushed)
     × ((length v.popped + length v.stolen) + length items ≡ v.pushed)

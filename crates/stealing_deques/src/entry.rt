@@ -23,15 +23,15 @@ pub struct Entry<T: Continuation> {
     pub(crate) task: T,
 }
 
-/// What an end of a deque knows: what it may do, how many were pushed, the spot that the owner has come to, and the numbers of what
-/// was popped and stolen. No value of it is made.
+/// What an end of a deque knows: what it may do, how many were pushed, the spot that the owner has come to, the numbers of what was
+/// popped, and what was stolen. No value of it is made.
 pub struct Knowledge {
     pub owns: bool,
     pub steals: bool,
     pub pushed: u64,
     pub here: Option<Spot>,
     pub popped: LinkedList<u64>,
-    pub stolen: LinkedList<u64>,
+    pub stolen: LinkedList<PlainEntry>,
 }
 
 /// What contracts see of the owner's end: the deque's number, how many it has pushed, its spot, where it is bound to one, and the numbers of what it
@@ -43,8 +43,8 @@ pub struct PlainOwner {
     pub popped: LinkedList<u64>,
 }
 
-/// What contracts see of the thieves' end: the deque's number, and the numbers of what was stolen, the last first.
+/// What contracts see of the thieves' end: the deque's number, and what was stolen, the last first.
 pub struct PlainThief {
     pub number: u64,
-    pub stolen: LinkedList<u64>,
+    pub stolen: LinkedList<PlainEntry>,
 }

@@ -90,7 +90,8 @@ impl<T: Continuation, D: Deques> OwnerEnd<T, D> {
     }
 
     /// How many continuations the deque holds at one moment. From front to back each place is a longer name that begins with
-    /// the place in front of it, and each number of a push stands once, among what is held, popped or stolen.
+    /// the place in front of it, and each was pushed after the one in front of it and after all that were stolen; each number
+    /// of a push stands once, among what is held, popped or stolen.
     pub fn held_count(&mut self) -> usize
         ensures in_order { HoldsInOrder self.old result }
         ensures same { self.new ≡ self.old }

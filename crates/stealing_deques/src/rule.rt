@@ -4,8 +4,8 @@ use crate::continuation::Continuation;
 use crate::entry::{Entry, Knowledge};
 use crossbeam_deque::protocol::{Join, Lesson, Outcome, Protocol, Split};
 
-/// The rule: each place begins with the one in front of it, and each push's number stands once among what is held and what was
-/// taken.
+/// The rule: each place begins with the one in front of it, each push's number stands once among what is held and what was taken,
+/// and what was stolen was pushed before all that is held, in that order.
 pub struct PlacesInOrder;
 
 impl<T: Continuation> Protocol<Entry<T>, Knowledge> for PlacesInOrder {
@@ -47,10 +47,10 @@ pub struct Stolen;
 
 impl<T: Continuation> Outcome<Entry<T>, Knowledge> for Stolen {
     ghost use Rattle.std.specs.Prelude.{◌≡◌};
-    ghost use Rattle.stealing_deques.specs.Order.{IfOne, after_steal};
+    ghost use Rattle.stealing_deques.specs.Order.{ComeBefore, IfOne, after_steal};
     ghost use Rattle.stealing_deques.specs.Entries.{entries};
 
-    ghost then = { λ v xs w. IfOne (entries T.place T.bottom T.since xs) (λ c. w ≡ after_steal v c) };
+    ghost then = { λ v xs w. IfOne (entries T.place T.bottom T.since xs) (λ c. (w ≡ after_steal v c) × ComeBefore c.number v.stolen) };
 }
 
 /// What the owner learns of the entries.

@@ -1,5 +1,6 @@
 //! The thieves' end of a deque.
 ghost use Rattle.std.specs.Prelude.{◌≡◌, IfSome, IfNone};
+ghost use Rattle.stealing_deques.specs.Order.{spot};
 ghost use Rattle.stealing_deques.specs.Steps.{WasStolen};
 
 use crate::continuation::Continuation;
@@ -36,9 +37,11 @@ impl<T: Continuation, D: Deques> Model for ThiefEnd<T, D> {
 }
 
 impl<T: Continuation, D: Deques> ThiefEnd<T, D> {
-    /// Takes the first continuation. That there is none says nothing: another may be taking the last one.
+    /// Takes the first continuation, which was pushed after all that were stolen before it. That there is none says nothing:
+    /// another may be taking the last one.
     pub fn steal(&mut self) -> Option<T>
-        ensures stolen { IfSome result (λ _. WasStolen self.old self.new) }
+        ensures stolen { IfSome result (λ t. WasStolen self.old (spot (T.place t) (T.since t))
+            (spot (T.bottom t) (T.since t)) self.new) }
         ensures same { IfNone result (self.new ≡ self.old) }
     {
         if self.steals == u64::MAX {

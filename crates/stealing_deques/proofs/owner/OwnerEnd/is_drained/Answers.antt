@@ -1,6 +1,7 @@
-use Rattle.std.proofs.Common.{◌≡◌, rules, ap, ◌∙◌, true, arith, length, List, ℕ}
+use Rattle.std.proofs.Common.{◌≡◌, rules, ap, ◌∙◌, true, arith, length, List}
 use Rattle.crossbeam_deque.specs.Handles.{view, worker_view}
 use Rattle.stealing_deques.specs.declared.entry.Knowledge.{Knowledge}
+use Rattle.stealing_deques.specs.declared.entry.PlainEntry.{PlainEntry}
 use Rattle.stealing_deques.specs.Order.{knowing}
 use Rattle.stealing_deques.proofs.Shown.{admits, merges, forks_anew}
 use Rattle.stealing_deques.proofs.owner.OwnerEnd.is_drained.Goals as goal
@@ -18,5 +19,5 @@ another-requires g c =
     let same : (view c.replace-pass.result).stolen ≡ (view c.thief.inside.pass).stolen = search rules in
     let pushed : v.pushed ≡ (worker_view c.self.inside.worker).pushed = ap (λ (x : Knowledge). x.pushed) is in
     let popped : length v.popped ≡ length (worker_view c.self.inside.worker).popped = ap (λ (x : Knowledge). length x.popped) is in
-    let stolen : length v.stolen ≡ length (view c.thief.inside.pass).stolen = ap (λ (x : Knowledge). length x.stolen) is ∙ ap (λ (l : List ℕ). length l) same in
+    let stolen : length v.stolen ≡ length (view c.thief.inside.pass).stolen = ap (λ (x : Knowledge). length x.stolen) is ∙ ap (λ (l : List PlainEntry). length l) same in
     forks_anew _ _ _ (ap (λ (x : Knowledge). x.owns) is) (ap (λ (x : Knowledge). x.steals) is) (omega (arith, pushed, popped, stolen, c.self.invariant, c.thief.invariant))
