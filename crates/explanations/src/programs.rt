@@ -95,7 +95,7 @@ pub fn push_shown(text: &mut String, program: &[u8], line: u32) -> Result<(), Al
     push_line_shown(text, line_at(program, line), line as usize)
 }
 
-/// The same of a line by itself, with its number.
+/// Puts a line that is given by itself, with its number, at the end of the text as `push_shown` does.
 pub(crate) fn push_line_shown(
     text: &mut String,
     words: &[u8],

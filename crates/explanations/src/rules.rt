@@ -11,7 +11,7 @@ pub(crate) fn push_rule(text: &mut String, rule: Rule) -> Result<(), AllocError>
     push_line(text, mended_by(rule))
 }
 
-/// The same of a line that breaks the rule.
+/// Puts that at the end of the text for a rule that a line is known to break, whose words it may name.
 pub(crate) fn push_rule_on(
     alloc: Global,
     text: &mut String,

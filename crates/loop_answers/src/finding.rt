@@ -128,7 +128,7 @@ fn are_all(found: &Option<Found<'_>>, wanted: Wanted) -> bool {
     }
 }
 
-/// The same, where `numbers` is for the arguments. The iteration of the number that was tried is asked first, since a half was
+/// What answers the wanted iterations, where `numbers` is for the arguments. The iteration of the number that was tried is asked first, since a half was
 /// searched in vain as far as to there.
 fn answers_by<'a, V: View>(
     machine: &mut Machine<V>,

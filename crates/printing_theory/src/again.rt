@@ -16,7 +16,7 @@ pub fn print_and_parse(alloc: Global, program: &Program) -> Result<Program, Text
     // A program that was read is read again with the same tree.
     ensures text { IsOfText (tree program.now) → length (printed (tree program.now)) ≤ longest_text
         → IsAgain (tree program.now) result }
-    // The same of a program whose declarations are of several texts.
+    // A program whose declarations are of several texts is read again with the same tree, too.
     ensures texts { IsOfTexts (tree program.now)
         → length (printed (tree program.now)) ≤ longest_text → IsAgain (tree program.now) result }
     // A program whose printed text is too long is refused at line 0.

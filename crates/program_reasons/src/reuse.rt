@@ -27,7 +27,7 @@ pub fn reuse_text(
     Ok(text)
 }
 
-/// The same behind the run's number, and how many instances it left unrecorded, if it did. Want of memory is the only error.
+/// Those reasons behind the run's number, and how many instances it left unrecorded, if it did. Want of memory is the only error.
 pub fn outcome_text(
     alloc: Global,
     number: usize,

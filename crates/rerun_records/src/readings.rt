@@ -77,7 +77,7 @@ impl Readings {
         })
     }
 
-    /// The same readings once more, without a copy.
+    /// A second owner of these readings, which aren't copied.
     pub fn share(&self) -> Result<Readings, AllocError>
         ensures same { IfOk result (λ r. r ≡ self.now) }
     {

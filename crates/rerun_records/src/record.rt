@@ -189,7 +189,7 @@ fn doubted_agree(reads: &Readings, changes: Option<&[(usize, i64)]>, tables: &Ta
     }
 }
 
-// The same for those changes.
+// Whether the tables hold each reading that those changes put in doubt.
 fn those_agree(reads: &Readings, changes: &[(usize, i64)], tables: &Tables) -> bool
     requires in_step { every (in_step tables.now.tables (rows changes.now)) reads.now ≡ true }
     ensures agree { result ≡ every (note_agrees tables.now.tables) reads.now }

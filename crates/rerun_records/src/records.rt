@@ -208,7 +208,7 @@ impl Records {
         }
     }
 
-    // The same for the instance of the record at that place: by a block that begins there, or by the record alone.
+    // What answers from the instance of the record at that place on: a block that begins there, or the record alone.
     fn batch_at<'a>(
         &'a self,
         place: usize,
@@ -233,7 +233,7 @@ impl Records {
         }
     }
 
-    // The same by the record alone.
+    // What the record alone answers.
     fn batch_of_one<'a>(
         &self,
         place: usize,

@@ -99,7 +99,7 @@ fn with_next<'a>(
     }
 }
 
-// The same outside a define.
+// The command of a line outside a define.
 fn outside<'a>(
     alloc: Global,
     number: usize,
@@ -124,7 +124,7 @@ fn outside<'a>(
     }
 }
 
-// The same in a define.
+// What a line in a define adds to it, or the command where it ends one.
 fn inside<'a>(
     alloc: Global,
     begun: Begun,

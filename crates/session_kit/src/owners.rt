@@ -27,7 +27,7 @@ pub fn in_session<T, F: FnOnce(&mut Session<PlainView>) -> T>(
     Some(act(&mut session))
 }
 
-/// The same with lists that refuse so, and count their drops, for a program whose reducers are lists.
+/// Does something in a session whose views are lists that refuse so, and count their drops, for a program whose reducers are lists.
 pub fn in_session_of_lists<T, F: FnOnce(&mut Session<Stubborn>) -> T>(
     alloc: Global,
     text: &str,

@@ -59,7 +59,7 @@ pub fn note_reducer(
     note_if(first, !is_monoid(&reducer.kind), place, Rule::Monoid)
 }
 
-// The same where `main` is recorded or has parameters.
+// The first violation so far, or that of a `main` that is recorded or has parameters.
 fn note_main(first: Option<Violation>, place: Place, procedure: &Procedure) -> Option<Violation>
     ensures { result ≡ noted first (at place.declaration place.line (main_rules (proc procedure.now))) }
 {
@@ -75,7 +75,7 @@ fn repeats_parameter(procedure: &Procedure) -> bool
     repeats(&procedure.names[..count])
 }
 
-/// The same of a procedure's head.
+/// The first violation so far, or that of a procedure's head.
 #[tactic(auto, using(crate::proofs::Noting::noted_more))]
 pub fn note_head(
     first: Option<Violation>,

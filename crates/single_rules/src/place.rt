@@ -26,7 +26,7 @@ pub fn note(first: Option<Violation>, place: Place, rule: Rule) -> Option<Violat
     }
 }
 
-/// The same where the rule is broken, else the first violation so far.
+/// The first violation so far, or that of the rule at that place where it is broken.
 pub fn note_if(
     first: Option<Violation>,
     broken: bool,

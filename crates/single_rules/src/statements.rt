@@ -32,7 +32,7 @@ fn note_bind(
     note_if(first, scope.is_bound(name), place, Rule::Twice)
 }
 
-// The same where the value of a call or a spawn may be bound.
+// The first violation so far, or that of binding the value of a call or a spawn, if it is bound.
 fn note_target(
     first: Option<Violation>,
     place: Place,
@@ -47,7 +47,7 @@ fn note_target(
     }
 }
 
-// The same where a procedure with so many parameters is entered with so many arguments.
+// The first violation so far, or that of entering a procedure with so many parameters with so many arguments.
 fn note_callee(
     first: Option<Violation>,
     place: Place,
@@ -62,7 +62,7 @@ fn note_callee(
     }
 }
 
-// The same where the procedure of a name is entered.
+// The first violation so far, or that of entering the procedure of a name.
 #[tactic(auto, using(crate::proofs::Noting::noted_more))]
 fn note_enter(
     first: Option<Violation>,
@@ -77,7 +77,7 @@ fn note_enter(
     note_if(first, name == "main", place, Rule::Main)
 }
 
-// The same where a reducer of that kind is updated with so many values.
+// The first violation so far, or that of updating a reducer of that kind with so many values.
 fn note_update(
     first: Option<Violation>,
     place: Place,
@@ -92,7 +92,7 @@ fn note_update(
     }
 }
 
-// The same where a reducer of that kind is read.
+// The first violation so far, or that of reading a reducer of that kind.
 fn note_kind(first: Option<Violation>, place: Place, kind: Option<&Kind>) -> Option<Violation>
     ensures { result ≡ noted first (at place.declaration place.line (kind_rules (option_copied kind.entry))) }
 {
@@ -102,7 +102,7 @@ fn note_kind(first: Option<Violation>, place: Place, kind: Option<&Kind>) -> Opt
     }
 }
 
-// The same of a read, in main's outermost block or elsewhere.
+// The first violation so far, or that of a read, in main's outermost block or elsewhere.
 #[tactic(auto, using(crate::proofs::Noting::noted_more))]
 fn note_read(
     first: Option<Violation>,
@@ -117,7 +117,7 @@ fn note_read(
     note_if(first, !in_place || scope.has_spawned(), place, Rule::Read)
 }
 
-// The same of a loop's arguments, in which its variable is known; the loop ends its variable.
+// The first violation so far, or that of a loop's arguments, in which its variable is known; the loop ends its variable.
 fn note_arguments(
     first: Option<Violation>,
     place: Place,
@@ -151,7 +151,7 @@ fn enter(scope: &mut Scope, now: Moment, name: Option<usize>, way: Way)
     }
 }
 
-// The same of a call or a spawn.
+// The first violation so far, or that of a call or a spawn.
 #[tactic(auto, using(crate::proofs::Noting::noted_more, crate::proofs::Lists::length_of_map))]
 fn note_entry(
     setting: &Setting,
@@ -169,7 +169,7 @@ fn note_entry(
     note_enter(first, place, setting.declarations, callee, arguments.len())
 }
 
-// The same of a loop's bounds and variable.
+// The first violation so far, or that of a loop's bounds and variable.
 #[tactic(auto, using(crate::proofs::Noting::noted_more))]
 fn note_range(
     setting: &Setting,
@@ -187,7 +187,7 @@ fn note_range(
     note_bind(first, place, scope, name)
 }
 
-// The same of a plain bind, with what is known after it.
+// The first violation so far, or that of a plain bind, with what is known after it.
 #[tactic(auto, using(crate::proofs::Noting::noted_more))]
 fn note_binding(
     setting: &Setting,
@@ -207,7 +207,7 @@ fn note_binding(
     first
 }
 
-// The same of a read, with what is known after it.
+// The first violation so far, or that of a read, with what is known after it.
 #[tactic(auto, using(crate::proofs::Noting::noted_more))]
 fn note_reading(
     setting: &Setting,

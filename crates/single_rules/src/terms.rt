@@ -26,7 +26,7 @@ fn note_table(
     }
 }
 
-// The same of the use of a table's column.
+// The first violation so far, or that of the use of a table's column.
 fn note_column(
     first: Option<Violation>,
     place: Place,
@@ -74,7 +74,7 @@ pub fn note_term(
     }
 }
 
-/// The same of all these expressions.
+/// The first violation so far, or that of these expressions in their order.
 #[tactic(auto, using(crate::proofs::Noting::noted_more))]
 pub fn note_terms(
     first: Option<Violation>,

@@ -17,7 +17,7 @@ use single_rules::scope::Scope;
 use single_rules::setting::Setting;
 use std::alloc::{AllocError, Global};
 
-// The same of a procedure's body.
+// The first violation so far, or that of a procedure's body.
 fn note_body(
     alloc: Global,
     first: Option<Violation>,
@@ -41,7 +41,7 @@ fn note_body(
     Ok(note_block(&setting, first, &mut scope, 0, &procedure.blocks, levels, 0))
 }
 
-// The same of a declaration that comes after so many others.
+// The first violation so far, or that of a declaration that comes after so many others.
 #[tactic(auto, using(single_rules::proofs::Noting::noted_append))]
 fn note_declaration(
     alloc: Global,
@@ -74,7 +74,7 @@ fn note_declaration(
     }
 }
 
-// The same where `main` is missing.
+// The violation of a program without `main`, if it has none.
 fn note_missing(declarations: &[Declaration]) -> Option<Violation>
     ensures { result ≡ first_of (missing_main (map decl declarations.now)) }
 {

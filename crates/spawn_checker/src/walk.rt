@@ -147,7 +147,7 @@ pub fn note_block(
     }
 }
 
-// The same of a block's statements, in which blocks nest at most so many levels.
+// The first violation so far, or that of a block's statements, in which blocks nest at most so many levels.
 #[cycle(walk)]
 fn note_statements(
     setting: &Setting,
@@ -173,7 +173,7 @@ fn note_statements(
     found
 }
 
-// The same of a statement.
+// The first violation so far, or that of a statement.
 #[cycle(walk)]
 fn note_statement(
     setting: &Setting,
@@ -197,7 +197,7 @@ fn note_statement(
     }
 }
 
-// The same of the two branches of an `if`.
+// The first violation so far, or that of the two branches of an `if`.
 #[cycle(walk)]
 fn note_branches(
     setting: &Setting,

@@ -10,7 +10,7 @@ proc leaf(v) { update total v; return v; }
 proc main() { x = spawn leaf(1); y = spawn leaf(2); update total 9; sync; return x + y; }
 ";
 
-/// The same with a list in place of the sum.
+/// Two spawned children, and what follows them, with a list in place of the sum.
 pub const FIRST_LIST: &str = "reducer seen : list;
 proc leaf(v) { update seen v; return v; }
 proc main() { x = spawn leaf(1); y = spawn leaf(2); update seen 9; sync; return x + y; }
