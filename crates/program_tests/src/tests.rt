@@ -3,9 +3,7 @@
 mod beginnings;
 mod defines;
 mod exhausted;
-mod expressions;
 mod looks;
-mod numbers;
 mod printing;
 mod records;
 mod revisions;

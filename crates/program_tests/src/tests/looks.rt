@@ -8,11 +8,9 @@ pub enum Look {
     Tables(usize),
     Edits(u64),
     Table(&'static str, Option<usize>),
-    Column(usize, &'static str, Option<usize>),
     Named(usize, &'static str),
     TwoColumns(usize, &'static str, &'static str),
     Limit(usize, i64),
-    Has(usize, i64, bool),
     Cell(usize, i64, usize, Option<i64>),
 }
 
@@ -43,11 +41,9 @@ fn is_answered(tables: &Tables, look: &Look) -> bool {
         Look::Tables(count) => tables.count() == count,
         Look::Edits(count) => tables.edit_number() == count,
         Look::Table(name, number) => tables.table(name) == number,
-        Look::Column(table, name, number) => tables.column(table, name) == number,
         Look::Named(table, name) => is_named(tables, table, name),
         Look::TwoColumns(table, first, second) => has_two_columns(tables, table, first, second),
         Look::Limit(table, limit) => tables.limit(table) == limit,
-        Look::Has(table, row, there) => tables.has(table, row) == there,
         Look::Cell(table, row, column, value) => tables.cell(table, row, column) == value,
     }
 }
