@@ -8,7 +8,7 @@ from typing import Iterator, List, Optional, Tuple
 HERE = Path(__file__).resolve().parent
 TOP = HERE.parent
 
-SETTINGS = ("words", "line", "workers", "program", "tables", "script", "input", "output", "beginnings", "memory", "long", "live", "terminal")
+SETTINGS = ("words", "line", "workers", "program", "tables", "script", "input", "output", "beginnings", "memory", "stack", "long", "live", "terminal")
 EXPECTED = ("counts", "status", "said", "trace", "printed")
 WITH_BLOCKS = ("program", "tables", "said", "trace", "printed")
 
@@ -31,7 +31,7 @@ class Part:
 class Setting:
     """What a session runs. A text is None where there is no such file; a line stands for all words of the program's line. The output
     takes `all`, `none`, nothing since it is `closed`, or is `absent`; or, one run for each of the rooms, so many bytes. The memory is
-    in MiB, where there is a limit."""
+    in MiB, and each thread's stack in KiB, where there is a limit."""
 
     words: Tuple[str, ...] = ()
     line: Optional[Tuple[str, ...]] = None
@@ -44,6 +44,7 @@ class Setting:
     rooms: Tuple[int, ...] = ()
     beginnings: Tuple[int, ...] = ()
     memory: Optional[int] = None
+    stack: Optional[int] = None
     long: bool = False
     live: bool = False
     terminal: bool = False
@@ -173,8 +174,8 @@ def with_part(setting: Setting, part: Part, path: Path) -> Setting:
         return replace(setting, **{part.kind: numbers(part.rest)})
     if part.kind in ("program", "tables", "script"):
         return replace(setting, **{part.kind: text_of(part, path)})
-    if part.kind == "memory":
-        return replace(setting, memory=int(part.rest))
+    if part.kind in ("memory", "stack"):
+        return replace(setting, **{part.kind: int(part.rest)})
     if part.kind == "input":
         return replace(setting, input=part.rest != "none")
     if part.kind == "output" and part.rest in ("none", "closed", "absent"):

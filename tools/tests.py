@@ -66,9 +66,9 @@ class TablesFromCsv(unittest.TestCase):
         self.assertEqual(out, '[sales]\ncolumns = ["b"]\nrows = [\n  [7, 5],\n  [3, 6],\n]\n')
 
     def test_names_of_the_language(self):
-        out, said, _ = self.made("2nd,limit,a b,a-b\n1,2,3,4\n", "2025 Sales.csv", name="2025 Sales.csv")
-        self.assertTrue(out.startswith('[c_2025_sales]\ncolumns = ["c_2nd", "limit_", "a_b", "a_b_2"]\n'), out)
-        self.assertEqual(said, "2025 Sales.csv: table c_2025_sales, columns c_2nd (2nd), limit_ (limit), a_b (a b), a_b_2 (a-b)\n")
+        out, said, _ = self.made("2nd,limit,Sum,a b,a-b\n1,2,3,4,5\n", "2025 Sales.csv", name="2025 Sales.csv")
+        self.assertTrue(out.startswith('[c_2025_sales]\ncolumns = ["c_2nd", "limit_", "sum_", "a_b", "a_b_2"]\n'), out)
+        self.assertEqual(said, "2025 Sales.csv: table c_2025_sales, columns c_2nd (2nd), limit_ (limit), sum_ (Sum), a_b (a b), a_b_2 (a-b)\n")
 
     def rows(self, text, *words):
         """The rows that the tool makes of a file, each as its numbers."""

@@ -71,7 +71,7 @@ PROGRAMS: Dict[str, Limit] = {
     "a number": Limit((1 << 63) - 1, 0, lambda size: main_of(f"return {size};")),
     "a text": Limit(1 << 20, len(MAIN), lambda size: MAIN + " " * (size - len(MAIN))),
     "a comment": Limit(1 << 20, len(MAIN) + 1, lambda size: MAIN + "#" * (size - len(MAIN))),
-    "depth": Limit(63, 0, calls, "fault too deep"),
+    "depth": Limit(255, 0, calls, "fault too deep"),
     "a range": Limit(1 << 20, 0, long_loop, "fault range too long"),
 }
 TABLES: Dict[str, Limit] = {

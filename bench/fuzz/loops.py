@@ -13,7 +13,7 @@ LAST = 9223372036854775807
 FIRST_STEPS = 100_000
 FEW, MANY = (20, 400), (1030, 3000)
 LONG = ("list", "hist")  # of which a record of many rows may hold too much
-DEPTHS = (3, 20, 57, 58, 59, 59, 60, 60, 61, 62)
+DEPTHS = (3, 20, 249, 250, 251, 251, 252, 252, 253, 254)
 COUNTED = (*["{0}"] * 9, "{0} + 1", "2 * {0}", "{0} - 3", "-{0}", "{0} % 7", "{0} / 2", "{0} * {0}", "{0} * 4611686018427387904")
 
 
@@ -84,9 +84,9 @@ class LoopMaker(Maker):
         self.cells(body, scope, self.chance.choice(("r + 1", "r - 1", "r / 10", "2 * r")), "sales")
 
     def common_row(self, body: Body, scope: Scope) -> None:
-        """A row that all iterations read, or the limit that all ask for."""
-        if some(self.chance, 0.15):
-            scope.atoms.append("limit sales")
+        """A row that all iterations read, or a limit or a sum that all ask for."""
+        if some(self.chance, 0.2):
+            scope.atoms.append(self.chance.choice(("limit sales", "limit sales", "sum sales.price", "sum rates.rate")))
         else:
             self.cells(body, scope, self.chance.choice(("0", "0", "5")), self.chance.choice(("rates", "sales")))
 
@@ -122,7 +122,7 @@ class LoopMaker(Maker):
             begin = chance.choice((0, 1, chance.randint(0, most)))
             return str(begin), str(begin + times)
         if kind < 0.82:
-            return f"-{times}", chance.choice(("0", "2", "-3", "limit rates"))
+            return f"-{times}", chance.choice(("0", "2", "-3", "limit rates", "sum rates.rate"))
         if kind < 0.87:
             return f"{LAST} - {times % 200}", str(LAST)
         if kind < 0.94:
@@ -133,7 +133,7 @@ class LoopMaker(Maker):
     def arguments_of(self, callee: str, variable: str, scope: Scope) -> str:
         """The counted argument for the row, and a fixed one beside it."""
         counted = self.chance.choice(COUNTED).format(variable)
-        fixed = self.chance.choice(("7", "7", "-1", "limit rates", "limit sales", *scope.atoms))
+        fixed = self.chance.choice(("7", "7", "-1", "limit rates", "limit sales", "sum sales.shop", *scope.atoms))
         parameters = self.procedures[callee].text.split("(")[1].split(")")[0].split(", ")
         if len(parameters) > 1 and some(self.chance, 0.05):
             fixed = counted

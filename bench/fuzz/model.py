@@ -3,15 +3,17 @@
 Each run does everything from the beginning, in serial order. A record changes no answer here: where one would answer an instance, the
 instance is only counted as reused, and nothing in it is counted.
 """
+import sys
 from typing import Dict, List, NamedTuple, Optional, Tuple
 
 from syntax import Procedure, Reducer, Table, program_of, tables_of
 
-DEEPEST = 64
+DEEPEST = 256
 LONGEST_RANGE = 1 << 20
 LAST_ROW = (1 << 31) - 1
 GREATEST = (1 << 63) - 1
 LEAST = -(1 << 63)
+sys.setrecursionlimit(8_000)  # 256 instances under one another, each with a few blocks around what it enters
 
 
 class Fault(Exception):
@@ -158,6 +160,8 @@ class Session:
         except Fault as fault:
             kind, procedure, statement = fault.args
             return [f"run {self.runs}", f"fault {kind} in {procedure} at {statement}"], "none"
+        except RecursionError:
+            raise TooLong from None
         self.records.update(run.made)
         views = [f"{name} {view.printed()}".rstrip() for name, view in run.views.items()]
         return [f"run {self.runs}", f"result {value}", *views], f"{run.executed} {run.reused} {run.unrecorded}"
@@ -178,6 +182,11 @@ class Run:
         self.session = session
         self.views = {reducer.name: View(reducer) for reducer in session.reducers}
         self.limits = {name: max(table.rows, default=-1) + 1 for name, table in session.tables.items()}
+        self.sums = {
+            (name, column): wrapped(sum(values[at] for values in table.rows.values()))
+            for name, table in session.tables.items()
+            for at, column in enumerate(table.columns)
+        }
         self.made: Dict[tuple, Note] = {}
         self.notes = [Note(1)]
         self.free = kits - 1
@@ -235,6 +244,8 @@ class Run:
             return self.session.revisions[name]
         if kind == "limit":
             return self.limits[name]
+        if kind == "sum":
+            return self.sums[name, column]
         table = self.session.tables[name]
         if kind == "has":
             return int(row in table.rows)
@@ -315,7 +326,7 @@ class Run:
             return names[expression[1]]
         if kind == "negative":
             return wrapped(-self.value(expression[1], names))
-        if kind in ("cell", "has", "limit"):
+        if kind in ("cell", "has", "limit", "sum"):
             return self.asked(expression, names)
         left, right = self.value(expression[1], names), self.value(expression[2], names)
         if kind == "/":
@@ -328,6 +339,8 @@ class Run:
         """The value of an expression that asks a table."""
         if expression[0] == "limit":
             return self.ask(*expression)
+        if expression[0] == "sum":
+            return self.ask("sum", expression[1], 0, expression[2])
         row = self.value(expression[2], names)
         answer = self.ask(expression[0], expression[1], row, *expression[3:])
         if answer is None:

@@ -68,7 +68,7 @@ class Maker:
 
     def recursive(self, name: str, budget: int) -> None:
         """One that enters itself with one less, as deep as it may go."""
-        body, scope = self.body(name, budget // 70), Scope(["n"])
+        body, scope = self.body(name, budget // 270), Scope(["n"])
         body.statements(self.chance.randint(1, 3), scope)
         how = self.chance.choice(("call", "spawn"))
         less = self.chance.choice(("n > 0", "n != 0", "n > 3"))
@@ -76,7 +76,7 @@ class Maker:
         body.statements(1, scope)
         ended(body, scope)
         is_memo = some(self.chance, 0.6)
-        self.keep(name, 1, 64 * (body.cost + 3), is_memo, procedure_text(name, "n", is_memo, body.lines))
+        self.keep(name, 1, 256 * (body.cost + 3), is_memo, procedure_text(name, "n", is_memo, body.lines))
 
     def halving(self, name: str) -> None:
         """One that goes over a range by its halves, which main enters with given numbers."""

@@ -65,7 +65,7 @@ class Body:
         if scope.atoms and some(chance, 0.65):
             return chance.choice(scope.atoms)
         if some(chance, 0.03):
-            return chance.choice(("limit sales", "limit rates"))
+            return chance.choice(("limit sales", "limit rates", "sum sales.qty", "sum sales.shop", "sum rates.rate"))
         if some(chance, 0.05):
             return f"has sales[{self.row(scope)}]"
         return str(chance.choice(EDGES) if some(chance, 0.06) else chance.randint(0, 9))

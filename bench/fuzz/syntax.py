@@ -195,10 +195,10 @@ class Reader:
     # Expressions.
 
     def expression(self) -> tuple:
-        left = self.sum()
-        return (self.take(), left, self.sum()) if self.peek() in COMPARISONS else left
+        left = self.side()
+        return (self.take(), left, self.side()) if self.peek() in COMPARISONS else left
 
-    def sum(self) -> tuple:
+    def side(self) -> tuple:
         left = self.term()
         while self.peek() in ("+", "-"):
             left = (self.take(), left, self.term())
@@ -222,6 +222,8 @@ class Reader:
             return inner
         if self.is_next("limit"):
             return "limit", self.name()
+        if self.is_next("sum"):
+            return ("sum", *self.column())
         if self.is_next("has"):
             return ("has", *self.row())
         if self.peek(1) != "[":
@@ -229,6 +231,11 @@ class Reader:
         table, row = self.row()
         self.skip(".")
         return "cell", table, row, self.name()
+
+    def column(self) -> tuple:
+        table = self.name()
+        self.skip(".")
+        return table, self.name()
 
     def row(self) -> tuple:
         table = self.name()

@@ -24,11 +24,11 @@ ANSWERS = re.compile(
 REFUSALS = re.compile(rf"{REFUSAL}|refused E2|refused E3 [^\n]*|failed tables")
 TOKENS = re.compile(rb"[a-z_][a-z0-9_]*|[0-9]+|[^\sa-z0-9_]|\s+")
 WORDS = (
-    "reducer memo proc call spawn sync update if else cilk_for in grain return read has limit run put del define end main sales rates "
+    "reducer memo proc call spawn sync update if else cilk_for in grain return read has limit sum run put del define end main sales rates "
     "columns rows add list hist argmax affine table unit first last ( ) { } [ ] ; : , .. . = == != <= >= < > + - * / % # "
     "\" ' \"\"\" 0x1f 1_000 1e5 inf true 1979-05-27"
 ).encode().split()
-SMALL = (0, 1, 31, 32, 63, 64, 65, 4096, 4097, 65536, 65537, 1048576, 1048577)
+SMALL = (0, 1, 31, 32, 63, 64, 65, 255, 256, 257, 4096, 4097, 65536, 65537, 1048576, 1048577)
 NUMBERS = (*SMALL, 2147483647, 2147483648, (1 << 63) - 1, 1 << 63, 1 << 64, 10**40, 10**400)
 BYTES = (0, 9, 10, 13, 27, 34, 35, 39, 92, 127, 128, 192, 195, 237, 239, 240, 244, 255)
 NESTS = ((b"(", b")"), (b"[", b"]"), (b"{", b"}"), (b"-", b""), (b"if 1 {", b"}"), (b"has sales[", b"]"), (b"{a=", b"}"), (b"1+", b""))

@@ -30,6 +30,7 @@ enum Expression {
     Cell(usize, Box<Expression>, usize),
     Has(usize, Box<Expression>),
     Limit(usize),
+    Sum(usize, usize),
     Negate(Box<Expression>),
     Binary(Operator, Box<Expression>, Box<Expression>),
 }
@@ -71,6 +72,7 @@ struct Program {
 
 struct Rows {
     by_number: BTreeMap<i64, Vec<i64>>,
+    sums: Vec<i64>,
 }
 
 struct Tables {
@@ -98,6 +100,14 @@ impl Tables {
             .get(table)
             .and_then(|rows| rows.by_number.last_key_value())
             .map_or(0, |(number, _)| number.wrapping_add(1))
+    }
+
+    fn sum(&self, table: usize, column: usize) -> i64 {
+        self.tables
+            .get(table)
+            .and_then(|rows| rows.sums.get(column))
+            .copied()
+            .unwrap_or(0)
     }
 }
 
@@ -250,6 +260,11 @@ enum Note {
         table: usize,
         value: i64,
     },
+    Sum {
+        table: usize,
+        column: usize,
+        value: i64,
+    },
 }
 
 #[derive(Clone, Copy)]
@@ -394,6 +409,16 @@ fn evaluate(
             notes.push(Note::Limit { table, value });
             Ok(value)
         }
+        Expression::Sum(table, column) => {
+            let (table, column) = (*table, *column);
+            let value = tables.sum(table, column);
+            notes.push(Note::Sum {
+                table,
+                column,
+                value,
+            });
+            Ok(value)
+        }
         Expression::Negate(inner) => Ok(evaluate(inner, slots, tables, notes)?.wrapping_neg()),
         Expression::Binary(operator, left, right) => {
             let left = evaluate(left, slots, tables, notes)?;
@@ -455,7 +480,7 @@ impl Strand {
             },
             path: Vec::new(),
             place: Vec::new(),
-            top: Activation::new(main, slots, FIRST, 63),
+            top: Activation::new(main, slots, FIRST, 255),
             below: Vec::new(),
             phase: Phase::Entering,
             numbers: Vec::new(),
@@ -528,7 +553,7 @@ impl Strand {
     fn start(&mut self) {
         if let Work::Block(_) = self.top.work {
             self.layer.entered[self.top.procedure] = true;
-            self.layer.deepest = self.layer.deepest.max(64 - self.top.left);
+            self.layer.deepest = self.layer.deepest.max(256 - self.top.left);
         }
         self.phase = Phase::Running;
     }
@@ -868,6 +893,7 @@ fn sales() -> Tables {
     Tables {
         tables: vec![Rows {
             by_number: rows.into_iter().collect(),
+            sums: vec![6, 112],
         }],
     }
 }

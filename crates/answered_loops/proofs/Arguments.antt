@@ -2,7 +2,7 @@
 use Rattle.std.proofs.Common.{◌≡◌, ◌≢◌, ℕ, zero, suc, ◌<◌, nat_eq, ℤ, Bool, true, false, not, ◌&&◌, List, [], ◌∷◌, length, take, drop, get_or, slice_get, slice_set, Some, Ok, refl, sym, ap, ◌∙◌, subst, arith}
 use Rattle.std.proofs.lemmas.Bool.Decides.{Decides-eqb}
 use Rattle.meaning.specs.Tables.{Tables}
-use Rattle.linked_program.specs.Linked.{Linked, constant, slot, cell_at, has_at, limit_at, minus, joined}
+use Rattle.linked_program.specs.Linked.{Linked, constant, slot, cell_at, has_at, limit_at, sum_at, minus, joined}
 use Rattle.evaluation.specs.declared.slot.Slot.{Slot}
 use Rattle.evaluation.specs.declared.slot.Slot.TheVariants.{Has}
 use Rattle.evaluation.specs.Slots.{number_in}
@@ -41,6 +41,7 @@ module _ (tables : Tables) (slots : List Slot) (x : ℕ) (v : ℤ) where
   fixed (cell_at t e c) h = absurd cc
   fixed (has_at t e) h = absurd cc
   fixed (limit_at t) h = absurd cc
+  fixed (sum_at t c) h = absurd cc
   fixed (minus e) h = absurd cc
   fixed (joined op e f) h = absurd cc
 
@@ -50,6 +51,7 @@ module _ (tables : Tables) (slots : List Slot) (x : ℕ) (v : ℤ) where
   counted (cell_at t e c) l h = absurd cc
   counted (has_at t e) l h = absurd cc
   counted (limit_at t) l h = absurd cc
+  counted (sum_at t c) l h = absurd cc
   counted (minus e) l h = absurd cc
   counted (joined op e f) l h = absurd cc
 

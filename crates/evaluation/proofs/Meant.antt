@@ -2,12 +2,12 @@
 use Rattle.std.proofs.Common.{◌≡◌, ℕ, suc, ℤ, Bool, true, false, cond, List, [], ◌∷◌, ◌++◌, map, Option, Some, None, Result, Ok, Err, refl, sym, ◌∙◌, ap, append-nil}
 use Rattle.std.specs.Prelude.{nat_le}
 use Rattle.std.specs.Str.{bytes_eq}
-use Rattle.std.specs.Int.{w64, int_wrapping_neg}
+use Rattle.std.specs.Int.{w64, int_wrap, int_wrapping_neg}
 use Rattle.std.proofs.lemmas.List.{map-append}
 use Rattle.program_tree.specs.declared.Operator.{Operator}
-use Rattle.program_tree.specs.Plain.{Name, Term, number, name, cell, has, limit, negate, binary}
+use Rattle.program_tree.specs.Plain.{Name, Term, number, name, cell, has, limit, sum, negate, binary}
 use Rattle.meaning.specs.declared.FaultKind.{FaultKind}
-use Rattle.meaning.specs.Tables.{Tables, rows_of, columns_of, cell_of, row_of, at_column, index_of}
+use Rattle.meaning.specs.Tables.{Tables, rows_of, columns_of, cell_of, sum_of, row_of, at_column, index_of, column_total}
 use Rattle.meaning.specs.Outcome.{Log, Out}
 use Rattle.meaning.specs.Outcome as outcome
 use Rattle.meaning.specs.Values.{value, values, apply, look}
@@ -46,6 +46,12 @@ pub cell_found : (tables : Tables) (t : Name) (row : ℤ) (c : Name)
 cell_found tables t row c =
     ap (λ rows. at_column (row_of rows row) (column_number (columned_of tables) t c)) (rows_found tables t)
     ∙ ap (λ cs. at_column (row_of (rows_of tables t) row) (index_of cs c)) (columns_found tables t)
+
+pub sum_found : (tables : Tables) (t : Name) (c : Name)
+    → read.sum_at tables (table_number (columned_of tables) t) (column_number (columned_of tables) t c) ≡ sum_of tables t c
+sum_found tables t c =
+    ap (λ rows. int_wrap w64 (column_total (column_number (columned_of tables) t c) rows)) (rows_found tables t)
+    ∙ ap (λ cs. int_wrap w64 (column_total (index_of cs c) (rows_of tables t))) (columns_found tables t)
 
 -- ---- evaluations one behind the other
 
@@ -95,6 +101,7 @@ module _ (tables : Tables) (slots : List Slot) where
       then_is (columned_of tables) (value_at tables slots (linked_term (columned_of tables) e)) (value tables (env_of slots) e) _ _ (value_is e)
       (λ row. rw (rows_found tables t) refl)
   value_is (limit t) = rw (rows_found tables t) refl
+  value_is (sum t c) = rw (sum_found tables t c) refl
   value_is (negate e) = mapped_is (columned_of tables) (value_at tables slots (linked_term (columned_of tables) e)) (value tables (env_of slots) e) (int_wrapping_neg w64) (value_is e)
   value_is (binary op e f) =
       then_is (columned_of tables) (value_at tables slots (linked_term (columned_of tables) e)) (value tables (env_of slots) e) _ _ (value_is e)

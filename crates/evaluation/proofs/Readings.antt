@@ -5,7 +5,7 @@ use Rattle.std.specs.Ordering.{int_eq}
 use Rattle.std.proofs.lemmas.List.{map-append}
 use Rattle.program_tree.specs.declared.Operator.{Operator}
 use Rattle.program_tree.specs.declared.Operator.TheVariants as o
-use Rattle.program_tree.specs.Plain.{Name, Term, number, name, cell, has, limit, negate, binary}
+use Rattle.program_tree.specs.Plain.{Name, Term, number, name, cell, has, limit, sum, negate, binary}
 use Rattle.meaning.specs.declared.FaultKind.{FaultKind}
 use Rattle.meaning.specs.Tables.{Tables, cell_of}
 use Rattle.meaning.specs.Outcome.{Log, Out, Reads, Enters, Updates, Reuses, Begins, Syncs, Leaves, Marks, Faults, Spawns, onward, pure, fail}
@@ -69,6 +69,7 @@ module _ (tables : Tables) (env : Env) where
   value_reads (cell t e c) = then_reads (value tables env e).log (value tables env e).answer _ (value_reads e) (λ row. look_reads t row c (cell_of tables t row c))
   value_reads (has t e) = then_reads (value tables env e).log (value tables env e).answer _ (value_reads e) (λ row. refl)
   value_reads (limit t) = refl
+  value_reads (sum t c) = refl
   value_reads (negate e) = then_reads (value tables env e).log (value tables env e).answer _ (value_reads e) (λ x. refl)
   value_reads (binary op e f) =
       then_reads (value tables env e).log (value tables env e).answer _ (value_reads e)

@@ -3,14 +3,14 @@ use Rattle.std.specs.Prelude.{◌≡◌, ℕ, ℤ, List, [], ◌∷◌, map, len
 use Rattle.program_tree.specs.Plain.{Name, Term}
 use Rattle.meaning.specs.declared.FaultKind.{FaultKind}
 use Rattle.meaning.specs.Tables.{Tables}
-use Rattle.meaning.specs.Outcome.{Log, Out, Reads, Reading, CellHeld, HasHeld, LimitHeld}
+use Rattle.meaning.specs.Outcome.{Log, Out, Reads, Reading, CellHeld, HasHeld, LimitHeld, SumHeld}
 use Rattle.meaning.specs.SmallStep.{slot}
 use Rattle.meaning.specs.Statements.{bounds, fresh}
 use Rattle.meaning.specs.Values.{put, value, values}
 use Rattle.linked_program.specs.TableNames.{Columned, columned_of}
 use Rattle.linked_program.specs.Linked.{table_number, column_number, linked_term}
 use Rattle.evaluation.specs.declared.note.Note.{Note}
-use Rattle.evaluation.specs.declared.note.Note.TheVariants.{Cell, Has, Limit}
+use Rattle.evaluation.specs.declared.note.Note.TheVariants.{Cell, Has, Limit, Sum}
 use Rattle.evaluation.specs.declared.slot.Slot.{Slot}
 use Rattle.evaluation.specs.declared.slot.Slot.TheVariants as s
 use Rattle.evaluation.specs.Slots.{meant, env_of, slots_for}
@@ -21,6 +21,7 @@ abbrev pub numbered : List Columned → Reading → Note
 numbered ts (CellHeld t row c v) = Cell (table_number ts t) row (column_number ts t c) v
 numbered ts (HasHeld t row there) = Has (table_number ts t) row there
 numbered ts (LimitHeld t v) = Limit (table_number ts t) v
+numbered ts (SumHeld t c v) = Sum (table_number ts t) (column_number ts t c) v
 
 abbrev pub readings : Log → List Reading
 readings [] = []

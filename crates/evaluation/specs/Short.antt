@@ -10,6 +10,7 @@ abbrev pub note_of : Reading → Note
 note_of (r.Cell c t row v) = n.Cell t (pos row) c v
 note_of (r.Has there t row) = n.Has t row there
 note_of (r.Limit t v) = n.Limit t v
+note_of (r.Sum c t v) = n.Sum t c v
 
 -- the number of a row takes four bytes at most
 abbrev pub fits_row : ℤ → Bool
@@ -21,3 +22,4 @@ abbrev pub is_short : Note → Bool
 is_short (n.Cell t row c v) = nat_le c 255 && nat_le t 65535 && fits_row row
 is_short (n.Has t row there) = nat_le t 65535
 is_short (n.Limit t v) = nat_le t 65535
+is_short (n.Sum t c v) = nat_le c 255 && nat_le t 65535

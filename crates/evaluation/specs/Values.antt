@@ -8,9 +8,9 @@ use Rattle.meaning.specs.Tables.{Tables}
 use Rattle.meaning.specs.Values.{apply, one_if}
 use Rattle.meaning.specs.Statements.{most_iterations, span}
 use Rattle.input_tables.specs.Edited as tables
-use Rattle.linked_program.specs.Linked.{Linked, constant, slot, cell_at, has_at, limit_at, minus, joined}
+use Rattle.linked_program.specs.Linked.{Linked, constant, slot, cell_at, has_at, limit_at, sum_at, minus, joined}
 use Rattle.evaluation.specs.declared.note.Note.{Note}
-use Rattle.evaluation.specs.declared.note.Note.TheVariants.{Cell, Has, Limit}
+use Rattle.evaluation.specs.declared.note.Note.TheVariants.{Cell, Has, Limit, Sum}
 use Rattle.evaluation.specs.declared.slot.Slot.{Slot}
 use Rattle.evaluation.specs.Slots.{number_in, slots_for}
 
@@ -71,6 +71,7 @@ module _ (ts : Tables) (slots : List Slot) where
     row ← value_at e
     reading (Has t row (tables.has_at ts t row)) (one_if (tables.has_at ts t row))
   value_at (limit_at t) = reading (Limit t (tables.limit_at ts t)) (tables.limit_at ts t)
+  value_at (sum_at t c) = reading (Sum t c (tables.sum_at ts t c)) (tables.sum_at ts t c)
   value_at (minus e) = mapped (int_wrapping_neg w64) (value_at e)
   value_at (joined op e f) = do
     x ← value_at e

@@ -18,4 +18,9 @@ pub enum Note {
         table: usize,
         value: i64,
     },
+    Sum {
+        table: usize,
+        column: usize,
+        value: i64,
+    },
 }

@@ -23,6 +23,11 @@ pub enum Reading {
         table: u16,
         value: i64,
     },
+    Sum {
+        column: u8,
+        table: u16,
+        value: i64,
+    },
 }
 
 // A table's number in two bytes, where it fits.
@@ -88,6 +93,15 @@ impl Reading {
                 table: short_table(*table)?,
                 value: *value,
             }),
+            Note::Sum {
+                table,
+                column,
+                value,
+            } => Some(Reading::Sum {
+                column: short_column(*column)?,
+                table: short_table(*table)?,
+                value: *value,
+            }),
         }
     }
 
@@ -114,6 +128,15 @@ impl Reading {
             },
             Reading::Limit { table, value } => Note::Limit {
                 table: usize::from(*table),
+                value: *value,
+            },
+            Reading::Sum {
+                column,
+                table,
+                value,
+            } => Note::Sum {
+                table: usize::from(*table),
+                column: usize::from(*column),
                 value: *value,
             },
         }

@@ -112,6 +112,7 @@ fn evaluate(expression: &Expression, slots: &[Slot], tables: &Tables) -> Result<
             Err(stop) => Err(stop),
         },
         Expression::Limit(table) => Ok(tables.limit(*table)),
+        Expression::Sum(table, column) => Ok(tables.sum(*table, *column)),
         Expression::Negate(inner) => match operand(inner, slots, tables) {
             Ok(number) => Ok(number.wrapping_neg()),
             Err(stop) => Err(stop),

@@ -175,6 +175,7 @@ pub(crate) fn evaluate(
             Err(stop) => Err(stop),
         },
         Expression::Limit(table) => limit(tables, *table, notes),
+        Expression::Sum(table, column) => sum(tables, *table, *column, notes),
         Expression::Negate(inner) => match evaluate(inner, slots, tables, notes) {
             Ok(number) => Ok(number.wrapping_neg()),
             Err(stop) => Err(stop),
@@ -325,6 +326,21 @@ fn limit(tables: &Tables, table: usize, notes: &mut Notes) -> Result<i64, Stop>
 {
     let value = tables.limit(table);
     match notes.add(&Note::Limit { table, value }) {
+        Ok(()) => Ok(value),
+        Err(_) => Err(Stop::NoMemory),
+    }
+}
+
+// The sum of a column over all rows.
+fn sum(tables: &Tables, table: usize, column: usize, notes: &mut Notes) -> Result<i64, Stop>
+    ensures { Ends (λ v. v) (reading (Note.Sum table column (read.sum_at tables.now.tables table column)) (read.sum_at tables.now.tables table column)) notes.old notes.new result }
+{
+    let value = tables.sum(table, column);
+    match notes.add(&Note::Sum {
+        table,
+        column,
+        value,
+    }) {
         Ok(()) => Ok(value),
         Err(_) => Err(Stop::NoMemory),
     }

@@ -70,6 +70,7 @@ fn push_bare(
         Expr::Number(number) => write!(text, "{number}"),
         Expr::Name(number) => text.push_str(variable(procedure, *number)),
         Expr::Limit(table) => write!(text, "limit {table}"),
+        Expr::Sum(table, column) => write!(text, "sum {table}.{column}"),
         Expr::Cell(table, row, column) => {
             push_row(text, procedure, table, row, left - 1)?;
             write!(text, ".{column}")

@@ -63,7 +63,7 @@ fn push_kind(
         FaultKind::TooDeep => {
             push_line(
                 text,
-                "What is entered there would be at depth 65, and `main` is at depth 1.",
+                "What is entered there would be at depth 257, and `main` is at depth 1.",
             )?;
             push_line(
                 text,

@@ -80,6 +80,7 @@ fn keyword_written(keyword: Mark) -> &'static str {
         Mark::Read => "read",
         Mark::Has => "has",
         Mark::Limit => "limit",
+        Mark::Sum => "sum",
         _ => "",
     }
 }

@@ -15,9 +15,9 @@ const LAST_ROW: i64 = 2147483647;
 
 const LONGEST_NAME: usize = 32;
 
-const KEYWORDS: [&str; 16] = [
+const KEYWORDS: [&str; 17] = [
     "reducer", "memo", "proc", "call", "spawn", "sync", "update", "if", "else", "cilk_for", "in",
-    "grain", "return", "read", "has", "limit",
+    "grain", "return", "read", "has", "limit", "sum",
 ];
 
 /// Puts the line of a text that isn't TOML, and what the reader of TOML says of it, at the end of the text. Want of memory is the only

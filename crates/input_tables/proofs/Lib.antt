@@ -8,3 +8,4 @@ pub mod Ordered
 pub mod Orders
 pub mod PageEdits
 pub mod Paging
+pub mod Totals

@@ -3,10 +3,10 @@ use Rattle.std.proofs.Common.{◌≡◌, ℕ, zero, suc, ℤ, List, [], ◌∷�
 use Rattle.std.specs.Prelude.{slice_get, slice_set}
 use Rattle.std.specs.Str.{bytes_eq}
 use Rattle.program_tree.specs.Plain.{Name}
-use Rattle.meaning.specs.Tables.{Tables, Listed, rows_of, columns_of, index_of, cell_of, has_row, limit_of}
+use Rattle.meaning.specs.Tables.{Tables, Listed, rows_of, columns_of, index_of, cell_of, has_row, limit_of, sum_of}
 use Rattle.meaning.specs.Edits.{table_of, table_changed}
 use Rattle.input_tables.specs.Rows.{Row}
-use Rattle.input_tables.specs.Edited.{AreFit, RowsFit, CellsFit, names_of, rows_at, columns_at, changed_at, cell_at, has_at, limit_at}
+use Rattle.input_tables.specs.Edited.{AreFit, RowsFit, CellsFit, names_of, rows_at, columns_at, changed_at, cell_at, has_at, limit_at, sum_at}
 
 pub rows_at-there : (ts : Tables) (n : ℕ) (t : Listed) → slice_get ts n ≡ Some t → rows_at ts n ≡ t.rows
 rows_at-there [] n t at = absurd cc
@@ -80,6 +80,9 @@ has_at-named ts n row t table = rw (table, rows_at-place ts t) refl
 
 pub limit_at-named : (ts : Tables) (n : ℕ) (t : Name) → n ≡ index_of (names_of ts) t → limit_at ts n ≡ limit_of ts t
 limit_at-named ts n t table = rw (table, rows_at-place ts t) refl
+
+pub sum_at-named : (ts : Tables) (n k : ℕ) (t c : Name) → n ≡ index_of (names_of ts) t → k ≡ index_of (columns_of ts t) c → sum_at ts n k ≡ sum_of ts t c
+sum_at-named ts n k t c table column = rw (table, column, rows_at-place ts t) refl
 
 -- ---- changes
 

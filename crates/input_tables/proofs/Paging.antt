@@ -266,7 +266,7 @@ rising_page k [] ps on rising pages over more = more
 rising_page k (r ∷ rs) ps on rising pages over more =
     (over_both r.0 rs (all_of ps) rising.0 (page_over r.0 k ps on.1 pages over), rising_page k rs ps on.3 rising.1 pages over more)
 
-rising_all : (ps : List Page) → AreRising ps → ArePages ps → AreRising (all_of ps)
+pub rising_all : (ps : List Page) → AreRising ps → ArePages ps → AreRising (all_of ps)
 rising_all [] rising pages = tt
 rising_all (p ∷ ps) rising pages = rising_page p.0 p.1 ps pages.0 pages.1 pages.3 rising.0 (rising_all ps rising.1 pages.3)
 

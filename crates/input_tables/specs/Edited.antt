@@ -1,10 +1,11 @@
 -- Tables that are edited, and what is read of them by number.
 use Rattle.std.specs.Prelude.{◌≡◌, ℕ, zero, suc, ℤ, pos, Bool, List, [], ◌∷◌, Option, Some, Result, Err, IsOk, map}
+use Rattle.std.specs.Int.{w64, int_wrap}
 use Rattle.program_tree.specs.Plain.{Name}
 use Rattle.program_tree.specs.View.{Lined}
 use Rattle.meaning.specs.Records.{Revised}
 use Rattle.monoid_laws.specs.Kinds.{Fits}
-use Rattle.meaning.specs.Tables.{Tables, Listed, row_of, at_column, is_there, above_all, cell_of}
+use Rattle.meaning.specs.Tables.{Tables, Listed, row_of, at_column, is_there, above_all, column_total, cell_of}
 use Rattle.meaning.specs.Edits.{row_put, row_gone, with_rows, table_changed, Standing, EditRefusal, UnknownTable, WrongColumns, RowRange, NoRow, Exhausted}
 use Rattle.input_tables.specs.Rows.{Row}
 use Rattle.input_tables.specs.declared.refusal.EditError.{EditError}
@@ -41,6 +42,9 @@ has_at ts table row = is_there (row_of (rows_at ts table) row)
 
 abbrev pub limit_at : Tables → ℕ → ℤ
 limit_at ts table = above_all (pos 0) (rows_at ts table)
+
+abbrev pub sum_at : Tables → ℕ → ℕ → ℤ
+sum_at ts table column = int_wrap w64 (column_total column (rows_at ts table))
 
 -- the table of a number changed
 abbrev pub changed_at : (Listed → Listed) → Tables → ℕ → Tables

@@ -6,3 +6,4 @@ pub mod Names
 pub mod Pages
 pub mod Rows
 pub mod Shapes
+pub mod Sums

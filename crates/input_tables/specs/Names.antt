@@ -25,7 +25,7 @@ is_among x (y ∷ ys) = cond (bytes_eq x y) true (is_among x ys)
 abbrev pub keywords : List Name
 keywords =
     codes "reducer" ∷ codes "memo" ∷ codes "proc" ∷ codes "call" ∷ codes "spawn" ∷ codes "sync" ∷ codes "update" ∷ codes "if" ∷ codes "else" ∷ codes "cilk_for"
-    ∷ codes "in" ∷ codes "grain" ∷ codes "return" ∷ codes "read" ∷ codes "has" ∷ codes "limit" ∷ []
+    ∷ codes "in" ∷ codes "grain" ∷ codes "return" ∷ codes "read" ∷ codes "has" ∷ codes "limit" ∷ codes "sum" ∷ []
 
 unfoldable pub is_keyword : Name → Bool
 is_keyword x = is_among x keywords

@@ -10,6 +10,7 @@ mod places;
 mod refusal;
 mod rows;
 mod shapes;
+mod sums;
 mod table;
 mod tables;
 

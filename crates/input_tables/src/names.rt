@@ -57,6 +57,7 @@ fn is_keyword(text: &str) -> bool
         "read" => true,
         "has" => true,
         "limit" => true,
+        "sum" => true,
         _ => false,
     }
 }

@@ -6,9 +6,11 @@ ghost use Rattle.meaning.specs.Tables.{row_of, is_there};
 ghost use Rattle.meaning.specs.Edits.{row_put, row_gone};
 ghost use Rattle.input_tables.specs.Pages.{lower_count, AreRising, HasRows, IsOf, IsAbsent, last_of};
 ghost use Rattle.input_tables.specs.Rows.{AreWide};
+ghost use Rattle.input_tables.specs.Sums.{added, without_row};
 
 use crate::cells::{cells_at, insert_row, remove_row, replace_row};
 use crate::places::{find, place_on_page};
+use crate::sums::{put_on, take_off};
 use std::alloc::{AllocError, Global};
 use std::marker::Model;
 
@@ -71,35 +73,48 @@ impl Page {
         }
     }
 
-    /// Puts a row in the place of the one of its number, and says whether there was one.
-    pub fn put(&mut self, number: i64, values: &[i64]) -> Result<bool, AllocError>
+    /// Puts a row in the place of the one of its number, and says whether there was one. The totals of the columns follow.
+    pub fn put(
+        &mut self,
+        number: i64,
+        values: &[i64],
+        sums: &mut Vec<i64>,
+    ) -> Result<bool, AllocError>
         requires rising { AreRising self.old }
         requires rows { HasRows self.old }
         requires wide { AreWide (length values.now) self.old }
         ensures there { IfOk result (λ there. there ≡ is_there (row_of self.old number)) }
         ensures put { OnOk result (self.new ≡ row_put number values.now self.old) }
+        ensures sums { OnOk result (sums.new.items ≡ added (without_row (row_of self.old number) sums.old.items) values.now) }
         ensures same { OnErr result (self.new ≡ self.old) }
+        ensures same_sums { OnErr result (sums.new.items ≡ sums.old.items) }
     {
         match self.find(number) {
             Ok(place) => {
+                let before = self.values_at(place);
+                take_off(sums, before);
                 self.replace_at(place, values);
+                put_on(sums, values);
                 Ok(true)
             }
             Err(place) => {
                 self.insert_at(place, number, values)?;
+                put_on(sums, values);
                 Ok(false)
             }
         }
     }
 
-    /// Takes the row of this number out, and says whether there was one.
-    pub fn delete(&mut self, number: i64) -> bool
+    /// Takes the row of this number out, and says whether there was one. The totals of the columns follow.
+    pub fn delete(&mut self, number: i64, sums: &mut Vec<i64>) -> bool
         requires { AreRising self.old }
         ensures there { result ≡ is_there (row_of self.old number) }
         ensures gone { self.new ≡ row_gone number self.old }
+        ensures sums { sums.new.items ≡ without_row (row_of self.old number) sums.old.items }
     {
         match self.find(number) {
             Ok(place) => {
+                take_off(sums, self.values_at(place));
                 self.remove_at(place);
                 true
             }

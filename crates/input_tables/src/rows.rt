@@ -5,10 +5,13 @@ ghost use Rattle.meaning.specs.Tables.{row_of, above_all, is_there};
 ghost use Rattle.monoid_laws.specs.Kinds.{Fits};
 ghost use Rattle.meaning.specs.Edits.{row_put, row_gone, in_range};
 ghost use Rattle.input_tables.specs.Rows.{AreCells, AreWide};
+ghost use Rattle.input_tables.specs.Pages.{AreRising};
 ghost use Rattle.input_tables.specs.Edited.{RowsFit};
+ghost use Rattle.input_tables.specs.Sums.{added, without_row};
 
 use crate::page::Page;
 use crate::places::{find, page_of, place_among_pages};
+use crate::sums::put_on;
 use std::alloc::{AllocError, Global};
 use std::marker::Model;
 
@@ -97,38 +100,48 @@ impl Rows {
         }
     }
 
-    /// Puts a row in the place of the one of its number, and says whether there was one.
-    pub fn put(&mut self, number: i64, values: &[i64]) -> Result<bool, AllocError>
+    /// Puts a row in the place of the one of its number, and says whether there was one. The totals of the columns follow.
+    pub fn put(
+        &mut self,
+        number: i64,
+        values: &[i64],
+        sums: &mut Vec<i64>,
+    ) -> Result<bool, AllocError>
         requires range { in_range number ≡ true }
         requires wide { AreWide (length values.now) self.old }
         ensures there { IfOk result (λ there. there ≡ is_there (row_of self.old number)) }
         ensures put { OnOk result (self.new ≡ row_put number values.now self.old) }
+        ensures sums { OnOk result (sums.new.items ≡ added (without_row (row_of self.old number) sums.old.items) values.now) }
+        ensures rising { OnOk result (AreRising self.old) }
         ensures same { OnErr result (self.new ≡ self.old) }
+        ensures same_sums { OnErr result (sums.new.items ≡ sums.old.items) }
     {
         values_fit(values);
         let page = page_of(number);
         match find(&self.pages, page, place_among_pages(page)) {
-            Ok(place) => self.pages[place].1.put(number, values),
+            Ok(place) => self.pages[place].1.put(number, values, sums),
             Err(place) => {
                 let rows = Page::of_row(self.alloc, number, values)?;
                 if self.pages.insert(place, (page, rows)).is_err() {
                     return Err(AllocError);
                 }
+                put_on(sums, values);
                 Ok(false)
             }
         }
     }
 
-    /// Takes the row of this number out, and says whether there was one.
-    pub fn delete(&mut self, number: i64) -> bool
+    /// Takes the row of this number out, and says whether there was one. The totals of the columns follow.
+    pub fn delete(&mut self, number: i64, sums: &mut Vec<i64>) -> bool
         ensures there { result ≡ is_there (row_of self.old number) }
         ensures gone { self.new ≡ row_gone number self.old }
+        ensures sums { sums.new.items ≡ without_row (row_of self.old number) sums.old.items }
     {
         let page = page_of(number);
         match find(&self.pages, page, place_among_pages(page)) {
             Ok(place) => {
                 let page = &mut self.pages[place].1;
-                let there = page.delete(number);
+                let there = page.delete(number, sums);
                 if page.last().is_some() {
                     return there;
                 }

@@ -6,6 +6,7 @@ ghost use Rattle.meaning.specs.Edits.{in_range};
 ghost use Rattle.input_tables.specs.Shapes.{new_column, columns_from, columns_in, integers_from, number_in, values_in, row_in, row_at, with_row, rows_from, array_at, given};
 ghost use Rattle.input_tables.specs.Faults.{IsFaulty};
 ghost use Rattle.input_tables.specs.Rows.{AreWide};
+ghost use Rattle.input_tables.specs.Sums.{AreTotals};
 ghost use Rattle.toml.specs.Data.{as_str, as_array};
 
 use crate::names::{index_of, is_name};
@@ -144,14 +145,18 @@ fn row_at(values: &mut Vec<i64>, item: &Value, columns: usize) -> Result<i64, Fa
 }
 
 // One more row, whose number is new.
-fn add_row(rows: &mut Rows, number: i64, values: &[i64]) -> Result<(), Fault>
+fn add_row(rows: &mut Rows, sums: &mut Vec<i64>, number: i64, values: &[i64]) -> Result<(), Fault>
     requires range { in_range number ≡ true }
     requires wide { AreWide (length values.now) rows.old }
+    requires sums { length sums.old.items ≡ length values.now }
+    requires totals { AreTotals sums.old.items rows.old }
     ensures read { OnOk result (with_row rows.old (number, values.now) ≡ Some rows.new) }
     ensures wide { OnOk result (AreWide (length values.now) rows.new) }
+    ensures sums { OnOk result (length sums.new.items ≡ length values.now) }
+    ensures totals { OnOk result (AreTotals sums.new.items rows.new) }
     ensures refused { IfErr result (IsFaulty (with_row rows.old (number, values.now))) }
 {
-    if rows.put(number, values)? {
+    if rows.put(number, values, sums)? {
         return Err(Fault::Shape);
     }
     Ok(())
@@ -160,29 +165,43 @@ fn add_row(rows: &mut Rows, number: i64, values: &[i64]) -> Result<(), Fault>
 // One more row out of an item of a table's rows.
 fn add_item(
     rows: &mut Rows,
+    sums: &mut Vec<i64>,
     values: &mut Vec<i64>,
     item: &Value,
     columns: usize,
 ) -> Result<(), Fault>
-    requires { AreWide columns rows.old }
+    requires wide { AreWide columns rows.old }
+    requires sums { length sums.old.items ≡ columns }
+    requires totals { AreTotals sums.old.items rows.old }
     ensures read { OnOk result (given (row_at columns (view item.now)) (with_row rows.old) ≡ Some rows.new) }
     ensures wide { OnOk result (AreWide columns rows.new) }
+    ensures sums { OnOk result (length sums.new.items ≡ columns) }
+    ensures totals { OnOk result (AreTotals sums.new.items rows.new) }
     ensures refused { IfErr result (IsFaulty (given (row_at columns (view item.now)) (with_row rows.old))) }
 {
     let number = row_at(values, item, columns)?;
-    add_row(rows, number, values)
+    add_row(rows, sums, number, values)
 }
 
-/// The rows that an array holds, each with so many values.
-pub fn rows_in(alloc: Global, items: &[Value], columns: usize) -> Result<Rows, Fault>
+/// The rows that an array holds, each with so many values. The totals of so many columns, all 0, become theirs.
+pub fn rows_in(
+    alloc: Global,
+    items: &[Value],
+    columns: usize,
+    sums: &mut Vec<i64>,
+) -> Result<Rows, Fault>
+    requires sums { length sums.old.items ≡ columns }
+    requires zeros { AreTotals sums.old.items [] }
     ensures read { IfOk result (λ rows. rows_from columns [] (items_view items.now) ≡ Some rows) }
     ensures wide { IfOk result (λ rows. AreWide columns rows) }
+    ensures sums { OnOk result (length sums.new.items ≡ columns) }
+    ensures totals { IfOk result (λ rows. AreTotals sums.new.items rows) }
     ensures refused { IfErr result (IsFaulty (rows_from columns [] (items_view items.now))) }
 {
     let mut rows = Rows::new(alloc);
     let mut values = Vec::with_capacity(alloc, columns)?;
     for item in items {
-        add_item(&mut rows, &mut values, item, columns)?;
+        add_item(&mut rows, sums, &mut values, item, columns)?;
     }
     Ok(rows)
 }

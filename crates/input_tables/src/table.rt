@@ -1,14 +1,16 @@
 // One table: its name, its columns and its rows.
 
-ghost use Rattle.std.specs.Prelude.{◌≡◌, ◌<◌, pos, IfOk, IfErr, OnOk, OnErr, IfSome, IfNone, Some, map, option_map, length, string_bytes, true};
+ghost use Rattle.std.specs.Prelude.{◌≡◌, ◌<◌, [], pos, IfOk, IfErr, OnOk, OnErr, IfSome, IfNone, Some, map, option_map, length, string_bytes, true};
+ghost use Rattle.std.specs.Int.{w64, int_wrap};
 ghost use Rattle.std.specs.Str.{bytes_eq};
 ghost use Rattle.toml.specs.View.{view, table_view};
-ghost use Rattle.meaning.specs.Tables.{row_of, at_column, is_there, above_all, index_of};
+ghost use Rattle.meaning.specs.Tables.{row_of, at_column, is_there, above_all, column_total, index_of};
 ghost use Rattle.meaning.specs.Edits.{with_rows, row_put, row_gone, in_range, table_of};
 ghost use Rattle.input_tables.specs.Adding.{without_rows};
 ghost use Rattle.input_tables.specs.Edited.{names_of, RowsFit};
 ghost use Rattle.input_tables.specs.Shapes.{table_in, listed_in, with_rows_of};
 ghost use Rattle.input_tables.specs.Faults.{IsFaulty};
+ghost use Rattle.input_tables.specs.Sums.{AreTotals};
 
 use crate::names::{index_of, is_name};
 use crate::refusal::Fault;
@@ -18,24 +20,26 @@ use std::alloc::{AllocError, Global};
 use std::marker::Model;
 use toml::{Table as Members, Value};
 
-/// A table: its name, its columns as declared, and its rows.
+/// A table: its name, its columns as declared, its rows, and the total of each column over them.
 #[derive(Drop)]
 pub struct Table {
     name: String,
     columns: Vec<String>,
     rows: Rows,
+    sums: Vec<i64>,
 }
 
 impl Model for Table {
-    ghost use Rattle.std.specs.Prelude.{length, map, string_bytes};
+    ghost use Rattle.std.specs.Prelude.{◌≡◌, length, map, string_bytes};
     ghost use Rattle.input_tables.specs.Rows.{AreWide};
+    ghost use Rattle.input_tables.specs.Sums.{AreTotals};
     ghost use Rattle.meaning.specs.Tables.{Listed};
 
     ghost Value = { Listed };
 
     ghost view = { λ t. record { called = string_bytes t.name; columns = map string_bytes t.columns.items; rows = t.rows } };
 
-    ghost invariant = { λ t. AreWide (length t.columns.items) t.rows };
+    ghost invariant = { λ t. AreWide (length t.columns.items) t.rows × (length t.sums.items ≡ length t.columns.items) × AreTotals t.sums.items t.rows };
 }
 
 impl Table {
@@ -45,10 +49,12 @@ impl Table {
     {
         let name = String::from_str(alloc, name)?;
         let columns = copies(alloc, columns)?;
+        let sums = zeros(alloc, columns.len())?;
         Ok(Table {
             name,
             columns,
             rows: Rows::new(alloc),
+            sums,
         })
     }
 
@@ -120,6 +126,16 @@ impl Table {
         self.rows.limit()
     }
 
+    /// The sum of the column of this number over all rows, wrapped to 64 bits; 0 where there is no such column.
+    pub fn sum(&self, column: usize) -> i64
+        ensures { result ≡ int_wrap w64 (column_total column self.now.rows) }
+    {
+        match self.sums.get(column) {
+            Some(sum) => *sum,
+            None => 0,
+        }
+    }
+
     /// What the type keeps: each cell is a number of 64 bits.
     pub fn cells_fit(&self)
         ensures fit { RowsFit self.now.rows }
@@ -135,7 +151,7 @@ impl Table {
             (row_put row values.now self.old.rows)) }
         ensures same { OnErr result (self.new ≡ self.old) }
     {
-        self.rows.put(row, values)?;
+        self.rows.put(row, values, &mut self.sums)?;
         Ok(())
     }
 
@@ -143,8 +159,18 @@ impl Table {
     pub fn delete(&mut self, row: i64)
         ensures gone { self.new ≡ with_rows self.old (row_gone row self.old.rows) }
     {
-        self.rows.delete(row);
+        self.rows.delete(row, &mut self.sums);
     }
+}
+
+// The totals of so many columns over no rows.
+fn zeros(alloc: Global, columns: usize) -> Result<Vec<i64>, AllocError>
+    ensures many { IfOk result (λ sums. length sums.items ≡ columns) }
+    ensures zeros { IfOk result (λ sums. AreTotals sums.items []) }
+{
+    let mut sums = Vec::with_capacity(alloc, columns)?;
+    sums.resize(columns, 0)?;
+    Ok(sums)
 }
 
 // Copies of names.
@@ -214,12 +240,14 @@ fn with_rows_of(
 {
     match array_at(members, "rows") {
         Some(items) => {
-            let rows = rows_in(alloc, items, columns.len())?;
+            let mut sums = zeros(alloc, columns.len())?;
+            let rows = rows_in(alloc, items, columns.len(), &mut sums)?;
             let name = String::from_str(alloc, name)?;
             Ok(Table {
                 name,
                 columns,
                 rows,
+                sums,
             })
         }
         None => Err(Fault::Shape),

@@ -3,13 +3,13 @@
 ghost use Rattle.std.specs.Prelude.{◌≡◌, ℕ, suc, ℤ, List, true, ◌<◌, length, IfOk, IfErr, OnOk, OnErr, IfSome, IfNone, Some, None, Ok, [], option_map, option_copied, slice_get, map, string_bytes};
 ghost use Rattle.program_tree.specs.Plain.{Name};
 ghost use Rattle.program_tree.specs.View.{Lined};
-ghost use Rattle.meaning.specs.Tables.{index_of, columns_of, cell_of, has_row, limit_of};
+ghost use Rattle.meaning.specs.Tables.{index_of, columns_of, cell_of, has_row, limit_of, sum_of};
 ghost use Rattle.input_tables.specs.Document.{reading, HasCause};
 ghost use Rattle.input_tables.specs.Adding.{refusal, own_refusal, unless_refused, IsAddCause, without_rows, with_table, rowless};
 ghost use Rattle.input_tables.specs.Shapes.{table_in};
 ghost use Rattle.meaning.specs.Records.{Revised};
 ghost use Rattle.meaning.specs.Edits.{after_put, after_delete, in_range, table_of};
-ghost use Rattle.input_tables.specs.Edited.{beside, IsEditCause, IsDeleteCause, edited, changed_at, row_into, row_out_of, names_of, columns_at, cell_at, has_at, limit_at, CellsFit};
+ghost use Rattle.input_tables.specs.Edited.{beside, IsEditCause, IsDeleteCause, edited, changed_at, row_into, row_out_of, names_of, columns_at, cell_at, has_at, limit_at, sum_at, CellsFit};
 
 use crate::adding;
 use crate::document::tables_in;
@@ -198,6 +198,20 @@ impl Tables {
     {
         match self.at(table) {
             Some(table) => table.limit(),
+            None => 0,
+        }
+    }
+
+    /// The sum of a column of the table of a number over all its rows, wrapped to 64 bits; 0 where there are no rows or no such
+    /// column. It is kept with each edit, so it takes no time in the rows, and no memory.
+    pub fn sum(&self, table: usize, column: usize) -> i64
+        ensures numbered { result ≡ sum_at self.now.tables table column }
+        ensures named { (t c : Name) → table ≡ index_of (names_of self.now.tables) t
+            → column ≡ index_of (columns_of self.now.tables t) c
+            → result ≡ sum_of self.now.tables t c }
+    {
+        match self.at(table) {
+            Some(table) => table.sum(column),
             None => 0,
         }
     }

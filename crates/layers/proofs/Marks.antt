@@ -27,15 +27,22 @@ pub derived_same : (a b : Note) → (notes.ghosts).eq a b ≡ same_note a b
 derived_same (n.Cell t row c v) (n.Cell u s d w) = refl
 derived_same (n.Cell t row c v) (n.Has u s d) = refl
 derived_same (n.Cell t row c v) (n.Limit u w) = refl
+derived_same (n.Cell t row c v) (n.Sum u d w) = refl
 derived_same (n.Has t row true) (n.Has u s true) = refl
 derived_same (n.Has t row true) (n.Has u s false) = refl
 derived_same (n.Has t row false) (n.Has u s true) = refl
 derived_same (n.Has t row false) (n.Has u s false) = refl
 derived_same (n.Has t row b) (n.Cell u s d w) = refl
 derived_same (n.Has t row b) (n.Limit u w) = refl
+derived_same (n.Has t row b) (n.Sum u d w) = refl
 derived_same (n.Limit t v) (n.Limit u w) = refl
 derived_same (n.Limit t v) (n.Cell u s d w) = refl
 derived_same (n.Limit t v) (n.Has u s d) = refl
+derived_same (n.Limit t v) (n.Sum u d w) = refl
+derived_same (n.Sum t c v) (n.Sum u d w) = refl
+derived_same (n.Sum t c v) (n.Cell u s d w) = refl
+derived_same (n.Sum t c v) (n.Has u s d) = refl
+derived_same (n.Sum t c v) (n.Limit u w) = refl
 
 pub inserted_is : (seen : List Note) (n : Note) → insert_key (notes.ghosts).eq seen n ≡ put_note seen n
 inserted_is seen n = put_as_key (notes.ghosts).eq derived_same seen n

@@ -11,7 +11,7 @@ use Rattle.linked_program.specs.declared.code.Operation.TheVariants as o
 use Rattle.linked_program.specs.declared.code.Instruction.{Instruction}
 use Rattle.linked_program.specs.declared.code.CodeBlock.{CodeBlock}
 use Rattle.linked_program.specs.declared.code.Code.{Code}
-use Rattle.linked_program.specs.Linked.{Linked, constant, slot, cell_at, has_at, limit_at, minus, joined, Act, binds, enters, reads, syncs, updates, chooses, loops, gives, Acts, ends, steps, linked_body}
+use Rattle.linked_program.specs.Linked.{Linked, constant, slot, cell_at, has_at, limit_at, sum_at, minus, joined, Act, binds, enters, reads, syncs, updates, chooses, loops, gives, Acts, ends, steps, linked_body}
 
 abbrev pub expression : Expression → Linked
 expression (e.Number n) = constant n
@@ -19,6 +19,7 @@ expression (e.Slot n) = slot n
 expression (e.Cell' t p row c) = cell_at t (expression row) c
 expression (e.Has' t p row) = has_at t (expression row)
 expression (e.Limit t) = limit_at t
+expression (e.Sum t c) = sum_at t c
 expression (e.Negate' p x) = minus (expression x)
 expression (e.Binary' op p x q y) = joined op (expression x) (expression y)
 

@@ -3,7 +3,7 @@ use Rattle.std.specs.Prelude.{ℕ, suc, ℤ, cond, List, [], ◌∷◌, Option, 
 use Rattle.std.specs.Str.{bytes_eq}
 use Rattle.program_tree.specs.declared.Operator.{Operator}
 use Rattle.program_tree.specs.declared.Way.{Way}
-use Rattle.program_tree.specs.Plain.{Name, Term, number, name, cell, has, limit, negate, binary, Deed, bind, enter, read, sync, update, choose, loop, give, Body, end, step, Proc, Red, Tree}
+use Rattle.program_tree.specs.Plain.{Name, Term, number, name, cell, has, limit, sum, negate, binary, Deed, bind, enter, read, sync, update, choose, loop, give, Body, end, step, Proc, Red, Tree}
 use Rattle.monoid_laws.specs.declared.Kind.{Kind}
 use Rattle.meaning.specs.Statements.{reducers}
 use Rattle.meaning.specs.Elision.{main}
@@ -18,6 +18,7 @@ pub data Linked : Type 0 where
   cell_at : ℕ → Linked → ℕ → Linked
   has_at : ℕ → Linked → Linked
   limit_at : ℕ → Linked
+  sum_at : ℕ → ℕ → Linked
   minus : Linked → Linked
   joined : Operator → Linked → Linked → Linked
 
@@ -78,6 +79,7 @@ linked_term ts (name x) = slot x
 linked_term ts (cell t e c) = cell_at (table_number ts t) (linked_term ts e) (column_number ts t c)
 linked_term ts (has t e) = has_at (table_number ts t) (linked_term ts e)
 linked_term ts (limit t) = limit_at (table_number ts t)
+linked_term ts (sum t c) = sum_at (table_number ts t) (column_number ts t c)
 linked_term ts (negate e) = minus (linked_term ts e)
 linked_term ts (binary op e f) = joined op (linked_term ts e) (linked_term ts f)
 

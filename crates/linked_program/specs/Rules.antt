@@ -3,7 +3,7 @@ use Rattle.std.specs.Prelude.{ℕ, Bool, true, false, not, cond, ◌==◌, ◌&&
 use Rattle.std.specs.Str.{bytes_eq}
 use Rattle.monoid_laws.specs.declared.Kind.{Kind}
 use Rattle.monoid_laws.specs.Kinds.{arity}
-use Rattle.program_tree.specs.Plain.{Name, Term, number, name, cell, has, limit, negate, binary, Deed, bind, enter, read, sync, update, choose, loop, give, Body, end, step, Red, Tree}
+use Rattle.program_tree.specs.Plain.{Name, Term, number, name, cell, has, limit, sum, negate, binary, Deed, bind, enter, read, sync, update, choose, loop, give, Body, end, step, Red, Tree}
 use Rattle.meaning.specs.Statements.{reducers, procedure_of}
 use Rattle.meaning.specs.Elision.{main}
 use Rattle.linked_program.specs.declared.violation.Rule.{Rule}
@@ -36,6 +36,7 @@ term_rules tables scope (name x) = use_rules scope.synced (slice_get scope.names
 term_rules tables scope (cell t e c) = column_rules (table_of tables t) c ++ term_rules tables scope e
 term_rules tables scope (has t e) = table_rules (table_of tables t) ++ term_rules tables scope e
 term_rules tables scope (limit t) = table_rules (table_of tables t)
+term_rules tables scope (sum t c) = column_rules (table_of tables t) c
 term_rules tables scope (negate e) = term_rules tables scope e
 term_rules tables scope (binary op e f) = term_rules tables scope e ++ term_rules tables scope f
 

@@ -10,6 +10,7 @@ pub enum Expression {
     Cell(usize, Box<Expression>, usize),
     Has(usize, Box<Expression>),
     Limit(usize),
+    Sum(usize, usize),
     Negate(Box<Expression>),
     Binary(Operator, Box<Expression>, Box<Expression>),
 }

@@ -20,7 +20,7 @@ fn expression_fits(expr: &Expr)
 {
     match expr {
         Expr::Number(number) => number_fits(*number),
-        Expr::Name(_) | Expr::Limit(_) => {}
+        Expr::Name(_) | Expr::Limit(_) | Expr::Sum(_, _) => {}
         Expr::Cell(_, row, _) => expression_fits(row),
         Expr::Has(_, row) => expression_fits(row),
         Expr::Negate(inner) => expression_fits(inner),

@@ -108,6 +108,10 @@ fn expression(alloc: Global, tables: &[TableNames], expr: &Expr) -> Result<Expre
             Ok(Expression::Has(table_number(tables, table.as_str()), row))
         }
         Expr::Limit(table) => Ok(Expression::Limit(table_number(tables, table.as_str()))),
+        Expr::Sum(table, column) => {
+            let number = column_number(tables, table.as_str(), column.as_str());
+            Ok(Expression::Sum(table_number(tables, table.as_str()), number))
+        }
         Expr::Negate(inner) => {
             let inner = boxed(alloc, expression(alloc, tables, inner))?;
             Ok(Expression::Negate(inner))

@@ -6,7 +6,7 @@ use Rattle.program_tree.specs.declared.Operator.TheVariants as o
 use Rattle.program_tree.specs.declared.Way.TheVariants.{Call, Spawn}
 use Rattle.monoid_laws.specs.declared.Kind.{Kind}
 use Rattle.monoid_laws.specs.declared.Kind.TheVariants as k
-use Rattle.program_tree.specs.Plain.{Name, Term, number, name, cell, has, limit, binary, bind, enter, read, sync, update, choose, loop, give, Body, end, step, Decl, reducer, procedure, Tree}
+use Rattle.program_tree.specs.Plain.{Name, Term, number, name, cell, has, limit, sum, binary, bind, enter, read, sync, update, choose, loop, give, Body, end, step, Decl, reducer, procedure, Tree}
 use Rattle.meaning.specs.declared.FaultKind.TheVariants.{DivideByZero, MissingRow, RangeTooLong, TooDeep}
 use Rattle.meaning.specs.Tables.{Tables}
 use Rattle.monoid_laws.specs.Worth as w
@@ -31,6 +31,9 @@ n_seen = (115 ∷ 101 ∷ 101 ∷ 110 ∷ [])
 
 abbrev pub n_line : Name
 n_line = (108 ∷ 105 ∷ 110 ∷ 101 ∷ [])
+
+abbrev pub n_share : Name
+n_share = (115 ∷ 104 ∷ 97 ∷ 114 ∷ 101 ∷ [])
 
 abbrev pub n_sales : Name
 n_sales = (115 ∷ 97 ∷ 108 ∷ 101 ∷ 115 ∷ [])
@@ -140,6 +143,27 @@ absent_row : from_scratch lines (sales (row 1 2 5 ∷ row 2 3 7 ∷ row 3 1 100 
 unfolding all_turns elide from_scratch needing int_wrap
 absent_row = refl
 
+-- memo proc share(r) { v = sales[r].qty * 100 / sum sales.qty; update total v; return v; }
+-- proc main() { cilk_for r in 1 .. limit sales : share(r); t = read total; return t; }
+abbrev pub shares : Tree
+shares = red n_total k.Add ∷ proc true n_share 1 (n_a ∷ n_b ∷ []) (step 1 (bind 1 (binary o.Divide (binary o.Multiply (cell n_sales (name 0) n_qty) (num 100)) (sum n_sales n_qty))) (step 2 (update n_total (name 1 ∷ [])) (step 3 (give (name 1)) end))) ∷ proc false n_main 0 (n_a ∷ n_b ∷ []) (step 1 (loop 0 (num 1) (limit n_sales) 1 n_share (name 0 ∷ [])) (step 2 (read 1 n_total) (step 3 (give (name 1)) end))) ∷ []
+
+shares_of_a_sum : from_scratch shares (sales (row 1 2 5 ∷ row 2 3 7 ∷ row 3 1 100 ∷ [])) ≡ Finished (pos 99) (w.number (pos 99) ∷ [])
+unfolding all_turns elide from_scratch needing int_wrap
+shares_of_a_sum = refl
+
+-- proc main() { return sum sales.qty; }
+abbrev summed : Tree
+summed = proc false n_main 0 [] (step 1 (give (sum n_sales n_qty)) end) ∷ []
+
+sum_of_no_rows : from_scratch summed (sales []) ≡ Finished (pos 0) []
+unfolding elide from_scratch needing int_wrap
+sum_of_no_rows = refl
+
+sum_wraps : from_scratch summed (sales (row 1 9223372036854775807 5 ∷ row 2 1 7 ∷ [])) ≡ Finished (negsuc 9223372036854775807) []
+unfolding elide from_scratch needing int_wrap
+sum_wraps = refl
+
 -- memo proc down(n) { update steps 1; if n > 0 { call down(n - 1); } return n; }
 abbrev pub down : Decl
 down = proc true n_down 1 (n_a ∷ []) (step 1 (update n_steps (num 1 ∷ [])) (step 2 (choose (binary o.Greater (name 0) (num 0)) (step 3 (enter None Call n_down (binary o.Subtract (name 0) (num 1) ∷ [])) end) end) (step 4 (give (name 0)) end)))
@@ -150,11 +174,11 @@ calls f g e = proc false f 0 (n_a ∷ []) (step 1 (enter (Some 0) Call g (e ∷ 
 abbrev pub calls0 : Name → Name → Decl
 calls0 f g = proc false f 0 (n_a ∷ []) (step 1 (enter (Some 0) Call g []) (step 2 (give (name 0)) end))
 
-heights : from_scratch (red n_steps k.Add ∷ down ∷ calls n_main n_down (num 60) ∷ []) [] ≡ Finished (pos 60) (w.number (pos 61) ∷ [])
+heights : from_scratch (red n_steps k.Add ∷ down ∷ calls n_main n_down (num 252) ∷ []) [] ≡ Finished (pos 252) (w.number (pos 253) ∷ [])
 unfolding elide from_scratch needing int_wrap
 heights = refl
 
-heights-deep : from_scratch (red n_steps k.Add ∷ down ∷ calls0 n_main n_a ∷ calls0 n_a n_b ∷ calls0 n_b n_c ∷ calls n_c n_down (num 60) ∷ []) [] ≡ Faulted (record { kind = TooDeep; site = record { procedure = n_down; statement = 3 } })
+heights-deep : from_scratch (red n_steps k.Add ∷ down ∷ calls0 n_main n_a ∷ calls0 n_a n_b ∷ calls0 n_b n_c ∷ calls n_c n_down (num 252) ∷ []) [] ≡ Faulted (record { kind = TooDeep; site = record { procedure = n_down; statement = 3 } })
 unfolding elide from_scratch needing int_wrap
 heights-deep = refl
 

@@ -7,7 +7,7 @@ use Rattle.program_tree.specs.declared.Operator.TheVariants as o
 use Rattle.program_tree.specs.declared.Way.{Way}
 use Rattle.program_tree.specs.declared.Way.TheVariants.{Call, Spawn}
 use Rattle.program_tree.specs.View.{Lined}
-use Rattle.program_tree.specs.Plain.{Name, Term, number, name, cell, has, limit, negate, binary, Deed, bind, enter, read, sync, update, choose, loop, give, Body, end, step, Proc, reducer, procedure, Tree}
+use Rattle.program_tree.specs.Plain.{Name, Term, number, name, cell, has, limit, sum, negate, binary, Deed, bind, enter, read, sync, update, choose, loop, give, Body, end, step, Proc, reducer, procedure, Tree}
 use Rattle.meaning.specs.Tables.{Tables, Listed, is_there, row_of}
 use Rattle.meaning.specs.Statements.{procedure_of}
 use Rattle.meaning.specs.Records.{Revised}
@@ -115,6 +115,7 @@ same_term (name x) (name y) = nat_eq x y
 same_term (cell t e c) (cell u f d) = bytes_eq t u && same_term e f && bytes_eq c d
 same_term (has t e) (has u f) = bytes_eq t u && same_term e f
 same_term (limit t) (limit u) = bytes_eq t u
+same_term (sum t c) (sum u d) = bytes_eq t u && bytes_eq c d
 same_term (negate e) (negate f) = same_term e f
 same_term (binary p e f) (binary q g h) = same_operator p q && same_term e g && same_term f h
 same_term _ _ = false

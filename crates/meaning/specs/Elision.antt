@@ -75,7 +75,7 @@ module _ (program : Tree) (tables : Tables) (enters : Enter) where
 
 -- the greatest depth of an instance; main is at depth 1
 abbrev pub depth_limit : ℕ
-depth_limit = 64
+depth_limit = 256
 
 module _ (program : Tree) (tables : Tables) where
   abbrev pub instance : Enter → Name → List ℤ → ℕ → Proc → Run ℤ

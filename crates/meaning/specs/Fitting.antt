@@ -1,7 +1,7 @@
 -- The programs whose numbers fit 64 bits.
 use Rattle.std.specs.List.{AllByRecursion}
 use Rattle.monoid_laws.specs.Kinds.{Fits}
-use Rattle.program_tree.specs.Plain.{Name, Term, number, name, cell, has as has_row, limit, negate, binary, Deed, bind, enter, read, sync, update, choose, loop, give, Body, end, step, Tree}
+use Rattle.program_tree.specs.Plain.{Name, Term, number, name, cell, has as has_row, limit, sum, negate, binary, Deed, bind, enter, read, sync, update, choose, loop, give, Body, end, step, Tree}
 use Rattle.meaning.specs.Statements.{proc_of}
 
 -- the numbers of an expression fit
@@ -11,6 +11,7 @@ FitsTerm (name x) = Unit {0}
 FitsTerm (cell t e c) = FitsTerm e
 FitsTerm (has_row t e) = FitsTerm e
 FitsTerm (limit t) = Unit {0}
+FitsTerm (sum t c) = Unit {0}
 FitsTerm (negate e) = FitsTerm e
 FitsTerm (binary op e f) = FitsTerm e × FitsTerm f
 

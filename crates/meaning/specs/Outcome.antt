@@ -22,6 +22,7 @@ pub data Reading : Type 0 where
   CellHeld : Name → ℤ → Name → ℤ → Reading
   HasHeld : Name → ℤ → Bool → Reading
   LimitHeld : Name → ℤ → Reading
+  SumHeld : Name → Name → ℤ → Reading
 
 -- what an instance or a statement comes to
 abbrev pub Outcome : Type 0

@@ -7,9 +7,9 @@ use Rattle.meaning.specs.Every.{every}
 use Rattle.monoid_laws.specs.declared.Kind.{Kind}
 use Rattle.program_tree.specs.Plain.{Name, Proc, Red, Tree}
 use Rattle.meaning.specs.declared.FaultKind.TheVariants.{TooDeep}
-use Rattle.meaning.specs.Tables.{Tables, cell_of, has_row, limit_of}
+use Rattle.meaning.specs.Tables.{Tables, cell_of, has_row, limit_of, sum_of}
 use Rattle.monoid_laws.specs.Worth.{Worth}
-use Rattle.meaning.specs.Outcome.{Log, Enters, Reuses, Reading, CellHeld, HasHeld, LimitHeld, Accumulators, after}
+use Rattle.meaning.specs.Outcome.{Log, Enters, Reuses, Reading, CellHeld, HasHeld, LimitHeld, SumHeld, Accumulators, after}
 use Rattle.meaning.specs.Run.{Run, ◌>>◌, pure, fail, note}
 use Rattle.meaning.specs.Statements.{reducers, procedure_of, found, identities}
 use Rattle.meaning.specs.Elision.{Enter, elide, instance, reads, entered, deepest, start, main, depth_limit}
@@ -42,6 +42,7 @@ abbrev pub agrees : Tables → Reading → Bool
 agrees tables (CellHeld t row c v) = same_number (cell_of tables t row c) v
 agrees tables (HasHeld t row b) = same_bool (has_row tables t row) b
 agrees tables (LimitHeld t v) = int_eq (limit_of tables t) v
+agrees tables (SumHeld t c v) = int_eq (sum_of tables t c) v
 
 abbrev pub is_current : List (Name × ℕ) → Name × ℕ → Bool
 is_current [] r = false

@@ -7,7 +7,7 @@ ghost use Rattle.meaning.specs.Statements.{most_iterations};
 ghost use Rattle.meaning.specs.Trail.{most_halvings};
 
 /// The greatest depth of an instance; `main` is at depth 1.
-pub const DEPTH_LIMIT: u32 = 64;
+pub const DEPTH_LIMIT: u32 = 256;
 
 /// The greatest number of iterations of a loop.
 pub const MOST_ITERATIONS: u32 = 1_048_576;

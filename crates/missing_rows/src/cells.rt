@@ -45,7 +45,10 @@ pub fn searched(
     ensures absent { IfErr result (EndsAbsent tables.now.tables) }
 {
     match expression {
-        Expression::Number(_) | Expression::Slot(_) | Expression::Limit(_) => Ok(()),
+        Expression::Number(_)
+        | Expression::Slot(_)
+        | Expression::Limit(_)
+        | Expression::Sum(_, _) => Ok(()),
         Expression::Cell(table, row, column) => {
             searched(tables, slots, row, notes)?;
             searched_cell(tables, slots, *table, row, *column, notes)

@@ -2,7 +2,7 @@
 use Rattle.std.proofs.Common.{◌≡◌, ℕ, suc, ◌+◌, ◌-◌, ◌≤◌, true, false, List, [], ◌∷◌, ◌++◌, map, length, Option, Some, refl, sym, ◌∙◌, ap, subst, arith}
 use Rattle.std.specs.Prelude.{ℤ}
 use Rattle.std.proofs.lemmas.List.{take-take, length-take-le, length-append}
-use Rattle.meaning.specs.Elision.{main}
+use Rattle.meaning.specs.Elision.{main, depth_limit}
 use Rattle.meaning.specs.Outcome.{Place}
 use Rattle.meaning.specs.Statements.{proc_of, fresh, Job}
 use Rattle.meaning.specs.SmallStep.{slot, waits, set_into, Todo, halves, Child, instance, half, entering, running, spawning, returning, leaving, broken, Parent, opened, awaiting, stepped_past, child_name, with_env, with_value}
@@ -252,11 +252,11 @@ module _ (setting : Setting) where
         child = instance main [];
         new = new_child;
         phase = refl;
-        frame = opened_is [] [] (made entry (slots_for (slots_of setting.codes entry) []) (Block (first_of 0)) 63) (instance main []) new_child;
+        frame = opened_is [] [] (made entry (slots_for (slots_of setting.codes entry) []) (Block (first_of 0)) (depth_limit - 1)) (instance main []) new_child;
         under = tt;
       };
     } where
-      new_main : IsNewInstance setting (made entry (slots_for (slots_of setting.codes entry) []) (Block (first_of 0)) 63) main []
+      new_main : IsNewInstance setting (made entry (slots_for (slots_of setting.codes entry) []) (Block (first_of 0)) (depth_limit - 1)) main []
       new_main = record {
         procedure = sym e;
         children = refl;
@@ -268,7 +268,7 @@ module _ (setting : Setting) where
             ∙ ap (λ p. map slot (fresh p.names [])) (found_at setting main entry (sym e));
       }
 
-      new_child : IsNew setting [] (made entry (slots_for (slots_of setting.codes entry) []) (Block (first_of 0)) 63) (instance main [])
+      new_child : IsNew setting [] (made entry (slots_for (slots_of setting.codes entry) []) (Block (first_of 0)) (depth_limit - 1)) (instance main [])
       new_child = (new_main, λ memo. refl)
 
   -- ---- the lowest layer alone

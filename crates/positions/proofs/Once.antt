@@ -10,7 +10,7 @@ use Rattle.monoid_laws.specs.declared.Kind.{Kind}
 use Rattle.monoid_laws.specs.Worth.{Worth, number, items, best, line, amounts, element}
 use Rattle.monoid_laws.specs.Kinds.{identities, identity_of}
 use Rattle.evaluation.specs.declared.note.Note.{Note}
-use Rattle.evaluation.specs.declared.note.Note.TheVariants.{Cell, Has, Limit}
+use Rattle.evaluation.specs.declared.note.Note.TheVariants.{Cell, Has, Limit, Sum}
 use Rattle.rerun_records.specs.Named.{SameMembers, filled}
 use Rattle.trail_theory.specs.Order.{In}
 use Rattle.trail_theory.proofs.Places.{in_append, in_left, in_right}
@@ -104,6 +104,7 @@ note_is (Cell t row c v) (Cell u s d w) e =
     (number_is c d (first_is (nat_eq c d) (int_eq v w) last)) (integer_is v w (second_is (nat_eq c d) (int_eq v w) last))
 note_is (Cell t row c v) (Has u s d) e = absurd (true≢false (sym e))
 note_is (Cell t row c v) (Limit u w) e = absurd (true≢false (sym e))
+note_is (Cell t row c v) (Sum u d w) e = absurd (true≢false (sym e))
 note_is (Has t row b) (Cell u s d w) e = absurd (true≢false (sym e))
 note_is (Has t row b) (Has u s d) e =
     let rest = second_is (nat_eq t u) (int_eq row s && same_flag b d) e in
@@ -111,10 +112,20 @@ note_is (Has t row b) (Has u s d) e =
     ∙ ap (λ x. Has u x b) (integer_is row s (first_is (int_eq row s) (same_flag b d) rest))
     ∙ ap (λ x. Has u s x) (flag_is b d (second_is (int_eq row s) (same_flag b d) rest))
 note_is (Has t row b) (Limit u w) e = absurd (true≢false (sym e))
+note_is (Has t row b) (Sum u d w) e = absurd (true≢false (sym e))
 note_is (Limit t v) (Cell u s d w) e = absurd (true≢false (sym e))
 note_is (Limit t v) (Has u s d) e = absurd (true≢false (sym e))
 note_is (Limit t v) (Limit u w) e =
     ap (λ x. Limit x v) (number_is t u (first_is (nat_eq t u) (int_eq v w) e)) ∙ ap (λ x. Limit u x) (integer_is v w (second_is (nat_eq t u) (int_eq v w) e))
+note_is (Limit t v) (Sum u d w) e = absurd (true≢false (sym e))
+note_is (Sum t c v) (Cell u s d w) e = absurd (true≢false (sym e))
+note_is (Sum t c v) (Has u s d) e = absurd (true≢false (sym e))
+note_is (Sum t c v) (Limit u w) e = absurd (true≢false (sym e))
+note_is (Sum t c v) (Sum u d w) e =
+    let rest = second_is (nat_eq t u) (nat_eq c d && int_eq v w) e in
+    ap (λ x. Sum x c v) (number_is t u (first_is (nat_eq t u) (nat_eq c d && int_eq v w) e))
+    ∙ ap (λ x. Sum u x v) (number_is c d (first_is (nat_eq c d) (int_eq v w) rest))
+    ∙ ap (λ x. Sum u d x) (integer_is v w (second_is (nat_eq c d) (int_eq v w) rest))
 
 -- ---- each reading once
 

@@ -7,12 +7,12 @@ use Rattle.std.proofs.lemmas.Slice.Eq.{bytes_eq-Decides}
 use Rattle.token_scanner.specs.declared.token.Mark.TheVariants as mark
 use Rattle.token_scanner.specs.Words.{Word, Sign, Number, for_some}
 use Rattle.token_scanner.specs.Words as word
-use Rattle.program_tree.specs.Plain.{Name, Term, number, name, cell, has, limit, negate, binary, Deed, bind, enter, read, sync, update, choose, loop, give, Body, end, step, Proc, Tree}
+use Rattle.program_tree.specs.Plain.{Name, Term, number, name, cell, has, limit, sum, negate, binary, Deed, bind, enter, read, sync, update, choose, loop, give, Body, end, step, Proc, Tree}
 use Rattle.program_tree.specs.Plain as plain
 use Rattle.monoid_laws.specs.declared.Kind.{Kind}
 use Rattle.monoid_laws.specs.declared.Kind.TheVariants as k
 use Rattle.source_tree.specs.Kinds.{WrittenKind, written}
-use Rattle.source_tree.specs.Source.{Phrase, Num, Var, Cell, Has, Limit, Neg, Bin, Stmt, Binds, Enters, Reads, Syncs, Updates, Tests, Loops, Returns, Stmts, none, some, stmts_of, Decl, Reduces, Defines, Source}
+use Rattle.source_tree.specs.Source.{Phrase, Num, Var, Cell, Has, Limit, Sum, Neg, Bin, Stmt, Binds, Enters, Reads, Syncs, Updates, Tests, Loops, Returns, Stmts, none, some, stmts_of, Decl, Reduces, Defines, Source}
 use Rattle.source_tree.specs.Lowering.{found_index, numbered, lower_term, lower_terms, optional, Walk, lower_deed, lower_body, Lowered, lowered_decl, settled, lower_proc, lower_decl, lowered}
 use Rattle.source_tree.specs.Lowering as l
 use Rattle.program_printer.specs.Printing.{operator_mark, way_mark, names_words, memo_words, variable, term_words, more_terms, terms_words, bound_words, deed_words, body_words, else_words, kind_words, decl_words, printed_words}
@@ -87,6 +87,7 @@ term_says a (Var y) = let n = number_leads a y in (n.0, λ names x us. ap (λ (z
 term_says a (Cell t e c) = let s = term_says a e in (s.0, λ names x us. ap (λ (z : List Word). word.Name t ∷ Sign mark.OpenBracket ∷ z) (s.1 names x (Sign mark.CloseBracket ∷ Sign mark.Dot ∷ word.Name c ∷ us)))
 term_says a (Has t e) = let s = term_says a e in (s.0, λ names x us. ap (λ (z : List Word). Sign mark.Has ∷ word.Name t ∷ Sign mark.OpenBracket ∷ z) (s.1 names x (Sign mark.CloseBracket ∷ us)))
 term_says a (Limit t) = (ext_same a, λ names x us. refl)
+term_says a (Sum t c) = (ext_same a, λ names x us. refl)
 term_says a (Neg e) = let s = term_says a e in (s.0, λ names x us. ap (λ (z : List Word). Sign mark.OpenParen ∷ Sign mark.Minus ∷ z) (s.1 names x (Sign mark.CloseParen ∷ us)))
 term_says a (Bin o e f) =
     let s = term_says a e in

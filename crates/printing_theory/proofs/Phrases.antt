@@ -7,7 +7,8 @@ use Rattle.token_scanner.specs.Words.{Word, Words, Name, Number, Sign}
 use Rattle.program_tree.specs.declared.Operator.{Operator}
 use Rattle.program_tree.specs.declared.Operator.TheVariants as op
 use Rattle.source_tree.specs.Source.{Phrase, Num, Var, Cell, Has, Limit, Neg, Bin, depth}
-use Rattle.procedure_parser.specs.Grammar.{Form, Atom, number, variable, cell, has, has_over, limit, paren, Unary, atom, negative, Chain, over, goes_on, Multiplicative, times, divides, remains, Additive, adds, subtracts, Comparison, equal, unequal, less, at_most, greater, at_least, Term, Sum, Compared, alone, against, Inside, Whole}
+use Rattle.source_tree.specs.Source as source
+use Rattle.procedure_parser.specs.Grammar.{Form, Atom, number, variable, cell, has, has_over, limit, column_sum, paren, Unary, atom, negative, Chain, over, goes_on, Multiplicative, times, divides, remains, Additive, adds, subtracts, Comparison, equal, unequal, less, at_most, greater, at_least, Term, Sum, Compared, alone, against, Inside, Whole}
 use Rattle.program_printer.specs.Tokens.{AllTokens, bare}
 use Rattle.program_printer.specs.Printing.{operator_mark}
 use Rattle.printing_theory.proofs.Read.{AllRead}
@@ -33,6 +34,7 @@ module _ (full : Bool) (I : Mark → Form Phrase) (inside : (m : Mark) (e : Phra
       record { left = q.left.1; tokens = λ ws a. (tt, (h.1.0, (tt, q.tokens (Sign mark.CloseBracket ∷ ws) (tt, a)))) }
   atom_clean _ _ _ h (has_over t l i j us f) = absurd h.1.1.0
   atom_clean _ _ _ h (limit t l i us) = record { left = h.1.1; tokens = λ ws a. (tt, (h.1.0, a)) }
+  atom_clean _ _ _ h (column_sum t c l i j k us) = record { left = h.1.1.1.1; tokens = λ ws a. (tt, (h.1.0, (tt, (h.1.1.1.0, a)))) }
   atom_clean _ _ _ h (paren e l ts us p) =
       let q = inside mark.OpenParen e ts ((Sign mark.CloseParen, l) ∷ us) h p in
       record { left = q.left.1; tokens = q.tokens }
@@ -134,6 +136,7 @@ depth_pos (Var x) = omega arith
 depth_pos (Cell t e c) = omega arith
 depth_pos (Has t e) = omega arith
 depth_pos (Limit t) = omega arith
+depth_pos (source.Sum t c) = omega arith
 depth_pos (Neg e) = omega arith
 depth_pos (Bin o a b) = omega arith
 
@@ -143,6 +146,12 @@ atom_again (Var x) n d vs ws h = at_word (λ v. Finds (Atom (nat_eq n 0) (Inside
 atom_again (Limit t) n d vs ws h =
     at_word (λ v. Finds (Atom (nat_eq n 0) (Inside n)) (Limit t) ws v) (Sign mark.Limit) (Name t ∷ ws) vs h (λ l v1 b1.
     at_word (λ v. Finds (Atom (nat_eq n 0) (Inside n)) (Limit t) ws ((Sign mark.Limit, l) ∷ v)) (Name t) ws v1 b1 (λ i us b. (us, b, limit t l i us)))
+atom_again (source.Sum t c) n d vs ws h =
+    let P : Words → Type 0 = λ v. Finds (Atom (nat_eq n 0) (Inside n)) (source.Sum t c) ws v in
+    at_word P (Sign mark.Sum) (Name t ∷ Sign mark.Dot ∷ Name c ∷ ws) vs h (λ l v1 b1.
+    at_word (λ v. P ((Sign mark.Sum, l) ∷ v)) (Name t) (Sign mark.Dot ∷ Name c ∷ ws) v1 b1 (λ i v2 b2.
+    at_word (λ v. P ((Sign mark.Sum, l) ∷ (Name t, i) ∷ v)) (Sign mark.Dot) (Name c ∷ ws) v2 b2 (λ j v3 b3.
+    at_word (λ v. P ((Sign mark.Sum, l) ∷ (Name t, i) ∷ (Sign mark.Dot, j) ∷ v)) (Name c) ws v3 b3 (λ k us b. (us, b, column_sum t c l i j k us)))))
 atom_again (Cell t e c) zero d vs ws h = absurd (omega (arith, depth_pos e))
 atom_again (Cell t e c) (suc n) d vs ws h =
     let P : Words → Type 0 = λ v. Finds (Atom (nat_eq (suc n) 0) (Inside (suc n))) (Cell t e c) ws v in

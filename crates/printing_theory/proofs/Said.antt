@@ -6,7 +6,7 @@ use Rattle.token_scanner.specs.Words.{Word, Sign, Number}
 use Rattle.token_scanner.specs.Words as word
 use Rattle.program_tree.specs.Plain.{Name}
 use Rattle.source_tree.specs.Kinds.{WrittenKind, Add, Mul, Min, Max, And, Or, Xor, Items, First, Last, Argmax, Affine, Hist, Table}
-use Rattle.source_tree.specs.Source.{Phrase, Num, Var, Cell, Has, Limit, Neg, Bin, Stmt, Binds, Enters, Reads, Syncs, Updates, Tests, Loops, Returns, Stmts, none, some, stmts_of, Decl, Reduces, Defines, Source}
+use Rattle.source_tree.specs.Source.{Phrase, Num, Var, Cell, Has, Limit, Sum, Neg, Bin, Stmt, Binds, Enters, Reads, Syncs, Updates, Tests, Loops, Returns, Stmts, none, some, stmts_of, Decl, Reduces, Defines, Source}
 use Rattle.program_printer.specs.Printing.{operator_mark, way_mark, numbers_words, names_words, memo_words}
 
 abbrev pub phrase_words : Phrase → List Word → List Word
@@ -15,6 +15,7 @@ phrase_words (Var x) us = word.Name x ∷ us
 phrase_words (Cell t e c) us = word.Name t ∷ Sign mark.OpenBracket ∷ phrase_words e (Sign mark.CloseBracket ∷ Sign mark.Dot ∷ word.Name c ∷ us)
 phrase_words (Has t e) us = Sign mark.Has ∷ word.Name t ∷ Sign mark.OpenBracket ∷ phrase_words e (Sign mark.CloseBracket ∷ us)
 phrase_words (Limit t) us = Sign mark.Limit ∷ word.Name t ∷ us
+phrase_words (Sum t c) us = Sign mark.Sum ∷ word.Name t ∷ Sign mark.Dot ∷ word.Name c ∷ us
 phrase_words (Neg e) us = Sign mark.OpenParen ∷ Sign mark.Minus ∷ phrase_words e (Sign mark.CloseParen ∷ us)
 phrase_words (Bin o e f) us = Sign mark.OpenParen ∷ phrase_words e (Sign (operator_mark o) ∷ phrase_words f (Sign mark.CloseParen ∷ us))
 

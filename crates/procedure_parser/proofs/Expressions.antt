@@ -11,8 +11,8 @@ use Rattle.token_scanner.specs.Words.{Word, Name, Number, Sign, Over, Words, for
 use Rattle.source_tree.specs.Source.{Phrase, Num, Var, Cell, Neg, Bin, depth}
 use Rattle.source_tree.specs.Source as source
 use Rattle.token_readers.specs.Reading.{◌>>=◌, Read, mark_at, name_at, comparison, additive, multiplicative}
-use Rattle.procedure_parser.specs.Reading.{Reader, over_as, after_name_at, row_at, has_at, limit_at, plain_atom_at, atom_at, unary_at, chain_at, term_at, sum_at, against_at, expr_with, inside_at, expr_at}
-use Rattle.procedure_parser.specs.Grammar.{Form, Atom, number, variable, cell, has, has_over, limit, paren, Unary, atom, negative, Chain, over, goes_on, Comparison, equal, unequal, less, at_most, greater, at_least, Additive, Multiplicative, adds, subtracts, times, divides, remains, Term, Sum, Compared, alone, against, Inside, Expression}
+use Rattle.procedure_parser.specs.Reading.{Reader, over_as, after_name_at, row_at, has_at, limit_at, column_sum_at, plain_atom_at, atom_at, unary_at, chain_at, term_at, sum_at, against_at, expr_with, inside_at, expr_at}
+use Rattle.procedure_parser.specs.Grammar.{Form, Atom, number, variable, cell, has, has_over, limit, column_sum, paren, Unary, atom, negative, Chain, over, goes_on, Comparison, equal, unequal, less, at_most, greater, at_least, Additive, Multiplicative, adds, subtracts, times, divides, remains, Term, Sum, Compared, alone, against, Inside, Expression}
 use Rattle.procedure_parser.proofs.Law.{nothing, LawAt, IsLocal, by_reply, if_true, if_false, some_there, none_there, gives_at, refuses_at, skip_at, map_at, then_at}
 use Rattle.procedure_parser.proofs.Head.{nought, on_bool, on_option, number_is, starts_local, number_local, comparison_local, additive_local, multiplicative_local, Found, picked, over_law, expect_at, name_then_at, last_mark, behind_mark}
 use Rattle.token_readers.specs.Limits.{most_open}
@@ -26,6 +26,7 @@ depth_pos (Var x) = omega arith
 depth_pos (Cell t e c) = omega arith
 depth_pos (source.Has t e) = omega arith
 depth_pos (source.Limit t) = omega arith
+depth_pos (source.Sum t c) = omega arith
 depth_pos (Neg e) = omega arith
 depth_pos (Bin o a b) = omega arith
 
@@ -157,6 +158,17 @@ module _ (full : Bool) (inside : Reader) (I : Mark → Form Phrase) (opens : Ope
       (λ v. (v, source.Limit a_name, λ i. (limit a_name k i v, pos)))
       (λ x us. gives_at _ (source.Limit x) us (λ v i. (limit x k i v, pos))))
 
+  column_sum_law : (r : ℕ) (ts : Words) → 0 < r → starts mark.Sum ts ≡ true → LawAt (λ w. column_sum_at (rest w)) (Atoms r) ts
+  unfolding column_sum_at
+  column_sum_law r ts pos h =
+      behind_mark mark.Sum (λ w. name_at w >>= λ x. mark_at Dot x.1 >>= λ us. name_at us >>= λ c. Ok (source.Sum x.0 c.0, c.1)) (Atoms r) ts h (λ l us. name_then_at (λ x w. mark_at Dot w >>= λ us. name_at us >>= λ c. Ok (source.Sum x c.0, c.1)) _ us
+      (λ v. ((Sign Dot, 0) ∷ (Name a_name, 0) ∷ v, source.Sum a_name a_name, λ i. (column_sum a_name a_name l i 0 0 v, pos)))
+      (λ x us. expect_at Dot (λ us. name_at us >>= λ c. Ok (source.Sum x c.0, c.1)) _ us
+      (λ v. ((Name a_name, 0) ∷ v, source.Sum x a_name, λ j i. (column_sum x a_name l i j 0 v, pos)))
+      (λ us. name_then_at (λ c w. Ok (source.Sum x c, w)) _ us
+      (λ v. (v, source.Sum x a_name, λ k j i. (column_sum x a_name l i j k v, pos)))
+      (λ c us. gives_at _ (source.Sum x c) us (λ v k j i. (column_sum x c l i j k v, pos))))))
+
   abbrev named : ℕ → Words → Read Phrase
   named r w = name_at w >>= λ x. after_name_at inside r x.0 x.1
 
@@ -168,15 +180,19 @@ module _ (full : Bool) (inside : Reader) (I : Mark → Form Phrase) (opens : Ope
   plain_law r ts pos =
       let T : Form Phrase = Atoms r in
       let last : Words → Read Phrase = λ w. for_some (front_number w) (named r w) (λ n. Ok (Num n, rest w)) in
-      let limits : Words → Read Phrase = λ w. cond (starts Limit w) (limit_at (rest w)) (last w) in
+      let sums : Words → Read Phrase = λ w. cond (starts mark.Sum w) (column_sum_at (rest w)) (last w) in
+      let limits : Words → Read Phrase = λ w. cond (starts Limit w) (limit_at (rest w)) (sums w) in
       elim (on_bool (starts Has ts)) [
         | inl h ↦ if_true T (starts Has) (has_at full inside r) limits ts (starts_local Has) h (has_law r ts pos h)
         | inr n ↦ if_false T (starts Has) (has_at full inside r) limits ts (starts_local Has) n (elim (on_bool (starts Limit ts)) [
-          | inl h ↦ if_true T (starts Limit) (λ w. limit_at (rest w)) last ts (starts_local Limit) h (limit_law r ts pos h)
-          | inr m ↦ if_false T (starts Limit) (λ w. limit_at (rest w)) last ts (starts_local Limit) m (elim (on_option (front_number ts)) [
-            | inl h ↦ none_there T front_number (named r) (λ n w. Ok (Num n, rest w)) ts number_local h (named_law r ts pos)
-            | inr (n, h) ↦ some_there T front_number (named r) (λ n w. Ok (Num n, rest w)) ts n number_local h
-                (let s = number_is ts n h in subst (λ (w : Words). LawAt (λ w. Ok (Num n, rest w)) T w) (sym s.2) (skip_at (λ w. Ok (Num n, w)) (λ e us vs. T e ((Number n, s.0) ∷ us) vs) T (Number n, s.0) s.1 (λ a us vs p. p) (gives_at _ (Num n) s.1 (λ v. (number n s.0 v, pos)))))
+          | inl h ↦ if_true T (starts Limit) (λ w. limit_at (rest w)) sums ts (starts_local Limit) h (limit_law r ts pos h)
+          | inr m ↦ if_false T (starts Limit) (λ w. limit_at (rest w)) sums ts (starts_local Limit) m (elim (on_bool (starts mark.Sum ts)) [
+            | inl h ↦ if_true T (starts mark.Sum) (λ w. column_sum_at (rest w)) last ts (starts_local mark.Sum) h (column_sum_law r ts pos h)
+            | inr o ↦ if_false T (starts mark.Sum) (λ w. column_sum_at (rest w)) last ts (starts_local mark.Sum) o (elim (on_option (front_number ts)) [
+              | inl h ↦ none_there T front_number (named r) (λ n w. Ok (Num n, rest w)) ts number_local h (named_law r ts pos)
+              | inr (n, h) ↦ some_there T front_number (named r) (λ n w. Ok (Num n, rest w)) ts n number_local h
+                  (let s = number_is ts n h in subst (λ (w : Words). LawAt (λ w. Ok (Num n, rest w)) T w) (sym s.2) (skip_at (λ w. Ok (Num n, w)) (λ e us vs. T e ((Number n, s.0) ∷ us) vs) T (Number n, s.0) s.1 (λ a us vs p. p) (gives_at _ (Num n) s.1 (λ v. (number n s.0 v, pos)))))
+            ])
           ])
         ])
       ]

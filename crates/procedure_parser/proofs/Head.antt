@@ -3,7 +3,7 @@ use Rattle.std.proofs.Common.{◌≡◌, ℕ, ℤ, pos, Bool, true, false, cond,
 use Rattle.std.proofs.lemmas.Bool.{eqb-true}
 use Rattle.token_scanner.specs.declared.token.Mark.{Mark}
 use Rattle.token_scanner.specs.declared.token.Mark.TheVariants as mark
-use Rattle.token_scanner.specs.declared.token.Mark.TheVariants.{OpenBrace, CloseBrace, OpenParen, CloseParen, OpenBracket, CloseBracket, Colon, Semicolon, Comma, Dot, Range, Assign, Equal, Unequal, Less, AtMost, Greater, AtLeast, Plus, Minus, Star, Slash, Percent, Reducer, Memo, Proc, Call, Spawn, Sync, Update, If, Else, CilkFor, In, Grain, Return, Has, Limit}
+use Rattle.token_scanner.specs.declared.token.Mark.TheVariants.{OpenBrace, CloseBrace, OpenParen, CloseParen, OpenBracket, CloseBracket, Colon, Semicolon, Comma, Dot, Range, Assign, Equal, Unequal, Less, AtMost, Greater, AtLeast, Plus, Minus, Star, Slash, Percent, Reducer, Memo, Proc, Call, Spawn, Sync, Update, If, Else, CilkFor, In, Grain, Return, Has, Limit, Sum}
 use Rattle.token_scanner.specs.Marks.{mark_number, same_mark}
 use Rattle.token_scanner.specs.Words.{Word, Name, Number, Sign, Bad, Over, Words, starts, starts_over, rest, front_name, front_number, line_of}
 use Rattle.token_readers.specs.Reading.{◌>>=◌, Read, or_stuck, mark_at, name_at, comparison, additive, multiplicative}
@@ -55,7 +55,8 @@ mark_of n =
     cond (eqb n 35) Return (
     cond (eqb n 36) mark.Read (
     cond (eqb n 37) Has (
-    Limit))))))))))))))))))))))))))))))))))))))
+    cond (eqb n 38) Limit (
+    Sum)))))))))))))))))))))))))))))))))))))))
 
 mark_again : (m : Mark) → mark_of (mark_number m) ≡ m
 unfolding mark_of
@@ -98,6 +99,7 @@ mark_again Return = refl
 mark_again mark.Read = refl
 mark_again Has = refl
 mark_again Limit = refl
+mark_again Sum = refl
 
 pub mark_is : (m n : Mark) → same_mark m n ≡ true → m ≡ n
 mark_is m n h = sym (mark_again m) ∙ ap mark_of (eqb-true (mark_number m) (mark_number n) h) ∙ mark_again n

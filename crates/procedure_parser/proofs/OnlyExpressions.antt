@@ -8,8 +8,8 @@ use Rattle.program_tree.specs.declared.Operator.{Operator}
 use Rattle.token_scanner.specs.Words.{Word, Sign, Words, starts, rest}
 use Rattle.source_tree.specs.Source.{Phrase, Bin, depth}
 use Rattle.token_readers.specs.Reading.{mark_at, name_at, comparison, additive, multiplicative}
-use Rattle.procedure_parser.specs.Reading.{Reader, over_as, after_name_at, row_at, has_at, limit_at, plain_atom_at, atom_at, unary_at, chain_at, term_at, sum_at, against_at, expr_with, inside_at, expr_at}
-use Rattle.procedure_parser.specs.Grammar.{Form, Atom, number, variable, cell, has, has_over, limit, paren, Unary, atom, negative, Chain, over, goes_on, Comparison, equal, unequal, less, at_most, greater, at_least, Additive, Multiplicative, adds, subtracts, times, divides, remains, Term, Sum, Compared, alone, against, Inside, Expression}
+use Rattle.procedure_parser.specs.Reading.{Reader, over_as, after_name_at, row_at, has_at, limit_at, column_sum_at, plain_atom_at, atom_at, unary_at, chain_at, term_at, sum_at, against_at, expr_with, inside_at, expr_at}
+use Rattle.procedure_parser.specs.Grammar.{Form, Atom, number, variable, cell, has, has_over, limit, column_sum, paren, Unary, atom, negative, Chain, over, goes_on, Comparison, equal, unequal, less, at_most, greater, at_least, Additive, Multiplicative, adds, subtracts, times, divides, remains, Term, Sum, Compared, alone, against, Inside, Expression}
 use Rattle.procedure_parser.proofs.Head.{starts_is}
 use Rattle.procedure_parser.proofs.Expressions.{depth_pos, not_full}
 
@@ -44,7 +44,7 @@ closes_bracket l us = record { sum = record { term = record { name = record { br
 
 module _ (full : Bool) (inside : Reader) (I : Mark → Form Phrase) (only : OnlyInside full inside I) where
   only_atom : (r : ℕ) (e : Phrase) (ts us : Words) → Atom full I e ts us → depth e ≤ r → EndsName us → atom_at full inside r ts ≡ Ok (e, us)
-  unfolding atom_at plain_atom_at after_name_at row_at has_at limit_at name_at mark_at over_as
+  unfolding atom_at plain_atom_at after_name_at row_at has_at limit_at column_sum_at name_at mark_at over_as
   only_atom r _ _ _ (number n l us) le ends = refl
   only_atom r _ _ _ (variable x l us) le ends = rw ends.bracket refl
   only_atom r _ _ _ (cell t c e l i j k ts us h) le ends =
@@ -59,6 +59,7 @@ module _ (full : Bool) (inside : Reader) (I : Mark → Form Phrase) (only : Only
       let lt : ltb 1 r ≡ true = lt-ltb _ _ (omega (arith, le)) in
       rw (lt, f) refl
   only_atom r _ _ _ (limit t l i us) le ends = refl
+  only_atom r _ _ _ (column_sum t c l i j k us) le ends = refl
   only_atom r _ _ _ (paren e l ts us i) le ends =
       let o = only OpenParen r e ts ((Sign CloseParen, l) ∷ us) i le (closes l us) in
       rw (o.1, o.2) refl
@@ -70,6 +71,7 @@ module _ (full : Bool) (inside : Reader) (I : Mark → Form Phrase) (only : Only
   atom_not_minus _ _ _ (has t e l i j ts us h) = refl
   atom_not_minus _ _ _ (has_over t l i j us f) = refl
   atom_not_minus _ _ _ (limit t l i us) = refl
+  atom_not_minus _ _ _ (column_sum t c l i j k us) = refl
   atom_not_minus _ _ _ (paren e l ts us i) =
       let o = only OpenParen (depth e) e ts ((Sign CloseParen, l) ∷ us) i (omega arith) (closes l us) in
       let s = starts_is OpenParen ts o.1 in

@@ -5,7 +5,7 @@ use Rattle.token_scanner.specs.declared.token.Mark.{Mark}
 use Rattle.program_tree.specs.declared.Operator.{Operator}
 use Rattle.token_scanner.specs.Words.{Word, Words}
 use Rattle.source_tree.specs.Source.{Phrase, Stmt}
-use Rattle.procedure_parser.specs.Grammar.{Form, Atom, number, variable, cell, has, has_over, limit, paren, Unary, atom, negative, Chain, over, goes_on, Additive, Multiplicative, Term, Sum, Compared, alone, against, Inside, Many, nil, cons, Whole, CommaExpr, comma_expr, Exprs, exprs, Args, no_args, args, Entry, entry, Within, within, Grained, no_grain, grained, Ranged, ranged, Statement, binds, binds_entry, binds_read, enters, syncs, updates, tests, tests_else, loops, Body, plain, returning, Block}
+use Rattle.procedure_parser.specs.Grammar.{Form, Atom, number, variable, cell, has, has_over, limit, column_sum, paren, Unary, atom, negative, Chain, over, goes_on, Additive, Multiplicative, Term, Sum, Compared, alone, against, Inside, Many, nil, cons, Whole, CommaExpr, comma_expr, Exprs, exprs, Args, no_args, args, Entry, entry, Within, within, Grained, no_grain, grained, Ranged, ranged, Statement, binds, binds_entry, binds_read, enters, syncs, updates, tests, tests_else, loops, Body, plain, returning, Block}
 use Rattle.token_readers.specs.Limits.{most_open}
 
 abbrev pub IsShort : {A : Type 0} → Form A → Type 0
@@ -19,6 +19,7 @@ module _ (full : Bool) (I : Mark → Form Phrase) (inside : (m : Mark) → IsSho
   atom_short _ _ _ (has t e l i j ts us h) = omega (arith, inside _ _ _ _ h)
   atom_short _ _ _ (has_over t l i j us f) = omega arith
   atom_short _ _ _ (limit t l i us) = omega arith
+  atom_short _ _ _ (column_sum t c l i j k us) = omega arith
   atom_short _ _ _ (paren e l ts us i) = omega (arith, inside _ _ _ _ i)
 
   unary_short : IsShort (Unary full I)

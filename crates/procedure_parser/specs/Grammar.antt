@@ -28,6 +28,7 @@ pub data Atom (full : Bool) (inside : Mark → Form Phrase) : Phrase → Words �
   has : (t : List ℕ) (e : Phrase) (l i j : ℕ) (ts us : Words) → inside OpenBracket e ts ((Sign CloseBracket, j) ∷ us) → Atom full inside (source.Has t e) ((Sign Has, l) ∷ (Name t, i) ∷ ts) us
   has_over : (t : List ℕ) (l i j : ℕ) (us : Words) → full ≡ true → Atom full inside (source.Has t (Num (pos 0))) ((Sign Has, l) ∷ (Name t, i) ∷ (Over, j) ∷ us) us
   limit : (t : List ℕ) (l i : ℕ) (us : Words) → Atom full inside (source.Limit t) ((Sign Limit, l) ∷ (Name t, i) ∷ us) us
+  column_sum : (t c : List ℕ) (l i j k : ℕ) (us : Words) → Atom full inside (source.Sum t c) ((Sign mark.Sum, l) ∷ (Name t, i) ∷ (Sign Dot, j) ∷ (Name c, k) ∷ us) us
   paren : (e : Phrase) (l : ℕ) (ts us : Words) → inside OpenParen e ts ((Sign CloseParen, l) ∷ us) → Atom full inside e ts us
 
 pub data Unary (full : Bool) (inside : Mark → Form Phrase) : Phrase → Words → Words → Type 0 where

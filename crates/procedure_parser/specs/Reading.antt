@@ -52,6 +52,9 @@ has_at full inside r ts = if nat_lt 1 r then (name_at (rest ts) >>= λ x. row_at
 unfoldable pub limit_at : Words → Read Phrase
 limit_at ts = name_at ts >>= λ x. Ok (source.Limit x.0, x.1)
 
+unfoldable pub column_sum_at : Words → Read Phrase
+column_sum_at ts = name_at ts >>= λ x. mark_at Dot x.1 >>= λ us. name_at us >>= λ c. Ok (source.Sum x.0 c.0, c.1)
+
 -- what is no parenthesis
 unfoldable pub plain_atom_at : Bool → Reader → Reader
 plain_atom_at full inside r ts =
@@ -59,7 +62,9 @@ plain_atom_at full inside r ts =
     then has_at full inside r ts
     else (if starts Limit ts
     then limit_at (rest ts)
-    else for_some (front_number ts) (name_at ts >>= λ x. after_name_at inside r x.0 x.1) (λ n. Ok (Num n, rest ts)))
+    else (if starts mark.Sum ts
+    then column_sum_at (rest ts)
+    else for_some (front_number ts) (name_at ts >>= λ x. after_name_at inside r x.0 x.1) (λ n. Ok (Num n, rest ts))))
 
 unfoldable pub atom_at : Bool → Reader → Reader
 atom_at full inside r ts =

@@ -5,7 +5,7 @@ ghost use Rattle.token_scanner.specs.Words.{words, rest, front_name, front_numbe
 ghost use Rattle.source_tree.specs.Source.{phrase, depth, Bin};
 ghost use Rattle.token_readers.specs.Limits.{most_open, most_levels};
 ghost use Rattle.token_readers.specs.Reading.{Gives};
-ghost use Rattle.procedure_parser.specs.Reading.{limit_at, after_name_at, row_at, has_at, plain_atom_at, atom_at, unary_at, term_at, sum_at, against_at, inside_at, expr_at};
+ghost use Rattle.procedure_parser.specs.Reading.{limit_at, column_sum_at, after_name_at, row_at, has_at, plain_atom_at, atom_at, unary_at, term_at, sum_at, against_at, inside_at, expr_at};
 
 use program_tree::Operator;
 use source_tree::{Expr, Measured};
@@ -186,6 +186,9 @@ fn plain_atom<'a, 'b>(
     if starts(tokens, Mark::Limit) {
         return limit(alloc, limits, rest_of(tokens));
     }
+    if starts(tokens, Mark::Sum) {
+        return column_sum(alloc, limits, rest_of(tokens));
+    }
     if let Some(n) = front_number(tokens) {
         let expr = Expr::Number(n);
         return Ok((Measured { expr, levels: 1 }, rest_of(tokens)));
@@ -231,6 +234,22 @@ fn limit<'a, 'b>(
 {
     let (x, rest) = name(alloc, tokens)?;
     let expr = Expr::Limit(x);
+    Ok((Measured { expr, levels: 1 }, rest))
+}
+
+#[tactic(auto, unfolding(crate::specs::Reading::column_sum_at))]
+fn column_sum<'a, 'b>(
+    alloc: Global,
+    limits: Limits,
+    tokens: &'b [Placed<'a>],
+) -> Result<(Measured, &'b [Placed<'a>]), ParseError>
+    ensures exact { Gives (λ x. (phrase x.0.expr, words x.1.now)) result (column_sum_at (words tokens.now)) }
+    ensures levels { IfOk result (λ x. x.0.levels ≤ limits.room) }
+{
+    let (table, rest) = name(alloc, tokens)?;
+    let rest = mark(rest, Mark::Dot)?;
+    let (column, rest) = name(alloc, rest)?;
+    let expr = Expr::Sum(table, column);
     Ok((Measured { expr, levels: 1 }, rest))
 }
 

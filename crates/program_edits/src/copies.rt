@@ -1,7 +1,7 @@
 //! Copies of what a program is made of.
 
 ghost use Rattle.std.specs.Prelude.{◌≡◌, IfOk, map, string_bytes};
-ghost use Rattle.program_tree.specs.Plain.{cell, has, negate, binary};
+ghost use Rattle.program_tree.specs.Plain.{cell, has, sum, negate, binary};
 ghost use Rattle.program_tree.specs.View.{term, proc, decl, lined, block_lines};
 ghost use Rattle.source_tree.specs.Source.{texts};
 ghost use Rattle.source_tree.specs.Layout.{flat_deed, entries, flats, Loop, Enter, Update};
@@ -26,6 +26,14 @@ fn copy_has(alloc: Global, table: &str, row: Expr) -> Result<Expr, AllocError>
     Ok(Expr::Has(table, Box::new(alloc, row)?))
 }
 
+fn copy_sum(alloc: Global, table: &str, column: &str) -> Result<Expr, AllocError>
+    ensures { IfOk result (λ e. term e ≡ sum table.now column.now) }
+{
+    let table = String::from_str(alloc, table)?;
+    let column = String::from_str(alloc, column)?;
+    Ok(Expr::Sum(table, column))
+}
+
 fn copy_negate(alloc: Global, inner: Expr) -> Result<Expr, AllocError>
     ensures { IfOk result (λ e. term e ≡ negate (term inner)) }
 {
@@ -47,6 +55,7 @@ fn copy_expression(alloc: Global, expr: &Expr) -> Result<Expr, AllocError>
             copy_has(alloc, table, row)
         }
         Expr::Limit(table) => Ok(Expr::Limit(String::from_str(alloc, table)?)),
+        Expr::Sum(table, column) => copy_sum(alloc, table, column),
         Expr::Negate(inner) => {
             let inner = copy_expression(alloc, inner)?;
             copy_negate(alloc, inner)

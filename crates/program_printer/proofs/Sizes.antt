@@ -1,6 +1,6 @@
 -- How many expressions are in one.
 use Rattle.std.proofs.Common.{ℕ, ◌+◌}
-use Rattle.program_tree.specs.Plain.{Term, number, name, cell, has, limit, negate, binary}
+use Rattle.program_tree.specs.Plain.{Term, number, name, cell, has, limit, sum, negate, binary}
 
 abbrev pub size : Term → ℕ
 size (number n) = 1
@@ -8,5 +8,6 @@ size (name x) = 1
 size (cell t e c) = size e + 1
 size (has t e) = size e + 1
 size (limit t) = 1
+size (sum t c) = 1
 size (negate e) = size e + 1
 size (binary o a b) = size a + size b + 1

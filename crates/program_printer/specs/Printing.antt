@@ -8,7 +8,7 @@ use Rattle.program_tree.specs.declared.Operator.TheVariants.{Add, Subtract, Mult
 use Rattle.program_tree.specs.declared.Procedure.{Procedure}
 use Rattle.program_tree.specs.declared.Way.{Way}
 use Rattle.program_tree.specs.declared.Way.TheVariants as way
-use Rattle.program_tree.specs.Plain.{Name, Term, number, name, cell, has, limit, negate, binary, Deed, bind, enter, read, sync, update, choose, loop, give, Body, end, step, Proc, Decl, reducer, procedure, Tree}
+use Rattle.program_tree.specs.Plain.{Name, Term, number, name, cell, has, limit, sum, negate, binary, Deed, bind, enter, read, sync, update, choose, loop, give, Body, end, step, Proc, Decl, reducer, procedure, Tree}
 use Rattle.token_scanner.specs.declared.token.Mark.{Mark}
 use Rattle.token_scanner.specs.declared.token.Mark.TheVariants as mark
 use Rattle.token_scanner.specs.Words.{Word, Sign, Number}
@@ -48,6 +48,7 @@ term_words names (name x) us = word.Name (variable names x) ∷ us
 term_words names (cell t e c) us = word.Name t ∷ Sign mark.OpenBracket ∷ term_words names e (Sign mark.CloseBracket ∷ Sign mark.Dot ∷ word.Name c ∷ us)
 term_words names (has t e) us = Sign mark.Has ∷ word.Name t ∷ Sign mark.OpenBracket ∷ term_words names e (Sign mark.CloseBracket ∷ us)
 term_words names (limit t) us = Sign mark.Limit ∷ word.Name t ∷ us
+term_words names (sum t c) us = Sign mark.Sum ∷ word.Name t ∷ Sign mark.Dot ∷ word.Name c ∷ us
 term_words names (negate e) us = Sign mark.OpenParen ∷ Sign mark.Minus ∷ term_words names e (Sign mark.CloseParen ∷ us)
 term_words names (binary o e f) us = Sign mark.OpenParen ∷ term_words names e (Sign (operator_mark o) ∷ term_words names f (Sign mark.CloseParen ∷ us))
 

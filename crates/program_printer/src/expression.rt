@@ -96,6 +96,7 @@ pub fn put_expression(
             write!(text, "{name} ")
         }
         Expr::Limit(table) => write!(text, "limit {table} "),
+        Expr::Sum(table, column) => write!(text, "sum {table} . {column} "),
         Expr::Cell(table, row, column) => put_cell(text, procedure, table, row, column),
         Expr::Has(table, row) => {
             write!(text, "has {table} [ ")?;

@@ -14,6 +14,7 @@ pub data Term : Type 0 where
   cell : Name → Term → Name → Term
   has : Name → Term → Term
   limit : Name → Term
+  sum : Name → Name → Term
   negate : Term → Term
   binary : Operator → Term → Term → Term
 

@@ -11,7 +11,7 @@ use Rattle.program_tree.specs.declared.Reducer.{Reducer}
 use Rattle.program_tree.specs.declared.Declaration.{Declaration}
 use Rattle.program_tree.specs.declared.Declaration.TheVariants as d
 use Rattle.program_tree.specs.declared.Program.{Program}
-use Rattle.program_tree.specs.Plain.{Term, number, name, cell, has, limit, negate, binary, Deed, bind, enter, read, sync, update, choose, loop, give, Body, end, step, Proc, Red, Decl, reducer, procedure, Tree}
+use Rattle.program_tree.specs.Plain.{Term, number, name, cell, has, limit, sum, negate, binary, Deed, bind, enter, read, sync, update, choose, loop, give, Body, end, step, Proc, Red, Decl, reducer, procedure, Tree}
 
 abbrev pub term : Expr → Term
 term (e.Number n) = number n
@@ -19,6 +19,7 @@ term (e.Name n) = name n
 term (e.Cell' t p row c) = cell (string_bytes t) (term row) (string_bytes c)
 term (e.Has' t p row) = has (string_bytes t) (term row)
 term (e.Limit t) = limit (string_bytes t)
+term (e.Sum t c) = sum (string_bytes t) (string_bytes c)
 term (e.Negate' p x) = negate (term x)
 term (e.Binary' op p x q y) = binary op (term x) (term y)
 

@@ -7,7 +7,7 @@ use Rattle.meaning.specs.Elision.{depth_limit}
 use Rattle.meaning.specs.Every.{every}
 use Rattle.meaning.specs.Records.{same_number, same_bool}
 use Rattle.meaning.specs.Tables.{Tables}
-use Rattle.input_tables.specs.Edited.{cell_at, has_at, limit_at}
+use Rattle.input_tables.specs.Edited.{cell_at, has_at, limit_at, sum_at}
 use Rattle.evaluation.specs.declared.note.Note.{Note}
 use Rattle.evaluation.specs.declared.note.Note.TheVariants as note
 use Rattle.rerun_records.specs.Record.{PlainRecord, is_of, settled}
@@ -41,6 +41,7 @@ module _ (tables : Tables) where
   change_other (note.Cell t row c v) = cell_other t row c v (cell_at tables t row c)
   change_other (note.Has t row there) = none_or (same_bool (has_at tables t row) there) (reason.Row t row there) (λ e. absurd cc)
   change_other (note.Limit t v) = none_or (int_eq (limit_at tables t) v) (reason.Limit t v (limit_at tables t)) (λ e. absurd cc)
+  change_other (note.Sum t c v) = none_or (int_eq (sum_at tables t c) v) (reason.Sum t c v (sum_at tables t c)) (λ e. absurd cc)
 
   changes_other : (ns : List Note) → first_change tables ns ≢ Some reason.TooDeep
   changes_other [] = λ e. absurd cc
@@ -77,6 +78,7 @@ module _ (tables : Tables) where
   change_agrees (note.Cell t row c v) e = cell_agrees t row c v (cell_at tables t row c) e
   change_agrees (note.Has t row there) e = only_none (same_bool (has_at tables t row) there) (reason.Row t row there) e
   change_agrees (note.Limit t v) e = only_none (int_eq (limit_at tables t) v) (reason.Limit t v (limit_at tables t)) e
+  change_agrees (note.Sum t c v) e = only_none (int_eq (sum_at tables t c) v) (reason.Sum t c v (sum_at tables t c)) e
 
   changes_agree : (ns : List Note) → first_change tables ns ≡ None → every (note_agrees tables) ns ≡ true
   changes_agree [] e = refl
@@ -108,6 +110,7 @@ module _ (tables : Tables) where
   change_none (note.Cell t row c v) e = cell_same t row c v (cell_at tables t row c) e
   change_none (note.Has t row there) e = ap (λ b. cond b None (Some (reason.Row t row there))) e
   change_none (note.Limit t v) e = ap (λ b. cond b None (Some (reason.Limit t v (limit_at tables t)))) e
+  change_none (note.Sum t c v) e = ap (λ b. cond b None (Some (reason.Sum t c v (sum_at tables t c)))) e
 
   pub changes_none : (ns : List Note) → every (note_agrees tables) ns ≡ true → first_change tables ns ≡ None
   changes_none [] e = refl

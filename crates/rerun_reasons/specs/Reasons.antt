@@ -5,7 +5,7 @@ use Rattle.std.specs.Ordering.{int_eq}
 use Rattle.program_tree.specs.Plain.{Name}
 use Rattle.meaning.specs.Tables.{Tables}
 use Rattle.meaning.specs.Records.{same_bool}
-use Rattle.input_tables.specs.Edited.{cell_at, has_at, limit_at}
+use Rattle.input_tables.specs.Edited.{cell_at, has_at, limit_at, sum_at}
 use Rattle.evaluation.specs.declared.note.Note.{Note}
 use Rattle.evaluation.specs.declared.note.Note.TheVariants as note
 use Rattle.rerun_records.specs.Record.{PlainRecord, is_of}
@@ -23,6 +23,7 @@ abbrev pub change_of : Tables → Note → Option Reason
 change_of ts (note.Cell t row c v) = cell_change t row c v (cell_at ts t row c)
 change_of ts (note.Has t row there) = cond (same_bool (has_at ts t row) there) None (Some (reason.Row t row there))
 change_of ts (note.Limit t v) = cond (int_eq (limit_at ts t) v) None (Some (reason.Limit t v (limit_at ts t)))
+change_of ts (note.Sum t c v) = cond (int_eq (sum_at ts t c) v) None (Some (reason.Sum t c v (sum_at ts t c)))
 
 -- the first of two reasons that there is
 abbrev pub or_else : Option Reason → Option Reason → Option Reason

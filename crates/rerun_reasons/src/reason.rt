@@ -43,6 +43,13 @@ pub enum Reason {
         was: i64,
         found: i64,
     },
+    /// The sum of a column is another now.
+    Sum {
+        table: usize,
+        column: usize,
+        was: i64,
+        found: i64,
+    },
     /// As deep as its instance went, it would pass the deepest level from here.
     TooDeep,
 }

@@ -119,6 +119,11 @@ fn change_of(note: &Note, tables: &Tables) -> Option<Reason>
         ),
         Note::Has { table, row, found } => row_change(*table, *row, *found, tables),
         Note::Limit { table, value } => limit_change(*table, *value, tables),
+        Note::Sum {
+            table,
+            column,
+            value,
+        } => sum_change(*table, *column, *value, tables),
     }
 }
 
@@ -172,4 +177,20 @@ fn limit_change(table: usize, was: i64, tables: &Tables) -> Option<Reason>
         return None;
     }
     Some(Reason::Limit { table, was, found })
+}
+
+// The sum of a column, where it was another.
+fn sum_change(table: usize, column: usize, was: i64, tables: &Tables) -> Option<Reason>
+    ensures change { result ≡ change_of tables.now.tables (note.Sum table column was) }
+{
+    let found = tables.sum(table, column);
+    if found == was {
+        return None;
+    }
+    Some(Reason::Sum {
+        table,
+        column,
+        was,
+        found,
+    })
 }

@@ -89,6 +89,16 @@ fn push_reason(text: &mut String, checked: &Checked, reason: Reason) -> Result<(
             let table = table_name(checked, table);
             write!(text, "limit of {table} was {was} and is {found}")
         }
+        Reason::Sum {
+            table,
+            column,
+            was,
+            found,
+        } => {
+            let column = column_name(checked, table, column);
+            let table = table_name(checked, table);
+            write!(text, "sum of {table}.{column} was {was} and is {found}")
+        }
         Reason::TooDeep => text.push_str("would go too deep"),
     }
 }

@@ -8,7 +8,7 @@ use Rattle.std.specs.List.{list_any}
 use Rattle.std.specs.Ordering.{int_eq}
 use Rattle.std.proofs.lemmas.Bool.Decides.{Decides-eqb, Decides-int_eq}
 use Rattle.evaluation.specs.declared.note.Note.{Note}
-use Rattle.evaluation.specs.declared.note.Note.TheVariants.{Cell, Has, Limit}
+use Rattle.evaluation.specs.declared.note.Note.TheVariants.{Cell, Has, Limit, Sum}
 use Rattle.meaning.specs.Every.{every}
 use Rattle.meaning.specs.Tables.{Tables}
 use Rattle.evaluation.specs.declared.reading.Reading.{Reading}
@@ -104,18 +104,26 @@ rows_right a b row =
     (min_right a.low b.low row (left_is (int_le b.low row) (int_le row b.high) e))
     (max_right a.high b.high row (right_is (int_le b.low row) (int_le row b.high) e)))
 
+whole_left : (t : ℕ) (a b : Span) → nat_eq a.table t && a.whole ≡ true → nat_eq a.table t && (a.whole || b.whole) ≡ true
+whole_left t a b e = both (nat_eq a.table t) (a.whole || b.whole) (left_is (nat_eq a.table t) a.whole e) (or_left a.whole b.whole (right_is (nat_eq a.table t) a.whole e))
+
+whole_right : (t : ℕ) (a b : Span) → a.table ≡ b.table → nat_eq b.table t && b.whole ≡ true → nat_eq a.table t && (a.whole || b.whole) ≡ true
+whole_right t a b s e =
+    both (nat_eq a.table t) (a.whole || b.whole) (ap (λ n. nat_eq n t) s ∙ left_is (nat_eq b.table t) b.whole e) (or_right a.whole b.whole (right_is (nat_eq b.table t) b.whole e))
+
 covers_left : (note : Note) (a b : Span) → covers note a ≡ true → covers note (joined a b) ≡ true
 covers_left (Cell t row c v) a b e = both (nat_eq a.table t) (has_row (joined a b) row) (left_is (nat_eq a.table t) (has_row a row) e) (rows_left a b row (right_is (nat_eq a.table t) (has_row a row) e))
 covers_left (Has t row there) a b e = both (nat_eq a.table t) (has_row (joined a b) row) (left_is (nat_eq a.table t) (has_row a row) e) (rows_left a b row (right_is (nat_eq a.table t) (has_row a row) e))
-covers_left (Limit t v) a b e = both (nat_eq a.table t) (a.whole || b.whole) (left_is (nat_eq a.table t) a.whole e) (or_left a.whole b.whole (right_is (nat_eq a.table t) a.whole e))
+covers_left (Limit t v) a b e = whole_left t a b e
+covers_left (Sum t c v) a b e = whole_left t a b e
 
 covers_right : (note : Note) (a b : Span) → a.table ≡ b.table → covers note b ≡ true → covers note (joined a b) ≡ true
 covers_right (Cell t row c v) a b s e =
     both (nat_eq a.table t) (has_row (joined a b) row) (ap (λ n. nat_eq n t) s ∙ left_is (nat_eq b.table t) (has_row b row) e) (rows_right a b row (right_is (nat_eq b.table t) (has_row b row) e))
 covers_right (Has t row there) a b s e =
     both (nat_eq a.table t) (has_row (joined a b) row) (ap (λ n. nat_eq n t) s ∙ left_is (nat_eq b.table t) (has_row b row) e) (rows_right a b row (right_is (nat_eq b.table t) (has_row b row) e))
-covers_right (Limit t v) a b s e =
-    both (nat_eq a.table t) (a.whole || b.whole) (ap (λ n. nat_eq n t) s ∙ left_is (nat_eq b.table t) b.whole e) (or_right a.whole b.whole (right_is (nat_eq b.table t) b.whole e))
+covers_right (Limit t v) a b s e = whole_right t a b s e
+covers_right (Sum t c v) a b s e = whole_right t a b s e
 
 -- ---- what was covered stays so, and what is put in is covered
 
@@ -157,6 +165,7 @@ read_covered : (reading : Reading) → covers (note_of reading) (span_of reading
 read_covered (r.Cell c t row v) = both (nat_eq t t) (int_le (pos row) (pos row) && int_le (pos row) (pos row)) (same_number t) (one_row (pos row))
 read_covered (r.Has there t row) = both (nat_eq t t) (int_le row row && int_le row row) (same_number t) (one_row row)
 read_covered (r.Limit t v) = both (nat_eq t t) true (same_number t) refl
+read_covered (r.Sum c t v) = both (nat_eq t t) true (same_number t) refl
 
 pub adds_read : (own : List Reading) (xs : List Span) → every (is_covered_by (put_spans xs (map span_of own))) (map note_of own) ≡ true
 adds_read [] xs = refl
@@ -178,14 +187,18 @@ row_in t row change s h e =
     (ap (nat_eq s.table) (sym table_is) ∙ left_is (nat_eq s.table t) (has_row s row) e)
     (ap (has_row s) (sym row_is) ∙ right_is (nat_eq s.table t) (has_row s row) e)
 
-lies_there : (note : Note) (change : ℕ × ℤ) (s : Span) → rests_on note change ≡ true → covers note s ≡ true → lies_in change s ≡ true
-lies_there (Cell t row c v) change s h e = row_in t row change s h e
-lies_there (Has t row there) change s h e = row_in t row change s h e
-lies_there (Limit t v) change s h e =
+table_in : (t : ℕ) (change : ℕ × ℤ) (s : Span) → nat_eq t change.0 ≡ true → nat_eq s.table t && s.whole ≡ true → lies_in change s ≡ true
+table_in t change s h e =
     let table_is : t ≡ change.0 = (Decides-eqb t change.0).0 h in
     both (nat_eq s.table change.0) (has_row s change.1)
     (ap (nat_eq s.table) (sym table_is) ∙ left_is (nat_eq s.table t) s.whole e)
     (whole_has s change.1 (right_is (nat_eq s.table t) s.whole e))
+
+lies_there : (note : Note) (change : ℕ × ℤ) (s : Span) → rests_on note change ≡ true → covers note s ≡ true → lies_in change s ≡ true
+lies_there (Cell t row c v) change s h e = row_in t row change s h e
+lies_there (Has t row there) change s h e = row_in t row change s h e
+lies_there (Limit t v) change s h e = table_in t change s h e
+lies_there (Sum t c v) change s h e = table_in t change s h e
 
 none_rests : (note : Note) (s : Span) (changes : List (ℕ × ℤ)) → covers note s ≡ true → list_any (λ c. lies_in c s) changes ≡ false → list_any (rests_on note) changes ≡ false
 none_rests note s [] e h = refl

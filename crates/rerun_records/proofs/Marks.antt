@@ -11,7 +11,7 @@ use Rattle.meaning.specs.Every.{every}
 use Rattle.meaning.specs.Records.{same_number, same_bool}
 use Rattle.meaning.specs.Tables.{Tables}
 use Rattle.evaluation.specs.declared.note.Note.{Note}
-use Rattle.evaluation.specs.declared.note.Note.TheVariants.{Cell, Has, Limit}
+use Rattle.evaluation.specs.declared.note.Note.TheVariants.{Cell, Has, Limit, Sum}
 use Rattle.rerun_records.specs.Record.{PlainRecord, Doubts, everything, rows, settled}
 use Rattle.rerun_records.specs.Validity.{note_agrees}
 use Rattle.rerun_records.specs.Doubted.{rests_on, in_step, reads_in_step, IsInStep, reads_agree, IsSameBut}
@@ -35,6 +35,7 @@ agrees_still : (table : ℕ) (row : ℤ) (before after : Tables) → IsSameBut t
 agrees_still table row before after h (Cell t r c v) e = ap (λ o. same_number o v) (h.cells t r c e)
 agrees_still table row before after h (Has t r there) e = ap (λ b. same_bool b there) (h.there t r e)
 agrees_still table row before after h (Limit t v) e = ap (λ z. int_eq z v) (h.limits t e)
+agrees_still table row before after h (Sum t c v) e = ap (λ z. int_eq z v) (h.sums t c e)
 
 module _ (table : ℕ) (row : ℤ) (before after : Tables) (same : IsSameBut table row before after) where
   by_cases : (note : Note) (listed rests : Bool) → rests_on note (table, row) ≡ rests → listed || note_agrees before note ≡ true → (listed || rests) || note_agrees after note ≡ true

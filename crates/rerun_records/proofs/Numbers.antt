@@ -8,7 +8,7 @@ use Rattle.std.proofs.lemmas.Bool.Decides.{Decides-eqb}
 use Rattle.std.proofs.lemmas.Cmp.{int_eq_equiv}
 use Rattle.std.proofs.lemmas.Slice.Eq.{bytes_eq-Decides}
 use Rattle.program_tree.specs.Plain.{Name, Proc, reducer, procedure, Tree}
-use Rattle.meaning.specs.Outcome.{Reading, CellHeld, HasHeld, LimitHeld}
+use Rattle.meaning.specs.Outcome.{Reading, CellHeld, HasHeld, LimitHeld, SumHeld}
 use Rattle.meaning.specs.Records.{agrees, is_current, same_number, same_bool, same_args}
 use Rattle.meaning.specs.Statements.{procedure_of}
 use Rattle.meaning.specs.Tables.{Tables, index_of, is_there, row_of, above_all}
@@ -18,7 +18,7 @@ use Rattle.linked_program.specs.Procedures.{procedures}
 use Rattle.linked_program.specs.TableNames.{columned_of}
 use Rattle.linked_program.proofs.Numbers.{procedure_is}
 use Rattle.evaluation.specs.Numbers.{numbered}
-use Rattle.evaluation.proofs.Meant.{rows_found, cell_found}
+use Rattle.evaluation.proofs.Meant.{rows_found, cell_found, sum_found}
 use Rattle.rerun_records.specs.Validity.{note_agrees, has_revision, is_revision}
 use Rattle.rerun_records.specs.Named.{numbered_entry, IsInOrder}
 
@@ -77,6 +77,7 @@ pub reading_is : (tables : Tables) (r : Reading) → agrees tables r ≡ note_ag
 reading_is tables (CellHeld t row c v) = ap (λ (o : Option ℤ). same_number o v) (sym (cell_found tables t row c))
 reading_is tables (HasHeld t row there) = ap (λ (rows : List (ℤ × List ℤ)). same_bool (is_there (row_of rows row)) there) (sym (rows_found tables t))
 reading_is tables (LimitHeld t v) = ap (λ (rows : List (ℤ × List ℤ)). int_eq (above_all (pos 0) rows) v) (sym (rows_found tables t))
+reading_is tables (SumHeld t c v) = ap (λ (n : ℤ). int_eq n v) (sym (sum_found tables t c))
 
 -- ---- arguments
 

@@ -1,12 +1,13 @@
--- An edit of a table changes what is read of one row, and of its table's limit.
+-- An edit of a table changes what is read of one row, and its table's limit and sums.
 use Rattle.std.proofs.Common.{◌≡◌, ℕ, zero, suc, ℤ, pos, Bool, true, false, true≢false, cond, List, [], ◌∷◌, Option, Some, None, Result, Ok, refl, sym, ap, ◌∙◌, subst}
 use Rattle.std.specs.Prelude.{◌&&◌, nat_eq, not, length, int_lt}
+use Rattle.std.specs.Int.{w64, int_wrap}
 use Rattle.std.specs.Ordering.{int_eq}
 use Rattle.std.proofs.lemmas.Bool.Decides.{Decides-eqb, Decides-int_eq}
 use Rattle.program_tree.specs.Plain.{Name}
 use Rattle.program_tree.specs.View.{Lined}
 use Rattle.meaning.specs.Records.{Revised}
-use Rattle.meaning.specs.Tables.{Tables, Listed, row_of, at_column, is_there, above_all, index_of}
+use Rattle.meaning.specs.Tables.{Tables, Listed, row_of, at_column, is_there, above_all, column_total, index_of}
 use Rattle.meaning.specs.Edits.{Standing, EditRefusal, RowRange, WrongColumns, NoRow, Exhausted, most, in_range, unless, table_of, table_changed, row_put, row_gone, with_rows, with_tables, put_in, after_put, delete_in, after_delete}
 use Rattle.linked_program.specs.Checked.{nothing}
 use Rattle.input_tables.specs.Edited.{Edited, beside, names_of, rows_at, changed_at, row_into, row_out_of}
@@ -92,6 +93,7 @@ module _ (rows : List (ℤ × List ℤ) → List (ℤ × List ℤ)) where
       cells = λ t r c d. ap (λ o. at_column o c) (row_kept t r d);
       there = λ t r d. ap is_there (row_kept t r d);
       limits = λ t d. ap (above_all (pos 0)) (other_tables ts n t d);
+      sums = λ t c d. ap (λ es. int_wrap w64 (column_total c es)) (other_tables ts n t d);
     }
 
 put_at_number : (row : ℤ) (vs : List ℤ) (ts : Tables) (n : ℕ) → IsSameBut n row ts (changed_at (row_into row vs) ts n)

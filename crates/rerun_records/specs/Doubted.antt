@@ -4,9 +4,9 @@ use Rattle.std.specs.List.{list_any}
 use Rattle.std.specs.Ordering.{int_eq}
 use Rattle.meaning.specs.Every.{every}
 use Rattle.meaning.specs.Tables.{Tables}
-use Rattle.input_tables.specs.Edited.{cell_at, has_at, limit_at}
+use Rattle.input_tables.specs.Edited.{cell_at, has_at, limit_at, sum_at}
 use Rattle.evaluation.specs.declared.note.Note.{Note}
-use Rattle.evaluation.specs.declared.note.Note.TheVariants.{Cell, Has, Limit}
+use Rattle.evaluation.specs.declared.note.Note.TheVariants.{Cell, Has, Limit, Sum}
 use Rattle.rerun_records.specs.Record.{PlainRecord, Doubts, everything, rows}
 use Rattle.rerun_records.specs.Validity.{note_agrees}
 
@@ -15,6 +15,7 @@ abbrev pub rests_on : Note → ℕ × ℤ → Bool
 rests_on (Cell t row c v) change = nat_eq t change.0 && int_eq row change.1
 rests_on (Has t row there) change = nat_eq t change.0 && int_eq row change.1
 rests_on (Limit t v) change = nat_eq t change.0
+rests_on (Sum t c v) change = nat_eq t change.0
 
 abbrev pub is_doubted : Doubts → Note → Bool
 is_doubted everything note = true
@@ -47,3 +48,4 @@ pub record IsSameBut (table : ℕ) (row : ℤ) (before after : Tables) : Type 0 
   pub cells : (t : ℕ) (r : ℤ) (c : ℕ) → nat_eq t table && int_eq r row ≡ false → cell_at after t r c ≡ cell_at before t r c
   pub there : (t : ℕ) (r : ℤ) → nat_eq t table && int_eq r row ≡ false → has_at after t r ≡ has_at before t r
   pub limits : (t : ℕ) → nat_eq t table ≡ false → limit_at after t ≡ limit_at before t
+  pub sums : (t c : ℕ) → nat_eq t table ≡ false → sum_at after t c ≡ sum_at before t c

@@ -13,6 +13,7 @@ abbrev pub span_of : Reading → Span
 span_of (r.Cell c t row v) = record { table = t; whole = false; low = pos row; high = pos row }
 span_of (r.Has there t row) = record { table = t; whole = false; low = row; high = row }
 span_of (r.Limit t v) = record { table = t; whole = true; low = pos 0; high = pos 0 }
+span_of (r.Sum c t v) = record { table = t; whole = true; low = pos 0; high = pos 0 }
 
 -- the row of the span's table is one of these
 abbrev pub has_row : Span → ℤ → Bool
@@ -23,6 +24,7 @@ abbrev pub covers : Note → Span → Bool
 covers (n.Cell t row c v) s = nat_eq s.table t && has_row s row
 covers (n.Has t row there) s = nat_eq s.table t && has_row s row
 covers (n.Limit t v) s = nat_eq s.table t && s.whole
+covers (n.Sum t c v) s = nat_eq s.table t && s.whole
 
 abbrev pub is_covered_by : List Span → Note → Bool
 is_covered_by spans note = list_any (covers note) spans

@@ -7,9 +7,9 @@ use Rattle.meaning.specs.Every.{every}
 use Rattle.meaning.specs.Tables.{Tables}
 use Rattle.meaning.specs.Elision.{depth_limit}
 use Rattle.meaning.specs.Records.{same_number, same_bool}
-use Rattle.input_tables.specs.Edited.{cell_at, has_at, limit_at}
+use Rattle.input_tables.specs.Edited.{cell_at, has_at, limit_at, sum_at}
 use Rattle.evaluation.specs.declared.note.Note.{Note}
-use Rattle.evaluation.specs.declared.note.Note.TheVariants.{Cell, Has, Limit}
+use Rattle.evaluation.specs.declared.note.Note.TheVariants.{Cell, Has, Limit, Sum}
 use Rattle.rerun_records.specs.Record.{PlainRecord, is_of, settled}
 
 -- the tables hold what was read
@@ -17,6 +17,7 @@ abbrev pub note_agrees : Tables → Note → Bool
 note_agrees tables (Cell t row c v) = same_number (cell_at tables t row c) v
 note_agrees tables (Has t row there) = same_bool (has_at tables t row) there
 note_agrees tables (Limit t v) = int_eq (limit_at tables t) v
+note_agrees tables (Sum t c v) = int_eq (sum_at tables t c) v
 
 abbrev pub is_revision : Option (Name × ℕ) → ℕ → Bool
 is_revision None n = false

@@ -36,6 +36,7 @@ fn rests_on(reading: &Reading, change: &(usize, i64)) -> bool
         }
         Reading::Has { table, row, .. } => usize::from(*table) == change.0 && *row == change.1,
         Reading::Limit { table, .. } => usize::from(*table) == change.0,
+        Reading::Sum { table, .. } => usize::from(*table) == change.0,
     }
 }
 

@@ -94,7 +94,7 @@ impl Readings {
     }
 
     /// Whether the tables hold what was read of the rows that were changed, each given by its table's number and its own, and each
-    /// limit of their tables. It takes no memory, and passes over parts that read none of these.
+    /// limit and sum of their tables. It takes no memory, and passes over parts that read none of these.
     pub fn doubted_agree(&self, changes: &[(usize, i64)], tables: &Tables) -> bool
         ensures agree { result
             ≡ every (agrees_if_changed tables.now.tables changes.now) self.now }
@@ -354,5 +354,10 @@ fn agrees(note: &Note, tables: &Tables) -> bool
         } => tables.cell(*table, *row, *column) == Some(*value),
         Note::Has { table, row, found } => tables.has(*table, *row) == *found,
         Note::Limit { table, value } => tables.limit(*table) == *value,
+        Note::Sum {
+            table,
+            column,
+            value,
+        } => tables.sum(*table, *column) == *value,
     }
 }

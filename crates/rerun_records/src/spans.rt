@@ -1,12 +1,12 @@
 // Stretches of rows in which what was read lies, one for each table.
-ghost use Rattle.std.specs.Prelude.{◌≡◌, OnOk, map, false};
+ghost use Rattle.std.specs.Prelude.{◌≡◌, OnOk, map, pos, false, true};
 ghost use Rattle.std.specs.List.{list_any};
 ghost use Rattle.rerun_records.specs.Spans.{span_of, lies_in, joined, put_span, put_spans, is_touched};
 
 use evaluation::reading::Reading;
 use std::alloc::AllocError;
 
-/// The rows of a table from the lowest that was read to the greatest; all of them, where its limit was.
+/// The rows of a table from the lowest that was read to the greatest; all of them, where its limit or a sum was.
 #[derive(Clone, Copy)]
 pub(crate) struct Span {
     table: u16,
@@ -23,12 +23,8 @@ impl Span {
         match reading {
             Reading::Cell { table, row, .. } => Span::one(*table, i64::from(*row)),
             Reading::Has { table, row, .. } => Span::one(*table, *row),
-            Reading::Limit { table, .. } => Span {
-                table: *table,
-                whole: true,
-                low: 0,
-                high: 0,
-            },
+            Reading::Limit { table, .. } => Span::whole(*table),
+            Reading::Sum { table, .. } => Span::whole(*table),
         }
     }
 
@@ -41,6 +37,18 @@ impl Span {
             whole: false,
             low: row,
             high: row,
+        }
+    }
+
+    // All rows.
+    fn whole(table: u16) -> Span
+        ensures whole { result ≡ record { table = table; whole = true; low = pos 0; high = pos 0 } }
+    {
+        Span {
+            table,
+            whole: true,
+            low: 0,
+            high: 0,
         }
     }
 

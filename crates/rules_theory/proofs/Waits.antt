@@ -2,7 +2,7 @@
 use Rattle.std.proofs.Common.{◌≡◌, ℕ, zero, suc, ◌+◌, ◌≤◌, ◌-◌, Bool, true, false, cond, ◌&&◌, ◌==◌, List, [], ◌∷◌, ◌++◌, Option, Some, None, map, length, min, replicate, slice_get, refl, ap, sym, ◌∙◌, subst, inl, inr, ◌⊎◌, arith}
 use Rattle.program_tree.specs.declared.Program.{Program}
 use Rattle.program_tree.specs.declared.Way.TheVariants.{Call, Spawn}
-use Rattle.program_tree.specs.Plain.{Name, Term, number, name, cell, has, limit, negate, binary, Deed, bind, enter, read, sync, update, choose, loop, give, Body, end, step}
+use Rattle.program_tree.specs.Plain.{Name, Term, number, name, cell, has, limit, sum, negate, binary, Deed, bind, enter, read, sync, update, choose, loop, give, Body, end, step}
 use Rattle.program_tree.specs.View.{decl, lined, tree}
 use Rattle.meaning.specs.Statements.{procedure_of}
 use Rattle.linked_program.specs.declared.knowledge.Moment.{Moment}
@@ -47,6 +47,7 @@ module _ (ts : List Columned) (scope : Scope) (W : List ℕ) (covers : Covers W 
   free_term (cell t e c) r = free_term e (nil_right (column_rules (table_of ts t) c) (term_rules ts scope e) r)
   free_term (has t e) r = free_term e (nil_right (table_rules (table_of ts t)) (term_rules ts scope e) r)
   free_term (limit t) r = tt
+  free_term (sum t c) r = tt
   free_term (negate e) r = free_term e r
   free_term (binary op e f) r = (free_term e (nil_left (term_rules ts scope e) (term_rules ts scope f) r), free_term f (nil_right (term_rules ts scope e) (term_rules ts scope f) r))
 

@@ -5,7 +5,7 @@ use Rattle.std.specs.Ordering.{int_eq}
 use Rattle.program_tree.specs.declared.Operator.{Operator}
 use Rattle.program_tree.specs.declared.Operator.TheVariants as o
 use Rattle.monoid_laws.specs.declared.Kind.{Kind}
-use Rattle.program_tree.specs.Plain.{Name, Term, number, name, cell, has, limit, negate, binary, Red, Tree}
+use Rattle.program_tree.specs.Plain.{Name, Term, number, name, cell, has, limit, sum, negate, binary, Red, Tree}
 use Rattle.meaning.specs.declared.FaultKind.{FaultKind}
 use Rattle.meaning.specs.declared.FaultKind.TheVariants.{DivideByZero, RangeTooLong}
 use Rattle.meaning.specs.Tables.{Tables, cell_of}
@@ -113,6 +113,7 @@ module _ (program : Tree) where
   value_quiet tables env (cell t e c) = onward_quiet _ (value tables env e).answer _ (value_quiet tables env e) (λ row. look_quiet t row c (cell_of tables t row c))
   value_quiet tables env (has t e) = onward_quiet _ (value tables env e).answer _ (value_quiet tables env e) (λ row acc. refl)
   value_quiet tables env (limit t) = λ now. refl
+  value_quiet tables env (sum t c) = λ now. refl
   value_quiet tables env (negate e) = onward_quiet _ (value tables env e).answer _ (value_quiet tables env e) (λ row acc. refl)
   value_quiet tables env (binary op e f) = onward_quiet _ (value tables env e).answer _ (value_quiet tables env e) (λ x. onward_quiet _ (value tables env f).answer _ (value_quiet tables env f) (λ y. apply_quiet op x y))
 

@@ -20,6 +20,7 @@ abbrev pub reading_plain : Reading → outcome.Reading
 reading_plain (r.Cell t row c v) = outcome.CellHeld (string_bytes t) row (string_bytes c) v
 reading_plain (r.Has t row b) = outcome.HasHeld (string_bytes t) row b
 reading_plain (r.Limit t v) = outcome.LimitHeld (string_bytes t) v
+reading_plain (r.Sum t c v) = outcome.SumHeld (string_bytes t) (string_bytes c) v
 
 abbrev pub revision : Revision → Name × ℕ
 revision r = (string_bytes r.procedure, r.number)

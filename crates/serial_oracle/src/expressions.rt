@@ -79,6 +79,7 @@ pub fn evaluate(tables: &[TableRows], env: &[Option<i64>], e: &Expr) -> Result<i
             Ok(one_of(lookup::has(tables, t, row)))
         }
         Expr::Limit(t) => Ok(lookup::limit(tables, t)),
+        Expr::Sum(t, c) => Ok(lookup::sum(tables, t, c)),
         Expr::Negate(x) => {
             let x = evaluate(tables, env, x)?;
             Ok(x.wrapping_neg())

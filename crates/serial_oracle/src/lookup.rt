@@ -1,7 +1,7 @@
 //! What is read of tables.
 
 ghost use Rattle.std.specs.Prelude.{◌≡◌, ℕ, ◌+◌, ◌<◌, ◌≤◌, map, length, string_bytes, slice_get, option_map};
-ghost use Rattle.meaning.specs.Tables.{rows_of, columns_of, index_of, row_of, at_column, above_all, cell_of, has_row, limit_of};
+ghost use Rattle.meaning.specs.Tables.{rows_of, columns_of, index_of, row_of, at_column, above_all, amount_in, cell_of, has_row, limit_of, sum_of};
 ghost use Rattle.serial_oracle.specs.Listing.{rows_plain, tables_plain};
 
 use crate::tables::{Row, TableRows};
@@ -81,4 +81,26 @@ pub fn limit(tables: &[TableRows], table: &str) -> i64
         }
     }
     above
+}
+
+/// What a row adds to the sum of a column: nothing where it has no such column.
+fn amount(values: &[i64], place: usize) -> i64
+    ensures { result ≡ amount_in (slice_get values.now place) }
+{
+    match values.get(place) {
+        Some(value) => *value,
+        None => 0,
+    }
+}
+
+/// The sum of a column over all rows, wrapped to 64 bits.
+pub fn sum(tables: &[TableRows], table: &str, wanted: &str) -> i64
+    ensures { result ≡ sum_of (tables_plain tables.now) table.now wanted.now }
+{
+    let place = column(tables, table, wanted);
+    let mut total: i64 = 0;
+    for row in rows(tables, table) {
+        total = total.wrapping_add(amount(&row.values, place));
+    }
+    total
 }

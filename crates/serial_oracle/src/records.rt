@@ -8,6 +8,7 @@ pub enum Reading {
     Cell(String, i64, String, i64),
     Has(String, i64, bool),
     Limit(String, i64),
+    Sum(String, String, i64),
 }
 
 /// A procedure's revision number.

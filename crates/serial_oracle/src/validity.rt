@@ -46,6 +46,7 @@ fn agrees(tables: &[TableRows], reading: &Reading) -> bool
         }
         Reading::Has(table, row, held) => same_bool(lookup::has(tables, table, *row), *held),
         Reading::Limit(table, value) => lookup::limit(tables, table) == *value,
+        Reading::Sum(table, column, value) => lookup::sum(tables, table, column) == *value,
     }
 }
 

@@ -66,6 +66,10 @@ pub fn note_term(
             note_term(first, place, tables, scope, row)
         }
         Expr::Limit(table) => note_table(first, place, table_of(tables, table.as_str())),
+        Expr::Sum(table, column) => {
+            let found = table_of(tables, table.as_str());
+            note_column(first, place, found, column.as_str())
+        }
         Expr::Negate(inner) => note_term(first, place, tables, scope, inner),
         Expr::Binary(_, left, right) => {
             let first = note_term(first, place, tables, scope, left);

@@ -2,11 +2,11 @@
 use Rattle.std.specs.Prelude.{ℕ, suc, ◌+◌, ◌≤◌, List, [], ◌∷◌, ◌++◌, length, map, Option, Some, None, bytes_eq, if◌then◌else◌, Bool}
 use Rattle.std.specs.Option.{option_map}
 use Rattle.token_scanner.specs.Words.{for_some}
-use Rattle.program_tree.specs.Plain.{Name, Term, number, name, cell, has, limit, negate, binary, Deed, bind, enter, read, sync, update, choose, loop, give, Body, end, step, Proc, Tree}
+use Rattle.program_tree.specs.Plain.{Name, Term, number, name, cell, has, limit, sum, negate, binary, Deed, bind, enter, read, sync, update, choose, loop, give, Body, end, step, Proc, Tree}
 use Rattle.program_tree.specs.Plain as plain
 use Rattle.program_tree.specs.View.{Lined}
 use Rattle.source_tree.specs.Kinds.{WrittenKind, written}
-use Rattle.source_tree.specs.Source.{Phrase, Num, Var, Cell, Has, Limit, Neg, Bin, Stmt, Binds, Enters, Reads, Syncs, Updates, Tests, Loops, Returns, Stmts, none, some, stmts_of, Decl, Reduces, Defines, Source}
+use Rattle.source_tree.specs.Source.{Phrase, Num, Var, Cell, Has, Limit, Sum, Neg, Bin, Stmt, Binds, Enters, Reads, Syncs, Updates, Tests, Loops, Returns, Stmts, none, some, stmts_of, Decl, Reduces, Defines, Source}
 use Rattle.token_scanner.specs.Scanning.{longest_text}
 
 -- the greatest number of statements of a text: each takes a byte of it at least
@@ -34,6 +34,7 @@ lower_term pool (Var x) = let n = numbered pool x in (n.0, name n.1)
 lower_term pool (Cell t e c) = let s = lower_term pool e in (s.0, cell t s.1 c)
 lower_term pool (Has t e) = let s = lower_term pool e in (s.0, has t s.1)
 lower_term pool (Limit t) = (pool, limit t)
+lower_term pool (Sum t c) = (pool, sum t c)
 lower_term pool (Neg e) = let t = lower_term pool e in (t.0, negate t.1)
 lower_term pool (Bin o a b) = let s = lower_term pool a in let t = lower_term s.0 b in (t.0, binary o s.1 t.1)
 

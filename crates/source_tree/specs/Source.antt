@@ -23,6 +23,7 @@ pub data Phrase : Type 0 where
   Cell : Name → Phrase → Name → Phrase
   Has : Name → Phrase → Phrase
   Limit : Name → Phrase
+  Sum : Name → Name → Phrase
   Neg : Phrase → Phrase
   Bin : Operator → Phrase → Phrase → Phrase
 
@@ -57,6 +58,7 @@ depth (Var x) = 1
 depth (Cell t e c) = depth e + 1
 depth (Has t e) = depth e + 1
 depth (Limit t) = 1
+depth (Sum t c) = 1
 depth (Neg e) = depth e + 1
 depth (Bin o a b) = max (depth a) (depth b) + 1
 
@@ -70,6 +72,7 @@ phrase (expr.Name x) = Var (string_bytes x)
 phrase (expr.Cell' t p e c) = Cell (string_bytes t) (phrase e) (string_bytes c)
 phrase (expr.Has' t p e) = Has (string_bytes t) (phrase e)
 phrase (expr.Limit t) = Limit (string_bytes t)
+phrase (expr.Sum t c) = Sum (string_bytes t) (string_bytes c)
 phrase (expr.Negate' p e) = Neg (phrase e)
 phrase (expr.Binary' o p a q b) = Bin o (phrase a) (phrase b)
 

@@ -15,6 +15,7 @@ pub enum Expr {
     Cell(String, Box<Expr>, String),
     Has(String, Box<Expr>),
     Limit(String),
+    Sum(String, String),
     Negate(Box<Expr>),
     Binary(Operator, Box<Expr>, Box<Expr>),
 }

@@ -32,6 +32,14 @@ fn limit(alloc: Global, table: &str) -> Result<Expr, AllocError>
     Ok(Expr::Limit(String::from_str(alloc, table)?))
 }
 
+fn sum(alloc: Global, table: &str, column: &str) -> Result<Expr, AllocError>
+    ensures { IfOk result (λ e. term e ≡ plain.sum table.now column.now) }
+{
+    let table = String::from_str(alloc, table)?;
+    let column = String::from_str(alloc, column)?;
+    Ok(Expr::Sum(table, column))
+}
+
 fn negate(alloc: Global, inner: Expr) -> Result<Expr, AllocError>
     ensures { IfOk result (λ e. term e ≡ plain.negate (term inner)) }
 {
@@ -66,6 +74,7 @@ pub fn lower_expression(
             has(alloc, table, row)
         }
         source::Expr::Limit(table) => limit(alloc, table),
+        source::Expr::Sum(table, column) => sum(alloc, table, column),
         source::Expr::Negate(inner) => {
             let inner = lower_expression(alloc, pool, inner)?;
             negate(alloc, inner)

@@ -16,7 +16,7 @@ use Rattle.spawn_checker.specs.Scanned.{scanned}
 abbrev marks : List (List ℕ × Mark)
 marks =
     (codes "reducer", mark.Reducer) ∷ (codes "memo", mark.Memo) ∷ (codes "proc", mark.Proc) ∷ (codes "call", mark.Call) ∷ (codes "spawn", mark.Spawn) ∷ (codes "sync", mark.Sync) ∷ (codes "update", mark.Update) ∷ (codes "if", mark.If)
-    ∷ (codes "else", mark.Else) ∷ (codes "cilk_for", mark.CilkFor) ∷ (codes "in", mark.In) ∷ (codes "grain", mark.Grain) ∷ (codes "return", mark.Return) ∷ (codes "read", mark.Read) ∷ (codes "has", mark.Has) ∷ (codes "limit", mark.Limit) ∷ []
+    ∷ (codes "else", mark.Else) ∷ (codes "cilk_for", mark.CilkFor) ∷ (codes "in", mark.In) ∷ (codes "grain", mark.Grain) ∷ (codes "return", mark.Return) ∷ (codes "read", mark.Read) ∷ (codes "has", mark.Has) ∷ (codes "limit", mark.Limit) ∷ (codes "sum", mark.Sum) ∷ []
 
 -- the mark of a word among these
 abbrev mark_in : List (List ℕ × Mark) → List ℕ → Option Mark

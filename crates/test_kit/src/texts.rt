@@ -36,6 +36,12 @@ memo proc all() { cilk_for r in 1 .. limit sales : line(r); }
 proc main() { call all(); t = read total; return t; }
 ";
 
+/// A recorded instance for each row reads its own row and a sum over all rows.
+pub const SHARES: &str = "reducer total : add;
+memo proc share(r) { v = sales[r].qty * 100 / sum sales.qty; update total v; return v; }
+proc main() { cilk_for r in 1 .. limit sales : share(r); t = read total; return t; }
+";
+
 /// The fault of the first child stands before that of `main`.
 pub const TWO_FAULTS: &str = "proc bad(n) { return 1 / n; }
 proc main() { spawn bad(0); x = sales[9].qty; sync; return x; }

@@ -1,7 +1,7 @@
 -- Marks and keywords, told apart by their numbers.
 use Rattle.std.specs.Prelude.{ℕ, ◌==◌, Bool}
 use Rattle.token_scanner.specs.declared.token.Mark.{Mark}
-use Rattle.token_scanner.specs.declared.token.Mark.TheVariants.{OpenBrace, CloseBrace, OpenParen, CloseParen, OpenBracket, CloseBracket, Colon, Semicolon, Comma, Dot, Range, Assign, Equal, Unequal, Less, AtMost, Greater, AtLeast, Plus, Minus, Star, Slash, Percent, Reducer, Memo, Proc, Call, Spawn, Sync, Update, If, Else, CilkFor, In, Grain, Return, Read, Has, Limit}
+use Rattle.token_scanner.specs.declared.token.Mark.TheVariants.{OpenBrace, CloseBrace, OpenParen, CloseParen, OpenBracket, CloseBracket, Colon, Semicolon, Comma, Dot, Range, Assign, Equal, Unequal, Less, AtMost, Greater, AtLeast, Plus, Minus, Star, Slash, Percent, Reducer, Memo, Proc, Call, Spawn, Sync, Update, If, Else, CilkFor, In, Grain, Return, Read, Has, Limit, Sum}
 
 abbrev pub mark_number : Mark → ℕ
 mark_number OpenBrace = 0
@@ -43,6 +43,7 @@ mark_number Return = 35
 mark_number Read = 36
 mark_number Has = 37
 mark_number Limit = 38
+mark_number Sum = 39
 
 abbrev pub same_mark : Mark → Mark → Bool
 same_mark a b = mark_number a == mark_number b

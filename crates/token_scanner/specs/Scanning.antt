@@ -48,7 +48,8 @@ keyword_of x =
     else (if bytes_eq x (codes "read") then Some mark.Read
     else (if bytes_eq x (codes "has") then Some mark.Has
     else (if bytes_eq x (codes "limit") then Some mark.Limit
-    else None)))))))))))))))
+    else (if bytes_eq x (codes "sum") then Some mark.Sum
+    else None))))))))))))))))
 
 -- a keyword, or a name of at most 32 bytes
 abbrev pub name_of : List ℕ → Word

@@ -150,6 +150,7 @@ fn keyword_of(name: &str) -> Option<Mark>
         "read" => Some(Mark::Read),
         "has" => Some(Mark::Has),
         "limit" => Some(Mark::Limit),
+        "sum" => Some(Mark::Sum),
         _ => None,
     }
 }

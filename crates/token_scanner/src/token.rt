@@ -45,6 +45,7 @@ pub enum Mark {
     Read,
     Has,
     Limit,
+    Sum,
 }
 
 /// A token of a text.

@@ -4,7 +4,7 @@ use Rattle.std.specs.Fmt.{signed_decimal}
 use Rattle.std.specs.Global.{Global}
 use Rattle.std.specs.declared.string.String.{String}
 use Rattle.token_scanner.specs.declared.token.Mark.{Mark}
-use Rattle.token_scanner.specs.declared.token.Mark.TheVariants.{OpenBrace, CloseBrace, OpenParen, CloseParen, OpenBracket, CloseBracket, Colon, Semicolon, Comma, Dot, Range, Assign, Equal, Unequal, Less, AtMost, Greater, AtLeast, Plus, Minus, Star, Slash, Percent, Reducer, Memo, Proc, Call, Spawn, Sync, Update, If, Else, CilkFor, In, Grain, Return, Read, Has, Limit}
+use Rattle.token_scanner.specs.declared.token.Mark.TheVariants.{OpenBrace, CloseBrace, OpenParen, CloseParen, OpenBracket, CloseBracket, Colon, Semicolon, Comma, Dot, Range, Assign, Equal, Unequal, Less, AtMost, Greater, AtLeast, Plus, Minus, Star, Slash, Percent, Reducer, Memo, Proc, Call, Spawn, Sync, Update, If, Else, CilkFor, In, Grain, Return, Read, Has, Limit, Sum}
 use Rattle.token_scanner.specs.Words.{Word, Name, Number, Sign, Bad, Over}
 
 abbrev pub mark_text : Mark → List ℕ
@@ -47,6 +47,7 @@ mark_text Return = codes "return"
 mark_text Read = codes "read"
 mark_text Has = codes "has"
 mark_text Limit = codes "limit"
+mark_text Sum = codes "sum"
 
 abbrev pub word_text : Word → List ℕ
 word_text (Name x) = x

@@ -3,15 +3,15 @@ use Rattle.std.proofs.Common.{ℕ, zero, suc, ◌+◌, ◌-◌, ◌≤◌, List,
 use Rattle.std.specs.Prelude.{nat_le, ◌+ℤ◌, slice_get}
 use Rattle.std.specs.Ordering.{int_eq}
 use Rattle.std.proofs.lemmas.Bool.Decides.{Decides-int_eq}
-use Rattle.program_tree.specs.Plain.{Name, Term, number, name, cell, has as has_term, limit, negate, binary, Deed, bind, enter, read, sync, update, choose, loop, give, Body, end, step, Proc, Red, Tree}
+use Rattle.program_tree.specs.Plain.{Name, Term, number, name, cell, has as has_term, limit, sum, negate, binary, Deed, bind, enter, read, sync, update, choose, loop, give, Body, end, step, Proc, Red, Tree}
 use Rattle.program_tree.specs.declared.Operator.{Operator}
 use Rattle.program_tree.specs.declared.Operator.TheVariants as o
 use Rattle.monoid_laws.specs.declared.Kind.{Kind}
 use Rattle.monoid_laws.specs.Kinds.{names_element}
 use Rattle.meaning.specs.declared.FaultKind.{FaultKind}
 use Rattle.meaning.specs.declared.FaultKind.TheVariants.{DivideByZero, RangeTooLong}
-use Rattle.meaning.specs.Tables.{Tables, cell_of, has_row, limit_of}
-use Rattle.meaning.specs.Outcome.{Log, Accumulators, Fault, Site, Event, Reads, Enters, Updates, Reuses, Begins, Syncs, Leaves, Faults, Marks, Spawns, HasHeld, LimitHeld, Out, onward, pure, fail, after, updated, combined}
+use Rattle.meaning.specs.Tables.{Tables, cell_of, has_row, limit_of, sum_of}
+use Rattle.meaning.specs.Outcome.{Log, Accumulators, Fault, Site, Event, Reads, Enters, Updates, Reuses, Begins, Syncs, Leaves, Faults, Marks, Spawns, HasHeld, LimitHeld, SumHeld, Out, onward, pure, fail, after, updated, combined}
 use Rattle.meaning.specs.Run as run
 use Rattle.meaning.specs.Run.{Run, placed, at}
 use Rattle.meaning.specs.Values.{Env, put, one_if, value, values, apply, look}
@@ -142,6 +142,7 @@ module _ (program other : Tree) (tables others : Tables) (a b : ℕ) (reds : red
   value_follows env (has_term n e) =
       follows_onward _ (value tables env e).answer (value others env e) _ _ (value_follows env e) (λ row z. ap (λ x. record { log = Reads (HasHeld n row x) ∷ []; answer = Ok (one_if x) }) (same_answer (has_row others n row) (has_row tables n row) z.0))
   value_follows env (limit n) = λ z. ap (λ x. record { log = Reads (LimitHeld n x) ∷ []; answer = Ok x }) (int_same (limit_of others n) (limit_of tables n) z.0)
+  value_follows env (sum n c) = λ z. ap (λ x. record { log = Reads (SumHeld n c x) ∷ []; answer = Ok x }) (int_same (sum_of others n c) (sum_of tables n c) z.0)
   value_follows env (negate e) = follows_onward _ (value tables env e).answer (value others env e) _ _ (value_follows env e) (λ x t. refl)
   value_follows env (binary op e f) =
       follows_onward _ (value tables env e).answer (value others env e) _ _ (value_follows env e) (λ x. follows_onward _ (value tables env f).answer (value others env f) _ _ (value_follows env f) (λ y. apply_follows op x y))

@@ -2,7 +2,7 @@
 use Rattle.std.proofs.Common.{ℕ, List, [], ◌∷◌, Option, Some, None, Result, Ok, Err, ℤ, pos, true, false, Bool, cond}
 use Rattle.std.specs.Prelude.{nat_le}
 use Rattle.std.specs.Ordering.{int_eq}
-use Rattle.program_tree.specs.Plain.{Name, Term, number, name, cell, has as has_row, limit, negate, binary, Red}
+use Rattle.program_tree.specs.Plain.{Name, Term, number, name, cell, has as has_row, limit, sum, negate, binary, Red}
 use Rattle.program_tree.specs.declared.Operator.{Operator}
 use Rattle.monoid_laws.specs.declared.Kind.{Kind}
 use Rattle.meaning.specs.declared.FaultKind.TheVariants.{DivideByZero, RangeTooLong}
@@ -78,6 +78,7 @@ calm_value tables env (name x) = tt
 calm_value tables env (cell t e c) = calm_onward _ (value tables env e).answer _ (calm_value tables env e) (λ row. calm_look t row c (cell_of tables t row c))
 calm_value tables env (has_row t e) = calm_onward _ (value tables env e).answer _ (calm_value tables env e) (λ row. (tt, tt))
 calm_value tables env (limit t) = (tt, tt)
+calm_value tables env (sum t c) = (tt, tt)
 calm_value tables env (negate e) = calm_onward _ (value tables env e).answer _ (calm_value tables env e) (λ row. tt)
 calm_value tables env (binary op e f) = calm_onward _ (value tables env e).answer _ (calm_value tables env e) (λ x. calm_onward _ (value tables env f).answer _ (calm_value tables env f) (λ y. calm_apply op x y))
 

@@ -1,13 +1,13 @@
 -- What the operators give fits 64 bits.
 use Rattle.std.proofs.Common.{ℕ, zero, suc, ◌+◌, ◌-◌, ◌<◌, ℤ, pos, negsuc, Bool, true, false, cond, ◌≡◌, refl, arith}
 use Rattle.std.specs.Prelude.{◌+ℤ◌, ◌-ℤ◌, ◌^◌, ◌*◌, ◌/◌, int_lt, int_div, int_rem}
-use Rattle.std.specs.Int.{w64, cast_signed, cast_unsigned, int_wrapping_add, int_wrapping_sub, int_wrapping_mul, int_wrapping_div, int_wrapping_neg}
+use Rattle.std.specs.Int.{w64, cast_signed, cast_unsigned, int_wrap, int_wrapping_add, int_wrapping_sub, int_wrapping_mul, int_wrapping_div, int_wrapping_neg}
 use Rattle.std.proofs.Math.Facts.{sfits_to_z, sfits_lit, Fits-bits}
 use Rattle.std.proofs.Math.Nat.{mod-lt, div-le_self}
 use Rattle.std.proofs.Math.IntN.{neg_ℤ}
 use lib.Signed.{mag_rem}
 use borrow.Author.Differences.{fits_in}
-use Rattle.std.proofs.lemmas.Int.{ints}
+use Rattle.std.proofs.lemmas.Int.{ints, SFits-int_wrap}
 use Rattle.monoid_laws.specs.Kinds.{Fits}
 use Rattle.meaning.specs.Statements.{natural, span}
 
@@ -19,6 +19,9 @@ one_fits = sfits_lit tt
 
 bits_fit : (n : ℕ) → n < 2 ^ 64 → Fits (cast_signed w64 n)
 bits_fit n h = sfits_to_z {w = w64} (Fits-bits 64 tt h)
+
+pub wrapped_fits : (x : ℤ) → Fits (int_wrap w64 x)
+wrapped_fits x = SFits-int_wrap w64 x
 
 pub added_fits : (x y : ℤ) → Fits (int_wrapping_add w64 x y)
 added_fits x y = bits_fit _ (mod-lt (cast_unsigned w64 x + cast_unsigned w64 y) (omega arith))

@@ -11,11 +11,11 @@ use Rattle.monoid_laws.specs.declared.Kind.{Kind}
 use Rattle.monoid_laws.specs.declared.Kind.TheVariants as k
 use Rattle.monoid_laws.specs.Worth.{number as the_worth}
 use Rattle.monoid_laws.specs.Kinds.{Fits, FitsPair, IsWorth, element_of, names_element, zero_at}
-use Rattle.program_tree.specs.Plain.{Name, Term, number, name, cell, has as has_row, limit, negate, binary, Red, Tree}
+use Rattle.program_tree.specs.Plain.{Name, Term, number, name, cell, has as has_row, limit, sum, negate, binary, Red, Tree}
 use Rattle.program_tree.specs.declared.Operator.{Operator}
 use Rattle.program_tree.specs.declared.Operator.TheVariants as o
 use Rattle.meaning.specs.declared.FaultKind.TheVariants.{DivideByZero, RangeTooLong}
-use Rattle.meaning.specs.Tables.{Tables, cell_of, above_all, rows_of}
+use Rattle.meaning.specs.Tables.{Tables, cell_of, index_of, columns_of, rows_of, above_all, column_total}
 use Rattle.meaning.specs.Outcome.{Log, Out, onward, pure, fail}
 use Rattle.meaning.specs.Values.{Env, put, or_zero, one_if, value, values, apply, look}
 use Rattle.meaning.specs.Statements.{most_iterations, numbered, naming, updating, update_of, reducers, ranged, span, bounds, put_into, fresh}
@@ -23,7 +23,7 @@ use Rattle.trail_theory.specs.Order.{Every}
 use Rattle.meaning.specs.Fitting.{FitsTerm}
 use Rattle.trail_theory.specs.Typed.{IsTyped, TablesFit, kinds_of}
 use Rattle.trail_theory.proofs.Places.{every_append}
-use Rattle.trail_theory.proofs.FitNumbers.{zero_fits, one_fits, added_fits, less_fits, times_fits, opposite_fits, quotient_fits, remainder_fits, range_fits}
+use Rattle.trail_theory.proofs.FitNumbers.{zero_fits, one_fits, wrapped_fits, added_fits, less_fits, times_fits, opposite_fits, quotient_fits, remainder_fits, range_fits}
 
 -- ---- names' values
 abbrev pub FitsHeld : Option ℤ → Type 0
@@ -120,6 +120,7 @@ module _ (kinds : List Kind) where
         let v = value_fits env e h f in
         fits_onward Fits Fits _ (value tables env e).answer _ v.0 v.1 (λ row g. ((tt, tt), one_if_fits _))
     value_fits env (limit t) h f = ((tt, tt), above_fits (pos 0) (rows_of tables t) zero_fits)
+    value_fits env (sum t c) h f = ((tt, tt), wrapped_fits (column_total (index_of (columns_of tables t) c) (rows_of tables t)))
     value_fits env (negate e) h f =
         let v = value_fits env e h f in
         fits_onward Fits Fits _ (value tables env e).answer _ v.0 v.1 (λ x g. (tt, opposite_fits x))

@@ -3,13 +3,13 @@ use Rattle.std.proofs.Common.{ℕ, zero, suc, ◌-◌, List, [], ◌∷◌, Opti
 use Rattle.std.specs.Prelude.{nat_le, ◌+ℤ◌}
 use Rattle.std.specs.Ordering.{int_eq}
 use Rattle.std.proofs.lemmas.Bool.Decides.{Decides-int_eq}
-use Rattle.program_tree.specs.Plain.{Name, Term, number, name, cell, has as has_term, limit, negate, binary, Red, Deed, bind, enter, read, sync, update, choose, loop, give, Body, end, step, Tree}
+use Rattle.program_tree.specs.Plain.{Name, Term, number, name, cell, has as has_term, limit, sum, negate, binary, Red, Deed, bind, enter, read, sync, update, choose, loop, give, Body, end, step, Tree}
 use Rattle.program_tree.specs.declared.Operator.{Operator}
 use Rattle.program_tree.specs.declared.Operator.TheVariants as o
 use Rattle.monoid_laws.specs.declared.Kind.{Kind}
 use Rattle.monoid_laws.specs.Kinds.{names_element}
 use Rattle.meaning.specs.declared.FaultKind.TheVariants.{DivideByZero, RangeTooLong}
-use Rattle.meaning.specs.Tables.{Tables, cell_of, has_row, limit_of}
+use Rattle.meaning.specs.Tables.{Tables, cell_of, has_row, limit_of, sum_of}
 use Rattle.meaning.specs.Outcome.{Log, Accumulators, Event, Site, Out, onward, pure, fail, Reads, Enters, Updates, Reuses, Begins, Syncs, Leaves, Faults, Marks, Spawns, after}
 use Rattle.meaning.specs.Run as run
 use Rattle.meaning.specs.Run.{Run, at, ◌>>=◌}
@@ -76,6 +76,7 @@ module _ (tables : Tables) (Known : Name → Type 0) where
   now_value env (cell t e c) = now_onward _ (value tables env e).answer _ (now_value env e) (λ row. now_look t row c (cell_of tables t row c) refl)
   now_value env (has_term t e) = now_onward _ (value tables env e).answer _ (now_value env e) (λ row. (held_itself (has_row tables t row), tt))
   now_value env (limit t) = (itself (limit_of tables t), tt)
+  now_value env (sum t c) = (itself (sum_of tables t c), tt)
   now_value env (negate e) = now_onward _ (value tables env e).answer _ (now_value env e) (λ x. tt)
   now_value env (binary op e f) = now_onward _ (value tables env e).answer _ (now_value env e) (λ x. now_onward _ (value tables env f).answer _ (now_value env f) (λ y. now_apply op x y))
 

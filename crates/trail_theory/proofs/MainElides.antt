@@ -1,7 +1,7 @@
 -- The elision of main is its stretch of the trail, where a read sees what the elision has in the end.
 use Rattle.std.proofs.Common.{ℕ, suc, ◌-◌, List, [], ◌∷◌, ◌++◌, Option, Some, None, Result, Ok, Err, ℤ, pos, ◌≡◌, refl, sym, ◌∙◌, subst, true, false, Bool, cond, ◌&&◌}
 use Rattle.std.specs.Ordering.{int_eq}
-use Rattle.program_tree.specs.Plain.{Name, Term, number, name, cell, has as has_row, limit, negate, binary, Deed, bind, enter, read, sync, update, choose, loop, give, Body, end, step, Tree}
+use Rattle.program_tree.specs.Plain.{Name, Term, number, name, cell, has as has_row, limit, sum, negate, binary, Deed, bind, enter, read, sync, update, choose, loop, give, Body, end, step, Tree}
 use Rattle.program_tree.specs.declared.Operator.{Operator}
 use Rattle.program_tree.specs.declared.Operator.TheVariants as o
 use Rattle.meaning.specs.declared.FaultKind.{FaultKind}
@@ -84,6 +84,7 @@ still_value tables env (name x) = tt
 still_value tables env (cell t e c) = still_onward _ (value tables env e).answer _ (still_value tables env e) (λ row. still_look t row c (cell_of tables t row c))
 still_value tables env (has_row t e) = still_onward _ (value tables env e).answer _ (still_value tables env e) (λ row. (tt, tt))
 still_value tables env (limit t) = (tt, tt)
+still_value tables env (sum t c) = (tt, tt)
 still_value tables env (negate e) = still_onward _ (value tables env e).answer _ (still_value tables env e) (λ row. tt)
 still_value tables env (binary op e f) = still_onward _ (value tables env e).answer _ (still_value tables env e) (λ x. still_onward _ (value tables env f).answer _ (still_value tables env f) (λ y. still_apply op x y))
 

@@ -1,7 +1,7 @@
 -- A right strand's next statement uses no name that waits.
 use Rattle.std.proofs.Common.{ℕ, zero, suc, ◌+◌, List, [], ◌∷◌, Option, Some, ℤ, ◌≡◌, refl, subst, arith}
 use Rattle.std.specs.Prelude.{slice_get}
-use Rattle.program_tree.specs.Plain.{Term, number, name, cell, has as has_row, limit, negate, binary, Deed, bind, enter, read, sync, update, choose, loop, give, end, step, Tree}
+use Rattle.program_tree.specs.Plain.{Term, number, name, cell, has as has_row, limit, sum, negate, binary, Deed, bind, enter, read, sync, update, choose, loop, give, end, step, Tree}
 use Rattle.program_tree.specs.declared.Way.TheVariants.{Call, Spawn}
 use Rattle.meaning.specs.Tables.{Tables}
 use Rattle.meaning.specs.Outcome.{Log, Accumulators, Place}
@@ -37,6 +37,7 @@ module _ (B : Log) (n : Place) (W : List ℕ) (env : List Slot) (E : Env) (h : E
   term_ready (cell t e c) f = term_ready e f
   term_ready (has_row t e) f = term_ready e f
   term_ready (limit t) f = tt
+  term_ready (sum t c) f = tt
   term_ready (negate e) f = term_ready e f
   term_ready (binary op e e') f = (term_ready e f.0, term_ready e' f.1)
 

@@ -8,7 +8,7 @@ use Rattle.program_tree.specs.declared.Operator.{Operator}
 use Rattle.program_tree.specs.declared.Operator.TheVariants as o
 use Rattle.program_tree.specs.declared.Way.{Way}
 use Rattle.program_tree.specs.declared.Way.TheVariants.{Call, Spawn}
-use Rattle.program_tree.specs.Plain.{Name, Term, number, name, cell, has, limit, negate, binary, Deed, bind, enter, read, sync, update, choose, loop, give, Body, end, step, Proc}
+use Rattle.program_tree.specs.Plain.{Name, Term, number, name, cell, has, limit, sum, negate, binary, Deed, bind, enter, read, sync, update, choose, loop, give, Body, end, step, Proc}
 use Rattle.meaning.specs.Edits.{same_operator, same_term, same_terms, same_way, same_into, same_deed, same_body, same_names, same_mark, same_proc}
 use Rattle.trail_theory.proofs.KeptRecords.{both_left, both_right}
 
@@ -56,6 +56,9 @@ term_true (has t a) (has u b) e =
     let h2 = both (bytes_eq t u) (same_term a b) e in
     λ i. has (name_true t u h2.0 i) (term_true a b h2.1 i)
 term_true (limit t) (limit u) e = λ i. limit (name_true t u e i)
+term_true (sum t c) (sum u d) e =
+    let h2 = both (bytes_eq t u) (bytes_eq c d) e in
+    λ i. sum (name_true t u h2.0 i) (name_true c d h2.1 i)
 term_true (negate a) (negate b) e = λ i. negate (term_true a b e i)
 term_true (binary p a b) (binary q c d) e =
     let h3 = both (same_operator p q && same_term a c) (same_term b d) e in

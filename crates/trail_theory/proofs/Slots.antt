@@ -1,7 +1,7 @@
 -- Slots beside the serial run's values.
 use Rattle.std.proofs.Common.{ℕ, zero, suc, ◌+◌, List, [], ◌∷◌, ◌++◌, Option, Some, None, Ok, Err, ℤ, pos, ◌≡◌, inl, inr, ⊎_elim, refl, sym, ap, ◌∙◌, arith, map, true, false, Bool, cond}
 use Rattle.std.specs.Prelude.{slice_get, slice_set, ◌+ℤ◌}
-use Rattle.program_tree.specs.Plain.{Name, Term, number, name, cell, has as has_row, limit, negate, binary, Deed, bind, enter, read, sync, update, choose, loop, give, Body, end, step, Red}
+use Rattle.program_tree.specs.Plain.{Name, Term, number, name, cell, has as has_row, limit, sum, negate, binary, Deed, bind, enter, read, sync, update, choose, loop, give, Body, end, step, Red}
 use Rattle.program_tree.specs.declared.Way.TheVariants.{Call, Spawn}
 use Rattle.meaning.specs.Tables.{Tables}
 use Rattle.meaning.specs.Outcome.{Log, Fault, Place, Site}
@@ -47,6 +47,7 @@ value_free tables W a b h (name x) f = rw (h x f) refl
 value_free tables W a b h (cell t e c) f = rw (value_free tables W a b h e f) refl
 value_free tables W a b h (has_row t e) f = rw (value_free tables W a b h e f) refl
 value_free tables W a b h (limit t) f = refl
+value_free tables W a b h (sum t c) f = refl
 value_free tables W a b h (negate e) f = rw (value_free tables W a b h e f) refl
 value_free tables W a b h (binary op e e') f = rw (value_free tables W a b h e f.0, value_free tables W a b h e' f.1) refl
 
@@ -139,6 +140,7 @@ free_narrower W V w (name x) f = λ i. f (w x i)
 free_narrower W V w (cell t e c) f = free_narrower W V w e f
 free_narrower W V w (has_row t e) f = free_narrower W V w e f
 free_narrower W V w (limit t) f = tt
+free_narrower W V w (sum t c) f = tt
 free_narrower W V w (negate e) f = free_narrower W V w e f
 free_narrower W V w (binary op e e') f = (free_narrower W V w e f.0, free_narrower W V w e' f.1)
 

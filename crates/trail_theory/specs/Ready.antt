@@ -1,6 +1,6 @@
 -- The names that a strand's next statement uses: none of them waits for a spawned child.
 use Rattle.std.specs.Prelude.{List, [], ◌∷◌, Option, Some, slice_get}
-use Rattle.program_tree.specs.Plain.{Term, number, name, cell, has as has_row, limit, negate, binary, Deed, bind, enter, read, sync, update, choose, loop, give, step, Tree}
+use Rattle.program_tree.specs.Plain.{Term, number, name, cell, has as has_row, limit, sum, negate, binary, Deed, bind, enter, read, sync, update, choose, loop, give, step, Tree}
 use Rattle.meaning.specs.Tables.{Tables}
 use Rattle.meaning.specs.Outcome.{Accumulators}
 use Rattle.meaning.specs.SmallStep.{Slot, waits, Todo, blocks, Phase, running, Lookup}
@@ -18,6 +18,7 @@ IsReadyTerm env (name x) = NotWaiting (slice_get env x)
 IsReadyTerm env (cell t e c) = IsReadyTerm env e
 IsReadyTerm env (has_row t e) = IsReadyTerm env e
 IsReadyTerm env (limit t) = Unit {0}
+IsReadyTerm env (sum t c) = Unit {0}
 IsReadyTerm env (negate e) = IsReadyTerm env e
 IsReadyTerm env (binary op e f) = IsReadyTerm env e × IsReadyTerm env f
 

@@ -1,6 +1,6 @@
 -- The names that wait for a spawned child, and the programs in which no statement uses one.
 use Rattle.std.specs.Prelude.{ℕ, List, [], ◌∷◌, ◌++◌, Option, Some, None}
-use Rattle.program_tree.specs.Plain.{Name, Term, number, name, cell, has as has_row, limit, negate, binary, Deed, bind, enter, read, sync, update, choose, loop, give, Body, end, step, Tree}
+use Rattle.program_tree.specs.Plain.{Name, Term, number, name, cell, has as has_row, limit, sum, negate, binary, Deed, bind, enter, read, sync, update, choose, loop, give, Body, end, step, Tree}
 use Rattle.program_tree.specs.declared.Way.TheVariants.{Call, Spawn}
 use Rattle.meaning.specs.Statements.{proc_of}
 use Rattle.meaning.specs.SmallStep.{Todo, blocks, halves, second, turns}
@@ -12,6 +12,7 @@ IsFree W (name x) = In x W → ⊥
 IsFree W (cell t e c) = IsFree W e
 IsFree W (has_row t e) = IsFree W e
 IsFree W (limit t) = Unit {0}
+IsFree W (sum t c) = Unit {0}
 IsFree W (negate e) = IsFree W e
 IsFree W (binary op e f) = IsFree W e × IsFree W f
 

@@ -39,6 +39,11 @@ pub fn same_expression(left: &Expr, right: &Expr) -> bool
             Expr::Limit(other) => table.as_str() == other.as_str(),
             _ => false,
         },
+        Expr::Sum(table, column) => match right {
+            Expr::Sum(other, other_column) => table.as_str() == other.as_str()
+                && column.as_str() == other_column.as_str(),
+            _ => false,
+        },
         Expr::Negate(inner) => match right {
             Expr::Negate(other) => same_expression(inner, other),
             _ => false,

@@ -11,6 +11,7 @@ pub enum Look {
     Named(usize, &'static str),
     TwoColumns(usize, &'static str, &'static str),
     Limit(usize, i64),
+    Sum(usize, usize, i64),
     Cell(usize, i64, usize, Option<i64>),
 }
 
@@ -44,6 +45,7 @@ fn is_answered(tables: &Tables, look: &Look) -> bool {
         Look::Named(table, name) => is_named(tables, table, name),
         Look::TwoColumns(table, first, second) => has_two_columns(tables, table, first, second),
         Look::Limit(table, limit) => tables.limit(table) == limit,
+        Look::Sum(table, column, sum) => tables.sum(table, column) == sum,
         Look::Cell(table, row, column, value) => tables.cell(table, row, column) == value,
     }
 }

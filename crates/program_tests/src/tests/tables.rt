@@ -1,7 +1,7 @@
 //! Tables that a table is added to by a call.
 
 use super::beginnings::sales;
-use super::looks::Look::{Cell, Edits, Limit, Named, Table, TwoColumns};
+use super::looks::Look::{Cell, Edits, Limit, Named, Sum, Table, TwoColumns};
 use super::looks::{Look, wrong_answer};
 use input_tables::{AddError, Tables};
 use std::alloc::Global;
@@ -10,7 +10,7 @@ use std::process::Abort;
 const COLUMNS: [&str; 2] = ["qty", "price"];
 
 /// What is read of a table that is added behind the example's, and of a row that is put into it.
-const ADDED: [Look; 8] = [
+const ADDED: [Look; 10] = [
     Look::Tables(2),
     Edits(1),
     Table("sales", Some(0)),
@@ -19,6 +19,8 @@ const ADDED: [Look; 8] = [
     TwoColumns(1, "qty", "price"),
     Cell(1, 7, 1, Some(5)),
     Limit(0, 4),
+    Sum(0, 1, 112),
+    Sum(1, 1, 5),
 ];
 
 /// Tables that aren't added behind the example's, and why.
@@ -54,4 +56,39 @@ fn tables_are_added(rt: HostRuntime) {
     let mut tables = sales(&rt, rt.alloc());
     add(&rt, rt.alloc(), &mut tables);
     assert!(&rt; wrong_answer(&tables, &ADDED).is_none());
+}
+
+/// The sums of the example's columns, of one that there isn't, and of a table that there isn't.
+const SUMS: [Look; 4] = [Sum(0, 0, 6), Sum(0, 1, 112), Sum(0, 2, 0), Sum(1, 0, 0)];
+
+/// The same behind a row in the place of the second, one more, and one less. The quantities wrap.
+const SUMS_BEHIND_EDITS: [Look; 2] = [Sum(0, 0, i64::MIN), Sum(0, 1, 111)];
+
+/// The same behind all rows.
+const NO_SUMS: [Look; 2] = [Sum(0, 0, 0), Sum(0, 1, 0)];
+
+/// Edits two rows and takes the first one out; and then the others.
+fn edit(rt: &impl Abort, alloc: Global, tables: &mut Tables) {
+    tables.put(alloc, "sales", 2, &[-1, 9]).expect(rt, "a row");
+    tables
+        .put(alloc, "sales", 100, &[i64::MAX, 2])
+        .expect(rt, "a row");
+    tables.put(alloc, "sales", 4, &[1, 0]).expect(rt, "a row");
+    tables.delete("sales", 1).expect(rt, "a row");
+}
+
+fn delete_all(rt: &impl Abort, tables: &mut Tables) {
+    for row in [2, 100, 4, 3] {
+        tables.delete("sales", row).expect(rt, "a row");
+    }
+}
+
+#[test]
+fn columns_have_sums(rt: HostRuntime) {
+    let mut tables = sales(&rt, rt.alloc());
+    assert!(&rt; wrong_answer(&tables, &SUMS).is_none());
+    edit(&rt, rt.alloc(), &mut tables);
+    assert!(&rt; wrong_answer(&tables, &SUMS_BEHIND_EDITS).is_none());
+    delete_all(&rt, &mut tables);
+    assert!(&rt; wrong_answer(&tables, &NO_SUMS).is_none());
 }

@@ -21,10 +21,14 @@ fn push_cell(text: &mut String, cell: Option<i64>) -> Result<(), AllocError> {
     }
 }
 
-/// Writes how many edits the tables have had, and of the sales the limit and the cells.
+/// Writes how many edits the tables have had, and of the sales the limit, the sums and the cells.
 fn push_tables(text: &mut String, tables: &Tables) -> Result<(), AllocError> {
     let (edits, limit) = (tables.edit_number(), tables.limit(0));
-    write!(text, "{edits} edits, limit {limit}:")?;
+    let (quantities, prices) = (tables.sum(0, 0), tables.sum(0, 1));
+    write!(
+        text,
+        "{edits} edits, limit {limit}, sums {quantities} {prices}:"
+    )?;
     for row in [1, 2, 3] {
         push_cell(text, tables.cell(0, row, 0))?;
         push_cell(text, tables.cell(0, row, 1))?;
@@ -161,7 +165,7 @@ run
 ";
 
 /// The third record is one of the first run.
-const AFTER: &str = "2 edits, limit 3: 2 5 4 7 - -
+const AFTER: &str = "2 edits, limit 3, sums 6 12: 2 5 4 7 - -
 line 2 of 3
 0: 1 is 2
 0: 2 is 4

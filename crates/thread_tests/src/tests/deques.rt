@@ -4,13 +4,13 @@ use super::beginning::is_answered;
 use super::counting::{Held, PushBesideSteal};
 use super::programs::{LEVELS, LEVELS_TO_A_FAULT, NESTED};
 
-/// Programs, their answers, and how many continuations the deque of one worker holds at most: in 63 loops, eight and sixteen each.
+/// Programs, their answers, and how many continuations the deque of one worker holds at most: in 255 loops, eight and sixteen each.
 const ROWS: [(&str, &str, i64); 2] = [
-    (LEVELS, "result 16065\ntotal 16065\n", 504),
+    (LEVELS, "result 65025\ntotal 65025\n", 2040),
     (
         LEVELS_TO_A_FAULT,
         "fault divide by zero in level at 4\n",
-        1008,
+        4080,
     ),
 ];
 

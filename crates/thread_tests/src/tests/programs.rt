@@ -14,12 +14,12 @@ proc main() { cilk_for i in 0 .. 16 : one(i); t = read total; return t; }
 ";
 
 /// Each level is a loop whose first iteration enters the next level, so that all that is behind it stands in the deque: eight
-/// continuations for each of 63 levels.
+/// continuations for each of 255 levels.
 pub const LEVELS: &str = "reducer total : add;
 proc level(i, n) {
   if i == 0 { if n > 0 { cilk_for j in 0 .. 256 : level(j, n - 1); } } else { update total 1; }
 }
-proc main() { cilk_for i in 0 .. 256 : level(i, 62); t = read total; return t; }
+proc main() { cilk_for i in 0 .. 256 : level(i, 254); t = read total; return t; }
 ";
 
 /// Sixteen continuations a level; on the deepest one the thousandth iteration behind the first ends by a fault.
@@ -31,5 +31,5 @@ proc level(i, n) {
     update total 1 / (1000 - i);
   }
 }
-proc main() { cilk_for i in 0 .. 65536 : level(i, 62); t = read total; return t; }
+proc main() { cilk_for i in 0 .. 65536 : level(i, 254); t = read total; return t; }
 ";

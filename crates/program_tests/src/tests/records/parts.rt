@@ -37,7 +37,7 @@ fn comes_back(rt: &impl Abort, alloc: Global) -> bool {
     let tables = sales(rt, alloc);
     let program = checked_on(rt, alloc, LINES, &tables);
     let records = committed(rt, alloc, second_line(rt, alloc), &tables, &program);
-    match records.valid(0, &[2], 64, &tables, &program) {
+    match records.valid(0, &[2], 256, &tables, &program) {
         Some(record) => {
             is_second_line(record)
                 && reads_second_line(alloc, record)
@@ -78,7 +78,7 @@ fn are_kept(alloc: Global, notes: &[(Note, bool)]) -> bool {
     true
 }
 
-const LARGEST: [(Note, bool); 2] = [
+const LARGEST: [(Note, bool); 5] = [
     (
         Note::Limit {
             table: 65535,
@@ -89,6 +89,30 @@ const LARGEST: [(Note, bool); 2] = [
     (
         Note::Limit {
             table: 65536,
+            value: 4,
+        },
+        false,
+    ),
+    (
+        Note::Sum {
+            table: 65535,
+            column: 255,
+            value: 4,
+        },
+        true,
+    ),
+    (
+        Note::Sum {
+            table: 65536,
+            column: 0,
+            value: 4,
+        },
+        false,
+    ),
+    (
+        Note::Sum {
+            table: 0,
+            column: 256,
             value: 4,
         },
         false,

@@ -53,6 +53,15 @@ fn parts_are_read_too(rt: HostRuntime) {
     assert!(&rt; agree == [true, false]);
 }
 
+/// The sum of the quantities that was read.
+fn sum(value: i64) -> Note {
+    Note::Sum {
+        table: 0,
+        column: 0,
+        value,
+    }
+}
+
 /// Whether what was read stays so where rows 7, 1 and 3 are changed, and row 3 of another table.
 fn answers(rt: &impl Abort, alloc: Global, lowest: Note) -> [bool; 4] {
     let lowest = [lowest];
@@ -65,7 +74,7 @@ fn answers(rt: &impl Abort, alloc: Global, lowest: Note) -> [bool; 4] {
 }
 
 /// Row 3 has the quantity 1, so what was read of it no longer holds; other rows, and those of another table, don't tell. The limit of
-/// the sales is 4, and rests on each row.
+/// the sales is 4 and the sum of the quantities is 6, and both rest on each row.
 #[test]
 fn the_changed_rows_alone_are_compared(rt: HostRuntime) {
     let cells = answers(&rt, rt.alloc(), cell(3, 0, 9));
@@ -73,5 +82,9 @@ fn the_changed_rows_alone_are_compared(rt: HostRuntime) {
     let held = answers(&rt, rt.alloc(), Note::Limit { table: 0, value: 4 });
     assert!(&rt; held == [true, true, true, true]);
     let other = answers(&rt, rt.alloc(), Note::Limit { table: 0, value: 9 });
+    assert!(&rt; other == [false, false, false, true]);
+    let held = answers(&rt, rt.alloc(), sum(6));
+    assert!(&rt; held == [true, true, true, true]);
+    let other = answers(&rt, rt.alloc(), sum(9));
     assert!(&rt; other == [false, false, false, true]);
 }

@@ -12,7 +12,7 @@ reducer top : argmax;
 reducer order : affine;
 ";
 
-const LINES: [&str; 3] = [
+const LINES: [&str; 4] = [
     "memo proc line(r) {
   if has sales[r] { v = sales[r].qty * sales[r].price; update total v; update top v, r; }
   update order 3, r;
@@ -27,6 +27,13 @@ const LINES: [&str; 3] = [
 ",
     // A fault behind the fourth row.
     "proc line(r) { update order 7, r; update total 12 / (r - 6); return 0 - r; }
+",
+    // What reads a sum rests on all rows.
+    "memo proc line(r) {
+  if r % 2 { update total sum sales.qty; } else { update total r; }
+  update order 17, r;
+  return sum sales.price % 5;
+}
 ",
 ];
 
@@ -77,7 +84,7 @@ const MAINS: [&str; 2] = [
 ];
 
 /// Edits that are refused wherever they stand.
-const REFUSED: [(&str, &str); 13] = [
+const REFUSED: [(&str, &str); 14] = [
     ("put stock 1 2 3\n", "refused E4\n"),
     ("put sales 1 2\n", "refused E5\n"),
     ("put sales 1 2 3 4\n", "refused E5\n"),
@@ -105,6 +112,10 @@ const REFUSED: [(&str, &str); 13] = [
     (
         "define\nproc all(n) { return stock[n].qty; }\nend\n",
         "refused E9 C8 all 1\n",
+    ),
+    (
+        "define\nproc all(n) {\nreturn sum sales.cost; }\nend\n",
+        "refused E9 C8 all 2\n",
     ),
 ];
 
@@ -175,7 +186,7 @@ impl Model {
     /// Gives a procedure a text that is drawn.
     fn define(&mut self, rt: &impl Abort, alloc: Global, dice: &mut Dice) -> DrawnEdit {
         let (number, text) = match dice.below(4) {
-            0 => (0, LINES[dice.below(3)]),
+            0 => (0, LINES[dice.below(4)]),
             1 => (1, PAIRS[dice.below(3)]),
             2 => (2, ALLS[dice.below(3)]),
             _ => (3, MAINS[dice.below(2)]),
@@ -195,7 +206,7 @@ impl Model {
             3 => self.delete(rt, alloc, dice),
             4 | 5 => self.define(rt, alloc, dice),
             _ => {
-                let (script, answer) = REFUSED[dice.below(13)];
+                let (script, answer) = REFUSED[dice.below(14)];
                 let script = text_of(rt, alloc, script);
                 DrawnEdit { script, answer }
             }

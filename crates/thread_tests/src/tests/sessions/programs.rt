@@ -1,7 +1,7 @@
 //! Programs of any steps, as text.
 
 use test_kit::texts::{
-    AFFINE, FIRST_LIST, FIRST_TWO, LAST_TWO, LINES, LOOP, LOOP_FAULT, NESTED_READS, TABLE,
+    AFFINE, FIRST_LIST, FIRST_TWO, LAST_TWO, LINES, LOOP, LOOP_FAULT, NESTED_READS, SHARES, TABLE,
     TWO_FAULTS, WRAPPING,
 };
 
@@ -101,7 +101,7 @@ proc main() { x = spawn bad(1); y = spawn bad(2); z = spawn bad(3); sync; return
 ";
 
 /// All of them.
-pub const ALL: [&str; 18] = [
+pub const ALL: [&str; 19] = [
     FIRST_LIST,
     FIRST_TWO,
     LAST_TWO,
@@ -118,6 +118,7 @@ pub const ALL: [&str; 18] = [
     BAD_ELEMENT,
     LINES,
     NESTED_READS,
+    SHARES,
     PAIRS,
     FAULTS_IN_RECORDS,
 ];

@@ -153,6 +153,15 @@ fn reading(alloc: Global, tables: &Tables, note: &Note) -> Result<Reading, Alloc
             let name = table_name(alloc, tables, *table)?;
             Ok(Reading::Limit(name, *value))
         }
+        Note::Sum {
+            table,
+            column,
+            value,
+        } => {
+            let name = table_name(alloc, tables, *table)?;
+            let column = column_name(alloc, tables, *table, *column)?;
+            Ok(Reading::Sum(name, column, *value))
+        }
     }
 }
 

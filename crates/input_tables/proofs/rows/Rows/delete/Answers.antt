@@ -1,9 +1,10 @@
-use Rattle.std.proofs.Common.{rules, ◌≡◌, ◌<◌, length, Some, ap, sym, ◌∙◌, w64, FitsSigned}
+use Rattle.std.proofs.Common.{rules, ◌≡◌, ◌<◌, List, ℤ, length, Some, refl, ap, sym, ◌∙◌, subst, w64, FitsSigned}
 use Rattle.std.proofs.lemmas.Int.{to_z-of_z}
 use Rattle.std.proofs.lemmas.Option.{slice_get-get_or}
 use Rattle.std.specs.Prelude.{slice_get, is_some}
 use Rattle.meaning.specs.Tables.{is_there}
 use Rattle.input_tables.specs.Pages.{page_of}
+use Rattle.input_tables.specs.Sums.{without_row}
 use Rattle.input_tables.proofs.PageEdits.{row_via_page, row_off_pages, none_off_pages, gone_page, empty_page, rising_of, keep_gone, keep_less}
 use Rattle.input_tables.proofs.rows.Rows.delete.Goals as goal
 
@@ -128,3 +129,44 @@ returns-in-Err-clause-gone c =
     let place = rw c.deref.ensures.value at c.in-Err.ensures.new_place in
     let absent = rw c.deref.ensures.value at c.in-Err.ensures.absent in
     rw (← c.self.view_is) (sym (none_off_pages ps _ n c.in-Err.field-0 number c.self.invariant.0 c.self.invariant.1 place absent))
+
+pub returns-then-is_some-clause-sums : goal.returns-then-is_some-clause-sums
+returns-then-is_some-clause-sums c =
+    let ps = c.self.inside.pages.items in
+    let n = c.args.number in
+    let of_n = to_z-of_z w64 n c.ranges.number in
+    let fits : FitsSigned w64 c.page_of-page.result = search rules in
+    let number = to_z-of_z w64 c.page_of-page.result fits ∙ c.page_of-page.ensures ∙ ap page_of of_n in
+    let place = rw c.deref.ensures.value at c.in-Ok.ensures.place in
+    let there = rw c.deref.ensures.value at c.in-Ok.ensures.there in
+    let q = c.index_mut.result.now in
+    let within : c.in-Ok.place < length ps = rw c.deref.ensures.value at c.in-Ok.ensures.within in
+    let here : slice_get ps c.in-Ok.place ≡ Some q = slice_get-get_or ps c.in-Ok.place q within ∙ ap Some (sym c.index_mut.ensures.value) in
+    rw (← c.self.view_is) (subst (λ row. c.delete-there.new.sums.items ≡ without_row row c.args.sums.now.items)
+    (row_via_page ps _ n c.in-Ok.place number c.self.invariant.0 c.self.invariant.1 place q here there) (rw of_n at c.delete-there.ensures.sums))
+
+pub returns-else-is_some-clause-sums : goal.returns-else-is_some-clause-sums
+returns-else-is_some-clause-sums c =
+    let ps = c.self.inside.pages.items in
+    let n = c.args.number in
+    let of_n = to_z-of_z w64 n c.ranges.number in
+    let fits : FitsSigned w64 c.page_of-page.result = search rules in
+    let number = to_z-of_z w64 c.page_of-page.result fits ∙ c.page_of-page.ensures ∙ ap page_of of_n in
+    let place = rw c.deref.ensures.value at c.in-Ok.ensures.place in
+    let there = rw c.deref.ensures.value at c.in-Ok.ensures.there in
+    let q = c.index_mut.result.now in
+    let within : c.in-Ok.place < length ps = rw c.deref.ensures.value at c.in-Ok.ensures.within in
+    let here : slice_get ps c.in-Ok.place ≡ Some q = slice_get-get_or ps c.in-Ok.place q within ∙ ap Some (sym c.index_mut.ensures.value) in
+    rw (← c.self.view_is) (subst (λ row. c.delete-there.new.sums.items ≡ without_row row c.args.sums.now.items)
+    (row_via_page ps _ n c.in-Ok.place number c.self.invariant.0 c.self.invariant.1 place q here there) (rw of_n at c.delete-there.ensures.sums))
+
+pub returns-in-Err-clause-sums : goal.returns-in-Err-clause-sums
+returns-in-Err-clause-sums c =
+    let ps = c.self.inside.pages.items in
+    let n = c.args.number in
+    let of_n = to_z-of_z w64 n c.ranges.number in
+    let fits : FitsSigned w64 c.page_of-page.result = search rules in
+    let number = to_z-of_z w64 c.page_of-page.result fits ∙ c.page_of-page.ensures ∙ ap page_of of_n in
+    let place = rw c.deref.ensures.value at c.in-Err.ensures.new_place in
+    let absent = rw c.deref.ensures.value at c.in-Err.ensures.absent in
+    rw (← c.self.view_is, row_off_pages ps _ n c.in-Err.field-0 number c.self.invariant.0 c.self.invariant.1 place absent) (refl {A = List ℤ})

@@ -1,11 +1,13 @@
 use Rattle.std.proofs.Common.{rules, ◌≡◌, ◌<◌, length, Some, ap, sym, ◌∙◌, w64, subst, FitsSigned}
 use Rattle.std.proofs.lemmas.Int.{to_z-of_z}
 use Rattle.std.proofs.lemmas.Option.{slice_get-get_or}
-use Rattle.std.specs.Prelude.{slice_get, IfOk}
+use Rattle.std.specs.Prelude.{slice_get, IfOk, OnOk}
 use Rattle.meaning.specs.Tables.{is_there}
 use Rattle.input_tables.specs.Pages.{page_of, all_of}
 use Rattle.input_tables.specs.Rows.{AreWide}
+use Rattle.input_tables.specs.Sums.{added, without_row}
 use Rattle.input_tables.proofs.Laid.{wide_page}
+use Rattle.input_tables.proofs.Paging.{rising_all}
 use Rattle.input_tables.proofs.PageEdits.{row_via_page, row_off_pages, put_page, new_page, rising_of, has_of, keep_put, keep_new, inserted, on_ok}
 use Rattle.input_tables.proofs.rows.Rows.put.Goals as goal
 
@@ -122,3 +124,35 @@ returns-else-is_err-clause-put c =
     let absent = rw c.deref.ensures.value at c.in-Err.ensures.absent in
     let items = inserted c.insert.result _ _ _ _ c.is_err.ensures.value c.if-is_err.false c.insert.ensures.items in
     rw (← c.self.view_is) (ap all_of items ∙ new_page ps _ n c.in-Err.place number c.self.invariant.0 c.self.invariant.1 place c.args.values.now c.in_ok-rows-in-Err.rows absent (rw of_n at c.in_ok-rows-in-Err.ensures))
+
+pub returns-in-Ok-clause-sums : goal.returns-in-Ok-clause-sums
+returns-in-Ok-clause-sums c =
+    let ps = c.self.inside.pages.items in
+    let n = c.args.number in
+    let of_n = to_z-of_z w64 n c.ranges.number in
+    let fits : FitsSigned w64 c.page_of-page.result = search rules in
+    let number = to_z-of_z w64 c.page_of-page.result fits ∙ c.page_of-page.ensures ∙ ap page_of of_n in
+    let place = rw c.deref.ensures.value at c.in-Ok.ensures.place in
+    let there = rw c.deref.ensures.value at c.in-Ok.ensures.there in
+    let q = c.index_mut.result.now in
+    let within : c.in-Ok.place < length ps = rw c.deref.ensures.value at c.in-Ok.ensures.within in
+    let here : slice_get ps c.in-Ok.place ≡ Some q = slice_get-get_or ps c.in-Ok.place q within ∙ ap Some (sym c.index_mut.ensures.value) in
+    rw (← c.self.view_is) (subst (λ row. OnOk c.put.result (c.put.new.sums.items ≡ added (without_row row c.args.sums.now.items) c.args.values.now))
+    (row_via_page ps _ n c.in-Ok.place number c.self.invariant.0 c.self.invariant.1 place q here there) (rw of_n at c.put.ensures.sums))
+
+pub returns-in-Ok-clause-rising : goal.returns-in-Ok-clause-rising
+returns-in-Ok-clause-rising c = rw (← c.self.view_is) (on_ok c.put.result c.put.ensures.sums (λ sums. rising_all c.self.inside.pages.items c.self.invariant.0 c.self.invariant.1))
+
+pub returns-else-is_err-clause-sums : goal.returns-else-is_err-clause-sums
+returns-else-is_err-clause-sums c =
+    let ps = c.self.inside.pages.items in
+    let n = c.args.number in
+    let of_n = to_z-of_z w64 n c.ranges.number in
+    let fits : FitsSigned w64 c.page_of-page.result = search rules in
+    let number = to_z-of_z w64 c.page_of-page.result fits ∙ c.page_of-page.ensures ∙ ap page_of of_n in
+    let place = rw c.deref.ensures.value at c.in-Err.ensures.new_place in
+    let absent = rw c.deref.ensures.value at c.in-Err.ensures.absent in
+    rw (← c.self.view_is, row_off_pages ps _ n c.in-Err.place number c.self.invariant.0 c.self.invariant.1 place absent) c.put_on.ensures
+
+pub returns-else-is_err-clause-rising : goal.returns-else-is_err-clause-rising
+returns-else-is_err-clause-rising c = rw (← c.self.view_is) (rising_all c.self.inside.pages.items c.self.invariant.0 c.self.invariant.1)

@@ -1,0 +1,25 @@
+-- The totals of a table's columns, each wrapped to 64 bits, and what a row that is put or taken out makes of them.
+use Rattle.std.specs.Prelude.{◌≡◌, ℕ, ℤ, ◌+ℤ◌, ◌-ℤ◌, List, [], ◌∷◌, Option, Some, None, slice_get}
+use Rattle.std.specs.Int.{w64, int_wrap}
+use Rattle.meaning.specs.Tables.{amount_in, column_total}
+use Rattle.input_tables.specs.Rows.{Row}
+
+-- a row's values put on the totals of their columns, and taken off them
+abbrev pub added : List ℤ → List ℤ → List ℤ
+added ss [] = ss
+added [] (v ∷ vs) = []
+added (s ∷ ss) (v ∷ vs) = int_wrap w64 (s +ℤ v) ∷ added ss vs
+
+abbrev pub taken : List ℤ → List ℤ → List ℤ
+taken ss [] = ss
+taken [] (v ∷ vs) = []
+taken (s ∷ ss) (v ∷ vs) = int_wrap w64 (s -ℤ v) ∷ taken ss vs
+
+-- the same of a row that may not be there
+abbrev pub without_row : Option (List ℤ) → List ℤ → List ℤ
+without_row None ss = ss
+without_row (Some vs) ss = taken ss vs
+
+-- these are the totals of all columns, and 0 of a column that isn't there
+abbrev pub AreTotals : List ℤ → List Row → Type 0
+AreTotals ss rows = (c : ℕ) → amount_in (slice_get ss c) ≡ int_wrap w64 (column_total c rows)

@@ -1,0 +1,28 @@
+// The totals of a table's columns, each wrapped to 64 bits.
+
+ghost use Rattle.std.specs.Prelude.{◌≡◌};
+ghost use Rattle.input_tables.specs.Sums.{added, taken};
+
+/// Puts a row's values on the totals of their columns.
+pub fn put_on(sums: &mut Vec<i64>, values: &[i64])
+    ensures { sums.new.items ≡ added sums.old.items values.now }
+{
+    for (column, value) in values.iter().enumerate() {
+        match sums.get_mut(column) {
+            Some(sum) => *sum = sum.wrapping_add(*value),
+            None => {}
+        }
+    }
+}
+
+/// Takes a row's values off the totals of their columns.
+pub fn take_off(sums: &mut Vec<i64>, values: &[i64])
+    ensures { sums.new.items ≡ taken sums.old.items values.now }
+{
+    for (column, value) in values.iter().enumerate() {
+        match sums.get_mut(column) {
+            Some(sum) => *sum = sum.wrapping_sub(*value),
+            None => {}
+        }
+    }
+}
