@@ -10,7 +10,7 @@ PROCEDURE = re.compile(r"(?:memo )?proc (\w+) ")
 
 @dataclass(frozen=True)
 class Outline:
-    """A program's reducers, each with what its declaration says of it, and the text of each procedure in its normal form."""
+    """A program's reducers, each with what its declaration says of it, its kind and its initial value, and the text of each procedure in its normal form."""
 
     reducers: Dict[str, str]
     procedures: Dict[str, str]

@@ -221,11 +221,11 @@ class Tables(unittest.TestCase):
 
 
 class Outlines(unittest.TestCase):
-    NORMAL = "reducer m : table 1 unit 0 [ 0 ] ;\nmemo proc line ( r ) {\nif has sales [ r ] {\nreturn 1 ;\n}\n}\nreducer total : add ;\nproc main ( ) {\n}\n"
+    NORMAL = "reducer m : table 1 unit 0 [ 0 ] ;\nmemo proc line ( r ) {\nif has sales [ r ] {\nreturn 1 ;\n}\n}\nreducer total : add from - 7 , 8 ;\nproc main ( ) {\n}\n"
 
     def test_what_a_program_declares(self):
         outline = outlines.outline_of(self.NORMAL)
-        self.assertEqual(outline.reducers, {"m": "table 1 unit 0 [ 0 ]", "total": "add"})
+        self.assertEqual(outline.reducers, {"m": "table 1 unit 0 [ 0 ]", "total": "add from - 7 , 8"})
         self.assertEqual(list(outline.procedures), ["line", "main"])
         self.assertEqual(outline.procedures["main"], "proc main ( ) {\n}\n")
 

@@ -65,6 +65,7 @@ PROGRAMS: Dict[str, Limit] = {
     "grain": Limit(65536, 1, lambda size: f"proc f(i) {{ }} {main_of(f'cilk_for i in 0 .. 3 grain {size} : f(i);')}"),
     "first": Limit(4096, 1, lambda size: f"reducer r : first {size}; {main_of('update r 1;')}"),
     "last": Limit(4096, 1, lambda size: f"reducer r : last {size}; {main_of('update r 1;')}"),
+    "an initial value": Limit(4096, 1, lambda size: f"reducer r : add from {', '.join(['-1'] * size)}; {MAIN}"),
     "elements": Limit(16, 1, monoid),
     "a procedure's name": Limit(32, 1, in_a_name("proc NAME() { } " + MAIN)),
     "a variable's name": Limit(32, 1, in_a_name("proc main() { NAME = 1; return NAME; }")),

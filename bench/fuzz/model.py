@@ -58,10 +58,11 @@ FOLDS = {
     "or": (0, lambda left, right: left | right),
     "xor": (0, lambda left, right: left ^ right),
 }
+PAIRED = ("argmax", "affine", "hist")
 
 
 class View:
-    """What a reducer holds."""
+    """What a reducer holds: at first its initial value."""
 
     def __init__(self, reducer: Reducer):
         self.kind, self.numbers = reducer.kind, reducer.numbers
@@ -70,6 +71,9 @@ class View:
             self.value = self.numbers[1]
         else:
             self.value = FOLDS[self.kind][0] if self.kind in FOLDS else beginnings[self.kind]
+        size = 2 if self.kind in PAIRED else 1
+        for at in range(0, len(reducer.initial), size):
+            self.update(list(reducer.initial[at : at + size]))
 
     def is_element(self, values: List[int]) -> bool:
         return self.kind != "table" or 0 <= values[0] < self.numbers[0]

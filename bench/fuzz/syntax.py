@@ -21,9 +21,12 @@ class OtherForm(Exception):
 
 
 class Reducer(NamedTuple):
+    """A reducer with the numbers of its kind, and those of its initial value."""
+
     name: str
     kind: str
     numbers: Tuple[int, ...]
+    initial: Tuple[int, ...]
 
 
 class Procedure(NamedTuple):
@@ -102,12 +105,23 @@ class Reader:
         name = self.name()
         self.skip(":")
         kind, numbers = self.name(), []
-        while not self.is_next(";"):
+        while self.peek() not in (";", "from"):
             token = self.take()
             if not token:
                 raise Unreadable("the end in a reducer")
             numbers += [int(token)] if token.isdigit() else []
-        return Reducer(name, kind, tuple(numbers))
+        initial = self.initial() if self.is_next("from") else []
+        self.skip(";")
+        return Reducer(name, kind, tuple(numbers), tuple(initial))
+
+    def initial(self) -> List[int]:
+        found = [self.signed()]
+        while self.is_next(","):
+            found.append(self.signed())
+        return found
+
+    def signed(self) -> int:
+        return -self.number() if self.is_next("-") else self.number()
 
     def procedure(self) -> Procedure:
         is_memo = self.is_next("memo")

@@ -17,7 +17,7 @@ TESTS = Path(__file__).resolve().parent.parent.parent / "tests"
 LONGEST = 20_000
 NAME = "[a-z][a-z0-9_]{0,31}"
 FAULTS = "divide by zero|missing row|range too long|too deep|bad element"
-REFUSAL = rf"refused E8 \d+|refused E9 C[1-9] {NAME} \d+"
+REFUSAL = rf"refused E8 \d+|refused E9 C([1-9]|10) {NAME} \d+"
 ANSWERS = re.compile(
     rf"ok|refused E([4567]|18|19 \d+)|{REFUSAL}|run \d+|result -?\d+|fault ({FAULTS}) in {NAME} at \d+|{NAME}( none|( -?\d+(:-?\d+)?)*)"
 )
@@ -25,7 +25,7 @@ REFUSALS = re.compile(rf"{REFUSAL}|refused E2|refused E3 [^\n]*|failed tables")
 TOKENS = re.compile(rb"[a-z_][a-z0-9_]*|[0-9]+|[^\sa-z0-9_]|\s+")
 WORDS = (
     "reducer memo proc call spawn sync update if else cilk_for in grain return read has limit sum run put del define end main sales rates "
-    "columns rows add list hist argmax affine table unit first last ( ) { } [ ] ; : , .. . = == != <= >= < > + - * / % # "
+    "columns rows add list hist argmax affine table unit from first last ( ) { } [ ] ; : , .. . = == != <= >= < > + - * / % # "
     "\" ' \"\"\" 0x1f 1_000 1e5 inf true 1979-05-27"
 ).encode().split()
 SMALL = (0, 1, 31, 32, 63, 64, 65, 255, 256, 257, 4096, 4097, 65536, 65537, 1048576, 1048577)

@@ -56,12 +56,23 @@ def table_kind(chance: random.Random) -> tuple:
     return f"table {size} unit 0 {operation(size)}", size
 
 
+def initial(chance: random.Random, kind: str, elements: int) -> str:
+    """An initial value of that kind, with `from`, or none."""
+    if some(chance, 0.6):
+        return ""
+    count = ARITIES.get(kind, 1) * chance.choice((1, 1, 1, 2, 3, 8))
+    numbers = [chance.randrange(elements) if elements else chance.choice((*range(-9, 10), *EDGES)) for _ in range(count)]
+    return " from " + ", ".join(map(str, numbers))
+
+
 def reducer_of(chance: random.Random, name: str) -> Reducer:
+    """A reducer of any kind, some of them with an initial value."""
     kind = chance.choice((*NUMBERED, "list", "list", "first", "last", "argmax", "argmax", "affine", "hist", "hist", "table", "table"))
     if kind == "table":
-        return Reducer(name, kind, *table_kind(chance))
-    declared = f"{kind} {size_of(chance, 1, 40)}" if kind in ("first", "last") else kind
-    return Reducer(name, kind, declared, 0)
+        declared, elements = table_kind(chance)
+    else:
+        declared, elements = f"{kind} {size_of(chance, 1, 40)}" if kind in ("first", "last") else kind, 0
+    return Reducer(name, kind, declared + initial(chance, kind, elements), elements)
 
 
 def reducers_of(chance: random.Random) -> List[Reducer]:

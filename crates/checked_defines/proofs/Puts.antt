@@ -94,7 +94,7 @@ module _ (p : Proc) where
 
 pub reducers_stay : (source : Source) (seen : List Name) (before : Placed) → reducers (put_all seen source before).0 ≡ reducers before.0
 reducers_stay [] seen before = refl
-reducers_stay (Reduces l x k ∷ ds) seen before = reducers_stay ds seen before
+reducers_stay (Reduces l x k vs ∷ ds) seen before = reducers_stay ds seen before
 reducers_stay (Defines l m f xs ss ∷ ds) seen before =
     let p = lower_proc m f xs ss in
     reducers_stay ds (seen ++ f ∷ []) (put_procedure (is_in f seen) p (record { line = l; statements = body_lines (stmts_of ss) }) before)
@@ -170,7 +170,7 @@ module _ (f : Name) (p : Proc) where
 
 counts_all : (f : Name) (source : Source) (seen : List Name) (before : Placed) → count f (called_in before.0) ≤ count f (called_in (put_all seen source before).0)
 counts_all f [] seen before = omega arith
-counts_all f (Reduces l x k ∷ ds) seen before = counts_all f ds seen before
+counts_all f (Reduces l x k vs ∷ ds) seen before = counts_all f ds seen before
 counts_all f (Defines l m g xs ss ∷ ds) seen before =
     let p = lower_proc m g xs ss in
     let later = counts_all f ds (seen ++ g ∷ []) (put_procedure (is_in g seen) p (record { line = l; statements = body_lines (stmts_of ss) }) before) in
@@ -213,7 +213,7 @@ NoneTwice t = (f : Name) → count f (called_in t) ≤ 1
 
 keeps_places : (source : Source) (seen : List Name) (before : Placed) → AreThere seen before.0 → NoneTwice (put_all seen source before).0 → KeepsPlaces before.0 (put_all seen source before).0
 keeps_places [] seen before are single = ([], sym (append-nil (called_in before.0)))
-keeps_places (Reduces l x k ∷ ds) seen before are single = keeps_places ds seen before are single
+keeps_places (Reduces l x k vs ∷ ds) seen before are single = keeps_places ds seen before are single
 keeps_places (Defines l m f xs ss ∷ ds) seen before are single =
     by_again (is_in f seen) refl single (keeps_places ds (seen ++ f ∷ []) (put_procedure (is_in f seen) p lined before) (there_placed seen p (is_in f seen) before.0 are))
   where

@@ -7,7 +7,7 @@ use std::alloc::{AllocError, Global};
 struct Follower(&'static str, &'static str, &'static [&'static str]);
 
 // In the order in which they are told.
-const FOLLOWERS: [Follower; 31] = [
+const FOLLOWERS: [Follower; 33] = [
     Follower(";", "`;`", &[]),
     Follower(",", "`,`", &[]),
     Follower(")", "`)`", &[]),
@@ -26,7 +26,9 @@ const FOLLOWERS: [Follower; 31] = [
     Follower("0", "a number", &["has", "1"]),
     Follower("add", "a kind of reducer", &["x"]),
     Follower("unit", "`unit`", &["x"]),
+    Follower("from", "`from`", &["x"]),
     Follower("*", "an operator", &[]),
+    Follower("-", "`-`", &["has", "*"]),
     Follower("==", "a comparison", &[]),
     Follower("sync", "a statement", &[]),
     Follower("call", "`call`", &["sync"]),

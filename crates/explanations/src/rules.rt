@@ -53,6 +53,8 @@ fn asked_by(rule: Rule) -> &'static str {
         Rule::Table => "A table and its columns must be in the tables' file.",
         Rule::Monoid =>
             "A table reducer is associative, and its unit changes nothing on either side.",
+        Rule::Initial =>
+            "Behind `from` stand as many numbers for each element as an update of the kind takes, and a table reducer begins with its elements.",
     }
 }
 
@@ -74,5 +76,7 @@ fn mended_by(rule: Rule) -> &'static str {
         Rule::Table => "See how the table and its columns are spelled in the tables' file.",
         Rule::Monoid =>
             "Check for all a, b, c that (a op b) op c is a op (b op c); `a op b` is the entry at a * n + b.",
+        Rule::Initial =>
+            "Write two numbers for each element of `argmax`, `affine` and `hist`; the elements of a table of size n are 0 to n - 1.",
     }
 }

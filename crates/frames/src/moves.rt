@@ -26,13 +26,15 @@ impl<V: View> Strand<V> {
     ) -> Result<Strand<V>, (AllocError, Kit<V>)>
         requires kinds { kit ≡ program.now.kinds }
         ensures first { IfOk result (λ strand.
-            strand ≡ first_strand program.now.codes kit program.now.main) }
+            strand ≡ first_strand program.now.codes kit program.now.initials program.now.main) }
+        ensures kinds { IfOk result (λ strand. strand.layer.kinds ≡ kit) }
         ensures beginning { (tables : Tables) (kept : List Kept) (records : List PlainRecord)
             → IfOk result (λ strand.
             IsFirst (setting_with program.now tables kept records) strand) }
         ensures handed_back { IfErr result (λ e. e.1 ≡ kit) }
     {
         program.linked();
+        program.beginning();
         match moves::first(alloc, program, kit) {
             Ok(machine) => Ok(Strand { machine }),
             Err(refused) => Err(refused),

@@ -6,7 +6,8 @@ use Rattle.program_tree.specs.declared.Declaration.{Declaration}
 use Rattle.program_tree.specs.declared.Declaration.TheVariants as d
 use Rattle.program_tree.specs.Plain.{Name, Body}
 use Rattle.program_tree.specs.View.{statements_of, block, proc, decl}
-use Rattle.meaning.specs.Statements.{procedure_of, found, proc_of}
+use Rattle.monoid_laws.specs.Kinds.{Fits}
+use Rattle.meaning.specs.Statements.{reducers, procedure_of, found, proc_of}
 use Rattle.std.specs.List.{AllByRecursion}
 use Rattle.meaning.specs.Fitting.{FitsBody}
 use Rattle.linked_program.specs.Fitting.{BlockFits, DeclarationFits}
@@ -25,6 +26,11 @@ found_fits (b ∷ bs) (suc n) inner f h = found_fits bs n inner f h.1
 pub block_fits : (bs : List Block) → AllByRecursion BlockFits bs → (levels n : ℕ) → FitsBody (block bs levels n)
 block_fits bs h zero n = tt
 block_fits bs h (suc levels) n = found_fits bs n (block bs levels) (λ m. block_fits bs h levels m) h
+
+pub initials_fit : (ds : List Declaration) → AllByRecursion DeclarationFits ds → AllByRecursion (λ r. AllByRecursion Fits r.initial) (reducers (map decl ds))
+initials_fit [] h = tt
+initials_fit (d.Reducer r ∷ ds) h = (h.0, initials_fit ds h.1)
+initials_fit (d.Procedure p ∷ ds) h = initials_fit ds h.1
 
 pub names_fit : (ds : List Declaration) (f : Name) → AllByRecursion DeclarationFits ds → FitsBody (proc_of (map decl ds) f).body
 names_fit [] f h = tt

@@ -5,4 +5,5 @@ pub mod Pushes
 pub mod Named
 pub mod Quiet
 pub mod Fits
+pub mod Begun
 pub mod Crosses

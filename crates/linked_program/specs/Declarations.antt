@@ -8,12 +8,13 @@ use Rattle.meaning.specs.Tables.{is_there}
 use Rattle.meaning.specs.Statements.{reducers, procedure_of}
 use Rattle.meaning.specs.Elision.{main}
 use Rattle.linked_program.specs.declared.violation.Rule.{Rule}
-use Rattle.linked_program.specs.declared.violation.Rule.TheVariants.{Twice, Main, Monoid}
+use Rattle.linked_program.specs.declared.violation.Rule.TheVariants.{Twice, Main, Monoid, Initial}
 use Rattle.linked_program.specs.declared.violation.Violation.{Violation}
 use Rattle.linked_program.specs.TableNames.{Columned, has_name}
 use Rattle.linked_program.specs.Violations.{at, when}
 use Rattle.linked_program.specs.Scope.{scope_of}
 use Rattle.linked_program.specs.Monoids.{is_monoid_kind}
+use Rattle.linked_program.specs.Initials.{is_initial}
 use Rattle.linked_program.specs.Rules.{Setting, reducer_of}
 use Rattle.linked_program.specs.Bodies.{body_violations}
 
@@ -23,7 +24,8 @@ repeats (x ∷ xs) = has_name xs x || repeats xs
 
 -- a reducer after these declarations
 abbrev pub reducer_rules : Tree → Red → List Rule
-reducer_rules before r = when (is_there (reducer_of (reducers before) r.called)) Twice ++ when (not (is_monoid_kind r.kind)) Monoid
+reducer_rules before r =
+    when (is_there (reducer_of (reducers before) r.called)) Twice ++ (when (not (is_monoid_kind r.kind)) Monoid ++ when (not (is_initial r.kind r.initial)) Initial)
 
 -- main is recorded or has parameters
 abbrev pub main_rules : Proc → List Rule

@@ -1,5 +1,7 @@
 -- The parts of a Rust tree whose numbers fit 64 bits.
 use Rattle.std.specs.Prelude.{ℕ}
+use Rattle.std.specs.List.{AllByRecursion}
+use Rattle.monoid_laws.specs.Kinds.{Fits}
 use Rattle.program_tree.specs.declared.Block.{Block}
 use Rattle.program_tree.specs.declared.Declaration.{Declaration}
 use Rattle.program_tree.specs.declared.Declaration.TheVariants as d
@@ -12,5 +14,5 @@ abbrev pub BlockFits : Block → Type 0
 BlockFits b = (inner : ℕ → Body) → ((n : ℕ) → FitsBody (inner n)) → FitsBody (statements inner b.statements.items)
 
 abbrev pub DeclarationFits : Declaration → Type 0
-DeclarationFits (d.Reducer r) = Unit {0}
+DeclarationFits (d.Reducer r) = AllByRecursion Fits r.initial.items
 DeclarationFits (d.Procedure p) = FitsBody (proc p).body

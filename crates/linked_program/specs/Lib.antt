@@ -5,6 +5,7 @@ pub mod Scope
 pub mod Monoids
 pub mod Rules
 pub mod Bodies
+pub mod Initials
 pub mod Declarations
 pub mod First
 pub mod Procedures

@@ -1,7 +1,7 @@
 -- The order of violations, and the first of them.
 use Rattle.std.specs.Prelude.{ℕ, Bool, true, false, cond, ◌==◌, ◌&&◌, ◌||◌, nat_lt, List, [], ◌∷◌, Option, Some, None}
 use Rattle.linked_program.specs.declared.violation.Rule.{Rule}
-use Rattle.linked_program.specs.declared.violation.Rule.TheVariants.{Unknown, Twice, Waiting, Arguments, Read, Update, Main, Table, Monoid}
+use Rattle.linked_program.specs.declared.violation.Rule.TheVariants.{Unknown, Twice, Waiting, Arguments, Read, Update, Main, Table, Monoid, Initial}
 use Rattle.linked_program.specs.declared.violation.Violation.{Violation}
 
 abbrev pub number_of : Rule → ℕ
@@ -14,6 +14,7 @@ number_of Update = 6
 number_of Main = 7
 number_of Table = 8
 number_of Monoid = 9
+number_of Initial = 10
 
 -- by declaration, then by line, then by rule
 abbrev pub comes_before : Violation → Violation → Bool

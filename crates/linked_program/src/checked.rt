@@ -2,18 +2,20 @@
 ghost use Rattle.std.specs.Prelude.{◌≡◌, ◌+◌, ◌<◌, ◌^◌, [], map, All, option_copied, option_map, slice_get, is_some, IfSome, OnSome};
 ghost use Rattle.meaning.specs.Edits.{revision_of};
 ghost use Rattle.meaning.specs.Fitting.{ProgramFits};
-ghost use Rattle.meaning.specs.Statements.{procedure_of};
+ghost use Rattle.meaning.specs.Statements.{procedure_of, beginning};
 ghost use Rattle.meaning.specs.Tables.{is_there};
 ghost use Rattle.program_tree.specs.View.{tree, lines};
 ghost use Rattle.linked_program.specs.TableNames.{columned};
 ghost use Rattle.linked_program.specs.Declarations.{violations};
 ghost use Rattle.linked_program.specs.Procedures.{procedures};
+ghost use Rattle.linked_program.specs.Initials.{plain_initial, initials_of, AreUpdatesBy};
 ghost use Rattle.linked_program.specs.Linked.{kinds_of, main_number, procedure_number};
 ghost use Rattle.linked_program.specs.CodeView.{AreCodesOf, memo_of, slots_of, instruction_at};
 ghost use Rattle.linked_program.specs.Checked.{IsChecked, numbers_in, names_in, number_in};
 
 use crate::code::{Code, Instruction};
 use crate::fitting::numbers_fit;
+use crate::initial::Initial;
 use crate::tables::TableNames;
 use indexmap::IndexMap;
 use monoid_laws::Kind;
@@ -27,6 +29,7 @@ pub struct Checked {
     tables: Vec<TableNames>,
     codes: Vec<Code>,
     kinds: Vec<Kind>,
+    initials: Vec<Initial>,
     main: usize,
     revisions: IndexMap<String, u64>,
     counter: u64,
@@ -47,20 +50,22 @@ impl Model for Checked {
     ghost use Rattle.meaning.specs.Fitting.{ProgramFits};
     ghost use Rattle.program_tree.specs.View.{tree};
     ghost use Rattle.linked_program.specs.TableNames.{columned};
+    ghost use Rattle.linked_program.specs.Initials.{plain_initial};
     ghost use Rattle.linked_program.specs.Checked.{IsChecked, numbers_in};
 
-    ghost view = { λ c. record { program = c.program; tables = map columned c.tables.items; codes = c.codes.items; kinds = c.kinds.items; main = c.main; revisions = numbers_in c.revisions; counter = c.counter } };
+    ghost view = { λ c. record { program = c.program; tables = map columned c.tables.items; codes = c.codes.items; kinds = c.kinds.items; initials = map plain_initial c.initials.items; main = c.main; revisions = numbers_in c.revisions; counter = c.counter } };
 
-    ghost invariant = { λ c. IsChecked (record { program = c.program; tables = map columned c.tables.items; codes = c.codes.items; kinds = c.kinds.items; main = c.main; revisions = numbers_in c.revisions; counter = c.counter }) × ProgramFits (tree c.program) };
+    ghost invariant = { λ c. IsChecked (record { program = c.program; tables = map columned c.tables.items; codes = c.codes.items; kinds = c.kinds.items; initials = map plain_initial c.initials.items; main = c.main; revisions = numbers_in c.revisions; counter = c.counter }) × ProgramFits (tree c.program) };
 }
 
 impl Checked {
-    /// The program with these tables' names, its code, its reducers' kinds, the number of `main`, its procedures' names with their revision numbers and the least number that was never used. That its numbers fit is found out here, in time proportional to the tree.
+    /// The program with these tables' names, its code, its reducers' kinds and what they begin with, the number of `main`, its procedures' names with their revision numbers and the least number that was never used. That its numbers fit is found out here, in time proportional to the tree.
     pub fn new(
         program: Program,
         tables: Vec<TableNames>,
         codes: Vec<Code>,
         kinds: Vec<Kind>,
+        initials: Vec<Initial>,
         main: usize,
         revisions: IndexMap<String, u64>,
         counter: u64,
@@ -70,6 +75,7 @@ impl Checked {
           tables = map columned tables.items;
           codes = codes.items;
           kinds = kinds.items;
+          initials = map plain_initial initials.items;
           main = main;
           revisions = numbers_in revisions;
           counter = counter;
@@ -79,6 +85,7 @@ impl Checked {
           tables = map columned tables.items;
           codes = codes.items;
           kinds = kinds.items;
+          initials = map plain_initial initials.items;
           main = main;
           revisions = numbers_in revisions;
           counter = counter;
@@ -90,6 +97,7 @@ impl Checked {
             tables,
             codes,
             kinds,
+            initials,
             main,
             revisions,
             counter,
@@ -158,6 +166,13 @@ impl Checked {
         &self.kinds
     }
 
+    /// Lends what the reducers begin with, in the order in which a run does so.
+    pub fn initials(&self) -> &[Initial]
+        ensures initials { map plain_initial result.now ≡ self.now.initials }
+    {
+        &self.initials
+    }
+
     /// The number of `main` among the procedures.
     pub fn main(&self) -> usize
         ensures main { result ≡ self.now.main }
@@ -214,12 +229,21 @@ impl Checked {
         let _ = &self.program;
     }
 
-    /// What the type keeps: the codes, the kinds and the number of `main` are those of the tree.
+    /// What the type keeps: the codes, the kinds, the initial values and the number of `main` are those of the tree.
     pub fn linked(&self)
         ensures codes { AreCodesOf self.now.tables (tree self.now.program) self.now.codes
             (procedures (tree self.now.program)) }
         ensures kinds { self.now.kinds ≡ kinds_of (tree self.now.program) }
+        ensures initials { self.now.initials ≡ initials_of (tree self.now.program) }
         ensures main { self.now.main ≡ main_number (tree self.now.program) }
+    {
+        let _ = &self.program;
+    }
+
+    /// What the type keeps: a run begins with the updates by the initial values, one after another, each of an element of its kind.
+    pub fn beginning(&self)
+        ensures updates { AreUpdatesBy self.now.kinds self.now.initials
+            (beginning (tree self.now.program)) }
     {
         let _ = &self.program;
     }

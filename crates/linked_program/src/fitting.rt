@@ -73,11 +73,19 @@ fn blocks_fit(blocks: &[Block])
     }
 }
 
+fn initial_fits(numbers: &[i64])
+    ensures { AllByRecursion Fits numbers.now }
+{
+    for number in numbers {
+        number_fits(*number);
+    }
+}
+
 fn declaration_fits(declaration: &Declaration)
     ensures { DeclarationFits declaration.now }
 {
     match declaration {
-        Declaration::Reducer(_) => {}
+        Declaration::Reducer(reducer) => initial_fits(&reducer.initial),
         Declaration::Procedure(procedure) => blocks_fit(&procedure.blocks),
     }
 }

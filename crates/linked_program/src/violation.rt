@@ -25,6 +25,8 @@ pub enum Rule {
     Table,
     /// A table reducer that isn't a monoid.
     Monoid,
+    /// An initial value of numbers that don't come in whole groups, or of which one names no element.
+    Initial,
 }
 
 impl Rule {
@@ -42,6 +44,7 @@ impl Rule {
             Rule::Main => 7,
             Rule::Table => 8,
             Rule::Monoid => 9,
+            Rule::Initial => 10,
         }
     }
 }

@@ -78,7 +78,7 @@ abbrev pub proc : Bool → Name → ℕ → List Name → Body → Decl
 proc m f k ns b = procedure (record { called = f; memo = m; parameters = k; names = ns; body = b })
 
 abbrev pub red : Name → Kind → Decl
-red r kind = reducer (record { called = r; kind = kind })
+red r kind = reducer (record { called = r; kind = kind; initial = [] })
 
 abbrev plus : Term → Term → Term
 plus a b = binary o.Add a b
@@ -115,6 +115,11 @@ affine_fold = refl
 identities_shown : from_scratch (red n_least k.Min ∷ red n_seen k.List ∷ red n_top k.Argmax ∷ red n_f k.Affine ∷ proc false n_main 0 [] (step 1 (give (num 0)) end) ∷ []) [] ≡ Finished (pos 0) (w.number (pos 9223372036854775807) ∷ w.items [] ∷ w.best None ∷ w.line (pos 1) (pos 0) ∷ [])
 unfolding elide from_scratch needing int_wrap
 identities_shown = refl
+
+-- reducer total : add from 5, 7; reducer top : argmax from 4, 1, 6, 2;
+initial_values_shown : from_scratch (reducer (record { called = n_total; kind = k.Add; initial = pos 5 ∷ pos 7 ∷ [] }) ∷ reducer (record { called = n_top; kind = k.Argmax; initial = pos 4 ∷ pos 1 ∷ pos 6 ∷ pos 2 ∷ [] }) ∷ proc false n_main 0 [] (step 1 (update n_total (num 1 ∷ [])) (step 2 (give (num 0)) end)) ∷ []) [] ≡ Finished (pos 0) (w.number (pos 13) ∷ w.best (Some (pos 6, pos 2)) ∷ [])
+unfolding elide from_scratch needing int_wrap
+initial_values_shown = refl
 
 wrapping_fold : from_scratch (red n_total k.Add ∷ proc false n_one 1 (n_a ∷ []) (step 1 (update n_total (name 0 ∷ [])) end) ∷ proc false n_main 0 [] (step 1 (enter None Spawn n_one (num 9223372036854775807 ∷ [])) (step 2 (update n_total (num 1 ∷ [])) (step 3 sync (step 4 (give (num 0)) end)))) ∷ []) [] ≡ Finished (pos 0) (w.number (negsuc 9223372036854775807) ∷ [])
 unfolding elide from_scratch needing int_wrap

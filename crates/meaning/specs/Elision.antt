@@ -7,7 +7,7 @@ use Rattle.meaning.specs.Tables.{Tables}
 use Rattle.meaning.specs.Outcome.{Out, Log, Accumulators, Site, Fault, Reads, Enters, Reading, after}
 use Rattle.meaning.specs.Run.{Run, ◌>>=◌, ◌>>◌, pure, fail, note, nothing, standing, at}
 use Rattle.meaning.specs.Values.{Env, put, value, values}
-use Rattle.meaning.specs.Statements.{reducers, proc_of, numbered, identities, put_into, reading, fresh, Job, job_of, turn_values, update_of, bounds}
+use Rattle.meaning.specs.Statements.{reducers, proc_of, numbered, identities, initial_values, put_into, reading, fresh, Job, job_of, turn_values, update_of, bounds}
 
 -- ---- statements
 
@@ -125,9 +125,9 @@ start = record { procedure = main; statement = 0 }
 abbrev pub from_values : Accumulators → Tree → Tables → Answer
 from_values initial program tables = answer_of initial (elide program tables depth_limit start main [] initial)
 
--- from scratch: from the identities
+-- from scratch: from the initial values
 unfoldable pub from_scratch : Tree → Tables → Answer
-from_scratch program tables = from_values (identities program) program tables
+from_scratch program tables = from_values (initial_values program) program tables
 
 -- The contribution of an instance: what it makes of the identities
 abbrev pub contribution_of : Tree → Tables → ℕ → Name → List ℤ → Accumulators

@@ -2,7 +2,7 @@
 use Rattle.std.specs.List.{AllByRecursion}
 use Rattle.monoid_laws.specs.Kinds.{Fits}
 use Rattle.program_tree.specs.Plain.{Name, Term, number, name, cell, has as has_row, limit, sum, negate, binary, Deed, bind, enter, read, sync, update, choose, loop, give, Body, end, step, Tree}
-use Rattle.meaning.specs.Statements.{proc_of}
+use Rattle.meaning.specs.Statements.{reducers, proc_of}
 
 -- the numbers of an expression fit
 abbrev pub FitsTerm : Term → Type 0
@@ -31,5 +31,6 @@ abbrev mutual
   FitsBody (step s d b) = FitsDeed d × FitsBody b
 
 -- the numbers of a program fit
-abbrev pub ProgramFits : Tree → Type 0
-ProgramFits program = (f : Name) → FitsBody (proc_of program f).body
+pub record ProgramFits (program : Tree) : Type 0 where
+  pub bodies : (f : Name) → FitsBody (proc_of program f).body
+  pub initials : AllByRecursion (λ r. AllByRecursion Fits r.initial) (reducers program)

@@ -5,7 +5,8 @@ use Rattle.meaning.specs.Tables.{Tables}
 use Rattle.meaning.specs.Outcome.{Accumulators, Place, Leaves}
 use Rattle.meaning.specs.Trail.{child_of}
 use Rattle.meaning.specs.SmallStep.{Slot, unset, waits, has, Start, root, behind, Frame, Todo, Child, instance, Phase, entering, running, Parent, opened, Step, moved, taken, paused, Lookup, Continuation, same_name, with_value, micro, child_name, awaiting, with_env, set_into}
-use Rattle.meaning.specs.Layers.{Notes, notes_of, layers_by, noted_top, take_top, blank, bottom}
+use Rattle.meaning.specs.Statements.{beginning}
+use Rattle.meaning.specs.Layers.{Notes, notes, notes_of, layers_by, noted_top, take_top, blank, bottom}
 use Rattle.meaning.specs.Elision.{depth_limit, main}
 
 pub record LayeredStrand : Type 0 where
@@ -28,9 +29,9 @@ advance_with program tables lookup kit acc s = advanced program s (micro program
 abbrev pub advance : Tree → Tables → Lookup → Bool → LayeredStrand → LayeredStrand
 advance program tables lookup kit s = advanced program s (micro program tables lookup kit (bottom s.layers) s.start s.frame s.phase s.under)
 
--- the strand of main, not entered yet
+-- the strand of main, not entered yet: its layer has the initial values
 abbrev pub first_layered : Tree → LayeredStrand
-first_layered program = record { start = root; layers = blank program ∷ []; frame = opened program (depth_limit - 1) (instance main []) []; phase = entering (instance main []); under = [] }
+first_layered program = record { start = root; layers = notes program (beginning program) ∷ []; frame = opened program (depth_limit - 1) (instance main []) []; phase = entering (instance main []); under = [] }
 
 -- at a spawn: the child as a call
 abbrev pub inlined : Tree → LayeredStrand → ℕ → Option ℕ → Child → Todo → LayeredStrand

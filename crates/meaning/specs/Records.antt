@@ -11,7 +11,7 @@ use Rattle.meaning.specs.Tables.{Tables, cell_of, has_row, limit_of, sum_of}
 use Rattle.monoid_laws.specs.Worth.{Worth}
 use Rattle.meaning.specs.Outcome.{Log, Enters, Reuses, Reading, CellHeld, HasHeld, LimitHeld, SumHeld, Accumulators, after}
 use Rattle.meaning.specs.Run.{Run, ◌>>◌, pure, fail, note}
-use Rattle.meaning.specs.Statements.{reducers, procedure_of, found, identities}
+use Rattle.meaning.specs.Statements.{reducers, procedure_of, found, identities, initial_values}
 use Rattle.meaning.specs.Elision.{Enter, elide, instance, reads, entered, deepest, start, main, depth_limit}
 
 -- a program with its procedures' revision numbers, and the least number that was never used
@@ -100,7 +100,7 @@ module _ (program : Revised) (tables : Tables) (records : List Kept) where
       answered f args (cond (is_memo p) (if_valid program tables depth (record_of records f args)) None) (instance program.tree tables (needing left) f args depth (found p))
 
   abbrev pub needed : Log
-  needed = (needing depth_limit start main [] (identities program.tree)).log
+  needed = (needing depth_limit start main [] (initial_values program.tree)).log
 
 abbrev pub Key : Type 0
 Key = Name × List ℤ

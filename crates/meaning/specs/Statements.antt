@@ -1,5 +1,5 @@
 -- What statements name and what they evaluate.
-use Rattle.std.specs.Prelude.{ℕ, ◌+◌, nat_le, ℤ, pos, negsuc, ◌+ℤ◌, ◌-ℤ◌, Bool, true, false, cond, int_lt, List, [], ◌∷◌, map, Option, Some, None, slice_get}
+use Rattle.std.specs.Prelude.{ℕ, suc, ◌+◌, ◌++◌, nat_eq, nat_le, ℤ, pos, negsuc, ◌+ℤ◌, ◌-ℤ◌, Bool, true, false, cond, int_lt, List, [], ◌∷◌, map, Option, Some, None, slice_get}
 use Rattle.std.specs.Str.{bytes_eq}
 use Rattle.program_tree.specs.Plain.{Name, Term, end, Proc, Red, reducer, procedure, Tree}
 use Rattle.monoid_laws.specs.declared.Kind.{Kind}
@@ -7,8 +7,8 @@ use Rattle.meaning.specs.declared.FaultKind.{FaultKind}
 use Rattle.meaning.specs.declared.FaultKind.TheVariants.{RangeTooLong, BadElement}
 use Rattle.meaning.specs.Tables.{Tables}
 use Rattle.monoid_laws.specs.Worth.{Worth, number, element}
-use Rattle.monoid_laws.specs.Kinds.{identity_of, names_element, element_of}
-use Rattle.meaning.specs.Outcome.{Out, Accumulators, Site, Updates, ◌>>=◌, pure, fail, note}
+use Rattle.monoid_laws.specs.Kinds.{arity, identity_of, names_element, element_of}
+use Rattle.meaning.specs.Outcome.{Out, Log, Accumulators, Site, Updates, after, ◌>>=◌, pure, fail, note}
 use Rattle.meaning.specs.Values.{Env, put, value, values}
 
 abbrev pub reducers : Tree → List Red
@@ -28,6 +28,35 @@ numbered n (x ∷ xs) r = cond (bytes_eq x.called r) (Some (n, x)) (numbered (n 
 
 abbrev pub identities : Tree → Accumulators
 identities program = map (λ r. identity_of r.kind) (reducers program)
+
+-- ---- initial values
+
+-- two numbers for each element; one that is left over names none
+abbrev pub in_pairs : List ℤ → List (List ℤ)
+in_pairs [] = []
+in_pairs (a ∷ []) = []
+in_pairs (a ∷ b ∷ rest) = (a ∷ b ∷ []) ∷ in_pairs rest
+
+-- as many numbers for each element as an update takes
+abbrev pub in_groups : Kind → List ℤ → List (List ℤ)
+in_groups kind vs = cond (nat_eq (arity kind) 2) (in_pairs vs) (map (λ v. v ∷ []) vs)
+
+-- the updates by these numbers, of those that name an element
+abbrev pub updates_by : ℕ → Kind → List (List ℤ) → Log
+updates_by n kind [] = []
+updates_by n kind (vs ∷ rest) = cond (names_element kind vs) (Updates n kind (element_of kind vs) ∷ updates_by n kind rest) (updates_by n kind rest)
+
+-- the updates by the initial values, where the first reducer has number n
+abbrev pub initial_updates : ℕ → List Red → Log
+initial_updates n [] = []
+initial_updates n (r ∷ rs) = updates_by n r.kind (in_groups r.kind r.initial) ++ initial_updates (suc n) rs
+
+-- with these updates a run begins, before main is entered
+abbrev pub beginning : Tree → Log
+beginning program = initial_updates 0 (reducers program)
+
+abbrev pub initial_values : Tree → Accumulators
+initial_values program = after (beginning program) (identities program)
 
 -- a name that no procedure has is that of an empty one
 abbrev pub absent : Proc

@@ -8,7 +8,7 @@ use Rattle.meaning.specs.declared.FaultKind.TheVariants.{TooDeep}
 use Rattle.meaning.specs.Tables.{Tables}
 use Rattle.meaning.specs.Outcome.{Out, Log, Accumulators, Site, Fault, Outcome, Place, Enters, Begins, Syncs, Leaves, Faults, Marks, Spawns, after}
 use Rattle.meaning.specs.Values.{Env, put, value, values}
-use Rattle.meaning.specs.Statements.{reducers, proc_of, numbered, identities, put_into, reading, fresh, Job, job_of, turn_values, update_of, bounds}
+use Rattle.meaning.specs.Statements.{reducers, proc_of, numbered, beginning, initial_values, put_into, reading, fresh, Job, job_of, turn_values, update_of, bounds}
 use Rattle.meaning.specs.Elision.{elide, start, main, depth_limit}
 
 pub record Trace : Type 0 where
@@ -198,11 +198,11 @@ module _ (program : Tree) (tables : Tables) (sight : Accumulators) where
 
 -- what `read` sees at the end of main
 abbrev pub sight_of : Tree → Tables → Accumulators
-sight_of program tables = after (elide program tables depth_limit start main [] (identities program)).log (identities program)
+sight_of program tables = after (elide program tables depth_limit start main [] (initial_values program)).log (initial_values program)
 
--- the trail where `read` sees so much
+-- the trail where `read` sees so much: the updates by the initial values, and then the run of main
 abbrev pub trail_at : Tree → Tables → Accumulators → Look → Log
-trail_at program tables sight look = (run program tables sight (depth_limit - 1) look main [] []).events
+trail_at program tables sight look = beginning program ++ (run program tables sight (depth_limit - 1) look main [] []).events
 
 abbrev pub trail : Tree → Tables → Look → Log
 trail program tables look = trail_at program tables (sight_of program tables) look

@@ -14,12 +14,13 @@ use Rattle.linked_program.specs.Procedures.{procedures}
 use Rattle.linked_program.specs.Linked.{procedure_number}
 use Rattle.linked_program.specs.declared.code.Code.{Code}
 use Rattle.linked_program.specs.CodeView.{AreCodesOf}
+use Rattle.linked_program.specs.Initials.{PlainInitial, AreUpdatesBy}
 use Rattle.evaluation.specs.declared.note.Note.{Note}
 use Rattle.evaluation.specs.Numbers.{numbered, readings, OnlyReads}
 use Rattle.positions.specs.Setting.{Setting, IsLinked}
 use Rattle.rerun_records.specs.Named.{SameMembers}
 use Rattle.positions.specs.Code.{may_record}
-use Rattle.positions.specs.Layers.{PlainLayer, blank, flagged, kept_behind, noting, entering, updated_by, updating, lowest}
+use Rattle.positions.specs.Layers.{PlainLayer, blank, flagged, kept_behind, noting, entering, updated_by, updating, begun_by, begun, lowest}
 use Rattle.positions.specs.Stands.{IsNotes, AreNotes}
 use Rattle.positions.proofs.Members.{members_same, members_then, members_append, members_by_parts}
 
@@ -164,3 +165,15 @@ module _ (setting : Setting) where
     entered = ap (λ n. replicate n false) (as_many setting.codes (procedures setting.program.tree) linked.codes);
     deepest = refl;
   }
+
+  -- a layer that the initial values are put onto
+  pub begun_is : (is : List PlainInitial) (es : Log) (l : PlainLayer) (n : Notes) → AreUpdatesBy setting.kinds is es → IsNotes setting l n
+      → IsNotes setting (begun setting.kinds is l) (definitions.noted n es)
+  begun_is [] [] l n h k = k
+  begun_is [] (e ∷ es) l n h k = absurd h
+  begun_is (i ∷ is) [] l n h k = absurd h
+  begun_is (i ∷ is) (e ∷ es) l n h k =
+      begun_is is es (begun_by (slice_get setting.kinds i.reducer) i l) (noted_one n e) h.1
+      (subst (λ o. IsNotes setting (begun_by o i l) (noted_one n e)) (sym h.0.there)
+      (subst (λ f. IsNotes setting (updating i.reducer h.0.kind i.numbers l) (noted_one n f)) (sym h.0.is)
+      (notes_updated l n i.reducer h.0.kind i.numbers k)))

@@ -4,14 +4,15 @@ use Rattle.std.specs.Prelude.{ℤ}
 use Rattle.std.proofs.lemmas.List.{take-take, length-take-le, length-append}
 use Rattle.meaning.specs.Elision.{main, depth_limit}
 use Rattle.meaning.specs.Outcome.{Place}
-use Rattle.meaning.specs.Statements.{proc_of, fresh, Job}
+use Rattle.meaning.specs.Statements.{proc_of, fresh, Job, beginning}
 use Rattle.meaning.specs.SmallStep.{slot, waits, set_into, Todo, halves, Child, instance, half, entering, running, spawning, returning, leaving, broken, Parent, opened, awaiting, stepped_past, child_name, with_env, with_value}
-use Rattle.meaning.specs.Layers.{Notes}
+use Rattle.meaning.specs.Layers.{Notes, blank as named_blank}
 use Rattle.meaning.specs.Tallies.{no_tally}
 use Rattle.meaning.specs.LayeredStrand as strands
 use Rattle.meaning.specs.LayeredStrand.{LayeredStrand, first_layered, continuation}
 use Rattle.meaning.specs.Schedules.{bottom_alone}
 use Rattle.linked_program.specs.Linked.{main_number}
+use Rattle.linked_program.specs.Initials.{PlainInitial, AreUpdatesBy}
 use Rattle.linked_program.specs.CodeView.{slots_of}
 use Rattle.evaluation.specs.declared.slot.Slot.TheVariants.{Waits, Has}
 use Rattle.evaluation.specs.Slots.{meant, slots_for}
@@ -23,14 +24,14 @@ use Rattle.positions.specs.declared.phase.Phase.TheVariants as phase
 use Rattle.positions.specs.Setting.{Setting, IsLinked}
 use Rattle.positions.specs.Activations.{PlainActivation, bound, made, first_of}
 use Rattle.positions.specs.Code.{may_record}
-use Rattle.positions.specs.Layers.{PlainLayer, lowest}
+use Rattle.positions.specs.Layers.{PlainLayer, blank, lowest}
 use Rattle.positions.specs.Tallies.{no_tally as plain_no_tally}
 use Rattle.positions.specs.Strands.{PlainStrand, PlainTask, shorter}
 use Rattle.positions.specs.Moves.{inlined, detached, attached, returned_at, resumed_by, resumed, first_strand, stolen, lowest_alone}
 use Rattle.positions.specs.Stands.{IsStart, AreNotes, IsTally, procedure_at, frame_of, frame_at, slots_by, IsTodoAt, IsTodo, IsParent, AreParents, IsNewInstance, IsNew, IsEntering, IsSpawning, StandsAt, StandsFor}
 use Rattle.positions.specs.Simulation.{IsFirst, IsInlined, IsDetached, IsAttached, IsResumed, IsStolen, IsAlone}
 use Rattle.positions.proofs.Places.{slots_at, found_at}
-use Rattle.positions.proofs.Layering.{blank_is}
+use Rattle.positions.proofs.Layering.{blank_is, begun_is}
 use Rattle.positions.proofs.Starts.{start_moved}
 use Rattle.positions.proofs.Stepping.{top_leaves, todo_bound, bound_frame, with_value_is, start_below}
 
@@ -243,10 +244,15 @@ module _ (setting : Setting) where
       short : length task.place - 1 ≤ length (shorter task.place)
       short = let e : length (shorter task.place) ≡ length task.place - 1 = length-take-le (length task.place - 1) task.place (omega arith) in omega arith
 
-    pub first_is : (entry : ℕ) → entry ≡ main_number setting.program.tree → IsFirst setting (first_strand setting.codes setting.kinds entry)
-    first_is entry e = record {
+    pub first_is : (initials : List PlainInitial) → AreUpdatesBy setting.kinds initials (beginning setting.program.tree)
+        → (entry : ℕ) → entry ≡ main_number setting.program.tree → IsFirst setting (first_strand setting.codes setting.kinds initials entry)
+    first_is initials updates entry e = record {
       start = tt;
-      layers = (blank_is setting (may_record setting.codes) refl linked, tt);
+      layers = (
+        begun_is setting initials (beginning setting.program.tree) (blank (may_record setting.codes) setting.kinds (length setting.codes)) (named_blank setting.program.tree) updates
+            (blank_is setting (may_record setting.codes) refl linked),
+        tt,
+      );
       tally = nothing_counted;
       now = record {
         child = instance main [];

@@ -3,6 +3,7 @@ use Rattle.std.specs.Prelude.{ℕ, ◌+◌, ◌-◌, max, ℤ, Bool, true, false
 use Rattle.monoid_laws.specs.declared.Kind.{Kind}
 use Rattle.monoid_laws.specs.Worth.{Worth}
 use Rattle.monoid_laws.specs.Kinds.{operate, operate_all, identities, element_of}
+use Rattle.linked_program.specs.Initials.{PlainInitial}
 use Rattle.evaluation.specs.declared.note.Note.{Note}
 use Rattle.rerun_records.specs.Record.{PlainRecord}
 use Rattle.rerun_records.specs.Named.{filled}
@@ -41,6 +42,16 @@ updated_by r kind vs worths (Some w) = slice_set worths r (operate kind w (eleme
 -- the element that the numbers name is combined on the right of a reducer's value
 abbrev pub updating : ℕ → Kind → List ℤ → PlainLayer → PlainLayer
 updating r kind vs l = record l { worths = updated_by r kind vs l.worths (slice_get l.worths r) }
+
+-- the update by an initial value, where there is a reducer of its number
+abbrev pub begun_by : Option Kind → PlainInitial → PlainLayer → PlainLayer
+begun_by None i l = l
+begun_by (Some kind) i l = updating i.reducer kind i.numbers l
+
+-- the updates by initial values, one after another
+abbrev pub begun : List Kind → List PlainInitial → PlainLayer → PlainLayer
+begun kinds [] l = l
+begun kinds (i ∷ is) l = begun kinds is (begun_by (slice_get kinds i.reducer) i l)
 
 abbrev pub either : List Bool → List Bool → List Bool
 either [] ys = []

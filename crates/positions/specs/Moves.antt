@@ -7,6 +7,7 @@ use Rattle.linked_program.specs.CodeView.{slots_of}
 use Rattle.linked_program.specs.declared.code.Operation.{Operation}
 use Rattle.linked_program.specs.declared.code.Operation.TheVariants as o
 use Rattle.linked_program.specs.declared.code.Instruction.{Instruction}
+use Rattle.linked_program.specs.Initials.{PlainInitial}
 use Rattle.evaluation.specs.declared.slot.Slot.{Slot}
 use Rattle.evaluation.specs.declared.slot.Slot.TheVariants.{Waits, Has}
 use Rattle.evaluation.specs.Slots.{slots_for}
@@ -20,7 +21,7 @@ use Rattle.positions.specs.declared.start.Start.TheVariants.{Root, Behind}
 use Rattle.positions.specs.Activations.{PlainActivation, bound, made, first_of}
 use Rattle.positions.specs.Code.{may_record}
 use Rattle.positions.specs.Advance.{next_statement}
-use Rattle.positions.specs.Layers.{PlainLayer, blank, lowest, multiplied}
+use Rattle.positions.specs.Layers.{PlainLayer, blank, begun, lowest, multiplied}
 use Rattle.positions.specs.Tallies.{no_tally, tallies_joined}
 use Rattle.positions.specs.Strands.{PlainStrand, PlainTask, shorter}
 
@@ -58,11 +59,11 @@ resumed task s = resumed_by (returned_of s) task s
 
 -- ---- strands that begin
 
--- main, not entered yet
-abbrev pub first_strand : List Code → List Kind → ℕ → PlainStrand
-first_strand codes kinds main = record {
+-- main, not entered yet; its layer has the initial values
+abbrev pub first_strand : List Code → List Kind → List PlainInitial → ℕ → PlainStrand
+first_strand codes kinds initials main = record {
   start = Root;
-  layer = blank (may_record codes) kinds (length codes);
+  layer = begun kinds initials (blank (may_record codes) kinds (length codes));
   lower = [];
   path = [];
   top = made main (slots_for (slots_of codes main) []) (Block (first_of 0)) (depth_limit - 1);

@@ -1,5 +1,7 @@
 //! What the definitions of this crate are for those of `meaning`, each as the contract of a function that does nothing.
-ghost use Rattle.std.specs.Prelude.{◌≡◌, ◌∷◌, ℕ, Bool};
+ghost use Rattle.std.specs.Prelude.{◌≡◌, ◌∷◌, ℕ, Bool, List};
+ghost use Rattle.meaning.specs.Statements.{beginning};
+ghost use Rattle.linked_program.specs.Initials.{PlainInitial, AreUpdatesBy};
 ghost use Rattle.linked_program.specs.Linked.{main_number};
 ghost use Rattle.positions.specs.Setting.{Setting, IsLinked, HasItsTables, HasItsRecords};
 ghost use Rattle.positions.specs.Strands.{PlainStrand, PlainTask};
@@ -34,11 +36,14 @@ pub fn steps_keep_layers()
         → KeepsLayers s (advanced setting kit s) }
 {}
 
-/// The strands that begin are those of the definitions: main's, and that of a continuation which was stolen.
+/// The strands that begin are those of the definitions: main's, for the initial values of the program, and that of a continuation
+/// which was stolen.
 pub fn beginnings_are_the_definitions()
     ensures first { (setting : Setting) → IsLinked setting
+        → (initials : List PlainInitial)
+        → AreUpdatesBy setting.kinds initials (beginning setting.program.tree)
         → (main : ℕ) → main ≡ main_number setting.program.tree
-        → IsFirst setting (first_strand setting.codes setting.kinds main) }
+        → IsFirst setting (first_strand setting.codes setting.kinds initials main) }
     ensures stolen { (setting : Setting) → IsLinked setting
         → (task : PlainTask) → IsStolen setting task (stolen setting.codes setting.kinds task) }
 {}

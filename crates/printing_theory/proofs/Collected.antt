@@ -20,7 +20,7 @@ pub record Comes (R : Form Decl) (d : Decl) : Type 0 where
   pub again : (vs : Words) (ws : List Word) → bare vs ≡ decl_said d ws → Found R SameDecl d ws vs
 
 abbrev pub DeclComes : Decl → Type 0
-DeclComes (Reduces l x k) = Comes ReducerWhole (Reduces l x k)
+DeclComes (Reduces l x k vs) = Comes ReducerWhole (Reduces l x k vs)
 DeclComes (Defines l m f xs ss) = Comes ProcedureWhole (Defines l m f xs ss)
 
 abbrev pub EachComes : Source → Type 0
@@ -28,7 +28,7 @@ EachComes [] = Unit {0}
 EachComes (d ∷ ds) = DeclComes d × EachComes ds
 
 reducer_comes : (l : ℕ) (d : Decl) (ts us : Words) → ReducerForm l d ts us → Reprints ReducerWhole decl_said SameDecl d us → DeclComes d
-reducer_comes l _ _ _ (reduces x kind i j m ts us p) q = record { tokens = q.tokens; again = q.again }
+reducer_comes l _ _ _ (reduces x kind xs i j m ts us vs p s) q = record { tokens = q.tokens; again = q.again }
 
 procedure_comes : (l : ℕ) (m : Bool) (d : Decl) (ts us : Words) → ProcedureForm l m d ts us → Reprints ProcedureWhole decl_said SameDecl d us → DeclComes d
 procedure_comes l m _ _ _ (defines f xs ss k ts us vs p b) q = record { tokens = q.tokens; again = q.again }
@@ -59,13 +59,13 @@ chosen (d ∷ t) ((text, s, e, o, m, q), j) =
 
 pub collected_tokens : (s : Source) → EachComes s → (ws : List Word) → AllTokens ws → AllTokens (said_onto s ws)
 collected_tokens [] c ws i = i
-collected_tokens (Reduces l x k ∷ s) c ws i = c.0.tokens (said_onto s ws) (collected_tokens s c.1 ws i)
+collected_tokens (Reduces l x k ns ∷ s) c ws i = c.0.tokens (said_onto s ws) (collected_tokens s c.1 ws i)
 collected_tokens (Defines l m f xs ss ∷ s) c ws i = c.0.tokens (said_onto s ws) (collected_tokens s c.1 ws i)
 
 pub collected_again : (r p : ℕ) (s : Source) → EachComes s → reducer_count (lowered s) ≤ r → procedure_count (lowered s) ≤ p → (vs : Words) (ws : List Word) → bare vs ≡ said_onto s ws → Found (Declarations r p) SameSource s ws vs
 collected_again r p [] c a b vs ws h = record { one = []; rest = vs; behind = h; holds = no_declaration r p vs; same = refl }
-collected_again zero p (Reduces l x k ∷ s) c a b vs ws h = absurd (omega arith)
-collected_again (suc r) p (Reduces l x k ∷ s) c a b vs ws h =
+collected_again zero p (Reduces l x k ns ∷ s) c a b vs ws h = absurd (omega arith)
+collected_again (suc r) p (Reduces l x k ns ∷ s) c a b vs ws h =
     let f = c.0.again vs (said_onto s ws) h in
     let e = collected_again r p s c.1 (omega arith) b f.rest ws f.behind in
     let made : Declarations (suc r) p (f.one ∷ e.one) ((Sign mark.Reducer, f.holds.0) ∷ f.holds.1) e.rest = a_reducer r p f.holds.0 f.one e.one f.holds.1 f.rest e.rest f.holds.3 e.holds in

@@ -4,14 +4,15 @@ use Rattle.token_scanner.specs.declared.token.Mark.TheVariants as mark
 use Rattle.token_scanner.specs.Words.{Word, Words, Name, Sign, Over}
 use Rattle.source_tree.specs.Source.{Decl, Reduces, Defines, Source}
 use Rattle.source_tree.specs.Lowering.{lower_decl, lowered}
-use Rattle.procedure_parser.specs.Grammar.{KindForm, ReducerForm, reduces, MoreParams, no_more, one_more, one_over, Params, no_params, params, ProcedureForm, defines, ProcedureWord, unmarked, marked, Declarations, no_declaration, a_reducer, a_procedure, reducer_over, procedure_over}
+use Rattle.procedure_parser.specs.Grammar.{Initial, ReducerForm, reduces, MoreParams, no_more, one_more, one_over, Params, no_params, params, ProcedureForm, defines, ProcedureWord, unmarked, marked, Declarations, no_declaration, a_reducer, a_procedure, reducer_over, procedure_over}
 use Rattle.program_printer.specs.Tokens.{AllTokens, bare}
-use Rattle.program_printer.specs.Printing.{more_names, names_words, memo_words}
+use Rattle.program_printer.specs.Printing.{initial_words, more_names, names_words, memo_words}
 use Rattle.printing_theory.proofs.Read.{AllRead}
 use Rattle.printing_theory.proofs.Said.{written_words, decl_said, said_onto}
 use Rattle.printing_theory.proofs.Phrases.{Finds, at_word}
 use Rattle.printing_theory.proofs.Parts.{Prints}
 use Rattle.printing_theory.proofs.KindForms.{kind_prints}
+use Rattle.printing_theory.proofs.Initials.{initial_prints}
 use Rattle.printing_theory.proofs.Statements.{Found, Reprints, block_prints, block_said}
 
 -- ---- parameters
@@ -67,19 +68,22 @@ abbrev pub ReducerWhole : Decl → Words → Words → Type 0
 ReducerWhole d ts us = (l : ℕ) × (vs : Words) × (ts ≡ (Sign mark.Reducer, l) ∷ vs) × ReducerForm l d vs us
 
 pub reducer_prints : (l : ℕ) (d : Decl) (ts us : Words) → AllRead ts → ReducerForm l d ts us → Reprints ReducerWhole decl_said SameDecl d us
-reducer_prints l _ _ _ h (reduces x kind i j m ts us p) =
-    let q = kind_prints kind ts ((Sign mark.Semicolon, m) ∷ us) h.1.1 p in
+reducer_prints l _ _ _ h (reduces x kind xs i j m ts us vs p s) =
+    let q = kind_prints kind ts us h.1.1 p in
+    let r = initial_prints xs us ((Sign mark.Semicolon, m) ∷ vs) q.left s in
     record {
-      left = q.left.1;
-      tokens = λ ws a. (tt, (h.0, (tt, q.tokens (Sign mark.Semicolon ∷ ws) (tt, a))));
+      left = r.left.1;
+      tokens = λ ws a. (tt, (h.0, (tt, q.tokens (initial_words xs (Sign mark.Semicolon ∷ ws)) (r.tokens (Sign mark.Semicolon ∷ ws) (tt, a)))));
       again = λ zs ws b.
-          let P : Words → Type 0 = λ z. Found ReducerWhole SameDecl (Reduces l x kind) ws z in
-          at_word P (Sign mark.Reducer) (Name x ∷ Sign mark.Colon ∷ written_words kind (Sign mark.Semicolon ∷ ws)) zs b (λ c1 z1 b1.
-          at_word (λ z. P ((Sign mark.Reducer, c1) ∷ z)) (Name x) (Sign mark.Colon ∷ written_words kind (Sign mark.Semicolon ∷ ws)) z1 b1 (λ c2 z2 b2.
-          at_word (λ z. P ((Sign mark.Reducer, c1) ∷ (Name x, c2) ∷ z)) (Sign mark.Colon) (written_words kind (Sign mark.Semicolon ∷ ws)) z2 b2 (λ c3 z3 b3.
-          let f = q.again z3 (Sign mark.Semicolon ∷ ws) b3 in
-          at_word (λ z. KindForm kind z3 z → P ((Sign mark.Reducer, c1) ∷ (Name x, c2) ∷ (Sign mark.Colon, c3) ∷ z3)) (Sign mark.Semicolon) ws f.0 f.1 (λ c4 z4 b4 v.
-          record { one = Reduces c1 x kind; rest = z4; behind = b4; holds = (c1, (Name x, c2) ∷ (Sign mark.Colon, c3) ∷ z3, refl, reduces x kind c2 c3 c4 z3 z4 v); same = refl }) f.2)));
+          let P : Words → Type 0 = λ z. Found ReducerWhole SameDecl (Reduces l x kind xs) ws z in
+          let behind = initial_words xs (Sign mark.Semicolon ∷ ws) in
+          at_word P (Sign mark.Reducer) (Name x ∷ Sign mark.Colon ∷ written_words kind behind) zs b (λ c1 z1 b1.
+          at_word (λ z. P ((Sign mark.Reducer, c1) ∷ z)) (Name x) (Sign mark.Colon ∷ written_words kind behind) z1 b1 (λ c2 z2 b2.
+          at_word (λ z. P ((Sign mark.Reducer, c1) ∷ (Name x, c2) ∷ z)) (Sign mark.Colon) (written_words kind behind) z2 b2 (λ c3 z3 b3.
+          let f = q.again z3 behind b3 in
+          let g = r.again f.0 (Sign mark.Semicolon ∷ ws) f.1 in
+          at_word (λ z. Initial xs f.0 z → P ((Sign mark.Reducer, c1) ∷ (Name x, c2) ∷ (Sign mark.Colon, c3) ∷ z3)) (Sign mark.Semicolon) ws g.0 g.1 (λ c4 z4 b4 v.
+          record { one = Reduces c1 x kind xs; rest = z4; behind = b4; holds = (c1, (Name x, c2) ∷ (Sign mark.Colon, c3) ∷ z3, refl, reduces x kind xs c2 c3 c4 z3 f.0 z4 f.2 v); same = refl }) g.2)));
     }
 
 -- a procedure with its first words, at any line

@@ -30,7 +30,7 @@ abbrev Within : ℕ → ℕ → Source → Type 0
 Within r p s = (reducer_count (lowered s) ≤ r) × (procedure_count (lowered s) ≤ p)
 
 reducer_within : (l r p : ℕ) (d : Decl) (s : Source) (ts us : Words) → ReducerForm l d ts us → Within r p s → Within (suc r) p (d ∷ s)
-reducer_within l r p _ s _ _ (reduces x kind i j m ts us f) w = (omega (arith, w.0), w.1)
+reducer_within l r p _ s _ _ (reduces x kind xs i j m ts us vs f g) w = (omega (arith, w.0), w.1)
 
 procedure_within : (l r p : ℕ) (m : Bool) (d : Decl) (s : Source) (ts us : Words) → ProcedureForm l m d ts us → Within r p s → Within r (suc p) (d ∷ s)
 procedure_within l r p m _ s _ _ (defines f xs ss k ts us vs q b) w = (w.0, omega (arith, w.1))
@@ -72,13 +72,13 @@ declared _ _ _ _ h (no_room known k l m ts us w) n le = absurd (let i : AllRead 
 -- each procedure is of some text
 abbrev Defined : Source → Type 0
 Defined [] = Unit {0}
-Defined (Reduces l x k ∷ s) = Defined s
+Defined (Reduces l x k vs ∷ s) = Defined s
 Defined (Defines l m f xs ss ∷ s) = IsOfSome (plain.procedure (lower_proc m f xs ss)) × Defined s
 
 module _ (text : List ℕ) (all : Source) (is : IsSource all text) where
   each_defined : (s : Source) → ((d : Decl) → IsIn d s → IsIn d all) → Defined s
   each_defined [] among = tt
-  each_defined (Reduces l x k ∷ s) among = each_defined s (λ y i. among y (inr i))
+  each_defined (Reduces l x k vs ∷ s) among = each_defined s (λ y i. among y (inr i))
   each_defined (Defines l m f xs ss ∷ s) among = ((text, all, Defines l m f xs ss, is, among (Defines l m f xs ss) (inl refl), refl), each_defined s (λ y i. among y (inr i)))
 
 definition_defined : (t : Tree) (s : Source) (text : List ℕ) → procedure_count (settled t) ≤ 256 → IsDefinition t s text → Defined s
@@ -90,7 +90,7 @@ definition_defined t s text le i =
 
 put_all_of_some : (s : Source) (seen : List Name) (t : Tree) (l : List Lined) → Defined s → AllOfSome t → AllOfSome (put_all seen s (t, l)).0
 put_all_of_some [] seen t l d a = a
-put_all_of_some (Reduces k x kind ∷ s) seen t l d a = put_all_of_some s seen t l d a
+put_all_of_some (Reduces k x kind vs ∷ s) seen t l d a = put_all_of_some s seen t l d a
 put_all_of_some (Defines k m f xs ss ∷ s) seen t l d a =
     let p = lower_proc m f xs ss in
     let spot = spot_of (is_in f seen) (last_place 0 None f t) in
@@ -98,7 +98,7 @@ put_all_of_some (Defines k m f xs ss ∷ s) seen t l d a =
 
 put_all_reducers : (s : Source) (seen : List Name) (t : Tree) (l : List Lined) → reducer_count (settled t) ≤ 16 → reducer_count (settled (put_all seen s (t, l)).0) ≤ 16
 put_all_reducers [] seen t l h = h
-put_all_reducers (Reduces k x kind ∷ s) seen t l h = put_all_reducers s seen t l h
+put_all_reducers (Reduces k x kind vs ∷ s) seen t l h = put_all_reducers s seen t l h
 put_all_reducers (Defines k m f xs ss ∷ s) seen t l h =
     let p = lower_proc m f xs ss in
     let spot = spot_of (is_in f seen) (last_place 0 None f t) in

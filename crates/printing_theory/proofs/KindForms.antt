@@ -91,10 +91,10 @@ simple_said k h ws = refl
 
 -- ---- numbers within limits
 
-abbrev number_said : ℕ → List Word → List Word
+abbrev pub number_said : ℕ → List Word → List Word
 number_said n ws = Number (pos n) ∷ ws
 
-within_prints : (low high n : ℕ) (ts us : Words) → AllRead ts → Within low high n ts us → Prints (Within low high) number_said n us
+pub within_prints : (low high n : ℕ) (ts us : Words) → AllRead ts → Within low high n ts us → Prints (Within low high) number_said n us
 within_prints low high _ _ _ h (within n l us a b) =
     record {
       left = h.1;

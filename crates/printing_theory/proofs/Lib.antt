@@ -5,6 +5,7 @@ pub mod Phrases
 pub mod Parts
 pub mod Statements
 pub mod KindForms
+pub mod Initials
 pub mod Declarations
 pub mod Collected
 pub mod Round

@@ -1,5 +1,5 @@
 -- A variable's number leads to its name again.
-use Rattle.std.proofs.Common.{◌≡◌, ℕ, pos, zero, suc, ◌+◌, Bool, true, false, List, [], ◌∷◌, ◌++◌, length, take, slice_get, Option, Some, None, refl, sym, ap, subst, ◌∙◌, append_assoc, inl, inr, ◌⊎◌}
+use Rattle.std.proofs.Common.{◌≡◌, ℕ, ℤ, pos, zero, suc, ◌+◌, Bool, true, false, List, [], ◌∷◌, ◌++◌, length, take, slice_get, Option, Some, None, refl, sym, ap, subst, ◌∙◌, append_assoc, inl, inr, ◌⊎◌}
 use Rattle.std.specs.Prelude.{bytes_eq}
 use Rattle.std.specs.Option.{option_map}
 use Rattle.std.proofs.lemmas.List.{append-nil}
@@ -15,7 +15,7 @@ use Rattle.source_tree.specs.Kinds.{WrittenKind, written}
 use Rattle.source_tree.specs.Source.{Phrase, Num, Var, Cell, Has, Limit, Sum, Neg, Bin, Stmt, Binds, Enters, Reads, Syncs, Updates, Tests, Loops, Returns, Stmts, none, some, stmts_of, Decl, Reduces, Defines, Source}
 use Rattle.source_tree.specs.Lowering.{found_index, numbered, lower_term, lower_terms, optional, Walk, lower_deed, lower_body, Lowered, lowered_decl, settled, lower_proc, lower_decl, lowered}
 use Rattle.source_tree.specs.Lowering as l
-use Rattle.program_printer.specs.Printing.{operator_mark, way_mark, names_words, memo_words, variable, term_words, more_terms, terms_words, bound_words, deed_words, body_words, else_words, kind_words, decl_words, printed_words}
+use Rattle.program_printer.specs.Printing.{operator_mark, way_mark, names_words, memo_words, variable, term_words, more_terms, terms_words, bound_words, deed_words, body_words, else_words, kind_words, initial_words, decl_words, printed_words}
 use Rattle.printing_theory.proofs.Said.{phrase_words, more_phrases, phrases_words, target_words, stmt_words, stmts_words, otherwise_words, written_words, decl_said, said}
 
 -- a pool that goes on
@@ -253,19 +253,20 @@ unfolding Ext
 first_names [] b (m, e) = refl
 first_names (x ∷ a) b (m, e) = rw e (ap (λ (z : List Name). x ∷ z) (first_names a (a ++ m) (m, refl)))
 
-reducer_parts : (x y : Name) (v w : WrittenKind) → l.reducer x v ≡ l.reducer y w → (x ≡ y) × (v ≡ w)
-reducer_parts x y v w h = (cc, cc)
+reducer_parts : (x y : Name) (v w : WrittenKind) (ns ms : List ℤ) → l.reducer x v ns ≡ l.reducer y w ms → (x ≡ y) × (v ≡ w) × (ns ≡ ms)
+reducer_parts x y v w ns ms h = (cc, cc, cc)
 
 procedure_part : (p q : Proc) → l.procedure p ≡ l.procedure q → p ≡ q
 procedure_part p q h = cc
 
 decl_says : (d : plain.Decl) (e : Decl) → lowered_decl d ≡ lower_decl e → (us : List Word) → decl_words d us ≡ decl_said e us
-decl_says (plain.reducer r) (Reduces i x kind) h us =
-    let q = reducer_parts r.called x (written r.kind) kind h in
-    ap (λ (z : Name). Sign mark.Reducer ∷ word.Name z ∷ Sign mark.Colon ∷ kind_words r.kind (Sign mark.Semicolon ∷ us)) q.0
-    ∙ ap (λ (z : List Word). Sign mark.Reducer ∷ word.Name x ∷ Sign mark.Colon ∷ z) (kind_said r.kind (Sign mark.Semicolon ∷ us) ∙ ap (λ (z : WrittenKind). written_words z (Sign mark.Semicolon ∷ us)) q.1)
+decl_says (plain.reducer r) (Reduces i x kind vs) h us =
+    let q = reducer_parts r.called x (written r.kind) kind r.initial vs h in
+    let behind = initial_words r.initial (Sign mark.Semicolon ∷ us) in
+    ap (λ (z : Name). Sign mark.Reducer ∷ word.Name z ∷ Sign mark.Colon ∷ kind_words r.kind behind) q.0
+    ∙ ap (λ (z : List Word). Sign mark.Reducer ∷ word.Name x ∷ Sign mark.Colon ∷ z) (kind_said r.kind behind ∙ ap (λ (z : WrittenKind). written_words z behind) q.1 ∙ ap (λ (z : List ℤ). written_words kind (initial_words z (Sign mark.Semicolon ∷ us))) q.2)
 decl_says (plain.reducer r) (Defines i m f xs ss) h us = absurd cc
-decl_says (plain.procedure p) (Reduces i x kind) h us = absurd cc
+decl_says (plain.procedure p) (Reduces i x kind vs) h us = absurd cc
 decl_says (plain.procedure p) (Defines i m f xs ss) h us =
     let q = procedure_part p (lower_proc m f xs ss) h in
     let b = body_says (xs, 0) (stmts_of ss) in

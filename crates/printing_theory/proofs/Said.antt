@@ -7,7 +7,7 @@ use Rattle.token_scanner.specs.Words as word
 use Rattle.program_tree.specs.Plain.{Name}
 use Rattle.source_tree.specs.Kinds.{WrittenKind, Add, Mul, Min, Max, And, Or, Xor, Items, First, Last, Argmax, Affine, Hist, Table}
 use Rattle.source_tree.specs.Source.{Phrase, Num, Var, Cell, Has, Limit, Sum, Neg, Bin, Stmt, Binds, Enters, Reads, Syncs, Updates, Tests, Loops, Returns, Stmts, none, some, stmts_of, Decl, Reduces, Defines, Source}
-use Rattle.program_printer.specs.Printing.{operator_mark, way_mark, numbers_words, names_words, memo_words}
+use Rattle.program_printer.specs.Printing.{operator_mark, way_mark, numbers_words, initial_words, names_words, memo_words}
 
 abbrev pub phrase_words : Phrase → List Word → List Word
 phrase_words (Num n) us = Number n ∷ us
@@ -76,7 +76,7 @@ abbrev pub defined_words : Name → List Name → Stmts → List Word → List W
 defined_words f xs ss us = word.Name f ∷ Sign mark.OpenParen ∷ names_words xs (Sign mark.CloseParen ∷ Sign mark.OpenBrace ∷ stmts_words ss (Sign mark.CloseBrace ∷ us))
 
 abbrev pub decl_said : Decl → List Word → List Word
-decl_said (Reduces l x k) us = Sign mark.Reducer ∷ word.Name x ∷ Sign mark.Colon ∷ written_words k (Sign mark.Semicolon ∷ us)
+decl_said (Reduces l x k vs) us = Sign mark.Reducer ∷ word.Name x ∷ Sign mark.Colon ∷ written_words k (initial_words vs (Sign mark.Semicolon ∷ us))
 decl_said (Defines l m f xs ss) us = memo_words m (Sign mark.Proc ∷ defined_words f xs (stmts_of ss) us)
 
 abbrev pub said_onto : Source → List Word → List Word

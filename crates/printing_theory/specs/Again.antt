@@ -33,12 +33,12 @@ AllOfSome (d ∷ t) = IsOfSome d × AllOfSome t
 
 abbrev pub reducer_count : List Lowered → ℕ
 reducer_count [] = 0
-reducer_count (reducer x k ∷ ds) = suc (reducer_count ds)
+reducer_count (reducer x k vs ∷ ds) = suc (reducer_count ds)
 reducer_count (procedure p ∷ ds) = reducer_count ds
 
 abbrev pub procedure_count : List Lowered → ℕ
 procedure_count [] = 0
-procedure_count (reducer x k ∷ ds) = procedure_count ds
+procedure_count (reducer x k vs ∷ ds) = procedure_count ds
 procedure_count (procedure p ∷ ds) = suc (procedure_count ds)
 
 -- each declaration is of some text, and no limit is passed: so are the programs that definitions have made of a text's

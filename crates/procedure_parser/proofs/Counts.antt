@@ -1,14 +1,15 @@
 -- How many tokens and statements a text has, and where its lines begin.
-use Rattle.std.proofs.Common.{◌≡◌, ℕ, zero, suc, ◌+◌, ◌-◌, ◌<◌, ◌≤◌, eqb, List, [], ◌∷◌, ◌++◌, length, drop, Some, refl, sym, ap, subst, ◌∙◌, arith, inl, inr}
+use Rattle.std.proofs.Common.{◌≡◌, ℕ, ℤ, zero, suc, ◌+◌, ◌-◌, ◌<◌, ◌≤◌, eqb, List, [], ◌∷◌, ◌++◌, length, drop, Some, refl, sym, ap, subst, ◌∙◌, arith, inl, inr}
 use Rattle.token_scanner.specs.declared.scanning.Class.TheVariants as class
 use Rattle.token_scanner.specs.Words.{Words}
 use Rattle.token_scanner.specs.Scanning.{scan, is_space, front_len, belongs, word_at, tokens_of, longest_text}
 use Rattle.source_tree.specs.Kinds.{WrittenKind}
 use Rattle.source_tree.specs.Source.{Stmt, Returns, stmts_of, Decl, Source}
 use Rattle.source_tree.specs.Lowering.{count, count_all, BodiesWithin}
+use Rattle.token_readers.specs.Limits.{most_initial}
 use Rattle.token_readers.specs.Reading.{stuck_before}
 use Rattle.procedure_parser.specs.Reading.{text_at}
-use Rattle.procedure_parser.specs.Grammar.{Form, Many, nil, cons, Entry, entry, Statement, binds, binds_entry, binds_read, enters, syncs, updates, tests, tests_else, loops, Body, plain, returning, Block, comma_number, MoreCells, no_more_cells, more_cells, cells, TableForm, table, KindForm, simple, first, last, of_table, ReducerForm, reduces, MoreParams, no_more, one_more, one_over, Params, no_params, params, ProcedureForm, defines, ProcedureWord, unmarked, marked, Declarations, no_declaration, a_reducer, a_procedure, reducer_over, procedure_over}
+use Rattle.procedure_parser.specs.Grammar.{Form, Many, nil, cons, Entry, entry, Statement, binds, binds_entry, binds_read, enters, syncs, updates, tests, tests_else, loops, Body, plain, returning, Block, comma_number, MoreCells, no_more_cells, more_cells, cells, TableForm, table, KindForm, simple, first, last, of_table, Signed, unsigned, minus, MoreSigned, no_more_signed, more_signed, signed_over, Initial, no_initial, initial, ReducerForm, reduces, MoreParams, no_more, one_more, one_over, Params, no_params, params, ProcedureForm, defines, ProcedureWord, unmarked, marked, Declarations, no_declaration, a_reducer, a_procedure, reducer_over, procedure_over}
 use Rattle.token_readers.specs.Rooms.{Room}
 use Rattle.procedure_parser.specs.Defining.{behind_name, Procedures, no_procedure, one_procedure, no_room, definition_at}
 use Rattle.token_readers.specs.Lines.{line_at}
@@ -75,8 +76,21 @@ kind_count _ _ _ (first n l ts us w) = omega (arith, within_short _ _ _ _ _ w)
 kind_count _ _ _ (last n l ts us w) = omega (arith, within_short _ _ _ _ _ w)
 kind_count _ _ _ (of_table k l ts us f) = omega (arith, table_count k ts us f)
 
+signed_count : (x : ℤ) (ts us : Words) → Signed x ts us → length us ≤ length ts
+signed_count _ _ _ (unsigned n ts us w) = omega (arith, within_short _ _ _ _ _ w)
+signed_count _ _ _ (minus n l ts us w) = omega (arith, within_short _ _ _ _ _ w)
+
+more_signed_count : (n : ℕ) (xs : List ℤ) (ts us : Words) → MoreSigned n xs ts us → length us ≤ length ts
+more_signed_count _ _ _ _ (no_more_signed n us) = omega arith
+more_signed_count _ _ _ _ (more_signed n l x xs ts us vs s m) = omega (arith, signed_count x ts us s, more_signed_count n xs us vs m)
+more_signed_count _ _ _ _ (signed_over k l us) = omega arith
+
+initial_count : (xs : List ℤ) (ts us : Words) → Initial xs ts us → length us ≤ length ts
+initial_count _ _ _ (no_initial us) = omega arith
+initial_count _ _ _ (initial l x xs ts us vs s m) = omega (arith, signed_count x ts us s, more_signed_count (most_initial - 1) xs us vs m)
+
 reducer_count : (l : ℕ) (d : Decl) (ts us : Words) (r : ReducerForm l d ts us) (n : ℕ) (ds : Source) → length ts ≤ n → (length us ≤ n → BodiesWithin n ds) → BodiesWithin n (d ∷ ds)
-reducer_count l _ _ _ (reduces x kind i j m ts us f) n ds le rest = (omega arith, rest (omega (arith, kind_count _ _ _ f)))
+reducer_count l _ _ _ (reduces x kind xs i j m ts us vs f s) n ds le rest = (omega arith, rest (omega (arith, kind_count _ _ _ f, initial_count _ _ _ s)))
 
 procedure_count : (l : ℕ) (m : _) (d : Decl) (ts us : Words) (r : ProcedureForm l m d ts us) (n : ℕ) (ds : Source) → length ts ≤ n → (length us ≤ n → BodiesWithin n ds) → BodiesWithin n (d ∷ ds)
 procedure_count l m _ _ _ (defines f xs ss k ts us vs p b) n ds le rest = (omega (arith, params_count xs ts us p, block_count 32 ss us vs b), rest (omega (arith, params_count xs ts us p, block_count 32 ss us vs b)))

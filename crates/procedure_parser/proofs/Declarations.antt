@@ -1,19 +1,20 @@
 -- What readers of declarations do.
-use Rattle.std.proofs.Common.{◌≡◌, ℕ, zero, suc, ◌+◌, ◌-◌, ◌*◌, ◌<◌, pos, Bool, true, false, cond, ltb, List, [], ◌∷◌, Option, Some, None, Ok, Err, refl, sym, ap, subst, ◌∙◌, arith, inl, inr}
-use Rattle.std.specs.Prelude.{codes, ◌||◌}
+use Rattle.std.proofs.Common.{◌≡◌, ℕ, zero, suc, ◌+◌, ◌-◌, ◌*◌, ◌<◌, ℤ, pos, Bool, true, false, cond, ltb, List, [], ◌∷◌, Option, Some, None, Ok, Err, refl, sym, ap, subst, ◌∙◌, arith, inl, inr}
+use Rattle.std.specs.Prelude.{codes, ◌||◌, neg_ℤ}
 use Rattle.std.proofs.lemmas.Slice.Eq.{bytes_eq-Decides}
 use Rattle.std.proofs.lemmas.Bool.{ltb-true, ltb-false}
-use Rattle.token_scanner.specs.declared.token.Mark.TheVariants.{OpenParen, CloseParen, OpenBracket, CloseBracket, Colon, Semicolon, Comma, Reducer, Memo, Proc}
+use Rattle.token_scanner.specs.declared.token.Mark.TheVariants.{OpenParen, CloseParen, OpenBracket, CloseBracket, Colon, Semicolon, Comma, Minus, Reducer, Memo, Proc}
 use Rattle.token_scanner.specs.Words.{Name, Number, Sign, Bad, Over, Words, for_some, starts, starts_name, rest, front_name, line_of}
 use Rattle.source_tree.specs.Kinds.{WrittenKind}
 use Rattle.source_tree.specs.Kinds as kinds
 use Rattle.source_tree.specs.Source.{Stmt, Decl, Reduces, Defines, Source}
 use Rattle.procedure_parser.specs.KindWords.{simple_kind}
 use Rattle.token_readers.specs.Reading.{◌>>=◌, Read, mark_at, name_at, within_at, word_at}
-use Rattle.procedure_parser.specs.Reading.{over_as, with_front, comma_number_at, more_cells_at, cells_at, table_at, simple_kind_of, sized_kind_at, kind_at, reducer_at, more_params_at, params_at, block_at, procedure_at, procedure_word_at, starts_procedure, and_then, counted, declarations_at}
-use Rattle.procedure_parser.specs.Grammar.{Form, Within, within, CommaNumber, comma_number, MoreCells, no_more_cells, more_cells, Cells, cells, TableForm, table, KindForm, simple, first, last, of_table, Block, ReducerForm, reduces, MoreParams, no_more, one_more, one_over, Params, no_params, params, ProcedureForm, defines, ProcedureWord, unmarked, marked, Declarations, no_declaration, a_reducer, a_procedure, reducer_over, procedure_over}
+use Rattle.procedure_parser.specs.Reading.{over_as, with_front, comma_number_at, more_cells_at, cells_at, table_at, simple_kind_of, sized_kind_at, kind_at, minus_at, signed_at, more_signed_at, signeds_at, initial_at, reducer_at, more_params_at, params_at, block_at, procedure_at, procedure_word_at, starts_procedure, and_then, counted, declarations_at}
+use Rattle.procedure_parser.specs.Grammar.{Form, Within, within, CommaNumber, comma_number, MoreCells, no_more_cells, more_cells, Cells, cells, TableForm, table, KindForm, simple, first, last, of_table, Block, Signed, unsigned, minus, MoreSigned, no_more_signed, more_signed, signed_over, Initial, no_initial, initial, ReducerForm, reduces, MoreParams, no_more, one_more, one_over, Params, no_params, params, ProcedureForm, defines, ProcedureWord, unmarked, marked, Declarations, no_declaration, a_reducer, a_procedure, reducer_over, procedure_over}
+use Rattle.token_readers.specs.Limits.{most_initial, most_number}
 use Rattle.procedure_parser.proofs.Law.{LawAt, IsLocal, nothing, one, by_reply, reply_as, heads_run, if_true, if_false, some_there, none_there, gives_at, refuses_at, skip_at, map_at, then_at}
-use Rattle.procedure_parser.proofs.Head.{on_bool, on_option, starts_is, name_is, local, starts_local, over_law, expect_at, name_then_at, at_value, line_local, last_mark, behind_line}
+use Rattle.procedure_parser.proofs.Head.{on_bool, on_option, starts_is, name_is, local, starts_local, over_law, expect_at, name_then_at, at_value, line_local, last_mark, behind_mark, behind_line}
 use Rattle.procedure_parser.proofs.Numbers.{within_law, within_then_at}
 use Rattle.procedure_parser.proofs.Statements.{a_name, empty_block, block_law}
 
@@ -182,18 +183,92 @@ kind_law ts =
           (skip_at (λ w. Ok (k, w)) (λ a us vs. KindForm a ((Name s.0, s.1) ∷ us) vs) KindForm (Name s.0, s.1) s.2 (λ a us vs p. p) (gives_at _ k s.2 (λ v. simple s.0 k s.1 v s.4))))
     ]
 
+-- ---- initial values
+
+minus_law : (l : ℕ) (ts : Words) → LawAt minus_at (λ x us vs. Signed x ((Sign Minus, l) ∷ us) vs) ts
+unfolding minus_at
+minus_law l ts =
+    then_at (within_at 0 most_number) (λ n w. Ok (neg_ℤ (pos n), w)) (Within 0 most_number) (λ x us vs. Signed x ((Sign Minus, l) ∷ us) vs) ts (within_law 0 most_number 0 (omega arith) (omega arith) ts)
+    (λ v. (v, λ n us w. (neg_ℤ (pos n), minus n l us v w)))
+    (λ n us w. gives_at _ (neg_ℤ (pos n)) us (λ v ys w. minus n l ys v w))
+
+signed_law : (ts : Words) → LawAt signed_at Signed ts
+unfolding signed_at
+signed_law ts =
+    let plain : Words → Read ℤ = λ w. within_at 0 most_number w >>= λ n. Ok (pos n.0, n.1) in
+    elim (on_bool (starts Minus ts)) [
+      | inl h ↦ if_true Signed (starts Minus) (λ w. minus_at (rest w)) plain ts (starts_local Minus) h (behind_mark Minus minus_at Signed ts h minus_law)
+      | inr h ↦ if_false Signed (starts Minus) (λ w. minus_at (rest w)) plain ts (starts_local Minus) h
+          (then_at (within_at 0 most_number) (λ n w. Ok (pos n, w)) (Within 0 most_number) Signed ts (within_law 0 most_number 0 (omega arith) (omega arith) ts)
+          (λ v. (v, λ n us w. (pos n, unsigned n us v w)))
+          (λ n us w. gives_at _ (pos n) us (λ v ys w. unsigned n ys v w)))
+    ]
+
+-- a nought
+a_signed : (v : Words) → Signed (pos 0) ((Number (pos 0), 0) ∷ v) v
+a_signed v = unsigned 0 ((Number (pos 0), 0) ∷ v) v (within 0 0 v (omega arith) (omega arith))
+
+more_signed_law : (n : ℕ) (ts : Words) → LawAt (more_signed_at n) (MoreSigned n) ts
+unfolding more_signed_at
+more_signed_law zero ts =
+    let T : Form (List ℤ) = MoreSigned zero in
+    let D : Words → Read (List ℤ) = λ w. Ok ([], w) in
+    elim (on_bool (starts Comma ts)) [
+      | inr n ↦ if_false T (starts Comma) (λ w. over_as [] (rest w)) D ts (starts_local Comma) n (gives_at T [] ts (λ v. no_more_signed zero v))
+      | inl h ↦ if_true T (starts Comma) (λ w. over_as [] (rest w)) D ts (starts_local Comma) h
+          (behind_mark Comma (over_as []) T ts h (λ l us. over_law [] (λ a us vs. T a ((Sign Comma, l) ∷ us) vs) us (λ k v. signed_over l k v)))
+    ]
+more_signed_law (suc n) ts =
+    let T : Form (List ℤ) = MoreSigned (suc n) in
+    let D : Words → Read (List ℤ) = λ w. Ok ([], w) in
+    let K : Words → Read (List ℤ) = λ w. signed_at w >>= λ x. more_signed_at n x.1 >>= λ xs. Ok (x.0 ∷ xs.0, xs.1) in
+    elim (on_bool (starts Comma ts)) [
+      | inr m ↦ if_false T (starts Comma) (λ w. K (rest w)) D ts (starts_local Comma) m (gives_at T [] ts (λ v. no_more_signed (suc n) v))
+      | inl h ↦ if_true T (starts Comma) (λ w. K (rest w)) D ts (starts_local Comma) h
+          (behind_mark Comma K T ts h (λ l us.
+          then_at signed_at (λ x w. more_signed_at n w >>= λ xs. Ok (x ∷ xs.0, xs.1)) Signed (λ a us vs. T a ((Sign Comma, l) ∷ us) vs) us (signed_law us)
+          (λ v. (v, λ x us s. (x ∷ [], more_signed n l x [] us v v s (no_more_signed n v))))
+          (λ x us s. then_at (more_signed_at n) (λ xs w. Ok (x ∷ xs, w)) (MoreSigned n) _ us (more_signed_law n us)
+          (λ v. (v, λ xs ws q. (x ∷ xs, λ zs p. more_signed n l x xs zs ws v p q)))
+          (λ xs ws q. gives_at _ (x ∷ xs) ws (λ v ys m zs p. more_signed n l x xs zs ys v p m)))))
+    ]
+
+signeds_law : (l : ℕ) (ts : Words) → LawAt signeds_at (λ xs us vs. Initial xs ((Name (codes "from"), l) ∷ us) vs) ts
+unfolding signeds_at
+signeds_law l ts =
+    let most : ℕ = most_initial - 1 in
+    let front : ℤ → Words → Read (List ℤ) = λ x w. with_front (x ∷ []) (more_signed_at most w) in
+    then_at signed_at front Signed (λ xs us vs. Initial xs ((Name (codes "from"), l) ∷ us) vs) ts (signed_law ts)
+    (λ v. (v, λ x us s. (x ∷ [], initial l x [] us v v s (no_more_signed most v))))
+    (λ x us s. then_at (more_signed_at most) (λ xs w. Ok (x ∷ xs, w)) (MoreSigned most) _ us (more_signed_law most us)
+    (λ v. (v, λ xs ws q. (x ∷ xs, λ zs p. initial l x xs zs ws v p q)))
+    (λ xs ws q. gives_at _ (x ∷ xs) ws (λ v ys m zs p. initial l x xs zs ys v p m)))
+
+initial_law : (ts : Words) → LawAt initial_at Initial ts
+unfolding initial_at
+initial_law ts =
+    let D : Words → Read (List ℤ) = λ w. Ok ([], w) in
+    elim (on_bool (starts_name (codes "from") ts)) [
+      | inl h ↦ if_true Initial (starts_name (codes "from")) (λ w. signeds_at (rest w)) D ts (starts_name_local (codes "from")) h (behind_word (codes "from") signeds_at Initial ts h signeds_law)
+      | inr h ↦ if_false Initial (starts_name (codes "from")) (λ w. signeds_at (rest w)) D ts (starts_name_local (codes "from")) h (gives_at Initial [] ts (λ v. no_initial v))
+    ]
+
 reducer_law : (l : ℕ) (ts : Words) → LawAt (reducer_at l) (ReducerForm l) ts
 unfolding reducer_at
 reducer_law l ts =
-    let behind : List ℕ → Words → Read Decl = λ x us. kind_at us >>= λ k. mark_at Semicolon k.1 >>= λ vs. Ok (Reduces l x k.0, vs) in
+    let closed : List ℕ → WrittenKind → Words → Read Decl = λ x k w. initial_at w >>= λ xs. mark_at Semicolon xs.1 >>= λ vs. Ok (Reduces l x k xs.0, vs) in
+    let behind : List ℕ → Words → Read Decl = λ x us. kind_at us >>= λ k. closed x k.0 k.1 in
+    let end : Words → Words = λ v. (Sign Semicolon, 0) ∷ v in
     let start : Words → Words = λ v. (Name (codes "first"), 0) ∷ (Number (pos 1), 0) ∷ (Sign Semicolon, 0) ∷ v in
     name_then_at (λ x w. mark_at Colon w >>= λ us. behind x us) (ReducerForm l) ts
-    (λ v. ((Sign Colon, 0) ∷ start v, Reduces l a_name (kinds.First 1), λ i. reduces a_name (kinds.First 1) i 0 0 (start v) v (a_first ((Sign Semicolon, 0) ∷ v))))
+    (λ v. ((Sign Colon, 0) ∷ start v, Reduces l a_name (kinds.First 1) [], λ i. reduces a_name (kinds.First 1) [] i 0 0 (start v) (end v) v (a_first (end v)) (no_initial (end v))))
     (λ x us. expect_at Colon (behind x) _ us
-    (λ v. (start v, Reduces l x (kinds.First 1), λ j i. reduces x (kinds.First 1) i j 0 (start v) v (a_first ((Sign Semicolon, 0) ∷ v))))
-    (λ us. then_at kind_at (λ k w. mark_at Semicolon w >>= λ vs. Ok (Reduces l x k, vs)) KindForm _ us (kind_law us)
-    (λ v. ((Sign Semicolon, 0) ∷ v, λ k us f. (Reduces l x k, λ j i. reduces x k i j 0 us v f)))
-    (λ k us f. last_mark Semicolon (Reduces l x k) _ us (λ m v zs f j i. reduces x k i j m zs v f))))
+    (λ v. (start v, Reduces l x (kinds.First 1) [], λ j i. reduces x (kinds.First 1) [] i j 0 (start v) (end v) v (a_first (end v)) (no_initial (end v))))
+    (λ us. then_at kind_at (closed x) KindForm _ us (kind_law us)
+    (λ v. (end v, λ k us f. (Reduces l x k [], λ j i. reduces x k [] i j 0 us (end v) v f (no_initial (end v)))))
+    (λ k us f. then_at initial_at (λ xs w. mark_at Semicolon w >>= λ vs. Ok (Reduces l x k xs, vs)) Initial _ us (initial_law us)
+    (λ v. (end v, λ xs us q. (Reduces l x k xs, λ zs f j i. reduces x k xs i j 0 zs us v f q)))
+    (λ xs us q. last_mark Semicolon (Reduces l x k xs) _ us (λ m v ys q zs f j i. reduces x k xs i j m zs ys v f q)))))
 
 -- ---- parameters
 

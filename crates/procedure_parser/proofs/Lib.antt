@@ -1,6 +1,7 @@
 pub mod Law
 pub mod Chain
 pub mod Many
+pub mod Signs
 pub mod Turns
 pub mod Head
 pub mod Lists

@@ -1,15 +1,16 @@
 -- What is in the grammar of declarations is read.
-use Rattle.std.proofs.Common.{◌≡◌, ℕ, zero, suc, ◌+◌, ◌-◌, ◌*◌, ◌<◌, Bool, true, false, ltb, List, ◌∷◌, None, Ok, refl, arith}
+use Rattle.std.proofs.Common.{◌≡◌, ℕ, zero, suc, ◌+◌, ◌-◌, ◌*◌, ◌<◌, ℤ, Bool, true, false, ltb, List, ◌∷◌, None, Ok, refl, arith}
 use Rattle.std.specs.Prelude.{codes}
 use Rattle.std.proofs.lemmas.Bool.{lt-ltb}
 use Rattle.token_scanner.specs.declared.token.Mark.TheVariants.{CloseParen, CloseBracket, Semicolon, Comma, Reducer}
-use Rattle.token_scanner.specs.Words.{Name, Sign, Words, starts, line_of}
+use Rattle.token_scanner.specs.Words.{Name, Sign, Words, starts, starts_name, line_of}
 use Rattle.source_tree.specs.Kinds.{WrittenKind}
 use Rattle.source_tree.specs.Source.{Decl, Source}
 use Rattle.procedure_parser.specs.KindWords.{simple_kind}
 use Rattle.token_readers.specs.Reading.{mark_at, name_at, word_at}
-use Rattle.procedure_parser.specs.Reading.{over_as, comma_number_at, more_cells_at, cells_at, table_at, simple_kind_of, sized_kind_at, kind_at, reducer_at, more_params_at, params_at, procedure_at, procedure_word_at, starts_procedure, declarations_at}
-use Rattle.procedure_parser.specs.Grammar.{CommaNumber, comma_number, MoreCells, no_more_cells, more_cells, Cells, cells, TableForm, table, KindForm, simple, first, last, of_table, ReducerForm, reduces, MoreParams, no_more, one_more, one_over, Params, no_params, params, ProcedureForm, defines, ProcedureWord, unmarked, marked, Declarations, no_declaration, a_reducer, a_procedure, reducer_over, procedure_over}
+use Rattle.procedure_parser.specs.Reading.{over_as, comma_number_at, more_cells_at, cells_at, table_at, simple_kind_of, sized_kind_at, kind_at, minus_at, signed_at, more_signed_at, signeds_at, initial_at, reducer_at, more_params_at, params_at, procedure_at, procedure_word_at, starts_procedure, declarations_at}
+use Rattle.token_readers.specs.Limits.{most_initial, most_number}
+use Rattle.procedure_parser.specs.Grammar.{within, CommaNumber, comma_number, MoreCells, no_more_cells, more_cells, Cells, cells, TableForm, table, KindForm, simple, first, last, of_table, Signed, unsigned, minus, MoreSigned, no_more_signed, more_signed, signed_over, Initial, no_initial, initial, ReducerForm, reduces, MoreParams, no_more, one_more, one_over, Params, no_params, params, ProcedureForm, defines, ProcedureWord, unmarked, marked, Declarations, no_declaration, a_reducer, a_procedure, reducer_over, procedure_over}
 use Rattle.procedure_parser.proofs.Numbers.{only_within}
 use Rattle.procedure_parser.proofs.OnlyStatements.{only_block}
 
@@ -70,9 +71,37 @@ only_kind _ _ _ (of_table k l ts us f) =
     let e = only_table k ts us f in
     rw (s, e) refl
 
+-- ---- initial values
+
+only_signed : (x : ℤ) (ts us : Words) → Signed x ts us → signed_at ts ≡ Ok (x, us)
+unfolding signed_at minus_at
+only_signed _ _ _ (unsigned n _ _ (within _ l us ge le)) = let e = only_within 0 most_number n _ _ (within n l us ge le) in rw e refl
+only_signed _ _ _ (minus n l ts us w) = let e = only_within 0 most_number n ts us w in rw e refl
+
+only_more_signed : (n : ℕ) (xs : List ℤ) (ts us : Words) → MoreSigned n xs ts us → starts Comma us ≡ false → more_signed_at n ts ≡ Ok (xs, us)
+unfolding more_signed_at over_as
+only_more_signed _ _ _ _ (no_more_signed zero us) h = rw h refl
+only_more_signed _ _ _ _ (no_more_signed (suc n) us) h = rw h refl
+only_more_signed _ _ _ _ (more_signed n l x xs ts us vs s m) h =
+    let e = only_signed x ts us s in
+    let i = only_more_signed n xs us vs m h in
+    rw (e, i) refl
+only_more_signed _ _ _ _ (signed_over k l us) h = refl
+
+only_initial : (xs : List ℤ) (ts us : Words) → Initial xs ts us → starts Comma us ≡ false → starts_name (codes "from") us ≡ false → initial_at ts ≡ Ok (xs, us)
+unfolding initial_at signeds_at
+only_initial _ _ _ (no_initial us) h k = rw k refl
+only_initial _ _ _ (initial l x xs ts us vs s m) h k =
+    let e = only_signed x ts us s in
+    let i = only_more_signed (most_initial - 1) xs us vs m h in
+    rw (e, i) refl
+
 only_reducer : (l : ℕ) (d : Decl) (ts us : Words) → ReducerForm l d ts us → reducer_at l ts ≡ Ok (d, us)
 unfolding reducer_at name_at mark_at
-only_reducer l _ _ _ (reduces x kind i j m ts us f) = let e = only_kind kind ts ((Sign Semicolon, m) ∷ us) f in rw e refl
+only_reducer l _ _ _ (reduces x kind xs i j m ts us vs f s) =
+    let e = only_kind kind ts us f in
+    let g = only_initial xs us ((Sign Semicolon, m) ∷ vs) s refl refl in
+    rw (e, g) refl
 
 -- ---- procedures
 

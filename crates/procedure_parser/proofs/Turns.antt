@@ -1,12 +1,12 @@
 -- Parameters, cells and declarations, read one in each turn.
-use Rattle.std.proofs.Common.{◌≡◌, ℕ, zero, suc, ◌-◌, Bool, true, false, cond, ltb, List, [], ◌∷◌, ◌++◌, Result, Ok, Err, refl, sym, ap, subst, arith}
+use Rattle.std.proofs.Common.{◌≡◌, ℕ, zero, suc, ◌-◌, Bool, true, false, cond, ltb, List, [], ◌∷◌, ◌++◌, Result, Ok, Err, refl, sym, ap, subst, ◌∙◌, arith}
 use Rattle.std.proofs.lemmas.Bool.{lt-ltb}
 use Rattle.token_readers.specs.declared.fault.ParseError.{ParseError}
 use Rattle.token_scanner.specs.declared.token.Mark.TheVariants.{Comma}
 use Rattle.token_scanner.specs.Words.{Words, starts, starts_over, rest}
 use Rattle.source_tree.specs.Source.{Decl, Source}
-use Rattle.token_readers.specs.Reading.{Gives, Read, name_at}
-use Rattle.procedure_parser.specs.Reading.{with_front, over_as, comma_number_at, more_cells_at, more_params_at, counted}
+use Rattle.token_readers.specs.Reading.{◌>>=◌, Gives, Read, name_at}
+use Rattle.procedure_parser.specs.Reading.{with_front, over_as, comma_number_at, more_cells_at, more_params_at, procedure_at, procedure_word_at, counted, worded}
 use Rattle.procedure_parser.proofs.Many.{regroup}
 
 pub gives_along : {X Y : Type 0} (view : X → Y) (r : Result X ParseError) (a b : Result Y Words) → a ≡ b → Gives view r a → Gives view r b
@@ -36,3 +36,6 @@ module _ (n : ℕ) (item : Words → Read Decl) (next : Words → Read Source) (
 
   pub counted_turn : (us : Words) (d : Decl) → (n ≡ 0 → ⊥) → item ts ≡ Ok (d, us) → with_front (all ++ d ∷ []) (next us) ≡ with_front all (counted n item next ts)
   counted_turn us d z e = let lt : ltb 0 n ≡ true = lt-ltb _ _ (omega (arith, z)) in rw (lt, e) (sym (regroup all d (next us)))
+
+pub worded_turn : (p : ℕ) (next : Words → Read Source) (l : ℕ) (all : Source) (ts us vs : Words) (m : Bool) (d : Decl) → (p ≡ 0 → ⊥) → procedure_word_at ts ≡ Ok (m, us) → procedure_at l m us ≡ Ok (d, vs) → with_front (all ++ d ∷ []) (next vs) ≡ with_front all (worded p next l ts)
+worded_turn p next l all ts us vs m d z w e = counted_turn p (procedure_at l m) next all us vs d z e ∙ sym (ap (λ (r : Read Bool). with_front all (r >>= λ m. counted p (procedure_at l m.0) next m.1)) w)

@@ -1,5 +1,5 @@
 -- The grammar, by productions. `Atom full inside e ts us` and the like say that ts begins with e, and that us is what comes after it.
-use Rattle.std.specs.Prelude.{◌≡◌, ℕ, zero, suc, ◌≤◌, ◌-◌, ◌*◌, ℤ, pos, List, [], ◌∷◌, ◌++◌, Option, Some, None, Bool, true, false, nat_eq, codes}
+use Rattle.std.specs.Prelude.{◌≡◌, ℕ, zero, suc, ◌≤◌, ◌-◌, ◌*◌, ℤ, pos, neg_ℤ, List, [], ◌∷◌, ◌++◌, Option, Some, None, Bool, true, false, nat_eq, codes}
 use Rattle.program_tree.specs.declared.Operator.{Operator}
 use Rattle.program_tree.specs.declared.Operator.TheVariants as op
 use Rattle.program_tree.specs.declared.Way.{Way}
@@ -13,7 +13,7 @@ use Rattle.source_tree.specs.Kinds as kinds
 use Rattle.source_tree.specs.Source.{Phrase, Num, Var, Cell, Neg, Bin, depth, Stmt, Binds, Enters, Reads, Syncs, Updates, Tests, Loops, Returns, none, stmts_of, Decl, Reduces, Defines, Source}
 use Rattle.source_tree.specs.Source as source
 use Rattle.procedure_parser.specs.KindWords.{simple_kind}
-use Rattle.token_readers.specs.Limits.{most_open, most_levels}
+use Rattle.token_readers.specs.Limits.{most_open, most_levels, most_initial, most_number}
 
 abbrev pub Form : Type 0 → Type 1
 Form A = A → Words → Words → Type 0
@@ -163,9 +163,25 @@ pub data KindForm : WrittenKind → Words → Words → Type 0 where
   last : (n l : ℕ) (ts us : Words) → Within 1 4096 n ts us → KindForm (kinds.Last n) ((Name (codes "last"), l) ∷ ts) us
   of_table : (k : WrittenKind) (l : ℕ) (ts us : Words) → TableForm k ts us → KindForm k ((Name (codes "table"), l) ∷ ts) us
 
+-- a number, with a minus or without
+pub data Signed : ℤ → Words → Words → Type 0 where
+  unsigned : (n : ℕ) (ts us : Words) → Within 0 most_number n ts us → Signed (pos n) ts us
+  minus : (n l : ℕ) (ts us : Words) → Within 0 most_number n ts us → Signed (neg_ℤ (pos n)) ((Sign Minus, l) ∷ ts) us
+
+-- behind a number of an initial value, where so many more may come
+pub data MoreSigned : ℕ → List ℤ → Words → Words → Type 0 where
+  no_more_signed : (n : ℕ) (us : Words) → MoreSigned n [] us us
+  more_signed : (n l : ℕ) (x : ℤ) (xs : List ℤ) (ts us vs : Words) → Signed x ts us → MoreSigned n xs us vs → MoreSigned (suc n) (x ∷ xs) ((Sign Comma, l) ∷ ts) vs
+  signed_over : (k l : ℕ) (us : Words) → MoreSigned zero [] ((Sign Comma, k) ∷ (Over, l) ∷ us) us
+
+-- behind a kind: the numbers of the initial value
+pub data Initial : List ℤ → Words → Words → Type 0 where
+  no_initial : (us : Words) → Initial [] us us
+  initial : (l : ℕ) (x : ℤ) (xs : List ℤ) (ts us vs : Words) → Signed x ts us → MoreSigned (most_initial - 1) xs us vs → Initial (x ∷ xs) ((Name (codes "from"), l) ∷ ts) vs
+
 -- behind `reducer`
 pub data ReducerForm (l : ℕ) : Decl → Words → Words → Type 0 where
-  reduces : (x : List ℕ) (kind : WrittenKind) (i j m : ℕ) (ts us : Words) → KindForm kind ts ((Sign Semicolon, m) ∷ us) → ReducerForm l (Reduces l x kind) ((Name x, i) ∷ (Sign Colon, j) ∷ ts) us
+  reduces : (x : List ℕ) (kind : WrittenKind) (xs : List ℤ) (i j m : ℕ) (ts us vs : Words) → KindForm kind ts us → Initial xs us ((Sign Semicolon, m) ∷ vs) → ReducerForm l (Reduces l x kind xs) ((Name x, i) ∷ (Sign Colon, j) ∷ ts) vs
 
 -- ---- procedures
 

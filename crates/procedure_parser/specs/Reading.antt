@@ -1,21 +1,16 @@
 -- Reading tokens from left to right: a tree and the tokens after it, or the tokens from the first on that can't follow.
-use Rattle.std.specs.Prelude.{◌≡◌, ℕ, zero, suc, ◌-◌, ◌*◌, pos, List, [], ◌∷◌, length, Option, Some, None, Result, Ok, Err, nat_lt, nat_le, nat_eq, if◌then◌else◌, Bool, true, false, not, ◌&&◌, ◌||◌, ◌++◌, codes}
+use Rattle.std.specs.Prelude.{ℕ, zero, suc, ◌-◌, ◌*◌, ℤ, pos, neg_ℤ, List, [], ◌∷◌, length, Option, Some, None, Result, Ok, Err, nat_lt, nat_eq, if◌then◌else◌, Bool, true, false, not, ◌&&◌, ◌||◌, ◌++◌, codes}
 use Rattle.program_tree.specs.declared.Operator.{Operator}
-use Rattle.program_tree.specs.declared.Operator.TheVariants as op
 use Rattle.program_tree.specs.declared.Way.{Way}
-use Rattle.program_tree.specs.declared.Way.TheVariants as way
-use Rattle.token_scanner.specs.declared.token.Mark.{Mark}
 use Rattle.token_scanner.specs.declared.token.Mark.TheVariants as mark
 use Rattle.token_scanner.specs.declared.token.Mark.TheVariants.{OpenParen, CloseParen, OpenBracket, CloseBracket, Colon, Plus, Minus, Star, Slash, Percent, OpenBrace, CloseBrace, Semicolon, Comma, Dot, Range, Assign, Call, Spawn, Sync, Update, If, Else, CilkFor, In, Grain, Return, Reducer, Memo, Proc, Has, Limit}
-use Rattle.token_readers.specs.declared.fault.ParseError.{ParseError}
-use Rattle.token_readers.specs.declared.fault.ParseError.TheVariants as errors
-use Rattle.token_scanner.specs.Words.{Words, for_some, starts, starts_over, starts_name, rest, front_name, front_number, front_count, line_of, ended}
+use Rattle.token_scanner.specs.Words.{Words, for_some, starts, starts_over, starts_name, rest, front_name, front_number, line_of, ended}
 use Rattle.source_tree.specs.Kinds.{WrittenKind}
 use Rattle.source_tree.specs.Kinds as kinds
 use Rattle.source_tree.specs.Source.{Phrase, Num, Var, Cell, Neg, Bin, depth, Stmt, Binds, Enters, Reads, Syncs, Updates, Tests, Loops, Returns, none, stmts_of, Decl, Reduces, Defines, Source}
 use Rattle.source_tree.specs.Source as source
 use Rattle.procedure_parser.specs.KindWords.{simple_kind}
-use Rattle.token_readers.specs.Limits.{most_open, most_levels}
+use Rattle.token_readers.specs.Limits.{most_open, most_levels, most_initial, most_number}
 use Rattle.token_readers.specs.Reading.{◌>>=◌, Read, mark_at, name_at, within_at, comparison, additive, multiplicative, way_of, word_at}
 
 -- where the count is used up: x, behind the token that stands for one too many
@@ -262,9 +257,37 @@ sized_kind_at ts =
 unfoldable pub kind_at : Words → Read WrittenKind
 kind_at ts = for_some (simple_kind_of ts) (sized_kind_at ts) (λ k. Ok (k, rest ts))
 
+unfoldable pub minus_at : Words → Read ℤ
+minus_at ts = within_at 0 most_number ts >>= λ n. Ok (neg_ℤ (pos n.0), n.1)
+
+-- a number, with a minus or without
+unfoldable pub signed_at : Words → Read ℤ
+signed_at ts =
+    if starts Minus ts
+    then minus_at (rest ts)
+    else (within_at 0 most_number ts >>= λ n. Ok (pos n.0, n.1))
+
+-- behind a number of an initial value, where so many more may come
+unfoldable pub more_signed_at : ℕ → Words → Read (List ℤ)
+more_signed_at zero ts = if starts Comma ts then over_as [] (rest ts) else Ok ([], ts)
+more_signed_at (suc n) ts =
+    if starts Comma ts
+    then (signed_at (rest ts) >>= λ x. more_signed_at n x.1 >>= λ xs. Ok (x.0 ∷ xs.0, xs.1))
+    else Ok ([], ts)
+
+-- behind `from`
+unfoldable pub signeds_at : Words → Read (List ℤ)
+signeds_at ts = signed_at ts >>= λ x. with_front (x.0 ∷ []) (more_signed_at (most_initial - 1) x.1)
+
+-- behind a kind: the numbers of the initial value
+unfoldable pub initial_at : Words → Read (List ℤ)
+initial_at ts = if starts_name (codes "from") ts then signeds_at (rest ts) else Ok ([], ts)
+
 -- behind `reducer`
 unfoldable pub reducer_at : ℕ → Words → Read Decl
-reducer_at l ts = name_at ts >>= λ x. mark_at Colon x.1 >>= λ us. kind_at us >>= λ k. mark_at Semicolon k.1 >>= λ vs. Ok (Reduces l x.0 k.0, vs)
+reducer_at l ts =
+    name_at ts >>= λ x. mark_at Colon x.1 >>= λ us. kind_at us >>= λ k. initial_at k.1 >>= λ xs. mark_at Semicolon xs.1 >>= λ vs.
+    Ok (Reduces l x.0 k.0 xs.0, vs)
 
 -- ---- procedures
 

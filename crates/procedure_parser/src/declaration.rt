@@ -7,6 +7,7 @@ ghost use Rattle.token_readers.specs.Reading.{Gives};
 ghost use Rattle.procedure_parser.specs.Reading.{with_front, over_as, reducer_at, more_params_at, params_at, procedure_at, procedure_word_at, starts_procedure, counted, worded, declarations_at, program_at, text_at};
 
 use crate::block::block;
+use crate::initial::initial;
 use crate::kinds::kind;
 use source_tree::{Declaration, Procedure, Reducer};
 use std::alloc::Global;
@@ -30,8 +31,14 @@ fn reducer<'a, 'b>(
     let (name, rest) = name(alloc, tokens)?;
     let rest = mark(rest, Mark::Colon)?;
     let (kind, rest) = kind(alloc, rest)?;
+    let (initial, rest) = initial(alloc, rest)?;
     let rest = mark(rest, Mark::Semicolon)?;
-    let reducer = Reducer { line, name, kind };
+    let reducer = Reducer {
+        line,
+        name,
+        kind,
+        initial,
+    };
     Ok((Declaration::Reducer(reducer), rest))
 }
 

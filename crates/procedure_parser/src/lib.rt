@@ -7,6 +7,7 @@ mod declaration;
 mod define;
 mod defined;
 mod expression;
+mod initial;
 mod kinds;
 mod laws;
 mod statement;

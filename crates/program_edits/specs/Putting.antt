@@ -47,6 +47,6 @@ put_procedure again p l done =
 -- the procedures of a source tree, behind those of these names
 abbrev pub put_all : List Name → Source → Placed → Placed
 put_all seen [] done = done
-put_all seen (Reduces l x k ∷ ds) done = put_all seen ds done
+put_all seen (Reduces l x k vs ∷ ds) done = put_all seen ds done
 put_all seen (Defines l m f xs ss ∷ ds) done =
     put_all (seen ++ f ∷ []) ds (put_procedure (is_in f seen) (lower_proc m f xs ss) (record { line = l; statements = body_lines (stmts_of ss) }) done)

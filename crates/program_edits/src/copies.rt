@@ -206,11 +206,13 @@ fn copy_reducer(alloc: Global, reducer: &Reducer) -> Result<Reducer, AllocError>
     ensures name { IfOk result (λ r. string_bytes r.name ≡ string_bytes reducer.now.name) }
     ensures line { IfOk result (λ r. r.line ≡ reducer.now.line) }
     ensures kind { IfOk result (λ r. r.kind ≡ reducer.now.kind) }
+    ensures initial { IfOk result (λ r. r.initial.items ≡ reducer.now.initial.items) }
 {
     Ok(Reducer {
         name: String::from_str(alloc, &reducer.name)?,
         line: reducer.line,
         kind: reducer.kind,
+        initial: reducer.initial.to_vec(alloc)?,
     })
 }
 

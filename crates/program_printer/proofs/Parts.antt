@@ -1,6 +1,9 @@
 -- Parts that are written one behind the other.
-use Rattle.std.proofs.Common.{◌≡◌, ◌≤◌, List, [], ◌∷◌, map, length, drop, take, ◌-◌, zero, suc, refl, ap, slice_index_or, string_bytes, pos, min, sym, Result, Ok, Err, OnOk, ℕ, ◌∙◌, arith}
+use Rattle.std.proofs.Common.{◌≡◌, ◌≤◌, List, [], ◌∷◌, map, length, drop, take, ◌-◌, zero, suc, refl, ap, slice_index_or, string_bytes, ℤ, pos, negsuc, true, false, min, sym, Result, Ok, Err, OnOk, ℕ, ◌∙◌, arith}
 use Rattle.program_tree.specs.Plain.{Name}
+use Rattle.std.specs.Prelude.{codes, int_lt, unsigned_abs}
+use Rattle.std.proofs.lemmas.Bool.{ltb-true}
+use Rattle.token_scanner.specs.declared.token.Mark.TheVariants as mark
 use Rattle.token_scanner.specs.Words.{Word, Sign, Number}
 use Rattle.token_scanner.specs.Words as word
 use Rattle.std.specs.declared.string.String.{String}
@@ -8,7 +11,7 @@ use Rattle.std.specs.Global.{Global}
 use Rattle.token_spelling.specs.Spelling.{Puts}
 use Rattle.program_tree.specs.declared.Expr.{Expr}
 use Rattle.program_tree.specs.View.{term}
-use Rattle.program_printer.specs.Printing.{term_words, more_terms, terms_words, more_numbers, numbers_words, more_names, names_words}
+use Rattle.program_printer.specs.Printing.{term_words, more_terms, terms_words, more_numbers, numbers_words, signed_words, more_signed_words, initial_words, more_names, names_words}
 
 pub on_ok : {T E : Type 0} (r : Result T E) (P Q : Type 0) → (P → Q) → OnOk r P → OnOk r Q
 on_ok (Ok x) P Q f p = f p
@@ -44,6 +47,29 @@ first_number_put r (n ∷ ns) a b c h p q =
     let k : take (length (n ∷ ns) - 1) ns ≡ ns = take_all (length (n ∷ ns) - 1) ns (omega arith) in
     let t = rw k at q in
     on_ok r (Puts b c (more_numbers ns)) (Puts a c (numbers_words (n ∷ ns))) (λ last us. p _ ∙ last us) t
+
+-- a number below zero, and one that isn't
+pub signed_below : {T E : Type 0} (r : Result T E) (z : ℤ) (a b : List ℕ) → int_lt z (pos 0) ≡ true → OnOk r (Puts a b (λ us. Sign mark.Minus ∷ Number (pos (unsigned_abs z)) ∷ us)) → OnOk r (Puts a b (signed_words z))
+signed_below r (pos n) a b h p = absurd (omega (arith, ltb-true n 0 h))
+signed_below r (negsuc n) a b h p = p
+
+pub signed_above : {T E : Type 0} (r : Result T E) (z : ℤ) (a b : List ℕ) → int_lt z (pos 0) ≡ false → OnOk r (Puts a b (λ us. Number (pos (unsigned_abs z)) ∷ us)) → OnOk r (Puts a b (signed_words z))
+signed_above r (pos n) a b h p = p
+signed_above r (negsuc n) a b h p = absurd cc
+
+-- one part behind another
+pub behind : {T E : Type 0} (r : Result T E) (a b c : List ℕ) (f g : List Word → List Word) → Puts a b f → OnOk r (Puts b c g) → OnOk r (Puts a c (λ us. f (g us)))
+behind r a b c f g p q = on_ok r (Puts b c g) (Puts a c (λ us. f (g us))) (λ last us. p (g us) ∙ last us) q
+
+-- the first number of an initial value, and the others
+pub first_signed_put : {T E : Type 0} (r : Result T E) (ns : List ℤ) (a b c : List ℕ)
+    → 1 ≤ length ns → Puts a b (λ us. word.Name (codes "from") ∷ signed_words (slice_index_or ns 0 (pos 0)) us) → OnOk r (Puts b c (more_signed_words (take (length ns - 1) (drop 1 ns))))
+    → OnOk r (Puts a c (initial_words ns))
+first_signed_put r [] a b c h p q = absurd (omega arith)
+first_signed_put r (n ∷ ns) a b c h p q =
+    let k : take (length (n ∷ ns) - 1) ns ≡ ns = take_all (length (n ∷ ns) - 1) ns (omega arith) in
+    let t = rw k at q in
+    on_ok r (Puts b c (more_signed_words ns)) (Puts a c (initial_words (n ∷ ns))) (λ last us. p _ ∙ last us) t
 
 -- the first of some names, and the others
 pub first_name_put : {T E : Type 0} (r : Result T E) (xs : List (String Global)) (x : String Global) (y : Name) (a b c : List ℕ)

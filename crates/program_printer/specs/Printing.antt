@@ -1,5 +1,5 @@
 -- The one printed form of a program: its tokens. Each function gives the tokens of a part, and then the rest.
-use Rattle.std.specs.Prelude.{ℕ, ◌*◌, pos, List, [], ◌∷◌, map, take, Bool, true, false, Option, Some, None, unwrap_or, slice_get, codes, string_bytes}
+use Rattle.std.specs.Prelude.{ℕ, suc, ◌*◌, ℤ, pos, negsuc, List, [], ◌∷◌, map, take, Bool, true, false, Option, Some, None, unwrap_or, slice_get, codes, string_bytes}
 use Rattle.monoid_laws.specs.declared.Kind.{Kind}
 use Rattle.monoid_laws.specs.declared.Kind.TheVariants as kind
 use Rattle.monoid_laws.specs.declared.Table.{Table}
@@ -140,6 +140,20 @@ kind_words kind.Affine us = word.Name (codes "affine") ∷ us
 kind_words kind.Hist us = word.Name (codes "hist") ∷ us
 kind_words (kind.Table t) us = table_words t us
 
+-- a minus is a token of its own
+abbrev pub signed_words : ℤ → List Word → List Word
+signed_words (pos n) us = Number (pos n) ∷ us
+signed_words (negsuc n) us = Sign mark.Minus ∷ Number (pos (suc n)) ∷ us
+
+abbrev pub more_signed_words : List ℤ → List Word → List Word
+more_signed_words [] us = us
+more_signed_words (x ∷ xs) us = Sign mark.Comma ∷ signed_words x (more_signed_words xs us)
+
+-- the numbers of an initial value
+abbrev pub initial_words : List ℤ → List Word → List Word
+initial_words [] us = us
+initial_words (x ∷ xs) us = word.Name (codes "from") ∷ signed_words x (more_signed_words xs us)
+
 abbrev pub more_names : List Name → List Word → List Word
 more_names [] us = us
 more_names (x ∷ xs) us = Sign mark.Comma ∷ word.Name x ∷ more_names xs us
@@ -165,7 +179,7 @@ abbrev pub proc_words : Proc → List Word → List Word
 proc_words p us = head_words p.called (take p.parameters p.names) (body_words p.names p.body (Sign mark.CloseBrace ∷ us))
 
 abbrev pub decl_words : Decl → List Word → List Word
-decl_words (reducer r) us = Sign mark.Reducer ∷ word.Name r.called ∷ Sign mark.Colon ∷ kind_words r.kind (Sign mark.Semicolon ∷ us)
+decl_words (reducer r) us = Sign mark.Reducer ∷ word.Name r.called ∷ Sign mark.Colon ∷ kind_words r.kind (initial_words r.initial (Sign mark.Semicolon ∷ us))
 decl_words (procedure p) us = memo_words p.memo (Sign mark.Proc ∷ proc_words p us)
 
 -- the tokens of a program

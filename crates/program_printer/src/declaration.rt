@@ -1,6 +1,6 @@
 //! Prints reducers and procedures.
 
-ghost use Rattle.std.specs.Prelude.{◌≡◌, ◌++◌, ◌∷◌, ◌*◌, OnOk, map, take, string_bytes, pos};
+ghost use Rattle.std.specs.Prelude.{◌≡◌, ◌++◌, ◌∷◌, ◌*◌, OnOk, map, take, string_bytes, pos, codes};
 ghost use Rattle.monoid_laws.specs.declared.Table.{Table};
 ghost use Rattle.program_tree.specs.View.{proc, red, decl};
 ghost use Rattle.program_tree.specs.Plain as plain;
@@ -8,7 +8,7 @@ ghost use Rattle.token_scanner.specs.Words.{Word, Sign, Number};
 ghost use Rattle.token_scanner.specs.Words as word;
 ghost use Rattle.token_scanner.specs.declared.token.Mark.TheVariants as mark;
 ghost use Rattle.token_spelling.specs.Spelling.{Puts, Grows, GrowsByBlock};
-ghost use Rattle.program_printer.specs.Printing.{more_numbers, numbers_words, table_words, kind_words, more_names, names_words, memo_words, decl_words, names_of, opening_words};
+ghost use Rattle.program_printer.specs.Printing.{more_numbers, numbers_words, table_words, kind_words, signed_words, more_signed_words, initial_words, more_names, names_words, memo_words, decl_words, names_of, opening_words};
 
 use crate::block::{put_block, put_close};
 use monoid_laws::{Kind, Table};
@@ -90,6 +90,90 @@ fn put_kind(text: &mut String, kind: &Kind) -> Result<(), AllocError>
     }
 }
 
+/// Puts a minus and a number at the end of the text.
+#[tactic(auto, unfolding(token_spelling::specs::Spelling::written))]
+fn put_below_zero(text: &mut String, magnitude: u64) -> Result<(), AllocError>
+    ensures { OnOk result (Grows text.old text.new (λ us. Sign mark.Minus ∷ Number (pos magnitude) ∷ us)) }
+{
+    write!(text, "- {magnitude} ")
+}
+
+/// Puts a number at the end of the text.
+#[tactic(auto, unfolding(token_spelling::specs::Spelling::written))]
+fn put_above_zero(text: &mut String, magnitude: u64) -> Result<(), AllocError>
+    ensures { OnOk result (Grows text.old text.new (λ us. Number (pos magnitude) ∷ us)) }
+{
+    write!(text, "{magnitude} ")
+}
+
+/// Puts a number, behind a minus where it is below zero, at the end of the text.
+#[tactic(auto, using(crate::proofs::Parts::signed_below, crate::proofs::Parts::signed_above))]
+fn put_signed(text: &mut String, number: i64) -> Result<(), AllocError>
+    ensures { OnOk result (Grows text.old text.new (signed_words number)) }
+{
+    let magnitude = number.unsigned_abs();
+    if number < 0 {
+        put_below_zero(text, magnitude)
+    } else {
+        put_above_zero(text, magnitude)
+    }
+}
+
+/// Puts a comma at the end of the text.
+#[tactic(auto, unfolding(token_spelling::specs::Spelling::written))]
+fn put_comma(text: &mut String) -> Result<(), AllocError>
+    ensures { OnOk result (Grows text.old text.new (λ us. Sign mark.Comma ∷ us)) }
+{
+    text.push_str(", ")
+}
+
+/// Puts the word in front of an initial value at the end of the text.
+#[tactic(auto, unfolding(token_spelling::specs::Spelling::written))]
+fn put_from(text: &mut String) -> Result<(), AllocError>
+    ensures { OnOk result (Grows text.old text.new (λ us. word.Name (codes "from") ∷ us)) }
+{
+    text.push_str("from ")
+}
+
+/// Puts a comma and such a number at the end of the text.
+fn put_next_signed(text: &mut String, number: i64) -> Result<(), AllocError>
+    ensures { OnOk result (Grows text.old text.new (λ us. Sign mark.Comma ∷ signed_words number us)) }
+{
+    put_comma(text)?;
+    put_signed(text, number)
+}
+
+/// Puts such numbers, each behind a comma, at the end of the text.
+fn put_more_signed(text: &mut String, numbers: &[i64]) -> Result<(), AllocError>
+    ensures { OnOk result (Grows text.old text.new (more_signed_words numbers.now)) }
+{
+    for number in numbers {
+        put_next_signed(text, *number)?;
+    }
+    Ok(())
+}
+
+/// Puts the first number of an initial value at the end of the text.
+fn put_first_signed(text: &mut String, number: i64) -> Result<(), AllocError>
+    ensures { OnOk result (Grows text.old text.new (λ us. word.Name (codes "from") ∷ signed_words number us)) }
+{
+    put_from(text)?;
+    put_signed(text, number)
+}
+
+/// Puts the numbers of an initial value at the end of the text.
+fn put_initial(text: &mut String, numbers: &[i64]) -> Result<(), AllocError>
+    ensures { OnOk result (Grows text.old text.new (initial_words numbers.now)) }
+{
+    match numbers {
+        [] => Ok(()),
+        [first, rest @ ..] => {
+            put_first_signed(text, *first)?;
+            put_more_signed(text, rest)
+        }
+    }
+}
+
 /// Puts a reducer at the end of the text.
 #[tactic(auto, unfolding(token_spelling::specs::Spelling::written))]
 fn put_reducer(text: &mut String, reducer: &Reducer) -> Result<(), AllocError>
@@ -98,6 +182,7 @@ fn put_reducer(text: &mut String, reducer: &Reducer) -> Result<(), AllocError>
     let name = reducer.name.as_str();
     write!(text, "reducer {name} : ")?;
     put_kind(text, &reducer.kind)?;
+    put_initial(text, &reducer.initial)?;
     text.push_str(";\n")
 }
 

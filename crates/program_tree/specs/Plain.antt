@@ -42,9 +42,11 @@ pub record Proc : Type 0 where
   pub names : List Name
   pub body : Body
 
+-- a reducer, with the numbers of its initial value
 pub record Red : Type 0 where
   pub called : Name
   pub kind : Kind
+  pub initial : List ℤ
 
 pub data Decl : Type 0 where
   reducer : Red → Decl

@@ -58,7 +58,7 @@ proc p =
     }
 
 abbrev pub red : Reducer → Red
-red r = record { called = string_bytes r.name; kind = r.kind }
+red r = record { called = string_bytes r.name; kind = r.kind; initial = r.initial.items }
 
 abbrev pub decl : Declaration → Decl
 decl (d.Reducer r) = reducer (red r)

@@ -77,12 +77,14 @@ pub struct Procedure {
     pub blocks: Vec<Block>,
 }
 
-/// A reducer.
+/// A reducer, with the numbers of its initial value: as many for each element as an update takes, and none where it begins with the
+/// identity.
 #[derive(Drop)]
 pub struct Reducer {
     pub name: String,
     pub line: u32,
     pub kind: Kind,
+    pub initial: Vec<i64>,
 }
 
 /// A declaration.

@@ -115,9 +115,9 @@ path_kept setting p e r set s s' steps kinds start failed h =
 pub failed_kept : (setting : Setting) (start start' : Start) (failed : Bool) (s s' : PlainStrand) → s'.layer.kinds ≡ s.layer.kinds → IsHeld setting start failed s → IsHeld setting start' true s'
 failed_kept setting start start' failed s s' kinds h = record { kinds = kinds ∙ h.kinds; right = λ n. cc; begins = λ n. cc }
 
-pub first_kept : (setting : Setting) (p : PlainChecked) (e : Edited) (r : List PlainRecord) → IsSet setting p e r → (s : PlainStrand) (kit : List Kind) → kit ≡ setting.kinds → s ≡ first_strand p.codes kit p.main → ((tables : Tables) (kept : List Kept) (records : List PlainRecord) → IsFirst (setting_with p tables kept records) s) → IsHeld setting Root false s
-first_kept setting p e r set s kit same is first = record {
-  kinds = ap (λ (s : PlainStrand). s.layer.kinds) is ∙ same;
+pub first_kept : (setting : Setting) (p : PlainChecked) (e : Edited) (r : List PlainRecord) → IsSet setting p e r → (s : PlainStrand) (kit : List Kind) → kit ≡ setting.kinds → s.layer.kinds ≡ kit → s ≡ first_strand p.codes kit p.initials p.main → ((tables : Tables) (kept : List Kept) (records : List PlainRecord) → IsFirst (setting_with p tables kept records) s) → IsHeld setting Root false s
+first_kept setting p e r set s kit same kinds is first = record {
+  kinds = kinds ∙ same;
   right = λ n k. first_right (recalling setting k) (set.ready k) set.numbered s (subst (λ (i : Setting). IsFirst i s) (set_with setting p e r set k) (first e.tables k.kept r));
   begins = λ n. sym (ap (λ (s : PlainStrand). s.start) is);
 }

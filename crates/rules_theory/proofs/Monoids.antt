@@ -13,10 +13,11 @@ use Rattle.program_tree.specs.Plain.{Tree}
 use Rattle.program_tree.specs.View.{decl, lined, tree, proc, red, block_lines}
 use Rattle.meaning.specs.Tables.{is_there}
 use Rattle.meaning.specs.Statements.{reducers}
-use Rattle.linked_program.specs.declared.violation.Rule.TheVariants.{Monoid, Twice}
+use Rattle.linked_program.specs.declared.violation.Rule.TheVariants.{Monoid, Twice, Initial}
 use Rattle.linked_program.specs.Violations.{at, when}
 use Rattle.linked_program.specs.TableNames.{Columned}
 use Rattle.linked_program.specs.Monoids.{is_monoid_kind, is_monoid_table}
+use Rattle.linked_program.specs.Initials.{is_initial}
 use Rattle.linked_program.specs.Rules.{reducer_of}
 use Rattle.linked_program.specs.Checked.{PlainChecked, IsChecked}
 use Rattle.linked_program.specs.Linked.{kinds_of}
@@ -50,10 +51,12 @@ monoids_of : (t : Tree) (ts : List Columned) (n : ℕ) (ds : List Declaration) �
 monoids_of t ts n [] v = tt
 monoids_of t ts n (d.Reducer r ∷ ds) v =
     let twice = when (is_there (reducer_of (reducers (take n t)) (red r).called)) Twice in
+    let monoid = when (not (is_monoid_kind r.kind)) Monoid in
+    let first = when (not (is_initial r.kind r.initial.items)) Initial in
     let here = at (n + 1) r.line (reducer_rules (take n t) (red r)) in
     let more = decls_violations t ts (n + 1) (map decl ds) (map lined ds) in
     let rules = no_rules (n + 1) r.line (reducer_rules (take n t) (red r)) (nil_left here more v) in
-    (kind_monoid r.kind (no_when (not (is_monoid_kind r.kind)) Monoid (nil_right twice (when (not (is_monoid_kind r.kind)) Monoid) rules)), monoids_of t ts (n + 1) ds (nil_right here more v))
+    (kind_monoid r.kind (no_when (not (is_monoid_kind r.kind)) Monoid (nil_left monoid first (nil_right twice (monoid ++ first) rules))), monoids_of t ts (n + 1) ds (nil_right here more v))
 monoids_of t ts n (d.Procedure q ∷ ds) v =
     monoids_of t ts (n + 1) ds
     (nil_right (at (n + 1) q.line (procedure_rules (take n t) (proc q)) ++ proc_violations t ts (n + 1) (proc q) (block_lines q.blocks.items)) (decls_violations t ts (n + 1) (map decl ds) (map lined ds)) v)

@@ -3,7 +3,7 @@ use Rattle.std.proofs.Common.{◌⊎◌, Bool, true, false, ◌-◌, ℕ, List, 
 use Rattle.meaning.specs.Tables.{Tables}
 use Rattle.meaning.specs.Outcome.{Log, Event, Accumulators, Fault, Outcome, Place, Leaves, Spawns, after}
 use Rattle.meaning.specs.Values.{Env}
-use Rattle.meaning.specs.Statements.{identities, put_into, proc_of, fresh}
+use Rattle.meaning.specs.Statements.{identities, beginning, initial_values, put_into, proc_of, fresh}
 use Rattle.meaning.specs.Elision.{main, start, elide, depth_limit}
 use Rattle.meaning.specs.Records.{Revised}
 use Rattle.meaning.specs.Trail.{opening, inner, over, run_inside, runner, blocks_walk}
@@ -23,9 +23,9 @@ use Rattle.trail_theory.proofs.Order.{same_split, ordered_front}
 use Rattle.trail_theory.proofs.Places.{in_left}
 use Rattle.trail_theory.proofs.Advances.{ordered_at}
 use Rattle.trail_theory.proofs.FirstFaults.{quiet_first, inside_none, before_append, before_first, before_all, first_kept}
-use Rattle.trail_theory.proofs.Ends.{worth_of}
+use Rattle.trail_theory.proofs.Ends.{worth_of, main_regroup}
 use Rattle.trail_theory.proofs.Elides.{after_append, forgotten_append, forgotten_opening, quiet_opening}
-use Rattle.trail_theory.proofs.MainElides.{main_from_scratch}
+use Rattle.trail_theory.proofs.MainElides.{begun, begun_after, trail_from_scratch}
 use Rattle.strand_theory.specs.Ready.{IsReady}
 use Rattle.run_theory.proofs.Courses.{then_pure, then_assoc, seen_slot}
 use Rattle.strand_theory.proofs.Laws.{S, L}
@@ -107,18 +107,18 @@ module _ (program : Revised) (tables : Tables) (memory : Memory) (ready : IsRead
       let P = program.tree in
       let d = depth_limit - 1 in
       let lk = look program tables memory ready in
-      let O = elide P tables depth_limit start main [] Ids in
+      let O = elide P tables depth_limit start main [] (initial_values P) in
       let ops = opening P lk d main [] [] in
       let inside = run_inside P tables (S program tables memory) (runner P tables (S program tables memory) d (inner P lk d main [])) d main [] [] in
       let with_rest : (W ++ es) ++ Leaves [] out ∷ later ≡ All = append_assoc W es (Leaves [] out ∷ later) ∙ f in
-      let as_run : (ops ++ inside.events) ++ Leaves [] inside.outcome ∷ [] ≡ All = append_assoc ops inside.events (Leaves [] inside.outcome ∷ []) in
-      let q = same_split [] (W ++ es) later (ops ++ inside.events) [] out inside.outcome (ordered_at P tables (S program tables memory) (L program tables memory) _ with_rest) (ordered_at P tables (S program tables memory) (L program tables memory) _ as_run) (with_rest ∙ sym as_run) in
+      let as_run : (beginning P ++ (ops ++ inside.events)) ++ Leaves [] inside.outcome ∷ [] ≡ All = main_regroup (beginning P) ops inside.events inside.outcome in
+      let q = same_split [] (W ++ es) later (beginning P ++ (ops ++ inside.events)) [] out inside.outcome (ordered_at P tables (S program tables memory) (L program tables memory) _ with_rest) (ordered_at P tables (S program tables memory) (L program tables memory) _ as_run) (with_rest ∙ sym as_run) in
       let g : W ++ (es ++ Leaves [] out ∷ []) ≡ All = ap (λ l. W ++ (es ++ Leaves [] out ∷ l)) (sym q.later) ∙ f in
-      let log : O.log ≡ forgotten (before_fault All) = fits_log O All inside.outcome (main_from_scratch P tables ready.rules.reads lk) in
+      let log : beginning P ++ O.log ≡ forgotten (before_fault All) = fits_log (begun P O) All inside.outcome (trail_from_scratch P tables ready.rules.reads lk) in
       let cut : forgotten (before_fault All) ≡ forgotten W ++ forgotten (before_fault es) =
       ap (λ l. forgotten (before_fault l)) (sym g) ∙ ap forgotten (before_append W (es ++ Leaves [] out ∷ []) z) ∙ forgotten_append W (before_fault (es ++ Leaves [] out ∷ []))
       ∙ ap (λ l. forgotten W ++ l) (forgotten_end es [] out (first_fault es) refl) in
-      sym (ap (λ l. after l Ids) (log ∙ cut) ∙ after_append (forgotten W) (forgotten (before_fault es)) Ids)
+      sym (sym (begun_after P O) ∙ ap (λ l. after l Ids) (log ∙ cut) ∙ after_append (forgotten W) (forgotten (before_fault es)) Ids)
 
   todo_at : (fr : Frame) (todo : Todo) → LeftReads fr.instance todo → (env : Env) (c : ℕ) (W later : Log) → first_fault W ≡ None
       → (let r = todo_walk program.tree tables (S program tables memory) (look program tables memory ready) fr todo env c None in W ++ (r.events ++ Leaves fr.instance r.outcome ∷ later) ≡ All → Came (todo_left program.tree tables fr.left fr.here todo env (acc_at W)) (acc_at W) r.events r.outcome)

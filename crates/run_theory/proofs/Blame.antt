@@ -3,11 +3,13 @@ use Rattle.std.proofs.Common.{◌-◌, ℕ, suc, [], ◌∷◌, ◌++◌, Option
 use Rattle.program_tree.specs.Plain.{Tree}
 use Rattle.meaning.specs.Tables.{Tables}
 use Rattle.meaning.specs.Outcome.{Log, Accumulators, Fault, Outcome, Place, Reads, Enters, Updates, Reuses, Begins, Syncs, Leaves, Faults, Marks, Spawns}
+use Rattle.meaning.specs.Statements.{beginning}
 use Rattle.meaning.specs.Elision.{main, depth_limit}
-use Rattle.meaning.specs.Trail.{Trace, led, child_of, doom_after, after_call, after_spawn, past_sync, over, closed, Look, trail_at}
+use Rattle.meaning.specs.Trail.{Trace, led, child_of, doom_after, after_call, after_spawn, past_sync, over, closed, Look, run, trail_at}
 use Rattle.trail_theory.specs.Order.{Every}
 use Rattle.trail_theory.specs.ElisionBeside.{first_fault}
 use Rattle.trail_theory.proofs.Evaluations.{Told}
+use Rattle.trail_theory.proofs.Beginnings.{beginning_told}
 use Rattle.trail_theory.proofs.FirstFaults.{or_else, fault_append}
 use Rattle.trail_theory.proofs.Walks.{Opens, Closed, has_run}
 use Rattle.run_theory.proofs.Hands.{IsSpared}
@@ -153,4 +155,7 @@ blames_spare (Marks f args x ∷ a) b h q c k (inl e) = absurd cc
 blames_spare (Marks f args x ∷ a) b h q c k (inr i) = blames_spare a b h q c k i
 
 pub spared_before : (program : Tree) (tables : Tables) (sight : Accumulators) (look : Look) (a b : Log) → a ++ b ≡ trail_at program tables sight look → first_fault a ≡ None → IsSpared a
-spared_before program tables sight look a b e q = blames_spare a b (rw e (has_run Blamed BlamedRun blame program tables sight (depth_limit - 1) look main [] []).0) q
+spared_before program tables sight look a b e q =
+    let es = (run program tables sight (depth_limit - 1) look main [] []).events in
+    let whole : Blames (trail_at program tables sight look) = blames_append (beginning program) es (told_blames (beginning program) (beginning_told program)) (λ z. (has_run Blamed BlamedRun blame program tables sight (depth_limit - 1) look main [] []).0) in
+    blames_spare a b (rw e whole) q

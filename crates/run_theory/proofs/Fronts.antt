@@ -3,7 +3,7 @@ use Rattle.std.proofs.Common.{Bool, true, false, ◌-◌, Some, List, [], ◌∷
 use Rattle.program_tree.specs.Plain.{Tree}
 use Rattle.meaning.specs.Tables.{Tables}
 use Rattle.meaning.specs.Outcome.{Log, Event, Accumulators, Fault, Outcome, Place, Leaves, after}
-use Rattle.meaning.specs.Statements.{identities, put_into}
+use Rattle.meaning.specs.Statements.{identities, initial_values, put_into}
 use Rattle.meaning.specs.Elision.{Finished, Faulted, from_scratch, main, start, elide, depth_limit}
 use Rattle.meaning.specs.Records.{Revised}
 use Rattle.meaning.specs.Trail.{run, env_after, doom_after}
@@ -21,7 +21,7 @@ use Rattle.trail_theory.proofs.Order.{same_split}
 use Rattle.trail_theory.proofs.Advances.{ordered_at}
 use Rattle.trail_theory.proofs.FirstFaults.{quiet_first, inside_none, first_kept}
 use Rattle.trail_theory.proofs.Ends.{worth_of}
-use Rattle.trail_theory.proofs.MainElides.{main_from_scratch}
+use Rattle.trail_theory.proofs.MainElides.{begun, trail_from_scratch}
 use Rattle.run_theory.specs.RightRuns.{front, Links, IsPushed}
 use Rattle.run_theory.specs.OverRuns.{IsQuietPhase, AreQuietParents, IsQuietDeque, ReadsNoMore, AreOver}
 use Rattle.strand_theory.specs.Ready.{IsReady}
@@ -73,9 +73,9 @@ module _ (program : Revised) (tables : Tables) (memory : Memory) (ready : IsRead
   unfolding from_scratch
   fault_answer W X k e h =
       let P = program.tree in
-      let o = elide P tables depth_limit start main [] (identities P) in
-      as_faulted P tables (S program tables memory) (L program tables memory) (identities P) o k
-      (answer_is P tables (S program tables memory) (L program tables memory) o k (run P tables (S program tables memory) (depth_limit - 1) (look program tables memory ready) main [] []).outcome (main_from_scratch P tables ready.rules.reads (look program tables memory ready)) (ap first_fault (sym e) ∙ first_kept W X k h))
+      let o = elide P tables depth_limit start main [] (initial_values P) in
+      as_faulted P tables (S program tables memory) (L program tables memory) (initial_values P) o k
+      (answer_is P tables (S program tables memory) (L program tables memory) (begun P o) k (run P tables (S program tables memory) (depth_limit - 1) (look program tables memory ready) main [] []).outcome (trail_from_scratch P tables ready.rules.reads (look program tables memory ready)) (ap first_fault (sym e) ∙ first_kept W X k h))
 
   -- ---- the first strand
 

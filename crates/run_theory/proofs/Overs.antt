@@ -2,7 +2,7 @@
 use Rattle.std.proofs.Common.{Bool, true, false, None, ◌-◌, List, [], ◌∷◌, ◌++◌, append_assoc, append-nil, ℤ, pos, Ok, Err, ◌≡◌, inl, inr, refl, sym, ap, ap₂, ◌∙◌, subst}
 use Rattle.meaning.specs.Tables.{Tables}
 use Rattle.meaning.specs.Outcome.{Log, Accumulators, Fault, Outcome, Place, Leaves, Faults, combined, after}
-use Rattle.meaning.specs.Statements.{reducers, identities}
+use Rattle.meaning.specs.Statements.{reducers, identities, beginning, initial_values}
 use Rattle.meaning.specs.Elision.{Finished, Faulted, from_scratch, answer_of, main, start, elide, depth_limit}
 use Rattle.meaning.specs.Records.{Revised, with_kinds}
 use Rattle.meaning.specs.Trail.{Look, opening, inner, run_inside, runner, child_of, trail_at}
@@ -17,8 +17,8 @@ use Rattle.trail_theory.proofs.Advances.{ordered_at}
 use Rattle.trail_theory.proofs.Stepping.{noted_append}
 use Rattle.trail_theory.proofs.FirstFaults.{quiet_first, inside_none}
 use Rattle.trail_theory.specs.ElisionBeside.{first_fault, forgotten, Fits}
-use Rattle.trail_theory.proofs.MainElides.{main_from_scratch}
-use Rattle.trail_theory.proofs.Ends.{worth_of}
+use Rattle.trail_theory.proofs.MainElides.{begun, begun_after, trail_from_scratch}
+use Rattle.trail_theory.proofs.Ends.{worth_of, main_regroup}
 use Rattle.run_theory.specs.RightRuns.{front, Begins, Links, IsOver}
 use Rattle.strand_theory.specs.Faults.{BrokenAt}
 use Rattle.run_theory.specs.OverRuns.{HasFault, AreOver}
@@ -128,17 +128,17 @@ module _ (program : Revised) (tables : Tables) (memory : Memory) (ready : IsRead
   finish W X v f =
       let P = program.tree in
       let d = depth_limit - 1 in
-      let o = elide P tables depth_limit start main [] (identities P) in
+      let o = elide P tables depth_limit start main [] (initial_values P) in
       let ops = opening P look d main [] [] in
       let inside = run_inside P tables (S program tables memory) (runner P tables (S program tables memory) d (inner P look d main [])) d main [] [] in
-      let f' : (ops ++ inside.events) ++ Leaves [] inside.outcome ∷ [] ≡ T = append_assoc ops inside.events (Leaves [] inside.outcome ∷ []) in
-      let q = same_split [] W X (ops ++ inside.events) [] (Ok v) inside.outcome (ordered_at P tables (S program tables memory) (L program tables memory) _ f) (ordered_at P tables (S program tables memory) (L program tables memory) _ f') (f ∙ sym f') in
+      let f' : (beginning P ++ (ops ++ inside.events)) ++ Leaves [] inside.outcome ∷ [] ≡ T = main_regroup (beginning P) ops inside.events inside.outcome in
+      let q = same_split [] W X (beginning P ++ (ops ++ inside.events)) [] (Ok v) inside.outcome (ordered_at P tables (S program tables memory) (L program tables memory) _ f) (ordered_at P tables (S program tables memory) (L program tables memory) _ f') (f ∙ sym f') in
       let g : W ++ Leaves [] (Ok v) ∷ [] ≡ T = ap (λ b. W ++ Leaves [] (Ok v) ∷ b) (sym q.later) ∙ f in
-      let fits : Fits o T inside.outcome = main_from_scratch P tables ready.rules.reads look in
-      let z : o ≡ record { log = forgotten T; answer = Ok v } = (subst (λ w. Fits o T w) (sym q.value) fits).0 in
+      let fits : Fits (begun P o) T inside.outcome = trail_from_scratch P tables ready.rules.reads look in
+      let z : begun P o ≡ record { log = forgotten T; answer = Ok v } = (subst (λ w. Fits (begun P o) T w) (sym q.value) fits).0 in
       let n : notes P T ≡ notes P W = ap (notes P) (sym g) ∙ noted_append (blank P) W (Leaves [] (Ok v) ∷ []) in
-      ap (λ r. answer_of (identities P) (record { log = o.log; answer = r })) (ap (λ x. x.answer) z)
-      ∙ ap (Finished v) (ap (λ x. after x.log (identities P)) z ∙ worth_of (blank P) T ∙ ap (λ x. x.worth) n)
+      ap (λ r. answer_of (initial_values P) (record { log = o.log; answer = r })) (ap (λ x. x.answer) z)
+      ∙ ap (Finished v) (sym (begun_after P o) ∙ ap (λ x. after x.log (identities P)) z ∙ worth_of (blank P) T ∙ ap (λ x. x.worth) n)
 
   -- a fault behind what came before
   broke : (D : Log) (m : Start) (k : Fault) → HasCome D m → BrokenAt program.tree tables (S program tables memory) (L program tables memory) m k → from_scratch program.tree tables ≡ Faulted k

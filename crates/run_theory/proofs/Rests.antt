@@ -3,10 +3,10 @@ use Rattle.std.proofs.Common.{Bool, true, ◌-◌, ℕ, suc, List, [], ◌∷◌
 use Rattle.program_tree.specs.Plain.{Tree}
 use Rattle.meaning.specs.Tables.{Tables}
 use Rattle.meaning.specs.Outcome.{Log, Accumulators, Fault, Place, after, combined}
-use Rattle.meaning.specs.Statements.{proc_of, fresh, reducers, identities}
+use Rattle.meaning.specs.Statements.{proc_of, fresh, reducers, identities, beginning, initial_values}
 use Rattle.meaning.specs.Elision.{Answer, Finished, Faulted, answer_of, elide, from_scratch, main, start, depth_limit}
 use Rattle.meaning.specs.Records.{Revised, with_kinds}
-use Rattle.meaning.specs.Trail.{trail_at}
+use Rattle.meaning.specs.Trail.{run, trail_at}
 use Rattle.meaning.specs.SmallStep.{Start, Child, instance, half, Frame, Phase, entering, running, spawning, returning, leaving, broken, Parent, look_of, opened, Continuation}
 use Rattle.meaning.specs.Layers.{Notes, notes}
 use Rattle.meaning.specs.Rest.{then_on, blocks_left, child_left, entering_left, phase_left, parents_left, answered}
@@ -17,6 +17,7 @@ use Rattle.meaning.specs.Tallies.{Tally}
 use Rattle.meaning.specs.Schedules.{Memory, Piece, RunState, answer_by, answer_of_pieces, end_of}
 use Rattle.trail_theory.specs.Right.{stretch, RightAt}
 use Rattle.trail_theory.proofs.Joins.{one_layer}
+use Rattle.trail_theory.proofs.Ends.{first_worth}
 use Rattle.strand_theory.specs.Ready.{IsReady}
 use Rattle.run_theory.specs.Theorems.{IsRightNow, RestBegins, RestEnds}
 use Rattle.run_theory.proofs.Pieces.{ForSome, some_is}
@@ -42,13 +43,13 @@ module _ (program : Tree) (tables : Tables) where
       let o = elide program tables (suc left) start main [] acc in
       ap (answered program tables) (sym (instance_left program tables left main [] (depth_limit - left) (proc_of program main) acc)) ∙ answer_of_course o.answer o.log acc
 
-  -- main is left to do, from the identities on
-  main_left : answered program tables (then_on (phase_left program tables (opened program (depth_limit - 1) (instance main []) []) (entering (instance main [])) (identities program)) (parents_left program tables [])) ≡ from_scratch program tables
+  -- main is left to do, from the initial values on
+  main_left : answered program tables (then_on (phase_left program tables (opened program (depth_limit - 1) (instance main []) []) (entering (instance main [])) (initial_values program)) (parents_left program tables [])) ≡ from_scratch program tables
   unfolding from_scratch
   main_left =
-      ap (answered program tables) (then_pure (phase_left program tables (opened program (depth_limit - 1) (instance main []) []) (entering (instance main [])) (identities program))
-      ∙ opened_left (depth_limit - 1) (instance main []) [] (identities program))
-      ∙ whole_left (depth_limit - 1) (identities program)
+      ap (answered program tables) (then_pure (phase_left program tables (opened program (depth_limit - 1) (instance main []) []) (entering (instance main [])) (initial_values program))
+      ∙ opened_left (depth_limit - 1) (instance main []) [] (initial_values program))
+      ∙ whole_left (depth_limit - 1) (initial_values program)
 
 module _ (program : Revised) (tables : Tables) (memory : Memory) (ready : IsReady program tables memory) where
   -- the identities, and then a stretch of the trail
@@ -59,8 +60,8 @@ module _ (program : Revised) (tables : Tables) (memory : Memory) (ready : IsRead
   unfolding rest_of_run
   begins kits =
       let F = λ (acc : Accumulators). then_on (phase_left program.tree tables (opened program.tree (depth_limit - 1) (instance main []) []) (entering (instance main [])) acc) (parents_left program.tree tables []) in
-      ap (answered program.tree tables) (then_pure (F (times_layers program.tree tables (identities program.tree) (notes program.tree [] ∷ []))))
-      ∙ ap (λ acc. answered program.tree tables (F acc)) (unit_of [] (trail_at program.tree tables (S program tables memory) (look_of (L program tables memory))) refl)
+      ap (answered program.tree tables) (then_pure (F (times_layers program.tree tables (identities program.tree) (notes program.tree (beginning program.tree) ∷ []))))
+      ∙ ap (λ acc. answered program.tree tables (F acc)) (unit_of (beginning program.tree) (run program.tree tables (S program tables memory) (depth_limit - 1) (look_of (L program tables memory)) main [] []).events refl ∙ first_worth program.tree)
       ∙ main_left program.tree tables
 
   -- one layer, behind the identities

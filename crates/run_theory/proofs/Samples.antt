@@ -42,7 +42,10 @@ is_ready =
         };
       };
       monoids = (tt, tt);
-      numbers = each (λ p. FitsBody p.body) ((tt, tt), (tt, tt)) ((natural_fits 1 (omega arith), tt), ((natural_fits 2 (omega arith), tt), ((natural_fits 9 (omega arith), tt), (tt, ((tt, tt), tt))))) tt;
+      numbers = record {
+        bodies = each (λ p. FitsBody p.body) ((tt, tt), (tt, tt)) ((natural_fits 1 (omega arith), tt), ((natural_fits 2 (omega arith), tt), ((natural_fits 9 (omega arith), tt), (tt, ((tt, tt), tt))))) tt;
+        initials = (tt, tt);
+      };
       cells = λ t row c v e. cc;
       sound = tt;
     }

@@ -2,5 +2,6 @@ pub mod Searching
 pub mod Evaluating
 pub mod Forgetting
 pub mod Noted
+pub mod Initials
 pub mod Steps
 pub mod Scratch

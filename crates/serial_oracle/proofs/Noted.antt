@@ -15,7 +15,7 @@ use Rattle.monoid_laws.specs.Kinds.{meaning, operate, operate_all, element_of, n
 use Rattle.program_tree.specs.Plain.{Name, Red, Tree}
 use Rattle.meaning.specs.declared.FaultKind.TheVariants.{BadElement}
 use Rattle.meaning.specs.Outcome.{Log, after, updated, combined}
-use Rattle.meaning.specs.Statements.{numbered, reducers, identities, naming, updating}
+use Rattle.meaning.specs.Statements.{numbered, reducers, identities, beginning, initial_values, naming, updating}
 use Rattle.std.specs.Global.{Vec}
 use Rattle.meaning.specs.Records.{Kept, Key, with_kinds}
 use Rattle.serial_oracle.specs.declared.journal.Journal.{Journal}
@@ -24,7 +24,7 @@ use Rattle.serial_oracle.specs.Keeping.{tree_in, records_in, key_plain}
 use Rattle.serial_oracle.specs.Pieces.{by_record}
 use Rattle.serial_oracle.specs.declared.journal.Change.{Change}
 use Rattle.serial_oracle.specs.declared.journal.Change.TheVariants as c
-use Rattle.serial_oracle.specs.Worths.{kinds, noticed, change_log, reused_log, noted, combined_from, AreFit, summary, worths, outcome_of, updated_by}
+use Rattle.serial_oracle.specs.Worths.{kinds, noticed, change_log, reused_log, noted, noted_in, combined_from, AreFit, summary, worths, outcome_of, updated_by}
 use Rattle.monoid_laws.specs.Kinds as laws
 use Rattle.monoid_laws.proofs.Rows.{AreWorths-identities}
 use Rattle.meaning.specs.declared.FaultKind.{FaultKind}
@@ -74,7 +74,7 @@ kind_at program name n kind h =
     let e : n - 0 ≡ n = omega arith in
     subst (λ m. slice_get (kinds program) m ≡ Some kind) e p.1
 
-noted-append : (program : Tree) (records : List Kept) (us : List Change) (u : Change) → noted program records (us ++ (u ∷ [])) ≡ noted program records us ++ (change_log program records u ++ [])
+pub noted-append : (program : Tree) (records : List Kept) (us : List Change) (u : Change) → noted program records (us ++ (u ∷ [])) ≡ noted program records us ++ (change_log program records u ++ [])
 noted-append program records [] u = refl
 noted-append program records (v ∷ us) u = ap (λ l. change_log program records v ++ l) (noted-append program records us u) ∙ sym (append_assoc (change_log program records v) (noted program records us) (change_log program records u ++ []))
 
@@ -176,8 +176,8 @@ worths_is : (program : Tree) (records : List Kept) (us : List Change) → worths
 unfolding worths
 worths_is program records us = refl
 
-pub worths_none : (program : Tree) (records : List Kept) → worths program records [] ≡ identities program
-worths_none program records = worths_is program records []
+pub worths_initial : (scope : Scope) (us : List Change) → noted_in scope us ≡ beginning (tree_in scope) → worths (tree_in scope) (records_in scope) us ≡ initial_values (tree_in scope)
+worths_initial scope us h = worths_is (tree_in scope) (records_in scope) us ∙ ap (λ l. after l (identities (tree_in scope))) h
 
 pub worths_begin : (program : Tree) (records : List Kept) (us : List Change) (ws : List Worth) → ws ≡ laws.identities (kinds program)
     → (worths program records us ≡ after (noted program records us) ws) × AreWorths (kinds program) ws
@@ -326,12 +326,12 @@ record_answers scope old new place k key h ch re ex =
     ∙ ap (λ e. (Ok k.value, standing_of (worths (tree_in scope) (records_in scope) new.changes.items) (map key_plain e.items) (map key_plain old.reused.items ++ (key ∷ [])))) (sym ex)
     ∙ ap (λ r. (Ok k.value, standing_of (worths (tree_in scope) (records_in scope) new.changes.items) (map key_plain new.executed.items) r)) (sym re)
 
-pub standing_begin : (scope : Scope) (j : Journal) → j.changes.items ≡ [] → j.executed.items ≡ [] → j.reused.items ≡ []
-    → summary scope j ≡ record { worths = identities (tree_in scope); executed = []; reused = [] }
+pub standing_begin : (scope : Scope) (j : Journal) → noted_in scope j.changes.items ≡ beginning (tree_in scope) → j.executed.items ≡ [] → j.reused.items ≡ []
+    → summary scope j ≡ record { worths = initial_values (tree_in scope); executed = []; reused = [] }
 standing_begin scope j ch ex re =
-    ap (λ a. standing_of a (map key_plain j.executed.items) (map key_plain j.reused.items)) (ap (worths (tree_in scope) (records_in scope)) ch ∙ worths_none (tree_in scope) (records_in scope))
-    ∙ ap (λ e. standing_of (identities (tree_in scope)) (map key_plain e) (map key_plain j.reused.items)) ex
-    ∙ ap (λ r. standing_of (identities (tree_in scope)) [] (map key_plain r)) re
+    ap (λ a. standing_of a (map key_plain j.executed.items) (map key_plain j.reused.items)) (worths_initial scope j.changes.items ch)
+    ∙ ap (λ e. standing_of (initial_values (tree_in scope)) (map key_plain e) (map key_plain j.reused.items)) ex
+    ∙ ap (λ r. standing_of (initial_values (tree_in scope)) [] (map key_plain r)) re
 
 pub fit_all : (program : Tree) (ks : List Kind) (records : List Kept) → ks ≡ kinds program → All (λ k. AreWorths ks k.contribution) records → AreFit program records
 unfolding AreFit

@@ -6,7 +6,7 @@ use Rattle.std.specs.Result.{IfOk}
 use Rattle.program_tree.specs.Plain.{Tree}
 use Rattle.meaning.specs.Tables.{Tables}
 use Rattle.meaning.specs.Outcome.{Log, Reads, Enters, Updates, Reuses, Begins, Syncs, Leaves, Faults, Marks, Spawns, Fault, updated}
-use Rattle.meaning.specs.Statements.{identities, procedure_of, found}
+use Rattle.meaning.specs.Statements.{initial_values, procedure_of, found}
 use Rattle.meaning.specs.Elision.{Enter, Answer, Finished, Faulted, elide, instance, depth_limit, start, main, from_scratch, answer_of}
 use Rattle.meaning.specs.Records.{Key, Kept, Revised, needing, needed, answered, executed, reused, is_memo}
 use Rattle.serial_oracle.specs.declared.answer.Answer as code
@@ -62,27 +62,27 @@ answer_is : (program : Tree) (log : Log) (r : Result ℤ Fault) (now : Summary) 
 answer_is program log (Ok v) now = ap (Finished v) (sym (through_worths program log now))
 answer_is program log (Err e) now = refl
 
-module _ (revised : Revised) (tables : Tables) (records : List Kept) (now : Summary) (nothing_yet : now ≡ record { worths = identities revised.tree; executed = []; reused = [] }) where
+module _ (revised : Revised) (tables : Tables) (records : List Kept) (now : Summary) (nothing_yet : now ≡ record { worths = initial_values revised.tree; executed = []; reused = [] }) where
   abbrev ended : Result ℤ Fault × Summary
   ended = results revised.tree (needing revised tables records depth_limit start main []) now
 
   answers : needed_answer revised tables records ≡ as_answer ended
   answers =
-      let o = needing revised tables records depth_limit start main [] (identities revised.tree) in
-      answer_is revised.tree o.log o.answer (record { worths = identities revised.tree; executed = []; reused = [] })
+      let o = needing revised tables records depth_limit start main [] (initial_values revised.tree) in
+      answer_is revised.tree o.log o.answer (record { worths = initial_values revised.tree; executed = []; reused = [] })
       ∙ ap (λ s. as_answer (results revised.tree (needing revised tables records depth_limit start main []) s)) (sym nothing_yet)
 
   pub executes : (later : Summary) (r : Result ℤ Fault) → ended ≡ (r, later) → later.executed ≡ executed revised.tree (needed revised tables records)
   executes later r h =
       ap (λ x. x.1.executed) (sym h)
       ∙ ap (λ s. (results revised.tree (needing revised tables records depth_limit start main []) s).1.executed) nothing_yet
-      ∙ through_executed revised.tree (needing revised tables records depth_limit start main [] (identities revised.tree)).log (record { worths = identities revised.tree; executed = []; reused = [] })
+      ∙ through_executed revised.tree (needing revised tables records depth_limit start main [] (initial_values revised.tree)).log (record { worths = initial_values revised.tree; executed = []; reused = [] })
 
   pub reuses : (later : Summary) (r : Result ℤ Fault) → ended ≡ (r, later) → later.reused ≡ reused (needed revised tables records)
   reuses later r h =
       ap (λ x. x.1.reused) (sym h)
       ∙ ap (λ s. (results revised.tree (needing revised tables records depth_limit start main []) s).1.reused) nothing_yet
-      ∙ through_reused revised.tree (needing revised tables records depth_limit start main [] (identities revised.tree)).log (record { worths = identities revised.tree; executed = []; reused = [] })
+      ∙ through_reused revised.tree (needing revised tables records depth_limit start main [] (initial_values revised.tree)).log (record { worths = initial_values revised.tree; executed = []; reused = [] })
 
   pub finishes : (v : ℤ) (later : Summary) (r : Result code.Answer NoMemory) → ended ≡ (Ok v, later)
       → IfOk r (λ a. answer_plain a ≡ finish v later.worths) → IfOk r (λ a. answer_plain a ≡ needed_answer revised tables records)
@@ -127,7 +127,7 @@ needing_none revised tables (suc left) =
 pub needed_none : (revised : Revised) (tables : Tables) → needed_answer revised tables [] ≡ from_scratch revised.tree tables
 unfolding from_scratch
 needed_none revised tables =
-    ap (λ (enters : Enter). answer_of (identities revised.tree) (enters start main [] (identities revised.tree))) (needing_none revised tables depth_limit)
+    ap (λ (enters : Enter). answer_of (initial_values revised.tree) (enters start main [] (initial_values revised.tree))) (needing_none revised tables depth_limit)
 
 pub from_none : (revised : Revised) (tables : Tables) (r : Result code.Answer NoMemory) → IfOk r (λ a. answer_plain a ≡ needed_answer revised tables []) → IfOk r (λ a. answer_plain a ≡ from_scratch revised.tree tables)
 from_none revised tables (Ok a) h = h ∙ needed_none revised tables

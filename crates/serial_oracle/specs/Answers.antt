@@ -3,7 +3,7 @@ use Rattle.std.specs.Prelude.{◌≡◌, ℤ, List, [], map, Result, Ok, Err}
 use Rattle.monoid_laws.specs.Kinds.{meaning}
 use Rattle.meaning.specs.Outcome.{Accumulators}
 use Rattle.meaning.specs.Tables.{Tables}
-use Rattle.meaning.specs.Statements.{identities}
+use Rattle.meaning.specs.Statements.{initial_values}
 use Rattle.meaning.specs.Records.{Revised, Kept, needing}
 use Rattle.meaning.specs.Elision as elision
 use Rattle.serial_oracle.specs.declared.answer.Answer.{Answer}
@@ -28,4 +28,4 @@ IsHalted _ _ = ⊥
 
 -- the answer of a run in which valid records answer memo instances
 abbrev pub needed_answer : Revised → Tables → List Kept → elision.Answer
-needed_answer program tables records = elision.answer_of (identities program.tree) (needing program tables records elision.depth_limit elision.start elision.main [] (identities program.tree))
+needed_answer program tables records = elision.answer_of (initial_values program.tree) (needing program tables records elision.depth_limit elision.start elision.main [] (initial_values program.tree))

@@ -6,7 +6,7 @@ use Rattle.monoid_laws.specs.declared.Kind.TheVariants as k
 use Rattle.monoid_laws.specs.Worth.{Worth}
 use Rattle.monoid_laws.specs.Kinds.{names_element, AreWorths, operate_all}
 use Rattle.program_tree.specs.Plain.{Name, Red, Tree}
-use Rattle.meaning.specs.Statements.{reducers, identities, naming, numbered, updating}
+use Rattle.meaning.specs.Statements.{reducers, identities, naming, numbered, updating, updates_by}
 use Rattle.meaning.specs.Outcome.{Accumulators, Log, Reuses, Out, after}
 use Rattle.meaning.specs.Records.{Kept, with_kinds}
 use Rattle.serial_oracle.specs.declared.journal.Change.{Change}
@@ -36,6 +36,20 @@ change_log program records (c.Reused n) = reused_log (reducers program) (slice_g
 abbrev pub noted : Tree → List Kept → List Change → Log
 noted program records [] = []
 noted program records (c ∷ cs) = change_log program records c ++ noted program records cs
+
+-- the same in a scope
+abbrev pub noted_in : Scope → List Change → Log
+noted_in s changes = noted (tree_in s) (records_in s) changes
+
+-- the updates of the n-th reducer, of this kind, by the numbers of elements
+abbrev pub grouped : Option Kind → ℕ → List (List ℤ) → Log
+grouped None n groups = []
+grouped (Some kind) n groups = updates_by n kind groups
+
+-- numbers behind one that waits for its second
+abbrev pub waiting : Option ℤ → List ℤ → List ℤ
+waiting None vs = vs
+waiting (Some v) vs = v ∷ vs
 
 unfoldable pub worths : Tree → List Kept → List Change → Accumulators
 worths program records cs = after (noted program records cs) (identities program)

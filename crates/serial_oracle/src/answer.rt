@@ -1,13 +1,15 @@
 //! The answer of a program from scratch.
 ghost use Rattle.std.specs.Prelude.{◌≡◌, ℤ, map, length, IfOk, []};
 ghost use Rattle.program_tree.specs.View.{tree};
+ghost use Rattle.meaning.specs.Statements.{beginning};
 ghost use Rattle.meaning.specs.Elision.{from_scratch as from_scratch_of};
 ghost use Rattle.meaning.specs.Records.{executed, reused, needed};
 ghost use Rattle.serial_oracle.specs.Listing.{tables_plain};
 ghost use Rattle.serial_oracle.specs.Keeping.{key_plain, kept, revised, tree_in, revised_in, tables_in, records_in};
-ghost use Rattle.serial_oracle.specs.Worths.{worths, AreFit};
+ghost use Rattle.serial_oracle.specs.Worths.{worths, noted_in, AreFit};
 ghost use Rattle.serial_oracle.specs.Answers.{answer_plain, finish, IsHalted, needed_answer};
 
+use crate::beginning::initial_changes;
 use crate::journal::{Change, Journal, Key, begun};
 use crate::records::{Record, Revisions};
 use crate::run::enter;
@@ -56,13 +58,13 @@ fn halted(stop: Stop<'_>) -> Result<Answer<'_>, NoMemory>
     }
 }
 
-/// Runs main, and gives its answer.
+/// Runs main behind the initial values of the reducers, and gives its answer.
 fn run_main<'p, 's>(
     scope: &Scope<'p, 's>,
     journal: &mut Journal<'p>,
 ) -> Result<Answer<'p>, NoMemory>
     requires fit { AreFit (tree_in scope.now) (records_in scope.now) }
-    requires changes { journal.old.changes.items ≡ [] }
+    requires changes { noted_in scope.now journal.old.changes.items ≡ beginning (tree_in scope.now) }
     requires no_executed { journal.old.executed.items ≡ [] }
     requires no_reused { journal.old.reused.items ≡ [] }
     ensures answer { IfOk result (λ a. answer_plain a ≡ needed_answer (revised_in scope.now) (tables_in scope.now) (records_in scope.now)) }
@@ -101,14 +103,19 @@ pub fn needed_instances<'p>(
         tables,
         records,
     };
-    let mut journal = begun(alloc);
-    match run_main(&scope, &mut journal) {
-        Err(stop) => Err(stop),
-        Ok(answer) => Ok(Rerun {
-            answer,
-            executed: journal.executed,
-            reused: journal.reused,
-        }),
+    match initial_changes(&scope) {
+        Err(_) => Err(NoMemory),
+        Ok(changes) => {
+            let mut journal = begun(alloc, changes);
+            match run_main(&scope, &mut journal) {
+                Err(stop) => Err(stop),
+                Ok(answer) => Ok(Rerun {
+                    answer,
+                    executed: journal.executed,
+                    reused: journal.reused,
+                }),
+            }
+        }
     }
 }
 
@@ -132,6 +139,11 @@ pub fn from_scratch<'p>(
         tables,
         records: &[],
     };
-    let mut journal = begun(alloc);
-    run_main(&scope, &mut journal)
+    match initial_changes(&scope) {
+        Err(_) => Err(NoMemory),
+        Ok(changes) => {
+            let mut journal = begun(alloc, changes);
+            run_main(&scope, &mut journal)
+        }
+    }
 }

@@ -27,14 +27,14 @@ pub struct Journal<'p> {
     pub reused: Vec<Key<'p>>,
 }
 
-/// A journal of nothing.
-pub fn begun<'p>(alloc: Global) -> Journal<'p>
-    ensures changes { result.changes.items ≡ [] }
+/// A journal of these changes, and of no memo instances.
+pub fn begun<'p>(alloc: Global, changes: Vec<Change>) -> Journal<'p>
+    ensures changes { result.changes ≡ changes }
     ensures executed { result.executed.items ≡ [] }
     ensures reused { result.reused.items ≡ [] }
 {
     Journal {
-        changes: Vec::new(alloc),
+        changes,
         executed: Vec::new(alloc),
         reused: Vec::new(alloc),
     }

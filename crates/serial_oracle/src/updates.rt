@@ -65,7 +65,7 @@ fn is_list_kind(kind: Kind) -> bool
 }
 
 /// Whether two numbers name an element of the kind.
-fn is_pair_kind(kind: Kind) -> bool
+pub fn is_pair_kind(kind: Kind) -> bool
     ensures { result ≡ is_paired kind }
 {
     match kind {

@@ -1,14 +1,17 @@
 //! The rules of reducers and of procedures' heads.
-ghost use Rattle.std.specs.Prelude.{◌≡◌, map, string_bytes, take};
+ghost use Rattle.std.specs.Prelude.{◌≡◌, ◌∷◌, [], map, string_bytes, take};
+ghost use Rattle.monoid_laws.specs.declared.Kind.TheVariants as k;
+ghost use Rattle.monoid_laws.specs.Kinds.{names_element};
 ghost use Rattle.program_tree.specs.View.{decl, red, proc};
 ghost use Rattle.linked_program.specs.Monoids.{says_monoid, is_monoid_kind};
+ghost use Rattle.linked_program.specs.Initials.{all_elements, are_elements, is_initial};
 ghost use Rattle.linked_program.specs.Declarations.{repeats, reducer_rules, main_rules, procedure_rules};
 ghost use Rattle.linked_program.specs.Violations.{noted, at};
 
-use crate::names::{has_name, kind_of, parameters_of};
+use crate::names::{arity, has_name, kind_of, parameters_of};
 use crate::place::{Place, note_if};
 use linked_program::violation::{Rule, Violation};
-use monoid_laws::{Kind, TableAnswer};
+use monoid_laws::{Kind, Table, TableAnswer};
 use program_tree::{Declaration, Procedure, Reducer};
 use reducer_values::check_table;
 
@@ -44,6 +47,42 @@ fn is_monoid(kind: &Kind) -> bool
     }
 }
 
+fn is_element(table: &Table, number: i64) -> bool
+    ensures { result ≡ names_element (k.Table table.now) (number ∷ []) }
+{
+    number >= 0 && number < table.size as i64
+}
+
+// Whether each number is one of the table's elements.
+fn all_elements(table: &Table, numbers: &[i64]) -> bool
+    ensures { result ≡ all_elements table.now numbers.now }
+{
+    for number in numbers {
+        if !is_element(table, *number) {
+            return false;
+        }
+    }
+    true
+}
+
+// Whether each number is an element, where it is a table's kind.
+fn are_elements(kind: &Kind, numbers: &[i64]) -> bool
+    ensures { result ≡ are_elements kind.now numbers.now }
+{
+    match kind {
+        Kind::Table(table) => all_elements(table, numbers),
+        _ => true,
+    }
+}
+
+// Whether a reducer of that kind may begin with these numbers.
+#[tactic(auto, using(crate::proofs::Noting::arity_some))]
+fn is_initial(kind: &Kind, numbers: &[i64]) -> bool
+    ensures { result ≡ is_initial kind.now numbers.now }
+{
+    numbers.len() % arity(kind) == 0 && are_elements(kind, numbers)
+}
+
 /// The first violation so far or that of a reducer after these declarations.
 #[tactic(auto, using(crate::proofs::Noting::noted_more))]
 pub fn note_reducer(
@@ -56,7 +95,9 @@ pub fn note_reducer(
 {
     let is_second = kind_of(before, reducer.name.as_str()).is_some();
     let first = note_if(first, is_second, place, Rule::Twice);
-    note_if(first, !is_monoid(&reducer.kind), place, Rule::Monoid)
+    let first = note_if(first, !is_monoid(&reducer.kind), place, Rule::Monoid);
+    let begins = is_initial(&reducer.kind, &reducer.initial);
+    note_if(first, !begins, place, Rule::Initial)
 }
 
 // The first violation so far, or that of a `main` that is recorded or has parameters.

@@ -52,14 +52,15 @@ written_back (k.Table t) (k.Table u) h =
 written_back (k.Table t) b h = sym (ap (λ w. unwritten w (k.Table t)) (sym h))
 written_back a b h = ap (λ w. unwritten w b) h ∙ unwritten_back b
 
-same_reducer : (r q : Red) → r.called ≡ q.called → r.kind ≡ q.kind → r ≡ q
-same_reducer r q e f = λ i. record { called = e i; kind = f i }
+same_reducer : (r q : Red) → r.called ≡ q.called → r.kind ≡ q.kind → r.initial ≡ q.initial → r ≡ q
+same_reducer r q e f g = λ i. record { called = e i; kind = f i; initial = g i }
 
 declaration_back : (d e : plain.Decl) → lowered_decl d ≡ lowered_decl e → d ≡ e
 declaration_back (plain.reducer r) (plain.reducer q) h =
     let a : r.called ≡ q.called = cc in
     let b : written r.kind ≡ written q.kind = cc in
-    ap plain.reducer (same_reducer r q a (written_back r.kind q.kind b))
+    let c : r.initial ≡ q.initial = cc in
+    ap plain.reducer (same_reducer r q a (written_back r.kind q.kind b) c)
 declaration_back (plain.procedure p) (plain.procedure q) h = let e : p ≡ q = cc in ap plain.procedure e
 declaration_back _ _ h = absurd cc
 

@@ -1,5 +1,5 @@
 -- From a source tree to the tree of a program: variables become numbers, statements are numbered, blocks are laid out.
-use Rattle.std.specs.Prelude.{ℕ, suc, ◌+◌, ◌≤◌, List, [], ◌∷◌, ◌++◌, length, map, Option, Some, None, bytes_eq, if◌then◌else◌, Bool}
+use Rattle.std.specs.Prelude.{ℕ, ℤ, suc, ◌+◌, ◌≤◌, List, [], ◌∷◌, ◌++◌, length, map, Option, Some, None, bytes_eq, if◌then◌else◌, Bool}
 use Rattle.std.specs.Option.{option_map}
 use Rattle.token_scanner.specs.Words.{for_some}
 use Rattle.program_tree.specs.Plain.{Name, Term, number, name, cell, has, limit, sum, negate, binary, Deed, bind, enter, read, sync, update, choose, loop, give, Body, end, step, Proc, Tree}
@@ -81,11 +81,11 @@ abbrev mutual
 
 -- a declaration of a program's tree, with a reducer's kind as it is written
 pub data Lowered : Type 0 where
-  reducer : Name → WrittenKind → Lowered
+  reducer : Name → WrittenKind → List ℤ → Lowered
   procedure : Proc → Lowered
 
 abbrev pub lowered_decl : plain.Decl → Lowered
-lowered_decl (plain.reducer r) = reducer r.called (written r.kind)
+lowered_decl (plain.reducer r) = reducer r.called (written r.kind) r.initial
 lowered_decl (plain.procedure p) = procedure p
 
 -- a program's tree so
@@ -98,7 +98,7 @@ lower_proc memo f xs ss =
     record { called = f; memo = memo; parameters = length xs; names = done.0.0; body = done.1 }
 
 abbrev pub lower_decl : Decl → Lowered
-lower_decl (Reduces l x k) = reducer x k
+lower_decl (Reduces l x k vs) = reducer x k vs
 lower_decl (Defines l m f xs ss) = procedure (lower_proc m f xs ss)
 
 abbrev pub lowered : Source → List Lowered
@@ -146,7 +146,7 @@ abbrev pub body_lines : Stmts → List (ℕ × ℕ)
 body_lines ss = own_lines 0 ss ++ inside_lines 0 ss
 
 abbrev pub lined_decl : Decl → Lined
-lined_decl (Reduces l x k) = record { line = l; statements = [] }
+lined_decl (Reduces l x k vs) = record { line = l; statements = [] }
 lined_decl (Defines l m f xs ss) = record { line = l; statements = body_lines (stmts_of ss) }
 
 abbrev pub lines_of : Source → List Lined
@@ -154,7 +154,7 @@ lines_of ds = map lined_decl ds
 
 -- how many statements a declaration has
 abbrev pub body_len : Decl → ℕ
-body_len (Reduces l x k) = 0
+body_len (Reduces l x k vs) = 0
 body_len (Defines l m f xs ss) = count_all (stmts_of ss)
 
 -- no procedure has more statements

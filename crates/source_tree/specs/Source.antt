@@ -43,9 +43,9 @@ mutual
     none : Stmts
     some : Stmt → Stmts → Stmts
 
--- a declaration, with its line: a reducer; a procedure, whether it is marked memo, with its parameters and its body
+-- a declaration, with its line: a reducer, with the numbers of its initial value; a procedure, whether it is marked memo, with its parameters and its body
 pub data Decl : Type 0 where
-  Reduces : ℕ → Name → WrittenKind → Decl
+  Reduces : ℕ → Name → WrittenKind → List ℤ → Decl
   Defines : ℕ → Bool → Name → List Name → List Stmt → Decl
 
 abbrev pub Source : Type 0
@@ -103,7 +103,7 @@ abbrev pub option_text : Option (String Global) → Option Name
 option_text x = option_map string_bytes x
 
 abbrev pub decl : Declaration → Decl
-decl (declaration.Reducer r) = Reduces r.line (string_bytes r.name) (written r.kind)
+decl (declaration.Reducer r) = Reduces r.line (string_bytes r.name) (written r.kind) r.initial.items
 decl (declaration.Procedure p) = Defines p.line p.memo (string_bytes p.name) (texts p.parameters.items) (stmts p.body.items)
 
 abbrev pub source : List Declaration → Source

@@ -58,12 +58,13 @@ pub fn line_of(statement: &Statement) -> u32
     }
 }
 
-/// A reducer, with the line of its first token.
+/// A reducer, with the line of its first token and the numbers of its initial value.
 #[derive(Drop)]
 pub struct Reducer {
     pub line: u32,
     pub name: String,
     pub kind: Kind,
+    pub initial: Vec<i64>,
 }
 
 /// A procedure, with the line of its first token.

@@ -1,6 +1,7 @@
 -- Each step of a run of numbers is that of the definitions' run that it stands for, and a refusal is where there is none.
 use Rattle.std.proofs.Common.{◌≡◌, inl, inr, ℕ, Bool, true, false, not, ◌&&◌, List, [], ◌∷◌, ◌++◌, map, length, Option, Some, None, Result, Ok, Err, refl, sym, ◌∙◌, ap, subst}
 use Rattle.program_tree.specs.Plain.{Tree}
+use Rattle.meaning.specs.Statements.{beginning}
 use Rattle.meaning.specs.Trail.{sight_of}
 use Rattle.meaning.specs.Tallies.{valid_record}
 use Rattle.meaning.specs.Strands.{holds_by, done, waits}
@@ -13,6 +14,7 @@ use Rattle.run_theory.proofs.Neighbours.{neighbours_join}
 use Rattle.run_theory.proofs.UnflaggedRuns.{unflagged_one, folded_quiet}
 use Rattle.run_theory.proofs.FlagsTold.{runs_by_length}
 use Rattle.linked_program.specs.Linked.{main_number}
+use Rattle.linked_program.specs.Initials.{PlainInitial, AreUpdatesBy}
 use Rattle.positions.specs.Setting.{Setting, IsLinked}
 use Rattle.positions.proofs.Moves.{first_is}
 use Rattle.numbered_runs.specs.declared.refusal.Refusal.{Refusal}
@@ -172,11 +174,12 @@ module _ (setting : Setting) where
         let o = after_step setting.program setting.tables setting.memory x e in
         no_step f o (subst (λ u. RunAgrees setting u (unflagged_after o)) is (run_agrees s x r h e))
 
-  pub first_agrees : IsLinked setting → (entry kits : ℕ) → entry ≡ main_number t → IsFirstOf setting kits (first_run setting.codes setting.kinds entry kits)
-  first_agrees linked entry kits e = (
+  pub first_agrees : IsLinked setting → (initials : List PlainInitial) → AreUpdatesBy setting.kinds initials (beginning t) → (entry kits : ℕ) → entry ≡ main_number t
+      → IsFirstOf setting kits (first_run setting.codes setting.kinds initials entry kits)
+  first_agrees linked initials updates entry kits e = (
     record { kits = kits; steps = []; is = refl },
     record {
-      pieces = record { strand = first_is setting linked entry e; layered = refl; tasks = tt; state = refl; laid = tt };
+      pieces = record { strand = first_is setting linked initials updates entry e; layered = refl; tasks = tt; state = refl; laid = tt };
       kits = refl;
       history = refl;
     },

@@ -7,6 +7,7 @@ use Rattle.meaning.specs.SmallStep.{same_name}
 use Rattle.meaning.specs.Strands.{Held, BookStep, Fold, Line}
 use Rattle.meaning.specs.Schedules.{RunStep, work, push, inline, pop, stall, steal, fold}
 use Rattle.linked_program.specs.declared.code.Code.{Code}
+use Rattle.linked_program.specs.Initials.{PlainInitial}
 use Rattle.positions.specs.Setting.{Setting}
 use Rattle.positions.specs.Moves.{first_strand}
 use Rattle.stepped_runs.specs.Pieces.{PlainPiece, Change, place_of, is_held_by, pushed, inlined, popped, may_fold, folded, worked, stalled, stolen_from}
@@ -23,9 +24,9 @@ abbrev pub line_of : PlainPiece → Line
 line_of p = (place_of p, p.state)
 
 -- main's strand is held by worker 0, and its kit is taken
-abbrev pub first_run : List Code → List Kind → ℕ → ℕ → PlainRun
-first_run codes kinds main kits = record {
-  pieces = record { strand = first_strand codes kinds main; deque = []; state = Held 0 } ∷ [];
+abbrev pub first_run : List Code → List Kind → List PlainInitial → ℕ → ℕ → PlainRun
+first_run codes kinds initials main kits = record {
+  pieces = record { strand = first_strand codes kinds initials main; deque = []; state = Held 0 } ∷ [];
   kits = kits - 1;
   history = [];
 }

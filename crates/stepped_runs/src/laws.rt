@@ -6,11 +6,13 @@ ghost use Rattle.meaning.specs.Tables.{Tables};
 ghost use Rattle.meaning.specs.Elision.{Answer, Finished, from_scratch};
 ghost use Rattle.meaning.specs.Records.{Revised};
 ghost use Rattle.meaning.specs.Schedules.{RunStep, RunState, end_of};
+ghost use Rattle.meaning.specs.Statements.{beginning};
 ghost use Rattle.trail_theory.specs.Typed.{TablesFit};
 ghost use Rattle.strand_theory.specs.Ready.{IsReady};
 ghost use Rattle.linked_program.specs.declared.code.Code.{Code};
 ghost use Rattle.linked_program.specs.TableNames.{Columned, columned_of};
 ghost use Rattle.linked_program.specs.Linked.{main_number};
+ghost use Rattle.linked_program.specs.Initials.{PlainInitial, AreUpdatesBy};
 ghost use Rattle.rerun_records.specs.Commits.{put_records};
 ghost use Rattle.positions.specs.Setting.{Setting, IsLinked};
 ghost use Rattle.positions.specs.Tallies.{PlainTally};
@@ -26,16 +28,20 @@ ghost use Rattle.numbered_runs.specs.News.{HasCounted, HaveNews, AreSound, AreSo
 ghost use Rattle.stepped_runs.specs.Simulation.{IsPrepared, IsReached, IsStepOf, IsNoStepOf, IsFirstOf};
 
 /// A step that is taken by numbers is the definitions' step, a refused one is none of theirs, and the run begins as theirs does:
-/// for a program and tables that were checked, the program's codes and kinds, and records that stand for sound ones.
+/// for a program and tables that were checked, the program's codes, kinds and initial values, and records that stand for sound
+/// ones.
 pub fn steps_are_the_definitions()
     ensures step { (setting : Setting) → IsPrepared setting → (s t : PlainRun) (e : RunStep)
         → stepped setting s e ≡ Ok t → IsStepOf setting e s t }
     ensures refusal { (setting : Setting) → IsPrepared setting
         → (s : PlainRun) (e : RunStep) (f : Refusal)
         → stepped setting s e ≡ Err f → IsNoStepOf setting e s }
-    ensures first { (setting : Setting) → IsLinked setting → (main kits : ℕ)
-        → main ≡ main_number setting.program.tree
-        → IsFirstOf setting kits (first_run setting.codes setting.kinds main kits) }
+    ensures first { (setting : Setting) → IsLinked setting
+        → (initials : List PlainInitial)
+        → AreUpdatesBy setting.kinds initials (beginning setting.program.tree)
+        → (main kits : ℕ) → main ≡ main_number setting.program.tree
+        → IsFirstOf setting kits
+        (first_run setting.codes setting.kinds initials main kits) }
 {}
 
 /// A run stands for the same run of the definitions after a fold that memory was refused for.
@@ -70,8 +76,9 @@ pub fn histories_are_legal()
 
 /// The strands of a run are held by its workers, after each step by them and after a fold that memory was refused for.
 pub fn strands_stay_with_workers()
-    ensures first { (codes : List Code) (kinds : List Kind) (main kits n : ℕ) → 0 < n
-        → AreByWorkers n (first_run codes kinds main kits).pieces }
+    ensures first { (codes : List Code) (kinds : List Kind) (initials : List PlainInitial)
+        (main kits n : ℕ) → 0 < n
+        → AreByWorkers n (first_run codes kinds initials main kits).pieces }
     ensures step { (setting : Setting) (n : ℕ) (s t : PlainRun) (e : RunStep)
         → are_workers n e ≡ true → stepped setting s e ≡ Ok t → AreByWorkers n s.pieces
         → AreByWorkers n t.pieces }

@@ -1,3 +1,4 @@
 pub mod Folding
+pub mod Initials
 pub mod Results
 pub mod Settling

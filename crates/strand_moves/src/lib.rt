@@ -1,6 +1,7 @@
 //! What is done to a strand between its small steps: it begins, parts are taken out and put back, two become one, and it ends.
 #![tactic(auto)]
 
+mod beginning;
 pub mod ending;
 pub mod joining;
 pub mod moves;

@@ -1,11 +1,13 @@
 //! Strands that begin, and what is taken out of a strand and put back.
-ghost use Rattle.std.specs.Prelude.{◌≡◌, ◌∷◌, [], IfOk, IfErr};
+ghost use Rattle.std.specs.Prelude.{◌≡◌, ◌∷◌, [], IfOk, IfErr, length};
 ghost use Rattle.std.specs.List.{list_any};
 ghost use Rattle.evaluation.specs.Slots.{slots_for};
 ghost use Rattle.positions.specs.Code.{may_record};
 ghost use Rattle.positions.specs.Advance.{next_statement};
+ghost use Rattle.positions.specs.Layers.{blank, begun};
 ghost use Rattle.positions.specs.Moves.{first_strand, stolen, stolen_with, inlined, detached, attached, returned_of, resumed, is_update_there, at_update};
 
+use crate::beginning::begin;
 use crate::task::Task;
 use activations::activation::Activation;
 use activations::spares::Spares;
@@ -59,13 +61,37 @@ fn is_recorded(code: &Code) -> bool
     code.memo
 }
 
+/// The layer of a run's first strand, with the program's initial values; refused for want of memory alone, and then the kit is
+/// handed back.
+fn first_layer<V: View>(
+    alloc: Global,
+    program: &Checked,
+    kit: Kit<V>,
+) -> Result<Layer<V>, (AllocError, Kit<V>)>
+    requires kinds { kit ≡ program.now.kinds }
+    ensures begun { IfOk result (λ layer. layer ≡ begun kit program.now.initials (blank (may_record program.now.codes) kit (length program.now.codes))) }
+    ensures kinds { IfOk result (λ layer. layer.kinds ≡ kit) }
+    ensures handed_back { IfErr result (λ e. e.1 ≡ kit) }
+{
+    let mut layer = match Layer::open(alloc, kit, may_record(program), program.codes().len()) {
+        Ok(layer) => layer,
+        Err(refused) => return Err(refused),
+    };
+    if begin(&mut layer, program).is_err() {
+        return Err((AllocError, layer.close()));
+    }
+    Ok(layer)
+}
+
 /// The strand of a run's beginning, in which `main` is to be entered; refused for want of memory alone, and then the kit is handed back.
 pub fn first<V: View>(
     alloc: Global,
     program: &Checked,
     kit: Kit<V>,
 ) -> Result<Machine<V>, (AllocError, Kit<V>)>
-    ensures first { IfOk result (λ machine. machine ≡ first_strand program.now.codes kit program.now.main) }
+    requires kinds { kit ≡ program.now.kinds }
+    ensures first { IfOk result (λ machine. machine ≡ first_strand program.now.codes kit program.now.initials program.now.main) }
+    ensures kinds { IfOk result (λ machine. machine.layer.kinds ≡ kit) }
     ensures handed_back { IfErr result (λ e. e.1 ≡ kit) }
 {
     let main = program.main();
@@ -73,7 +99,7 @@ pub fn first<V: View>(
         Ok(slots) => slots,
         Err(AllocError) => return Err((AllocError, kit)),
     };
-    let layer = match Layer::open(alloc, kit, may_record(program), program.codes().len()) {
+    let layer = match first_layer(alloc, program, kit) {
         Ok(layer) => layer,
         Err(refused) => return Err(refused),
     };

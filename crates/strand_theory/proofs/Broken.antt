@@ -3,7 +3,7 @@ use Rattle.std.proofs.Common.{◌-◌, ℕ, List, [], ◌∷◌, ◌++◌, Some,
 use Rattle.program_tree.specs.Plain.{Tree}
 use Rattle.meaning.specs.Tables.{Tables}
 use Rattle.meaning.specs.Outcome.{Log, Accumulators, Fault, Outcome, Place, Leaves, Faults, Out}
-use Rattle.meaning.specs.Statements.{identities}
+use Rattle.meaning.specs.Statements.{initial_values}
 use Rattle.meaning.specs.Elision.{from_scratch, answer_of, Faulted, main, start, elide, depth_limit}
 use Rattle.meaning.specs.Trail.{child_of, first, run, sight_of, trail_at}
 use Rattle.meaning.specs.SmallStep.{Start, root, behind, Frame, leaving, broken, Parent, Lookup, look_of}
@@ -15,7 +15,7 @@ use Rattle.trail_theory.specs.ReadsAtEnd.{ReadsAtMainsEnd}
 use Rattle.trail_theory.proofs.Order.{same_split}
 use Rattle.trail_theory.proofs.Advances.{ordered_at}
 use Rattle.trail_theory.proofs.FirstFaults.{quiet_first, inside_none}
-use Rattle.trail_theory.proofs.MainElides.{main_from_scratch}
+use Rattle.trail_theory.proofs.MainElides.{begun, trail_from_scratch}
 use Rattle.strand_theory.specs.Faults.{BrokenAt}
 
 module _ (program : Tree) (tables : Tables) (sight : Accumulators) (lookup : Lookup) where
@@ -73,6 +73,6 @@ pub broken_from_scratch : (program : Tree) (tables : Tables) (lookup : Lookup) �
 unfolding from_scratch
 broken_from_scratch program tables lookup ruled k h =
     let S = sight_of program tables in
-    let o = elide program tables depth_limit start main [] (identities program) in
-    as_faulted program tables S lookup (identities program) o k
-    (answer_is program tables S lookup o k (run program tables S (depth_limit - 1) (look_of lookup) main [] []).outcome (main_from_scratch program tables ruled (look_of lookup)) (first_is program tables S lookup k h))
+    let o = elide program tables depth_limit start main [] (initial_values program) in
+    as_faulted program tables S lookup (initial_values program) o k
+    (answer_is program tables S lookup (begun program o) k (run program tables S (depth_limit - 1) (look_of lookup) main [] []).outcome (trail_from_scratch program tables ruled (look_of lookup)) (first_is program tables S lookup k h))

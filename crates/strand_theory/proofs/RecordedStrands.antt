@@ -4,6 +4,7 @@ use Rattle.program_tree.specs.Plain.{Tree}
 use Rattle.meaning.specs.Tables.{Tables}
 use Rattle.meaning.specs.Outcome.{Log, Accumulators, Place, Syncs, Leaves}
 use Rattle.meaning.specs.Records.{Revised}
+use Rattle.meaning.specs.Statements.{beginning}
 use Rattle.meaning.specs.Trail.{child_of, sight_of}
 use Rattle.meaning.specs.SmallStep.{Start, behind, is_entry, Frame, Todo, Child, Phase, entering, running, spawning, returning, leaving, broken, Parent, with_layer, noting, opening_one, closing_one, Step, moved, taken, paused, unless, leaving_layer, Lookup, Continuation, place_of_continuation, micro}
 use Rattle.meaning.specs.Layers.{Notes, noted_top, take_top, total}
@@ -17,6 +18,7 @@ use Rattle.trail_theory.specs.TalliedTheorems.{advanced_now, tallied_now}
 use Rattle.trail_theory.proofs.Keys.{executions_append, unmarked_keys}
 use Rattle.trail_theory.proofs.Unmarked.{told_unmarked}
 use Rattle.trail_theory.proofs.Evaluations.{Told}
+use Rattle.trail_theory.proofs.Beginnings.{beginning_told}
 use Rattle.trail_theory.proofs.KeepsStep.{Keeps}
 use Rattle.trail_theory.proofs.Stepping.{micro_kept}
 use Rattle.trail_theory.proofs.MainReads.{StepReads, micro_reads}
@@ -80,7 +82,7 @@ module _ (program : Revised) (tables : Tables) (sight : Accumulators) (lookup : 
 
   pub first_records : Records (first_layered P) no_tally
   unfolding first_right
-  first_records = record { right = first_right P tables sight lookup; recorded = none_recorded }
+  first_records = record { right = first_right P tables sight lookup; recorded = recorded_on no_tally [] (beginning P) none_recorded (told_executed (beginning P) (beginning_told P)) }
 
   pub steal_records : (k : Continuation) → IsRightContinuation P tables sight lookup k → Records (stolen P k) no_tally
   unfolding steal_right

@@ -21,6 +21,14 @@ most_parameters = 8
 abbrev pub most_reducers : ℕ
 most_reducers = 16
 
+-- how many numbers an initial value has at most
+abbrev pub most_initial : ℕ
+most_initial = 4096
+
+-- the greatest number of a text
+abbrev pub most_number : ℕ
+most_number = 9223372036854775807
+
 -- how many procedures a program has at most
 abbrev pub most_procedures : ℕ
 most_procedures = 256

@@ -8,7 +8,9 @@ mod front;
 mod lines;
 mod rooms;
 
-pub use bounds::{MOST_NESTED, MOST_PARAMETERS, MOST_PROCEDURES, MOST_REDUCERS};
+pub use bounds::{
+    MOST_INITIAL, MOST_NESTED, MOST_NUMBER, MOST_PARAMETERS, MOST_PROCEDURES, MOST_REDUCERS,
+};
 pub use expression_limits::Limits;
 pub use fault::{ParseError, TextError};
 pub use front::{

@@ -36,7 +36,7 @@ forgotten_append (Leaves n v ∷ es) b = forgotten_append es b
 forgotten_append (Faults k ∷ es) b = forgotten_append es b
 forgotten_append (Marks f args c ∷ es) b = forgotten_append es b
 
-forgotten_told : (es : Log) → Every Told es → forgotten es ≡ es
+pub forgotten_told : (es : Log) → Every Told es → forgotten es ≡ es
 forgotten_told [] h = refl
 forgotten_told (Reads r ∷ es) h = ap (λ l. Reads r ∷ l) (forgotten_told es h.1)
 forgotten_told (Updates n kind w ∷ es) h = ap (λ l. Updates n kind w ∷ l) (forgotten_told es h.1)

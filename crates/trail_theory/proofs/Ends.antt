@@ -3,7 +3,7 @@ use Rattle.std.proofs.Common.{◌-◌, ℕ, suc, List, [], ◌∷◌, ◌++◌, 
 use Rattle.program_tree.specs.Plain.{Tree}
 use Rattle.meaning.specs.Tables.{Tables}
 use Rattle.meaning.specs.Outcome.{Log, Accumulators, Fault, Outcome, Place, Reads, Enters, Updates, Reuses, Begins, Syncs, Leaves, Faults, Marks, Spawns, Out, after}
-use Rattle.meaning.specs.Statements.{identities}
+use Rattle.meaning.specs.Statements.{identities, beginning, initial_values}
 use Rattle.meaning.specs.Elision.{from_scratch, answer_of, Finished, Faulted, main, start, elide, depth_limit}
 use Rattle.meaning.specs.Trail.{Trace, led, child_of, first, ended, doom_after, after_call, after_spawn, past_sync, opening, inner, run_inside, runner, run, sight_of, trail_at}
 use Rattle.meaning.specs.SmallStep.{instance, root, Frame, leaving, broken, Parent, Lookup, look_of, env_of}
@@ -12,6 +12,8 @@ use Rattle.meaning.specs.LayeredStrand.{first_layered}
 use Rattle.trail_theory.specs.TaskFits.{sound}
 use Rattle.trail_theory.specs.Right.{stretch, full_rest, RightAt, IsRight}
 use Rattle.trail_theory.specs.Waiting.{HasNoReads}
+use Rattle.trail_theory.proofs.Evaluations.{told_inside}
+use Rattle.trail_theory.proofs.Beginnings.{beginning_told, beginning_synced}
 use Rattle.trail_theory.proofs.Order.{same_split}
 use Rattle.trail_theory.proofs.Slots.{new_fits}
 use Rattle.trail_theory.proofs.Advances.{ordered_at}
@@ -22,8 +24,8 @@ use Rattle.trail_theory.proofs.Walks.{Closed, has_run}
 use Rattle.trail_theory.specs.ElisionBeside.{forgotten, first_fault, Fits, Matches}
 use Rattle.trail_theory.proofs.FirstFaults.{or_else, fault_append, quiet_first, told_none, opens_none, inside_none}
 use Rattle.trail_theory.specs.ReadsAtEnd.{ReadsAtMainsEnd}
-use Rattle.trail_theory.proofs.Elides.{run_fits}
-use Rattle.trail_theory.proofs.MainElides.{main_from_scratch}
+use Rattle.trail_theory.proofs.Elides.{forgotten_told, run_fits}
+use Rattle.trail_theory.proofs.MainElides.{begun, begun_after, begun_fits, main_from_scratch}
 
 -- ---- the first fault
 
@@ -88,27 +90,35 @@ worth_of l (Leaves n v ∷ es) = worth_of l es
 worth_of l (Faults k ∷ es) = worth_of l es
 worth_of l (Marks f args b ∷ es) = worth_of l es
 
+-- the first strand's layer has the initial values
+pub first_worth : (program : Tree) → (notes program (beginning program)).worth ≡ initial_values program
+first_worth program = sym (worth_of (blank program) (beginning program)) ∙ ap (λ l. after l (identities program)) (forgotten_told (beginning program) (beginning_told program))
+
+-- main's leaving stands at the trail's end
+pub main_regroup : (a ops es : Log) (o : Outcome) → (a ++ (ops ++ es)) ++ Leaves [] o ∷ [] ≡ a ++ (ops ++ (es ++ Leaves [] o ∷ []))
+main_regroup a ops es o = simp append_assoc
+
 module _ (program : Tree) (tables : Tables) (sight : Accumulators) (lookup : Lookup) where
   unfoldable pub first_right : IsRight program tables sight lookup (first_layered program)
   first_right =
       record {
         before = [];
-        segments = [] ∷ [];
+        segments = beginning program ∷ [];
         beyond = [];
         top = record { env = env_of program (instance main []); doom = None };
         others = [];
         is_trail = simp (append_assoc, append-nil);
         starts = refl;
         layered = tt;
-        logged = (same_refl (blank program), tt);
+        logged = (same_refl (notes program (beginning program)), tt);
         task = record {
           frame_fits = record { waiting = []; orderly = refl; slots = new_fits [] [] [] 0 (env_of program (instance main [])); doomed = sound };
           under_fits = tt;
           fringe = tt;
           stacked = tt;
         };
-        inside = tt;
-        reads = λ ruled. (inr (refl, (refl, refl)), tt);
+        inside = told_inside root (beginning program) (beginning_told program);
+        reads = λ ruled. (inr (refl, (refl, beginning_synced program)), tt);
       }
 
   abbrev T : Log
@@ -126,13 +136,13 @@ module _ (program : Tree) (tables : Tables) (sight : Accumulators) (lookup : Loo
       let here = stretch h.segments in
       let ops = opening program (look_of lookup) (depth_limit - 1) main [] [] in
       let f : (h.before ++ here) ++ Leaves [] (Ok v) ∷ h.beyond ≡ T = subst (λ x. (h.before ++ here) ++ Leaves x (Ok v) ∷ h.beyond ≡ T) e (append_assoc h.before here (Leaves fr.instance (Ok v) ∷ h.beyond) ∙ h.is_trail) in
-      let f' : (ops ++ within_main.events) ++ Leaves [] within_main.outcome ∷ [] ≡ T = append_assoc ops within_main.events (Leaves [] within_main.outcome ∷ []) in
-      let q = same_split [] (h.before ++ here) h.beyond (ops ++ within_main.events) [] (Ok v) within_main.outcome (ordered_at program tables sight lookup _ f) (ordered_at program tables sight lookup _ f') (f ∙ sym f') in
+      let f' : (beginning program ++ (ops ++ within_main.events)) ++ Leaves [] within_main.outcome ∷ [] ≡ T = main_regroup (beginning program) ops within_main.events within_main.outcome in
+      let q = same_split [] (h.before ++ here) h.beyond (beginning program ++ (ops ++ within_main.events)) [] (Ok v) within_main.outcome (ordered_at program tables sight lookup _ f) (ordered_at program tables sight lookup _ f') (f ∙ sym f') in
       (ap (λ b. (b ++ here) ++ Leaves [] (Ok v) ∷ []) (sym h.starts) ∙ ap (λ b. (h.before ++ here) ++ Leaves [] (Ok v) ∷ b) (sym q.later) ∙ f, q.value)
 
   -- so it has the serial run's value and accumulators
   finish_at : (l : Notes) (fr : Frame) (v : ℤ) → RightAt program tables sight lookup root (l ∷ []) fr (leaving v) [] → fr.instance ≡ []
-      → (o : Out Fault ℤ) → Matches o whole → (o.answer ≡ Ok v) × (after o.log (identities program) ≡ l.worth)
+      → (o : Out Fault ℤ) → Fits o T whole.outcome → (o.answer ≡ Ok v) × (after o.log (identities program) ≡ l.worth)
   finish_at l fr v h e o fits =
       let here = stretch h.segments in
       let q = at_end (l ∷ []) fr v h e in
@@ -141,11 +151,11 @@ module _ (program : Tree) (tables : Tables) (sight : Accumulators) (lookup : Loo
       (ap (λ x. x.answer) z, ap (λ x. after x.log (identities program)) z ∙ worth_of (blank program) T ∙ ap (λ x. x.worth) n ∙ (one_layer program tables sight lookup l h.segments h.logged).worth)
 
   -- a faulted strand at the trail's beginning has the serial run's first fault
-  broken_at : (ls : List Notes) (fr : Frame) (k : Fault) (t : List Parent) → RightAt program tables sight lookup root ls fr (broken k) t → (o : Out Fault ℤ) → Matches o whole → o.answer ≡ Err k
+  broken_at : (ls : List Notes) (fr : Frame) (k : Fault) (t : List Parent) → RightAt program tables sight lookup root ls fr (broken k) t → (o : Out Fault ℤ) → Fits o T whole.outcome → o.answer ≡ Err k
   broken_at ls fr k t h o fits =
       let e : stretch h.segments ++ (full_rest program tables sight lookup fr (broken k) t h.top h.others ++ h.beyond) ≡ T = rw h.starts at h.is_trail in
       let q : first_fault T ≡ Some k = ap first_fault (sym e) ∙ quiet_first (stretch h.segments) _ (inside_none root (stretch h.segments) h.inside) in
-      let r : fault_of whole.outcome ≡ first_fault T = has_run FaultsOf FaultsRun faults program tables sight (depth_limit - 1) (look_of lookup) main [] [] in
+      let r : fault_of whole.outcome ≡ first_fault T = has_run FaultsOf FaultsRun faults program tables sight (depth_limit - 1) (look_of lookup) main [] [] ∙ sym (quiet_first (beginning program) whole.events (told_none (beginning program) (beginning_told program))) in
       (subst (λ w. Fits o T w) (is_err whole.outcome k (r ∙ q)) fits).0
     where
       is_err : (w : Outcome) (k : Fault) → fault_of w ≡ Some k → w ≡ Err k
@@ -158,23 +168,25 @@ module _ (program : Tree) (tables : Tables) (sight : Accumulators) (lookup : Loo
   as_faulted : (acc : Accumulators) (o : Out Fault ℤ) (k : Fault) → o.answer ≡ Err k → answer_of acc o ≡ Faulted k
   as_faulted acc o k e = ap (λ r. answer_of acc (record { log = o.log; answer = r })) e
 
-  abbrev from_identities : Out Fault ℤ
-  from_identities = elide program tables depth_limit start main [] (identities program)
+  abbrev elided : Out Fault ℤ
+  elided = elide program tables depth_limit start main [] (initial_values program)
 
   -- where main's elision is its stretch of the trail
-  ends_by : Matches from_identities whole → (l : Notes) (fr : Frame) (v : ℤ) → RightAt program tables sight lookup root (l ∷ []) fr (leaving v) [] → fr.instance ≡ [] → from_scratch program tables ≡ Finished v l.worth
+  ends_by : Matches elided whole → (l : Notes) (fr : Frame) (v : ℤ) → RightAt program tables sight lookup root (l ∷ []) fr (leaving v) [] → fr.instance ≡ [] → from_scratch program tables ≡ Finished v l.worth
   unfolding from_scratch
-  ends_by fits l fr v h e = as_finished (identities program) from_identities v l.worth (finish_at l fr v h e from_identities fits)
+  ends_by fits l fr v h e =
+      let q = finish_at l fr v h e (begun program elided) (begun_fits program elided whole.events whole.outcome fits) in
+      as_finished (initial_values program) elided v l.worth (q.0, sym (begun_after program elided) ∙ q.1)
 
-  breaks_by : Matches from_identities whole → (ls : List Notes) (fr : Frame) (k : Fault) (t : List Parent) → RightAt program tables sight lookup root ls fr (broken k) t → from_scratch program tables ≡ Faulted k
+  breaks_by : Matches elided whole → (ls : List Notes) (fr : Frame) (k : Fault) (t : List Parent) → RightAt program tables sight lookup root ls fr (broken k) t → from_scratch program tables ≡ Faulted k
   unfolding from_scratch
-  breaks_by fits ls fr k t h = as_faulted (identities program) from_identities k (broken_at ls fr k t h from_identities fits)
+  breaks_by fits ls fr k t h = as_faulted (initial_values program) elided k (broken_at ls fr k t h (begun program elided) (begun_fits program elided whole.events whole.outcome fits))
 
   pub ends : HasNoReads program → (l : Notes) (fr : Frame) (v : ℤ) → RightAt program tables sight lookup root (l ∷ []) fr (leaving v) [] → fr.instance ≡ [] → from_scratch program tables ≡ Finished v l.worth
-  ends nr = ends_by (run_fits program tables sight nr (depth_limit - 1) (look_of lookup) start main [] [] (identities program))
+  ends nr = ends_by (run_fits program tables sight nr (depth_limit - 1) (look_of lookup) start main [] [] (initial_values program))
 
   pub breaks : HasNoReads program → (ls : List Notes) (fr : Frame) (k : Fault) (t : List Parent) → RightAt program tables sight lookup root ls fr (broken k) t → from_scratch program tables ≡ Faulted k
-  breaks nr = breaks_by (run_fits program tables sight nr (depth_limit - 1) (look_of lookup) start main [] [] (identities program))
+  breaks nr = breaks_by (run_fits program tables sight nr (depth_limit - 1) (look_of lookup) start main [] [] (initial_values program))
 
 -- where reads stand at main's end
 module _ (program : Tree) (tables : Tables) (lookup : Lookup) (ruled : ReadsAtMainsEnd program) where

@@ -177,7 +177,7 @@ element_below (pos m) n e = let l : int_lt (pos m) (pos n) ≡ true = and_right 
 element_below (negsuc m) n e = absurd cc
 
 -- the element that an update names is a value of the kind
-element_right : (c : Kind) (vs : List ℤ) → Every Fits vs → names_element c vs ≡ true → IsWorth c (element_of c vs)
+pub element_right : (c : Kind) (vs : List ℤ) → Every Fits vs → names_element c vs ≡ true → IsWorth c (element_of c vs)
 element_right k.Add vs h e = number_worth _ (zero_at_fits vs 0 h)
 element_right k.Mul vs h e = number_worth _ (zero_at_fits vs 0 h)
 element_right k.Min vs h e = number_worth _ (zero_at_fits vs 0 h)

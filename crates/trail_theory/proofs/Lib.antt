@@ -3,6 +3,9 @@ pub mod Evaluations
 pub mod Walks
 pub mod Inside
 pub mod Synced
+pub mod FitNumbers
+pub mod FitValues
+pub mod Beginnings
 pub mod Order
 pub mod Slots
 pub mod KeepsStep
@@ -20,8 +23,6 @@ pub mod ReadPoints
 mod ReadSamples
 pub mod Records
 pub mod Products
-pub mod FitNumbers
-pub mod FitValues
 pub mod TypedWalks
 pub mod Dependence
 pub mod MadeRecords

@@ -11,17 +11,19 @@ use Rattle.meaning.specs.Outcome.{Log, Accumulators, Event, Fault, Site, Outcome
 use Rattle.meaning.specs.Outcome as outcome
 use Rattle.meaning.specs.Run.{Run, placed, at, pure, ◌>>=◌}
 use Rattle.meaning.specs.Values.{Env, put, value, apply, look}
-use Rattle.meaning.specs.Statements.{reducers, numbered, reading, proc_of, fresh, identities}
+use Rattle.meaning.specs.Statements.{reducers, numbered, reading, proc_of, fresh, identities, beginning, initial_values}
 use Rattle.meaning.specs.Elision.{Enter, Next, On, Back, back_or_zero, deed, body, elide, main, start, depth_limit}
-use Rattle.meaning.specs.Trail.{Trace, over, Look, opening, inner, body_walk, Runner, run_inside, runner, run, sight_of}
-use Rattle.trail_theory.specs.ElisionBeside.{Matches}
+use Rattle.meaning.specs.Trail.{Trace, over, Look, opening, inner, body_walk, Runner, run_inside, runner, run, sight_of, trail}
+use Rattle.trail_theory.specs.ElisionBeside.{Fits, Matches}
 use Rattle.trail_theory.specs.Waiting.{NoReadsDeed, NoReads, HasNoReads}
 use Rattle.trail_theory.specs.ReadsAtEnd.{IsOther, EntersOnlyDeed, EntersOnly, IsPlainDeed, IsPlain, IsEnding, spawns_nothing_deed, spawns_nothing, ReadsAtEnd, ReadsAtMainsEnd, MainIsAlone}
 use Rattle.trail_theory.specs.Order.{Every}
 use Rattle.trail_theory.proofs.Places.{every_append}
 use Rattle.trail_theory.proofs.Inside.{doomed}
 use Rattle.trail_theory.proofs.Walks.{Opens, half_opens, GoodRuns, good_runs}
-use Rattle.trail_theory.proofs.Elides.{after_append, bind_assoc, step_apart, fits_led, GoesOn, Elides, finish, fits_closed, Goes, step_fits, rest_doomed, deed_fits, AreQuiet, same_back, forgotten_opening, quiet_opening, over_doomed, elide_fits, quiet_fits}
+use Rattle.trail_theory.proofs.FirstFaults.{told_none}
+use Rattle.trail_theory.proofs.Beginnings.{beginning_told}
+use Rattle.trail_theory.proofs.Elides.{after_append, forgotten_told, bind_assoc, step_apart, fits_led, GoesOn, Elides, finish, fits_closed, Goes, step_fits, rest_doomed, deed_fits, AreQuiet, same_back, forgotten_opening, quiet_opening, over_doomed, elide_fits, quiet_fits}
 
 -- ---- evaluations update, enter and mark nothing
 
@@ -273,5 +275,24 @@ module _ (program : Tree) (tables : Tables) (sight : Accumulators) (ruled : Read
       fits_led (Enters main vs (depth_limit - left) ∷ []) (w.events ++ Leaves n w.outcome ∷ []) o (opening program look left main vs n) w.outcome (sym (forgotten_opening IsOther program tables sight look left main vs n p.memo)) (quiet_opening IsOther program tables sight look left main vs n p.memo) (fits_closed o n w.events w.outcome fit)
 
 -- main from scratch
-pub main_from_scratch : (program : Tree) (tables : Tables) → ReadsAtMainsEnd program → (look : Look) → Matches (elide program tables depth_limit start main [] (identities program)) (run program tables (sight_of program tables) (depth_limit - 1) look main [] [])
-main_from_scratch program tables ruled look = main_run_fits program tables (sight_of program tables) ruled (depth_limit - 1) look start [] [] (identities program) refl
+pub main_from_scratch : (program : Tree) (tables : Tables) → ReadsAtMainsEnd program → (look : Look) → Matches (elide program tables depth_limit start main [] (initial_values program)) (run program tables (sight_of program tables) (depth_limit - 1) look main [] [])
+main_from_scratch program tables ruled look = main_run_fits program tables (sight_of program tables) ruled (depth_limit - 1) look start [] [] (initial_values program) refl
+
+-- ---- the whole trail begins with the updates by the initial values
+
+-- a piece from the initial values, behind these updates
+abbrev pub begun : Tree → Out Fault ℤ → Out Fault ℤ
+begun program o = record { log = beginning program ++ o.log; answer = o.answer }
+
+pub begun_after : (program : Tree) (o : Out Fault ℤ) → after (begun program o).log (identities program) ≡ after o.log (initial_values program)
+begun_after program o = after_append (beginning program) o.log (identities program)
+
+pub begun_fits : (program : Tree) (o : Out Fault ℤ) (es : Log) (w : Outcome) → Fits o es w → Fits (begun program o) (beginning program ++ es) w
+begun_fits program o es w h =
+    let told = beginning_told program in
+    fits_led (beginning program) es o (beginning program) w (sym (forgotten_told (beginning program) told)) (told_none (beginning program) told) h
+
+pub trail_from_scratch : (program : Tree) (tables : Tables) → ReadsAtMainsEnd program → (look : Look) → Fits (begun program (elide program tables depth_limit start main [] (initial_values program))) (trail program tables look) (run program tables (sight_of program tables) (depth_limit - 1) look main [] []).outcome
+trail_from_scratch program tables ruled look =
+    let w = run program tables (sight_of program tables) (depth_limit - 1) look main [] [] in
+    begun_fits program (elide program tables depth_limit start main [] (initial_values program)) w.events w.outcome (main_from_scratch program tables ruled look)

@@ -5,7 +5,7 @@ use Rattle.meaning.specs.Tables.{Tables, is_there}
 use Rattle.meaning.specs.Outcome.{Log, Accumulators, Fault, Site, Outcome, Place, Reads, Enters, Updates, Reuses, Begins, Syncs, Leaves, Faults, Marks, Spawns, Out}
 use Rattle.meaning.specs.Run.{Run, pure, ◌>>=◌}
 use Rattle.meaning.specs.Values.{Env}
-use Rattle.meaning.specs.Statements.{reducers, identities, procedure_of, proc_of, found, fresh}
+use Rattle.meaning.specs.Statements.{reducers, identities, beginning, initial_values, procedure_of, proc_of, found, fresh}
 use Rattle.meaning.specs.Elision.{Enter, elide, instance, body, back_or_zero, start, main, depth_limit}
 use Rattle.meaning.specs.Records.{Revised, Kept, is_memo, with_kinds, if_valid, record_of, answered, needing, executed, reused}
 use Rattle.meaning.specs.Trail.{Trace, over, closed, Runner, Look, answers, within, mark, opening, inner, run_inside, runner, run, deed_walk, body_walk}
@@ -17,15 +17,16 @@ use Rattle.trail_theory.specs.ReadsAtEnd.{IsOther, EntersOnlyDeed, EntersOnly, R
 use Rattle.trail_theory.specs.Right.{RecordedAreSound}
 use Rattle.trail_theory.specs.Counts.{reuses, SameKeys, MarksAreNeeded}
 use Rattle.trail_theory.proofs.Places.{every_append}
+use Rattle.trail_theory.proofs.Beginnings.{beginning_told}
 use Rattle.trail_theory.proofs.Walks.{good_runs}
 use Rattle.trail_theory.proofs.Inside.{doomed}
 use Rattle.trail_theory.proofs.Elides.{finish, step_apart, same_back, quiet_opening, over_doomed}
 use Rattle.trail_theory.proofs.MainElides.{Still, ending_stays, other_fits}
-use Rattle.trail_theory.proofs.FirstFaults.{before_append, before_first}
+use Rattle.trail_theory.proofs.FirstFaults.{told_none, before_append, before_first}
 use Rattle.trail_theory.proofs.ReadPoints.{still_before}
 use Rattle.trail_theory.proofs.AfterReads.{ending_block}
 use Rattle.trail_theory.proofs.Keys.{IsUnmarked, keys_join, unmarked_keys}
-use Rattle.trail_theory.proofs.Unmarked.{unmarked_inside}
+use Rattle.trail_theory.proofs.Unmarked.{told_unmarked, unmarked_inside}
 use Rattle.trail_theory.proofs.Needs.{NeedsAs, Needs, needs_led, needs_goal, keys_goal, KeysOnly, needs_closed, NeedsRuns, rest_doomed, deed_goal, body_goal}
 
 -- ---- what changes nothing executes and reuses nothing
@@ -236,4 +237,9 @@ module _ (program : Revised) (tables : Tables) (sight : Accumulators) (records :
         ((keys_goal P).leads (Enters main vs d ∷ []) ops o (record { events = w.events ++ Leaves n w.outcome ∷ []; outcome = w.outcome }) front (quiet_opening IsOther P tables sight L left main vs n p.memo) (keys_closed o.log w.events n w.outcome (first_fault w.events) refl fit)))
 
     pub marks_needed : MarksAreNeeded program tables records sight
-    marks_needed = main_needs (depth_limit - 1) (omega arith) start [] [] (identities P)
+    marks_needed =
+        let first = beginning P in
+        let told = beginning_told P in
+        let es = (run P tables sight (depth_limit - 1) L main [] []).events in
+        let front : SameKeys P [] first = unmarked_keys P first (told_unmarked first told) in
+        subst (SameKeys P _) (sym (before_append first es (told_none first told))) (keys_join P [] _ first (before_fault es) front (main_needs (depth_limit - 1) (omega arith) start [] [] (initial_values P)))

@@ -5,7 +5,7 @@ use Rattle.std.proofs.lemmas.Bool.{le-leb}
 use Rattle.program_tree.specs.Plain.{Name, Tree}
 use Rattle.meaning.specs.Tables.{Tables, is_there}
 use Rattle.meaning.specs.Outcome.{Log, Accumulators, Fault, Outcome, Out}
-use Rattle.meaning.specs.Statements.{identities}
+use Rattle.meaning.specs.Statements.{identities, initial_values}
 use Rattle.meaning.specs.Elision.{elide, start, main, depth_limit, answer_of, Finished, from_scratch}
 use Rattle.meaning.specs.Records.{Revised, Kept, Key, IsSound, is_valid, holds_now, if_valid, record_of, needed, executed}
 use Rattle.meaning.specs.Commits.{committed, kept_after}
@@ -21,12 +21,12 @@ use Rattle.trail_theory.specs.Counts.{HasRecord, NothingNeeded}
 use Rattle.trail_theory.specs.TalliedTheorems.{RerunExecutesNone, RecordsEach, NoneAfterEach, EndLeavesNone}
 use Rattle.trail_theory.proofs.Places.{every_in}
 use Rattle.trail_theory.proofs.FirstFaults.{before_all}
-use Rattle.trail_theory.proofs.MainElides.{both_true, main_from_scratch}
+use Rattle.trail_theory.proofs.MainElides.{both_true, begun, trail_from_scratch}
 use Rattle.trail_theory.proofs.Contributions.{commits_sound}
 use Rattle.trail_theory.proofs.Needed.{valid_at}
 use Rattle.trail_theory.proofs.Counts.{needed_marks, end_counts, end_kept}
 use Rattle.trail_theory.proofs.Remade.{made, then_found, IsMadeIn, all_found, IsRemade, remade, has_key, has_own, key_of, later_found, new_found, new_fits}
-use Rattle.trail_theory.proofs.TwoLooks.{AnswersAfter, twin_run}
+use Rattle.trail_theory.proofs.TwoLooks.{AnswersAfter, twin_trail}
 
 -- an elision that ends without a fault has a trail without one
 quiet_trail : (o : Out Fault ℤ) (es : Log) (w : Outcome) (v : ℤ) → Fits o es w → o.answer ≡ Ok v → first_fault es ≡ None
@@ -42,9 +42,9 @@ module _ (program : Revised) (tables : Tables) where
   sound_each [] h = tt
   sound_each (key ∷ keys) h = (h.0.sound, sound_each keys h.1)
 
-  scratch_answer : (v : ℤ) (acc : Accumulators) → from_scratch program.tree tables ≡ Finished v acc → (elide program.tree tables depth_limit start main [] (identities program.tree)).answer ≡ Ok v
+  scratch_answer : (v : ℤ) (acc : Accumulators) → from_scratch program.tree tables ≡ Finished v acc → (elide program.tree tables depth_limit start main [] (initial_values program.tree)).answer ≡ Ok v
   unfolding from_scratch
-  scratch_answer v acc e = let o = elide program.tree tables depth_limit start main [] (identities program.tree) in finished_answer (identities program.tree) o o.answer v acc e
+  scratch_answer v acc e = let o = elide program.tree tables depth_limit start main [] (initial_values program.tree) in finished_answer (initial_values program.tree) o o.answer v acc e
 
   fits_there : (d : ℕ) (k : Kept) → holds_now program tables k ≡ true → d + k.height ≤ suc depth_limit → is_there (if_valid program tables d (Some k)) ≡ true
   fits_there d k now fits =
@@ -100,13 +100,13 @@ module _ (program : Revised) (tables : Tables) where
 
     module _ (v : ℤ) (acc : Accumulators) (finished : from_scratch P tables ≡ Finished v acc) where
       quiet : (look : Look) → first_fault (trail_at P tables S look) ≡ None
-      quiet look = quiet_trail (elide P tables depth_limit start main [] (identities P)) (trail_at P tables S look) _ v (main_from_scratch P tables ruled look) (scratch_answer v acc finished)
+      quiet look = quiet_trail (begun P (elide P tables depth_limit start main [] (initial_values P))) (trail_at P tables S look) _ v (trail_from_scratch P tables ruled look) (scratch_answer v acc finished)
 
       marked : (rs : List Kept) → Every (IsSound program) rs → executed P (needed program tables rs) ≡ executions (trail_by rs)
       marked rs all = (needed_marks program tables rs ruled all S).executed_are ∙ ap executions (before_all (trail_by rs) (quiet (look_of (valid_record program tables rs))))
 
       both : Every Ran (executions (trail_by records)) × (Every Found (executions (trail_by records)) → executions (trail_by later) ≡ [])
-      both = (twin_run Ran Found P tables S ruled (there records) (there later) answers_after (depth_limit - 1) (omega arith) main [] []).events (quiet (look_of (valid_record program tables records)))
+      both = twin_trail Ran Found P tables S ruled (there records) (there later) answers_after (quiet (look_of (valid_record program tables records)))
 
       pub later_sound : Every (IsSound program) later
       later_sound = commits_sound program records (map (made program tables) keys) sound (sound_each keys (subst (Every Ran) (sym (marked records sound)) both.0))
@@ -156,7 +156,7 @@ module _ (program : Revised) (tables : Tables) where
 
       none_after : (v : ℤ) (acc : Accumulators) → from_scratch P tables ≡ Finished v acc → executed P (needed program tables grown) ≡ []
       none_after v acc finished =
-          let walked = (twin_run Anything (HasRecord new) P tables S ruled (there records) (there grown) grown_answers (depth_limit - 1) (omega arith) main [] []).events (quiet v acc finished (look_of (valid_record program tables records))) in
+          let walked = twin_trail Anything (HasRecord new) P tables S ruled (there records) (there grown) grown_answers (quiet v acc finished (look_of (valid_record program tables records))) in
           marked v acc finished grown (commits_sound program records new sound (new_sound new given.news)) ∙ walked.1 (subst (Every (HasRecord new)) (marked v acc finished records sound) given.each)
 
     pub none_after_each : NoneAfterEach program tables records

@@ -3,11 +3,13 @@ use Rattle.std.proofs.Common.{◌-◌, ℕ, suc, ◌<◌, ◌≤◌, [], ◌∷�
 use Rattle.program_tree.specs.Plain.{Tree}
 use Rattle.meaning.specs.Tables.{Tables}
 use Rattle.meaning.specs.Outcome.{Log, Accumulators, Fault, Outcome, Place, Event, Reads, Enters, Updates, Reuses, Begins, Syncs, Leaves, Faults, Marks, Spawns}
-use Rattle.meaning.specs.Trail.{Trace, led, child_of, after_call, past_sync, Look, trail_at}
+use Rattle.meaning.specs.Statements.{beginning}
+use Rattle.meaning.specs.Trail.{Trace, led, child_of, after_call, past_sync, Look, run, trail_at}
 use Rattle.meaning.specs.Elision.{main, depth_limit}
 use Rattle.trail_theory.specs.Order.{In, Every, LeavesBefore, AllLater, LeavesInOrder}
 use Rattle.trail_theory.proofs.Places.{in_append, in_left, in_right, every_in, order_strict, order_later, order_inner}
 use Rattle.trail_theory.proofs.Evaluations.{Told}
+use Rattle.trail_theory.proofs.Beginnings.{beginning_told}
 use Rattle.trail_theory.proofs.Walks.{Opens, Closed, has_run}
 
 pub ordered_append : (a b : Log) → LeavesInOrder a → LeavesInOrder b → ((p : Place) (v : Outcome) → In (Leaves p v) a → AllLater p b) → LeavesInOrder (a ++ b)
@@ -211,4 +213,5 @@ tidy =
     }
 
 pub trail_ordered : (program : Tree) (tables : Tables) (sight : Accumulators) (look : Look) → LeavesInOrder (trail_at program tables sight look)
-trail_ordered program tables sight look = (has_run Tidy TidyTrace tidy program tables sight (depth_limit - 1) look main [] []).ordered
+trail_ordered program tables sight look =
+    (run_led [] (beginning program) (run program tables sight (depth_limit - 1) look main [] []).events (λ p v i. told_leaves p v (beginning program) (beginning_told program) i) (has_run Tidy TidyTrace tidy program tables sight (depth_limit - 1) look main [] [])).ordered

@@ -3,7 +3,7 @@ use Rattle.std.proofs.Common.{ℕ, ◌-◌, List, [], ◌∷◌, ◌++◌, None,
 use Rattle.program_tree.specs.Plain.{Name, bind, enter, read, sync, update, choose, loop, give, Body, end, step, Tree}
 use Rattle.meaning.specs.Tables.{Tables}
 use Rattle.meaning.specs.Outcome.{Log, Accumulators, Fault, Outcome, Place, Reads, Enters, Updates, Reuses, Begins, Syncs, Leaves, Faults, Marks, Spawns, Out, after}
-use Rattle.meaning.specs.Statements.{identities}
+use Rattle.meaning.specs.Statements.{identities, beginning, initial_values}
 use Rattle.meaning.specs.Elision.{main, start, elide, depth_limit}
 use Rattle.meaning.specs.Trail.{Trace, over, opening, inner, run_inside, runner, run, sight_of, trail_at}
 use Rattle.meaning.specs.SmallStep.{Start, root, behind, Frame, blocks, halves, second, turns, Phase, entering, running, spawning, returning, leaving, broken, Parent, Lookup, look_of}
@@ -24,8 +24,8 @@ use Rattle.trail_theory.proofs.FirstFaults.{inside_none, before_append, before_a
 use Rattle.trail_theory.proofs.Stepping.{noted_append}
 use Rattle.trail_theory.proofs.Advances.{ordered_at, total_fits, advance_by, advance_right}
 use Rattle.trail_theory.proofs.Joins.{one_layer}
-use Rattle.trail_theory.proofs.Ends.{worth_of}
-use Rattle.trail_theory.proofs.MainElides.{ChangesNothing, Still, main_from_scratch}
+use Rattle.trail_theory.proofs.Ends.{worth_of, main_regroup}
+use Rattle.trail_theory.proofs.MainElides.{ChangesNothing, Still, begun, begun_after, trail_from_scratch}
 use Rattle.trail_theory.proofs.AfterReads.{ending_block}
 
 -- ---- where a read stands
@@ -147,12 +147,12 @@ module _ (program : Tree) (tables : Tables) (lookup : Lookup) (ruled : ReadsAtMa
   -- the trail is what the strand has noted, and then what updates nothing
   worth_after : (here rest : Log) → here ++ rest ≡ T → first_fault here ≡ None → Still rest → (notes program here).worth ≡ S
   worth_after here rest e quiet still =
-      let o = elide program tables depth_limit start main [] (identities program) in
+      let o = elide program tables depth_limit start main [] (initial_values program) in
       let w = run program tables S (depth_limit - 1) (look_of lookup) main [] [] in
-      let a : o.log ≡ forgotten (before_fault T) = log_before o T w.outcome (main_from_scratch program tables ruled (look_of lookup)) in
+      let a : beginning program ++ o.log ≡ forgotten (before_fault T) = log_before (begun program o) T w.outcome (trail_from_scratch program tables ruled (look_of lookup)) in
       let b : before_fault T ≡ here ++ before_fault rest = ap before_fault (sym e) ∙ before_append here rest quiet in
       let c : (notes program (here ++ before_fault rest)).worth ≡ (notes program here).worth = ap (λ l. l.worth) (noted_append (blank program) here (before_fault rest)) ∙ worth_still (notes program here) (before_fault rest) (still_before rest still) in
-      sym (ap (λ l. after l (identities program)) (a ∙ ap forgotten b) ∙ worth_of (blank program) (here ++ before_fault rest) ∙ c)
+      sym (sym (begun_after program o) ∙ ap (λ l. after l (identities program)) (a ∙ ap forgotten b) ∙ worth_of (blank program) (here ++ before_fault rest) ∙ c)
 
   last_regroup : (here w b : Log) (n : Place) (o : Outcome) → [] ++ (here ++ (((w ++ Leaves n o ∷ []) ++ []) ++ b)) ≡ (here ++ w) ++ Leaves n o ∷ b
   last_regroup here w b n o = simp (append_assoc, append-nil)
@@ -165,8 +165,8 @@ module _ (program : Tree) (tables : Tables) (lookup : Lookup) (ruled : ReadsAtMa
       let ops = opening program (look_of lookup) (depth_limit - 1) main [] [] in
       let g : [] ++ (here ++ (((W.events ++ Leaves fr.instance W.outcome ∷ []) ++ []) ++ h.beyond)) ≡ T = subst (λ a. a ++ (here ++ (((W.events ++ Leaves fr.instance W.outcome ∷ []) ++ []) ++ h.beyond)) ≡ T) h.starts h.is_trail in
       let f : (here ++ W.events) ++ Leaves [] W.outcome ∷ h.beyond ≡ T = subst (λ n. (here ++ W.events) ++ Leaves n W.outcome ∷ h.beyond ≡ T) e (sym (last_regroup here W.events h.beyond fr.instance W.outcome) ∙ g) in
-      let f' : (ops ++ within_main.events) ++ Leaves [] within_main.outcome ∷ [] ≡ T = append_assoc ops within_main.events (Leaves [] within_main.outcome ∷ []) in
-      let q = same_split [] (here ++ W.events) h.beyond (ops ++ within_main.events) [] W.outcome within_main.outcome (ordered_at program tables S lookup _ f) (ordered_at program tables S lookup _ f') (f ∙ sym f') in
+      let f' : (beginning program ++ (ops ++ within_main.events)) ++ Leaves [] within_main.outcome ∷ [] ≡ T = main_regroup (beginning program) ops within_main.events within_main.outcome in
+      let q = same_split [] (here ++ W.events) h.beyond (beginning program ++ (ops ++ within_main.events)) [] W.outcome within_main.outcome (ordered_at program tables S lookup _ f) (ordered_at program tables S lookup _ f') (f ∙ sym f') in
       let z : here ++ (W.events ++ Leaves [] W.outcome ∷ []) ≡ T = sym (append_assoc here W.events (Leaves [] W.outcome ∷ [])) ∙ ap (λ b. (here ++ W.events) ++ Leaves [] W.outcome ∷ b) (sym q.later) ∙ f in
       let still : Still W.events = ending_block program tables S (runner program tables S fr.left (look_of lookup)) fr.left fr.instance fr.here (step s (read x r) b) ending h.top.env fr.next h.top.doom (λ env c doom. over fr.instance doom (pos 0)) (λ env c doom. (tt, tt)) in
       worth_after here (W.events ++ Leaves [] W.outcome ∷ []) z (inside_none root here h.inside) (every_append ChangesNothing W.events (Leaves [] W.outcome ∷ []) still (tt, tt))

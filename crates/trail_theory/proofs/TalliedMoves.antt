@@ -4,6 +4,7 @@ use Rattle.program_tree.specs.Plain.{Tree}
 use Rattle.meaning.specs.Tables.{Tables}
 use Rattle.meaning.specs.Outcome.{Accumulators, Place, Leaves}
 use Rattle.meaning.specs.Records.{Revised}
+use Rattle.meaning.specs.Statements.{beginning}
 use Rattle.meaning.specs.Trail.{child_of}
 use Rattle.meaning.specs.SmallStep.{Start, behind, Frame, Todo, Child, Phase, spawning, leaving, Parent, Lookup, Continuation, place_of_continuation}
 use Rattle.meaning.specs.Layers.{Notes, take_top}
@@ -19,6 +20,9 @@ use Rattle.trail_theory.proofs.Advances.{stretch_grown, inline_right, detach_rig
 use Rattle.trail_theory.proofs.Joins.{steal_right, pop_right, join_at}
 use Rattle.trail_theory.proofs.Counted.{counted_on, counted_join}
 use Rattle.trail_theory.proofs.OpenFits.{grown_open, open_any}
+use Rattle.trail_theory.proofs.Beginnings.{beginning_told}
+use Rattle.trail_theory.proofs.Openings.{told_reuses}
+use Rattle.trail_theory.proofs.TalliedSteps.{told_executed}
 
 shallow_settled : (e : Place) (v : ℤ) (t : List Parent) → AreShallow t → AreShallow (settled_under e v t)
 shallow_settled e v [] h = tt
@@ -53,7 +57,7 @@ module _ (program : Revised) (tables : Tables) (sight : Accumulators) (lookup : 
 
   pub first_tallied : Whole (first_layered P) no_tally
   unfolding first_right
-  first_tallied = record { right = first_right P tables sight lookup; opens = tt; high = tt; shallow = (omega arith, (tt, tt)); counted = record { executed_are = refl; reused_are = refl; room = omega arith; kept = λ q. tt }; made = tt }
+  first_tallied = record { right = first_right P tables sight lookup; opens = tt; high = tt; shallow = (omega arith, (tt, tt)); counted = counted_on no_tally no_tally [] (beginning P) (record { executed_are = refl; reused_are = refl; room = omega arith; kept = λ q. tt }) (told_executed (beginning P) (beginning_told P)) (told_reuses (beginning P) (beginning_told P)) refl refl refl refl; made = tt }
 
   inline_at : (m : Start) (ls : List Notes) (fr : Frame) (t : List Parent) (y : Tally) (d : ℕ) (x : Option ℕ) (child : Child) (todo : Todo) → At m ls fr (spawning d x child todo) t y
       → Whole (inlined P (record { start = m; layers = ls; frame = fr; phase = spawning d x child todo; under = t }) d x child todo) y

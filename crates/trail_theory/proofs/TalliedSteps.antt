@@ -40,7 +40,7 @@ no_more m n xs e z = let l : length xs ≡ 0 = ap length z in omega (arith, e, l
 one_more : (n : ℕ) (xs : List Key) → length xs ≡ 1 → suc n ≡ n + length xs
 one_more n xs l = omega (arith, l)
 
-told_executed : (es : Log) → Every Told es → executions es ≡ []
+pub told_executed : (es : Log) → Every Told es → executions es ≡ []
 told_executed es h = sym (unmarked_keys [] es (told_unmarked es h)).executed_are
 
 open_regroup : (x s a o rest beyond r z : Log) → o ++ rest ≡ r ++ z → (x ++ (s ++ a)) ++ (r ++ (z ++ beyond)) ≡ x ++ (s ++ (((a ++ o) ++ rest) ++ beyond))

@@ -9,11 +9,11 @@ use Rattle.meaning.specs.declared.FaultKind.TheVariants.{TooDeep}
 use Rattle.meaning.specs.Tables.{Tables}
 use Rattle.meaning.specs.Outcome.{Log, Accumulators, Fault, Site, Outcome, Place, Begins, Marks, Enters, Syncs, Leaves, Spawns, Out}
 use Rattle.meaning.specs.Values.{Env, put, value, values}
-use Rattle.meaning.specs.Statements.{reducers, identities, Job, job_of, proc_of, fresh, update_of, bounds, turn_values}
-use Rattle.meaning.specs.Elision.{elide, start, depth_limit}
+use Rattle.meaning.specs.Statements.{reducers, identities, beginning, Job, job_of, proc_of, fresh, update_of, bounds, turn_values}
+use Rattle.meaning.specs.Elision.{elide, start, main, depth_limit}
 use Rattle.meaning.specs.Records.{Key}
 use Rattle.meaning.specs.Tallies.{executions}
-use Rattle.meaning.specs.Trail.{Trace, led, brief, child_of, fault_at, first, env_after, doom_after, stop, settled, evaluated, Go, Runner, entering, on_call, after_call, after_spawn, past_sync, over, closed, Look, answers, within, mark, turns_walk, half_closed, loop_walk, half_run, halvings, deed_walk, body_walk, blocks_walk, run_inside, runner, run}
+use Rattle.meaning.specs.Trail.{Trace, led, brief, child_of, fault_at, first, env_after, doom_after, stop, settled, evaluated, Go, Runner, entering, on_call, after_call, after_spawn, past_sync, over, closed, Look, answers, within, mark, turns_walk, half_closed, loop_walk, half_run, halvings, deed_walk, body_walk, blocks_walk, run_inside, runner, run, trail_at}
 use Rattle.trail_theory.specs.Order.{Every}
 use Rattle.trail_theory.specs.ReadsAtEnd.{ReadsAtMainsEnd}
 use Rattle.trail_theory.specs.Right.{IsRecorded}
@@ -25,6 +25,7 @@ use Rattle.trail_theory.proofs.Unmarked.{told_unmarked, unmarked_inside}
 use Rattle.trail_theory.proofs.FirstFaults.{or_else, fault_append}
 use Rattle.trail_theory.proofs.Records.{recorded_other}
 use Rattle.trail_theory.proofs.MainElides.{other_fits}
+use Rattle.trail_theory.proofs.Beginnings.{beginning_told}
 
 none_left : (a b : Option Fault) → or_else a b ≡ None → a ≡ None
 none_left None b e = refl
@@ -249,3 +250,9 @@ module _ (Ran Found : Key → Type 0) where
       pub twin_run : (left : ℕ) → left < depth_limit → (f : Name) (vs : List ℤ) (n : Place) → Twins (run program tables sight left (Some l) f vs n) (run program tables sight left (Some m) f vs n)
       twin_run left deep f vs n =
           twin_by left deep (λ g ws p. twin_blocks program tables sight (runner program tables sight left (Some l)) (runner program tables sight left (Some m)) (twin_runs left (omega (arith, deep))) left p (proc_of program g).called ((proc_of program g).body ∷ []) (fresh (proc_of program g).names ws) 1 None) f vs n (proc_of program f).memo refl
+
+      -- so the trails by the two
+      pub twin_trail : Settles (trail_at program tables sight (Some l)) (trail_at program tables sight (Some m))
+      twin_trail =
+          let left = depth_limit - 1 in
+          settles_append (beginning program) (run program tables sight left (Some l) main [] []).events (beginning program) (run program tables sight left (Some m) main [] []).events (told_settles (beginning program) (beginning_told program)) (twin_run left (omega arith) main [] []).events

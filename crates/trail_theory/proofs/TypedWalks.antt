@@ -12,7 +12,7 @@ use Rattle.meaning.specs.declared.FaultKind.{FaultKind}
 use Rattle.meaning.specs.Tables.{Tables}
 use Rattle.meaning.specs.Outcome.{Log, Accumulators, Fault, Site, Outcome, Place, Reads, Enters, Updates, Reuses, Begins, Syncs, Leaves, Faults, Marks, Spawns, Out}
 use Rattle.meaning.specs.Values.{Env, put, value, values}
-use Rattle.meaning.specs.Statements.{reducers, numbered, reading, Job, job_of, proc_of, fresh, put_into, update_of, bounds, turn_values}
+use Rattle.meaning.specs.Statements.{reducers, beginning, numbered, reading, Job, job_of, proc_of, fresh, put_into, update_of, bounds, turn_values}
 use Rattle.meaning.specs.Elision.{depth_limit, main}
 use Rattle.meaning.specs.Trail.{Trace, led, child_of, ended, env_after, doom_after, settled, evaluated, Go, Runner, entering, after_call, after_spawn, past_sync, over, closed, Look, mark, opening, inner, turns_walk, half_closed, loop_walk, half_run, halvings, deed_walk, body_walk, run_inside, runner, run, trail_at}
 use Rattle.meaning.specs.SmallStep.{Lookup, look_of}
@@ -27,6 +27,7 @@ use Rattle.trail_theory.proofs.AfterReads.{ending_block}
 use Rattle.meaning.specs.Fitting.{FitsTerm, FitsDeed, FitsBody, ProgramFits}
 use Rattle.trail_theory.specs.Typed.{kinds_of, HasMonoids, IsTyped, TablesFit, SightFits}
 use Rattle.trail_theory.proofs.Places.{every_append}
+use Rattle.trail_theory.proofs.Beginnings.{beginning_typed}
 use Rattle.trail_theory.proofs.FitValues.{FitsEnv, set_fits_env, put_fits, put_into_fits, fresh_fits, Gives, FitsOut, value_fits, values_fits, FitsRange, bounds_fits, update_fits}
 use Rattle.trail_theory.proofs.FitNumbers.{zero_fits}
 
@@ -193,7 +194,7 @@ module _ (program : Tree) (tables : Tables) (sight : Accumulators) (numbers : Pr
 
   good_inside : (sub : Runner) → GoodRuns sub → AreSafe → (left : ℕ) (f : Name) (vs : List ℤ) (n : Place) → May f → Every Fits vs → Good (run_inside program tables sight sub left f vs n)
   good_inside sub good are left f vs n m h =
-      good_body sub good left Fits (λ v fv. fv) n (proc_of program f).called (proc_of program f).body (fresh (proc_of program f).names vs) 1 None _ (numbers f) (are f m).0 (are f m).1 (fresh_fits (proc_of program f).names vs h) (λ env c doom g. good_over Fits n doom (pos 0) zero_fits)
+      good_body sub good left Fits (λ v fv. fv) n (proc_of program f).called (proc_of program f).body (fresh (proc_of program f).names vs) 1 None _ (numbers.bodies f) (are f m).0 (are f m).1 (fresh_fits (proc_of program f).names vs h) (λ env c doom g. good_over Fits n doom (pos 0) zero_fits)
 
   good_runs : AreSafe → (left : ℕ) (look : Look) → GoodRuns (runner program tables sight left look)
   unfolding GoodRuns runner
@@ -205,6 +206,7 @@ module _ (program : Tree) (tables : Tables) (sight : Accumulators) (numbers : Pr
 
 pub trail_typed : (program : Tree) (tables : Tables) (sight : Accumulators) → ProgramFits program → TablesFit tables → SightFits program sight → (look : Look) → Every (IsTyped (kinds_of program)) (trail_at program tables sight look)
 trail_typed program tables sight numbers held seen look =
+    every_append (IsTyped (kinds_of program)) (beginning program) (run program tables sight (depth_limit - 1) look main [] []).events (beginning_typed program numbers)
     (run_typed program tables sight numbers held AnyName (λ f m. (inl seen, enters_any (proc_of program f).body)) (depth_limit - 1) look main [] [] tt tt).0
 
 -- so neighbouring stretches multiply
@@ -264,9 +266,10 @@ trail_typed_reading program tables sight ruled numbers held look =
     let p = proc_of program main in
     let w = run_inside program tables sight sub left main [] [] in
     let good = good_runs program tables sight numbers held IsOther (λ f other. (inr (ruled.elsewhere f other), ruled.alone f)) left k in
-    let inside = main_typed program tables sight numbers held ruled sub good left [] p.called p.body true ruled.in_main (ruled.alone main) (numbers main) (fresh p.names []) 1 None (fresh_fits p.names [] tt) in
+    let inside = main_typed program tables sight numbers held ruled sub good left [] p.called p.body true ruled.in_main (ruled.alone main) (numbers.bodies main) (fresh p.names []) 1 None (fresh_fits p.names [] tt) in
     let ops = opening program look left main [] [] in
-    every_append (IsTyped (kinds_of program)) ops (w.events ++ Leaves [] w.outcome ∷ []) (typed_opening program tables sight numbers held IsOther look left main [] []) (every_append (IsTyped (kinds_of program)) w.events (Leaves [] w.outcome ∷ []) inside.0 (tt, tt))
+    every_append (IsTyped (kinds_of program)) (beginning program) (ops ++ (w.events ++ Leaves [] w.outcome ∷ [])) (beginning_typed program numbers)
+    (every_append (IsTyped (kinds_of program)) ops (w.events ++ Leaves [] w.outcome ∷ []) (typed_opening program tables sight numbers held IsOther look left main [] []) (every_append (IsTyped (kinds_of program)) w.events (Leaves [] w.outcome ∷ []) inside.0 (tt, tt)))
 
 pub stretches_multiply_reading : (program : Tree) (tables : Tables) (sight : Accumulators) (lookup : Lookup) → ReadsAtMainsEnd program → HasMonoids program → ProgramFits program → TablesFit tables → StretchesMultiply program tables sight lookup
 stretches_multiply_reading program tables sight lookup ruled good numbers held = stretches_of program tables sight lookup good (trail_typed_reading program tables sight ruled numbers held (look_of lookup))

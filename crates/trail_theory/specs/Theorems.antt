@@ -3,7 +3,7 @@ use Rattle.std.specs.Prelude.{◌≡◌, ℕ, ◌-◌, suc, ℤ, Bool, List, [],
 use Rattle.program_tree.specs.Plain.{Name, read, Body, step, Tree}
 use Rattle.meaning.specs.Tables.{Tables}
 use Rattle.meaning.specs.Outcome.{Accumulators, Fault, Place, Site}
-use Rattle.meaning.specs.Statements.{identities}
+use Rattle.meaning.specs.Statements.{identities, initial_values}
 use Rattle.meaning.specs.Elision.{elide, start, main, depth_limit, from_scratch, Finished, Faulted}
 use Rattle.meaning.specs.Records.{Kept}
 use Rattle.meaning.specs.Trail.{Look, run}
@@ -23,9 +23,9 @@ module _ (program : Tree) (tables : Tables) (sight : Accumulators) where
   abbrev pub OthersAreTrail : Type 0
   OthersAreTrail = (left : ℕ) (look : Look) (site : Site) (f : Name) → IsOther f → (vs : List ℤ) (n : Place) (acc : Accumulators) → Matches (elide program tables (suc left) site f vs acc) (run program tables sight left look f vs n)
 
-  -- and for main from scratch
+  -- and for main from the initial values
   abbrev pub MainIsTrail : Type 0
-  MainIsTrail = (look : Look) → Matches (elide program tables depth_limit start main [] (identities program)) (run program tables sight (depth_limit - 1) look main [] [])
+  MainIsTrail = (look : Look) → Matches (elide program tables depth_limit start main [] (initial_values program)) (run program tables sight (depth_limit - 1) look main [] [])
 
   -- records that say what the elision of their keys gives answer only with the runs that they stand for
   abbrev pub RecordsAreSound : Lookup → Type 0

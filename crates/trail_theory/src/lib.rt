@@ -51,7 +51,7 @@ pub fn others_are_trail()
         → ReadsAtMainsEnd program → OthersAreTrail program tables sight }
 {}
 
-/// Where main alone reads reducers, at its end, main's elision from scratch is the trail on which a read sees what the elision has in the end.
+/// Where main alone reads reducers, at its end, main's elision from scratch is the trail behind the updates by the initial values, on which a read sees what the elision has in the end.
 pub fn main_is_trail()
     ensures same { (program : Tree) (tables : Tables) → ReadsAtMainsEnd program
         → MainIsTrail program tables (sight_of program tables) }

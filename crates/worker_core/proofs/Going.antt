@@ -4,6 +4,7 @@ use Rattle.monoid_laws.specs.declared.Kind.{Kind}
 use Rattle.monoid_laws.specs.Worth.{Worth}
 use Rattle.meaning.specs.Strands.{State, Held, Ended, Stalled, Faulted, Finished}
 use Rattle.linked_program.specs.declared.code.Code.{Code}
+use Rattle.linked_program.specs.Initials.{PlainInitial}
 use Rattle.positions.specs.Setting.{Setting}
 use Rattle.positions.specs.declared.phase.Phase.{Phase}
 use Rattle.stepped_runs.specs.Pieces.{PlainPiece}
@@ -47,8 +48,8 @@ goes_on c h held over some =
 
 -- ---- the strands stay with the workers
 
-pub held_first : (codes : List Code) (kinds : List Kind) (main kits n : ℕ) (s : PlainStrands) → run_of s ≡ first_run codes kinds main kits → AreHeldBy n s
-held_first codes kinds main kits n s is some = subst (λ (r : PlainRun). AreByWorkers n r.pieces) (sym is) (some, tt)
+pub held_first : (codes : List Code) (kinds : List Kind) (initials : List PlainInitial) (main kits n : ℕ) (s : PlainStrands) → run_of s ≡ first_run codes kinds initials main kits → AreHeldBy n s
+held_first codes kinds initials main kits n s is some = subst (λ (r : PlainRun). AreByWorkers n r.pieces) (sym is) (some, tt)
 
 pub held_products : (n : ℕ) (s t : PlainStrands) → AreHeldBy n s → KeepsProducts s t → AreHeldBy n t
 held_products n s t h (inl e) some = subst (λ (x : PlainStrands). AreByWorkers n x.pieces) (sym e) (h some)

@@ -4,12 +4,14 @@ use Rattle.monoid_laws.specs.Kinds.{IsMonoid}
 use Rattle.program_tree.specs.View.{tree}
 use Rattle.meaning.specs.Records.{Kept, IsSound}
 use Rattle.meaning.specs.Strands.{replayed}
+use Rattle.meaning.specs.Statements.{beginning}
 use Rattle.meaning.specs.Schedules.{RunState, RunStep, first_state, after_step, recording_from}
 use Rattle.trail_theory.specs.Order.{Every}
 use Rattle.trail_theory.specs.OpenLayers.{IsNumbered}
 use Rattle.strand_theory.specs.Ready.{IsReady}
 use Rattle.linked_program.specs.TableNames.{columned_of}
 use Rattle.linked_program.specs.Checked.{PlainChecked, IsChecked, revised_of}
+use Rattle.linked_program.specs.Initials.{AreUpdatesBy}
 use Rattle.input_tables.specs.Edited.{Edited}
 use Rattle.rerun_records.specs.Record.{PlainRecord}
 use Rattle.rerun_records.specs.Doubted.{IsInStep}
@@ -41,16 +43,17 @@ use Rattle.worker_core.proofs.Going.{held_products}
 module _ (program : PlainChecked) (tables : Edited) (records : List PlainRecord) where
   -- ---- the beginning
 
-  pub begins : (s : PlainStrands) (kits : ℕ) → IsChecked program → run_of s ≡ first_run program.codes program.kinds program.main kits
+  pub begins : (s : PlainStrands) (kits : ℕ) → IsChecked program → AreUpdatesBy program.kinds program.initials (beginning (tree program.program))
+      → run_of s ≡ first_run program.codes program.kinds program.initials program.main kits
       → (k : AreSoundFor program records) → IsFirstOf (setting_by program tables records k) kits (run_of s)
-  begins s kits checked is k =
+  begins s kits checked updates is k =
       subst (IsFirstOf (setting_by program tables records k) kits) (sym is)
-      (first_agrees (setting_by program tables records k) (record { codes = checked.linked; kinds = checked.kinds_are }) program.main kits checked.main_is)
+      (first_agrees (setting_by program tables records k) (record { codes = checked.linked; kinds = checked.kinds_are }) program.initials updates program.main kits checked.main_is)
 
   pub keeps_first : (s : PlainStrands) (kits : ℕ) → ((kept : List Kept) → Every (IsSound (revised_of program)) kept → IsReady (revised_of program) tables.tables (recording_from kept)) → IsNumbered (revised_of program)
       → program.tables ≡ columned_of tables.tables → IsChecked program → All IsMonoid program.kinds → AreSoundFor program records → HaveValues program.kinds records → IsInStep tables.tables records
-      → run_of s ≡ first_run program.codes program.kinds program.main kits → KeepsRun program tables records s
-  keeps_first s kits ready numbered are checked monoids sound values step is = record {
+      → AreUpdatesBy program.kinds program.initials (beginning (tree program.program)) → run_of s ≡ first_run program.codes program.kinds program.initials program.main kits → KeepsRun program tables records s
+  keeps_first s kits ready numbered are checked monoids sound values step updates is = record {
     sound = sound;
     values = values;
     in_step = step;
@@ -64,7 +67,7 @@ module _ (program : PlainChecked) (tables : Edited) (records : List PlainRecord)
       records = record { records = k.stand; recording = refl; in_order = checked.each };
     };
     path = λ k.
-        let first : IsFirstOf (setting_by program tables records k) kits (run_of s) = begins s kits checked is k in
+        let first : IsFirstOf (setting_by program tables records k) kits (run_of s) = begins s kits checked updates is k in
         record { run = first_state (tree program.program) kits; reached = first.0; stands = first.1 };
   }
 

@@ -116,7 +116,7 @@ pub record IsFirstCore (program : PlainChecked) (tables : Edited) (records : Lis
   pub program_is : core.program ≡ program
   pub tables_are : core.tables ≡ tables
   pub records_are : core.records ≡ records
-  pub run : run_of core.strands ≡ first_run program.codes program.kinds program.main (length pool.kits)
+  pub run : run_of core.strands ≡ first_run program.codes program.kinds program.initials program.main (length pool.kits)
   pub total : core.strands.total ≡ pool.total
   pub workers_are : core.workers ≡ workers
   pub going : core.failed ≡ false

@@ -89,6 +89,7 @@ impl<'a, V: View> Core<'a, V> {
         ensures handed_back { IfErr result (λ e. e.1 ≡ pool) }
     {
         are_ready(program, tables);
+        program.beginning();
         match Strands::first(alloc, program, pool) {
             Ok(strands) => Ok(Core {
                 program,

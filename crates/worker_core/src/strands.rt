@@ -100,7 +100,7 @@ impl<V: View> Strands<V> {
         mut pool: Pool<Kit<V>>,
     ) -> Result<Strands<V>, (StartError, Pool<Kit<V>>)>
         requires kits { All (λ k. k ≡ program.now.kinds) pool.kits }
-        ensures first { IfOk result (λ s. run_of s ≡ first_run program.now.codes program.now.kinds program.now.main (length pool.kits)) }
+        ensures first { IfOk result (λ s. run_of s ≡ first_run program.now.codes program.now.kinds program.now.initials program.now.main (length pool.kits)) }
         ensures total { IfOk result (λ s. s.total ≡ pool.total) }
         ensures fit { IfOk result (AreFit program.now.kinds) }
         ensures kits { IfOk result (λ s. kits_in s ≡ length pool.kits) }

@@ -10,6 +10,7 @@ ghost use Rattle.linked_program.specs.Checked.{numbers_in};
 use super::{defines, revisions};
 use indexmap::IndexMap;
 use linked_program::checked::Checked;
+use linked_program::initial::initials;
 use linked_program::linking::{codes, kinds};
 use program_tree::{Block, Declaration, Procedure, Program};
 use std::alloc::Global;
@@ -59,8 +60,18 @@ fn before(rt: &impl Abort, alloc: Global, counter: u64) -> Checked
     let program = main_alone(rt, alloc);
     let codes = codes(alloc, &program.declarations, &[]).expect(rt, "memory");
     let kinds = kinds(alloc, &program.declarations).expect(rt, "memory");
+    let initials = initials(alloc, &program.declarations).expect(rt, "memory");
     let numbers = number_of_main(rt, alloc);
-    Checked::new(program, Vec::new(alloc), codes, kinds, 0, numbers, counter)
+    Checked::new(
+        program,
+        Vec::new(alloc),
+        codes,
+        kinds,
+        initials,
+        0,
+        numbers,
+        counter,
+    )
 }
 
 /// The answers to a text in the place of a program, and as a definition.

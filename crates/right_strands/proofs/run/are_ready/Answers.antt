@@ -7,6 +7,7 @@ returns-clause-ready c kept sound =
       clean = c.clean.ensures.clean;
       linked = c.linked.ensures.codes;
       kinds_are = c.linked.ensures.kinds;
+      initials_are = c.linked.ensures.initials;
       main_is = c.linked.ensures.main;
       each = c.revised.ensures.each;
       below = c.revised.ensures.below;

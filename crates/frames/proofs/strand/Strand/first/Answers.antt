@@ -10,5 +10,5 @@ pub returns-in-Ok-clause-beginning : goal.returns-in-Ok-clause-beginning
 returns-in-Ok-clause-beginning g c tables kept records =
     let p = c.args.program.now in
     let setting = setting_with p tables kept records in
-    subst (λ (z : PlainStrand). IsFirst setting z) (sym (c.in-Ok.ensures.first ∙ ap (λ ks. first_strand p.codes ks p.main) c.requires.kinds))
-    (first_is setting (record { codes = c.linked.ensures.codes; kinds = c.linked.ensures.kinds }) p.main c.linked.ensures.main)
+    subst (λ (z : PlainStrand). IsFirst setting z) (sym (c.in-Ok.ensures.first ∙ ap (λ ks. first_strand p.codes ks p.initials p.main) c.requires.kinds))
+    (first_is setting (record { codes = c.linked.ensures.codes; kinds = c.linked.ensures.kinds }) p.initials c.beginning.ensures.updates p.main c.linked.ensures.main)

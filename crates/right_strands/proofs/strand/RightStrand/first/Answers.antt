@@ -3,4 +3,4 @@ use Rattle.right_strands.proofs.strand.RightStrand.first.Goals as goal
 
 pub invariant_of-result : goal.invariant_of-result
 invariant_of-result g c =
-    first_kept g.J.Run.setting c.scene.inside.program.now c.scene.inside.tables.now c.scene.inside.records.now c.scene.invariant c.in-Ok.strand c.args.kit c.requires.kit c.in-Ok.ensures.first c.in-Ok.ensures.beginning
+    first_kept g.J.Run.setting c.scene.inside.program.now c.scene.inside.tables.now c.scene.inside.records.now c.scene.invariant c.in-Ok.strand c.args.kit c.requires.kit c.in-Ok.ensures.kinds c.in-Ok.ensures.first c.in-Ok.ensures.beginning

@@ -1,5 +1,4 @@
 use Rattle.std.proofs.Common.{◌≡◌, All, [], ◌∷◌, ◌++◌, sym, ap, subst, ◌∙◌}
-use Rattle.positions.specs.Strands.{PlainStrand}
 use Rattle.stepped_runs.specs.Pieces.{PlainPiece}
 use Rattle.worker_core.specs.Moves.{IsFit}
 use Rattle.run_terms.proofs.Kits.{taken_kit, left_kits}
@@ -10,7 +9,7 @@ pub returns-in-Ok-clause-fit : goal.returns-in-Ok-clause-fit
 returns-in-Ok-clause-fit g c =
     let kit : c.in-Some.kit ≡ c.args.program.now.kinds = taken_kit c.args.program.now.kinds c.args.pool.kits c.take.new.self.kits c.in-Some.kit c.in-Some.ensures.one c.requires.kits in
     let fit : IsFit c.args.program.now.kinds c.held.result =
-    ap (λ (p : PlainPiece). p.strand.layer.kinds) c.held.ensures.held ∙ ap (λ (s : PlainStrand). s.layer.kinds) c.in-Ok.ensures.first ∙ kit in
+    ap (λ (p : PlainPiece). p.strand.layer.kinds) c.held.ensures.held ∙ c.in-Ok.ensures.kinds ∙ kit in
     let one : c.push_reserved.new.self.items ≡ c.held.result ∷ [] =
     c.push_reserved.ensures.items ∙ ap (λ ps. ps ++ c.held.result ∷ []) (c.reserve.ensures.items ∙ c.new-pieces.ensures.items) in
     record {
