@@ -22,6 +22,22 @@ const INLINED: &str = "W0* I0 W0* I0 W0* L0";
 
 const HALVES: &str = "W0* P0 S10 W0* I0 W0* L0 W1* I1 W1* L1 F0@1.1 W0* L0";
 
+/// Programs whose reducers begin with a value.
+const FIRST_FROM: &str = "reducer total : add from 100;
+proc leaf(v) { update total v; return v; }
+proc main() { x = spawn leaf(1); y = spawn leaf(2); update total 9; sync; return x + y; }
+";
+
+const LIST_FROM: &str = "reducer seen : list from 7, 8;
+proc leaf(v) { update seen v; return v; }
+proc main() { x = spawn leaf(1); y = spawn leaf(2); update seen 9; sync; return x + y; }
+";
+
+const AFFINE_FROM: &str = "reducer f : affine from 5, 1;
+proc one(a, b) { update f a, b; }
+proc main() { spawn one(2, 1); update f 3, 4; sync; return 0; }
+";
+
 /// A program, workers, kits and a line; what of it is refused, the answer and the history.
 type Row = (
     &'static str,
@@ -33,7 +49,7 @@ type Row = (
     &'static str,
 );
 
-const ROWS: [Row; 14] = [
+const ROWS: [Row; 17] = [
     (
         FIRST_LIST,
         1,
@@ -153,6 +169,34 @@ const ROWS: [Row; 14] = [
         "S10 refused E15;S10 refused E15;",
         "result 3\nseen 1 2 9\n",
         "run 1\nfinish root\n",
+    ),
+    // The initial value stands in the first strand alone.
+    (
+        FIRST_FROM,
+        3,
+        3,
+        TWO_STEALS,
+        "",
+        "result 3\ntotal 112\n",
+        TWO_FOLDS,
+    ),
+    (
+        LIST_FROM,
+        3,
+        3,
+        TWO_STEALS,
+        "",
+        "result 3\nseen 7 8 1 2 9\n",
+        TWO_FOLDS,
+    ),
+    (
+        AFFINE_FROM,
+        2,
+        2,
+        STOLEN_ONCE,
+        "",
+        "result 0\nf 30 13\n",
+        FOLDED_ONCE,
     ),
 ];
 
