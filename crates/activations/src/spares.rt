@@ -6,13 +6,15 @@ use evaluation::slot::Slot;
 use positions::work::{Position, Work};
 use std::alloc::Global;
 
-/// An instance that is over, for the next one that is called, and lists of slots and of places, for others to come. What they held
-/// doesn't matter.
+/// An instance that is over, for the next one that is called, and lists for others to come: of slots, of places, of instances that
+/// wait, and for names. What they held doesn't matter.
 #[derive(Drop)]
 pub struct Spares {
     pub child: Activation,
     slots: Vec<Vec<Slot>>,
     places: Vec<Vec<Position>>,
+    waiting: Vec<Vec<Activation>>,
+    names: Vec<Vec<usize>>,
 }
 
 impl Spares {
@@ -22,6 +24,8 @@ impl Spares {
             child: Activation::new(0, Vec::new(alloc), Vec::new(alloc), Work::Over, 0),
             slots: Vec::new(alloc),
             places: Vec::new(alloc),
+            waiting: Vec::new(alloc),
+            names: Vec::new(alloc),
         }
     }
 
@@ -62,10 +66,70 @@ impl Spares {
         }
     }
 
-    /// Keeps the lists of an instance that is over. Where memory is refused for that they are let go.
+    /// An empty list of instances that wait.
+    pub fn waiting(&mut self, alloc: Global) -> Vec<Activation>
+        ensures empty { result.items ≡ [] }
+        ensures child { self.new.child ≡ self.old.child }
+    {
+        match self.waiting.pop() {
+            Some(mut waiting) => {
+                waiting.clear();
+                waiting
+            }
+            None => Vec::new(alloc),
+        }
+    }
+
+    /// An empty list for a name.
+    pub fn name(&mut self, alloc: Global) -> Vec<usize>
+        ensures empty { result.items ≡ [] }
+        ensures child { self.new.child ≡ self.old.child }
+    {
+        match self.names.pop() {
+            Some(mut name) => {
+                name.clear();
+                name
+            }
+            None => Vec::new(alloc),
+        }
+    }
+
+    /// Keeps the lists of an instance that is over, but for those that never held anything: else these would pile up. Where memory is
+    /// refused for that they are let go.
     pub fn keep(&mut self, over: Activation) {
         let (slots, places) = over.into_lists();
-        let _ = self.slots.push(slots);
-        let _ = self.places.push(places);
+        if slots.capacity() > 0 {
+            let _ = self.slots.push(slots);
+        }
+        if places.capacity() > 0 {
+            let _ = self.places.push(places);
+        }
+    }
+
+    /// Makes room for the lists of one more spawned child that returns. Where memory is refused for that they will be let go.
+    pub fn make_room(&mut self)
+        ensures child { self.new.child ≡ self.old.child }
+    {
+        let _ = self.slots.reserve(1);
+        let _ = self.places.reserve(1);
+        let _ = self.waiting.reserve(1);
+        let _ = self.names.reserve(1);
+    }
+
+    /// Keeps the lists of a spawned child that has returned, with those that its strand had for instances and for a name, where
+    /// there is room for them. It takes no memory.
+    pub fn keep_child(&mut self, over: Activation, waiting: Vec<Activation>, name: Vec<usize>) {
+        let (slots, places) = over.into_lists();
+        put_in_room(&mut self.slots, slots);
+        put_in_room(&mut self.places, places);
+        put_in_room(&mut self.waiting, waiting);
+        put_in_room(&mut self.names, name);
+    }
+}
+
+/// Puts a list behind others, where it has held anything and there is room for it.
+fn put_in_room<T: Drop>(lists: &mut Vec<Vec<T>>, list: Vec<T>) {
+    if list.capacity() > 0 && lists.len() < lists.capacity() {
+        let _ = lists.push(list);
     }
 }

@@ -39,7 +39,6 @@ impl<V: View> Strand<V> {
         requires in_step { IsInStep tables.now.tables records.now }
         requires given_kinds { (k : List Kind) → K.gives k kits.old → k ≡ program.now.kinds }
         requires fits { K.fits program.now.kinds kits.old }
-        requires room { suc (length self.old.lower) + K.free kits.old ≤ K.total kits.old }
         ensures pause { IfOk result (λ paused. paused ≡ pause_of program.now.codes self.old) }
         ensures advanced { OnOk result (HoldsBy (K.lacks kits.old) (GivesNone K.gives kits.old)
             (λ kit. self.new ≡ advanced (given program.now tables.now records.now) kit self.old)) }
@@ -52,8 +51,9 @@ impl<V: View> Strand<V> {
         ensures goes_on { IfOk result (λ paused. paused ≡ Paused.Working → (kept : List Kept)
             → IsStepTaken (setting_with program.now tables.now.tables kept records.now) self.old) }
         ensures kinds { self.new.layer.kinds ≡ self.old.layer.kinds }
-        ensures kits { length self.new.lower + K.free kits.new
-            ≡ length self.old.lower + K.free kits.old }
+        // No kit is lost, where there is room for all of them.
+        ensures kits { suc (length self.old.lower) + K.free kits.old ≤ K.total kits.old
+            → length self.new.lower + K.free kits.new ≡ length self.old.lower + K.free kits.old }
         ensures total { K.total kits.new ≡ K.total kits.old }
         ensures fitting { (k : List Kind) → K.fits k kits.old → K.fits k kits.new }
         ensures given_kinds { (k : List Kind) → K.gives k kits.new → k ≡ program.now.kinds }

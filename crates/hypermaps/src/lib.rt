@@ -161,11 +161,16 @@ impl<V: View> Hypermap<V> {
     pub fn open(alloc: Global, kit: Kit<V>) -> Self
         ensures { result ≡ record { kinds = kit; worths = identities kit } }
     {
+        Hypermap::open_in(kit, Vec::new(alloc))
+    }
+
+    /// The same, with that empty list for the reducers that will be used. It takes no memory.
+    pub fn open_in(kit: Kit<V>, used: Vec<usize>) -> Self
+        requires { used.items ≡ [] }
+        ensures { result ≡ record { kinds = kit; worths = identities kit } }
+    {
         let views = kit.into_views();
-        Hypermap {
-            views,
-            used: Vec::new(alloc),
-        }
+        Hypermap { views, used }
     }
 
     /// How many reducers there are; each has a value of its kind, which is what the laws ask.
@@ -180,8 +185,16 @@ impl<V: View> Hypermap<V> {
     pub fn close(self) -> Kit<V>
         ensures { result ≡ self.kinds }
     {
-        let Hypermap { views, used: _ } = self;
-        Kit::reset(views)
+        let (kit, _) = self.close_in();
+        kit
+    }
+
+    /// The same, and the list of the reducers that were used, for another hypermap. What it holds doesn't matter.
+    pub fn close_in(self) -> (Kit<V>, Vec<usize>)
+        ensures { result.0 ≡ self.kinds }
+    {
+        let Hypermap { views, used } = self;
+        (Kit::reset(views), used)
     }
 
     /// The value of one reducer. Want of memory is the only error.

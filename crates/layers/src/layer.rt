@@ -62,10 +62,19 @@ impl<V: View> Layer<V> {
         ensures handed_back { IfErr result (λ e. e.1 ≡ kit) }
     {
         let notes = Notes::new(alloc);
-        Layer::open_in(alloc, kit, keeps, procedures, notes, Vec::new(alloc))
+        let entered = Vec::new(alloc);
+        Layer::open_in(
+            alloc,
+            kit,
+            keeps,
+            procedures,
+            notes,
+            entered,
+            Vec::new(alloc),
+        )
     }
 
-    /// The same, in those empty lists.
+    /// The same, in those empty lists: the last one is for the reducers that will be used.
     pub fn open_in(
         alloc: Global,
         kit: Kit<V>,
@@ -73,9 +82,11 @@ impl<V: View> Layer<V> {
         procedures: usize,
         notes: Notes,
         mut entered: Vec<bool>,
+        used: Vec<usize>,
     ) -> Result<Layer<V>, (AllocError, Kit<V>)>
         requires no_notes { notes ≡ [] }
         requires no_flags { entered.items ≡ [] }
+        requires none_used { used.items ≡ [] }
         ensures open { IfOk result (λ layer. layer ≡ blank keeps kit procedures) }
         ensures handed_back { IfErr result (λ e. e.1 ≡ kit) }
     {
@@ -84,7 +95,7 @@ impl<V: View> Layer<V> {
         }
         Ok(Layer {
             keeps,
-            hypermap: Hypermap::open(alloc, kit),
+            hypermap: Hypermap::open_in(kit, used),
             notes,
             shared: Vec::new(alloc),
             entered,
@@ -99,7 +110,7 @@ impl<V: View> Layer<V> {
         self.hypermap.close()
     }
 
-    /// The same; its lists of notes and of flags are kept.
+    /// The same; its lists of notes, of flags and of used reducers are kept.
     pub fn close_in(self, spares: &mut SpareLists) -> Kit<V>
         ensures kit { result ≡ self.kinds }
     {
@@ -109,8 +120,9 @@ impl<V: View> Layer<V> {
             entered,
             ..
         } = self;
-        spares.keep_layer(notes, entered);
-        hypermap.close()
+        let (kit, used) = hypermap.close_in();
+        spares.keep_layer(notes, entered, used);
+        kit
     }
 
     /// What the type keeps: each reducer's value is of its kind.

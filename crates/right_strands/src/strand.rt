@@ -107,13 +107,14 @@ impl<J: Run, V: View> RightStrand<J, V> {
     ) -> Result<Paused, AllocError>
         requires given_kinds { (k : List Kind) → K.gives k kits.old → k ≡ J.setting.kinds }
         requires fits { K.fits J.setting.kinds kits.old }
-        requires room { suc (length self.old.strand.lower) + K.free kits.old ≤ K.total kits.old }
         ensures pause { IfOk result (λ paused. paused ≡ pause_of J.setting.codes self.old.strand) }
         ensures advanced { OnOk result (HoldsBy (K.lacks kits.old) (GivesNone K.gives kits.old)
             (λ kit. self.new.strand ≡ advanced J.setting kit self.old.strand)) }
         ensures going { OnOk result (self.new.failed ≡ self.old.failed) }
         ensures failed { OnErr result (self.new.failed ≡ true) }
-        ensures kits { length self.new.strand.lower + K.free kits.new
+        // No kit is lost, where there is room for all of them.
+        ensures kits { suc (length self.old.strand.lower) + K.free kits.old ≤ K.total kits.old
+            → length self.new.strand.lower + K.free kits.new
             ≡ length self.old.strand.lower + K.free kits.old }
         ensures total { K.total kits.new ≡ K.total kits.old }
         ensures fitting { (k : List Kind) → K.fits k kits.old → K.fits k kits.new }

@@ -9,7 +9,8 @@ use Rattle.linked_program.specs.Linked.{Linked}
 use Rattle.linked_program.specs.CodeView.{memo_of, slots_of}
 use Rattle.evaluation.specs.Values.{NumberedOut, entry_at}
 use Rattle.positions.specs.declared.work.Work.{Work}
-use Rattle.positions.specs.declared.work.Work.TheVariants.{Turns}
+use Rattle.positions.specs.declared.work.Work.TheVariants.{Block, Halves, Turns}
+use Rattle.positions.specs.declared.work.Position.{Position}
 use Rattle.positions.specs.declared.work.Loop.{Loop}
 use Rattle.positions.specs.declared.work.Share.{Share}
 use Rattle.positions.specs.Code.{loop_at}
@@ -19,7 +20,7 @@ use Rattle.positions.specs.Setting.{Setting}
 use Rattle.positions.specs.Activations.{PlainActivation, bound, waiting}
 use Rattle.positions.specs.Layers.{PlainLayer, entering}
 use Rattle.positions.specs.Strands.{PlainStrand, is_entry}
-use Rattle.positions.specs.Advance.{noted, answered, evaluated, worked, advanced, advanced_at, closed, owns_top, started_as, called_as, called, in_phase, giving, turned, turn_by, left_to, pushed, faulted, child_of}
+use Rattle.positions.specs.Advance.{begun, started_by, noted, answered, evaluated, worked, advanced, advanced_at, closed, owns_top, started_as, called_as, called, in_phase, giving, turned, turn_by, left_to, pushed, faulted, child_of}
 use Rattle.own_statements.specs.Paths.{IsNext, IsPath, here, on, MayPass, topped, ComesTo}
 use Rattle.own_statements.proofs.Paths.{path_join}
 use Rattle.small_steps.specs.Steps.{nested_plain, entered_plain}
@@ -67,6 +68,19 @@ module _ (setting : Setting) where
   leave_ahead v s t phase is =
       subst (λ (u : PlainStrand). IsAhead setting s u) (sym is)
       (record { path = on s (left_to s.below v s) here (λ kit. sym (ap (λ ph. advanced_at setting kit ph s) phase)); lower = left_lower s.below v s; kinds = left_kinds s.below v s; tally = left_tally s.below v s })
+
+  -- an instance of a procedure that isn't marked memo is entered
+  pub begin_ahead : (p : Position) (s t : PlainStrand) → s.phase ≡ Entering → s.top.work ≡ Block p → memo_of setting.codes s.top.procedure ≡ false → t ≡ begun s → IsAhead setting s t
+  begin_ahead p s t phase work memo is =
+      let step : IsNext setting s (begun s) = λ kit.
+      sym (ap (λ ph. advanced_at setting kit ph s) phase ∙ ap (λ w. started_by setting kit w s) work ∙ ap (λ m. started_as setting kit m s) memo) in
+      subst (λ (u : PlainStrand). IsAhead setting s u) (sym is) (record { path = on s (begun s) here step; lower = refl; kinds = refl; tally = refl })
+
+  -- a loop's half is entered
+  pub half_ahead : (l : Loop) (n : ℕ) (h : Share) (s t : PlainStrand) → s.phase ≡ Entering → s.top.work ≡ Halves l n h → t ≡ in_phase Running s → IsAhead setting s t
+  half_ahead l n h s t phase work is =
+      let step : IsNext setting s (in_phase Running s) = λ kit. sym (ap (λ ph. advanced_at setting kit ph s) phase ∙ ap (λ w. started_by setting kit w s) work) in
+      subst (λ (u : PlainStrand). IsAhead setting s u) (sym is) (record { path = on s (in_phase Running s) here step; lower = refl; kinds = refl; tally = refl })
 
   -- the implicit sync is passed
   pub sync_ahead : (v : ℤ) (s : PlainStrand) → s.phase ≡ Returning v → is_entry s ≡ false → owns_top s ≡ false → IsAhead setting s (in_phase (Leaving v) s)

@@ -65,6 +65,7 @@ fn go_ahead<V: View>(machine: &mut Machine<V>, alloc: Global, setting: Setting<'
     ensures ahead { IsAhead (lent setting.entry) machine.old machine.new }
 {
     match machine.phase {
+        Phase::Entering => enter_alone(machine, setting),
         Phase::Running => match machine.top.work() {
             Work::Block(_) => block_ahead(machine, alloc, setting),
             Work::Over => block_ahead(machine, alloc, setting),
@@ -73,6 +74,28 @@ fn go_ahead<V: View>(machine: &mut Machine<V>, alloc: Global, setting: Setting<'
         },
         Phase::Returning(value) => sync_ahead(machine, value),
         Phase::Leaving(value) => leave_ahead(machine, value),
+        _ => false,
+    }
+}
+
+/// Enters the topmost instance, where that is a loop's half or of a procedure that isn't marked memo.
+#[tactic(auto, using(crate::proofs::Paths::ahead_here))]
+fn enter_alone<V: View>(machine: &mut Machine<V>, setting: Setting<'_>) -> bool
+    requires entering { machine.old.phase ≡ Phase.Entering }
+    ensures ahead { IsAhead (lent setting.entry) machine.old machine.new }
+{
+    match machine.top.work() {
+        Work::Block(_) => {
+            if setting.program.is_memo(machine.top.procedure()) {
+                return false;
+            }
+            machine.begin();
+            true
+        }
+        Work::Halves(_, _, _) => {
+            machine.phase = Phase::Running;
+            true
+        }
         _ => false,
     }
 }

@@ -5,3 +5,4 @@ pub mod Supplies
 pub mod Refusals
 pub mod Memos
 pub mod Nesting
+pub mod Leaving

@@ -1,7 +1,7 @@
 -- Instances that are called or spawned: what is done is what the step says.
 use Rattle.std.proofs.Common.{◌≡◌, ℕ, ◌==◌, Bool, true, false, if◌then◌else◌, List, Option, Some, None, Result, Ok, Err, pos, refl, sym, ap, ◌∙◌, subst, length, OnOk, OnErr}
 use Rattle.program_tree.specs.declared.Way.{Way}
-use Rattle.program_tree.specs.declared.Way.TheVariants.{Call}
+use Rattle.program_tree.specs.declared.Way.TheVariants.{Call, Spawn}
 use Rattle.meaning.specs.declared.FaultKind.TheVariants.{TooDeep}
 use Rattle.linked_program.specs.Linked.{Linked}
 use Rattle.linked_program.specs.CodeView.{memo_of}
@@ -14,7 +14,7 @@ use Rattle.positions.specs.declared.work.Position.{Position}
 use Rattle.positions.specs.declared.work.Loop.{Loop}
 use Rattle.positions.specs.declared.work.Share.{Share}
 use Rattle.positions.specs.declared.work.Work.{Work}
-use Rattle.positions.specs.declared.phase.Phase.TheVariants.{Entering}
+use Rattle.positions.specs.declared.phase.Phase.TheVariants.{Entering, AtSpawn}
 use Rattle.positions.specs.Setting.{Setting}
 use Rattle.positions.specs.Activations.{PlainActivation}
 use Rattle.positions.specs.Code.{PlainLoop, loop_at, instruction_inside}
@@ -43,6 +43,13 @@ module _ (setting : Setting) (kit : Bool) where
       ∙ sym (ap (λ y. nested setting kit n y into w f slots s) call
       ∙ ap (λ b. if b then faulted n TooDeep s else entered setting kit Call into w f slots s) deep
       ∙ ap (λ b. started_as setting kit b (pushed (child_of f slots s) false into w Entering s)) memo)
+
+  -- a memo child is spawned
+  pub nested_spawn : (n : ℕ) (way : Way) (into : Option ℕ) (w : Work) (f : ℕ) (slots : List Slot) (s : PlainStrand) (child : PlainActivation) → way ≡ Spawn → (s.top.left == 0) ≡ false
+      → child ≡ child_of f slots s → pushed child true into w AtSpawn s ≡ nested setting kit n way into w f slots s
+  nested_spawn n way into w f slots s child spawn deep is =
+      ap (λ (a : PlainActivation). pushed a true into w AtSpawn s) is
+      ∙ sym (ap (λ y. nested setting kit n y into w f slots s) spawn ∙ ap (λ b. if b then faulted n TooDeep s else entered setting kit Spawn into w f slots s) deep)
 
   pub called_memo : (n : ℕ) (way : Way) (into : Option ℕ) (w v : Work) (f : ℕ) (es : List Linked) (slots : List Slot) (s : PlainStrand) → memo_of setting.codes f ≡ true → w ≡ v
       → evaluated n (values_at setting.tables slots es) (nested_memo setting kit n way into w f) s ≡ called setting kit n way into v f es slots s

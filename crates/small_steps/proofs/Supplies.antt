@@ -25,7 +25,7 @@ module _ (lacks none : Type 0) where
 module _ {S : Type 0} (fits gives : List Kind → S → Type 0) (free total : S → ℕ) (kinds : List Kind) (kits : S) where
   -- no kit was taken or given back
   pub kits_stay : (before after : List PlainLayer) → ((k : List Kind) → gives k kits → k ≡ kinds) → after ≡ before → KeepsKits fits gives free total kinds kits kits before after
-  kits_stay before after given e = record { count = ap (λ ls. length ls + free kits) e; all = refl; fitting = λ k h. h; given = given }
+  kits_stay before after given e = record { count = λ room. ap (λ ls. length ls + free kits) e; all = refl; fitting = λ k h. h; given = given }
 
   pub supplied_as : (records : List PlainRecord) (topmost topmost' : List Kind) (lower lower' : List PlainLayer) → topmost' ≡ topmost → lower' ≡ lower
       → IsSupplied fits gives free total kinds kits records topmost lower → IsSupplied fits gives free total kinds kits records topmost' lower'
@@ -50,11 +50,11 @@ module _ {S : Type 0} (fits gives : List Kind → S → Type 0) (free total : S 
   count_home (l ∷ ls) h room sent = let e : free new ≡ suc (free old) = sent (omega arith) in omega arith
 
   -- the topmost layer's kit came home
-  pub one_home : (before after : List PlainLayer) → 0 < length before → after ≡ below_top before → suc (length before) + free old ≤ total old → home ≡ kinds
+  pub one_home : (before after : List PlainLayer) → 0 < length before → after ≡ below_top before → home ≡ kinds
       → ((k : List Kind) → fits k old → fits k new) → ((k : List Kind) → gives k new → gives k old ⊎ home ≡ k) → (free old < total old → free new ≡ suc (free old)) → total new ≡ total old
       → ((k : List Kind) → gives k old → k ≡ kinds) → KeepsKits fits gives free total kinds old new before after
-  one_home before after some low room e fitting kept sent all given = record {
-    count = rw low (count_home before some room sent);
+  one_home before after some low e fitting kept sent all given = record {
+    count = λ room. rw low (count_home before some room sent);
     all = all;
     fitting = fitting;
     given = λ k. gives_or (gives k new) (gives k old) home kinds k e (given k) (kept k);

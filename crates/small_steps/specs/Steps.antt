@@ -87,11 +87,10 @@ module _ {S : Type 0} (fits gives : List Kind → S → Type 0) (free total : S 
     pub values : HaveValues kinds records
     pub given : (k : List Kind) → gives k kits → k ≡ kinds
     pub home : fits kinds kits
-    pub room : suc (length lower) + free kits ≤ total kits
 
-  -- no kit is lost: it is in a layer, or free
+  -- no kit is lost, where there is room for all of them: it is in a layer, or free
   pub record KeepsKits (old new : S) (before after : List PlainLayer) : Type 0 where
-    pub count : length after + free new ≡ length before + free old
+    pub count : suc (length before) + free old ≤ total old → length after + free new ≡ length before + free old
     pub all : total new ≡ total old
     pub fitting : (k : List Kind) → fits k old → fits k new
     pub given : (k : List Kind) → gives k new → k ≡ kinds

@@ -92,7 +92,7 @@ impl<V: View> Machine<V> {
     }
 
     /// Begins the topmost instance, one of a procedure: it is noted.
-    pub(crate) fn begin(&mut self)
+    pub fn begin(&mut self)
         ensures begun { self.new ≡ begun self.old }
     {
         let depth = DEEPEST.saturating_sub(self.top.left());
@@ -146,6 +146,7 @@ impl<V: View> Machine<V> {
         };
         self.path.reserve(1)?;
         self.below.reserve(1)?;
+        self.spares.make_room();
         self.place.clear();
         self.place.extend_from_slice(&self.path)?;
         self.place.push(number)?;

@@ -1,5 +1,5 @@
 // Memo instances: a record answers them, or they begin in a layer of their own, which becomes a record at their end.
-ghost use Rattle.std.specs.Prelude.{◌≡◌, suc, ◌+◌, ◌≤◌, ◌<◌, ◌⊎◌, List, All, IfErr, IfOk, OnErr, OnOk, length, option_copied};
+ghost use Rattle.std.specs.Prelude.{◌≡◌, ◌<◌, ◌⊎◌, List, All, IfErr, IfOk, OnErr, OnOk, length, option_copied};
 ghost use Rattle.monoid_laws.specs.declared.Kind.{Kind};
 ghost use Rattle.monoid_laws.specs.Kinds.{IsMonoid};
 ghost use Rattle.rerun_records.specs.Named.{AreValuesFrom, HaveValues};
@@ -110,7 +110,6 @@ impl<V: View> Machine<V> {
     ) -> Result<(), AllocError>
         requires given_kinds { (k : List Kind) → K.gives k kits.old → k ≡ program.now.kinds }
         requires fits { K.fits program.now.kinds kits.old }
-        requires room { suc (length self.old.lower) + K.free kits.old ≤ K.total kits.old }
         ensures with_kit { OnOk result ((K.lacks kits.old → ⊥) → self.new ≡ opened_in program.now.kinds (length program.now.codes) self.old) }
         ensures without_kit { OnOk result (GivesNone K.gives kits.old → self.new ≡ passed self.old) }
         ensures either { OnOk result ((self.new ≡ opened_in program.now.kinds (length program.now.codes) self.old) ⊎ (self.new ≡ passed self.old)) }
@@ -162,7 +161,9 @@ impl<V: View> Machine<V> {
         };
         let notes = self.lists.notes(alloc);
         let flags = self.lists.flags(alloc);
-        let layer = match Layer::open_in(alloc, kit, true, program.codes().len(), notes, flags) {
+        let used = self.lists.used(alloc);
+        let count = program.codes().len();
+        let layer = match Layer::open_in(alloc, kit, true, count, notes, flags, used) {
             Ok(layer) => layer,
             Err(refused) => return Err(refused),
         };

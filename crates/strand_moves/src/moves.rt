@@ -179,8 +179,10 @@ pub fn take_out<V: View>(machine: &mut Machine<V>, alloc: Global) -> Task
     ensures child { machine.new ≡ detached machine.old }
 {
     machine.phase = Phase::Entering;
-    let place = mem::replace(&mut machine.place, Vec::new(alloc));
-    let mut below = mem::replace(&mut machine.below, Vec::new(alloc));
+    let name = machine.spares.name(alloc);
+    let waiting = machine.spares.waiting(alloc);
+    let place = mem::replace(&mut machine.place, name);
+    let mut below = mem::replace(&mut machine.below, waiting);
     match below.pop() {
         Some(top) => Task { place, top, below },
         None => unreachable!(),
@@ -233,10 +235,11 @@ pub fn go_on_with<V: View>(machine: &mut Machine<V>, task: Task)
             below,
         } = task;
         top.receive(value);
-        machine.top = top;
-        machine.below = below;
+        let over = mem::replace(&mut machine.top, top);
+        let waiting = mem::replace(&mut machine.below, below);
+        let name = mem::replace(&mut machine.place, place);
+        machine.spares.keep_child(over, waiting, name);
         let _ = machine.path.pop();
-        machine.place = place;
         machine.phase = Phase::Running;
     }
 }

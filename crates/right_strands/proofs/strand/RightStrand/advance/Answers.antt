@@ -25,9 +25,6 @@ advance-requires-clause-given_kinds g c κs within k h = c.requires.given_kinds 
 pub advance-requires-clause-fits : goal.advance-requires-clause-fits
 advance-requires-clause-fits g c κs within = subst (λ (k : List Kind). g.K.KitSource.fits k c.args.kits.now) (sym (kinds_are g.J.Run.setting c.scene.inside.program.now c.scene.inside.tables.now c.scene.inside.records.now c.scene.invariant)) c.requires.fits
 
-pub advance-requires-clause-room : goal.advance-requires-clause-room
-advance-requires-clause-room g c κs within = subst (λ (s : PlainRight). suc (length s.strand.lower) + g.K.KitSource.free c.args.kits.now ≤ g.K.KitSource.total c.args.kits.now) (sym c.self.view_is) c.requires.room
-
 pub invariant_of-self : goal.invariant_of-self
 invariant_of-self g c =
     step_kept g.J.Run.setting c.scene.inside.program.now c.scene.inside.tables.now c.scene.inside.records.now c.scene.invariant _ _ c.self.inside.strand c.advance.new.self c.in-Ok.ensures.advanced c.in-Ok.ensures.small_step c.in-Ok.ensures.kinds c.self.inside.start c.self.inside.failed c.self.invariant

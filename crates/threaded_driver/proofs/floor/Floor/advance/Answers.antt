@@ -9,7 +9,8 @@ loop-preserved g c =
     let ahead : s.lower ≡ c.loop.strand.strand.lower = c.go_ahead.ensures.lower in
     let same : length s.lower ≡ length c.loop.strand.strand.lower = ap length ahead in
     let room : suc (length c.loop.strand.strand.lower) + c.loop.supply.free ≤ c.loop.supply.total = c.loop.invariant.1 in
-    let kits : length c.advance.new.self.strand.lower + c.advance.new.kits.free ≡ length s.lower + c.loop.supply.free = c.in_ok-paused.ensures.kits in
+    let inside : suc (length s.lower) + c.loop.supply.free ≤ c.loop.supply.total = omega arith in
+    let kits : length c.advance.new.self.strand.lower + c.advance.new.kits.free ≡ length s.lower + c.loop.supply.free = c.in_ok-paused.ensures.kits inside in
     let total : c.advance.new.kits.total ≡ c.loop.supply.total = c.in_ok-paused.ensures.total in
     (stays ∙ c.in_ok-go_ahead.ensures.spot ∙ c.loop.invariant.0, omega arith)
 
