@@ -5,12 +5,8 @@ use program_endings::program_error::{ProgramError, status};
 use program_endings::session_error::SessionError;
 use std::alloc::Global;
 use std::process::Abort;
-use sync_fold::BookError;
+use sync_fold::Refusal;
 use threaded_driver::Mismatch;
-
-const MISMATCH: Mismatch = Mismatch {
-    refusal: BookError::NotThere,
-};
 
 // Compares what is said of an error, and its status.
 fn is_said(rt: &impl Abort, alloc: Global, error: ProgramError, said: &str, wanted: u8) {
@@ -34,7 +30,9 @@ fn errors_and_their_statuses(rt: HostRuntime) {
     let alloc = rt.alloc();
     is_said_of_a_session(&rt, alloc, SessionError::NoMemory, "out of memory", 3);
     is_said_of_a_session(&rt, alloc, SessionError::NoKit, "no kit", 3);
-    let mismatch = SessionError::Mismatch(MISMATCH);
+    // A refusal for want of memory is the only one that can be made here.
+    let refusal = Refusal::without_memory();
+    let mismatch = SessionError::Mismatch(Mismatch { refusal });
     is_said_of_a_session(&rt, alloc, mismatch, "worker mismatch", 3);
     is_said_of_a_session(&rt, alloc, SessionError::Notes, "failed output", 1);
     let error = ProgramError::Prepare(PrepareError::NoMemory);

@@ -1,5 +1,5 @@
 -- How a run by given steps ends: where the definitions' steps lead to, and with the elision's answer.
-use Rattle.std.proofs.Common.{◌≡◌, ℕ, false, List, length, Option, Some, None, Result, Ok, Err, OnOk, is_err, refl, sym, ap, subst, ◌∙◌}
+use Rattle.std.proofs.Common.{◌≡◌, ◌≤◌, ℕ, true, false, List, length, Option, Some, None, Result, Ok, Err, OnOk, OnErr, is_err, refl, sym, ap, subst, ◌∙◌}
 use Rattle.monoid_laws.specs.declared.Kind.{Kind}
 use Rattle.view_pool.specs.Stock.{Stock}
 use Rattle.program_tree.specs.View.{tree}
@@ -27,12 +27,17 @@ comes_by c d steps n given f h comes =
     let at : ComesToEnd (record c { strands = d.strands }) given = subst (λ (z : PlainCore). ComesToEnd z given) h.same comes in
     record { marks = h.marks; placed = h.placed; counted = h.counted; comes = λ k x r s. let l = h.follows f k x r s in at f k _ l.0 l.1 }
 
-pub ends_by : (c d : PlainCore) (steps : List Step) (n : ℕ) (given : RunAnswer) → c.failed ≡ false → AreTaken steps n c d → ComesToEnd d given → EndsBy c steps n given
-ends_by c d steps n answer.NoMemory f h comes = tt
-ends_by c d steps n answer.NoKit f h comes = comes_by c d steps n answer.NoKit f h comes
-ends_by c d steps n answer.Unfinished f h comes = comes_by c d steps n answer.Unfinished f h comes
-ends_by c d steps n (answer.Fault k) f h comes = comes_by c d steps n (answer.Fault k) f h comes
-ends_by c d steps n (answer.Finished v ws i j k) f h comes = comes_by c d steps n (answer.Finished v ws i j k) f h comes
+pub ends_by : (c d : PlainCore) (steps : List Step) (n : ℕ) (given : RunAnswer) → n ≤ length steps → c.failed ≡ false → AreTaken steps n c d → ComesToEnd d given → EndsBy c steps n given
+ends_by c d steps n answer.NoMemory within f h comes = within
+ends_by c d steps n answer.NoKit within f h comes = comes_by c d steps n answer.NoKit f h comes
+ends_by c d steps n answer.Unfinished within f h comes = comes_by c d steps n answer.Unfinished f h comes
+ends_by c d steps n (answer.Fault k) within f h comes = comes_by c d steps n (answer.Fault k) f h comes
+ends_by c d steps n (answer.Finished v ws i j k) within f h comes = comes_by c d steps n (answer.Finished v ws i j k) f h comes
+
+-- what holds where there is an error
+pub where_err : {E : Type 0} (r : Result Unit E) (P : Type 0) → is_err r ≡ true → OnErr r P → P
+where_err (Ok x) P e h = absurd cc
+where_err (Err x) P e h = h
 
 -- what holds where there is no error
 pub where_ok : {E : Type 0} (r : Result Unit E) (P : Type 0) → is_err r ≡ false → OnOk r P → P
@@ -70,7 +75,7 @@ module _ (program : PlainChecked) (tables : Edited) (records : List PlainRecord)
     begun_at k (answer.Finished v ws i j m) h = tt
 
     led_at : (k : AreSoundFor program records) (given : RunAnswer) → EndsBy (first_with s) steps n given → IsLed (lent program tables pool records) workers steps n given
-    led_at k answer.NoMemory h = tt
+    led_at k answer.NoMemory h = h
     led_at k answer.NoKit h = absurd (not_begun k h)
     led_at k answer.Unfinished h = led_by answer.Unfinished h
     led_at k (answer.Fault f) h = led_by (answer.Fault f) h

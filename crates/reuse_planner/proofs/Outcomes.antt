@@ -22,7 +22,7 @@ use Rattle.reuse_planner.specs.Runs.{IsLed}
 -- ---- of what a run was lent, back to the session
 
 led_lent : (s : PlainSession) (workers : ℕ) (steps : List Step) (n : ℕ) (given : RunAnswer) → IsLed (lent s.checked s.tables s.kits s.records) workers steps n given → IsLed s workers steps n given
-led_lent s workers steps n answer.NoMemory h = tt
+led_lent s workers steps n answer.NoMemory h = h
 led_lent s workers steps n answer.NoKit h = h
 led_lent s workers steps n answer.Unfinished h = record { marks = h.marks; placed = h.placed; counted = h.counted; comes = h.comes }
 led_lent s workers steps n (answer.Fault f) h = record { marks = h.marks; placed = h.placed; counted = h.counted; comes = h.comes }

@@ -1,5 +1,5 @@
 -- What the steps that a run is given make of it.
-use Rattle.std.specs.Prelude.{◌≡◌, ℕ, Bool, false, List, [], ◌∷◌, map, Option, Some}
+use Rattle.std.specs.Prelude.{◌≡◌, ◌≤◌, ℕ, Bool, false, length, List, [], ◌∷◌, map, Option, Some}
 use Rattle.meaning.specs.Schedules.{RunState, RunStep, or_same, path, end_of}
 use Rattle.frames.specs.declared.answer.RunAnswer.{RunAnswer}
 use Rattle.frames.specs.declared.answer.RunAnswer.TheVariants as answer
@@ -67,7 +67,7 @@ pub record ComesBy (c : PlainCore) (steps : List Step) (inlined : ℕ) (given : 
       (k : HasSound c) (x : RunState) → IsReached (recalling c k) x → StandsForUnflagged (recalling c k) (run_of c.strands) x
       → IsEndBy c.program (end_of (path_in (recalling c k) x (by_workers c.workers (done_of marks (map run_step steps))))) given
 
--- unless memory was refused
+-- unless memory was refused: then no more steps than there are were done as inlines
 abbrev pub EndsBy : PlainCore → List Step → ℕ → RunAnswer → Type 0
-EndsBy c steps inlined answer.NoMemory = Unit {0}
+EndsBy c steps inlined answer.NoMemory = inlined ≤ length steps
 EndsBy c steps inlined given = ComesBy c steps inlined given

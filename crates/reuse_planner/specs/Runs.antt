@@ -1,5 +1,5 @@
 -- What a run by steps makes of a session.
-use Rattle.std.specs.Prelude.{◌≡◌, ◌↔◌, ℕ, Bool, List, [], map, length}
+use Rattle.std.specs.Prelude.{◌≡◌, ◌↔◌, ◌≤◌, ℕ, Bool, List, [], map, length}
 use Rattle.meaning.specs.Schedules.{RunState, RunStep, first_state, path, end_of}
 use Rattle.positions.specs.Setting.{Setting}
 use Rattle.frames.specs.declared.answer.RunAnswer.{RunAnswer}
@@ -28,10 +28,10 @@ module _ (s : PlainSession) (workers : ℕ) (steps : List Step) where
     pub counted : marked marks ≡ inlined
     pub comes : (k : AreSoundFor s.checked s.records) → IsEndBy s.checked (end_of (led (setting_by s.checked s.tables s.records k) (length s.kits.kits) (taken_with marks))) given
 
-  -- a run that memory was refused to, or that was not begun, ends anywhere
+  -- a run that memory was refused to ends anywhere; of its own pushes alone were some done as inlines, and of one that was not begun none
   abbrev pub IsLed : ℕ → RunAnswer → Type 0
-  IsLed inlined answer.NoMemory = Unit {0}
-  IsLed inlined answer.NoKit = s.kits.kits ≡ []
+  IsLed inlined answer.NoMemory = inlined ≤ length steps
+  IsLed inlined answer.NoKit = (s.kits.kits ≡ []) × (inlined ≡ 0)
   IsLed inlined given = IsLedBy inlined given
 
 -- a run that was begun

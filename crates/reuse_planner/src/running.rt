@@ -1,5 +1,5 @@
 // Runs of a session by steps that are given.
-ghost use Rattle.std.specs.Prelude.{◌≡◌, ◌↔◌, ◌<◌, [], false, All, IfOk, OnOk, length};
+ghost use Rattle.std.specs.Prelude.{◌≡◌, ◌↔◌, ◌<◌, ◌≤◌, [], false, All, IfOk, OnOk, length};
 ghost use Rattle.linked_program.specs.TableNames.{columned_of};
 ghost use Rattle.rerun_records.specs.Doubted.{IsInStep};
 ghost use Rattle.rerun_records.specs.Named.{HaveValues};
@@ -47,6 +47,7 @@ pub(crate) fn run_on<V: View>(
     requires in_step { IsInStep tables.now.tables records.now }
     ensures elision { IsFromScratch (standing_of (lent checked.now tables.now pool records.now)) result.answer }
     ensures led { IsLed (lent checked.now tables.now pool records.now) workers steps.now result.inlined result.answer }
+    ensures within { result.inlined ≤ length steps.now }
     ensures begun { IsBegun result.answer }
     ensures recorded { HasRecordedBy checked.now tables.now records.now result.answer result.made.items }
     ensures values { HaveValues checked.now.kinds result.made.items }
@@ -70,6 +71,7 @@ fn go<V: View>(alloc: Global, core: Core<'_, V>, steps: &[Step]) -> Ended<V>
     requires going { core.failed ≡ false }
     ensures elision { AnswersElision core.entry result.answer }
     ensures led { EndsBy core.entry steps.now result.inlined result.answer }
+    ensures within { result.inlined ≤ length steps.now }
     ensures recorded { HasRecorded core.entry result.answer result.made.items }
     ensures values { HaveValues core.entry.program.kinds result.made.items }
     ensures free { length result.pool.kits ≡ kits_in core.entry.strands }
@@ -107,6 +109,7 @@ fn drive<V: View>(
     requires none { inlined.old ≡ 0 }
     ensures same { IsSameRun core.old core.new }
     ensures taken { OnOk result (AreTaken steps.now inlined.new core.old core.new) }
+    ensures within { inlined.new ≤ length steps.now }
 {
     for step in steps {
         if take(alloc, core, step)? {

@@ -1,5 +1,5 @@
 -- A small step of a right strand, and a run's beginning.
-use Rattle.std.proofs.Common.{◌≡◌, inl, inr, Bool, true, false, List, refl, sym, ap, ◌∙◌, subst}
+use Rattle.std.proofs.Common.{◌≡◌, inl, inr, Bool, true, false, List, [], refl, sym, ap, ◌∙◌, subst}
 use Rattle.monoid_laws.specs.declared.Kind.{Kind}
 use Rattle.meaning.specs.Tables.{Tables}
 use Rattle.meaning.specs.Records.{Kept}
@@ -114,6 +114,10 @@ path_kept setting p e r set s s' steps kinds start failed h =
 
 pub failed_kept : (setting : Setting) (start start' : Start) (failed : Bool) (s s' : PlainStrand) → s'.layer.kinds ≡ s.layer.kinds → IsHeld setting start failed s → IsHeld setting start' true s'
 failed_kept setting start start' failed s s' kinds h = record { kinds = kinds ∙ h.kinds; right = λ n. cc; begins = λ n. cc }
+
+-- it is main's strand of the definitions
+pub first_named : (setting : Setting) (p : PlainChecked) (e : Edited) (r : List PlainRecord) → IsSet setting p e r → (s : PlainStrand) → ((tables : Tables) (kept : List Kept) (records : List PlainRecord) → IsFirst (setting_with p tables kept records) s) → IsFirst setting s
+first_named setting p e r set s first = subst (λ (i : Setting). IsFirst i s) set.same (first e.tables [] r)
 
 pub first_kept : (setting : Setting) (p : PlainChecked) (e : Edited) (r : List PlainRecord) → IsSet setting p e r → (s : PlainStrand) (kit : List Kind) → kit ≡ setting.kinds → s.layer.kinds ≡ kit → s ≡ first_strand p.codes kit p.initials p.main → ((tables : Tables) (kept : List Kept) (records : List PlainRecord) → IsFirst (setting_with p tables kept records) s) → IsHeld setting Root false s
 first_kept setting p e r set s kit same kinds is first = record {

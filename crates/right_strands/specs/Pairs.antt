@@ -25,6 +25,12 @@ pub record PlainPair : Type 0 where
   pub left : PlainStrand
   pub right : PlainStrand
 
+-- but for reducers' values that have moved from the right one to the left, and have the same product, two are as they were
+pub record IsStill (old new : PlainPair) : Type 0 where
+  pub left : new.left ≡ with_worths new.left.layer.worths old.left
+  pub right : new.right ≡ with_worths new.right.layer.worths old.right
+  pub product : operate_all old.left.layer.kinds new.left.layer.worths new.right.layer.worths ≡ operate_all old.left.layer.kinds old.left.layer.worths old.right.layer.worths
+
 abbrev pub is_over : Rest → Bool
 is_over rest.Ended = true
 is_over rest.Faulted = true

@@ -1,7 +1,7 @@
 //! Neighbours that become one strand.
-ghost use Rattle.std.specs.Prelude.{◌≡◌, true, false, IfOk};
+ghost use Rattle.std.specs.Prelude.{◌≡◌, [], true, false, IfOk, IfErr};
 ghost use Rattle.positions.specs.Moves.{joined};
-ghost use Rattle.right_strands.specs.Pairs.{is_over, is_waiting, frees, may_pair};
+ghost use Rattle.right_strands.specs.Pairs.{IsStill, is_over, is_waiting, frees, may_pair};
 
 use crate::laid::{Piece, Rest};
 use crate::run::{Run, Scene};
@@ -88,7 +88,8 @@ impl<J: Run, V: View> Pair<J, V> {
         }
     }
 
-    /// The right strand of both, and the kit of the right one; the pair is handed back where memory is refused.
+    /// The right strand of both, and the kit of the right one. Where memory is refused the pair is handed back, of the same two
+    /// strands, but for reducers' values that have moved from the right one to the left.
     pub fn join(
         self,
         scene: &Scene<'_, J>,
@@ -96,6 +97,8 @@ impl<J: Run, V: View> Pair<J, V> {
         ensures joined { IfOk result (λ r. r.0
             ≡ record { strand = joined self.left self.right; failed = false }) }
         ensures kit { IfOk result (λ r. r.1 ≡ J.setting.kinds) }
+        ensures one_layer { IfOk result (λ r. self.right.lower ≡ []) }
+        ensures still { IfErr result (λ e. IsStill self e.1) }
     {
         scene.kept();
         let Pair {

@@ -4,7 +4,7 @@ ghost use Rattle.monoid_laws.specs.declared.Kind.{Kind};
 ghost use Rattle.meaning.specs.SmallStep.{same_name};
 ghost use Rattle.positions.specs.Advance.{advanced, pause_of};
 ghost use Rattle.positions.specs.Moves.{inlined, detached, attached, resumed, stolen, lowest_alone, at_update};
-ghost use Rattle.positions.specs.Simulation.{place_of};
+ghost use Rattle.positions.specs.Simulation.{IsFirst, place_of};
 ghost use Rattle.answered_loops.specs.Ways.{IsWay};
 ghost use Rattle.strand_moves.specs.Joins.{HasFault};
 ghost use Rattle.own_statements.specs.Paths.{IsPath};
@@ -41,13 +41,15 @@ impl<J: Run, V: View> Model for RightStrand<J, V> {
 }
 
 impl<J: Run, V: View> RightStrand<J, V> {
-    /// The strand of the run's beginning. Want of memory is the only error; it hands the kit back.
+    /// The strand of the run's beginning, main's of the definitions. Want of memory is the only error; it hands the kit back.
     pub fn first(
         alloc: Global,
         scene: &Scene<'_, J>,
         kit: Kit<V>,
     ) -> Result<RightStrand<J, V>, (AllocError, Kit<V>)>
         requires kit { kit ≡ J.setting.kinds }
+        ensures first { IfOk result (λ s. IsFirst J.setting s.strand) }
+        ensures begins { IfOk result (λ s. s.strand.start ≡ Start.Root) }
         ensures going { IfOk result (λ s. s.failed ≡ false) }
         ensures handed_back { IfErr result (λ e. e.1 ≡ kit) }
     {

@@ -7,15 +7,16 @@ use Rattle.meaning.specs.Strands.{State, Held, Ended, Stalled, Faulted, Finished
 use Rattle.strand_theory.proofs.Names.{same_name_true, both_are}
 use Rattle.strand_theory.proofs.Books.{NoneAt}
 use Rattle.positions.specs.Simulation.{place_of}
+use Rattle.positions.specs.Strands.{PlainStrand}
 use Rattle.right_strands.specs.Laid.{PlainPiece, ends_as}
-use Rattle.right_strands.specs.Pairs.{PlainPair, is_over, is_waiting}
+use Rattle.right_strands.specs.Pairs.{PlainPair, IsStill, is_over, is_waiting}
 use Rattle.strand_list.specs.declared.rest.Rest.{Rest}
 use Rattle.strand_list.specs.declared.rest.Rest.TheVariants as rest
 use Rattle.strand_list.specs.Laying.{state_as}
 use Rattle.strand_list.specs.Pages.{position, removes, Apart, is_pair, begins_pair, begins_with}
 use Rattle.strand_list.specs.Replays.{LeavesRootAlone}
 use Rattle.strand_list.specs.Chronicled.{PlainChronicle}
-use Rattle.sync_fold.specs.Books.{PlainLaid, FitsLine, Fits, IsBook, may_be_one, may_touch, RestsAs, ArePair, BeginWithPair, BeginAt, folded, halved, IsHalved, ends_alone}
+use Rattle.sync_fold.specs.Books.{PlainLaid, FitsLine, Fits, IsBook, may_be_one, may_touch, RestsAs, ArePair, BeginWithPair, IsPairOf, IsMadeOf, BeginAsPair, BeginAt, folded, halved, IsHalved, ends_alone}
 use Rattle.sync_fold.specs.declared.laid.Laid.TheVariants.{Nothing, Whole, Half, Lent}
 
 -- ---- lengths, and what is left behind a line
@@ -59,7 +60,7 @@ fits_becomes p s d ((q, t) ∷ ls) (e ∷ ds) i f h = by (bytes_eq q p) refl i (
 
 -- ---- a fold
 
-or_false : (a b : Bool) → a ≡ false → (a || b) ≡ true → b ≡ true
+pub or_false : (a b : Bool) → a ≡ false → (a || b) ≡ true → b ≡ true
 or_false true b e f = absurd cc
 or_false false b e f = f
 
@@ -69,7 +70,7 @@ none_fold l r (x ∷ []) h e = cc
 none_fold l r ((p, s) ∷ (q, t) ∷ ls) h e =
     none_fold l r ((q, t) ∷ ls) h.1 (or_false (is_pair l r (p, s) (q, t)) (may_fold ((q, t) ∷ ls) l r) (ap (λ b. b && bytes_eq q r && done s && waits t) h.0) e)
 
-same_none : (p l : Place) (ls : List Line) → bytes_eq p l ≡ true → NoneAt p ls → NoneAt l ls
+pub same_none : (p l : Place) (ls : List Line) → bytes_eq p l ≡ true → NoneAt p ls → NoneAt l ls
 same_none p l ls e h = subst (λ q. NoneAt q ls) ((bytes_eq-Decides p l).0 e) h
 
 -- the pair that may be folded begins at the left strand's line
@@ -202,23 +203,43 @@ pair_within (suc k) (d ∷ ds) h = let i = pair_within k ds h in omega arith
 rests_fit : (p : Place) (s : State) (d : PlainLaid) (r : Rest) → FitsLine (p, s) d → RestsAs d r → s ≡ state_as r
 rests_fit p s Nothing r f e = absurd e
 rests_fit p s (Whole q) r f e = f.0 ∙ ap state_as (sym e)
-rests_fit p s (Half q t) r f e = f ∙ ap state_as (sym e)
+rests_fit p s (Half q t) r f e = f.0 ∙ ap state_as (sym e)
 rests_fit p s (Lent t) r f e = f ∙ ap state_as (sym e)
 
+-- a pair is at the place of its left strand
+made_fits : (x : Line) (d e : PlainLaid) (pair : PlainPair) → FitsLine x d → IsMadeOf d e pair → place_of pair.left.start pair.left.path ≡ x.0
+made_fits x Nothing e pair f m = absurd m
+made_fits x (Whole p) Nothing pair f m = absurd m
+made_fits x (Whole p) (Whole q) pair f m = ap (λ (s : PlainStrand). place_of s.start s.path) m.left ∙ f.1
+made_fits x (Whole p) (Half q r) pair f m = absurd m
+made_fits x (Whole p) (Lent r) pair f m = absurd m
+made_fits x (Half q r) e pair f m = ap (λ (s : PlainStrand). place_of s.start s.path) m.left ∙ f.1
+made_fits x (Lent r) e pair f m = absurd m
+
 -- a fold that was refused
-pub fits_halved : (k : ℕ) (pair : PlainPair) (over waiting : Rest) (ls : List Line) (ds : List PlainLaid) → BeginAt (drop k ds) over waiting → Fits ls ds → Fits ls (halved k pair over waiting ds)
-fits_halved zero pair over waiting [] ds b h = fits_none ds b h
+pub fits_halved : (k : ℕ) (pair : PlainPair) (over waiting : Rest) (ls : List Line) (ds : List PlainLaid) → BeginAt (drop k ds) over waiting → BeginAsPair (drop k ds) pair → Fits ls ds → Fits ls (halved k pair over waiting ds)
+fits_halved zero pair over waiting [] ds b m h = fits_none ds b h
   where
     fits_none : (ds : List PlainLaid) → BeginAt ds over waiting → Fits [] ds → Fits [] (halved 0 pair over waiting ds)
     fits_none [] b h = absurd b
     fits_none (d ∷ ds) b h = absurd h
-fits_halved zero pair over waiting (x ∷ ls) [] b h = absurd h
-fits_halved zero pair over waiting (x ∷ ls) (d ∷ []) b h = absurd b
-fits_halved zero pair over waiting (x ∷ []) (d ∷ e ∷ ds) b h = absurd h.1
-fits_halved zero pair over waiting (x ∷ y ∷ ls) (d ∷ e ∷ ds) b h = (rests_fit x.0 x.1 d over h.0 b.0, (rests_fit y.0 y.1 e waiting h.1.0 b.1, h.1.1))
-fits_halved (suc k) pair over waiting ls [] b h = absurd b
-fits_halved (suc k) pair over waiting [] (d ∷ ds) b h = absurd h
-fits_halved (suc k) pair over waiting (x ∷ ls) (d ∷ ds) b h = (h.0, fits_halved k pair over waiting ls ds b h.1)
+fits_halved zero pair over waiting (x ∷ ls) [] b m h = absurd h
+fits_halved zero pair over waiting (x ∷ ls) (d ∷ []) b m h = absurd b
+fits_halved zero pair over waiting (x ∷ []) (d ∷ e ∷ ds) b m h = absurd h.1
+fits_halved zero pair over waiting (x ∷ y ∷ ls) (d ∷ e ∷ ds) b m h = ((rests_fit x.0 x.1 d over h.0 b.0, made_fits x d e pair h.0 m), (rests_fit y.0 y.1 e waiting h.1.0 b.1, h.1.1))
+fits_halved (suc k) pair over waiting ls [] b m h = absurd b
+fits_halved (suc k) pair over waiting [] (d ∷ ds) b m h = absurd h
+fits_halved (suc k) pair over waiting (x ∷ ls) (d ∷ ds) b m h = (h.0, fits_halved k pair over waiting ls ds b m h.1)
+
+-- a pair that is still the one that these two are is made of them
+pub made_of : (d e : PlainLaid) (pair new : PlainPair) → IsPairOf d e pair → IsStill pair new → IsMadeOf d e new
+made_of Nothing e pair new p s = absurd p
+made_of (Whole l) Nothing pair new p s = absurd p
+made_of (Whole l) (Whole r) pair new p s = subst (λ (q : PlainPair). IsStill q new) p s
+made_of (Whole l) (Half q r) pair new p s = absurd p
+made_of (Whole l) (Lent r) pair new p s = absurd p
+made_of (Half q r) e pair new p s = subst (λ (z : PlainPair). IsStill z new) p s
+made_of (Lent r) e pair new p s = absurd p
 
 -- ---- the end
 
@@ -275,13 +296,14 @@ pub folded_taken : (k : ℕ) (ds es : List PlainLaid) → es ≡ slice_set (slic
 folded_taken k ds es e =
     ap (λ xs. remove xs (k + 1)) e ∙ ap (λ n. remove (slice_set (slice_set ds k Nothing) n Nothing) n) (next k) ∙ remove_again k ds Nothing
 
-pub halved_taken : (k : ℕ) (pair : PlainPair) (over waiting : Rest) (ds es fs : List PlainLaid) (x y : PlainLaid) → drop k ds ≡ x ∷ y ∷ drop (suc (suc k)) ds → RestsAs x over → RestsAs y waiting
+pub halved_taken : (k : ℕ) (pair : PlainPair) (over waiting : Rest) (ds es fs : List PlainLaid) (x y : PlainLaid) → drop k ds ≡ x ∷ y ∷ drop (suc (suc k)) ds → RestsAs x over → RestsAs y waiting → IsMadeOf x y pair
     → es ≡ slice_set (slice_set ds k Nothing) (k + 1) Nothing → fs ≡ slice_set (slice_set es k (Half pair over)) (k + 1) (Lent waiting) → IsHalved k ds fs
-halved_taken k pair over waiting ds es fs x y t o w e f = record {
+halved_taken k pair over waiting ds es fs x y t o w m e f = record {
   pair = pair;
   over = over;
   waiting = waiting;
   rests = subst (λ xs. BeginAt xs over waiting) (sym t) (o, w);
+  made = subst (λ xs. BeginAsPair xs pair) (sym t) m;
   are = f ∙ ap (λ xs. slice_set (slice_set xs k (Half pair over)) (k + 1) (Lent waiting)) e ∙ ap (λ n. slice_set (slice_set (slice_set (slice_set ds k Nothing) n Nothing) k (Half pair over)) n (Lent waiting)) (next k)
       ∙ set_again k ds Nothing (Half pair over) (Lent waiting);
 }

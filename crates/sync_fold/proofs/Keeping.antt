@@ -1,18 +1,19 @@
 -- Each step keeps what the book's type keeps.
-use Rattle.std.proofs.Common.{◌≡◌, inl, ℕ, zero, suc, ◌+◌, ◌<◌, ◌≤◌, Bool, true, false, not, ◌&&◌, ◌||◌, List, [], ◌∷◌, ◌++◌, length, drop, slice_set, Some, refl, sym, ap, ◌∙◌, subst, arith, bytes_eq, cond}
+use Rattle.std.proofs.Common.{◌≡◌, inl, Result, Ok, Err, IfOk, IfErr, ℕ, zero, suc, ◌+◌, ◌<◌, ◌≤◌, Bool, true, false, not, ◌&&◌, ◌||◌, List, [], ◌∷◌, ◌++◌, length, drop, slice_set, Some, refl, sym, ap, ◌∙◌, subst, arith, bytes_eq, cond}
 use Rattle.std.specs.List.{insert, remove}
 use Rattle.meaning.specs.Outcome.{Place}
 use Rattle.meaning.specs.Strands.{Ended, Stalled, Faulted, Finished, Line, BookStep, Split, Fold, Book, is_free, is_held_at, is_root, is_alone, may_fold, becomes, splits, folds, if_allowed, stepped, first_book, replayed, replayed_on}
 use Rattle.strand_theory.proofs.Names.{both_are}
 use Rattle.strand_theory.proofs.Books.{replayed_append}
 use Rattle.positions.specs.Simulation.{place_of}
+use Rattle.positions.specs.Strands.{PlainStrand}
 use Rattle.right_strands.specs.Laid.{PlainPiece}
 use Rattle.strand_list.specs.declared.rest.Rest.{Rest}
 use Rattle.strand_list.specs.declared.rest.Rest.TheVariants as rest
 use Rattle.strand_list.specs.Laying.{state_as, rest_step}
 use Rattle.strand_list.specs.Pages.{position, stands, is_unused, are_neighbours, Apart}
 use Rattle.strand_list.specs.Chronicled.{PlainChronicle, Took, unless, unless_allowed, split_refusal, rest_refusal}
-use Rattle.sync_fold.specs.Books.{PlainLaid, PlainBook, IsBook, Fits, BeginWithPair, IsHalved, may_touch, touch, folded, fold_refusal, KeepsFrom, IsWhole, ends_alone}
+use Rattle.sync_fold.specs.Books.{PlainLaid, PlainBook, IsBook, Fits, BeginWithPair, IsHalved, may_touch, touch, folded, first_fold, fold_refusal, BecomeOne, FirstBecome, FirstStay, KeepsFrom, KeepsStrands, IsWhole, ends_alone}
 use Rattle.strand_list.specs.declared.error.BookError.{BookError}
 use Rattle.strand_list.specs.declared.error.BookError.TheVariants as error
 use Rattle.sync_fold.specs.declared.laid.Laid.TheVariants.{Nothing, Whole, Half, Lent}
@@ -120,7 +121,7 @@ fold_keeps b c ds es l r w k h t at e =
 pub halve_keeps : (b c : PlainChronicle) (ds es : List PlainLaid) (k : ℕ) → IsBook b ds → c ≡ b → IsHalved k ds es → IsBook c es
 halve_keeps b c ds es k h e i = subst (λ c. IsBook c es) (sym e) (record {
   legal = h.legal;
-  fits = subst (Fits b.page.lines) (sym i.are) (fits_halved k i.pair i.over i.waiting b.page.lines ds i.rests h.fits);
+  fits = subst (Fits b.page.lines) (sym i.are) (fits_halved k i.pair i.over i.waiting b.page.lines ds i.rests i.made h.fits);
 })
 
 -- ---- refusals
@@ -188,6 +189,18 @@ module _ (b : PlainBook) (l r : Place) (w : ℕ) (s : Bool) (same : s ≡ (stand
   fold_passes t e f g =
       ap (λ s. unless s error.NoStrand (unless (touch b l r) error.NotNeighbour (unless_allowed (stepped b.chronicle.page (Fold l r w))))) (sym same ∙ e)
       ∙ ap (λ t. unless t error.NotNeighbour (unless_allowed (stepped b.chronicle.page (Fold l r w)))) (sym f ∙ g)
+
+-- ---- a fold of the first two that may be folded
+
+-- what a fold of them gives is the strand that they are
+pub first_become : {A : Type 0} (b : PlainBook) (l r n : Place) → first_fold b ≡ Some (l, r) → n ≡ l → (result : Result A BookError) (of : A → PlainStrand) → IfOk result (λ a. BecomeOne b n (of a)) → IfOk result (λ a. FirstBecome b (of a))
+first_become b l r n e f (Ok a) of h = record { left = l; right = r; first = e; joined = subst (λ (p : Place). BecomeOne b p (of a)) f h }
+first_become b l r n e f (Err x) of h = tt
+
+-- and a refusal of it keeps strands as that of these two does
+pub first_stay : {A : Type 0} (b c : PlainBook) (l r n : Place) → first_fold b ≡ Some (l, r) → n ≡ l → (result : Result A BookError) → IfErr result (λ e. KeepsStrands b n e c) → IfErr result (λ e. FirstStay b e c)
+first_stay b c l r n e f (Ok a) h = tt
+first_stay b c l r n e f (Err x) h = record { left = l; right = r; first = e; kept = subst (λ (p : Place). KeepsStrands b p x c) f h }
 
 -- ---- the strand that is left
 

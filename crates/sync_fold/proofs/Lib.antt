@@ -2,3 +2,4 @@ pub mod Crosses
 mod Fitting
 mod Places
 mod Keeping
+pub mod Refusals

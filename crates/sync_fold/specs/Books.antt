@@ -1,5 +1,5 @@
 -- A list of strands with its legal history, what is kept of each strand, and why a fold is refused.
-use Rattle.std.specs.Prelude.{◌≡◌, ◌⊎◌, ◌<◌, ℕ, suc, length, Bool, true, false, cond, ◌&&◌, ◌++◌, List, [], ◌∷◌, drop, Option, Some, None, Result, OnOk, slice_set, slice_index_or}
+use Rattle.std.specs.Prelude.{◌≡◌, ◌⊎◌, ◌<◌, ℕ, suc, length, Bool, true, false, cond, ◌&&◌, List, [], ◌∷◌, drop, Option, Some, None, Result, OnOk, IfErr, slice_set, slice_index_or}
 use Rattle.std.specs.List.{remove}
 use Rattle.meaning.specs.Outcome.{Place}
 use Rattle.meaning.specs.Strands.{Line, Fold, Finished, is_held, done, waits, stepped, replayed}
@@ -7,11 +7,11 @@ use Rattle.positions.specs.Moves.{joined}
 use Rattle.positions.specs.Simulation.{place_of}
 use Rattle.positions.specs.Strands.{PlainStrand}
 use Rattle.right_strands.specs.Laid.{PlainPiece, ends_run}
-use Rattle.right_strands.specs.Pairs.{PlainPair, is_over, is_waiting, may_pair}
+use Rattle.right_strands.specs.Pairs.{PlainPair, IsStill, is_over, is_waiting, may_pair}
 use Rattle.strand_list.specs.declared.rest.Rest.{Rest}
 use Rattle.strand_list.specs.Laying.{state_as}
 use Rattle.strand_list.specs.Pages.{stands, position, are_neighbours}
-use Rattle.strand_list.specs.Chronicled.{PlainChronicle, Took, unless, unless_allowed, rest_refusal}
+use Rattle.strand_list.specs.Chronicled.{PlainChronicle, Took, IsRefusedBy, unless, unless_allowed, rest_refusal}
 use Rattle.sync_fold.specs.declared.laid.Laid.{Laid}
 use Rattle.sync_fold.specs.declared.laid.Laid.TheVariants.{Nothing, Whole, Half, Lent}
 use Rattle.strand_list.specs.declared.error.BookError.{BookError}
@@ -31,11 +31,11 @@ pub record PlainBook : Type 0 where
 
 -- ---- what is kept of a strand
 
--- it fits the line of the strand: while a worker holds it nothing is kept, and a piece is at its place
+-- it fits the line of the strand: while a worker holds it nothing is kept, and a piece is at its place, a pair at that of its left one
 abbrev pub FitsLine : Line → PlainLaid → Type 0
 FitsLine (p, s) Nothing = is_held s ≡ true
 FitsLine (p, s) (Whole q) = (s ≡ state_as q.rest) × (begins_at q ≡ p) × (s ≡ Finished → p ≡ [])
-FitsLine (p, s) (Half q r) = s ≡ state_as r
+FitsLine (p, s) (Half q r) = (s ≡ state_as r) × (place_of q.left.start q.left.path ≡ p)
 FitsLine (p, s) (Lent r) = s ≡ state_as r
 
 abbrev pub Fits : List Line → List PlainLaid → Type 0
@@ -132,15 +132,27 @@ folded k ds = remove (slice_set ds k Nothing) (suc k)
 abbrev pub halved : ℕ → PlainPair → Rest → Rest → List PlainLaid → List PlainLaid
 halved k q r t ds = slice_set (slice_set ds k (Half q r)) (suc k) (Lent t)
 
+-- the pair is made of these two strands, but for reducers' values that have moved from the right one to the left
+abbrev pub IsMadeOf : PlainLaid → PlainLaid → PlainPair → Type 0
+IsMadeOf (Whole p) (Whole q) pair = IsStill (record { left = p.strand; right = q.strand }) pair
+IsMadeOf (Half q r) e pair = IsStill q pair
+IsMadeOf _ _ pair = ⊥
+
+abbrev pub BeginAsPair : List PlainLaid → PlainPair → Type 0
+BeginAsPair (d ∷ e ∷ ds) pair = IsMadeOf d e pair
+BeginAsPair _ pair = ⊥
+
 abbrev pub BeginAt : List PlainLaid → Rest → Rest → Type 0
 BeginAt (d ∷ e ∷ ds) over waiting = RestsAs d over × RestsAs e waiting
 BeginAt _ over waiting = ⊥
 
+-- the strand of that number and the next one have become a pair
 pub record IsHalved (k : ℕ) (ds es : List PlainLaid) : Type 0 where
   pub pair : PlainPair
   pub over : Rest
   pub waiting : Rest
   pub rests : BeginAt (drop k ds) over waiting
+  pub made : BeginAsPair (drop k ds) pair
   pub are : es ≡ halved k pair over waiting ds
 
 abbrev pub KeepsFrom : ℕ → BookError → List PlainLaid → List PlainLaid → Type 0
@@ -178,7 +190,22 @@ pub record FoldsFirst {A : Type 0} (b : PlainBook) (w : ℕ) (r : Result A BookE
   pub left : Place
   pub right : Place
   pub first : first_fold b ≡ Some (left, right)
+  pub refused : IfErr r (IsRefusedBy (fold_refusal b left right w))
   pub taken : OnOk r (Took b.chronicle (Fold left right w) c.chronicle)
+
+-- the first two that may be folded are this strand
+pub record FirstBecome (b : PlainBook) (s : PlainStrand) : Type 0 where
+  pub left : Place
+  pub right : Place
+  pub first : first_fold b ≡ Some (left, right)
+  pub joined : BecomeOne b left s
+
+-- what is kept of strands after a refused fold of the first two that may be folded
+pub record FirstStay (b : PlainBook) (e : BookError) (c : PlainBook) : Type 0 where
+  pub left : Place
+  pub right : Place
+  pub first : first_fold b ≡ Some (left, right)
+  pub kept : KeepsStrands b left e c
 
 abbrev pub FoldsAny : {A : Type 0} → PlainBook → ℕ → Option (Result A BookError) → PlainBook → Type 0
 FoldsAny b w None c = (first_fold b ≡ None) × (c ≡ b)

@@ -2,8 +2,9 @@
 use crate::folds::{first_fold, fold_kept, places_at};
 use crate::kept::{keep, put_behind, take_behind};
 use crate::laid::{Laid, ends_alone, into_alone, may_touch_at};
+use crate::refusal::Refusal;
 use frames::answer::RunAnswer;
-use numbered_runs::step::{BookStep, StrandLine};
+use numbered_runs::step::{BookStep, Place, StrandLine};
 use rerun_records::record::Record;
 use right_strands::laid::Piece;
 use right_strands::pair::Pair;
@@ -47,7 +48,8 @@ impl<J: Run, V: View> Book<J, V> {
     ghost use Rattle.strand_list.specs.Laying.{rest_step};
     ghost use Rattle.strand_list.specs.Replays.{LeavesRootAlone};
     ghost use Rattle.strand_list.specs.Chronicled.{Took, IsRefusedBy, unless_allowed, first_chronicle, split_refusal, rest_refusal};
-    ghost use Rattle.sync_fold.specs.Books.{FoldsAny, FoldsFirst, PlacesAt, first_fold, touch, BecomeOne, KeepsStrands, begins_at, lay_refusal, is_ended, fold_refusal};
+    ghost use Rattle.sync_fold.specs.Refusals.{HoldsNone, TookHeld, held_refusal, is_apart};
+    ghost use Rattle.sync_fold.specs.Books.{IsBook, FirstBecome, FirstStay, FoldsAny, FoldsFirst, PlacesAt, first_fold, touch, BecomeOne, KeepsStrands, begins_at, lay_refusal, is_ended, fold_refusal};
 
     /// The first strand, held by worker 0, with no history.
     pub fn start(alloc: Global) -> Result<Book<J, V>, AllocError>
@@ -60,6 +62,13 @@ impl<J: Run, V: View> Book<J, V> {
             chronicle: Chronicle::start(alloc)?,
             laid,
         })
+    }
+
+    /// What the type keeps.
+    pub fn kept(&self)
+        ensures kept { IsBook self.now.chronicle self.now.laid }
+    {
+        let _ = &self.laid;
     }
 
     /// The strands in serial order.
@@ -87,6 +96,65 @@ impl<J: Run, V: View> Book<J, V> {
 
     /// A thief goes on with a part of the victim's strand, from the new place on.
     pub fn split(
+        &mut self,
+        alloc: Global,
+        victim: &[usize],
+        new: &[usize],
+        thief: usize,
+    ) -> Result<(), Refusal>
+        ensures taken { OnOk result
+            (Took self.old.chronicle (Split victim.now new.now thief) self.new.chronicle) }
+        ensures refused { IfErr result
+            (IsRefusedBy (split_refusal self.old.chronicle.page victim.now new.now thief)) }
+        ensures same { OnErr result (self.new ≡ self.old) }
+    {
+        self.kept();
+        match self.try_split(alloc, victim, new, thief) {
+            Ok(()) => Ok(()),
+            Err(error) => Err(Refusal::of(error)),
+        }
+    }
+
+    /// The same of the strand that the victim holds.
+    pub fn split_held(
+        &mut self,
+        alloc: Global,
+        victim: usize,
+        new: &[usize],
+        thief: usize,
+    ) -> Result<(), Refusal>
+        ensures taken { OnOk result
+            (TookHeld self.old.chronicle victim new.now thief self.new.chronicle) }
+        ensures refused { IfErr result
+            (IsRefusedBy (held_refusal self.old.chronicle.page victim new.now thief)) }
+        ensures near { IfErr result (λ e. is_apart e ≡ false) }
+        ensures same { OnErr result (self.new ≡ self.old) }
+    {
+        self.kept();
+        match self.place_held(alloc, victim) {
+            Ok(from) => self.split(alloc, &from, new, thief),
+            Err(error) => Err(Refusal::of(error)),
+        }
+    }
+
+    /// The place of the strand that the worker holds, by itself.
+    fn place_held(&self, alloc: Global, worker: usize) -> Result<Place, BookError>
+        ensures held { IfOk result
+            (λ place. held_place worker self.now.chronicle.page.lines ≡ Some place.items) }
+        ensures none { IfErr result
+            (HoldsNone (held_place worker self.now.chronicle.page.lines)) }
+    {
+        match self.held_by(worker) {
+            Some(place) => match Vec::from_slice(alloc, place) {
+                Ok(place) => Ok(place),
+                Err(AllocError) => Err(BookError::NoMemory),
+            },
+            None => Err(BookError::NoStrand),
+        }
+    }
+
+    /// The same, with a plain refusal.
+    fn try_split(
         &mut self,
         alloc: Global,
         victim: &[usize],
@@ -135,7 +203,24 @@ impl<J: Run, V: View> Book<J, V> {
     }
 
     /// The strand that a worker holds is laid down; it is handed back with a refusal.
-    pub fn lay(&mut self, alloc: Global, piece: Piece<J, V>) -> Result<(), (BookError, Piece<J, V>)>
+    pub fn lay(&mut self, alloc: Global, piece: Piece<J, V>) -> Result<(), (Refusal, Piece<J, V>)>
+        ensures taken { OnOk result
+            (Took self.old.chronicle (rest_step piece.rest (begins_at piece)) self.new.chronicle) }
+        ensures refused { IfErr result
+            (λ e. IsRefusedBy (lay_refusal self.old piece) e.0) }
+        ensures near { IfErr result (λ e. is_apart e.0 ≡ false) }
+        ensures same { OnErr result (self.new ≡ self.old) }
+        ensures back { IfErr result (λ e. e.1 ≡ piece) }
+    {
+        self.kept();
+        match self.try_lay(alloc, piece) {
+            Ok(()) => Ok(()),
+            Err((error, piece)) => Err((Refusal::of(error), piece)),
+        }
+    }
+
+    /// The same, with a plain refusal.
+    fn try_lay(&mut self, alloc: Global, piece: Piece<J, V>) -> Result<(), (BookError, Piece<J, V>)>
         ensures taken { OnOk result
             (Took self.old.chronicle (rest_step piece.rest (begins_at piece)) self.new.chronicle) }
         ensures refused { IfErr result
@@ -188,8 +273,36 @@ impl<J: Run, V: View> Book<J, V> {
     }
 
     /// Two neighbours are one strand from then on, which the worker holds, and the kit of the right one is free. Where memory was
-    /// refused the pair may stay in the left line, and the same fold goes on with it.
+    /// refused the pair of them may stay in the left line, and the same fold goes on with it.
     pub fn fold_pair(
+        &mut self,
+        alloc: Global,
+        scene: &Scene<'_, J>,
+        left: &[usize],
+        right: &[usize],
+        worker: usize,
+    ) -> Result<(RightStrand<J, V>, Kit<V>), Refusal>
+        ensures taken { OnOk result
+            (Took self.old.chronicle (Fold left.now right.now worker) self.new.chronicle) }
+        ensures joined { IfOk result
+            (λ r. BecomeOne self.old left.now r.0.strand) }
+        ensures going { IfOk result (λ r. r.0.failed ≡ false) }
+        ensures kit { IfOk result (λ r. r.1 ≡ J.setting.kinds) }
+        ensures refused { IfErr result
+            (IsRefusedBy (fold_refusal self.old left.now right.now worker)) }
+        ensures same { OnErr result (self.new.chronicle ≡ self.old.chronicle) }
+        ensures kept { IfErr result
+            (λ e. KeepsStrands self.old left.now e self.new) }
+    {
+        self.kept();
+        match self.try_fold_pair(alloc, scene, left, right, worker) {
+            Ok(joined) => Ok(joined),
+            Err(error) => Err(Refusal::of(error)),
+        }
+    }
+
+    /// The same, with a plain refusal.
+    fn try_fold_pair(
         &mut self,
         alloc: Global,
         scene: &Scene<'_, J>,
@@ -266,10 +379,13 @@ impl<J: Run, V: View> Book<J, V> {
         alloc: Global,
         scene: &Scene<'_, J>,
         worker: usize,
-    ) -> Option<Result<(RightStrand<J, V>, Kit<V>), BookError>>
+    ) -> Option<Result<(RightStrand<J, V>, Kit<V>), Refusal>>
         ensures folded { FoldsAny self.old worker result self.new }
+        ensures joined { IfSome result (λ r. IfOk r (λ s. FirstBecome self.old s.0.strand)) }
+        ensures kept { IfSome result (λ r. IfErr r (λ e. FirstStay self.old e self.new)) }
         ensures going { IfSome result (λ r. IfOk r (λ s. s.0.failed ≡ false)) }
         ensures kit { IfSome result (λ r. IfOk r (λ s. s.1 ≡ J.setting.kinds)) }
+        ensures near { IfSome result (λ r. IfErr r (λ e. is_apart e ≡ false)) }
         ensures same { IfSome result (λ r. OnErr r (self.new.chronicle ≡ self.old.chronicle)) }
     {
         match first_fold(self.chronicle.strands(), &self.laid) {
@@ -285,16 +401,20 @@ impl<J: Run, V: View> Book<J, V> {
         scene: &Scene<'_, J>,
         k: usize,
         worker: usize,
-    ) -> Result<(RightStrand<J, V>, Kit<V>), BookError>
+    ) -> Result<(RightStrand<J, V>, Kit<V>), Refusal>
         requires first { PlacesAt k self.old.chronicle.page.lines (first_fold self.old) }
         ensures folded { FoldsFirst self.old worker result self.new }
+        ensures joined { IfOk result (λ r. FirstBecome self.old r.0.strand) }
+        ensures kept { IfErr result (λ e. FirstStay self.old e self.new) }
         ensures going { IfOk result (λ r. r.0.failed ≡ false) }
         ensures kit { IfOk result (λ r. r.1 ≡ J.setting.kinds) }
+        ensures near { IfErr result (λ e. is_apart e ≡ false) }
         ensures same { OnErr result (self.new.chronicle ≡ self.old.chronicle) }
     {
+        self.kept();
         match places_at(alloc, self.chronicle.strands(), k) {
             Ok((left, right)) => self.fold_pair(alloc, scene, &left, &right, worker),
-            Err(AllocError) => Err(BookError::NoMemory),
+            Err(AllocError) => Err(Refusal::without_memory()),
         }
     }
 

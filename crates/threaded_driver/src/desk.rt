@@ -1,10 +1,11 @@
 //! What stands under the one lock.
 ghost use Rattle.std.specs.Prelude.{◌≡◌, ◌<◌, ◌==◌, ◌||◌, true, false, None, Some, All, length, IfSome, IfOk, IfErr};
 ghost use Rattle.sync_fold.specs.Books.{is_ended};
+ghost use Rattle.sync_fold.specs.Refusals.{WasRefused, is_apart};
 ghost use Rattle.run_terms.specs.Come.{HasEnded};
 ghost use Rattle.worker_seats.specs.Ends.{IsEnd};
 ghost use Rattle.threaded_driver.specs.Finds.{is_left};
-ghost use Rattle.worker_seats.specs.Over.{is_over, is_right, is_refusal, is_noted, has_failed};
+ghost use Rattle.worker_seats.specs.Over.{is_far, is_over, is_right, is_refusal, is_noted, notes_far, has_failed};
 ghost use Rattle.worker_seats.specs.declared.failure.Failure.TheVariants as reason;
 
 use crate::found::Found;
@@ -15,11 +16,11 @@ use right_strands::task::RightTask;
 use std::alloc::{AllocError, Global};
 use std::sync::ledger::{Book as Count, Ledger};
 use stealing_deques::{Deques, ThiefEnd, all_ends};
-use sync_fold::{Book, BookError};
+use sync_fold::{Book, Refusal};
 use view_pool::{Kit, KitSource, View};
 use worker_seats::beginning::NewDeques;
 use worker_seats::ended::{Ended, kept_of, unless_lost};
-use worker_seats::failure::{Failure, Mismatch, failure_of, is_over};
+use worker_seats::failure::{Failure, Mismatch, failure_of, is_over, mismatch_of};
 use worker_seats::kits::{KitsOf, RightPool, Stocked};
 use worker_seats::seat::{Seat, seats_of};
 use worker_seats::supply::Shelf;
@@ -42,6 +43,8 @@ pub(crate) struct Desk<J: Run + Ledger + Stocked + Send, D: Deques, V: View> {
     // A worker leaves only where the run is over.
     ghost over: { ((left == 0) || is_over book failure) ≡ true },
     ghost noted: { is_noted failure ≡ true },
+    // No worker folds two strands that are apart.
+    ghost near: { notes_far failure ≡ false },
 }
 
 /// What a desk begins with beside the first strand and the pool: the list of that strand alone, the thieves' ends, and the count of
@@ -182,6 +185,8 @@ impl<J: Run + Ledger + Stocked + Send, D: Deques, V: View> Desk<J, D, V> {
         requires left { 0 < seat.left }
         ensures end { IfOk result.0 (IsEnd J.setting) }
         ensures refusal { IfErr result.0 (λ m. is_refusal m.refusal ≡ true) }
+        ensures refused { IfErr result.0 (λ m. WasRefused m.refusal) }
+        ensures near { IfErr result.0 (λ m. is_apart m.refusal ≡ false) }
         ensures noted { IfErr result.0 (λ m. self.failure ≡ Some (reason.Refused m.refusal)) }
         ensures home { IfOk result.0 (λ e. HasEnded e.answer → result.1 ≡ kits) }
     {
@@ -199,6 +204,8 @@ impl<J: Run + Ledger + Stocked + Send, D: Deques, V: View> Desk<J, D, V> {
         requires over { is_over self.book self.failure ≡ true }
         ensures end { IfOk result.0 (IsEnd J.setting) }
         ensures refusal { IfErr result.0 (λ m. is_refusal m.refusal ≡ true) }
+        ensures refused { IfErr result.0 (λ m. WasRefused m.refusal) }
+        ensures near { IfErr result.0 (λ m. is_apart m.refusal ≡ false) }
         ensures noted { IfErr result.0 (λ m. self.failure ≡ Some (reason.Refused m.refusal)) }
         ensures home { IfOk result.0 (λ e. HasEnded e.answer → result.1 ≡ kits) }
     {
@@ -209,8 +216,10 @@ impl<J: Run + Ledger + Stocked + Send, D: Deques, V: View> Desk<J, D, V> {
             ..
         } = self;
         match failure {
-            Some(Failure::NoMemory) => (Ok(Ended::without_memory(alloc)), pool),
-            Some(Failure::Refused(refusal)) => (Err(Mismatch { refusal }), pool),
+            Some(failure) => match mismatch_of(failure) {
+                Some(mismatch) => (Err(mismatch), pool),
+                None => (Ok(Ended::without_memory(alloc)), pool),
+            },
             None => {
                 let ended = end_of(book, alloc, scene, &mut pool, kits);
                 (Ok(ended), pool)
@@ -228,6 +237,7 @@ impl<J: Run + Ledger + Stocked + Send, D: Deques, V: View> Desk<J, D, V> {
     /// Notes why the run gives up; the first reason stays.
     pub(crate) fn fail(&mut self, failure: Failure)
         requires right { is_right failure ≡ true }
+        requires near { is_far failure ≡ false }
         ensures left { self.new.left ≡ self.old.left }
         ensures first { self.old.failure ≡ None → self.new.failure ≡ Some failure }
         ensures stays { has_failed self.old.failure ≡ true → self.new.failure ≡ self.old.failure }
@@ -238,7 +248,8 @@ impl<J: Run + Ledger + Stocked + Send, D: Deques, V: View> Desk<J, D, V> {
     }
 
     /// The same for a step that was refused so.
-    fn refuse(&mut self, refusal: BookError)
+    fn refuse(&mut self, refusal: Refusal)
+        requires near { is_apart refusal ≡ false }
         ensures left { self.new.left ≡ self.old.left }
         ensures noted { is_refusal refusal ≡ true → self.old.failure ≡ None
             → self.new.failure ≡ Some (reason.Refused refusal) }
@@ -277,8 +288,12 @@ impl<J: Run + Ledger + Stocked + Send, D: Deques, V: View> Desk<J, D, V> {
         if self.is_over() {
             return;
         }
-        if let Err((refusal, _)) = self.book.lay(alloc, piece) {
-            self.refuse(refusal);
+        match self.book.lay(alloc, piece) {
+            Ok(()) => {}
+            Err((refusal, piece)) => {
+                drop(piece);
+                self.refuse(refusal);
+            }
         }
     }
 
@@ -408,18 +423,12 @@ impl<J: Run + Ledger + Stocked + Send, D: Deques, V: View> Desk<J, D, V> {
         worker: usize,
         victim: usize,
         place: &[usize],
-    ) -> Result<(), BookError>
+    ) -> Result<(), Refusal>
         requires none_left { self.old.left ≡ 0 }
         ensures none_left { self.new.left ≡ 0 }
+        ensures near { IfErr result (λ e. is_apart e ≡ false) }
     {
-        let from = match self.book.held_by(victim) {
-            Some(from) => Vec::from_slice(alloc, from),
-            None => return Err(BookError::NoStrand),
-        };
-        match from {
-            Ok(from) => self.book.split(alloc, &from, place, worker),
-            Err(AllocError) => Err(BookError::NoMemory),
-        }
+        self.book.split_held(alloc, victim, place, worker)
     }
 }
 

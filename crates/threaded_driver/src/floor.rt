@@ -14,7 +14,8 @@ ghost use Rattle.run_terms.specs.Come.{HasEnded};
 ghost use Rattle.worker_seats.specs.Histories.{HasHistory};
 ghost use Rattle.worker_seats.specs.Ends.{IsAlone, IsEnd};
 ghost use Rattle.threaded_driver.specs.Finds.{is_left};
-ghost use Rattle.worker_seats.specs.Over.{is_refusal, is_right};
+ghost use Rattle.sync_fold.specs.Refusals.{WasRefused, is_apart};
+ghost use Rattle.worker_seats.specs.Over.{is_far, is_refusal, is_right};
 ghost use Rattle.worker_seats.specs.Spots.{spot_of, own_spot, child_spot, HasReturned};
 
 use crate::desk::{Desk, Parts};
@@ -381,6 +382,7 @@ impl<J: Run + Ledger + Stocked + Send, D: Deques, V: View> Floor<'_, J, D, V> {
     /// The run gives up.
     fn fail<R: Wait>(&self, rt: &R, failure: Failure)
         requires right { is_right failure ≡ true }
+        requires near { is_far failure ≡ false }
     {
         self.desk.lock(rt).fail(failure);
         self.note(true);
@@ -477,6 +479,9 @@ impl<'a, J: Run + Ledger + Stocked + Send, D: Deques, V: View> Floor<'a, J, D, V
         ensures kinds { IfOk result (λ r. All (λ k. k ≡ J.setting.kinds) r.1.kits) }
         ensures total { IfOk result (λ r. r.1.total ≡ J.total) }
         ensures refusal { IfErr result (λ e. is_refusal e.0.refusal ≡ true) }
+        // A call of the book refused a worker so, and none refuses two strands that are apart.
+        ensures refused { IfErr result (λ e. WasRefused e.0.refusal) }
+        ensures near { IfErr result (λ e. is_apart e.0.refusal ≡ false) }
         ensures kinds_back { IfErr result (λ e. All (λ k. k ≡ J.setting.kinds) e.1.kits) }
         ensures total_back { IfErr result (λ e. e.1.total ≡ J.total) }
     {
@@ -497,6 +502,8 @@ impl<'a, J: Run + Ledger + Stocked + Send, D: Deques, V: View> Floor<'a, J, D, V
         requires left { 0 < seat.left }
         ensures end { IfOk result.0 (IsEnd J.setting) }
         ensures refusal { IfErr result.0 (λ m. is_refusal m.refusal ≡ true) }
+        ensures refused { IfErr result.0 (λ m. WasRefused m.refusal) }
+        ensures near { IfErr result.0 (λ m. is_apart m.refusal ≡ false) }
         ensures home { IfOk result.0 (λ e. HasEnded e.answer → result.1 ≡ self.entry.kits) }
     {
         let Floor {

@@ -1,5 +1,5 @@
 //! A run by threads.
-ghost use Rattle.std.specs.Prelude.{◌≡◌, ◌↔◌, ◌<◌, ◌≤◌, [], true, All, length, IfOk, IfErr, OnErr};
+ghost use Rattle.std.specs.Prelude.{◌≡◌, ◌↔◌, ◌<◌, ◌≤◌, [], true, false, All, length, IfOk, IfErr, OnErr};
 ghost use Rattle.linked_program.specs.Checked.{revised_of};
 ghost use Rattle.linked_program.specs.TableNames.{columned_of};
 ghost use Rattle.rerun_records.specs.Doubted.{IsInStep};
@@ -13,6 +13,7 @@ ghost use Rattle.run_terms.specs.Come.{HasCome, HasEnded};
 ghost use Rattle.worker_seats.specs.Histories.{HasHistory};
 ghost use Rattle.worker_seats.specs.Ends.{IsEnd};
 ghost use Rattle.threaded_driver.specs.Ends.{IsEndFor};
+ghost use Rattle.sync_fold.specs.Refusals.{WasRefused, is_apart};
 ghost use Rattle.worker_seats.specs.Over.{is_refusal};
 ghost use Rattle.strand_list.specs.declared.error.BookError.TheVariants as error;
 
@@ -59,6 +60,9 @@ pub fn run_threads<V: View + Send, R: Threads + Wait + Sync, G: Gate>(
     ensures no_kit { IfOk result (λ r. r.0 ≡ RunAnswer.NoKit ↔ session.old.kits.kits ≡ []) }
     ensures history { IfOk result (λ r. HasHistory r.0 (history r.1.items)) }
     ensures mismatch { IfErr result (λ m. ¬ (m.refusal ≡ error.NoMemory)) }
+    // The refusal is one that a call of the list gave.
+    ensures refused { IfErr result (λ m. WasRefused m.refusal) }
+    ensures near { IfErr result (λ m. ¬ (m.refusal ≡ error.NotNeighbour)) }
     ensures rest { session.new
         ≡ record session.old { kits = session.new.kits; records = session.new.records } }
     ensures home { IfOk result (λ r.
@@ -150,6 +154,8 @@ where
     requires some { 0 < workers }
     ensures end { IfOk result.0 (IsEnd J.setting) }
     ensures refusal { IfErr result.0 (λ m. is_refusal m.refusal ≡ true) }
+    ensures refused { IfErr result.0 (λ m. WasRefused m.refusal) }
+    ensures near { IfErr result.0 (λ m. is_apart m.refusal ≡ false) }
     ensures home { IfOk result.0 (λ e. HasEnded e.answer → length result.1.kits ≡ length pool.kits) }
     ensures kinds { All (λ k. k ≡ J.setting.kinds) result.1.kits }
     ensures total { result.1.total ≡ J.total }
@@ -190,6 +196,8 @@ where
     requires some { 0 < length deques }
     ensures end { IfOk result.0 (IsEnd J.setting) }
     ensures refusal { IfErr result.0 (λ m. is_refusal m.refusal ≡ true) }
+    ensures refused { IfErr result.0 (λ m. WasRefused m.refusal) }
+    ensures near { IfErr result.0 (λ m. is_apart m.refusal ≡ false) }
     ensures home { IfOk result.0 (λ e. HasEnded e.answer → length result.1.kits ≡ length pool.kits) }
     ensures kinds { All (λ k. k ≡ J.setting.kinds) result.1.kits }
     ensures total { result.1.total ≡ J.total }
@@ -217,6 +225,8 @@ where
     requires some { 0 < length seats.items }
     ensures end { IfOk result.0 (IsEnd J.setting) }
     ensures refusal { IfErr result.0 (λ m. is_refusal m.refusal ≡ true) }
+    ensures refused { IfErr result.0 (λ m. WasRefused m.refusal) }
+    ensures near { IfErr result.0 (λ m. is_apart m.refusal ≡ false) }
     ensures home { IfOk result.0 (λ e. HasEnded e.answer → length result.1.kits ≡ floor.entry.kits) }
     ensures kinds { All (λ k. k ≡ J.setting.kinds) result.1.kits }
     ensures total { result.1.total ≡ J.total }
@@ -240,6 +250,8 @@ fn finish<J: Run + Ledger + Stocked + Send, D: Deques, V: View>(
     requires left { All (λ seat. 0 < seat.left) seats.items }
     ensures end { IfOk result.0 (IsEnd J.setting) }
     ensures refusal { IfErr result.0 (λ m. is_refusal m.refusal ≡ true) }
+    ensures refused { IfErr result.0 (λ m. WasRefused m.refusal) }
+    ensures near { IfErr result.0 (λ m. is_apart m.refusal ≡ false) }
     ensures home { IfOk result.0 (λ e. HasEnded e.answer → length result.1.kits ≡ floor.entry.kits) }
     ensures kinds { All (λ k. k ≡ J.setting.kinds) result.1.kits }
     ensures total { result.1.total ≡ J.total }

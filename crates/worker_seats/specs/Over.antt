@@ -1,6 +1,7 @@
 -- When a run is over.
 use Rattle.std.specs.Prelude.{Bool, true, false, ◌||◌, Option, Some, None}
 use Rattle.sync_fold.specs.Books.{PlainBook, is_ended}
+use Rattle.sync_fold.specs.Refusals.{is_apart}
 use Rattle.strand_list.specs.declared.error.BookError.{BookError}
 use Rattle.strand_list.specs.declared.error.BookError.TheVariants as error
 use Rattle.worker_seats.specs.declared.failure.Failure.{Failure}
@@ -27,3 +28,12 @@ is_right (failure.Refused e) = is_refusal e
 abbrev pub is_noted : Option Failure → Bool
 is_noted None = true
 is_noted (Some f) = is_right f
+
+-- two strands that were to be one were apart
+abbrev pub is_far : Failure → Bool
+is_far failure.NoMemory = false
+is_far (failure.Refused e) = is_apart e
+
+abbrev pub notes_far : Option Failure → Bool
+notes_far None = false
+notes_far (Some f) = is_far f

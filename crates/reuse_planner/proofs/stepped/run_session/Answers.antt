@@ -1,9 +1,9 @@
-use Rattle.std.proofs.Common.{◌≡◌, [], map, sym, ap, subst, ◌∙◌}
+use Rattle.std.proofs.Common.{◌≡◌, ◌≤◌, ℕ, [], length, map, sym, ap, subst, ◌∙◌}
 use Rattle.rerun_records.specs.Record.{settled as settled_one}
 use Rattle.rerun_records.specs.Commits.{put_records}
 use Rattle.numbered_runs.specs.Sound.{AreSoundFor}
 use Rattle.kept_session.specs.Sessions.{PlainSession, stock_of}
-use Rattle.reuse_planner.proofs.Ending.{where_ok}
+use Rattle.reuse_planner.proofs.Ending.{where_ok, where_err}
 use Rattle.reuse_planner.proofs.Outcomes.{elision_back, led_back, news_back, recorded_back, quiet_back}
 use Rattle.reuse_planner.proofs.stepped.run_session.Goals as goal
 
@@ -32,6 +32,12 @@ returns-clause-led g c =
     led_back s t same c.checked.result.now c.tables.result.now c.records.result.now c.checked.ensures.checked c.tables.ensures.tables c.records.ensures.records c.take_pool-pool.result c.args.workers c.args.steps.now c.run_on-ended.result.inlined c.settle.new.self.inlined c.run_on-ended.result.answer
     (c.take_pool-pool.ensures.whole ∙ ap (λ (z : PlainSession). z.kits) c.note_inlined.ensures.noted)
     (ap (λ (z : PlainSession). z.inlined) settled ∙ ap (λ (z : PlainSession). z.inlined) c.note_inlined-2.ensures.noted) c.run_on-ended.ensures.led
+
+pub returns-then-is_err-clause-led : goal.returns-then-is_err-clause-led
+returns-then-is_err-clause-led g c =
+    let after : PlainSession = record c.note_inlined-2.new.self { kits = c.run_on-ended.result.pool } in
+    let kept : c.settle.new.self ≡ after = where_err c.settle.result (c.settle.new.self ≡ after) (sym c.is_err.ensures.value ∙ c.if-is_err.true) c.settle.ensures.refused in
+    subst (λ (n : ℕ). n ≤ length c.args.steps.now) (sym (ap (λ (z : PlainSession). z.inlined) kept ∙ ap (λ (z : PlainSession). z.inlined) c.note_inlined-2.ensures.noted)) c.run_on-ended.ensures.within
 
 pub returns-clause-recorded : goal.returns-clause-recorded
 returns-clause-recorded g c =

@@ -25,5 +25,5 @@ returns-in-Err g c = record {
   folded = tt;
   halved = halved_taken c.args.k c.in-Err.pair c.in-Err.over c.in-Err.waiting c.args.laid.now.items c.take_two-left.new.laid.items c.keep_pair.new.laid.items c.take_two-left.result.0 c.take_two-left.result.1
       (two_taken c.args.k c.args.laid.now.items c.take_two-left.result.0 c.take_two-left.result.1 c.requires.within c.take_two-left.ensures.left c.take_two-left.ensures.right)
-      c.in-Err.ensures.over c.in-Err.ensures.waiting c.take_two-left.ensures.none c.keep_pair.ensures.kept;
+      c.in-Err.ensures.over c.in-Err.ensures.waiting c.in-Err.ensures.made c.take_two-left.ensures.none c.keep_pair.ensures.kept;
 }

@@ -1,6 +1,7 @@
-use Rattle.std.proofs.Common.{All, sym, subst, ◌∙◌}
+use Rattle.std.proofs.Common.{◌≡◌, All, [], sym, subst, ◌∙◌}
 use Rattle.monoid_laws.specs.Kinds.{IsMonoid}
 use Rattle.right_strands.specs.Remembering.{recalling}
+use Rattle.right_strands.specs.Pairs.{PlainPair, IsStill}
 use Rattle.right_strands.proofs.Joins.{pair_done, half_kept, joined_kept}
 use Rattle.right_strands.proofs.pair.Pair.join.Goals as goal
 
@@ -25,3 +26,12 @@ invariant_of-result-in-Err g c =
 
 pub returns-in-Ok-clause-kit : goal.returns-in-Ok-clause-kit
 returns-in-Ok-clause-kit g c = c.in-Ok.ensures.kit ∙ (c.self.invariant.pair c.kept.ensures.sound).right_kinds
+
+pub returns-in-Ok-clause-one_layer : goal.returns-in-Ok-clause-one_layer
+returns-in-Ok-clause-one_layer g c = subst (λ (p : PlainPair). p.right.lower ≡ []) c.self.view_is (c.self.invariant.pair c.kept.ensures.sound).one_layer
+
+pub returns-in-Err-clause-still : goal.returns-in-Err-clause-still
+returns-in-Err-clause-still g c =
+    let new : PlainPair = record { left = c.join.new.self; right = c.in-Err.right } in
+    let still : IsStill (record { left = c.self.inside.left; right = c.self.inside.right }) new = record { left = c.in-Err.ensures.left_kept; right = c.in-Err.ensures.right_kept; product = c.in-Err.ensures.product } in
+    subst (λ (p : PlainPair). IsStill p new) c.self.view_is still

@@ -19,7 +19,15 @@ fold_from-requires-clause-first g c κs h =
     (subst (λ (ds : List PlainLaid). PlacesAt c.in-Some.k (shown c.strands.result.now) (fold_among (shown c.strands.result.now) ds)) c.deref.ensures.value c.in-Some.ensures))
 
 pub returns-in-Some : goal.returns-in-Some
-returns-in-Some g c = record { folded = c.fold_from.ensures.folded; going = c.fold_from.ensures.going; kit = c.fold_from.ensures.kit; same = c.fold_from.ensures.same }
+returns-in-Some g c = record {
+  folded = c.fold_from.ensures.folded;
+  joined = c.fold_from.ensures.joined;
+  kept = c.fold_from.ensures.kept;
+  going = c.fold_from.ensures.going;
+  kit = c.fold_from.ensures.kit;
+  near = c.fold_from.ensures.near;
+  same = c.fold_from.ensures.same;
+}
 
 pub returns-in-None : goal.returns-in-None
 returns-in-None g c = record {
@@ -28,7 +36,10 @@ returns-in-None g c = record {
         (subst (λ (ls : List Line). fold_among ls c.self.inside.laid.items ≡ None) c.strands.ensures.lines (subst (λ (ds : List PlainLaid). fold_among (shown c.strands.result.now) ds ≡ None) c.deref.ensures.value c.in-None.ensures)),
     refl,
   );
+  joined = tt;
+  kept = tt;
   going = tt;
   kit = tt;
+  near = tt;
   same = tt;
 }

@@ -1,10 +1,13 @@
-use Rattle.std.proofs.Common.{suc, get_or, OnOk, Some, refl, ap, ◌∙◌, subst}
+use Rattle.std.proofs.Common.{inl, suc, get_or, IfErr, OnOk, Some, refl, sym, ap, ◌∙◌, subst}
 use Rattle.meaning.specs.Strands.{Fold}
 use Rattle.meaning.specs.Outcome.{Place}
-use Rattle.strand_list.specs.Chronicled.{Took}
-use Rattle.sync_fold.specs.Books.{PlainBook, first_fold}
+use Rattle.strand_list.specs.Chronicled.{IsRefusedBy, Took}
+use Rattle.sync_fold.specs.Books.{KeepsStrands, PlainBook, first_fold, fold_refusal}
+use Rattle.sync_fold.specs.Refusals.{is_apart}
+use Rattle.sync_fold.proofs.Refusals.{first_near}
 use Rattle.strand_list.specs.Pages.{shown}
 use Rattle.sync_fold.proofs.Places.{any_line, first_is, places_within}
+use Rattle.sync_fold.proofs.Keeping.{first_become, first_stay}
 use Rattle.sync_fold.proofs.book.Book.fold_from.Goals as goal
 
 pub places_at-requires : goal.places_at-requires
@@ -13,29 +16,51 @@ places_at-requires g c = record {
 }
 
 pub returns-in-Ok : goal.returns-in-Ok
-returns-in-Ok g c = record {
-  folded = record {
-    left = c.in-Ok.left.items;
-    right = c.in-Ok.right.items;
-    first = first_is c.args.k c.args.self.now.chronicle.page.lines (shown c.strands.result.now) (first_fold c.args.self.now) (Some (c.in-Ok.left.items, c.in-Ok.right.items)) c.requires.first c.in-Ok.ensures.places
-        (c.strands.ensures.lines ∙ ap (λ (b : PlainBook). b.chronicle.page.lines) c.self.view_is);
-    taken = subst (λ (l : Place). OnOk c.fold_pair.result (Took c.args.self.now.chronicle (Fold l c.in-Ok.right.items c.args.worker) c.fold_pair.new.self.chronicle)) c.deref.ensures.value
-        (subst (λ (r : Place). OnOk c.fold_pair.result (Took c.args.self.now.chronicle (Fold c.deref.result.now r c.args.worker) c.fold_pair.new.self.chronicle)) c.deref-in-Ok.ensures.value c.fold_pair.ensures.taken);
-  };
-  going = c.fold_pair.ensures.going;
-  kit = c.fold_pair.ensures.kit;
-  same = c.fold_pair.ensures.same;
-}
+returns-in-Ok g c =
+    let b = c.args.self.now in
+    let first = first_is c.args.k b.chronicle.page.lines (shown c.strands.result.now) (first_fold b) (Some (c.in-Ok.left.items, c.in-Ok.right.items)) c.requires.first c.in-Ok.ensures.places
+    (c.strands.ensures.lines ∙ ap (λ (b : PlainBook). b.chronicle.page.lines) c.self.view_is) in
+    let refused = subst (λ (l : Place). IfErr c.fold_pair.result (IsRefusedBy (fold_refusal b l c.in-Ok.right.items c.args.worker))) c.deref.ensures.value
+    (subst (λ (r : Place). IfErr c.fold_pair.result (IsRefusedBy (fold_refusal b c.deref.result.now r c.args.worker))) c.deref-in-Ok.ensures.value c.fold_pair.ensures.refused) in
+    record {
+      folded = record {
+        left = c.in-Ok.left.items;
+        right = c.in-Ok.right.items;
+        first = first;
+        refused = refused;
+        taken = subst (λ (l : Place). OnOk c.fold_pair.result (Took b.chronicle (Fold l c.in-Ok.right.items c.args.worker) c.fold_pair.new.self.chronicle)) c.deref.ensures.value
+            (subst (λ (r : Place). OnOk c.fold_pair.result (Took b.chronicle (Fold c.deref.result.now r c.args.worker) c.fold_pair.new.self.chronicle)) c.deref-in-Ok.ensures.value c.fold_pair.ensures.taken);
+      };
+      joined = first_become b c.in-Ok.left.items c.in-Ok.right.items c.deref.result.now first c.deref.ensures.value c.fold_pair.result (λ r. r.0.strand) c.fold_pair.ensures.joined;
+      kept = first_stay b c.fold_pair.new.self c.in-Ok.left.items c.in-Ok.right.items c.deref.result.now first c.deref.ensures.value c.fold_pair.result c.fold_pair.ensures.kept;
+      going = c.fold_pair.ensures.going;
+      kit = c.fold_pair.ensures.kit;
+      near = first_near b c.in-Ok.left.items c.in-Ok.right.items c.args.worker c.fold_pair.result c.kept.ensures.kept first refused;
+      same = c.fold_pair.ensures.same;
+    }
 
 pub returns-in-Err : goal.returns-in-Err
-returns-in-Err g c = record {
-  folded = record {
-    left = (get_or c.args.self.now.chronicle.page.lines c.args.k any_line).0;
-    right = (get_or c.args.self.now.chronicle.page.lines (suc c.args.k) any_line).0;
-    first = (c.requires.first any_line).1;
-    taken = tt;
-  };
-  going = tt;
-  kit = tt;
-  same = refl;
-}
+returns-in-Err g c =
+    let b = c.args.self.now in
+    let left = (get_or b.chronicle.page.lines c.args.k any_line).0 in
+    let right = (get_or b.chronicle.page.lines (suc c.args.k) any_line).0 in
+    record {
+      folded = record {
+        left = left;
+        right = right;
+        first = (c.requires.first any_line).1;
+        refused = subst (IsRefusedBy (fold_refusal b left right c.args.worker)) (sym c.without_memory.ensures.error) tt;
+        taken = tt;
+      };
+      joined = tt;
+      kept = record {
+        left = left;
+        right = right;
+        first = (c.requires.first any_line).1;
+        kept = subst (λ e. KeepsStrands b left e b) (sym c.without_memory.ensures.error) (inl refl);
+      };
+      going = tt;
+      kit = tt;
+      near = ap is_apart c.without_memory.ensures.error;
+      same = refl;
+    }

@@ -1,21 +1,15 @@
-use Rattle.std.proofs.Common.{◌≡◌, ◌<◌, length, refl, subst}
-use Rattle.strand_list.specs.Pages.{position}
+use Rattle.std.proofs.Common.{sym, subst}
 use Rattle.strand_list.specs.Chronicled.{IsRefusedBy, split_refusal}
-use Rattle.sync_fold.specs.Books.{PlainBook}
-use Rattle.strand_list.specs.declared.error.BookError.TheVariants as error
-use Rattle.sync_fold.proofs.Keeping.{split_missing}
+use Rattle.sync_fold.specs.Refusals.{Splits}
+use Rattle.sync_fold.proofs.Refusals.{given}
 use Rattle.sync_fold.proofs.book.Book.split.Goals as goal
 
-pub returns-in-None : goal.returns-in-None
-returns-in-None g c = record {
+pub of-requires : goal.of-requires
+of-requires g c = record { given = given c.args.self.now c.kept.ensures.kept (Splits c.args.victim.now c.args.new.now c.args.thief) c.in-Err.error c.in-Err.ensures.refused }
+
+pub returns-in-Err : goal.returns-in-Err
+returns-in-Err g c = record {
   taken = tt;
-  refused = subst (λ (b : PlainBook). IsRefusedBy (split_refusal b.chronicle.page c.args.victim.now c.args.new.now c.args.thief) error.NoStrand) c.self.view_is
-      (split_missing c.self.inside.chronicle.page c.args.victim.now c.args.new.now c.args.thief c.in-None.ensures);
-  same = refl;
+  refused = subst (IsRefusedBy (split_refusal c.args.self.now.chronicle.page c.args.victim.now c.args.new.now c.args.thief)) (sym c.of.ensures.error) c.in-Err.ensures.refused;
+  same = c.in-Err.ensures.same;
 }
-
-pub split_at-requires-clause-here : goal.split_at-requires-clause-here
-split_at-requires-clause-here g c κs h = subst (λ (b : PlainBook). c.in-Some.k ≡ position c.args.victim.now b.chronicle.page.lines) c.self.view_is c.in-Some.ensures.0
-
-pub split_at-requires-clause-within : goal.split_at-requires-clause-within
-split_at-requires-clause-within g c κs h = subst (λ (b : PlainBook). c.in-Some.k < length b.chronicle.page.lines) c.self.view_is c.in-Some.ensures.1

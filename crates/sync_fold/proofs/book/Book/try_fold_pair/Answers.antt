@@ -1,0 +1,46 @@
+use Rattle.std.proofs.Common.{IfErr, refl, ap, sym, ◌∙◌, subst}
+use Rattle.strand_list.specs.Chronicled.{IsRefusedBy}
+use Rattle.sync_fold.specs.Books.{PlainBook}
+use Rattle.sync_fold.proofs.Keeping.{fold_missing, fold_apart, fold_passes, both_in}
+use Rattle.sync_fold.proofs.book.Book.try_fold_pair.Goals as goal
+
+pub fold_at-requires-clause-touch : goal.fold_at-requires-clause-touch
+fold_at-requires-clause-touch g c κs h = sym c.may_touch.ensures.may ∙ c.if-not-may_touch.false
+
+pub returns : goal.returns
+returns g c = record {
+  taken = c.fold_at.ensures.taken;
+  joined = c.fold_at.ensures.joined;
+  going = c.fold_at.ensures.going;
+  kit = c.fold_at.ensures.kit;
+  refused = subst (λ o. IfErr c.fold_at.result (IsRefusedBy o))
+      (sym (fold_passes c.args.self.now c.args.left.now c.args.right.now c.args.worker c.both_stand.result
+      (c.both_stand.ensures.stand ∙ ap (λ (b : PlainBook). both_in c.args.left.now c.args.right.now b.chronicle.page.lines) c.self.view_is) c.may_touch.result c.if-not-both_stand.false c.may_touch.ensures.may c.if-not-may_touch.false))
+      c.fold_at.ensures.refused;
+  same = c.fold_at.ensures.same;
+  kept = c.fold_at.ensures.kept;
+}
+
+pub returns-then-not-both_stand : goal.returns-then-not-both_stand
+returns-then-not-both_stand g c = record {
+  taken = tt;
+  joined = tt;
+  going = tt;
+  kit = tt;
+  refused = fold_missing c.args.self.now c.args.left.now c.args.right.now c.args.worker c.both_stand.result
+      (c.both_stand.ensures.stand ∙ ap (λ (b : PlainBook). both_in c.args.left.now c.args.right.now b.chronicle.page.lines) c.self.view_is) c.if-not-both_stand.true;
+  same = refl;
+  kept = refl;
+}
+
+pub returns-then-not-may_touch : goal.returns-then-not-may_touch
+returns-then-not-may_touch g c = record {
+  taken = tt;
+  joined = tt;
+  going = tt;
+  kit = tt;
+  refused = fold_apart c.args.self.now c.args.left.now c.args.right.now c.args.worker c.both_stand.result
+      (c.both_stand.ensures.stand ∙ ap (λ (b : PlainBook). both_in c.args.left.now c.args.right.now b.chronicle.page.lines) c.self.view_is) c.may_touch.result c.if-not-both_stand.false c.may_touch.ensures.may c.if-not-may_touch.true;
+  same = refl;
+  kept = refl;
+}

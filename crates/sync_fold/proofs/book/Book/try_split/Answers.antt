@@ -1,0 +1,21 @@
+use Rattle.std.proofs.Common.{◌≡◌, ◌<◌, length, refl, subst}
+use Rattle.strand_list.specs.Pages.{position}
+use Rattle.strand_list.specs.Chronicled.{IsRefusedBy, split_refusal}
+use Rattle.sync_fold.specs.Books.{PlainBook}
+use Rattle.strand_list.specs.declared.error.BookError.TheVariants as error
+use Rattle.sync_fold.proofs.Keeping.{split_missing}
+use Rattle.sync_fold.proofs.book.Book.try_split.Goals as goal
+
+pub returns-in-None : goal.returns-in-None
+returns-in-None g c = record {
+  taken = tt;
+  refused = subst (λ (b : PlainBook). IsRefusedBy (split_refusal b.chronicle.page c.args.victim.now c.args.new.now c.args.thief) error.NoStrand) c.self.view_is
+      (split_missing c.self.inside.chronicle.page c.args.victim.now c.args.new.now c.args.thief c.in-None.ensures);
+  same = refl;
+}
+
+pub split_at-requires-clause-here : goal.split_at-requires-clause-here
+split_at-requires-clause-here g c κs h = subst (λ (b : PlainBook). c.in-Some.k ≡ position c.args.victim.now b.chronicle.page.lines) c.self.view_is c.in-Some.ensures.0
+
+pub split_at-requires-clause-within : goal.split_at-requires-clause-within
+split_at-requires-clause-within g c κs h = subst (λ (b : PlainBook). c.in-Some.k < length b.chronicle.page.lines) c.self.view_is c.in-Some.ensures.1
