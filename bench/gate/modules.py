@@ -1,25 +1,72 @@
 #!/usr/bin/env python3
-"""Prints which functions of a crate took the prover longest in its last check, and which of the modules that it makes of them: by when each was
-saved, so that the crate's check must have begun with no out/ folder and one job, as `HEARTSPLUM_JOBS=1 tools/check.py CRATE [--test]` does.
-What a module waited for counts as its own: the first that needs a library has the time of loading it.
+"""Prints which functions of a crate took the prover longest in a check, and which of the modules that it makes of them: by when each was
+saved, so that the check must have begun with no out/ folder and one job, as `HEARTSPLUM_JOBS=1 tools/check.py CRATE [--test]` and each of
+the gate's checks does. What a module waited for counts as its own: the first that needs a library has the time of loading it.
 
-usage: bench/gate/modules.py CRATE [HOW MANY]
+usage: bench/gate/modules.py CRATE [HOW MANY]              of the crate's last check here
+       bench/gate/modules.py --watch FOLDER                notes of each check that begins on this machine, until it is stopped, when its
+                                                           modules are saved, in FOLDER/CRATE.json or CRATE.tests.json
+       bench/gate/modules.py FOLDER/CRATE.json [HOW MANY]  of a check that was watched
 """
+import json
 import os
 import re
 import sys
+import time
 
 TOP = os.path.dirname(os.path.dirname(os.path.dirname(os.path.realpath(__file__))))
+TEMPORARY = os.environ.get("TMPDIR", "/tmp")
 
 
 def saved(crate):
-    """The modules that the check saved, in that order, each with when it was."""
+    """The modules that the crate's last check saved, in that order, each with when it was."""
     found = []
     for folder, _, names in os.walk(f"{TOP}/crates/{crate}/out/incremental"):
         for name in names:
             if name.endswith(".decls.oantt"):
                 found.append((os.stat(f"{folder}/{name}").st_mtime, name.removesuffix(".decls.oantt")))
     return sorted(found)
+
+
+def watched(file):
+    """The same of a check that was watched."""
+    with open(file, encoding="utf-8") as it:
+        return sorted((when, name.removesuffix(".oantt").removesuffix(".decls")) for name, when in json.load(it).items())
+
+
+def check_of(process):
+    """What a process checks, as a file's name: a crate's proof or tests; None for an edit, and where it is no check."""
+    with open(f"/proc/{process}/cmdline", encoding="utf-8", errors="replace") as it:
+        words = it.read().split("\0")
+    if "--crate-name" not in words or "/rt-edit-" in os.readlink(f"/proc/{process}/cwd"):
+        return None
+    return words[words.index("--crate-name") + 1] + ".tests" * ("--test" in words)
+
+
+def look(found):
+    """Adds what the checks that are at work have saved by now."""
+    for folder in os.listdir(TEMPORARY):
+        its = re.fullmatch(r"rattle-logic-built-locked-(\d+)-\d+", folder)
+        try:
+            check = check_of(its[1]) if its else None
+            if check:
+                modules = found.setdefault(check, {})
+                for entry in os.scandir(f"{TEMPORARY}/{folder}"):
+                    if entry.name not in modules:
+                        modules[entry.name] = entry.stat().st_mtime
+        except OSError:
+            continue
+
+
+def watch(folder):
+    os.makedirs(folder, exist_ok=True)
+    found = {}
+    while True:
+        look(found)
+        for check, modules in found.items():
+            with open(f"{folder}/{check}.json", "w", encoding="utf-8") as it:
+                json.dump(modules, it)
+        time.sleep(2)
 
 
 def function_of(module, crate):
@@ -31,13 +78,7 @@ def function_of(module, crate):
     return ".".join(parts[:-1]) or inside
 
 
-def main(words):
-    if not words:
-        sys.exit(__doc__)
-    crate, most = words[0], int(words[1]) if len(words) > 1 else 20
-    modules = saved(crate)
-    if len(modules) < 2:
-        sys.exit(f"no check of {crate} has left its modules in crates/{crate}/out/incremental")
+def show(crate, modules, most):
     took = [(end - begun, module) for (begun, _), (end, module) in zip(modules, modules[1:])]
     functions = {}
     for seconds, module in took:
@@ -49,6 +90,19 @@ def main(words):
     print()
     for seconds, module in sorted(took, reverse=True)[:most]:
         print(f"{seconds:7.1f} {module}")
+
+
+def main(words):
+    if not words:
+        sys.exit(__doc__)
+    if words[0] == "--watch":
+        return watch(words[1])
+    of_file = words[0].endswith(".json")
+    crate = os.path.basename(words[0]).split(".")[0]
+    modules = watched(words[0]) if of_file else saved(crate)
+    if len(modules) < 2:
+        sys.exit(f"{words[0]} has no modules" if of_file else f"no check of {crate} has left its modules in crates/{crate}/out/incremental")
+    show(crate, modules, int(words[1]) if len(words) > 1 else 20)
     return 0
 
 

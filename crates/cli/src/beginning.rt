@@ -8,6 +8,7 @@ use command_line::options::Views;
 use kept_session::Session;
 use monoid_laws::Kind;
 use prepared_program::prepare::{PrepareError, prepare};
+use report_session::opening::unbegun;
 use std::alloc::{AllocError, Global};
 use thiserror::Error;
 use view_pool::View;
@@ -47,7 +48,10 @@ pub fn begin<V: View, M: Fn(Sort, Kind) -> Result<V, AllocError>>(
                 Ok(session) => Ok(session),
                 Err(_) => Err(BeginError::NoKit),
             },
-            Err(_) => Err(BeginError::Prepare(PrepareError::NoMemory)),
+            Err(_) => {
+                unbegun::<V>(alloc, checked, tables);
+                Err(BeginError::Prepare(PrepareError::NoMemory))
+            }
         },
         Err(error) => Err(BeginError::Prepare(error)),
     }

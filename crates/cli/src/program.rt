@@ -24,8 +24,8 @@ use program_endings::session_error::SessionError;
 use program_endings::streams::Failures;
 use program_formatter::formatting::format_file;
 use report_files::ReportFiles;
-use script_session::live::live_text;
-use script_session::session::session_text;
+use script_session::live::answer_lines;
+use script_session::session::answer_whole;
 use session_notes::explained::{Crew, Explain, Explained};
 use session_notes::notes::Notes;
 use session_notes::run_notes::{NotesError, RunNotes};
@@ -75,9 +75,19 @@ pub fn report<V: View, M: Fn(Sort, Kind) -> Result<V, AllocError>, X: Explain + 
     ensures kits { result ≢ Err (ProgramError.Session SessionError.NoKit) }
     ensures mismatch { IfErr result ReportsRefusal }
 {
-    let held = held_words(rt, alloc).map_err(|error| ProgramError::Line(error))?;
-    let words = lent(alloc, held.as_slice()).map_err(|error| ProgramError::Line(error))?;
-    match asked_by(alloc, words.as_slice()).map_err(|error| ProgramError::Line(error))? {
+    let held = match held_words(rt, alloc) {
+        Ok(held) => held,
+        Err(error) => return Err(ProgramError::Line(error)),
+    };
+    let words = match lent(alloc, held.as_slice()) {
+        Ok(words) => words,
+        Err(error) => return Err(ProgramError::Line(error)),
+    };
+    let asked = match asked_by(alloc, words.as_slice()) {
+        Ok(asked) => asked,
+        Err(error) => return Err(ProgramError::Line(error)),
+    };
+    match asked {
         Asked::Session(options) => report_by(rt, alloc, options, make, explain, is_terminal),
         Asked::Print(path) => {
             let files = ReportFiles {
@@ -186,14 +196,68 @@ pub fn report_on<
     ensures input_stays { result ≢ Err (ProgramError.Session SessionError.Read)
         → failures.new.input ≡ failures.old.input }
 {
-    let session = session_of(alloc, options, make, files)?;
-    let notes = notes_of(alloc, options, files, errors)?;
-    let mut notes = Explained {
-        notes,
-        explain: asked(options.explain || options.why, explain),
-        refusals: options.explain,
-        crew: crew_of(options),
-    };
+    let mut session = session_of(alloc, options, make, files)?;
+    let reported = report_in(
+        rt,
+        alloc,
+        options,
+        &mut session,
+        files,
+        reader,
+        writer,
+        errors,
+        explain,
+        failures,
+    );
+    session.end();
+    reported
+}
+
+// The same of a session that is only lent, so that who owns it does nothing else.
+fn report_in<V: View, F: FileSource, R: Read, W: Write, E: Write + Drop, X: Explain + Drop>(
+    rt: &(impl Threads + Wait + Sync),
+    alloc: Global,
+    options: Options<'_>,
+    session: &mut Session<V>,
+    files: &F,
+    reader: &mut R,
+    writer: &mut W,
+    errors: E,
+    explain: X,
+    failures: &mut Failures,
+) -> Result<(), ProgramError>
+    requires workers { (0 < options.workers) × (options.workers ≤ 16) }
+    requires opened { IsOpened (F.held files.now) options session.old.checked session.old.tables.tables }
+    requires unedited { session.old.tables.edits ≡ 0 }
+    requires count { length session.old.kits.kits ≡ options.kits }
+    ensures answered { OnOk result (IsReportedOver (F.held files.now) options.entry
+        (R.remaining reader.old) (W.contents writer.old) (W.contents writer.new)) }
+    ensures over { OnOk result (IsAtEnd (R.remaining reader.new)) }
+    ensures unopened { IfErr result (IsUnopened (F.held files.now) options.entry) }
+    ensures beginning { IsBegunOver (F.held files.now) options.entry
+        (R.remaining reader.old) (W.contents writer.old) (W.contents writer.new) }
+    ensures unbegun { IfErr result (λ e. ReadsNothing e
+        → Keeps (W.contents writer.old) (W.contents writer.new)) }
+    ensures unwritten { options.entry.live ≡ false → IfErr result (λ e. WritesNothing e
+        → Keeps (W.contents writer.old) (W.contents writer.new)) }
+    ensures read { options.entry.live ≡ true
+        → result ≡ Err (ProgramError.Session SessionError.Read)
+        → IsReadOver (F.held files.now) options.entry (R.remaining reader.old)
+        (R.remaining reader.new) (W.contents writer.old) (W.contents writer.new) }
+    ensures unread { IfErr result (λ e. ReadsNothing e
+        → Keeps (R.remaining reader.old) (R.remaining reader.new)) }
+    ensures kits { 0 < options.entry.kits
+        → result ≢ Err (ProgramError.Session SessionError.NoKit) }
+    ensures mismatch { IfErr result ReportsRefusal }
+    ensures input { result ≡ Err (ProgramError.Session SessionError.Read)
+        → failures.new.input ≡ true }
+    ensures output { result ≡ Err (ProgramError.Session SessionError.Write)
+        → failures.new.output ≡ true }
+    ensures unmarked { OnOk result (failures.new ≡ failures.old) }
+    ensures input_stays { result ≢ Err (ProgramError.Session SessionError.Read)
+        → failures.new.input ≡ failures.old.input }
+{
+    let mut notes = notes_of(alloc, options, files, errors, explain)?;
     match answered(
         rt,
         alloc,
@@ -214,7 +278,7 @@ pub fn report_on<
 fn answered<V: View, N: Notes, R: Read, W: Write>(
     rt: &(impl Threads + Wait + Sync),
     alloc: Global,
-    session: Session<V>,
+    session: &mut Session<V>,
     workers: usize,
     live: bool,
     notes: &mut N,
@@ -223,17 +287,17 @@ fn answered<V: View, N: Notes, R: Read, W: Write>(
     failures: &mut Failures,
 ) -> Result<(), SessionError>
     requires workers { (0 < workers) × (workers ≤ 16) }
-    ensures answered { OnOk result (WritesAll (answers_of session)
+    ensures answered { OnOk result (WritesAll (answers_of session.old)
         (R.remaining reader.old) (W.contents writer.old) (W.contents writer.new)) }
     ensures over { OnOk result (IsAtEnd (R.remaining reader.new)) }
     ensures unread { live ≡ false → result ≡ Err SessionError.Read
         → Keeps (W.contents writer.old) (W.contents writer.new) }
     ensures read { live ≡ true → result ≡ Err SessionError.Read
-        → WritesRead (session_so_far session) (R.remaining reader.old) (R.remaining reader.new)
+        → WritesRead (session_so_far session.old) (R.remaining reader.old) (R.remaining reader.new)
         (W.contents writer.old) (W.contents writer.new) }
-    ensures beginning { WritesBeginning (answers_of session)
+    ensures beginning { WritesBeginning (answers_of session.old)
         (R.remaining reader.old) (W.contents writer.old) (W.contents writer.new) }
-    ensures no_kit { result ≡ Err SessionError.NoKit → session.kits.kits ≡ [] }
+    ensures no_kit { result ≡ Err SessionError.NoKit → session.old.kits.kits ≡ [] }
     ensures mismatch { IfErr result CarriesRefusal }
     ensures input { result ≡ Err SessionError.Read → failures.new.input ≡ true }
     ensures output { result ≡ Err SessionError.Write → failures.new.output ≡ true }
@@ -242,11 +306,11 @@ fn answered<V: View, N: Notes, R: Read, W: Write>(
         → failures.new.input ≡ failures.old.input }
 {
     if live {
-        return live_text(
+        return answer_lines(
             rt, alloc, session, workers, notes, &NoGate, reader, writer, failures,
         );
     }
-    session_text(
+    answer_whole(
         rt, alloc, session, workers, notes, &NoGate, reader, writer, failures,
     )
 }
@@ -295,8 +359,33 @@ fn session_of<V: View, M: Fn(Sort, Kind) -> Result<V, AllocError>, F: FileSource
     }
 }
 
-// The notes that the options ask for, with the trace's file made.
-fn notes_of<F: FileSource, E: Write + Drop>(
+// Who is told of the session's runs as the options ask for it, with the trace's file made, and who explains.
+fn notes_of<F: FileSource, E: Write + Drop, X: Explain + Drop>(
+    alloc: Global,
+    options: Options<'_>,
+    files: &F,
+    errors: E,
+    explain: X,
+) -> Result<Explained<RunNotes<F::Made, E>, X>, ProgramError>
+    ensures unmade { IfErr result (IsUnmade (option_map (λ t. t.now) options.entry.trace)) }
+    ensures kits { result ≢ Err (ProgramError.Session SessionError.NoKit) }
+    ensures mismatch { IfErr result ReportsRefusal }
+    ensures input { result ≢ Err (ProgramError.Session SessionError.Read) }
+    ensures output { result ≢ Err (ProgramError.Session SessionError.Write) }
+{
+    match run_notes_of(alloc, options, files, errors) {
+        Ok(notes) => Ok(Explained {
+            notes,
+            explain: asked(options.explain || options.why, explain),
+            refusals: options.explain,
+            crew: crew_of(options),
+        }),
+        Err(error) => Err(error),
+    }
+}
+
+// The notes of runs that the options ask for, with the trace's file made.
+fn run_notes_of<F: FileSource, E: Write + Drop>(
     alloc: Global,
     options: Options<'_>,
     files: &F,

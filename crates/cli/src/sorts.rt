@@ -8,7 +8,7 @@ use std::alloc::{AllocError, Global};
 use view_pool::{Kit, View};
 
 /// How the views of one kit keep lists and amounts: in pieces, or whole.
-#[derive(Clone, Copy, Debug, PartialEq, Eq)]
+#[derive(Clone, Copy)]
 pub enum Sort {
     Plain,
     Flat,

@@ -92,8 +92,9 @@ fn begun<V: View, M: Fn(Kind) -> Result<V, AllocError>>(
     }
 }
 
-// Gives a program and tables back by a session that is refused, since it would have no kits.
-fn unbegun<V: View>(alloc: Global, checked: Checked, tables: Tables)
+/// Gives a program and tables back by a session that is refused, since it would have no kits: so who has no kits for them needn't
+/// prove how they are dropped.
+pub fn unbegun<V: View>(alloc: Global, checked: Checked, tables: Tables)
     requires columns { checked.tables ≡ columned_of tables.tables }
 {
     match Session::<V>::new(alloc, checked, tables, Vec::new(alloc)) {

@@ -64,6 +64,56 @@ pub fn live_text<V: View, N: Notes, R: Read, W: Write>(
         → N.failed notes.new ≡ N.failed notes.old }
 {
     let mut session = session;
+    let answered = answer_lines(
+        rt,
+        alloc,
+        &mut session,
+        workers,
+        notes,
+        gate,
+        reader,
+        writer,
+        failures,
+    );
+    session.end();
+    answered
+}
+
+/// Does what `live_text` does in a session that is only lent: who owns it goes on with it, or ends it.
+pub fn answer_lines<V: View, N: Notes, R: Read, W: Write>(
+    rt: &(impl Threads + Wait + Sync),
+    alloc: Global,
+    session: &mut Session<V>,
+    workers: usize,
+    notes: &mut N,
+    gate: &impl Gate,
+    reader: &mut R,
+    writer: &mut W,
+    failures: &mut Failures,
+) -> Result<(), SessionError>
+    requires workers { (0 < workers) × (workers ≤ 16) }
+    ensures answered { OnOk result (WritesAll (answers_of session.old)
+        (R.remaining reader.old) (W.contents writer.old) (W.contents writer.new)) }
+    ensures over { OnOk result (IsAtEnd (R.remaining reader.new)) }
+    ensures read { result ≡ Err SessionError.Read
+        → WritesRead (session_so_far session.old) (R.remaining reader.old) (R.remaining reader.new)
+        (W.contents writer.old) (W.contents writer.new) }
+    ensures beginning { WritesBeginning (answers_of session.old)
+        (R.remaining reader.old) (W.contents writer.old) (W.contents writer.new) }
+    ensures no_kit { result ≡ Err SessionError.NoKit → session.old.kits.kits ≡ [] }
+    ensures mismatch { IfErr result CarriesRefusal }
+    ensures input { result ≡ Err SessionError.Read → failures.new.input ≡ true }
+    ensures output { result ≡ Err SessionError.Write → failures.new.output ≡ true }
+    ensures unmarked { OnOk result (failures.new ≡ failures.old) }
+    ensures input_stays { result ≢ Err SessionError.Read
+        → failures.new.input ≡ failures.old.input }
+    ensures output_unread { result ≡ Err SessionError.Read
+        → failures.new.output ≡ failures.old.output }
+    ensures output_stays { failures.old.output ≡ true → failures.new.output ≡ true }
+    ensures notes { result ≡ Err SessionError.Notes → N.failed notes.new ≡ true }
+    ensures notes_stay { result ≢ Err SessionError.Notes
+        → N.failed notes.new ≡ N.failed notes.old }
+{
     let mut script = OpenScript::new(alloc);
     let mut line = Vec::new(alloc);
     let mut runs = 0;
@@ -72,7 +122,7 @@ pub fn live_text<V: View, N: Notes, R: Read, W: Write>(
         runs = answer_line(
             rt,
             alloc,
-            &mut session,
+            session,
             workers,
             notes,
             gate,
@@ -84,16 +134,7 @@ pub fn live_text<V: View, N: Notes, R: Read, W: Write>(
         )?;
         if !ended {
             return answer_rest(
-                rt,
-                alloc,
-                &mut session,
-                workers,
-                notes,
-                gate,
-                &script,
-                runs,
-                writer,
-                failures,
+                rt, alloc, session, workers, notes, gate, &script, runs, writer, failures,
             );
         }
     }

@@ -9,6 +9,7 @@ ghost use Rattle.kept_session.specs.Applied.{edited};
 ghost use Rattle.trace_report.specs.Outcomes.{Extends};
 ghost use Rattle.script_session.specs.Answers.{answer_text, answers_of, left_by_edit, run_answer, standing_after};
 ghost use Rattle.run_terms.specs.Come.{HasCome, HasEnded};
+ghost use Rattle.session_runs.specs.Runs.{IsFromScratch};
 ghost use Rattle.program_endings.specs.Endings.{CarriesRefusal, IsAnswerError, IsRunError, IsWriterError};
 ghost use Rattle.program_endings.specs.Written.{HasBeginning, WritesAll, WritesBeginning};
 
@@ -16,6 +17,7 @@ use frames::answer::RunAnswer;
 use input_tables::Tables;
 use kept_session::{ApplyError, Session};
 use linked_program::checked::Checked;
+use numbered_runs::step::BookStep;
 use program_endings::session_error::SessionError;
 use program_endings::streams::{Failures, flush, read_all, write_whole};
 use script_reader::command::Command;
@@ -72,19 +74,60 @@ pub fn session_text<V: View, N: Notes, R: Read, W: Write>(
     ensures notes_stay { result ≢ Err SessionError.Notes
         → N.failed notes.new ≡ N.failed notes.old }
 {
-    let script = read_all(alloc, reader, failures)?;
     let mut session = session;
-    let text = script.as_slice();
-    let answered = answer_script(
+    let answered = answer_whole(
         rt,
         alloc,
         &mut session,
         workers,
         notes,
         gate,
-        text,
+        reader,
         writer,
         failures,
+    );
+    session.end();
+    answered
+}
+
+/// Does what `session_text` does in a session that is only lent: who owns it goes on with it, or ends it.
+pub fn answer_whole<V: View, N: Notes, R: Read, W: Write>(
+    rt: &(impl Threads + Wait + Sync),
+    alloc: Global,
+    session: &mut Session<V>,
+    workers: usize,
+    notes: &mut N,
+    gate: &impl Gate,
+    reader: &mut R,
+    writer: &mut W,
+    failures: &mut Failures,
+) -> Result<(), SessionError>
+    requires workers { (0 < workers) × (workers ≤ 16) }
+    ensures answered { OnOk result (WritesAll (answers_of session.old)
+        (R.remaining reader.old) (W.contents writer.old) (W.contents writer.new)) }
+    ensures over { OnOk result (IsAtEnd (R.remaining reader.new)) }
+    ensures unread { result ≡ Err SessionError.Read
+        → Keeps (W.contents writer.old) (W.contents writer.new) }
+    ensures beginning { WritesBeginning (answers_of session.old)
+        (R.remaining reader.old) (W.contents writer.old) (W.contents writer.new) }
+    ensures no_kit { result ≡ Err SessionError.NoKit → session.old.kits.kits ≡ [] }
+    ensures mismatch { IfErr result CarriesRefusal }
+    ensures input { result ≡ Err SessionError.Read → failures.new.input ≡ true }
+    ensures output { result ≡ Err SessionError.Write → failures.new.output ≡ true }
+    ensures unmarked { OnOk result (failures.new ≡ failures.old) }
+    ensures input_stays { result ≢ Err SessionError.Read
+        → failures.new.input ≡ failures.old.input }
+    ensures output_unread { result ≡ Err SessionError.Read
+        → failures.new.output ≡ failures.old.output }
+    ensures output_stays { failures.old.output ≡ true → failures.new.output ≡ true }
+    ensures notes { result ≡ Err SessionError.Notes → N.failed notes.new ≡ true }
+    ensures notes_stay { result ≢ Err SessionError.Notes
+        → N.failed notes.new ≡ N.failed notes.old }
+{
+    let script = read_all(alloc, reader, failures)?;
+    let text = script.as_slice();
+    let answered = answer_script(
+        rt, alloc, session, workers, notes, gate, text, writer, failures,
     );
     let flushed = flush(writer, failures);
     answered?;
@@ -273,11 +316,44 @@ fn run_once<V: View, N: Notes>(
     session.kept();
     notes.begin(session.checked(), session.tables(), session.records());
     let (answer, history) = run_threads(rt, alloc, session, workers, gate)?;
-    ended(&answer)?;
-    let shown = answer_text(alloc, number, session.checked(), &answer)?;
+    tell(
+        alloc,
+        session,
+        notes,
+        number,
+        &answer,
+        history.as_slice(),
+        text,
+    )
+}
+
+// Puts the line of the run of that number and what it came to at the end of the text, and tells the notes of it.
+fn tell<V: View, N: Notes>(
+    alloc: Global,
+    session: &Session<V>,
+    notes: &mut N,
+    number: usize,
+    answer: &RunAnswer,
+    history: &[BookStep],
+    text: &mut String,
+) -> Result<(), SessionError>
+    requires come { HasCome answer.now }
+    requires elision { IsFromScratch (standing_of session.now) answer.now }
+    ensures answered { OnOk result (Extends text.old text.new
+        (run_answer (standing_of session.now) number)) }
+    ensures ended { OnOk result (HasEnded answer.now) }
+    ensures refused { IfErr result IsAnswerError }
+    ensures mismatch { IfErr result CarriesRefusal }
+    ensures no_kit { result ≡ Err SessionError.NoKit → answer.now ≡ RunAnswer.NoKit }
+    ensures notes { result ≡ Err SessionError.Notes → N.failed notes.new ≡ true }
+    ensures notes_stay { result ≢ Err SessionError.Notes
+        → N.failed notes.new ≡ N.failed notes.old }
+{
+    ended(answer)?;
+    let shown = answer_text(alloc, number, session.checked(), answer)?;
     text.push_str(shown.as_str())?;
-    tell_fault(notes, number, &answer, session.checked(), session.tables());
-    if notes.run(number, &answer, &history, session.kits()) {
+    tell_fault(notes, number, answer, session.checked(), session.tables());
+    if notes.run(number, answer, history, session.kits()) {
         return Ok(());
     }
     Err(SessionError::Notes)

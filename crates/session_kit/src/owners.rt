@@ -1,11 +1,12 @@
 //! Sessions that live as long as what is done in them.
 
 use monoid_laws::Kind;
+use report_session::opening::open;
 use reuse_planner::Session;
-use std::alloc::Global;
+use std::alloc::{AllocError, Global};
 use std::sync::Arc;
 use std::sync::atomic::AtomicUsize;
-use test_kit::beginnings::{checked, kits, kits_by, tables};
+use test_kit::beginnings::tables;
 use test_kit::refusing::{Refuses, Stubborn};
 use view_pool::PlainView;
 
@@ -20,11 +21,12 @@ pub fn in_session<T, F: FnOnce(&mut Session<PlainView>) -> T>(
 ) -> Option<T>
     requires { F.IsAlwaysCallable act }
 {
+    let make = |kind: Kind| -> Result<PlainView, AllocError> { Ok(PlainView::new(alloc, kind)) };
     let tables = tables(alloc, rows)?;
-    let program = checked(alloc, text, &tables)?;
-    let kits = kits(alloc, program.kinds(), count).ok()?;
-    let mut session = Session::new(alloc, program, tables, kits).ok()?;
-    Some(act(&mut session))
+    let mut session = open(alloc, text.as_bytes(), tables, count, &make).ok()?;
+    let done = act(&mut session);
+    session.end();
+    Some(done)
 }
 
 /// Does something in a session whose views are lists that refuse so, and count their drops, for a program whose reducers are lists.
@@ -39,10 +41,10 @@ pub fn in_session_of_lists<T, F: FnOnce(&mut Session<Stubborn>) -> T>(
 ) -> Option<T>
     requires { F.IsAlwaysCallable act }
 {
-    let tables = tables(alloc, rows)?;
-    let program = checked(alloc, text, &tables)?;
     let make = |_kind: Kind| Stubborn::new(alloc, refuses, drops);
-    let kits = kits_by(alloc, program.kinds(), count, &make)?;
-    let mut session = Session::new(alloc, program, tables, kits).ok()?;
-    Some(act(&mut session))
+    let tables = tables(alloc, rows)?;
+    let mut session = open(alloc, text.as_bytes(), tables, count, &make).ok()?;
+    let done = act(&mut session);
+    session.end();
+    Some(done)
 }

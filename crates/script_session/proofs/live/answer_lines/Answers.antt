@@ -3,7 +3,7 @@ use Rattle.std.proofs.lemmas.Result.{err_from_is_err_and}
 use Rattle.program_endings.specs.declared.session_error.SessionError.TheVariants.{Read, NoKit, Notes}
 use Rattle.script_session.proofs.Coming.{Consumes-nothing, all_answered, begun, begun_line, begun_rest, first_line_read, next_line, no_byte, nothing_answered, read_failed, runs_behind-le, shown_ended, shown_last, shown_one, still_none}
 use Rattle.script_session.proofs.Errors.{also_ok, no_such_error, ok_is_none, on_ok, same_error}
-use Rattle.script_session.proofs.live.live_text.Goals as goal
+use Rattle.script_session.proofs.live.answer_lines.Goals as goal
 
 pub loop-init : goal.loop-init
 loop-init g c =

@@ -1,7 +1,7 @@
 use Rattle.std.proofs.Common.{◌≡◌, ◌≤◌, length}
 use Rattle.kept_session.specs.Sessions.{standing_of}
 use Rattle.script_session.specs.Coming.{HasAnswered}
-use Rattle.script_session.proofs.live.live_text.Given as goal
+use Rattle.script_session.proofs.live.answer_lines.Given as goal
 
 -- the commands of the lines so far are answered, and nothing is noted
 abbrev pub invariant-loop : goal.invariant-loop
