@@ -448,4 +448,8 @@ impl<J: Run + Ledger + Stocked + Send, D: Deques, V: View> Shelf<Kit<V>> for Des
     {
         self.pool.give(kit)
     }
+
+    fn has_plenty(&self) -> bool {
+        self.pool.free() / 2 >= self.deques.len()
+    }
 }

@@ -18,10 +18,11 @@ ghost use Rattle.sync_fold.specs.Refusals.{WasRefused, is_apart};
 ghost use Rattle.worker_seats.specs.Over.{is_far, is_refusal, is_right};
 ghost use Rattle.worker_seats.specs.Spots.{spot_of, own_spot, child_spot, HasReturned};
 
+use crate::bell::Bell;
 use crate::desk::{Desk, Parts};
 use crate::found::Found;
 use crate::gate::{Gate, Point};
-use crossbeam_utils::Backoff;
+use crossbeam_utils::CachePadded;
 use frames::answer::RunAnswer;
 use input_tables::Tables;
 use linked_program::checked::Checked;
@@ -57,13 +58,14 @@ pub struct PlainFloor {
 }
 
 /// What the workers of a run share. The run began with so many kits. That it gave up stands beside the lock too, where workers look
-/// that go on without it: they stop earlier then, and nothing else rests on it.
+/// that go on without it: they stop earlier then, and nothing else rests on it. The bell is for those without a strand.
 #[derive(Drop)]
 pub struct Floor<'a, J: Run + Ledger + Stocked + Send, D: Deques, V: View> {
     alloc: Global,
     scene: Scene<'a, J>,
-    desk: Mutex<Desk<J, D, V>>,
+    desk: CachePadded<Mutex<Desk<J, D, V>>>,
     gave_up: AtomicBool,
+    bell: CachePadded<Bell>,
     kits: usize,
 }
 
@@ -96,14 +98,19 @@ where
     if let Some(strand) = first {
         floor.go_on(rt, number, &mut seat, strand, gate);
     }
-    let idle = Backoff::new();
+    let listener = floor.bell.listener();
+    listener.listen();
     for _ in rt.forever() {
         match floor.find(rt, number, &mut seat, gate) {
-            Found::Left => return seat,
-            Found::Nothing => idle.snooze(),
+            Found::Left => {
+                floor.bell.end();
+                return seat;
+            }
+            Found::Nothing => listener.wait(rt),
             Found::Folded(strand) | Found::Stolen(strand) => {
+                listener.leave();
                 floor.go_on(rt, number, &mut seat, strand, gate);
-                idle.reset();
+                listener.listen();
             }
         }
     }
@@ -164,12 +171,13 @@ impl<J: Run + Ledger + Stocked + Send, D: Deques, V: View> Floor<'_, J, D, V> {
         ensures fresh { seat.new.here ≡ None }
     {
         let mut strand = strand;
+        let mut supply = Supply::new(rt, &self.desk, self.kits);
         for _ in rt.forever() {
-            if !self.step(rt, number, seat, &mut strand, gate) {
+            if !self.step(rt, number, seat, &mut strand, &mut supply, gate) {
                 break;
             }
         }
-        self.lay(rt, number, seat, strand, gate);
+        self.lay(rt, number, seat, strand, supply, gate);
     }
 
     /// Small steps, and what there is to do where the strand pauses. Whether the strand goes on.
@@ -179,12 +187,13 @@ impl<J: Run + Ledger + Stocked + Send, D: Deques, V: View> Floor<'_, J, D, V> {
         number: usize,
         seat: &mut Seat<J, D>,
         strand: &mut RightStrand<J, V>,
+        supply: &mut Supply<'_, Desk<J, D, V>, Kit<V>, R>,
         gate: &G,
     ) -> bool
         requires bound { IsBoundTo seat.old.here (spot_of strand.old.strand) }
         ensures bound { result ≡ true → IsBoundTo seat.new.here (spot_of strand.new.strand) }
     {
-        match self.advance(rt, number, strand, gate) {
+        match self.advance(number, strand, supply, gate) {
             Ok(Paused::Working) => !self.has_given_up(),
             Ok(Paused::AtSpawn) => self.spawn(number, seat, strand, gate),
             Ok(Paused::Returned) => self.resume(rt, number, seat, strand, gate),
@@ -196,24 +205,22 @@ impl<J: Run + Ledger + Stocked + Send, D: Deques, V: View> Floor<'_, J, D, V> {
     /// is the only error.
     fn advance<R: Wait, G: Gate>(
         &self,
-        rt: &R,
         number: usize,
         strand: &mut RightStrand<J, V>,
+        supply: &mut Supply<'_, Desk<J, D, V>, Kit<V>, R>,
         gate: &G,
     ) -> Result<Paused, AllocError>
         ensures spot { OnOk result (spot_of strand.new.strand ≡ spot_of strand.old.strand) }
         ensures returned { IfOk result
             (λ paused. paused ≡ Paused.Returned → HasReturned strand.new.strand) }
     {
-        let held = strand.kits();
-        if held > self.kits {
+        if !supply.begin(strand.kits()) {
             return Err(AllocError);
         }
         let is_watched = gate.watches_updates();
-        let mut supply = Supply::new(rt, &self.desk, self.kits, held);
         for _ in 0..STEPS {
             self.go_ahead(number, is_watched, strand, gate)?;
-            match strand.advance(self.alloc, &self.scene, &mut supply)? {
+            match strand.advance(self.alloc, &self.scene, supply)? {
                 Paused::Working => {}
                 paused => return Ok(paused),
             }
@@ -287,7 +294,10 @@ impl<J: Run + Ledger + Stocked + Send, D: Deques, V: View> Floor<'_, J, D, V> {
         let task = strand.detach(self.alloc);
         task.kept();
         match seat.push(task) {
-            Ok(()) => gate.at(number, Point::Pushed),
+            Ok(()) => {
+                self.bell.ring();
+                gate.at(number, Point::Pushed);
+            }
             Err(task) => strand.attach(task),
         }
     }
@@ -349,21 +359,25 @@ impl<J: Run + Ledger + Stocked + Send, D: Deques, V: View> Floor<'_, J, D, V> {
         unreachable!()
     }
 
-    /// Lays a strand down, once its worker's deque is empty. Where it isn't at a point to lie at, for want of memory, the run gives
-    /// up.
+    /// Lays a strand down, once its worker's deque is empty and its supply has no kit. Where it isn't at a point to lie at, for want of
+    /// memory, the run gives up.
     fn lay<R: Wait, G: Gate>(
         &self,
         rt: &R,
         number: usize,
         seat: &mut Seat<J, D>,
         strand: RightStrand<J, V>,
+        supply: Supply<'_, Desk<J, D, V>, Kit<V>, R>,
         gate: &G,
     )
         ensures drained { seat.new.here ≡ None }
     {
         self.drain(rt, seat);
-        let mut supply = Supply::new(rt, &self.desk, self.kits, strand.kits());
-        match Piece::lay(&self.scene, strand, &mut supply) {
+        let mut supply = supply;
+        supply.begin(strand.kits());
+        let laid = Piece::lay(&self.scene, strand, &mut supply);
+        supply.clear();
+        match laid {
             Ok(piece) => {
                 self.put(rt, piece);
                 gate.at(number, Point::Laid);
@@ -443,8 +457,9 @@ impl<'a, J: Run + Ledger + Stocked + Send, D: Deques, V: View> Floor<'a, J, D, V
                 let floor = Floor {
                     alloc,
                     scene,
-                    desk: Mutex::new(desk),
+                    desk: CachePadded::new(Mutex::new(desk)),
                     gave_up: AtomicBool::new(false),
+                    bell: CachePadded::new(Bell::new()),
                     kits,
                 };
                 Ok((floor, seats))
@@ -458,7 +473,7 @@ impl<'a, J: Run + Ledger + Stocked + Send, D: Deques, V: View> Floor<'a, J, D, V
         ensures kinds { All (λ k. k ≡ J.setting.kinds) result.kits }
         ensures total { result.total ≡ J.total }
     {
-        self.desk.into_inner().into_pool().into_pool()
+        self.desk.into_inner().into_inner().into_pool().into_pool()
     }
 
     /// The answer of a run that all workers have left, the kits that are home, the new records of a run that has finished, and what
@@ -513,6 +528,7 @@ impl<'a, J: Run + Ledger + Stocked + Send, D: Deques, V: View> Floor<'a, J, D, V
             kits,
             ..
         } = self;
-        desk.into_inner().close(alloc, &scene, seat, kits)
+        let desk = desk.into_inner().into_inner();
+        desk.close(alloc, &scene, seat, kits)
     }
 }

@@ -1,6 +1,7 @@
 //! Runs of a session's program by threads: one lock over the list of strands and the pool of kits, and deques outside of it.
 #![tactic(auto)]
 
+mod bell;
 mod desk;
 mod floor;
 mod found;

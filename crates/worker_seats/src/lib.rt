@@ -6,5 +6,6 @@ pub mod ended;
 pub mod failure;
 pub mod kits;
 pub mod seat;
+mod spare;
 pub mod supply;
 pub mod waiting;
