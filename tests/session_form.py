@@ -31,7 +31,7 @@ class Part:
 class Setting:
     """What a session runs. A text is None where there is no such file; a line stands for all words of the program's line. The output
     takes `all`, `none`, nothing since it is `closed`, or is `absent`; or, one run for each of the rooms, so many bytes. The memory is
-    in MiB, and each thread's stack in KiB, where there is a limit."""
+    in MiB, and each thread's stack in KiB, where there is a limit; or each allocation is refused in turn."""
 
     words: Tuple[str, ...] = ()
     line: Optional[Tuple[str, ...]] = None
@@ -44,6 +44,7 @@ class Setting:
     rooms: Tuple[int, ...] = ()
     beginnings: Tuple[int, ...] = ()
     memory: Optional[int] = None
+    refuses: bool = False
     stack: Optional[int] = None
     long: bool = False
     live: bool = False
@@ -174,6 +175,8 @@ def with_part(setting: Setting, part: Part, path: Path) -> Setting:
         return replace(setting, **{part.kind: numbers(part.rest)})
     if part.kind in ("program", "tables", "script"):
         return replace(setting, **{part.kind: text_of(part, path)})
+    if part.kind == "memory" and part.rest == "refused":
+        return replace(setting, refuses=True)
     if part.kind in ("memory", "stack"):
         return replace(setting, **{part.kind: int(part.rest)})
     if part.kind == "input":

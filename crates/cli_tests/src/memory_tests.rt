@@ -1,5 +1,5 @@
 // Where memory is refused, a report ends by want of memory after a beginning of its answers, or is as it should be; and a report whose
-// trace finds no room.
+// trace finds no room, or isn't flushed.
 use crate::running::prepare_error;
 use cli::files::FileSource;
 use cli::program::report_on;
@@ -58,11 +58,12 @@ const EMPTY: Page = Page {
     len: 0,
 };
 
-// Writes so many bytes on a page.
+// Writes so many bytes on a page, and flushes them or can't.
 #[derive(Clone, Copy)]
 struct Pen<'a> {
     page: &'a Cell<Page>,
     room: usize,
+    flushes: bool,
 }
 
 impl<'a> Write for Pen<'a> {
@@ -78,16 +79,20 @@ impl<'a> Write for Pen<'a> {
     }
 
     fn flush(&mut self) -> io::Result<()> {
-        Ok(())
+        if self.flushes {
+            return Ok(());
+        }
+        Err(io::Error::from(ErrorKind::BrokenPipe))
     }
 }
 
-// A program's file; that of the tables is empty. The trace has room for so many bytes.
+// A program's file; that of the tables is empty. The trace has room for so many bytes, and is flushed or not.
 #[derive(Clone, Copy)]
 struct Program<'a> {
     text: &'a [u8],
     trace: &'a Cell<Page>,
     room: usize,
+    flushes: bool,
 }
 
 impl<'a> FileSource for Program<'a> {
@@ -102,6 +107,7 @@ impl<'a> FileSource for Program<'a> {
         Ok(Pen {
             page: self.trace,
             room: self.room,
+            flushes: self.flushes,
         })
     }
 }
@@ -115,13 +121,14 @@ struct Report {
     status: u8,
 }
 
-// Does a report whose trace has room for so many bytes.
+// Does a report whose trace has room for so many bytes, and is flushed or not.
 fn reported(
     rt: &(impl Abort + Threads + Wait + Sync),
     alloc: Global,
     text: &[u8],
     script: &[u8],
     room: usize,
+    flushes: bool,
 ) -> Report {
     let make = |_sort: Sort, kind: Kind| -> Result<PlainView, AllocError> {
         Ok(PlainView::new(alloc, kind))
@@ -137,15 +144,18 @@ fn reported(
             text,
             trace: &trace,
             room,
+            flushes,
         },
         &mut reader,
         &mut Pen {
             page: &answers,
             room: 128,
+            flushes: true,
         },
         Pen {
             page: &counts,
             room: 128,
+            flushes: true,
         },
         Explainer::new(alloc, io::sink()),
         &mut Failures::none(),
@@ -171,7 +181,7 @@ fn is_written(
     script: &[u8],
     answers: &[u8],
 ) -> bool {
-    let report = reported(rt, alloc, text, script, 128);
+    let report = reported(rt, alloc, text, script, 128, true);
     let written = report.answers.text();
     if (report.trace.len == 0) != (report.counts.len == 0) {
         return false;
@@ -210,12 +220,23 @@ fn of_reports(rt: HostRuntime) {
 }
 
 // The answer to the run that couldn't be noted isn't written, nor are its counts.
+fn is_not_noted(
+    rt: &(impl Abort + Threads + Wait + Sync),
+    alloc: Global,
+    room: usize,
+    flushes: bool,
+    trace: &[u8],
+) {
+    let report = reported(rt, alloc, FIRST, b"here\nrun\n", room, flushes);
+    assert_eq!(rt; report.answers.text(), b"refused E19 1\n".as_slice());
+    assert_eq!(rt; report.trace.text(), trace);
+    assert_eq!(rt; (report.counts.len, report.status), (0, 1));
+}
+
 #[test]
-fn a_trace_without_room(rt: HostRuntime) {
-    let report = reported(&rt, rt.alloc(), FIRST, b"here\nrun\n", 7);
-    assert_eq!(&rt; report.answers.text(), b"refused E19 1\n".as_slice());
-    assert_eq!(&rt; report.trace.text(), b"run 1\nf".as_slice());
-    assert_eq!(&rt; (report.counts.len, report.status), (0, 1));
+fn a_trace_without_room_or_not_flushed(rt: HostRuntime) {
+    is_not_noted(&rt, rt.alloc(), 7, true, b"run 1\nf");
+    is_not_noted(&rt, rt.alloc(), 128, false, b"run 1\nfinish root\n");
 }
 
 #[test]

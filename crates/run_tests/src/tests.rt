@@ -4,6 +4,7 @@ mod given_up;
 mod histories;
 mod playing;
 mod refused;
+mod refused_reports;
 mod replays;
 mod rows;
 mod sessions;

@@ -1,9 +1,10 @@
-//! Programs, each on one strand or on several; hypermaps of views that refuse; deques.
+//! Programs, each on one strand or on several, and kits that are missed; hypermaps of views that refuse; deques.
 
 mod answers;
 mod deques;
 mod driving;
 mod folds;
+mod kits;
 mod names;
 mod pieces;
 mod statements;

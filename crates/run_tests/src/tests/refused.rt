@@ -67,7 +67,7 @@ fn push_standing<V: View>(text: &mut String, session: &Session<V>) -> Result<(),
 }
 
 /// What a session holds, as a text.
-fn standing<V: View>(rt: &impl Abort, alloc: Global, session: &Session<V>) -> String {
+pub fn standing<V: View>(rt: &impl Abort, alloc: Global, session: &Session<V>) -> String {
     let mut text = String::new(alloc);
     push_standing(&mut text, session).expect(rt, "memory");
     text

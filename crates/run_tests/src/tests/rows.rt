@@ -49,7 +49,7 @@ type Row = (
     &'static str,
 );
 
-const ROWS: [Row; 17] = [
+const ROWS: [Row; 18] = [
     (
         FIRST_LIST,
         1,
@@ -94,6 +94,16 @@ const ROWS: [Row; 17] = [
         "",
         "result 3\nseen 1 2 9\n",
         TWO_FOLDS,
+    ),
+    // The strands stand in another order than those who hold them.
+    (
+        FIRST_LIST,
+        3,
+        3,
+        "W0* P0 S20 W2* P2 S12 W1* L1 W2* L2 F1@2 W1* L1 W0* L0 F0@1 W0* L0",
+        "",
+        "result 3\nseen 1 2 9\n",
+        "run 1\nsplit root 1 by 2\nsplit 1 2 by 1\nstall 2\nend 1\nfold 1 2 by 1\nstall 1\nend root\nfold root 1 by 0\nfinish root\n",
     ),
     (
         FIRST_TWO,

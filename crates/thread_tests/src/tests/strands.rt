@@ -9,9 +9,11 @@ use std::sync::Wait;
 use std::thread::Threads;
 use test_kit::texts::{FIRST, LINES};
 
-/// A program, how many workers and kits, and the answer. Each line that is recorded takes a kit, and so does each strand.
-const ROWS: [(&str, usize, usize, &str); 3] = [
+/// A program, how many workers and kits, and the answer. Each line that is recorded takes a kit, and so does each strand. The third worker
+/// of the second row has a thief alone to steal from.
+const ROWS: [(&str, usize, usize, &str); 4] = [
     (FIRST, 2, 2, "result 3\ntotal 12\n"),
+    (FIRST, 3, 3, "result 3\ntotal 12\n"),
     (LINES, 2, 4, "result 131\ntotal 131\ntop 100 3\n"),
     (ONES, 4, 4, "result 120\ntotal 120\n"),
 ];
