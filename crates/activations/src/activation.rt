@@ -50,7 +50,16 @@ impl Model for Activation {
 
     ghost Value = { PlainActivation };
 
-    ghost view = { λ a. record { left = a.left; children = a.children; procedure = a.procedure; slots = a.slots.items; outer = reverse a.outer.items; work = a.work; spawned = a.spawned; into = a.into } };
+    ghost view = { λ a. record {
+      left = a.left;
+      children = a.children;
+      procedure = a.procedure;
+      slots = a.slots.items;
+      outer = reverse a.outer.items;
+      work = a.work;
+      spawned = a.spawned;
+      into = a.into;
+    } };
 
     ghost invariant = { λ a. WorkFits a.work };
 }

@@ -58,7 +58,13 @@ pub struct LoopCode<'a> {
 
 /// The statement of a loop of a procedure; that of none where no loop stands there.
 pub fn loop_code(program: &Checked, procedure: usize, place: Loop) -> LoopCode
-    ensures found { record { number = result.number; variable = result.variable; grain = result.grain; callee = result.callee; arguments = result.arguments.now } ≡ loop_at program.now.codes procedure place }
+    ensures found { record {
+      number = result.number;
+      variable = result.variable;
+      grain = result.grain;
+      callee = result.callee;
+      arguments = result.arguments.now;
+    } ≡ loop_at program.now.codes procedure place }
 {
     if let Some(instruction) = program.instruction(procedure, place.block, place.index) {
         if let Operation::Loop(variable, _, _, grain, callee, arguments) = &instruction.operation {

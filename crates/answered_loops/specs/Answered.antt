@@ -1,5 +1,6 @@
 -- A loop of which records answer the iterations: what they are of, and the strand once they are answered.
-use Rattle.std.specs.Prelude.{◌≡◌, ℕ, zero, suc, ◌+◌, ◌-◌, ◌≤◌, ◌==◌, nat_le, ℤ, pos, ◌+ℤ◌, Bool, true, false, ◌||◌, List, [], ◌∷◌, map, length, Some, None, slice_set}
+use Rattle.std.specs.Prelude.{◌≡◌, ℕ, zero, suc, ◌+◌, ◌-◌, ◌≤◌, ◌==◌, nat_le, ℤ, pos, ◌+ℤ◌, Bool, true, false, ◌||◌, List, [], ◌∷◌, map}
+use Rattle.std.specs.Prelude.{length, Some, None, slice_set}
 use Rattle.meaning.specs.Elision.{depth_limit}
 use Rattle.linked_program.specs.declared.code.Code.{Code}
 use Rattle.linked_program.specs.CodeView.{expression, memo_of}

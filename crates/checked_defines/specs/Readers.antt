@@ -42,7 +42,8 @@ reads_text text before = put_into before (source_of before.0 text)
 -- a reader gives what the grammar says
 pub record ReadsGrammar (reads : TextReader) : Type 0 where
   pub puts : (text : List ℕ) (before after : Tree × List Lined) → (reads text before ≡ Ok after) ↔ IsDefined before text after
-  pub refuses : (text : List ℕ) (before : Tree × List Lined) (line : ℕ) → (reads text before ≡ Err line) ↔ IsFaultLineIn (InDefinition (room_of before.0)) text line
+  pub refuses : (text : List ℕ) (before : Tree × List Lined) (line : ℕ)
+      → (reads text before ≡ Err line) ↔ IsFaultLineIn (InDefinition (room_of before.0)) text line
 
 -- ---- rules
 
@@ -60,5 +61,7 @@ IsFoundIn vs program found = (v : Violation) × IsFirst vs v × (found ≡ viola
 
 -- a checker finds what the rules say
 pub record ChecksRules (checks : Checker) : Type 0 where
-  pub clean : (program : Tree) (lines : List Lined) (tables : Tables) → (checks program lines tables ≡ None) ↔ (violations (columned_of tables) program lines ≡ [])
-  pub first : (program : Tree) (lines : List Lined) (tables : Tables) (v : edits.Violation) → checks program lines tables ≡ Some v → IsFoundIn (violations (columned_of tables) program lines) program v
+  pub clean : (program : Tree) (lines : List Lined) (tables : Tables)
+      → (checks program lines tables ≡ None) ↔ (violations (columned_of tables) program lines ≡ [])
+  pub first : (program : Tree) (lines : List Lined) (tables : Tables) (v : edits.Violation) → checks program lines tables ≡ Some v
+      → IsFoundIn (violations (columned_of tables) program lines) program v

@@ -38,7 +38,8 @@ KeepsPlaces old new = (more : List Name) × (called_in new ≡ called_in old ++ 
 -- each procedure that is there stays there, with the number that its name had
 abbrev pub KeepsNumbers : Tree → Tree → Type 0
 KeepsNumbers old new =
-    (f : Name) → is_there (procedure_of old f) ≡ true → (is_there (procedure_of new f) ≡ true) × (procedure_number (procedures new) f ≡ procedure_number (procedures old) f)
+    (f : Name) → is_there (procedure_of old f) ≡ true
+    → (is_there (procedure_of new f) ≡ true) × (procedure_number (procedures new) f ≡ procedure_number (procedures old) f)
 
 -- a procedure whose revision number is current is there
 abbrev pub CurrentAreThere : PlainChecked → Type 0

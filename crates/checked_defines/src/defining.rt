@@ -51,7 +51,9 @@ fn in_place(
     }
 }
 
-/// The checked program with the procedures of a text put in, checked anew beside the same tables: each stands in the place of the one of its name, a new name goes last. A procedure whose tree is as it was, lines aside, keeps its revision number; a changed or new one gets a number that was never used.
+/// The checked program with the procedures of a text put in, checked anew beside the same tables: each stands in the place of
+/// the one of its name, a new name goes last. A procedure whose tree is as it was, lines aside, keeps its revision number; a
+/// changed or new one gets a number that was never used.
 ///
 /// Refused by the text's first fault, else by the program's first violation, else as exhausted where a new number would not fit 64 bits; or for want of memory.
 pub fn define(

@@ -9,7 +9,8 @@ ghost use Rattle.linked_program.specs.Checked.{PlainChecked, IsChecked};
 ghost use Rattle.checked_defines.specs.Readers.{reads_text, checks_rules, ReadsGrammar, ChecksRules};
 ghost use Rattle.checked_defines.specs.Standings.{KeepsPlaces, KeepsNumbers, CurrentAreThere};
 
-/// The reader gives the program with the procedures of a text put in exactly where the text is one of the grammar, and the line of its first fault exactly where it is none.
+/// The reader gives the program with the procedures of a text put in exactly where the text is one of the grammar, and the line
+/// of its first fault exactly where it is none.
 pub fn reader_is_grammar()
     ensures grammar { ReadsGrammar reads_text }
 {}

@@ -29,7 +29,8 @@ IsNoText (Some bytes) = IsUtf8 bytes → ⊥
 abbrev pub IsTrace : Options → List ℕ → Type 0
 IsTrace options path = option_map (λ t. t.now) options.trace ≡ Some path
 
--- why no session was begun: a file first, and a text only where the tables' file is text, and then the trace's file; of a session that was begun, or was to have no kits, only the path of a trace that failed is said
+-- why no session was begun: a file first, and a text only where the tables' file is text, and then the trace's file; of a
+-- session that was begun, or was to have no kits, only the path of a trace that failed is said
 abbrev pub IsUnopened : (List ℕ → Option (List ℕ)) → Options → ProgramError → Type 0
 IsUnopened held options (Line e) = ⊥
 IsUnopened held options (File path) =

@@ -7,7 +7,8 @@ ghost use Rattle.program_endings.specs.Statuses.{status_of};
 ghost use Rattle.program_endings.specs.Written.{WritesAll, WritesBeginning, WritesRead};
 ghost use Rattle.script_session.specs.Answers.{answers_of};
 ghost use Rattle.script_session.specs.Coming.{session_so_far};
-ghost use Rattle.cli.specs.Reports.{IsOpened, IsUnopened, IsUnmade, IsLate, IsReportedOver, IsBegunOver, IsReadOver, ReadsNothing, ReportsRefusal, WritesNothing};
+ghost use Rattle.cli.specs.Reports.{IsOpened, IsUnopened, IsUnmade, IsLate, IsReportedOver, IsBegunOver, IsReadOver, ReadsNothing};
+ghost use Rattle.cli.specs.Reports.{ReportsRefusal, WritesNothing};
 
 use crate::asking::Asking;
 use crate::beginning::{BeginError, begin};

@@ -40,7 +40,8 @@ values_form =
 
 -- the form of a line: PROGRAM TABLES [--workers N] [--kits N] [--trace FILE] [--views SORT] [--stats] [--explain] [--live] [--why]
 abbrev pub line_form : App
-line_form = with_rule (with_rule (with_rule (with_rule values_form (flag_rule (codes "stats"))) (flag_rule (codes "explain"))) (flag_rule (codes "live"))) (flag_rule (codes "why"))
+line_form = with_rule (with_rule (with_rule (with_rule values_form (flag_rule (codes "stats"))) (flag_rule (codes "explain")))
+    (flag_rule (codes "live"))) (flag_rule (codes "why"))
 
 -- the form of a line that asks for a program's normal form: --print PROGRAM; help and the version may be asked for
 abbrev pub print_form : App

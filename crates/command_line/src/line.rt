@@ -1,7 +1,9 @@
 // The words of the program's line.
 ghost use Rattle.std.specs.Prelude.{◌≡◌, ◌≤◌, ℕ, List, IfOk, IfErr, IfSome, IfNone, OnOk, false, map, option_map};
 ghost use Rattle.clap.specs.Words.{app_of, found_of, first_value, kind_of, rule_of};
-ghost use Rattle.command_line.specs.Line.{line_form, values_form, print_form, given, is_set, flag_rule, option_rule, path_rule, HasForm, AsksFor, IsAsked, IsLineOf, IsNoLine, IsNothing, IsPrintLine, IsNoPrintLine, IsRefusedFor, IsRefusalOf, IsWithin, AsksForViews, views_named};
+ghost use Rattle.command_line.specs.Line.{line_form, values_form, print_form, given, is_set, flag_rule, option_rule, path_rule, HasForm};
+ghost use Rattle.command_line.specs.Line.{AsksFor, IsAsked, IsLineOf, IsNoLine, IsNothing, IsPrintLine, IsNoPrintLine, IsRefusedFor};
+ghost use Rattle.command_line.specs.Line.{IsRefusalOf, IsWithin, AsksForViews, views_named};
 ghost use Rattle.command_line.specs.declared.options.OptionsError.TheVariants as refusal;
 ghost use Rattle.command_line.specs.declared.options.Views.{Views as TheViews};
 

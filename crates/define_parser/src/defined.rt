@@ -11,7 +11,9 @@ use program_edits::with_procedures;
 use program_tree::Program;
 use std::alloc::Global;
 
-/// The program with the procedures of a text put in: each in the place of the one of its name, a new name last, a second one of a name behind the first, with the lines of its own text. An error is NoMemory, or the line of the first token that can't follow what stands before it: 0 for a text that is too long, the name's for a procedure that would bring the program to 257.
+/// The program with the procedures of a text put in: each in the place of the one of its name, a new name last, a second one of
+/// a name behind the first, with the lines of its own text. An error is NoMemory, or the line of the first token that can't
+/// follow what stands before it: 0 for a text that is too long, the name's for a procedure that would bring the program to 257.
 pub fn parse_define(alloc: Global, text: &[u8], program: &Program) -> Result<Program, TextError>
     // What is answered is the program with the procedures of a text of the grammar, within the limits.
     ensures found { IfOk result (λ p. IsDefined (tree program.now, lines program.now) text.now

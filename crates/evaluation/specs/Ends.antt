@@ -5,7 +5,8 @@ use Rattle.evaluation.specs.declared.stop.Stop.{Stop}
 use Rattle.evaluation.specs.declared.stop.Stop.TheVariants.{NoMemory, Fault}
 use Rattle.evaluation.specs.Values.{NumberedOut}
 
--- an evaluation that found the old notes and left the new ones ends as that: its answer or its fault, and its notes behind the old ones; where memory is refused the notes are the old ones
+-- an evaluation that found the old notes and left the new ones ends as that: its answer or its fault, and its notes behind the
+-- old ones; where memory is refused the notes are the old ones
 abbrev pub Ends : {A B : Type 0} → (B → A) → NumberedOut A → List Note → List Note → Result B Stop → Type 0
 Ends view o old new (Ok b) = (o.answer ≡ Ok (view b)) × (new ≡ old ++ o.notes)
 Ends view o old new (Err (Fault k)) = (o.answer ≡ Err k) × (new ≡ old ++ o.notes)

@@ -41,11 +41,13 @@ abbrev pub ValueIs : Tables → List Slot → Term → Type 0
 ValueIs tables slots e = value_at tables slots (linked_term (columned_of tables) e) ≡ by_number (columned_of tables) (value tables (env_of slots) e)
 
 abbrev pub ValuesAre : Tables → List Slot → List Term → Type 0
-ValuesAre tables slots es = values_at tables slots (map (linked_term (columned_of tables)) es) ≡ by_number (columned_of tables) (values tables (env_of slots) es)
+ValuesAre tables slots es = values_at tables slots (map (linked_term (columned_of tables)) es)
+    ≡ by_number (columned_of tables) (values tables (env_of slots) es)
 
 abbrev pub BoundsAre : Tables → List Slot → Term → Term → Type 0
 BoundsAre tables slots e f =
-    bounds_at tables slots (linked_term (columned_of tables) e) (linked_term (columned_of tables) f) ≡ by_number (columned_of tables) (bounds tables (env_of slots) e f)
+    bounds_at tables slots (linked_term (columned_of tables) e) (linked_term (columned_of tables) f)
+    ≡ by_number (columned_of tables) (bounds tables (env_of slots) e f)
 
 -- a slot that is given a value is a name that is given it
 abbrev pub PutIs : List Slot → ℕ → ℤ → Type 0

@@ -311,7 +311,8 @@ fn cell(
 
 // 1 where there is such a row, or 0.
 fn has(tables: &Tables, table: usize, row: i64, notes: &mut Notes) -> Result<i64, Stop>
-    ensures { Ends (λ v. v) (reading (Note.Has table row (read.has_at tables.now.tables table row)) (one_for (read.has_at tables.now.tables table row))) notes.old notes.new result }
+    ensures { Ends (λ v. v) (reading (Note.Has table row (read.has_at tables.now.tables table row))
+        (one_for (read.has_at tables.now.tables table row))) notes.old notes.new result }
 {
     let found = tables.has(table, row);
     match notes.add(&Note::Has { table, row, found }) {
@@ -322,7 +323,8 @@ fn has(tables: &Tables, table: usize, row: i64, notes: &mut Notes) -> Result<i64
 
 // One more than the greatest number of a row.
 fn limit(tables: &Tables, table: usize, notes: &mut Notes) -> Result<i64, Stop>
-    ensures { Ends (λ v. v) (reading (Note.Limit table (read.limit_at tables.now.tables table)) (read.limit_at tables.now.tables table)) notes.old notes.new result }
+    ensures { Ends (λ v. v) (reading (Note.Limit table (read.limit_at tables.now.tables table)) (read.limit_at tables.now.tables table))
+        notes.old notes.new result }
 {
     let value = tables.limit(table);
     match notes.add(&Note::Limit { table, value }) {
@@ -333,7 +335,8 @@ fn limit(tables: &Tables, table: usize, notes: &mut Notes) -> Result<i64, Stop>
 
 // The sum of a column over all rows.
 fn sum(tables: &Tables, table: usize, column: usize, notes: &mut Notes) -> Result<i64, Stop>
-    ensures { Ends (λ v. v) (reading (Note.Sum table column (read.sum_at tables.now.tables table column)) (read.sum_at tables.now.tables table column)) notes.old notes.new result }
+    ensures { Ends (λ v. v) (reading (Note.Sum table column (read.sum_at tables.now.tables table column))
+        (read.sum_at tables.now.tables table column)) notes.old notes.new result }
 {
     let value = tables.sum(table, column);
     match notes.add(&Note::Sum {

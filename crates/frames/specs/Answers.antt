@@ -54,7 +54,8 @@ module _ (setting : Setting) where
 
   -- the answer of a strand of the definitions with that tally: main has left, or there was a fault, or neither
   abbrev pub Answers : RunAnswer → LayeredStrand → Tally → Type 0
-  Answers (answer.Finished v values n m k) x t = HasLeft x v × (map meaning values.items ≡ bottom x.layers) × (n ≡ t.executed) × (m ≡ t.reused) × (k ≡ t.unrecorded)
+  Answers (answer.Finished v values n m k) x t = HasLeft x v × (map meaning values.items ≡ bottom x.layers) × (n ≡ t.executed)
+      × (m ≡ t.reused) × (k ≡ t.unrecorded)
   Answers (answer.Fault f) x t = x.phase ≡ broken (named_fault setting f)
   Answers answer.Unfinished x t = ((k : NamedFault) → x.phase ≡ broken k → ⊥) × ((v : ℤ) → HasLeft x v → ⊥)
   Answers answer.NoMemory x t = Unit {0}

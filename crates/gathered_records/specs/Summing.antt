@@ -37,7 +37,16 @@ numbered_from i (w ∷ ws) = (i, w) ∷ numbered_from (suc i) ws
 
 -- what the records have together
 abbrev pub summed : PlainSum → PlainRecord
-summed s = record { procedure = s.procedure; arguments = s.arguments; value = s.value; contribution = numbered_from 0 s.worths; reads = s.reads; entered = s.entered; height = s.height; doubted = rows [] }
+summed s = record {
+  procedure = s.procedure;
+  arguments = s.arguments;
+  value = s.value;
+  contribution = numbered_from 0 s.worths;
+  reads = s.reads;
+  entered = s.entered;
+  height = s.height;
+  doubted = rows [];
+}
 
 -- for reducers of these kinds
 module _ (kinds : List Kind) where

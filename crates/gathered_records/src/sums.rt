@@ -40,7 +40,15 @@ impl Model for Sum {
 
     ghost Value = { PlainSum };
 
-    ghost view = { λ s. record { procedure = s.procedure; arguments = s.arguments.items; value = s.value; worths = map meaning s.worths.items; reads = all_of s.reads.items; entered = s.entered.items; height = s.height } };
+    ghost view = { λ s. record {
+      procedure = s.procedure;
+      arguments = s.arguments.items;
+      value = s.value;
+      worths = map meaning s.worths.items;
+      reads = all_of s.reads.items;
+      entered = s.entered.items;
+      height = s.height;
+    } };
 }
 
 impl Sum {

@@ -1,11 +1,13 @@
 //! Reducers to views, each opened at its first use.
 #![tactic(auto)]
 
-ghost use Rattle.std.specs.Prelude.{◌≡◌, ℕ, ◌≤◌, ◌<◌, ◌+◌, OnOk, OnErr, IfOk, IfErr, IsOk, IsSome, IsTrue, IsNone, IfSome, length, List, map, All, ◌++◌, ◌∷◌, [], slice_index_or, slice_set, ◌↔◌, Bool, false, true, not, vec_len, nat_eq, ◌⊎◌};
+ghost use Rattle.std.specs.Prelude.{◌≡◌, ℕ, ◌≤◌, ◌<◌, ◌+◌, OnOk, OnErr, IfOk, IfErr, IsOk, IsSome, IsTrue, IsNone, IfSome, length, List};
+ghost use Rattle.std.specs.Prelude.{map, All, ◌++◌, ◌∷◌, [], slice_index_or, slice_set, ◌↔◌, Bool, false, true, not, vec_len, nat_eq, ◌⊎◌};
 ghost use Rattle.std.specs.List.{list_any};
 ghost use Rattle.monoid_laws.specs.Worth.{Worth};
 ghost use Rattle.monoid_laws.specs.declared.Kind.{Kind};
-ghost use Rattle.monoid_laws.specs.Kinds.{operate, identity_of, identities, meaning, element_of, IsWorth, AreWorths, arity, names_element, refusal, operate_all, IsMonoid};
+ghost use Rattle.monoid_laws.specs.Kinds.{operate, identity_of, identities, meaning, element_of, IsWorth, AreWorths, arity, names_element};
+ghost use Rattle.monoid_laws.specs.Kinds.{refusal, operate_all, IsMonoid};
 ghost use Rattle.monoid_laws.specs.declared.InjectError.TheVariants.{NoMemory};
 ghost use Rattle.hypermaps.specs.Layer.{Layer, IsLayer, IsAt, operate_first, used_also};
 
@@ -122,8 +124,10 @@ fn fold_at<V: View>(
     ensures left_kinds { map V.kind_of left.new.items ≡ map V.kind_of left.old.items }
     ensures right_kinds { map V.kind_of right.new.items ≡ map V.kind_of right.old.items }
     ensures left_layer { IsLayer (map V.kind_of left.new.items) (map V.worth_of left.new.items) left_used.new.items }
-    ensures product { operate_all (map V.kind_of left.new.items) (map V.worth_of left.new.items) (map V.worth_of right.new.items) ≡ operate_all (map V.kind_of left.old.items) (map V.worth_of left.old.items) (map V.worth_of right.old.items) }
-    ensures moved { (c : Kind) → IsAt (map V.kind_of right.old.items) r c → OnOk result (map V.worth_of right.new.items ≡ slice_set (map V.worth_of right.old.items) r (identity_of c)) }
+    ensures product { operate_all (map V.kind_of left.new.items) (map V.worth_of left.new.items) (map V.worth_of right.new.items)
+        ≡ operate_all (map V.kind_of left.old.items) (map V.worth_of left.old.items) (map V.worth_of right.old.items) }
+    ensures moved { (c : Kind) → IsAt (map V.kind_of right.old.items) r c
+        → OnOk result (map V.worth_of right.new.items ≡ slice_set (map V.worth_of right.old.items) r (identity_of c)) }
     ensures kept { OnErr result (map V.worth_of right.new.items ≡ map V.worth_of right.old.items) }
 {
     let Ok(fresh) = note_first(left_used, r) else {
@@ -146,7 +150,8 @@ fn absorb_at<V: View>(
     requires of_kind { (c : Kind) → IsAt (map V.kind_of views.old.items) r c → IsWorth c (meaning value) }
     ensures kinds { map V.kind_of views.new.items ≡ map V.kind_of views.old.items }
     ensures layer { IsLayer (map V.kind_of views.new.items) (map V.worth_of views.new.items) used.new.items }
-    ensures absorbed { (c : Kind) (x : Worth) → IsAt (map V.kind_of views.old.items) r c → IsAt (map V.worth_of views.old.items) r x → OnOk result (map V.worth_of views.new.items ≡ slice_set (map V.worth_of views.old.items) r (operate c x (meaning value))) }
+    ensures absorbed { (c : Kind) (x : Worth) → IsAt (map V.kind_of views.old.items) r c → IsAt (map V.worth_of views.old.items) r x
+        → OnOk result (map V.worth_of views.new.items ≡ slice_set (map V.worth_of views.old.items) r (operate c x (meaning value))) }
     ensures refused { OnErr result (map V.worth_of views.new.items ≡ map V.worth_of views.old.items) }
 {
     if note_use(used, r).is_err() {
@@ -205,7 +210,8 @@ impl<V: View> Hypermap<V> {
         self.views[reducer].export()
     }
 
-    /// Combines the element that the numbers name on the right of the reducer's value. An error is BadElement, where a table has no such element, or NoMemory; all values stay.
+    /// Combines the element that the numbers name on the right of the reducer's value. An error is BadElement, where a table
+    /// has no such element, or NoMemory; all values stay.
     pub fn update(&mut self, reducer: usize, numbers: &[i64]) -> Result<(), InjectError>
         requires reducer_is { reducer < length self.old.kinds }
         requires count { (c : Kind) → IsAt self.old.kinds reducer c → length numbers.now ≡ arity c }

@@ -45,7 +45,8 @@ fn tables_from(alloc: Global, document: &Document) -> Result<Vec<Table>, TablesE
 // The table of a key, or the refusal that names it.
 fn table_at(alloc: Global, name: &str, value: &Value) -> Result<Table, TablesError>
     ensures read { IfOk result (λ table. table_in name.now (view value.now) ≡ Some table) }
-    ensures refused { (goes_on : Listed → Result TableModel Refusal) → IfErr result (IsCause (unless_faulty name.now (table_in name.now (view value.now)) goes_on)) }
+    ensures refused { (goes_on : Listed → Result TableModel Refusal)
+        → IfErr result (IsCause (unless_faulty name.now (table_in name.now (view value.now)) goes_on)) }
 {
     match table_in(alloc, name, value) {
         Ok(table) => Ok(table),

@@ -3,7 +3,8 @@
 ghost use Rattle.std.specs.Prelude.{◌≡◌, [], true, IfOk, IfErr, IfSome, Some, map, string_bytes, option_map, ◌++◌, ◌∷◌, OnOk, length};
 ghost use Rattle.toml.specs.View.{view, items_view, array_view, table_view};
 ghost use Rattle.meaning.specs.Edits.{in_range};
-ghost use Rattle.input_tables.specs.Shapes.{new_column, columns_from, columns_in, integers_from, number_in, values_in, row_in, row_at, with_row, rows_from, array_at, given};
+ghost use Rattle.input_tables.specs.Shapes.{new_column, columns_from, columns_in, integers_from, number_in, values_in, row_in, row_at};
+ghost use Rattle.input_tables.specs.Shapes.{with_row, rows_from, array_at, given};
 ghost use Rattle.input_tables.specs.Faults.{IsFaulty};
 ghost use Rattle.input_tables.specs.Rows.{AreWide};
 ghost use Rattle.input_tables.specs.Sums.{AreTotals};

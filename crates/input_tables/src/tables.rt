@@ -1,6 +1,7 @@
 // Tables that are read from a document or added, and edited.
 
-ghost use Rattle.std.specs.Prelude.{◌≡◌, ℕ, suc, ℤ, List, true, ◌<◌, length, IfOk, IfErr, OnOk, OnErr, IfSome, IfNone, Some, None, Ok, [], option_map, option_copied, slice_get, map, string_bytes};
+ghost use Rattle.std.specs.Prelude.{◌≡◌, ℕ, suc, ℤ, List, true, ◌<◌, length, IfOk, IfErr, OnOk, OnErr, IfSome, IfNone, Some, None, Ok, []};
+ghost use Rattle.std.specs.Prelude.{option_map, option_copied, slice_get, map, string_bytes};
 ghost use Rattle.program_tree.specs.Plain.{Name};
 ghost use Rattle.program_tree.specs.View.{Lined};
 ghost use Rattle.meaning.specs.Tables.{index_of, columns_of, cell_of, has_row, limit_of, sum_of};
@@ -9,7 +10,8 @@ ghost use Rattle.input_tables.specs.Adding.{refusal, own_refusal, unless_refused
 ghost use Rattle.input_tables.specs.Shapes.{table_in};
 ghost use Rattle.meaning.specs.Records.{Revised};
 ghost use Rattle.meaning.specs.Edits.{after_put, after_delete, in_range, table_of};
-ghost use Rattle.input_tables.specs.Edited.{beside, IsEditCause, IsDeleteCause, edited, changed_at, row_into, row_out_of, names_of, columns_at, cell_at, has_at, limit_at, sum_at, CellsFit};
+ghost use Rattle.input_tables.specs.Edited.{beside, IsEditCause, IsDeleteCause, edited, changed_at, row_into, row_out_of, names_of};
+ghost use Rattle.input_tables.specs.Edited.{columns_at, cell_at, has_at, limit_at, sum_at, CellsFit};
 
 use crate::adding;
 use crate::document::tables_in;
@@ -272,7 +274,8 @@ impl Tables {
         ensures room { OnOk result (self.now.edits < 18446744073709551615) }
         ensures allowed { OnOk result ((program : Revised) (lines : List Lined) (vs : List ℤ) → length vs ≡ values
             → after_put (beside program lines self.now) name.now row vs ≡ Ok (beside program lines (edited (row_into row vs) self.now name.now))) }
-        ensures refused { IfErr result (λ error. (program : Revised) (lines : List Lined) (vs : List ℤ) → length vs ≡ values → IsEditCause (after_put (beside program lines self.now) name.now row vs) error) }
+        ensures refused { IfErr result (λ error. (program : Revised) (lines : List Lined) (vs : List ℤ) → length vs ≡ values
+            → IsEditCause (after_put (beside program lines self.now) name.now row vs) error) }
     {
         match self.find(name) {
             None => Err(EditError::UnknownTable),
@@ -296,8 +299,11 @@ impl Tables {
         ensures found { IfOk result (λ number. number ≡ index_of (names_of self.now.tables) name.now) }
         ensures within { IfOk result (λ number. number < length self.now.tables) }
         ensures room { OnOk result (self.now.edits < 18446744073709551615) }
-        ensures allowed { OnOk result ((program : Revised) (lines : List Lined) → after_delete (beside program lines self.now) name.now row ≡ Ok (beside program lines (edited (row_out_of row) self.now name.now))) }
-        ensures refused { IfErr result (λ error. (program : Revised) (lines : List Lined) → IsDeleteCause (after_delete (beside program lines self.now) name.now row) error) }
+        ensures allowed { OnOk result ((program : Revised) (lines : List Lined)
+            → after_delete (beside program lines self.now) name.now row
+            ≡ Ok (beside program lines (edited (row_out_of row) self.now name.now))) }
+        ensures refused { IfErr result (λ error. (program : Revised) (lines : List Lined)
+            → IsDeleteCause (after_delete (beside program lines self.now) name.now row) error) }
     {
         match self.find(name) {
             None => Err(EditError::UnknownTable),

@@ -44,7 +44,8 @@ abbrev pub IsApplyCause : Edit → Result Standing EditRefusal → ApplyError �
 IsApplyCause e answer NoMemory = MayLackMemory e answer
 IsApplyCause e answer (Refused error) = answer ≡ Err (refusal error)
 
--- the answer to an edit is the definitions', and the session after it is theirs: a refused edit changes nothing, and no edit changes the records, but for what is in doubt of them
+-- the answer to an edit is the definitions', and the session after it is theirs: a refused edit changes nothing, and no edit
+-- changes the records, but for what is in doubt of them
 pub record IsApplied (s : PlainSession) (e : Edit) (given : Result Unit ApplyError) (t : PlainSession) : Type 0 where
   pub applied : OnOk given (edited (standing_of s) e ≡ Ok (standing_of t))
   pub refused : IfErr given (IsApplyCause e (edited (standing_of s) e))

@@ -20,7 +20,8 @@ impl<V: View> Layer<V> {
         ensures right_kinds { right.new.kinds ≡ right.old.kinds }
         ensures left_kept { OnErr result (self.new ≡ record self.old { worths = self.new.worths }) }
         ensures right_kept { OnErr result (right.new ≡ record right.old { worths = right.new.worths }) }
-        ensures product { OnErr result (operate_all self.old.kinds self.new.worths right.new.worths ≡ operate_all self.old.kinds self.old.worths right.old.worths) }
+        ensures product { OnErr result (operate_all self.old.kinds self.new.worths right.new.worths
+            ≡ operate_all self.old.kinds self.old.worths right.old.worths) }
     {
         self.shared.reserve(right.shared.len())?;
         let before = self.notes.len();

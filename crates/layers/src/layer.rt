@@ -46,7 +46,15 @@ impl<V: View> Model for Layer<V> {
 
     ghost Value = { PlainLayer };
 
-    ghost view = { λ l. record { keeps = l.keeps; kinds = l.hypermap.kinds; worths = l.hypermap.worths; notes = l.notes; shared = all_of l.shared.items; entered = l.entered.items; deepest = l.deepest } };
+    ghost view = { λ l. record {
+      keeps = l.keeps;
+      kinds = l.hypermap.kinds;
+      worths = l.hypermap.worths;
+      notes = l.notes;
+      shared = all_of l.shared.items;
+      entered = l.entered.items;
+      deepest = l.deepest;
+    } };
 }
 
 impl<V: View> Layer<V> {
@@ -183,7 +191,8 @@ impl<V: View> Layer<V> {
         slots: &[Slot],
         tables: &Tables,
     ) -> Result<(i64, i64), Stop>
-        ensures notes { HasNoted (λ p. p.0 ∷ p.1 ∷ []) (values_at tables.now.tables slots.now (plain first.now ∷ plain second.now ∷ [])) self.old self.new result }
+        ensures notes { HasNoted (λ p. p.0 ∷ p.1 ∷ [])
+            (values_at tables.now.tables slots.now (plain first.now ∷ plain second.now ∷ [])) self.old self.new result }
     {
         if self.keeps {
             return two_values(first, second, slots, tables, &mut self.notes);

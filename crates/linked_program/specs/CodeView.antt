@@ -11,7 +11,8 @@ use Rattle.linked_program.specs.declared.code.Operation.TheVariants as o
 use Rattle.linked_program.specs.declared.code.Instruction.{Instruction}
 use Rattle.linked_program.specs.declared.code.CodeBlock.{CodeBlock}
 use Rattle.linked_program.specs.declared.code.Code.{Code}
-use Rattle.linked_program.specs.Linked.{Linked, constant, slot, cell_at, has_at, limit_at, sum_at, minus, joined, Act, binds, enters, reads, syncs, updates, chooses, loops, gives, Acts, ends, steps, linked_body}
+use Rattle.linked_program.specs.Linked.{Linked, constant, slot, cell_at, has_at, limit_at, sum_at, minus, joined, Act, binds, enters}
+use Rattle.linked_program.specs.Linked.{reads, syncs, updates, chooses, loops, gives, Acts, ends, steps, linked_body}
 
 abbrev pub expression : Expression → Linked
 expression (e.Number n) = constant n
@@ -51,7 +52,8 @@ code_block blocks (suc levels) n = acts_of (code_block blocks levels) (slice_get
 abbrev pub AreBlocksOf : List Columned → Tree → List CodeBlock → List Block → Type 0
 AreBlocksOf ts t [] [] = Unit {0}
 AreBlocksOf ts t (c ∷ cs) (b ∷ bs) =
-    ((inner : ℕ → Body) → acts (λ n. linked_body ts t (inner n)) c.instructions.items ≡ linked_body ts t (statements inner b.statements.items)) × AreBlocksOf ts t cs bs
+    ((inner : ℕ → Body) → acts (λ n. linked_body ts t (inner n)) c.instructions.items
+    ≡ linked_body ts t (statements inner b.statements.items)) × AreBlocksOf ts t cs bs
 AreBlocksOf _ _ _ _ = ⊥
 
 -- the code is that of the procedure: each number is that of the name

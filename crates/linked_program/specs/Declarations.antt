@@ -1,5 +1,6 @@
 -- Where a program breaks the rules.
-use Rattle.std.specs.Prelude.{◌≡◌, ℕ, ◌+◌, ◌-◌, Bool, false, cond, not, ◌==◌, ◌&&◌, ◌||◌, nat_lt, List, [], ◌∷◌, ◌++◌, Option, Some, None, take, length, slice_get, option_map}
+use Rattle.std.specs.Prelude.{◌≡◌, ℕ, ◌+◌, ◌-◌, Bool, false, cond, not, ◌==◌, ◌&&◌, ◌||◌, nat_lt, List, [], ◌∷◌, ◌++◌, Option, Some, None}
+use Rattle.std.specs.Prelude.{take, length, slice_get, option_map}
 use Rattle.std.specs.Str.{bytes_eq}
 use Rattle.program_tree.specs.Plain.{Name, Proc, Red, Decl, reducer, procedure, Tree}
 use Rattle.program_tree.specs.declared.Program.{Program}
@@ -25,7 +26,8 @@ repeats (x ∷ xs) = has_name xs x || repeats xs
 -- a reducer after these declarations
 abbrev pub reducer_rules : Tree → Red → List Rule
 reducer_rules before r =
-    when (is_there (reducer_of (reducers before) r.called)) Twice ++ (when (not (is_monoid_kind r.kind)) Monoid ++ when (not (is_initial r.kind r.initial)) Initial)
+    when (is_there (reducer_of (reducers before) r.called))
+    Twice ++ (when (not (is_monoid_kind r.kind)) Monoid ++ when (not (is_initial r.kind r.initial)) Initial)
 
 -- main is recorded or has parameters
 abbrev pub main_rules : Proc → List Rule

@@ -1,5 +1,6 @@
 -- What is known of a procedure's variables at a statement, and what a statement changes of it.
-use Rattle.std.specs.Prelude.{ℕ, ◌+◌, ◌-◌, Bool, true, false, cond, ◌==◌, ◌&&◌, ◌||◌, nat_lt, min, List, ◌++◌, Option, Some, None, replicate, slice_get, slice_set}
+use Rattle.std.specs.Prelude.{ℕ, ◌+◌, ◌-◌, Bool, true, false, cond, ◌==◌, ◌&&◌, ◌||◌, nat_lt, min, List, ◌++◌, Option, Some, None}
+use Rattle.std.specs.Prelude.{replicate, slice_get, slice_set}
 use Rattle.program_tree.specs.declared.Way.{Way}
 use Rattle.program_tree.specs.declared.Way.TheVariants.{Call, Spawn}
 use Rattle.program_tree.specs.Plain.{Deed, bind, enter, read, sync, update, choose, loop, give, Body, end, step}

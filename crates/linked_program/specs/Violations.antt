@@ -19,7 +19,8 @@ number_of Initial = 10
 -- by declaration, then by line, then by rule
 abbrev pub comes_before : Violation → Violation → Bool
 comes_before v w =
-    nat_lt v.declaration w.declaration || ((v.declaration == w.declaration) && (nat_lt v.line w.line || ((v.line == w.line) && nat_lt (number_of v.rule) (number_of w.rule))))
+    nat_lt v.declaration w.declaration || ((v.declaration == w.declaration)
+    && (nat_lt v.line w.line || ((v.line == w.line) && nat_lt (number_of v.rule) (number_of w.rule))))
 
 abbrev pub earlier : Option Violation → Violation → Violation
 earlier None v = v

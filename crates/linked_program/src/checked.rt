@@ -22,7 +22,8 @@ use monoid_laws::Kind;
 use program_tree::Program;
 use std::marker::Model;
 
-/// A program in which no rule is broken and whose numbers fit 64 bits, the names of the tables that it was checked against, its code, and its procedures in their order, each name with its revision number.
+/// A program in which no rule is broken and whose numbers fit 64 bits, the names of the tables that it was checked against, its
+/// code, and its procedures in their order, each name with its revision number.
 #[derive(Drop)]
 pub struct Checked {
     program: Program,
@@ -53,13 +54,34 @@ impl Model for Checked {
     ghost use Rattle.linked_program.specs.Initials.{plain_initial};
     ghost use Rattle.linked_program.specs.Checked.{IsChecked, numbers_in};
 
-    ghost view = { λ c. record { program = c.program; tables = map columned c.tables.items; codes = c.codes.items; kinds = c.kinds.items; initials = map plain_initial c.initials.items; main = c.main; revisions = numbers_in c.revisions; counter = c.counter } };
+    ghost view = { λ c. record {
+      program = c.program;
+      tables = map columned c.tables.items;
+      codes = c.codes.items;
+      kinds = c.kinds.items;
+      initials = map plain_initial c.initials.items;
+      main = c.main;
+      revisions = numbers_in c.revisions;
+      counter = c.counter;
+    } };
 
-    ghost invariant = { λ c. IsChecked (record { program = c.program; tables = map columned c.tables.items; codes = c.codes.items; kinds = c.kinds.items; initials = map plain_initial c.initials.items; main = c.main; revisions = numbers_in c.revisions; counter = c.counter }) × ProgramFits (tree c.program) };
+    ghost invariant = { λ c. IsChecked (record {
+      program = c.program;
+      tables = map columned c.tables.items;
+      codes = c.codes.items;
+      kinds = c.kinds.items;
+      initials = map plain_initial c.initials.items;
+      main =
+          c.main;
+      revisions = numbers_in c.revisions;
+      counter = c.counter;
+    }) × ProgramFits (tree c.program) };
 }
 
 impl Checked {
-    /// The program with these tables' names, its code, its reducers' kinds and what they begin with, the number of `main`, its procedures' names with their revision numbers and the least number that was never used. That its numbers fit is found out here, in time proportional to the tree.
+    /// The program with these tables' names, its code, its reducers' kinds and what they begin with, the number of `main`, its
+    /// procedures' names with their revision numbers and the least number that was never used. That its numbers fit is found
+    /// out here, in time proportional to the tree.
     pub fn new(
         program: Program,
         tables: Vec<TableNames>,

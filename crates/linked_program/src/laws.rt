@@ -10,7 +10,8 @@ ghost use Rattle.linked_program.specs.Links.{ProcedureIs, ReducerIs, TableIs, Co
 
 use monoid_laws::Table;
 
-/// The first violation is one of the violations, and none of them comes before it by declaration, then line, then rule; there is no first one only where there is none.
+/// The first violation is one of the violations, and none of them comes before it by declaration, then line, then rule; there
+/// is no first one only where there is none.
 pub fn first_is_least()
     ensures least { (vs : List Violation) → FirstIsLeast vs }
 {}

@@ -6,7 +6,9 @@ ghost use Rattle.meaning.specs.Statements.{reducers};
 ghost use Rattle.meaning.specs.Tables.{index_of as index_in};
 ghost use Rattle.linked_program.specs.TableNames.{columned};
 ghost use Rattle.linked_program.specs.Procedures.{procedures};
-ghost use Rattle.linked_program.specs.Linked.{procedure_number as number_of_procedure, reducer_number as number_of_reducer, table_number as number_of_table, column_number as number_of_column, linked_term, linked_deed, linked_body, Acts, loops, kinds_of};
+ghost use Rattle.linked_program.specs.Linked.{procedure_number as number_of_procedure, reducer_number as number_of_reducer};
+ghost use Rattle.linked_program.specs.Linked.{table_number as number_of_table, column_number as number_of_column, linked_term, linked_deed};
+ghost use Rattle.linked_program.specs.Linked.{linked_body, Acts, loops, kinds_of};
 ghost use Rattle.linked_program.specs.CodeView.{expression as plain, act, acts, IsCodeOf, AreBlocksOf, AreCodesOf};
 
 use crate::code::{Code, CodeBlock, Expression, Instruction, Operation};
@@ -150,7 +152,10 @@ fn repetition(
     procedure: usize,
     arguments: &[Expr],
 ) -> Result<Operation, AllocError>
-    ensures { IfOk result (λ made. (inner : ℕ → Acts) → act inner made ≡ loops name (linked_term (map columned tables.now) (term low.now)) (linked_term (map columned tables.now) (term high.now)) grain procedure (map (linked_term (map columned tables.now)) (map term arguments.now))) }
+    ensures { IfOk result (λ made. (inner : ℕ → Acts)
+        → act inner made ≡ loops name (linked_term (map columned tables.now) (term low.now))
+        (linked_term (map columned tables.now) (term high.now)) grain procedure
+        (map (linked_term (map columned tables.now)) (map term arguments.now))) }
 {
     let low = expression(alloc, tables, low)?;
     let high = expression(alloc, tables, high)?;
@@ -165,7 +170,9 @@ fn operation(
     tables: &[TableNames],
     action: &Action,
 ) -> Result<Operation, AllocError>
-    ensures { IfOk result (λ made. (inner : ℕ → Body) → act (λ n. linked_body (map columned tables.now) (map decl declarations.now) (inner n)) made ≡ linked_deed (map columned tables.now) (map decl declarations.now) (deed inner action.now)) }
+    ensures { IfOk result (λ made. (inner : ℕ → Body)
+        → act (λ n. linked_body (map columned tables.now) (map decl declarations.now) (inner n)) made
+        ≡ linked_deed (map columned tables.now) (map decl declarations.now) (deed inner action.now)) }
 {
     match action {
         Action::Bind(name, value) => Ok(Operation::Bind(*name, expression(alloc, tables, value)?)),
@@ -201,7 +208,9 @@ fn instructions(
     tables: &[TableNames],
     statements: &[Statement],
 ) -> Result<Vec<Instruction>, AllocError>
-    ensures { IfOk result (λ made. (inner : ℕ → Body) → acts (λ n. linked_body (map columned tables.now) (map decl declarations.now) (inner n)) made.items ≡ linked_body (map columned tables.now) (map decl declarations.now) (body_of inner statements.now)) }
+    ensures { IfOk result (λ made. (inner : ℕ → Body)
+        → acts (λ n. linked_body (map columned tables.now) (map decl declarations.now) (inner n)) made.items
+        ≡ linked_body (map columned tables.now) (map decl declarations.now) (body_of inner statements.now)) }
 {
     let mut made = Vec::new(alloc);
     made.reserve(statements.len())?;

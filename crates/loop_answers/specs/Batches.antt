@@ -73,7 +73,11 @@ pub record AreArguments (tables : Tables) (slots : List Slot) (variable : ℕ) (
 
 -- of a strand, whose topmost instance is their loop's
 abbrev pub with_batches : ℕ → List Batch → PlainStrand → PlainStrand
-with_batches d bs s = record s { layer = absorbed d (sums_of bs) s.layer; arguments = arguments_of_last s.arguments (sums_of bs); tally = answered_more (instances_in bs) s.tally }
+with_batches d bs s = record s {
+  layer = absorbed d (sums_of bs) s.layer;
+  arguments = arguments_of_last s.arguments (sums_of bs);
+  tally = answered_more (instances_in bs) s.tally;
+}
 
 -- a half of a loop that is halved again and that they answer leaves
 abbrev pub halves_left : List Batch → PlainStrand → PlainStrand

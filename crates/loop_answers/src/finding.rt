@@ -76,7 +76,8 @@ pub(crate) fn answers<'a, V: View>(
 ) -> Option<Found<'a>>
     requires fits { ShareFits site share }
     requires most { wanted.most ≤ share.count }
-    requires code { loop_with code.number code.variable code.grain code.callee code.arguments.now ≡ loop_at setting.program.now.codes machine.old.top.procedure site }
+    requires code { loop_with code.number code.variable code.grain code.callee code.arguments.now
+        ≡ loop_at setting.program.now.codes machine.old.top.procedure site }
     requires values { HaveValues setting.program.now.kinds setting.records.now }
     ensures unchanged { machine.new ≡ machine.old }
     ensures count { IfSome result (λ found. found.count ≡ instances_in found.batches.items) }
@@ -143,7 +144,8 @@ fn answers_by<'a, V: View>(
 ) -> Option<Found<'a>>
     requires fits { ShareFits site share }
     requires most { wanted.most ≤ share.count }
-    requires code { loop_with code.number code.variable code.grain code.callee code.arguments.now ≡ loop_at setting.program.now.codes machine.old.top.procedure site }
+    requires code { loop_with code.number code.variable code.grain code.callee code.arguments.now
+        ≡ loop_at setting.program.now.codes machine.old.top.procedure site }
     requires values { HaveValues setting.program.now.kinds setting.records.now }
     ensures unchanged { machine.new ≡ machine.old }
     ensures count { IfSome result (λ found. found.count ≡ instances_in found.batches.items) }
@@ -231,10 +233,12 @@ fn is_stale<V: View>(
     requires deep { 0 < first.depth }
     requires depth { first.depth ≡ depth_limit - (machine.old.top.left - 1) }
     requires counted { IfSome first.counted (CountsAt machine.old.top.slots code.variable (map plain code.arguments.now)) }
-    requires known { IfSome first.counted (λ place. AreArguments setting.tables.now.tables machine.old.top.slots code.variable (map plain code.arguments.now) numbers.old.items) }
+    requires known { IfSome first.counted (λ place. AreArguments setting.tables.now.tables machine.old.top.slots code.variable
+        (map plain code.arguments.now) numbers.old.items) }
     requires values { HaveValues setting.program.now.kinds setting.records.now }
     ensures unchanged { machine.new ≡ machine.old }
-    ensures known { IfSome first.counted (λ place. AreArguments setting.entry.tables.now.tables machine.old.top.slots code.entry.variable (map plain code.entry.arguments.now) numbers.new.items) }
+    ensures known { IfSome first.counted (λ place. AreArguments setting.entry.tables.now.tables machine.old.top.slots code.entry.variable
+        (map plain code.entry.arguments.now) numbers.new.items) }
 {
     match behind_first(wanted, first, tried) {
         Some((number, most)) => {
@@ -304,11 +308,15 @@ fn batch_from<'a, V: View>(
     requires deep { 0 < ahead.depth }
     requires depth { ahead.depth ≡ depth_limit - (machine.old.top.left - 1) }
     requires counted { IfSome ahead.counted (CountsAt machine.old.top.slots code.variable (map plain code.arguments.now)) }
-    requires known { IfSome ahead.counted (λ place. AreArguments setting.tables.now.tables machine.old.top.slots code.variable (map plain code.arguments.now) numbers.old.items) }
+    requires known { IfSome ahead.counted (λ place. AreArguments setting.tables.now.tables machine.old.top.slots code.variable
+        (map plain code.arguments.now) numbers.old.items) }
     requires values { HaveValues setting.program.now.kinds setting.records.now }
     ensures unchanged { machine.new ≡ machine.old }
-    ensures batch { IfSome result (IsBatchFrom (lent setting.entry) (loop_with code.entry.number code.entry.variable code.entry.grain code.entry.callee code.entry.arguments.now) machine.old.top.slots machine.old.top.left ahead.number ahead.most) }
-    ensures known { IfSome ahead.counted (λ place. AreArguments setting.entry.tables.now.tables machine.old.top.slots code.entry.variable (map plain code.entry.arguments.now) numbers.new.items) }
+    ensures batch { IfSome result (IsBatchFrom (lent setting.entry)
+        (loop_with code.entry.number code.entry.variable code.entry.grain code.entry.callee code.entry.arguments.now)
+        machine.old.top.slots machine.old.top.left ahead.number ahead.most) }
+    ensures known { IfSome ahead.counted (λ place. AreArguments setting.entry.tables.now.tables machine.old.top.slots code.entry.variable
+        (map plain code.entry.arguments.now) numbers.new.items) }
 {
     match ahead.counted {
         Some(place) => {
@@ -349,7 +357,9 @@ fn single_at<'a, V: View>(
     requires depth { ahead.depth ≡ depth_limit - (machine.old.top.left - 1) }
     requires values { HaveValues setting.program.now.kinds setting.records.now }
     ensures unchanged { machine.new ≡ machine.old }
-    ensures batch { IfSome result (IsBatchFrom (lent setting.entry) (loop_with code.entry.number code.entry.variable code.entry.grain code.entry.callee code.entry.arguments.now) machine.old.top.slots machine.old.top.left ahead.number ahead.most) }
+    ensures batch { IfSome result (IsBatchFrom (lent setting.entry)
+        (loop_with code.entry.number code.entry.variable code.entry.grain code.entry.callee code.entry.arguments.now)
+        machine.old.top.slots machine.old.top.left ahead.number ahead.most) }
 {
     if !unread_values_at(machine, alloc, setting.tables, code, ahead.number, numbers) {
         return None;
@@ -364,7 +374,9 @@ fn single<'a>(
     arguments: &[i64],
     depth: u32,
 ) -> Option<Batch<'a>>
-    ensures single { IfSome result (λ b. (b.count ≡ 1) × (valid_at setting.entry.program.now.revisions setting.entry.tables.now.tables depth setting.entry.records.now procedure arguments.now ≡ Some b.sum.now)) }
+    ensures single { IfSome result (λ b. (b.count ≡ 1)
+        × (valid_at setting.entry.program.now.revisions setting.entry.tables.now.tables depth setting.entry.records.now procedure
+        arguments.now ≡ Some b.sum.now)) }
 {
     match setting.records.valid(procedure, arguments, depth, setting.tables, setting.program) {
         Some(sum) => Some(Batch { sum, count: 1 }),
@@ -384,7 +396,8 @@ fn counted_from<V: View>(
 ) -> Option<usize>
     ensures unchanged { machine.new ≡ machine.old }
     ensures counted { IfSome result (CountsAt machine.old.top.slots code.entry.variable (map plain code.entry.arguments.now)) }
-    ensures known { IfSome result (λ place. AreArguments tables.now.tables machine.old.top.slots code.entry.variable (map plain code.entry.arguments.now) numbers.new.items) }
+    ensures known { IfSome result (λ place. AreArguments tables.now.tables machine.old.top.slots code.entry.variable
+        (map plain code.entry.arguments.now) numbers.new.items) }
 {
     let counted = counted_place(machine, code);
     if !unread_values_at(machine, alloc, tables, code, number, numbers) {
@@ -479,7 +492,8 @@ fn unread_values_at<V: View>(
     numbers: &mut Vec<i64>,
 ) -> bool
     ensures unchanged { machine.new ≡ machine.old }
-    ensures values { result ≡ true → values_at tables.now.tables (slice_set machine.old.top.slots code.entry.variable (Has number)) (map plain code.entry.arguments.now) ≡ pure numbers.new.items }
+    ensures values { result ≡ true → values_at tables.now.tables (slice_set machine.old.top.slots code.entry.variable (Has number))
+        (map plain code.entry.arguments.now) ≡ pure numbers.new.items }
 {
     let held = machine.top.exchange(code.variable, Slot::Has(number));
     let known = unread_values(alloc, code.arguments, machine.top.slots(), tables, numbers);

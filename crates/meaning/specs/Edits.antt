@@ -1,5 +1,6 @@
 -- Edits: what putting a row, deleting a row and defining procedures make of a program and its tables, and when they are refused.
-use Rattle.std.specs.Prelude.{ℕ, suc, nat_eq, nat_lt, nat_le, ℤ, pos, negsuc, Bool, true, false, cond, not, ◌&&◌, int_lt, List, [], ◌∷◌, Option, Some, None, Result, Ok, Err, length}
+use Rattle.std.specs.Prelude.{ℕ, suc, nat_eq, nat_lt, nat_le, ℤ, pos, negsuc, Bool, true, false, cond, not, ◌&&◌, int_lt, List, [], ◌∷◌}
+use Rattle.std.specs.Prelude.{Option, Some, None, Result, Ok, Err, length}
 use Rattle.std.specs.Ordering.{int_eq}
 use Rattle.std.specs.Str.{bytes_eq}
 use Rattle.program_tree.specs.declared.Operator.{Operator}
@@ -7,7 +8,8 @@ use Rattle.program_tree.specs.declared.Operator.TheVariants as o
 use Rattle.program_tree.specs.declared.Way.{Way}
 use Rattle.program_tree.specs.declared.Way.TheVariants.{Call, Spawn}
 use Rattle.program_tree.specs.View.{Lined}
-use Rattle.program_tree.specs.Plain.{Name, Term, number, name, cell, has, limit, sum, negate, binary, Deed, bind, enter, read, sync, update, choose, loop, give, Body, end, step, Proc, reducer, procedure, Tree}
+use Rattle.program_tree.specs.Plain.{Name, Term, number, name, cell, has, limit, sum, negate, binary, Deed, bind, enter, read, sync}
+use Rattle.program_tree.specs.Plain.{update, choose, loop, give, Body, end, step, Proc, reducer, procedure, Tree}
 use Rattle.meaning.specs.Tables.{Tables, Listed, is_there, row_of}
 use Rattle.meaning.specs.Statements.{procedure_of}
 use Rattle.meaning.specs.Records.{Revised}
@@ -185,11 +187,17 @@ revised old (procedure p ∷ rest) next =
     (let more = revised old rest (suc next) in ((p.called, next) ∷ more.0, more.1))
 
 abbrev pub with_program : Standing → Tree × List Lined → List (Name × ℕ) × ℕ → Standing
-with_program s new numbers = record { program = record { tree = new.0; revisions = numbers.0; counter = numbers.1 }; lines = new.1; tables = s.tables; edits = s.edits }
+with_program s new numbers = record {
+  program = record { tree = new.0; revisions = numbers.0; counter = numbers.1 };
+  lines = new.1;
+  tables = s.tables;
+  edits = s.edits;
+}
 
 abbrev pub checked_as : Standing → Tree × List Lined → Option Violation → Result Standing EditRefusal
 checked_as s new (Some v) = Err (Broken v)
-checked_as s new None = unless (nat_lt most (revised s.program new.0 s.program.counter).1) Exhausted (Ok (with_program s new (revised s.program new.0 s.program.counter)))
+checked_as s new None = unless (nat_lt most (revised s.program new.0 s.program.counter).1) Exhausted
+    (Ok (with_program s new (revised s.program new.0 s.program.counter)))
 
 -- how a text's procedures are put into a program: it gives the new tree and its lines, or the line where the text is refused
 abbrev pub TextReader : Type 0

@@ -7,7 +7,8 @@ use Rattle.meaning.specs.Tables.{Tables}
 use Rattle.meaning.specs.Outcome.{Out, Log, Accumulators, Site, Fault, Reads, Enters, Reading, after}
 use Rattle.meaning.specs.Run.{Run, ◌>>=◌, ◌>>◌, pure, fail, note, nothing, standing, at}
 use Rattle.meaning.specs.Values.{Env, put, value, values}
-use Rattle.meaning.specs.Statements.{reducers, proc_of, numbered, identities, initial_values, put_into, reading, fresh, Job, job_of, turn_values, update_of, bounds}
+use Rattle.meaning.specs.Statements.{reducers, proc_of, numbered, identities, initial_values, put_into, reading, fresh, Job, job_of}
+use Rattle.meaning.specs.Statements.{turn_values, update_of, bounds}
 
 -- ---- statements
 

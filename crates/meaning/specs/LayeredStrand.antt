@@ -4,7 +4,9 @@ use Rattle.program_tree.specs.Plain.{Tree}
 use Rattle.meaning.specs.Tables.{Tables}
 use Rattle.meaning.specs.Outcome.{Accumulators, Place, Leaves}
 use Rattle.meaning.specs.Trail.{child_of}
-use Rattle.meaning.specs.SmallStep.{Slot, unset, waits, has, Start, root, behind, Frame, Todo, Child, instance, Phase, entering, running, Parent, opened, Step, moved, taken, paused, Lookup, Continuation, same_name, with_value, micro, child_name, awaiting, with_env, set_into}
+use Rattle.meaning.specs.SmallStep.{Slot, unset, waits, has, Start, root, behind, Frame, Todo, Child, instance, Phase, entering, running}
+use Rattle.meaning.specs.SmallStep.{Parent, opened, Step, moved, taken, paused, Lookup, Continuation, same_name, with_value, micro}
+use Rattle.meaning.specs.SmallStep.{child_name, awaiting, with_env, set_into}
 use Rattle.meaning.specs.Statements.{beginning}
 use Rattle.meaning.specs.Layers.{Notes, notes, notes_of, layers_by, noted_top, take_top, blank, bottom}
 use Rattle.meaning.specs.Elision.{depth_limit, main}
@@ -18,7 +20,14 @@ pub record LayeredStrand : Type 0 where
 
 abbrev pub advanced : Tree → LayeredStrand → Step → LayeredStrand
 advanced program s (moved l evs fr ph t) = record { start = s.start; layers = layers_by program l s.layers evs; frame = fr; phase = ph; under = t }
-advanced program s (taken evs k fr ph t) = record { start = s.start; layers = take_top program (notes_of k (depth_limit - fr.left)) (noted_top s.layers evs); frame = fr; phase = ph; under = t }
+advanced program s (taken evs k fr ph t) =
+    record {
+      start = s.start;
+      layers = take_top program (notes_of k (depth_limit - fr.left)) (noted_top s.layers evs);
+      frame = fr;
+      phase = ph;
+      under = t;
+    }
 advanced program s (paused p) = s
 
 -- one small step, where a read gives these values
@@ -31,27 +40,57 @@ advance program tables lookup kit s = advanced program s (micro program tables l
 
 -- the strand of main, not entered yet: its layer has the initial values
 abbrev pub first_layered : Tree → LayeredStrand
-first_layered program = record { start = root; layers = notes program (beginning program) ∷ []; frame = opened program (depth_limit - 1) (instance main []) []; phase = entering (instance main []); under = [] }
+first_layered program = record {
+  start = root;
+  layers = notes program (beginning program) ∷ [];
+  frame = opened program (depth_limit - 1) (instance main []) [];
+  phase = entering (instance main []);
+  under = [];
+}
 
 -- at a spawn: the child as a call
 abbrev pub inlined : Tree → LayeredStrand → ℕ → Option ℕ → Child → Todo → LayeredStrand
-inlined program s d x child todo = record { start = s.start; layers = s.layers; frame = opened program d child (child_name s.frame); phase = entering child; under = awaiting s.frame true x todo ∷ s.under }
+inlined program s d x child todo = record {
+  start = s.start;
+  layers = s.layers;
+  frame = opened program d child (child_name s.frame);
+  phase = entering child;
+  under = awaiting s.frame true x todo ∷ s.under;
+}
 
 -- the child alone
 abbrev pub detached : Tree → LayeredStrand → ℕ → Child → LayeredStrand
-detached program s d child = record { start = s.start; layers = s.layers; frame = opened program d child (child_name s.frame); phase = entering child; under = [] }
+detached program s d child = record {
+  start = s.start;
+  layers = s.layers;
+  frame = opened program d child (child_name s.frame);
+  phase = entering child;
+  under = [];
+}
 
 abbrev pub continuation : LayeredStrand → Option ℕ → Todo → Continuation
 continuation s x todo = record { since = s.start; child = s.frame.next; parent = awaiting s.frame true x todo; under = s.under }
 
 abbrev pub resumed : Tree → LayeredStrand → Continuation → ℤ → LayeredStrand
-resumed program s k v = record { start = s.start; layers = noted_top s.layers (Leaves s.frame.instance (Ok v) ∷ []); frame = with_value k.parent v; phase = running k.parent.todo; under = k.under }
+resumed program s k v = record {
+  start = s.start;
+  layers = noted_top s.layers (Leaves s.frame.instance (Ok v) ∷ []);
+  frame = with_value k.parent v;
+  phase = running k.parent.todo;
+  under = k.under;
+}
 
 abbrev pub marked : Continuation → Frame
 marked k = with_env k.parent.frame (set_into k.parent.frame.env k.parent.into (waits k.child))
 
 abbrev pub stolen : Tree → Continuation → LayeredStrand
-stolen program k = record { start = behind k.parent.frame.instance k.child; layers = blank program ∷ []; frame = marked k; phase = running k.parent.todo; under = k.under }
+stolen program k = record {
+  start = behind k.parent.frame.instance k.child;
+  layers = blank program ∷ [];
+  frame = marked k;
+  phase = running k.parent.todo;
+  under = k.under;
+}
 
 -- the value of the child of that name goes where it is waited for
 abbrev pub settle_slot : Place → ℤ → Place → Slot → Slot
@@ -72,4 +111,10 @@ joined_layers program ls [] = ls
 joined_layers program ls (r ∷ rs) = take_top program r ls
 
 abbrev pub joined : Tree → LayeredStrand → ℤ → LayeredStrand → LayeredStrand
-joined program l v r = record { start = l.start; layers = joined_layers program l.layers r.layers; frame = settled_frame l.frame.instance v r.frame; phase = r.phase; under = settled_under l.frame.instance v r.under }
+joined program l v r = record {
+  start = l.start;
+  layers = joined_layers program l.layers r.layers;
+  frame = settled_frame l.frame.instance v r.frame;
+  phase = r.phase;
+  under = settled_under l.frame.instance v r.under;
+}

@@ -32,7 +32,12 @@ notes program es = noted (blank program) es
 
 -- a layer, and one behind it
 abbrev pub multiplied : Tree → Notes → Notes → Notes
-multiplied program a b = record { worth = combined a.worth (with_kinds (reducers program) b.worth); read = a.read ++ b.read; entered = a.entered ++ b.entered; deepest = max a.deepest b.deepest }
+multiplied program a b = record {
+  worth = combined a.worth (with_kinds (reducers program) b.worth);
+  read = a.read ++ b.read;
+  entered = a.entered ++ b.entered;
+  deepest = max a.deepest b.deepest;
+}
 
 abbrev pub notes_of : Kept → ℕ → Notes
 notes_of k depth = record { worth = k.contribution; read = k.read; entered = map (λ p. p.0) k.revisions; deepest = depth + k.height - 1 }

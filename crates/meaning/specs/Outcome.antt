@@ -32,7 +32,9 @@ Outcome = Result ℤ Fault
 abbrev pub Place : Type 0
 Place = List ℕ
 
--- what happens in a serial run. The elision notes the first three; the fourth comes where a record answers, with its contribution; the trail has the last six too, a mark being true where a record answers, and a spawned child being named before it begins
+-- what happens in a serial run. The elision notes the first three; the fourth comes where a record answers, with its
+-- contribution; the trail has the last six too, a mark being true where a record answers, and a spawned child being named
+-- before it begins
 pub data Event : Type 0 where
   Reads : Reading → Event
   Enters : Name → List ℤ → ℕ → Event

@@ -1,5 +1,6 @@
 -- Records.
-use Rattle.std.specs.Prelude.{◌≡◌, ℕ, zero, suc, ◌+◌, ◌-◌, ◌<◌, ◌≤◌, nat_le, nat_eq, ℤ, Bool, true, false, cond, ◌&&◌, ◌↔◌, List, [], ◌∷◌, map, Option, Some, None, Ok}
+use Rattle.std.specs.Prelude.{◌≡◌, ℕ, zero, suc, ◌+◌, ◌-◌, ◌<◌, ◌≤◌, nat_le, nat_eq, ℤ, Bool, true, false, cond, ◌&&◌, ◌↔◌, List, [], ◌∷◌}
+use Rattle.std.specs.Prelude.{map, Option, Some, None, Ok}
 use Rattle.std.specs.Ordering.{int_eq}
 use Rattle.std.specs.Str.{bytes_eq}
 use Rattle.std.specs.List.{Contains, find}
@@ -58,8 +59,11 @@ is_valid program tables depth k = holds_now program tables k && nat_le (depth + 
 -- a sound record
 pub record IsSound (program : Revised) (k : Kept) : Type 0 where
   pub below : (f : Name) (n : ℕ) → Contains k.revisions (f, n) → n < program.counter
-  pub gives : (tables : Tables) (depth : ℕ) → 0 < depth → holds_now program tables k ≡ true → depth + k.height ≤ suc depth_limit → let o = elide program.tree tables (suc depth_limit - depth) start k.of k.args (identities program.tree) in
-      (o.answer ≡ Ok k.value) × (after o.log (identities program.tree) ≡ k.contribution) × (deepest o.log + 1 ≡ depth + k.height) × ((r : Reading) → Contains (reads o.log) r ↔ Contains k.read r) × ((f : Name) → Contains (entered o.log) f ↔ Contains (map (λ p. p.0) k.revisions) f)
+  pub gives : (tables : Tables) (depth : ℕ) → 0 < depth → holds_now program tables k ≡ true → depth + k.height ≤ suc depth_limit
+      → let o = elide program.tree tables (suc depth_limit - depth) start k.of k.args (identities program.tree) in
+      (o.answer ≡ Ok k.value) × (after o.log (identities program.tree) ≡ k.contribution) × (deepest o.log + 1 ≡ depth + k.height)
+      × ((r : Reading) → Contains (reads o.log) r ↔ Contains k.read r)
+      × ((f : Name) → Contains (entered o.log) f ↔ Contains (map (λ p. p.0) k.revisions) f)
 
 -- the record of a name and arguments
 abbrev pub same_args : List ℤ → List ℤ → Bool
@@ -97,7 +101,8 @@ module _ (program : Revised) (tables : Tables) (records : List Kept) where
   needing (suc left) site f args =
       let depth = depth_limit - left in
       let p = procedure_of program.tree f in
-      answered f args (cond (is_memo p) (if_valid program tables depth (record_of records f args)) None) (instance program.tree tables (needing left) f args depth (found p))
+      answered f args (cond (is_memo p) (if_valid program tables depth (record_of records f args)) None)
+      (instance program.tree tables (needing left) f args depth (found p))
 
   abbrev pub needed : Log
   needed = (needing depth_limit start main [] (initial_values program.tree)).log

@@ -8,7 +8,8 @@ use Rattle.meaning.specs.Values.{Env}
 use Rattle.meaning.specs.Statements.{proc_of, put_into, fresh, Job}
 use Rattle.meaning.specs.Elision.{Next, On, Back, body, elide, Answer, Finished, Faulted}
 use Rattle.meaning.specs.Elision as elision
-use Rattle.meaning.specs.SmallStep.{Slot, seen, Frame, Todo, blocks, halves, second, turns, Child, instance, half, Phase, entering, running, spawning, returning, leaving, broken, Parent, Continuation}
+use Rattle.meaning.specs.SmallStep.{Slot, seen, Frame, Todo, blocks, halves, second, turns, Child, instance, half, Phase, entering}
+use Rattle.meaning.specs.SmallStep.{running, spawning, returning, leaving, broken, Parent, Continuation}
 
 -- what a piece of a run comes to, and the reducers' values then
 abbrev pub Course : Type 0 → Type 0

@@ -41,7 +41,8 @@ module _ (program : Tree) (tables : Tables) where
 
   -- one strand, with the values in hand before it
   abbrev pub piece_left : Piece → Hand → Left
-  piece_left p hand acc = then_on (phase_left program tables (with_hand hand p.strand.frame) p.strand.phase (times_layers acc p.strand.layers)) (parents_left program tables (with_hand_under hand (below p)))
+  piece_left p hand acc = then_on (phase_left program tables (with_hand hand p.strand.frame) p.strand.phase
+      (times_layers acc p.strand.layers)) (parents_left program tables (with_hand_under hand (below p)))
 
   -- the strands from left to right; of the last one the value counts
   abbrev pub pieces_left : List Piece → Hand → ℤ → Left

@@ -1,5 +1,6 @@
 -- A run on several workers: its strands in serial order with their deques, the free kits, and its steps.
-use Rattle.std.specs.Prelude.{ℕ, zero, suc, ◌+◌, ◌-◌, nat_eq, nat_lt, length, Bool, true, false, cond, not, ◌&&◌, ◌||◌, List, [], ◌∷◌, ◌++◌, map, Option, Some, None}
+use Rattle.std.specs.Prelude.{ℕ, zero, suc, ◌+◌, ◌-◌, nat_eq, nat_lt, length, Bool, true, false, cond, not, ◌&&◌, ◌||◌, List, [], ◌∷◌}
+use Rattle.std.specs.Prelude.{◌++◌, map, Option, Some, None}
 use Rattle.program_tree.specs.Plain.{Tree}
 use Rattle.meaning.specs.Tables.{Tables}
 use Rattle.meaning.specs.Every.{every}
@@ -8,7 +9,9 @@ use Rattle.meaning.specs.Elision.{Answer, Finished, Faulted}
 use Rattle.meaning.specs.Trail.{child_of}
 use Rattle.meaning.specs.Strands.{State, Held, Ended, Stalled, BookStep, Split, End, Stall, Finish, Fold, Line, is_free}
 use Rattle.meaning.specs.Strands as strands
-use Rattle.meaning.specs.SmallStep.{Slot, unset, waits, has, Start, root, behind, Frame, Phase, spawning, leaving, broken, Parent, Layers, noting, opening_one, closing_one, Step, moved, taken, paused, at_sync, Continuation, same_name, place_of_continuation, micro}
+use Rattle.meaning.specs.SmallStep.{Slot, unset, waits, has, Start, root, behind, Frame, Phase, spawning, leaving, broken, Parent, Layers}
+use Rattle.meaning.specs.SmallStep.{noting, opening_one, closing_one, Step, moved, taken, paused, at_sync, Continuation, same_name}
+use Rattle.meaning.specs.SmallStep.{place_of_continuation, micro}
 use Rattle.meaning.specs.Records.{Revised, Kept}
 use Rattle.meaning.specs.Layers.{Notes, total}
 use Rattle.meaning.specs.Tallies.{Tally, no_tally, tallied, tallies_joined, valid_record}
@@ -45,7 +48,11 @@ line_of p = (place_of p, p.state)
 
 -- main's strand is held by worker 0, and its kit is taken
 abbrev pub first_state : Tree → ℕ → RunState
-first_state program kits = record { pieces = record { strand = first_layered program; deque = []; state = Held 0; tally = no_tally } ∷ []; kits = kits - 1; history = [] }
+first_state program kits = record {
+  pieces = record { strand = first_layered program; deque = []; state = Held 0; tally = no_tally } ∷ [];
+  kits = kits - 1;
+  history = [];
+}
 
 -- ---- where a step changes the list
 
@@ -96,11 +103,24 @@ without_memo = record { records = []; recording = false }
 
 module _ (program : Revised) (tables : Tables) (memory : Memory) where
   abbrev pub step_of : ℕ → LayeredStrand → Step
-  step_of kits s = micro program.tree tables (valid_record program tables memory.records) (memory.recording && nat_lt 0 kits) (total program.tree s.layers).worth s.start s.frame s.phase s.under
+  step_of kits s = micro program.tree tables (valid_record program tables memory.records) (memory.recording && nat_lt 0 kits)
+      (total program.tree s.layers).worth s.start s.frame s.phase s.under
 
   abbrev pub worked_by : ℕ → Piece → Step → Option Change
-  worked_by kits p (moved l evs fr ph t) = alone (kits_after l kits) (record { strand = advanced program.tree p.strand (moved l evs fr ph t); deque = p.deque; state = p.state; tally = tallied program p.strand.layers (moved l evs fr ph t) p.tally })
-  worked_by kits p (taken evs k fr ph t) = alone kits (record { strand = advanced program.tree p.strand (taken evs k fr ph t); deque = p.deque; state = p.state; tally = tallied program p.strand.layers (taken evs k fr ph t) p.tally })
+  worked_by kits p (moved l evs fr ph t) =
+      alone (kits_after l kits) (record {
+        strand = advanced program.tree p.strand (moved l evs fr ph t);
+        deque = p.deque;
+        state = p.state;
+        tally = tallied program p.strand.layers (moved l evs fr ph t) p.tally;
+      })
+  worked_by kits p (taken evs k fr ph t) =
+      alone kits (record {
+        strand = advanced program.tree p.strand (taken evs k fr ph t);
+        deque = p.deque;
+        state = p.state;
+        tally = tallied program p.strand.layers (taken evs k fr ph t) p.tally;
+      })
   worked_by kits p (paused e) = None
 
   abbrev pub worked : ℕ → Piece → Option Change
@@ -110,7 +130,13 @@ module _ (program : Revised) (tables : Tables) (memory : Memory) where
 
   -- at a spawn: the continuation goes to the deque, and the strand goes on with the child
   abbrev pub pushed_at : ℕ → Piece → Phase → Option Change
-  pushed_at kits p (spawning d x child todo) = alone kits (record { strand = detached program.tree p.strand d child; deque = continuation p.strand x todo ∷ p.deque; state = p.state; tally = p.tally })
+  pushed_at kits p (spawning d x child todo) =
+      alone kits (record {
+        strand = detached program.tree p.strand d child;
+        deque = continuation p.strand x todo ∷ p.deque;
+        state = p.state;
+        tally = p.tally;
+      })
   pushed_at kits p _ = None
 
   abbrev pub pushed : ℕ → Piece → Option Change
@@ -118,7 +144,8 @@ module _ (program : Revised) (tables : Tables) (memory : Memory) where
 
   -- at a spawn: the child is a call
   abbrev pub inlined_at : ℕ → Piece → Phase → Option Change
-  inlined_at kits p (spawning d x child todo) = alone kits (record { strand = inlined program.tree p.strand d x child todo; deque = p.deque; state = p.state; tally = p.tally })
+  inlined_at kits p (spawning d x child todo) =
+      alone kits (record { strand = inlined program.tree p.strand d x child todo; deque = p.deque; state = p.state; tally = p.tally })
   inlined_at kits p _ = None
 
   abbrev pub inlined_of : ℕ → Piece → Option Change
@@ -137,7 +164,12 @@ module _ (program : Revised) (tables : Tables) (memory : Memory) where
   abbrev pub robbed : ℕ → ℕ → Piece → List Continuation → Continuation → Option Change
   robbed thief kits p younger k =
       Some (record {
-        pieces = record { strand = p.strand; deque = younger; state = p.state; tally = p.tally } ∷ record { strand = stolen program.tree k; deque = []; state = Held thief; tally = no_tally } ∷ [];
+        pieces = record { strand = p.strand; deque = younger; state = p.state; tally = p.tally } ∷ record {
+          strand = stolen program.tree k;
+          deque = [];
+          state = Held thief;
+          tally = no_tally;
+        } ∷ [];
         kits = kits;
         noted = Split (place_of p) (place_of_continuation k) thief ∷ [];
       })
@@ -160,7 +192,11 @@ module _ (program : Revised) (tables : Tables) (memory : Memory) where
   bottom_alone (l ∷ m ∷ ls) = bottom_alone (m ∷ ls)
 
   abbrev pub laid : ℕ → Piece → LayeredStrand → State → (Place → BookStep) → Option Change
-  laid kits p s state step = Some (record { pieces = record { strand = s; deque = []; state = state; tally = p.tally } ∷ []; kits = kits; noted = step (place_of p) ∷ [] })
+  laid kits p s state step = Some (record {
+    pieces = record { strand = s; deque = []; state = state; tally = p.tally } ∷ [];
+    kits = kits;
+    noted = step (place_of p) ∷ [];
+  })
 
   -- at its bottom main is over, and another instance is a child that has returned
   abbrev pub left_by : ℕ → Piece → Place → Option Change
@@ -174,7 +210,14 @@ module _ (program : Revised) (tables : Tables) (memory : Memory) where
   abbrev pub stalled_at : ℕ → Piece → Phase → List Parent → List Continuation → Option Change
   stalled_at kits p (leaving v) [] [] = left_by kits p p.strand.frame.instance
   stalled_at kits p (broken k) _ _ =
-      laid (kits + (length p.strand.layers - 1)) p (record { start = p.strand.start; layers = bottom_alone p.strand.layers; frame = p.strand.frame; phase = broken k; under = p.strand.under }) strands.Faulted strands.Fault
+      laid (kits + (length p.strand.layers - 1)) p
+      (record {
+        start = p.strand.start;
+        layers = bottom_alone p.strand.layers;
+        frame = p.strand.frame;
+        phase = broken k;
+        under = p.strand.under;
+      }) strands.Faulted strands.Fault
   stalled_at kits p _ _ [] = stalled_by kits p (step_of kits p.strand)
   stalled_at kits p _ _ _ = None
 
@@ -216,7 +259,8 @@ module _ (program : Revised) (tables : Tables) (memory : Memory) where
   abbrev pub joined_pair : LayeredStrand → Phase → LayeredStrand → Phase → Option LayeredStrand
   joined_pair l (broken k) r q = Some (broken_pair l r k)
   joined_pair l (leaving v) r (broken k) = cond (same_name l.frame.instance (place_of_start r.start)) (Some (broken_pair l r k)) None
-  joined_pair l (leaving v) r q = cond (same_name l.frame.instance (place_of_start r.start) && may_join l (joined program.tree l v r)) (Some (joined program.tree l v r)) None
+  joined_pair l (leaving v) r q = cond (same_name l.frame.instance (place_of_start r.start) && may_join l (joined program.tree l v r))
+      (Some (joined program.tree l v r)) None
   joined_pair l _ r q = None
 
   abbrev pub folded_by : ℕ → Piece → Piece → Option LayeredStrand → Option Piece
@@ -237,7 +281,8 @@ module _ (program : Revised) (tables : Tables) (memory : Memory) where
   -- the right strand begins at that place
   abbrev pub folded_at : ℕ → Place → ℕ → List Piece → List Piece → List BookStep → Option RunState
   folded_at w q kits before (l ∷ r ∷ ps) history =
-      cond (same_name (place_of r) q) (folded_among w kits before ps history (Fold (place_of l) (place_of r) w) (folded w l r)) (folded_at w q kits (before ++ l ∷ []) (r ∷ ps) history)
+      cond (same_name (place_of r) q) (folded_among w kits before ps history (Fold (place_of l) (place_of r) w) (folded w l r))
+      (folded_at w q kits (before ++ l ∷ []) (r ∷ ps) history)
   folded_at w q kits before _ history = None
 
   -- ---- a step, where it is allowed

@@ -1,5 +1,7 @@
--- One small step of a strand: what the topmost instance does next. It is a function of the program, the tables, the records that answer, whether a kit is free, what `read` sees, where the strand begins, and its instances.
-use Rattle.std.specs.Prelude.{ℕ, zero, suc, ◌+◌, ◌-◌, ◌/◌, nat_le, nat_eq, ℤ, pos, Bool, true, false, cond, ◌&&◌, List, [], ◌∷◌, ◌++◌, map, Option, Some, None, Result, Ok, Err, slice_set}
+-- One small step of a strand: what the topmost instance does next. It is a function of the program, the tables, the records
+-- that answer, whether a kit is free, what `read` sees, where the strand begins, and its instances.
+use Rattle.std.specs.Prelude.{ℕ, zero, suc, ◌+◌, ◌-◌, ◌/◌, nat_le, nat_eq, ℤ, pos, Bool, true, false, cond, ◌&&◌, List, [], ◌∷◌, ◌++◌, map}
+use Rattle.std.specs.Prelude.{Option, Some, None, Result, Ok, Err, slice_set}
 use Rattle.std.specs.Ordering.{int_eq}
 use Rattle.program_tree.specs.Plain.{Name, Deed, bind, enter, read, sync, update, choose, loop, give, Body, end, step, Tree}
 use Rattle.program_tree.specs.declared.Way.TheVariants.{Call, Spawn}
@@ -175,7 +177,8 @@ module _ (program : Tree) (tables : Tables) where
     enter_by (Some k) fr f vs t = taken [] k fr (leaving k.value) t
     enter_by None fr f vs t =
         let records = (proc_of program f).memo && kit in
-        moved (layer_of records) (opening program (look_of lookup) fr.left f vs fr.instance) (with_layer records fr) (running (first_todo program (instance f vs))) t
+        moved (layer_of records) (opening program (look_of lookup) fr.left f vs fr.instance) (with_layer records fr)
+        (running (first_todo program (instance f vs))) t
 
     -- an instance is entered
     abbrev pub enter_step : Frame → Child → List Parent → Step
@@ -187,14 +190,19 @@ module _ (program : Tree) (tables : Tables) where
     enter_child fr d spawned x child todo t = enter_step (opened program d child (child_name fr)) child (awaiting fr spawned x todo ∷ t)
 
     abbrev pub deed_step : Frame → Site → Deed → List Body → List Parent → Step
-    deed_step fr site (bind x e) bs t = on_value fr t site (value tables (map seen fr.env) e) (λ v. moved noting [] (with_env fr (slice_set fr.env x (has v))) (running (blocks bs)) t)
+    deed_step fr site (bind x e) bs t = on_value fr t site (value tables (map seen fr.env) e)
+        (λ v. moved noting [] (with_env fr (slice_set fr.env x (has v))) (running (blocks bs)) t)
     deed_step fr site (enter x Call f es) bs t =
         on_value fr t site (values tables (map seen fr.env) es) (λ vs. on_depth fr t site fr.left (λ d. enter_child fr d false x (instance f vs) (blocks bs) t))
     deed_step fr site (enter x Spawn f es) bs t =
-        on_value fr t site (values tables (map seen fr.env) es) (λ vs. on_depth fr t site fr.left (λ d. moved noting [] fr (spawning d x (instance f vs) (blocks bs)) t))
-    deed_step fr site (read x r) bs t = moved noting [] (with_env fr (slice_set fr.env x (has (reading acc (numbered 0 (reducers program) r))))) (running (blocks bs)) t
-    deed_step fr site (update r es) bs t = on_value fr t site (update_of tables (reducers program) (map seen fr.env) r es) (λ u. moved noting [] fr (running (blocks bs)) t)
-    deed_step fr site (choose e a b) bs t = on_value fr t site (value tables (map seen fr.env) e) (λ v. moved noting [] fr (running (blocks (cond (int_eq v (pos 0)) b a ∷ bs))) t)
+        on_value fr t site (values tables (map seen fr.env) es)
+        (λ vs. on_depth fr t site fr.left (λ d. moved noting [] fr (spawning d x (instance f vs) (blocks bs)) t))
+    deed_step fr site (read x r) bs t = moved noting []
+        (with_env fr (slice_set fr.env x (has (reading acc (numbered 0 (reducers program) r))))) (running (blocks bs)) t
+    deed_step fr site (update r es) bs t = on_value fr t site (update_of tables (reducers program) (map seen fr.env) r es)
+        (λ u. moved noting [] fr (running (blocks bs)) t)
+    deed_step fr site (choose e a b) bs t = on_value fr t site (value tables (map seen fr.env) e)
+        (λ v. moved noting [] fr (running (blocks (cond (int_eq v (pos 0)) b a ∷ bs))) t)
     deed_step fr site (loop x e f grain g es) bs t =
         on_value fr t site (bounds tables (map seen fr.env) e f) (λ range.
         enter_child fr fr.left false None (half halvings (job_of site (map seen fr.env) x g es grain range.0) range.1 0) (blocks bs) t)
@@ -216,7 +224,8 @@ module _ (program : Tree) (tables : Tables) where
     todo_step m fr (second k job count i) t = enter_child fr fr.left false None (half k job count i) (blocks []) t
     todo_step m fr (turns job zero i) t = moved noting [] fr (returning (pos 0)) t
     todo_step m fr (turns job (suc count) i) t =
-        on_value fr t job.site (turn_values tables job i) (λ vs. on_depth fr t job.site fr.left (λ d. enter_child fr d false None (instance job.callee vs) (turns job count (suc i)) t))
+        on_value fr t job.site (turn_values tables job i)
+        (λ vs. on_depth fr t job.site fr.left (λ d. enter_child fr d false None (instance job.callee vs) (turns job count (suc i)) t))
 
     -- an instance's layer is closed at its last sync: a child that has returned has none
     abbrev pub leaving_layer : Bool → Layers
@@ -228,7 +237,8 @@ module _ (program : Tree) (tables : Tables) where
     micro m fr (entering child) t = enter_step fr child t
     micro m fr (running todo) t = todo_step m fr todo t
     micro m fr (spawning d x child todo) t = paused at_spawn
-    micro m fr (returning v) t = unless (is_entry m fr.instance) (moved (leaving_layer fr.recorded) (Syncs fr.instance ∷ []) (with_layer false fr) (leaving v) t)
+    micro m fr (returning v) t = unless (is_entry m fr.instance)
+        (moved (leaving_layer fr.recorded) (Syncs fr.instance ∷ []) (with_layer false fr) (leaving v) t)
     micro m fr (leaving v) [] = paused returned
     micro m fr (leaving v) (p ∷ t) = moved noting (Leaves fr.instance (Ok v) ∷ []) (with_value p v) (running p.todo) t
     micro m fr (broken k) t = paused faulted

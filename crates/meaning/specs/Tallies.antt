@@ -1,4 +1,5 @@
--- What a strand has counted and recorded of memo instances: those whose layers are open, its new records, how many it executed, had answered by a record, and left without a layer.
+-- What a strand has counted and recorded of memo instances: those whose layers are open, its new records, how many it executed,
+-- had answered by a record, and left without a layer.
 use Rattle.std.specs.Prelude.{ℕ, zero, suc, ◌+◌, ◌-◌, ℤ, false, List, [], ◌∷◌, ◌++◌, map, None}
 use Rattle.program_tree.specs.Plain.{Name}
 use Rattle.meaning.specs.Tables.{Tables}
@@ -36,7 +37,13 @@ executions (_ ∷ es) = executions es
 abbrev pub opened_all : Frame → List (Name × List ℤ) → Tally → Tally
 opened_all fr [] t = t
 opened_all fr (k ∷ ks) t =
-    opened_all fr ks (record { opened = record { of = k.0; args = k.1; left = fr.left; instance = fr.instance } ∷ t.opened; made = t.made; executed = suc t.executed; reused = t.reused; unrecorded = t.unrecorded })
+    opened_all fr ks (record {
+      opened = record { of = k.0; args = k.1; left = fr.left; instance = fr.instance } ∷ t.opened;
+      made = t.made;
+      executed = suc t.executed;
+      reused = t.reused;
+      unrecorded = t.unrecorded;
+    })
 
 -- an instance is executed in the layer below
 abbrev pub passed_all : List (Name × List ℤ) → Tally → Tally
@@ -61,7 +68,8 @@ module _ (program : Revised) where
 
   -- the top layer becomes a record
   abbrev pub closed_by : List Opened → List Notes → Phase → Tally → Tally
-  closed_by (o ∷ os) (l ∷ ls) (leaving v) t = record { opened = os; made = t.made ++ record_by o l v ∷ []; executed = t.executed; reused = t.reused; unrecorded = t.unrecorded }
+  closed_by (o ∷ os) (l ∷ ls) (leaving v) t =
+      record { opened = os; made = t.made ++ record_by o l v ∷ []; executed = t.executed; reused = t.reused; unrecorded = t.unrecorded }
   closed_by _ _ _ t = t
 
   abbrev pub tallied_by : Layers → Frame → List Notes → Phase → List (Name × List ℤ) → Tally → Tally
@@ -77,7 +85,13 @@ module _ (program : Revised) where
 
 -- the left strand's tally, and then the right's: only the left one has open layers
 abbrev pub tallies_joined : Tally → Tally → Tally
-tallies_joined a b = record { opened = a.opened; made = a.made ++ b.made; executed = a.executed + b.executed; reused = a.reused + b.reused; unrecorded = a.unrecorded + b.unrecorded }
+tallies_joined a b = record {
+  opened = a.opened;
+  made = a.made ++ b.made;
+  executed = a.executed + b.executed;
+  reused = a.reused + b.reused;
+  unrecorded = a.unrecorded + b.unrecorded;
+}
 
 -- the record that answers a name and arguments at a depth: the one that is there, where it is valid
 module _ (program : Revised) (tables : Tables) (records : List Kept) where

@@ -8,7 +8,8 @@ use Rattle.meaning.specs.declared.FaultKind.TheVariants as k
 use Rattle.meaning.specs.Outcome.{Fault, Accumulators}
 use Rattle.meaning.specs.Statements.{reducers}
 use Rattle.meaning.specs.Elision.{Answer, Finished, Faulted, from_scratch}
-use Rattle.meaning.specs.Edits.{Standing, Violation, EditRefusal, UnknownTable, WrongColumns, RowRange, NoRow, BadText, Broken, Exhausted, TextReader, Checker, tried, after_edit}
+use Rattle.meaning.specs.Edits.{Standing, Violation, EditRefusal, UnknownTable, WrongColumns, RowRange, NoRow, BadText, Broken, Exhausted}
+use Rattle.meaning.specs.Edits.{TextReader, Checker, tried, after_edit}
 use Rattle.meaning.specs.Script.{Command, Run, Change, Unknown, commands}
 
 -- a number after a space

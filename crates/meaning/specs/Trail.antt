@@ -1,5 +1,6 @@
 -- The serial trail.
-use Rattle.std.specs.Prelude.{ℕ, zero, suc, ◌+◌, ◌-◌, ◌/◌, nat_le, ℤ, pos, Bool, true, false, cond, List, [], ◌∷◌, ◌++◌, Option, Some, None, Result, Ok, Err, slice_set}
+use Rattle.std.specs.Prelude.{ℕ, zero, suc, ◌+◌, ◌-◌, ◌/◌, nat_le, ℤ, pos, Bool, true, false, cond, List, [], ◌∷◌, ◌++◌, Option, Some}
+use Rattle.std.specs.Prelude.{None, Result, Ok, Err, slice_set}
 use Rattle.std.specs.Ordering.{int_eq}
 use Rattle.program_tree.specs.Plain.{Name, Deed, bind, enter, read, sync, update, choose, loop, give, Body, end, step, Tree}
 use Rattle.program_tree.specs.declared.Way.TheVariants.{Call, Spawn}
@@ -8,7 +9,8 @@ use Rattle.meaning.specs.declared.FaultKind.TheVariants.{TooDeep}
 use Rattle.meaning.specs.Tables.{Tables}
 use Rattle.meaning.specs.Outcome.{Out, Log, Accumulators, Site, Fault, Outcome, Place, Enters, Begins, Syncs, Leaves, Faults, Marks, Spawns, after}
 use Rattle.meaning.specs.Values.{Env, put, value, values}
-use Rattle.meaning.specs.Statements.{reducers, proc_of, numbered, beginning, initial_values, put_into, reading, fresh, Job, job_of, turn_values, update_of, bounds}
+use Rattle.meaning.specs.Statements.{reducers, proc_of, numbered, beginning, initial_values, put_into, reading, fresh, Job, job_of}
+use Rattle.meaning.specs.Statements.{turn_values, update_of, bounds}
 use Rattle.meaning.specs.Elision.{elide, start, main, depth_limit}
 
 pub record Trace : Type 0 where
@@ -115,7 +117,8 @@ within look b = cond b None look
 
 -- the events of an entering
 abbrev pub opening : Tree → Look → ℕ → Name → List ℤ → Place → Log
-opening program look left f args n = Begins n (depth_limit - left) ∷ (mark look f args (depth_limit - left) (proc_of program f).memo ++ Enters f args (depth_limit - left) ∷ [])
+opening program look left f args n = Begins n
+    (depth_limit - left) ∷ (mark look f args (depth_limit - left) (proc_of program f).memo ++ Enters f args (depth_limit - left) ∷ [])
 
 -- inside an instance that a record answers nothing is marked
 abbrev pub inner : Tree → Look → ℕ → Name → List ℤ → Look
@@ -135,7 +138,9 @@ module _ (program : Tree) (tables : Tables) (sight : Accumulators) where
     abbrev pub turns_walk : Job → ℕ → ℕ → Place → ℕ → Option Fault → Trace
     turns_walk job zero i n c doom = over n doom (pos 0)
     turns_walk job (suc left) i n c doom =
-        evaluated doom job.site (turn_values tables job i) (λ vs. entering doom job.site sub (λ go. after_call doom (go job.callee vs (child_of n c)) (λ v. turns_walk job left (suc i) n (suc c) doom)))
+        evaluated doom job.site (turn_values tables job i)
+        (λ vs. entering doom job.site sub (λ go. after_call doom (go job.callee vs (child_of n c))
+        (λ v. turns_walk job left (suc i) n (suc c) doom)))
 
     module _ (left : ℕ) where
       -- a half, with its entering and leaving
@@ -148,7 +153,8 @@ module _ (program : Tree) (tables : Tables) (sight : Accumulators) where
       loop_walk (suc k) job count i n c doom =
           cond (nat_le count job.grain) (turns_walk job count i n c doom)
           (after_spawn (child_of n c) (half_closed (child_of n c) (loop_walk k job (count / 2) i (child_of n c) 1 None)) (λ o.
-          after_call (doom_after doom o) (half_closed (child_of n (suc c)) (loop_walk k job (count - count / 2) (i + count / 2) (child_of n (suc c)) 1 None)) (λ v. over n (doom_after doom o) (pos 0))))
+          after_call (doom_after doom o) (half_closed (child_of n (suc c))
+          (loop_walk k job (count - count / 2) (i + count / 2) (child_of n (suc c)) 1 None)) (λ v. over n (doom_after doom o) (pos 0))))
 
       abbrev pub half_run : ℕ → Job → ℕ → ℕ → Place → Trace
       half_run k job count i n = half_closed n (loop_walk k job count i n 1 None)
@@ -162,16 +168,22 @@ module _ (program : Tree) (tables : Tables) (sight : Accumulators) where
         pub deed_walk : Place → Site → Deed → Env → ℕ → Option Fault → (Env → ℕ → Option Fault → Trace) → Trace
         deed_walk n site (bind x e) env c doom k = evaluated doom site (value tables env e) (λ v. k (put env x v) c doom)
         deed_walk n site (enter x Call f es) env c doom k =
-            evaluated doom site (values tables env es) (λ vs. entering doom site sub (λ go. after_call doom (go f vs (child_of n c)) (λ v. k (put_into x env v) (suc c) doom)))
+            evaluated doom site (values tables env es)
+            (λ vs. entering doom site sub (λ go. after_call doom (go f vs (child_of n c)) (λ v. k (put_into x env v) (suc c) doom)))
         deed_walk n site (enter x Spawn f es) env c doom k =
-            evaluated doom site (values tables env es) (λ vs. entering doom site sub (λ go. after_spawn (child_of n c) (go f vs (child_of n c)) (λ o. k (env_after env x o) (suc c) (doom_after doom o))))
+            evaluated doom site (values tables env es)
+            (λ vs. entering doom site sub (λ go. after_spawn (child_of n c) (go f vs (child_of n c))
+            (λ o. k (env_after env x o) (suc c) (doom_after doom o))))
         deed_walk n site (read x r) env c doom k = k (put env x (reading sight (numbered 0 (reducers program) r))) c doom
         deed_walk n site sync env c doom k = led (Syncs n ∷ []) (past_sync doom (k env c None))
         deed_walk n site (update r es) env c doom k = evaluated doom site (update_of tables (reducers program) env r es) (λ u. k env c doom)
         deed_walk n site (choose e a b) env c doom k =
-            evaluated doom site (value tables env e) (λ v. cond (int_eq v (pos 0)) (body_walk n site.procedure b env c doom k) (body_walk n site.procedure a env c doom k))
+            evaluated doom site (value tables env e)
+            (λ v. cond (int_eq v (pos 0)) (body_walk n site.procedure b env c doom k) (body_walk n site.procedure a env c doom k))
         deed_walk n site (loop x e f grain g es) env c doom k =
-            evaluated doom site (bounds tables env e f) (λ range. after_call doom (half_run halvings (job_of site env x g es grain range.0) range.1 0 (child_of n c)) (λ v. k env (suc c) doom))
+            evaluated doom site (bounds tables env e f)
+            (λ range. after_call doom (half_run halvings (job_of site env x g es grain range.0) range.1 0 (child_of n c))
+            (λ v. k env (suc c) doom))
         deed_walk n site (give e) env c doom k = evaluated doom site (value tables env e) (λ v. over n doom v)
 
         pub body_walk : Place → Name → Body → Env → ℕ → Option Fault → (Env → ℕ → Option Fault → Trace) → Trace
@@ -190,7 +202,8 @@ module _ (program : Tree) (tables : Tables) (sight : Accumulators) where
   -- where so many levels are left
   unfoldable pub runner : ℕ → Look → Runner
   runner zero look = None
-  runner (suc left) look = Some (λ f args n. closed (opening program look left f args n) n (run_inside (runner left (inner program look left f args)) left f args n))
+  runner (suc left) look = Some (λ f args n. closed (opening program look left f args n) n
+      (run_inside (runner left (inner program look left f args)) left f args n))
 
   -- an instance with so many levels below it
   abbrev pub run : ℕ → Look → Name → List ℤ → Place → Trace

@@ -98,7 +98,8 @@ fn searched_division(
     right: &Expression,
     notes: &mut Notes,
 ) -> Result<(), Halt>
-    ensures value { (x : ℤ) → IsOk (value_at tables.now.tables slots.now (plain right.now)).answer → OnOk result (IsOk (with_right operator x (value_at tables.now.tables slots.now (plain right.now))).answer) }
+    ensures value { (x : ℤ) → IsOk (value_at tables.now.tables slots.now (plain right.now)).answer
+        → OnOk result (IsOk (with_right operator x (value_at tables.now.tables slots.now (plain right.now))).answer) }
     ensures unknown { IfErr result (λ halt. halt ≡ Unknown) }
 {
     if !matches!(operator, Operator::Divide | Operator::Remainder) {

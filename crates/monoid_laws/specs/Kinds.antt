@@ -1,7 +1,10 @@
 -- The operation, the identity and the elements of each kind, as plain functions.
-use Rattle.std.specs.Prelude.{◌≡◌, ℕ, ◌+◌, ◌-◌, ◌*◌, ◌<◌, ◌≤◌, ℤ, pos, negsuc, ◌+ℤ◌, ◌*ℤ◌, int_lt, cond, List, [], ◌∷◌, ◌++◌, take, drop, length, map, Option, Some, None, slice_index, FitsSigned, All, IfSome, slice_index_or, ◌<ℤ◌, unsigned_abs, Bool, not, true, ◌&&◌}
+use Rattle.std.specs.Prelude.{◌≡◌, ℕ, ◌+◌, ◌-◌, ◌*◌, ◌<◌, ◌≤◌, ℤ, pos, negsuc, ◌+ℤ◌, ◌*ℤ◌, int_lt, cond, List, [], ◌∷◌, ◌++◌, take, drop}
+use Rattle.std.specs.Prelude.{length, map, Option, Some, None, slice_index, FitsSigned, All, IfSome, slice_index_or, ◌<ℤ◌, unsigned_abs}
+use Rattle.std.specs.Prelude.{Bool, not, true, ◌&&◌}
 use Rattle.std.specs.Int.{int_wrap, int_max, int_min, int_bit_and, int_bit_or, int_bit_xor, w64}
-use Rattle.monoid_laws.specs.Worth.{Worth, number, items, best, line, amounts, element, the_number, the_items, the_best, the_factor, the_term, the_amounts, the_element}
+use Rattle.monoid_laws.specs.Worth.{Worth, number, items, best, line, amounts, element, the_number, the_items, the_best, the_factor}
+use Rattle.monoid_laws.specs.Worth.{the_term, the_amounts, the_element}
 use Rattle.monoid_laws.specs.declared.Kind.{Kind}
 use Rattle.monoid_laws.specs.declared.Kind.TheVariants as k
 use Rattle.monoid_laws.specs.declared.Val.{Val}

@@ -42,7 +42,8 @@ module _ (setting : Setting) where
     pub executed_are : t.executed ≡ length (executed_with setting.memory.records)
     pub reused_are : t.reused ≡ length (reused_with setting.memory.records)
 
-  -- the records that were made are sound and hold now; they are of the executed instances, each as often, but for as many as were left unrecorded; and with them put in nothing is executed, unless one was
+  -- the records that were made are sound and hold now; they are of the executed instances, each as often, but for as many as
+  -- were left unrecorded; and with them put in nothing is executed, unless one was
   pub record HaveNews (t : PlainTally) : Type 0 where
     pub kept : List Kept
     pub stand : StandForKept t.made kept

@@ -62,9 +62,12 @@ OnNext _ P = Unit {0}
 -- that place, or at the next one
 abbrev pub Does : Bool → Position → (Bool → PlainStrand → PlainStrand) → PlainActivation → PlainLayer → Did → PlainActivation → PlainLayer → Type 0
 Does passes p meaning a l Nothing b m = (b ≡ a) × (m ≡ l)
-Does passes p meaning a l Next b m = (s : PlainStrand) → MayPass passes s → (kit : Bool) → topped Running (at (Block (next_of p)) b) m s ≡ meaning kit (topped Running (at (Block p) a) l s)
-Does passes p meaning a l Moved b m = (s : PlainStrand) → MayPass passes s → (kit : Bool) → topped Running b m s ≡ meaning kit (topped Running (at (Block p) a) l s)
-Does passes p meaning a l (Gave v) b m = (s : PlainStrand) → MayPass passes s → (kit : Bool) → topped (Returning v) (at (Block p) b) m s ≡ meaning kit (topped Running (at (Block p) a) l s)
+Does passes p meaning a l Next b m = (s : PlainStrand) → MayPass passes s → (kit : Bool)
+    → topped Running (at (Block (next_of p)) b) m s ≡ meaning kit (topped Running (at (Block p) a) l s)
+Does passes p meaning a l Moved b m = (s : PlainStrand) → MayPass passes s → (kit : Bool)
+    → topped Running b m s ≡ meaning kit (topped Running (at (Block p) a) l s)
+Does passes p meaning a l (Gave v) b m = (s : PlainStrand) → MayPass passes s → (kit : Bool)
+    → topped (Returning v) (at (Block p) b) m s ≡ meaning kit (topped Running (at (Block p) a) l s)
 
 -- a reducer takes so many numbers
 abbrev pub TakesBy : ℕ → Option Kind → Type 0

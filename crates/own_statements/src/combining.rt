@@ -30,7 +30,10 @@ pub fn combine_some<V: View>(
 ) -> Did
     requires room { place.index + 1 < 2 ^ 64 }
     requires kinds { layer.old.kinds ≡ setting.program.now.kinds }
-    ensures done { Does passes_syncs place (λ kit. evaluated statement (values_at setting.entry.tables.now.tables top.old.slots (map plain expressions.now)) (combining (slice_get setting.entry.program.now.kinds reducer) statement place reducer)) top.old layer.old result top.new layer.new }
+    ensures done { Does passes_syncs place (λ kit. evaluated statement
+        (values_at setting.entry.tables.now.tables top.old.slots (map plain expressions.now))
+        (combining (slice_get setting.entry.program.now.kinds reducer) statement place reducer))
+        top.old layer.old result top.new layer.new }
     ensures same_block { OnNext result (IsInBlock top.old top.new) }
     ensures kinds { layer.new.kinds ≡ layer.old.kinds }
 {
@@ -91,7 +94,10 @@ fn combine_one<V: View>(
     requires room { place.index + 1 < 2 ^ 64 }
     requires takes { Takes setting.program.now.kinds reducer 1 }
     requires kinds { layer.old.kinds ≡ setting.program.now.kinds }
-    ensures done { Does passes_syncs place (λ kit. evaluated statement (values_at setting.entry.tables.now.tables top.old.slots (plain expression.now ∷ [])) (combining (slice_get setting.entry.program.now.kinds reducer) statement place reducer)) top.old layer.old result top.new layer.new }
+    ensures done { Does passes_syncs place (λ kit. evaluated statement
+        (values_at setting.entry.tables.now.tables top.old.slots (plain expression.now ∷ []))
+        (combining (slice_get setting.entry.program.now.kinds reducer) statement place reducer))
+        top.old layer.old result top.new layer.new }
     ensures same_block { OnNext result (IsInBlock top.old top.new) }
     ensures kinds { layer.new.kinds ≡ layer.old.kinds }
 {
@@ -126,7 +132,10 @@ fn combine_two<V: View>(
     requires room { place.index + 1 < 2 ^ 64 }
     requires takes { Takes setting.program.now.kinds reducer 2 }
     requires kinds { layer.old.kinds ≡ setting.program.now.kinds }
-    ensures done { Does passes_syncs place (λ kit. evaluated statement (values_at setting.entry.tables.now.tables top.old.slots (plain first.now ∷ plain second.now ∷ [])) (combining (slice_get setting.entry.program.now.kinds reducer) statement place reducer)) top.old layer.old result top.new layer.new }
+    ensures done { Does passes_syncs place (λ kit. evaluated statement
+        (values_at setting.entry.tables.now.tables top.old.slots (plain first.now ∷ plain second.now ∷ []))
+        (combining (slice_get setting.entry.program.now.kinds reducer) statement place reducer))
+        top.old layer.old result top.new layer.new }
     ensures same_block { OnNext result (IsInBlock top.old top.new) }
     ensures kinds { layer.new.kinds ≡ layer.old.kinds }
 {
@@ -160,7 +169,10 @@ fn combine_all<V: View>(
 ) -> Did
     requires room { place.index + 1 < 2 ^ 64 }
     requires kinds { layer.old.kinds ≡ setting.program.now.kinds }
-    ensures done { Does passes_syncs place (λ kit. evaluated statement (values_at setting.entry.tables.now.tables top.old.slots (map plain expressions.now)) (combining (slice_get setting.entry.program.now.kinds reducer) statement place reducer)) top.old layer.old result top.new layer.new }
+    ensures done { Does passes_syncs place (λ kit. evaluated statement
+        (values_at setting.entry.tables.now.tables top.old.slots (map plain expressions.now))
+        (combining (slice_get setting.entry.program.now.kinds reducer) statement place reducer))
+        top.old layer.old result top.new layer.new }
     ensures same_block { OnNext result (IsInBlock top.old top.new) }
     ensures kinds { layer.new.kinds ≡ layer.old.kinds }
 {

@@ -45,7 +45,8 @@ fn fill_over<V: View>(
     arguments: &[Expression],
     tables: &Tables,
 ) -> Result<(), Stop>
-    ensures notes { HasNoted (λ u. child.new.slots) (entry_at tables.now.tables (laid_over meanwhile top.old.slots) size (map plain arguments.now)) layer.old layer.new result }
+    ensures notes { HasNoted (λ u. child.new.slots)
+        (entry_at tables.now.tables (laid_over meanwhile top.old.slots) size (map plain arguments.now)) layer.old layer.new result }
     ensures top { top.new ≡ top.old }
 {
     match meanwhile {
@@ -70,7 +71,8 @@ pub fn fills<V: View>(
     arguments: &[Expression],
     tables: &Tables,
 ) -> bool
-    ensures filled { result ≡ true → Fills (entry_at tables.now.tables (laid_over meanwhile top.old.slots) size (map plain arguments.now)) child.new.slots layer.old layer.new }
+    ensures filled { result ≡ true → Fills (entry_at tables.now.tables (laid_over meanwhile top.old.slots) size (map plain arguments.now))
+        child.new.slots layer.old layer.new }
     ensures unchanged { result ≡ false → layer.new ≡ layer.old }
     ensures top { top.new ≡ top.old }
 {

@@ -59,7 +59,8 @@ pub fn call<V: View>(
     numbers: &mut Vec<i64>,
 ) -> Option<i64>
     requires kinds { layer.old.kinds ≡ setting.program.now.kinds }
-    ensures ahead { ComesTo (lent setting.entry) true (made callee child.old.slots (Work.Block (first_of 0)) left) (entering callee (depth_limit - left) layer.old) result child.new layer.new }
+    ensures ahead { ComesTo (lent setting.entry) true (made callee child.old.slots (Work.Block (first_of 0)) left)
+        (entering callee (depth_limit - left) layer.old) result child.new layer.new }
     ensures kinds { layer.new.kinds ≡ layer.old.kinds }
 {
     child.begin(callee, left);

@@ -40,7 +40,8 @@ pub fn perform<V: View>(
 ) -> Did
     requires room { place.index + 1 < 2 ^ 64 }
     requires kinds { layer.old.kinds ≡ setting.program.now.kinds }
-    ensures done { Does passes_syncs place (λ kit. performed (lent setting.entry) kit place instruction.now.number instruction.now.operation) top.old layer.old result top.new layer.new }
+    ensures done { Does passes_syncs place (λ kit. performed
+        (lent setting.entry) kit place instruction.now.number instruction.now.operation) top.old layer.old result top.new layer.new }
     ensures same_block { OnNext result (IsInBlock top.old top.new) }
     ensures kinds { layer.new.kinds ≡ layer.old.kinds }
 {
@@ -135,7 +136,8 @@ fn bind<V: View>(
     top: &mut Activation,
 ) -> Did
     requires room { place.index + 1 < 2 ^ 64 }
-    ensures done { Does passes_syncs place (λ kit. evaluated statement (value_at tables.now.tables top.old.slots (plain expression.now)) (binding place name)) top.old layer.old result top.new layer.new }
+    ensures done { Does passes_syncs place (λ kit. evaluated statement (value_at tables.now.tables top.old.slots (plain expression.now))
+        (binding place name)) top.old layer.old result top.new layer.new }
     ensures same_block { OnNext result (IsInBlock top.old top.new) }
     ensures kinds { layer.new.kinds ≡ layer.old.kinds }
 {
@@ -166,7 +168,8 @@ fn choose<V: View>(
     top: &mut Activation,
 ) -> Did
     requires room { place.index + 1 < 2 ^ 64 }
-    ensures done { Does passes_syncs place (λ kit. evaluated statement (value_at tables.now.tables top.old.slots (plain condition.now)) (choosing place first second)) top.old layer.old result top.new layer.new }
+    ensures done { Does passes_syncs place (λ kit. evaluated statement (value_at tables.now.tables top.old.slots (plain condition.now))
+        (choosing place first second)) top.old layer.old result top.new layer.new }
     ensures same_block { OnNext result (IsInBlock top.old top.new) }
     ensures kinds { layer.new.kinds ≡ layer.old.kinds }
 {
@@ -198,7 +201,8 @@ fn give<V: View>(
     expression: &Expression,
     top: &mut Activation,
 ) -> Did
-    ensures done { Does passes_syncs place (λ kit. evaluated statement (value_at tables.now.tables top.old.slots (plain expression.now)) giving) top.old layer.old result top.new layer.new }
+    ensures done { Does passes_syncs place (λ kit. evaluated statement
+        (value_at tables.now.tables top.old.slots (plain expression.now)) giving) top.old layer.old result top.new layer.new }
     ensures same_block { OnNext result (IsInBlock top.old top.new) }
     ensures kinds { layer.new.kinds ≡ layer.old.kinds }
 {

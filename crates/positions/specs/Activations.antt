@@ -9,7 +9,9 @@ use Rattle.positions.specs.declared.work.Work.{Work}
 use Rattle.positions.specs.declared.work.Work.TheVariants.{Block, Over, Halves, Second, Turns}
 use Rattle.meaning.specs.Statements.{most_iterations}
 
--- an instance: how many may be nested in it, how many it has entered, its procedure's number, its slots, the places behind its innermost block, what it has left; and of the one that it entered last whether that was spawned, and the slot for its value. The slots of a loop's instance are those of the loop
+-- an instance: how many may be nested in it, how many it has entered, its procedure's number, its slots, the places behind its
+-- innermost block, what it has left; and of the one that it entered last whether that was spawned, and the slot for its value.
+-- The slots of a loop's instance are those of the loop
 pub record PlainActivation : Type 0 where
   pub left : ℕ
   pub children : ℕ

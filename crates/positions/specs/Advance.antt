@@ -1,5 +1,6 @@
 -- One small step of a strand, by numbers.
-use Rattle.std.specs.Prelude.{ℕ, zero, suc, ◌+◌, ◌-◌, ◌/◌, nat_le, ℤ, pos, ◌+ℤ◌, Bool, true, false, ◌||◌, ◌&&◌, if◌then◌else◌, ◌==◌, List, [], ◌∷◌, ◌++◌, map, length, Option, Some, None, Result, Ok, Err, slice_get, slice_set}
+use Rattle.std.specs.Prelude.{ℕ, zero, suc, ◌+◌, ◌-◌, ◌/◌, nat_le, ℤ, pos, ◌+ℤ◌, Bool, true, false, ◌||◌, ◌&&◌, if◌then◌else◌, ◌==◌, List}
+use Rattle.std.specs.Prelude.{[], ◌∷◌, ◌++◌, map, length, Option, Some, None, Result, Ok, Err, slice_get, slice_set}
 use Rattle.std.specs.Ordering.{int_eq}
 use Rattle.program_tree.specs.declared.Way.{Way}
 use Rattle.program_tree.specs.declared.Way.TheVariants.{Call, Spawn}
@@ -186,7 +187,9 @@ choosing p a b v s = with_top (inside (if int_eq v (pos 0) then b else a) p s.to
 -- a loop's instance over so many numbers
 abbrev pub looping : Position → ℤ × ℕ → PlainStrand → PlainStrand
 looping p range s =
-    pushed (made s.top.procedure s.top.slots (Halves (record { block = p.block; index = p.index; low = range.0 }) most_halvings (record { first = 0; count = range.1 })) s.top.left)
+    pushed (made s.top.procedure s.top.slots
+    (Halves (record { block = p.block; index = p.index; low = range.0 }) most_halvings (record { first = 0; count = range.1 }))
+    s.top.left)
     false None (Block (next_of p)) Running s
 
 abbrev pub giving : ℤ → PlainStrand → PlainStrand
@@ -235,7 +238,12 @@ left_to (p ∷ rest) v s = record s { path = shorter s.path; top = bound p.into 
 
 -- the topmost layer becomes a record and goes into the one below it
 abbrev pub closed : Setting → ℤ → PlainStrand → PlainStrand
-closed setting v s = record s { layer = closed_onto s.layer s.lower; lower = below_top s.lower; phase = Leaving v; tally = closing setting.program.revisions s.layer v s.tally }
+closed setting v s = record s {
+  layer = closed_onto s.layer s.lower;
+  lower = below_top s.lower;
+  phase = Leaving v;
+  tally = closing setting.program.revisions s.layer v s.tally;
+}
 
 -- the topmost layer is the topmost instance's
 abbrev pub owns_top : PlainStrand → Bool

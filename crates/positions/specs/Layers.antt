@@ -9,7 +9,8 @@ use Rattle.rerun_records.specs.Record.{PlainRecord}
 use Rattle.rerun_records.specs.Named.{filled}
 use Rattle.positions.specs.Values.{once}
 
--- whether readings are kept, the reducers' kinds and values, what was read, what the instances have read that were recorded or answered meanwhile, for each procedure whether it was entered, and the greatest depth of an instance
+-- whether readings are kept, the reducers' kinds and values, what was read, what the instances have read that were recorded or
+-- answered meanwhile, for each procedure whether it was entered, and the greatest depth of an instance
 pub record PlainLayer : Type 0 where
   pub keeps : Bool
   pub kinds : List Kind
@@ -21,7 +22,15 @@ pub record PlainLayer : Type 0 where
 
 -- a layer that has noted nothing, for a program of so many procedures
 abbrev pub blank : Bool → List Kind → ℕ → PlainLayer
-blank keeps kinds procedures = record { keeps = keeps; kinds = kinds; worths = identities kinds; notes = []; shared = []; entered = replicate procedures false; deepest = 0 }
+blank keeps kinds procedures = record {
+  keeps = keeps;
+  kinds = kinds;
+  worths = identities kinds;
+  notes = [];
+  shared = [];
+  entered = replicate procedures false;
+  deepest = 0;
+}
 
 -- readings, and others behind them where they are kept
 abbrev pub kept_behind : Bool → List Note → List Note → List Note
@@ -60,7 +69,13 @@ either (x ∷ xs) (y ∷ ys) = (x || y) ∷ either xs ys
 
 -- a layer, and one behind it
 abbrev pub multiplied : PlainLayer → PlainLayer → PlainLayer
-multiplied l r = record l { worths = operate_all l.kinds l.worths r.worths; notes = l.notes ++ r.notes; shared = l.shared ++ r.shared; entered = either l.entered r.entered; deepest = max l.deepest r.deepest }
+multiplied l r = record l {
+  worths = operate_all l.kinds l.worths r.worths;
+  notes = l.notes ++ r.notes;
+  shared = l.shared ++ r.shared;
+  entered = either l.entered r.entered;
+  deepest = max l.deepest r.deepest;
+}
 
 -- what a record keeps of a layer's readings: its own once each, and then the others
 abbrev pub kept_reads : PlainLayer → List Note

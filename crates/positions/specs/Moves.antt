@@ -125,7 +125,8 @@ settled_by (Behind depth child) v s = settled_at (length s.path - depth) child v
 
 -- the left strand has ended, and the right one goes on
 abbrev pub joined_ended : PlainStrand → ℤ → PlainStrand → PlainStrand
-joined_ended l v r = record (settled_by r.start v r) { start = l.start; layer = multiplied l.layer r.layer; lower = l.lower; tally = tallies_joined l.tally r.tally }
+joined_ended l v r = record (settled_by r.start v r)
+    { start = l.start; layer = multiplied l.layer r.layer; lower = l.lower; tally = tallies_joined l.tally r.tally }
 
 -- one of them has a fault, and no view is folded: the left's place and layers stay, and the right's instances go
 abbrev pub joined_broken : PlainStrand → PlainStrand → Fault → PlainStrand

@@ -13,7 +13,9 @@ use Rattle.linked_program.specs.Checked.{PlainChecked, revised_of}
 use Rattle.rerun_records.specs.Record.{PlainRecord}
 use Rattle.rerun_records.specs.Named.{AreRecords, IsInOrder}
 
--- the names of the tables that the program was checked against with their columns, the program, its procedures' codes, its reducers' kinds, the tables, the records that may answer its memo instances, and what there is of earlier runs and for later ones by name
+-- the names of the tables that the program was checked against with their columns, the program, its procedures' codes, its
+-- reducers' kinds, the tables, the records that may answer its memo instances, and what there is of earlier runs and for later
+-- ones by name
 pub record Setting : Type 0 where
   pub names : List Columned
   pub program : Revised

@@ -2,7 +2,8 @@
 use Rattle.std.specs.Prelude.{◌≡◌, ℕ, ℤ, Bool, true, false, List, [], ◌∷◌, Option, Some, None, take}
 use Rattle.program_tree.specs.Plain.{Body, update, step}
 use Rattle.meaning.specs.Trail.{child_of}
-use Rattle.meaning.specs.SmallStep.{Child, Todo, blocks, Phase as NamedPhase, running, spawning, leaving, Pause, at_spawn, at_sync, returned, faulted, Step, moved, taken, paused as paused_step, micro, Continuation}
+use Rattle.meaning.specs.SmallStep.{Child, Todo, blocks, Phase as NamedPhase, running, spawning, leaving, Pause, at_spawn, at_sync}
+use Rattle.meaning.specs.SmallStep.{returned, faulted, Step, moved, taken, paused as paused_step, micro, Continuation}
 use Rattle.meaning.specs.Layers.{bottom}
 use Rattle.meaning.specs.Records.{holds_now}
 use Rattle.meaning.specs.Tallies.{Tally, no_tally, tallied, tallies_joined, valid_record}
@@ -66,7 +67,8 @@ module _ (setting : Setting) where
   -- the small step of a strand without flags: a layer closes where its instance's name is as long as that of the one that returns
   abbrev pub small_step : Bool → LayeredStrand → Tally → Step
   small_step kit x t =
-      unflagged_step (micro setting.program.tree setting.tables (valid_record setting.program setting.tables setting.memory.records) kit (bottom x.layers) x.start (frame_by is_top_by_length x.phase t.opened x.frame) x.phase x.under)
+      unflagged_step (micro setting.program.tree setting.tables (valid_record setting.program setting.tables setting.memory.records) kit
+      (bottom x.layers) x.start (frame_by is_top_by_length x.phase t.opened x.frame) x.phase x.under)
 
   -- the records made hold now: so each procedure that they name has a number
   abbrev pub HoldNow : Tally → Type 0
@@ -118,13 +120,15 @@ module _ (setting : Setting) where
   -- the child alone and the continuation put together again: the child as a call
   abbrev pub IsAttached : PlainTask → PlainStrand → PlainStrand → Type 0
   IsAttached task s s' =
-      (x : LayeredStrand) (t : Tally) (d : ℕ) (into : Option ℕ) (child : Child) (todo : Todo) → s.path ≡ task.place → StandsFor setting s (detached setting.program.tree x d child) t → StandsForTask setting task (continuation x into todo)
+      (x : LayeredStrand) (t : Tally) (d : ℕ) (into : Option ℕ) (child : Child) (todo : Todo) → s.path ≡ task.place
+      → StandsFor setting s (detached setting.program.tree x d child) t → StandsForTask setting task (continuation x into todo)
       → StandsFor setting s' (inlined setting.program.tree x d into child todo) t
 
   -- on with the continuation of a child that has returned
   abbrev pub IsResumed : PlainTask → PlainStrand → PlainStrand → Type 0
   IsResumed task s s' =
-      (x : LayeredStrand) (t : Tally) (k : Continuation) (v : ℤ) → s.path ≡ task.place → StandsFor setting s x t → StandsForTask setting task k → x.phase ≡ leaving v → x.under ≡ []
+      (x : LayeredStrand) (t : Tally) (k : Continuation) (v : ℤ) → s.path ≡ task.place → StandsFor setting s x t
+      → StandsForTask setting task k → x.phase ≡ leaving v → x.under ≡ []
       → StandsFor setting s' (resumed setting.program.tree x k v) t
 
   -- the strand of a stolen continuation
@@ -135,7 +139,9 @@ module _ (setting : Setting) where
   abbrev pub IsJoined : PlainStrand → PlainStrand → PlainStrand → Type 0
   IsJoined l r s' =
       (x y z : LayeredStrand) (t u : Tally) → IsNotAtSpawn r.phase → r.lower ≡ []
-      → StandsFor setting l x t → StandsFor setting r y u → joined_pair setting.program setting.tables setting.memory x x.phase y y.phase ≡ Some z → StandsFor setting s' z (tallies_joined t u)
+      → StandsFor setting l x t → StandsFor setting r y u
+      → joined_pair setting.program setting.tables setting.memory x x.phase y y.phase ≡ Some z
+      → StandsFor setting s' z (tallies_joined t u)
 
   -- the strand with its lowest layer alone
   abbrev pub IsAlone : PlainStrand → PlainStrand → Type 0

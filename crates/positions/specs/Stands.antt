@@ -4,7 +4,9 @@ use Rattle.program_tree.specs.Plain.{Body, Proc, Tree}
 use Rattle.meaning.specs.Outcome.{Place, Fault as NamedFault}
 use Rattle.meaning.specs.Trail.{child_of}
 use Rattle.meaning.specs.Statements.{reducers, found, proc_of, fresh, Job}
-use Rattle.meaning.specs.SmallStep.{slot, root, behind, Start as NamedStart, Frame, Todo, blocks, halves, second, turns, Child, instance, half, Phase as NamedPhase, entering, running, spawning, returning, leaving, broken, Parent, Continuation, Slot as NamedSlot}
+use Rattle.meaning.specs.SmallStep.{slot, root, behind, Start as NamedStart, Frame, Todo, blocks, halves, second, turns, Child, instance}
+use Rattle.meaning.specs.SmallStep.{half, Phase as NamedPhase, entering, running, spawning, returning, leaving, broken, Parent}
+use Rattle.meaning.specs.SmallStep.{Continuation, Slot as NamedSlot}
 use Rattle.meaning.specs.Layers.{Notes}
 use Rattle.meaning.specs.Statements.{procedure_of}
 use Rattle.meaning.specs.Tables.{is_there}
@@ -76,7 +78,8 @@ module _ (setting : Setting) where
     pub worths : n.worth ≡ l.worths
     pub each : length l.worths ≡ length l.kinds
     pub notes : l.keeps ≡ true → SameMembers (l.notes ++ l.shared) (map (numbered setting.names) n.read)
-    pub entered : l.entered ≡ flagged (replicate (length (procedures setting.program.tree)) false) (map (procedure_number (procedures setting.program.tree)) n.entered)
+    pub entered : l.entered ≡ flagged (replicate (length (procedures setting.program.tree)) false)
+        (map (procedure_number (procedures setting.program.tree)) n.entered)
     pub deepest : n.deepest ≡ l.deepest
 
   abbrev pub AreNotes : List PlainLayer → List Notes → Type 0

@@ -8,7 +8,9 @@ use Rattle.positions.specs.Activations.{PlainActivation}
 use Rattle.positions.specs.Layers.{PlainLayer}
 use Rattle.positions.specs.Tallies.{PlainTally}
 
--- where it begins, its topmost layer and those below it, its topmost instance with its whole name, those that wait below it, what the topmost does next, the arguments of the memo instance that was called or spawned last, and what was counted and recorded. At a spawn the child stands on top already
+-- where it begins, its topmost layer and those below it, its topmost instance with its whole name, those that wait below it,
+-- what the topmost does next, the arguments of the memo instance that was called or spawned last, and what was counted and
+-- recorded. At a spawn the child stands on top already
 pub record PlainStrand : Type 0 where
   pub start : Start
   pub layer : PlainLayer

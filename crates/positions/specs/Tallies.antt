@@ -16,7 +16,8 @@ pub record PlainOpened : Type 0 where
   pub left : ℕ
   pub depth : ℕ
 
--- the instances whose layers are open, the topmost first; the records made; and how many instances were executed, answered by a record, and executed without a layer
+-- the instances whose layers are open, the topmost first; the records made; and how many instances were executed, answered by a
+-- record, and executed without a layer
 pub record PlainTally : Type 0 where
   pub opened : List PlainOpened
   pub made : List PlainRecord
@@ -41,7 +42,13 @@ answering t = record t { reused = suc t.reused }
 
 -- the left strand's tally, and then the right's: only the left one has open layers
 abbrev pub tallies_joined : PlainTally → PlainTally → PlainTally
-tallies_joined a b = record { opened = a.opened; made = a.made ++ b.made; executed = a.executed + b.executed; reused = a.reused + b.reused; unrecorded = a.unrecorded + b.unrecorded }
+tallies_joined a b = record {
+  opened = a.opened;
+  made = a.made ++ b.made;
+  executed = a.executed + b.executed;
+  reused = a.reused + b.reused;
+  unrecorded = a.unrecorded + b.unrecorded;
+}
 
 -- ---- the record of an instance that is over
 

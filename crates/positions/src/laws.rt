@@ -7,7 +7,8 @@ ghost use Rattle.positions.specs.Setting.{Setting, IsLinked, HasItsTables, HasIt
 ghost use Rattle.positions.specs.Strands.{PlainStrand, PlainTask};
 ghost use Rattle.positions.specs.Advance.{advanced, pause_of};
 ghost use Rattle.positions.specs.Moves.{inlined, detached, attached, resumed, first_strand, stolen, joined, lowest_alone, at_update};
-ghost use Rattle.positions.specs.Simulation.{IsSmallStep, KitsFollow, KeepsLayers, IsPause, IsStepTaken, IsFirst, IsInlined, IsDetached, IsAttached, IsResumed, IsStolen, IsJoined, IsAlone, IsUpdateNext};
+ghost use Rattle.positions.specs.Simulation.{IsSmallStep, KitsFollow, KeepsLayers, IsPause, IsStepTaken, IsFirst, IsInlined, IsDetached};
+ghost use Rattle.positions.specs.Simulation.{IsAttached, IsResumed, IsStolen, IsJoined, IsAlone, IsUpdateNext};
 
 use crate::phase::Paused;
 

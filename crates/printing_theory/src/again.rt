@@ -11,7 +11,8 @@ use procedure_parser::{TextError, parse};
 use program_tree::Program;
 use std::alloc::Global;
 
-/// The program that the printed text of a program is read as. An error is NoMemory, or line 0 where the printed text is too long; no other where the program is that of a text, or its declarations are of several texts.
+/// The program that the printed text of a program is read as. An error is NoMemory, or line 0 where the printed text is too
+/// long; no other where the program is that of a text, or its declarations are of several texts.
 pub fn print_and_parse(alloc: Global, program: &Program) -> Result<Program, TextError>
     // A program that was read is read again with the same tree.
     ensures text { IsOfText (tree program.now) → length (printed (tree program.now)) ≤ longest_text

@@ -61,7 +61,8 @@ Answers (Err (Text l)) s = ⊥
 
 -- 0 for a text that is too long; else the line of the first token that can't follow what stands before it
 abbrev pub IsFaultLineIn : (Source → Words → Type 0) → List ℕ → ℕ → Type 0
-IsFaultLineIn G text l = ((longest_text < length text) × (l ≡ 0)) ⊎ ((us : Words) × (length text ≤ longest_text) × FirstFaultIn G (tokens_of text) us × (l ≡ line_at text us) × (0 < l))
+IsFaultLineIn G text l = ((longest_text < length text) × (l ≡ 0))
+    ⊎ ((us : Words) × (length text ≤ longest_text) × FirstFaultIn G (tokens_of text) us × (l ≡ line_at text us) × (0 < l))
 
 abbrev pub IsFaultIn : (Source → Words → Type 0) → List ℕ → TextError → Type 0
 IsFaultIn G text NoMemory = Unit {0}

@@ -18,7 +18,9 @@ pub data BehindName (l : ℕ) (m : Bool) (f : Name) : Decl → Words → Words �
 -- procedures, where there is such room
 pub data Procedures : Room → Source → Words → Words → Type 0 where
   no_procedure : (room : Room) (ts : Words) → Procedures room [] ts ts
-  one_procedure : (room after : Room) (l k : ℕ) (m : Bool) (f : Name) (d : Decl) (ds : Source) (ts us vs ws : Words) → ProcedureWord m l ts ((word.Name f, k) ∷ us) → room_behind room f ≡ Some after → BehindName l m f d us vs → Procedures after ds vs ws → Procedures room (d ∷ ds) ts ws
+  one_procedure : (room after : Room) (l k : ℕ) (m : Bool) (f : Name) (d : Decl) (ds : Source) (ts us vs ws : Words)
+      → ProcedureWord m l ts ((word.Name f, k) ∷ us) → room_behind room f ≡ Some after → BehindName l m f d us vs → Procedures after ds vs ws
+      → Procedures room (d ∷ ds) ts ws
   no_room : (known : List Name) (k l : ℕ) (m : Bool) (ts us : Words) → ProcedureWord m k ts ((Over, l) ∷ us) → Procedures (known, 0) [] ts us
 
 -- one procedure at least

@@ -1,13 +1,18 @@
 -- Reading tokens from left to right: a tree and the tokens after it, or the tokens from the first on that can't follow.
-use Rattle.std.specs.Prelude.{ℕ, zero, suc, ◌-◌, ◌*◌, ℤ, pos, neg_ℤ, List, [], ◌∷◌, length, Option, Some, None, Result, Ok, Err, nat_lt, nat_eq, if◌then◌else◌, Bool, true, false, not, ◌&&◌, ◌||◌, ◌++◌, codes}
+use Rattle.std.specs.Prelude.{ℕ, zero, suc, ◌-◌, ◌*◌, ℤ, pos, neg_ℤ, List, [], ◌∷◌, length, Option, Some, None, Result, Ok, Err, nat_lt}
+use Rattle.std.specs.Prelude.{nat_eq, if◌then◌else◌, Bool, true, false, not, ◌&&◌, ◌||◌, ◌++◌, codes}
 use Rattle.program_tree.specs.declared.Operator.{Operator}
 use Rattle.program_tree.specs.declared.Way.{Way}
 use Rattle.token_scanner.specs.declared.token.Mark.TheVariants as mark
-use Rattle.token_scanner.specs.declared.token.Mark.TheVariants.{OpenParen, CloseParen, OpenBracket, CloseBracket, Colon, Plus, Minus, Star, Slash, Percent, OpenBrace, CloseBrace, Semicolon, Comma, Dot, Range, Assign, Call, Spawn, Sync, Update, If, Else, CilkFor, In, Grain, Return, Reducer, Memo, Proc, Has, Limit}
+use Rattle.token_scanner.specs.declared.token.Mark.TheVariants.{OpenParen, CloseParen, OpenBracket, CloseBracket, Colon, Plus, Minus, Star}
+use Rattle.token_scanner.specs.declared.token.Mark.TheVariants.{Slash, Percent, OpenBrace, CloseBrace, Semicolon, Comma, Dot, Range}
+use Rattle.token_scanner.specs.declared.token.Mark.TheVariants.{Assign, Call, Spawn, Sync, Update, If, Else, CilkFor, In, Grain, Return}
+use Rattle.token_scanner.specs.declared.token.Mark.TheVariants.{Reducer, Memo, Proc, Has, Limit}
 use Rattle.token_scanner.specs.Words.{Words, for_some, starts, starts_over, starts_name, rest, front_name, front_number, line_of, ended}
 use Rattle.source_tree.specs.Kinds.{WrittenKind}
 use Rattle.source_tree.specs.Kinds as kinds
-use Rattle.source_tree.specs.Source.{Phrase, Num, Var, Cell, Neg, Bin, depth, Stmt, Binds, Enters, Reads, Syncs, Updates, Tests, Loops, Returns, none, stmts_of, Decl, Reduces, Defines, Source}
+use Rattle.source_tree.specs.Source.{Phrase, Num, Var, Cell, Neg, Bin, depth, Stmt, Binds, Enters, Reads, Syncs, Updates, Tests, Loops}
+use Rattle.source_tree.specs.Source.{Returns, none, stmts_of, Decl, Reduces, Defines, Source}
 use Rattle.source_tree.specs.Source as source
 use Rattle.procedure_parser.specs.KindWords.{simple_kind}
 use Rattle.token_readers.specs.Limits.{most_open, most_levels, most_initial, most_number}

@@ -48,7 +48,8 @@ fn more_expressions<'a, 'b>(
     all: Vec<Expr>,
     tokens: &'b [Placed<'a>],
 ) -> Result<(Vec<Expr>, &'b [Placed<'a>]), ParseError>
-    ensures { Gives (λ x. (phrases x.0.items, words x.1.now)) result (with_front (phrases all.items) (many_at (starts Comma) comma_expr_at (words tokens.now))) }
+    ensures { Gives (λ x. (phrases x.0.items, words x.1.now)) result
+        (with_front (phrases all.items) (many_at (starts Comma) comma_expr_at (words tokens.now))) }
 {
     let count = tokens.len();
     let (mut all, mut rest) = beginning(all, tokens);

@@ -4,7 +4,9 @@ ghost use Rattle.std.specs.Prelude.{string_bytes, ◌≡◌, ◌≤◌, ◌-◌,
 ghost use Rattle.token_scanner.specs.Words.{words, rest, line_of, starts};
 ghost use Rattle.source_tree.specs.Source.{stmts, texts, decl, source};
 ghost use Rattle.token_readers.specs.Reading.{Gives};
-ghost use Rattle.procedure_parser.specs.Reading.{with_front, over_as, reducer_at, more_params_at, params_at, procedure_at, procedure_word_at, starts_procedure, counted, worded, declarations_at, program_at, text_at};
+ghost use Rattle.procedure_parser.specs.Reading.{with_front, over_as, reducer_at, more_params_at, params_at, procedure_at};
+ghost use Rattle.procedure_parser.specs.Reading.{procedure_word_at, starts_procedure, counted, worded, declarations_at, program_at};
+ghost use Rattle.procedure_parser.specs.Reading.{text_at};
 
 use crate::block::block;
 use crate::initial::initial;
@@ -137,7 +139,9 @@ fn with_reducer<'a, 'b>(
     mut all: Vec<Declaration>,
     tokens: &'b [Placed<'a>],
 ) -> Result<(Vec<Declaration>, &'b [Placed<'a>]), ParseError>
-    ensures { Gives (λ x. (source x.0.items, words x.1.now)) result (with_front (source all.items) (counted reducers (reducer_at (line_of (words tokens.now))) (declarations_at turns (reducers - 1) procedures) (rest (words tokens.now)))) }
+    ensures { Gives (λ x. (source x.0.items, words x.1.now)) result
+        (with_front (source all.items) (counted reducers (reducer_at (line_of (words tokens.now)))
+        (declarations_at turns (reducers - 1) procedures) (rest (words tokens.now)))) }
 {
     let rest = rest_of(tokens);
     if reducers == 0 {
@@ -158,7 +162,9 @@ fn with_procedure<'a, 'b>(
     mut all: Vec<Declaration>,
     tokens: &'b [Placed<'a>],
 ) -> Result<(Vec<Declaration>, &'b [Placed<'a>]), ParseError>
-    ensures { Gives (λ x. (source x.0.items, words x.1.now)) result (with_front (source all.items) (worded procedures (declarations_at turns reducers (procedures - 1)) (line_of (words tokens.now)) (words tokens.now))) }
+    ensures { Gives (λ x. (source x.0.items, words x.1.now)) result
+        (with_front (source all.items) (worded procedures (declarations_at turns reducers (procedures - 1)) (line_of (words tokens.now))
+        (words tokens.now))) }
 {
     let (memo, rest) = procedure_word(tokens)?;
     if procedures == 0 {
@@ -179,7 +185,8 @@ fn declarations<'a, 'b>(
     all: Vec<Declaration>,
     tokens: &'b [Placed<'a>],
 ) -> Result<(Vec<Declaration>, &'b [Placed<'a>]), ParseError>
-    ensures { Gives (λ x. (source x.0.items, words x.1.now)) result (with_front (source all.items) (declarations_at turns reducers procedures (words tokens.now))) }
+    ensures { Gives (λ x. (source x.0.items, words x.1.now)) result
+        (with_front (source all.items) (declarations_at turns reducers procedures (words tokens.now))) }
 {
     if turns == 0 {
         return Err(ParseError::Stuck(tokens.len()));

@@ -50,7 +50,8 @@ fn named<'a, 'b>(
     mut all: Vec<Declaration>,
     tokens: &'b [Placed<'a>],
 ) -> Result<(Vec<Declaration>, &'b [Placed<'a>]), ParseError>
-    ensures { Gives (λ x. (source x.0.items, words x.1.now)) result (with_front (source all.items) (named_at (seen.room room) (procedures_at turns) line memo (words tokens.now))) }
+    ensures { Gives (λ x. (source x.0.items, words x.1.now)) result
+        (with_front (source all.items) (named_at (seen.room room) (procedures_at turns) line memo (words tokens.now))) }
 {
     let Some(name) = front_name(tokens) else {
         return Err(ParseError::Stuck(left(tokens)));
@@ -72,7 +73,8 @@ fn one<'a, 'b>(
     all: Vec<Declaration>,
     tokens: &'b [Placed<'a>],
 ) -> Result<(Vec<Declaration>, &'b [Placed<'a>]), ParseError>
-    ensures { Gives (λ x. (source x.0.items, words x.1.now)) result (with_front (source all.items) (one_at (seen.room room) (procedures_at turns) (words tokens.now))) }
+    ensures { Gives (λ x. (source x.0.items, words x.1.now)) result
+        (with_front (source all.items) (one_at (seen.room room) (procedures_at turns) (words tokens.now))) }
 {
     let (memo, rest) = procedure_word(tokens)?;
     named(alloc, turns, room, line_of(tokens), memo, all, rest)

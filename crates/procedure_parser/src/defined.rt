@@ -12,7 +12,9 @@ use std::alloc::Global;
 use token_readers::{ParseError, TextError, fault_line, room_of};
 use token_scanner::{LONGEST_TEXT, tokens};
 
-/// The source trees of the procedures that a text defines for a program. An error is NoMemory, or the line of the first token that can't follow what stands before it: 0 for a text that is too long, the name's for a procedure that would bring the program to 257.
+/// The source trees of the procedures that a text defines for a program. An error is NoMemory, or the line of the first token
+/// that can't follow what stands before it: 0 for a text that is too long, the name's for a procedure that would bring the
+/// program to 257.
 pub fn define_source(
     alloc: Global,
     text: &[u8],

@@ -5,7 +5,8 @@ ghost use Rattle.token_scanner.specs.Words.{words, rest, front_name, front_numbe
 ghost use Rattle.source_tree.specs.Source.{phrase, depth, Bin};
 ghost use Rattle.token_readers.specs.Limits.{most_open, most_levels};
 ghost use Rattle.token_readers.specs.Reading.{Gives};
-ghost use Rattle.procedure_parser.specs.Reading.{limit_at, column_sum_at, after_name_at, row_at, has_at, plain_atom_at, atom_at, unary_at, term_at, sum_at, against_at, inside_at, expr_at};
+ghost use Rattle.procedure_parser.specs.Reading.{limit_at, column_sum_at, after_name_at, row_at, has_at, plain_atom_at, atom_at, unary_at};
+ghost use Rattle.procedure_parser.specs.Reading.{term_at, sum_at, against_at, inside_at, expr_at};
 
 use program_tree::Operator;
 use source_tree::{Expr, Measured};
@@ -67,7 +68,8 @@ fn against<'a, 'b>(
     tokens: &'b [Placed<'a>],
 ) -> Result<(Measured, &'b [Placed<'a>]), ParseError>
     requires left { left.levels ≤ limits.room }
-    ensures exact { Gives (λ x. (phrase x.0.expr, words x.1.now)) result (against_at (sum_at (nat_eq limits.more 0) (inside_at limits.more)) limits.room (phrase left.expr) (words tokens.now)) }
+    ensures exact { Gives (λ x. (phrase x.0.expr, words x.1.now)) result
+        (against_at (sum_at (nat_eq limits.more 0) (inside_at limits.more)) limits.room (phrase left.expr) (words tokens.now)) }
     ensures levels { IfOk result (λ x. x.0.levels ≤ limits.room) }
 {
     let Some(operation) = comparison(tokens) else {
@@ -87,7 +89,8 @@ fn sum<'a, 'b>(
     limits: Limits,
     tokens: &'b [Placed<'a>],
 ) -> Result<(Measured, &'b [Placed<'a>]), ParseError>
-    ensures exact { Gives (λ x. (phrase x.0.expr, words x.1.now)) result (sum_at (nat_eq limits.more 0) (inside_at limits.more) limits.room (words tokens.now)) }
+    ensures exact { Gives (λ x. (phrase x.0.expr, words x.1.now)) result
+        (sum_at (nat_eq limits.more 0) (inside_at limits.more) limits.room (words tokens.now)) }
     ensures levels { IfOk result (λ x. x.0.levels ≤ limits.room) }
 {
     let (mut left, mut rest) = term(alloc, limits, tokens)?;
@@ -112,7 +115,8 @@ fn term<'a, 'b>(
     limits: Limits,
     tokens: &'b [Placed<'a>],
 ) -> Result<(Measured, &'b [Placed<'a>]), ParseError>
-    ensures exact { Gives (λ x. (phrase x.0.expr, words x.1.now)) result (term_at (nat_eq limits.more 0) (inside_at limits.more) limits.room (words tokens.now)) }
+    ensures exact { Gives (λ x. (phrase x.0.expr, words x.1.now)) result
+        (term_at (nat_eq limits.more 0) (inside_at limits.more) limits.room (words tokens.now)) }
     ensures levels { IfOk result (λ x. x.0.levels ≤ limits.room) }
 {
     let (mut left, mut rest) = unary(alloc, limits, tokens)?;
@@ -137,7 +141,8 @@ fn unary<'a, 'b>(
     limits: Limits,
     tokens: &'b [Placed<'a>],
 ) -> Result<(Measured, &'b [Placed<'a>]), ParseError>
-    ensures exact { Gives (λ x. (phrase x.0.expr, words x.1.now)) result (unary_at (nat_eq limits.more 0) (inside_at limits.more) limits.room (words tokens.now)) }
+    ensures exact { Gives (λ x. (phrase x.0.expr, words x.1.now)) result
+        (unary_at (nat_eq limits.more 0) (inside_at limits.more) limits.room (words tokens.now)) }
     ensures levels { IfOk result (λ x. x.0.levels ≤ limits.room) }
 {
     if !starts(tokens, Mark::Minus) {
@@ -159,7 +164,8 @@ fn atom<'a, 'b>(
     limits: Limits,
     tokens: &'b [Placed<'a>],
 ) -> Result<(Measured, &'b [Placed<'a>]), ParseError>
-    ensures exact { Gives (λ x. (phrase x.0.expr, words x.1.now)) result (atom_at (nat_eq limits.more 0) (inside_at limits.more) limits.room (words tokens.now)) }
+    ensures exact { Gives (λ x. (phrase x.0.expr, words x.1.now)) result
+        (atom_at (nat_eq limits.more 0) (inside_at limits.more) limits.room (words tokens.now)) }
     ensures levels { IfOk result (λ x. x.0.levels ≤ limits.room) }
 {
     if starts(tokens, Mark::OpenParen) {
@@ -177,7 +183,8 @@ fn plain_atom<'a, 'b>(
     limits: Limits,
     tokens: &'b [Placed<'a>],
 ) -> Result<(Measured, &'b [Placed<'a>]), ParseError>
-    ensures exact { Gives (λ x. (phrase x.0.expr, words x.1.now)) result (plain_atom_at (nat_eq limits.more 0) (inside_at limits.more) limits.room (words tokens.now)) }
+    ensures exact { Gives (λ x. (phrase x.0.expr, words x.1.now)) result
+        (plain_atom_at (nat_eq limits.more 0) (inside_at limits.more) limits.room (words tokens.now)) }
     ensures levels { IfOk result (λ x. x.0.levels ≤ limits.room) }
 {
     if starts(tokens, Mark::Has) {
@@ -205,7 +212,8 @@ fn after_name<'a, 'b>(
     x: String,
     tokens: &'b [Placed<'a>],
 ) -> Result<(Measured, &'b [Placed<'a>]), ParseError>
-    ensures exact { Gives (λ x. (phrase x.0.expr, words x.1.now)) result (after_name_at (inside_at limits.more) limits.room (string_bytes x) (words tokens.now)) }
+    ensures exact { Gives (λ x. (phrase x.0.expr, words x.1.now)) result
+        (after_name_at (inside_at limits.more) limits.room (string_bytes x) (words tokens.now)) }
     ensures levels { IfOk result (λ x. x.0.levels ≤ limits.room) }
 {
     if !starts(tokens, Mark::OpenBracket) {
@@ -260,7 +268,8 @@ fn has<'a, 'b>(
     limits: Limits,
     tokens: &'b [Placed<'a>],
 ) -> Result<(Measured, &'b [Placed<'a>]), ParseError>
-    ensures exact { Gives (λ x. (phrase x.0.expr, words x.1.now)) result (has_at (nat_eq limits.more 0) (inside_at limits.more) limits.room (words tokens.now)) }
+    ensures exact { Gives (λ x. (phrase x.0.expr, words x.1.now)) result
+        (has_at (nat_eq limits.more 0) (inside_at limits.more) limits.room (words tokens.now)) }
     ensures levels { IfOk result (λ x. x.0.levels ≤ limits.room) }
 {
     if limits.room <= 1 {
@@ -279,7 +288,8 @@ fn row<'a, 'b>(
     tokens: &'b [Placed<'a>],
 ) -> Result<(Measured, &'b [Placed<'a>]), ParseError>
     requires room { 1 < limits.room }
-    ensures exact { Gives (λ x. (phrase x.0.expr, words x.1.now)) result (row_at (nat_eq limits.more 0) (inside_at limits.more) limits.room (string_bytes x) (words tokens.now)) }
+    ensures exact { Gives (λ x. (phrase x.0.expr, words x.1.now)) result
+        (row_at (nat_eq limits.more 0) (inside_at limits.more) limits.room (string_bytes x) (words tokens.now)) }
     ensures levels { IfOk result (λ x. x.0.levels ≤ limits.room) }
 {
     if is_full(limits.more) {

@@ -5,7 +5,8 @@ ghost use Rattle.token_scanner.specs.Words.{words, rest, line_of, starts};
 ghost use Rattle.source_tree.specs.Source.{phrase, stmt};
 ghost use Rattle.procedure_parser.specs.Ranges.{ends};
 ghost use Rattle.token_readers.specs.Reading.{Gives};
-ghost use Rattle.procedure_parser.specs.Reading.{entry_at, value_at, read_at, bound_at, bind_at, update_at, return_at, grain_at, range_at, iteration_at, loop_at};
+ghost use Rattle.procedure_parser.specs.Reading.{entry_at, value_at, read_at, bound_at, bind_at, update_at, return_at, grain_at, range_at};
+ghost use Rattle.procedure_parser.specs.Reading.{iteration_at, loop_at};
 
 use crate::arguments::{arguments, expressions, whole};
 use program_tree::Way;

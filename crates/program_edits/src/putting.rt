@@ -53,8 +53,12 @@ fn put(
     again: bool,
     procedure: Procedure,
 ) -> Result<(), AllocError>
-    ensures tree { IfOk result (λ _. map decl declarations.new.items ≡ put_at (spot_of again (last_place 0 None (string_bytes procedure.name) (map decl declarations.old.items))) (plain.procedure (proc procedure)) (map decl declarations.old.items)) }
-    ensures lines { IfOk result (λ _. map lined declarations.new.items ≡ put_at (spot_of again (last_place 0 None (string_bytes procedure.name) (map decl declarations.old.items))) (lined (variant.Procedure procedure)) (map lined declarations.old.items)) }
+    ensures tree { IfOk result (λ _. map decl declarations.new.items
+        ≡ put_at (spot_of again (last_place 0 None (string_bytes procedure.name) (map decl declarations.old.items)))
+        (plain.procedure (proc procedure)) (map decl declarations.old.items)) }
+    ensures lines { IfOk result (λ _. map lined declarations.new.items
+        ≡ put_at (spot_of again (last_place 0 None (string_bytes procedure.name) (map decl declarations.old.items)))
+        (lined (variant.Procedure procedure)) (map lined declarations.old.items)) }
 {
     let place = last_place(declarations, &procedure.name);
     let declaration = Declaration::Procedure(procedure);
@@ -71,7 +75,9 @@ fn put(
     Ok(())
 }
 
-/// The program with the procedures of a source tree put in: each in the place of the one of its name, a new name last, a second one of a name behind the first. Each keeps the lines of its own text, and has at most 1,048,576 statements. Want of memory is the only error.
+/// The program with the procedures of a source tree put in: each in the place of the one of its name, a new name last, a second
+/// one of a name behind the first. Each keeps the lines of its own text, and has at most 1,048,576 statements. Want of memory
+/// is the only error.
 pub fn with_procedures(
     alloc: Global,
     program: &Program,

@@ -1,5 +1,6 @@
 -- The one printed form of a program: its tokens. Each function gives the tokens of a part, and then the rest.
-use Rattle.std.specs.Prelude.{ℕ, suc, ◌*◌, ℤ, pos, negsuc, List, [], ◌∷◌, map, take, Bool, true, false, Option, Some, None, unwrap_or, slice_get, codes, string_bytes}
+use Rattle.std.specs.Prelude.{ℕ, suc, ◌*◌, ℤ, pos, negsuc, List, [], ◌∷◌, map, take, Bool, true, false, Option, Some, None, unwrap_or}
+use Rattle.std.specs.Prelude.{slice_get, codes, string_bytes}
 use Rattle.monoid_laws.specs.declared.Kind.{Kind}
 use Rattle.monoid_laws.specs.declared.Kind.TheVariants as kind
 use Rattle.monoid_laws.specs.declared.Table.{Table}
@@ -8,7 +9,8 @@ use Rattle.program_tree.specs.declared.Operator.TheVariants.{Add, Subtract, Mult
 use Rattle.program_tree.specs.declared.Procedure.{Procedure}
 use Rattle.program_tree.specs.declared.Way.{Way}
 use Rattle.program_tree.specs.declared.Way.TheVariants as way
-use Rattle.program_tree.specs.Plain.{Name, Term, number, name, cell, has, limit, sum, negate, binary, Deed, bind, enter, read, sync, update, choose, loop, give, Body, end, step, Proc, Decl, reducer, procedure, Tree}
+use Rattle.program_tree.specs.Plain.{Name, Term, number, name, cell, has, limit, sum, negate, binary, Deed, bind, enter, read, sync}
+use Rattle.program_tree.specs.Plain.{update, choose, loop, give, Body, end, step, Proc, Decl, reducer, procedure, Tree}
 use Rattle.token_scanner.specs.declared.token.Mark.{Mark}
 use Rattle.token_scanner.specs.declared.token.Mark.TheVariants as mark
 use Rattle.token_scanner.specs.Words.{Word, Sign, Number}
@@ -76,7 +78,8 @@ bound_words names (Some x) us = word.Name (variable names x) ∷ Sign mark.Assig
 
 -- behind a loop's variable
 abbrev pub range_words : List Name → Term → Term → ℕ → List Word → List Word
-range_words names low high grain us = term_words names low (Sign mark.Range ∷ term_words names high (Sign mark.Grain ∷ Number (pos grain) ∷ Sign mark.Colon ∷ us))
+range_words names low high grain us = term_words names low
+    (Sign mark.Range ∷ term_words names high (Sign mark.Grain ∷ Number (pos grain) ∷ Sign mark.Colon ∷ us))
 
 -- what stands before the procedure that a loop enters
 abbrev pub loop_words : List Name → ℕ → Term → Term → ℕ → List Word → List Word
@@ -122,7 +125,8 @@ numbers_words [] us = us
 numbers_words (n ∷ ns) us = Number (pos n) ∷ more_numbers ns us
 
 abbrev pub table_words : Table → List Word → List Word
-table_words t us = word.Name (codes "table") ∷ Number (pos t.size) ∷ word.Name (codes "unit") ∷ Number (pos t.unit) ∷ Sign mark.OpenBracket ∷ numbers_words (take (t.size * t.size) t.cells) (Sign mark.CloseBracket ∷ us)
+table_words t us = word.Name (codes "table") ∷ Number (pos t.size) ∷ word.Name (codes "unit") ∷ Number
+    (pos t.unit) ∷ Sign mark.OpenBracket ∷ numbers_words (take (t.size * t.size) t.cells) (Sign mark.CloseBracket ∷ us)
 
 abbrev pub kind_words : Kind → List Word → List Word
 kind_words kind.Add us = word.Name (codes "add") ∷ us

@@ -100,7 +100,8 @@ fn put_if(
     otherwise: usize,
 ) -> Result<(), AllocError>
     ensures { OnOk result (GrowsByBlock text.old text.new
-        (deed_words (names_of procedure.now) (choose (term condition.now) (block procedure.now.blocks.items levels then) (block procedure.now.blocks.items levels otherwise)))) }
+        (deed_words (names_of procedure.now) (choose (term condition.now) (block procedure.now.blocks.items levels then)
+        (block procedure.now.blocks.items levels otherwise)))) }
 {
     put_test(text, procedure, condition)?;
     put_block(text, procedure, levels, then)?;

@@ -8,7 +8,8 @@ ghost use Rattle.token_scanner.specs.Words.{Word, Sign, Number};
 ghost use Rattle.token_scanner.specs.Words as word;
 ghost use Rattle.token_scanner.specs.declared.token.Mark.TheVariants as mark;
 ghost use Rattle.token_spelling.specs.Spelling.{Puts, Grows, GrowsByBlock};
-ghost use Rattle.program_printer.specs.Printing.{more_numbers, numbers_words, table_words, kind_words, signed_words, more_signed_words, initial_words, more_names, names_words, memo_words, decl_words, names_of, opening_words};
+ghost use Rattle.program_printer.specs.Printing.{more_numbers, numbers_words, table_words, kind_words, signed_words, more_signed_words};
+ghost use Rattle.program_printer.specs.Printing.{initial_words, more_names, names_words, memo_words, decl_words, names_of, opening_words};
 
 use crate::block::{put_block, put_close};
 use monoid_laws::{Kind, Table};

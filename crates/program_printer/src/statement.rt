@@ -7,7 +7,8 @@ ghost use Rattle.token_scanner.specs.Words.{Word, Sign, Number};
 ghost use Rattle.token_scanner.specs.Words as word;
 ghost use Rattle.token_scanner.specs.declared.token.Mark.TheVariants as mark;
 ghost use Rattle.token_spelling.specs.Spelling.{Puts, Grows};
-ghost use Rattle.program_printer.specs.Printing.{variable, term_words, terms_words, more_terms, entry_words, bound_words, way_mark, deed_words, names_of, range_words, loop_words};
+ghost use Rattle.program_printer.specs.Printing.{variable, term_words, terms_words, more_terms, entry_words, bound_words, way_mark};
+ghost use Rattle.program_printer.specs.Printing.{deed_words, names_of, range_words, loop_words};
 
 use crate::expression::{put_expression, variable};
 use program_tree::{Expr, Procedure, Way};

@@ -11,7 +11,8 @@ use Rattle.program_tree.specs.declared.Reducer.{Reducer}
 use Rattle.program_tree.specs.declared.Declaration.{Declaration}
 use Rattle.program_tree.specs.declared.Declaration.TheVariants as d
 use Rattle.program_tree.specs.declared.Program.{Program}
-use Rattle.program_tree.specs.Plain.{Term, number, name, cell, has, limit, sum, negate, binary, Deed, bind, enter, read, sync, update, choose, loop, give, Body, end, step, Proc, Red, Decl, reducer, procedure, Tree}
+use Rattle.program_tree.specs.Plain.{Term, number, name, cell, has, limit, sum, negate, binary, Deed, bind, enter, read, sync, update}
+use Rattle.program_tree.specs.Plain.{choose, loop, give, Body, end, step, Proc, Red, Decl, reducer, procedure, Tree}
 
 abbrev pub term : Expr → Term
 term (e.Number n) = number n

@@ -131,7 +131,8 @@ fn add_fixed(
     Ok(())
 }
 
-/// Combines the element that the numbers name on the right of a value. An error is BadElement, where a table has no such element, or NoMemory; the value is then worth the same as before.
+/// Combines the element that the numbers name on the right of a value. An error is BadElement, where a table has no such
+/// element, or NoMemory; the value is then worth the same as before.
 pub fn add_element(
     alloc: Global,
     kind: &Kind,

@@ -1,5 +1,6 @@
 -- Blocks: records of one procedure whose arguments go up by one in one place, with one record that has what theirs have together.
-use Rattle.std.specs.Prelude.{◌≡◌, ◌⊎◌, ◌≤◌, ◌<◌, ◌+◌, ◌*◌, ℕ, suc, nat_eq, nat_le, ℤ, pos, ◌+ℤ◌, Bool, true, false, not, List, [], ◌∷◌, Option, Some, None, map, length, slice_get, slice_set}
+use Rattle.std.specs.Prelude.{◌≡◌, ◌⊎◌, ◌≤◌, ◌<◌, ◌+◌, ◌*◌, ℕ, suc, nat_eq, nat_le, ℤ, pos, ◌+ℤ◌, Bool, true, false, not, List, [], ◌∷◌}
+use Rattle.std.specs.Prelude.{Option, Some, None, map, length, slice_get, slice_set}
 use Rattle.std.specs.List.{list_any}
 use Rattle.evaluation.specs.declared.note.Note.{Note}
 use Rattle.linked_program.specs.Checked.{PlainChecked}
@@ -106,7 +107,8 @@ AreHoused homes blocks = (n : ℕ) (b : PlainBlock) → live_at blocks n ≡ Som
 -- what blocks have read lies in the hull of their number
 abbrev pub AreHulled : List (List Span) → List (Option PlainBlock) → Type 0
 AreHulled hulls blocks =
-    (i n : ℕ) (h : List Span) (b : PlainBlock) → slice_get hulls i ≡ Some h → i * 64 ≤ n → n < i * 64 + 64 → live_at blocks n ≡ Some b → every (is_covered_by h) b.sum.reads ≡ true
+    (i n : ℕ) (h : List Span) (b : PlainBlock) → slice_get hulls i ≡ Some h → i * 64 ≤ n → n < i * 64 + 64 → live_at blocks n ≡ Some b
+    → every (is_covered_by h) b.sum.reads ≡ true
 
 -- there is a hull, and none of the changes lies in it
 abbrev pub is_hull_apart : List (ℕ × ℤ) → Option (List Span) → Bool

@@ -91,12 +91,14 @@ HaveValues kinds rs = All (λ r. AreValuesFrom 0 kinds r.contribution) rs
 -- the record of a key by its name, where there is such a procedure and the record is valid at that depth
 abbrev pub looked_up : PlainChecked → Tables → ℕ → List PlainRecord → Key → Option PlainRecord
 looked_up program tables depth records key =
-    cond (is_there (procedure_of (tree program.program) key.0)) (valid_at program.revisions tables depth records (number_of (tree program.program) key.0) key.1) None
+    cond (is_there (procedure_of (tree program.program) key.0))
+    (valid_at program.revisions tables depth records (number_of (tree program.program) key.0) key.1) None
 
 -- what is found for a key stands for what the definitions find for it
 abbrev pub FindsNamed : PlainChecked → Tables → ℕ → List PlainRecord → Key → Option PlainRecord → Type 0
 FindsNamed program tables depth records key found =
-    (ks : List Kept) → AreKept program ks records → columned_of tables ≡ program.tables → IsFound program (if_valid (revised_of program) tables depth (record_of ks key.0 key.1)) found
+    (ks : List Kept) → AreKept program ks records → columned_of tables ≡ program.tables
+    → IsFound program (if_valid (revised_of program) tables depth (record_of ks key.0 key.1)) found
 
 -- the new records stand for those that the definitions have after they put in what the records made stand for
 abbrev pub CommitsNamed : PlainChecked → List PlainRecord → List PlainRecord → List PlainRecord → Type 0
@@ -106,4 +108,5 @@ CommitsNamed program old made new = (ks js : List Kept) → AreKept program ks o
 abbrev pub LooksUp : Revised → List Columned → List Kind → Tables → ℕ → Name → List ℤ → Type 0
 LooksUp program names kinds tables depth f args =
     (ks : List Kept) (rs : List PlainRecord) → AreRecords program.tree names kinds ks rs → IsInOrder program.tree program.revisions → columned_of tables ≡ names
-    → IsAnswer program.tree names kinds (if_valid program tables depth (record_of ks f args)) (valid_at program.revisions tables depth rs (number_of program.tree f) args)
+    → IsAnswer program.tree names kinds (if_valid program tables depth (record_of ks f args))
+    (valid_at program.revisions tables depth rs (number_of program.tree f) args)

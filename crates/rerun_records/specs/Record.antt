@@ -40,7 +40,16 @@ same_instance r s = is_of r.procedure r.arguments s
 -- the record of these parts
 abbrev pub made_of : ℕ → List ℤ → ℤ → List (ℕ × Val) → List Note → List (ℕ × ℕ) → ℕ → PlainRecord
 made_of procedure arguments value contribution reads entered height =
-    record { procedure = procedure; arguments = arguments; value = value; contribution = map touched contribution; reads = reads; entered = entered; height = height; doubted = rows [] }
+    record {
+      procedure = procedure;
+      arguments = arguments;
+      value = value;
+      contribution = map touched contribution;
+      reads = reads;
+      entered = entered;
+      height = height;
+      doubted = rows [];
+    }
 
 -- the record with nothing in doubt
 abbrev pub settled : PlainRecord → PlainRecord

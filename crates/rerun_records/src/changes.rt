@@ -1,5 +1,6 @@
 // Rows that were changed, and since when records stand.
-ghost use Rattle.std.specs.Prelude.{◌≡◌, Some, ◌<◌, ◌≤◌, ◌++◌, ◌∷◌, [], true, false, length, map, option_copied, replicate, slice_get, slice_set, vec_capacity, cond};
+ghost use Rattle.std.specs.Prelude.{◌≡◌, Some, ◌<◌, ◌≤◌, ◌++◌, ◌∷◌, [], true, false, length, map, option_copied, replicate, slice_get};
+ghost use Rattle.std.specs.Prelude.{slice_set, vec_capacity, cond};
 ghost use Rattle.std.specs.List.{list_any};
 ghost use Rattle.meaning.specs.Every.{every};
 ghost use Rattle.evaluation.specs.Short.{note_of};

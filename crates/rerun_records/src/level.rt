@@ -1,5 +1,6 @@
 // Blocks of one width, and which block each record is part of.
-ghost use Rattle.std.specs.Prelude.{◌≡◌, ◌⊎◌, ◌+◌, ◌*◌, ℕ, List, [], Option, Some, None, IfSome, IfOk, OnOk, option_copied, true, false, map, length, slice_get, slice_set, ◌<◌, ◌≤◌};
+ghost use Rattle.std.specs.Prelude.{◌≡◌, ◌⊎◌, ◌+◌, ◌*◌, ℕ, List, [], Option, Some, None, IfSome, IfOk, OnOk, option_copied, true, false};
+ghost use Rattle.std.specs.Prelude.{map, length, slice_get, slice_set, ◌<◌, ◌≤◌};
 ghost use Rattle.meaning.specs.Every.{every};
 ghost use Rattle.rerun_records.specs.declared.spans.Span.{Span};
 ghost use Rattle.rerun_records.specs.Spans.{is_covered_by};

@@ -40,7 +40,17 @@ impl Model for Record {
 
     ghost Value = { PlainRecord };
 
-    ghost view = { λ r. record { procedure = r.procedure; arguments = r.arguments.items; value = r.value; contribution = map touched r.contribution.items; reads = r.reads; entered = entered_in r.nested; height = height_in r.nested; doubted = rows [] } };
+    ghost view = { λ r. record {
+      procedure = r.procedure;
+      arguments = r.arguments.items;
+      value = r.value;
+      contribution = map touched r.contribution.items;
+      reads = r.reads;
+      entered =
+          entered_in r.nested;
+      height = height_in r.nested;
+      doubted = rows [];
+    } };
 }
 
 impl Record {

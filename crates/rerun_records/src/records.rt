@@ -1,5 +1,6 @@
 //! The records of a session.
-ghost use Rattle.std.specs.Prelude.{◌≡◌, ◌↔◌, IsTrue, ℕ, List, [], length, ◌<◌, ◌≤◌, ◌+◌, Some, None, OnOk, OnErr, IfSome, IfNone, option_copied, map, true, slice_get, vec_capacity};
+ghost use Rattle.std.specs.Prelude.{◌≡◌, ◌↔◌, IsTrue, ℕ, List, [], length, ◌<◌, ◌≤◌, ◌+◌, Some, None, OnOk, OnErr, IfSome, IfNone};
+ghost use Rattle.std.specs.Prelude.{option_copied, map, true, slice_get, vec_capacity};
 ghost use Rattle.std.specs.List.{find};
 ghost use Rattle.std.specs.Cmp.Rules.{comparing, hashing};
 ghost use Rattle.indexmap.specs.IndexSet.{spare};
@@ -58,7 +59,8 @@ impl Model for Records {
 
     ghost view = { λ r. standing r.changes.items r.moments.items r.by_instance.keys };
 
-    ghost invariant = { λ r. AreStanding r.changes.items r.moments.items r.by_instance.keys × BlocksFit (standing r.changes.items r.moments.items r.by_instance.keys) r.blocks };
+    ghost invariant = { λ r. AreStanding r.changes.items r.moments.items r.by_instance.keys
+        × BlocksFit (standing r.changes.items r.moments.items r.by_instance.keys) r.blocks };
 }
 
 // An instance that a record is looked up for.

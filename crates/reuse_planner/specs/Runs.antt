@@ -26,7 +26,8 @@ module _ (s : PlainSession) (workers : ℕ) (steps : List Step) where
     pub marks : List Bool
     pub placed : AreMarks marks (map run_step steps)
     pub counted : marked marks ≡ inlined
-    pub comes : (k : AreSoundFor s.checked s.records) → IsEndBy s.checked (end_of (led (setting_by s.checked s.tables s.records k) (length s.kits.kits) (taken_with marks))) given
+    pub comes : (k : AreSoundFor s.checked s.records)
+        → IsEndBy s.checked (end_of (led (setting_by s.checked s.tables s.records k) (length s.kits.kits) (taken_with marks))) given
 
   -- a run that memory was refused to ends anywhere; of its own pushes alone were some done as inlines, and of one that was not begun none
   abbrev pub IsLed : ℕ → RunAnswer → Type 0

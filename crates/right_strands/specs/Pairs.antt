@@ -29,7 +29,8 @@ pub record PlainPair : Type 0 where
 pub record IsStill (old new : PlainPair) : Type 0 where
   pub left : new.left ≡ with_worths new.left.layer.worths old.left
   pub right : new.right ≡ with_worths new.right.layer.worths old.right
-  pub product : operate_all old.left.layer.kinds new.left.layer.worths new.right.layer.worths ≡ operate_all old.left.layer.kinds old.left.layer.worths old.right.layer.worths
+  pub product : operate_all old.left.layer.kinds new.left.layer.worths new.right.layer.worths
+      ≡ operate_all old.left.layer.kinds old.left.layer.worths old.right.layer.worths
 
 abbrev pub is_over : Rest → Bool
 is_over rest.Ended = true
@@ -59,7 +60,9 @@ abbrev pub StopsBroken : PlainStrand → Type 0
 StopsBroken s = (f : Fault) × (s.phase ≡ Broken f)
 
 module _ (setting : Setting) where
-  -- but for the reducers' values, of which only the products are claimed, both are right; the left one is over or has a fault, the right one waits at a sync or has a fault, with one layer; and where no fault is there, the left one is over with the child behind which the right one begins
+  -- but for the reducers' values, of which only the products are claimed, both are right; the left one is over or has a fault,
+  -- the right one waits at a sync or has a fault, with one layer; and where no fault is there, the left one is over with the
+  -- child behind which the right one begins
   pub record IsPair (l r : PlainStrand) : Type 0 where
     pub left_worths : List Worth
     pub right_worths : List Worth
@@ -72,7 +75,8 @@ module _ (setting : Setting) where
     pub over : (pause_of setting.codes l ≡ paused.Returned) ⊎ StopsBroken l
     pub waits : (pause_of setting.codes r ≡ paused.AtSync) ⊎ StopsBroken r
     pub behind : (v : ℤ) → l.phase ≡ Leaving v → same_name (place_of r.start r.path) l.path ≡ true
-    pub free : (v : ℤ) → l.phase ≡ Leaving v → pause_of setting.codes r ≡ paused.AtSync → DecidesWaiting setting (with_worths left_worths l) (with_worths right_worths r) true
+    pub free : (v : ℤ) → l.phase ≡ Leaving v → pause_of setting.codes r ≡ paused.AtSync
+        → DecidesWaiting setting (with_worths left_worths l) (with_worths right_worths r) true
 
 -- what the type of a pair keeps, whichever sound records by name there are
 pub record IsPairFrom (setting : Setting) (start : Start) (l r : PlainStrand) : Type 0 where

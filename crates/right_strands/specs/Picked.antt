@@ -17,7 +17,8 @@ use Rattle.right_strands.specs.Remembering.{Remembers}
 abbrev pub unpicked : Setting
 unpicked = record { names = []; program = nothing; codes = []; kinds = []; tables = []; records = []; memory = recording_from [] }
 
--- the program, the tables and the records are the run's; program and tables were checked against each other, the records are in step with the tables and stand for sound ones, and whichever these are, all are what the theory asks for
+-- the program, the tables and the records are the run's; program and tables were checked against each other, the records are in
+-- step with the tables and stand for sound ones, and whichever these are, all are what the theory asks for
 pub record IsSet (setting : Setting) (p : PlainChecked) (e : Edited) (r : List PlainRecord) : Type 0 where
   pub same : setting_with p e.tables [] r ≡ setting
   pub names : p.tables ≡ columned_of e.tables

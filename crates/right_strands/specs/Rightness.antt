@@ -1,4 +1,5 @@
--- When a strand or a continuation of numbers is right for a run: by itself, whatever other strands there are, and whichever sound records by name the run's records stand for.
+-- When a strand or a continuation of numbers is right for a run: by itself, whatever other strands there are, and whichever
+-- sound records by name the run's records stand for.
 use Rattle.std.specs.Prelude.{◌≡◌, ◌⊎◌, pos, Bool, false, List, ◌∷◌, ◌++◌, length, map, IsPermutation}
 use Rattle.meaning.specs.Outcome.{Accumulators, Log}
 use Rattle.meaning.specs.Records.{Key}

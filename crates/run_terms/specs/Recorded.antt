@@ -13,8 +13,10 @@ use Rattle.numbered_runs.specs.Sound.{AreSoundFor, setting_by}
 abbrev pub tally_of : ℕ → ℕ → ℕ → List PlainRecord → PlainTally
 tally_of executed reused unrecorded made = record { opened = []; made = made; executed = executed; reused = reused; unrecorded = unrecorded }
 
--- where the run has finished, it has counted the needed instances, whichever sound records its records stand for, and its new records are sound and hold now; else it leaves none
+-- where the run has finished, it has counted the needed instances, whichever sound records its records stand for, and its new
+-- records are sound and hold now; else it leaves none
 abbrev pub HasRecordedBy : PlainChecked → Edited → List PlainRecord → RunAnswer → List PlainRecord → Type 0
 HasRecordedBy program tables records (answer.Finished v values n m k) made =
-    (s : AreSoundFor program records) → HasCounted (setting_by program tables records s) (tally_of n m k made) × HaveNews (setting_by program tables records s) (tally_of n m k made)
+    (s : AreSoundFor program records) → HasCounted (setting_by program tables records s) (tally_of n m k made)
+    × HaveNews (setting_by program tables records s) (tally_of n m k made)
 HasRecordedBy program tables records _ made = made ≡ []

@@ -1,4 +1,5 @@
--- Some step is always there, until a run has come to its end: a worker that holds a strand goes on with it, and where no strand is held two neighbours may be folded.
+-- Some step is always there, until a run has come to its end: a worker that holds a strand goes on with it, and where no strand
+-- is held two neighbours may be folded.
 use Rattle.std.specs.Prelude.{true, false, ◌≡◌, ◌⊎◌, ℕ, List, Some}
 use Rattle.meaning.specs.Tables.{Tables}
 use Rattle.meaning.specs.Outcome.{Place}
@@ -37,11 +38,13 @@ module _ (program : Revised) (tables : Tables) (memory : Memory) where
 
   -- after any steps a worker that holds a strand goes on with it
   abbrev pub HoldersGoOn : Type 0
-  HoldersGoOn = (kits : ℕ) (es : List RunStep) (w : ℕ) → let s = path program tables memory (first_state program.tree kits) es in is_idle w s.pieces ≡ false → GoesOn w s
+  HoldersGoOn = (kits : ℕ) (es : List RunStep) (w : ℕ)
+      → let s = path program tables memory (first_state program.tree kits) es in is_idle w s.pieces ≡ false → GoesOn w s
 
   -- after any steps, where no strand is held, the run has come to its end or each worker may fold
   abbrev pub LaidRunsGoOn : Type 0
-  LaidRunsGoOn = (kits : ℕ) (es : List RunStep) (w : ℕ) → let s = path program tables memory (first_state program.tree kits) es in AllLaid s → HasEnded s ⊎ Folds w s
+  LaidRunsGoOn = (kits : ℕ) (es : List RunStep) (w : ℕ)
+      → let s = path program tables memory (first_state program.tree kits) es in AllLaid s → HasEnded s ⊎ Folds w s
 
   -- a worker that holds a strand goes on with it
   abbrev pub SomeHolderGoesOn : RunState → Type 0
@@ -49,4 +52,5 @@ module _ (program : Revised) (tables : Tables) (memory : Memory) where
 
   -- after any steps, whichever worker may fold: the run has come to its end, a holder goes on, or that worker folds
   abbrev pub SomeStepIsThere : Type 0
-  SomeStepIsThere = (kits : ℕ) (es : List RunStep) (w : ℕ) → let s = path program tables memory (first_state program.tree kits) es in HasEnded s ⊎ SomeHolderGoesOn s ⊎ Folds w s
+  SomeStepIsThere = (kits : ℕ) (es : List RunStep) (w : ℕ)
+      → let s = path program tables memory (first_state program.tree kits) es in HasEnded s ⊎ SomeHolderGoesOn s ⊎ Folds w s

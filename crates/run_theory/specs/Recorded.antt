@@ -9,5 +9,7 @@ use Rattle.strand_theory.specs.Recorded.{AllRecordedBut}
 
 -- where a run has come to its end without a fault, its new records are those of the executed instances, but for as many as it counts as unrecorded
 abbrev pub PathsRecordExecutions : Revised → Tables → Memory → Type 0
-PathsRecordExecutions program tables memory = (kits : ℕ) (es : List RunStep) (p : Piece) (v : ℤ) (acc : Accumulators) → let s = path program tables memory (first_state program.tree kits) es in
-    s.pieces ≡ p ∷ [] → end_of s ≡ Some (Finished v acc) → AllRecordedBut p.tally.unrecorded p.tally.made (executed program.tree (needed program tables memory.records))
+PathsRecordExecutions program tables memory = (kits : ℕ) (es : List RunStep) (p : Piece) (v : ℤ) (acc : Accumulators)
+    → let s = path program tables memory (first_state program.tree kits) es in
+    s.pieces ≡ p ∷ [] → end_of s ≡ Some (Finished v acc)
+    → AllRecordedBut p.tally.unrecorded p.tally.made (executed program.tree (needed program tables memory.records))

@@ -3,7 +3,8 @@ use Rattle.std.specs.Prelude.{◌≡◌, ◌⊎◌, ℕ, suc, Bool, true, false,
 use Rattle.program_tree.specs.Plain.{Tree}
 use Rattle.meaning.specs.Tables.{Tables}
 use Rattle.meaning.specs.Outcome.{Accumulators, Fault, Place}
-use Rattle.meaning.specs.SmallStep.{Start, root, behind, is_entry, Frame, Phase, entering, running, spawning, returning, leaving, broken, Parent, Lookup, Continuation, place_of_continuation}
+use Rattle.meaning.specs.SmallStep.{Start, root, behind, is_entry, Frame, Phase, entering, running, spawning, returning, leaving, broken}
+use Rattle.meaning.specs.SmallStep.{Parent, Lookup, Continuation, place_of_continuation}
 use Rattle.meaning.specs.LayeredStrand.{LayeredStrand}
 use Rattle.meaning.specs.RestOfRun.{lowest}
 use Rattle.meaning.specs.Strands.{State, Held, Ended, Stalled}
@@ -94,7 +95,8 @@ IsLaid strands.Faulted s ks = IsFaulted s ks
 IsLaid strands.Finished s ks = IsFinished s ks
 
 module _ (program : Tree) (tables : Tables) (sight : Accumulators) (lookup : Lookup) where
-  -- a piece that goes on to the next one's place. Its layers but the bottom one are those of the instances that it entered: the flags of its instances, and of those behind it, end with the ones that were there as it began
+  -- a piece that goes on to the next one's place. Its layers but the bottom one are those of the instances that it entered: the
+  -- flags of its instances, and of those behind it, end with the ones that were there as it began
   pub record IsWhole (p : Piece) (found later : List Bool) (e : Place) : Type 0 where
     pub right : IsRight program tables sight lookup p.strand
     pub links : Links (lowest p.strand.frame p.strand.under) p.deque e

@@ -47,7 +47,8 @@ module _ (program : Revised) (tables : Tables) (memory : Memory) where
 
   -- whatever the steps are, a run that comes to its end answers the elision from scratch
   abbrev pub PathsAnswer : Type 0
-  PathsAnswer = (kits : ℕ) (es : List RunStep) (a : Answer) → end_of (path program tables memory (first_state program.tree kits) es) ≡ Some a → a ≡ from_scratch program.tree tables
+  PathsAnswer = (kits : ℕ) (es : List RunStep) (a : Answer)
+      → end_of (path program tables memory (first_state program.tree kits) es) ≡ Some a → a ≡ from_scratch program.tree tables
 
   -- ---- kits
 
@@ -59,7 +60,9 @@ module _ (program : Revised) (tables : Tables) (memory : Memory) where
 
   -- at the end all kits are free but the one that has the answer
   abbrev pub EndsFreeKits : Type 0
-  EndsFreeKits = (kits : ℕ) (es : List RunStep) (a : Answer) → 0 < kits → end_of (path program tables memory (first_state program.tree kits) es) ≡ Some a → suc (path program tables memory (first_state program.tree kits) es).kits ≡ kits
+  EndsFreeKits = (kits : ℕ) (es : List RunStep) (a : Answer) → 0 < kits
+      → end_of (path program tables memory (first_state program.tree kits) es) ≡ Some a
+      → suc (path program tables memory (first_state program.tree kits) es).kits ≡ kits
 
   -- ---- history
 
@@ -70,27 +73,36 @@ module _ (program : Revised) (tables : Tables) (memory : Memory) where
 
   -- neighbours of which the left one is over or has a fault and the right one waits are folded by any worker that holds nothing
   abbrev pub NeighboursFold : Type 0
-  NeighboursFold = (kits : ℕ) (es : List RunStep) (before later : List Piece) (l r : Piece) (w : ℕ) → let s = path program tables memory (first_state program.tree kits) es in
-      s.pieces ≡ before ++ l ∷ r ∷ later → done l.state ≡ true → waits r.state ≡ true → is_idle w s.pieces ≡ true → (t : RunState) × (after_step program tables memory s (fold w (place_of r)) ≡ Some t)
+  NeighboursFold = (kits : ℕ) (es : List RunStep) (before later : List Piece) (l r : Piece) (w : ℕ)
+      → let s = path program tables memory (first_state program.tree kits) es in
+      s.pieces ≡ before ++ l ∷ r ∷ later → done l.state ≡ true → waits r.state ≡ true → is_idle w s.pieces ≡ true
+      → (t : RunState) × (after_step program tables memory s (fold w (place_of r)) ≡ Some t)
 
   -- ---- new records
 
   -- each record that the strands have made is sound, holds now, and fits at the least depth
   abbrev pub PathsMakeNews : Type 0
-  PathsMakeNews = (kits : ℕ) (es : List RunStep) → Every (λ p. Every (IsNewRecord program tables) p.tally.made) (path program tables memory (first_state program.tree kits) es).pieces
+  PathsMakeNews = (kits : ℕ) (es : List RunStep)
+      → Every (λ p. Every (IsNewRecord program tables) p.tally.made) (path program tables memory (first_state program.tree kits) es).pieces
 
   -- each strand without a fault owns its open layers: they are those of instances on the way to its topmost one
   abbrev pub PathsOwnLayers : Type 0
-  PathsOwnLayers = (kits : ℕ) (es : List RunStep) → Every (λ p. Unbroken p.strand.phase (OwnsNow program tables (valid_record program tables memory.records) p.strand p.tally)) (path program tables memory (first_state program.tree kits) es).pieces
+  PathsOwnLayers = (kits : ℕ) (es : List RunStep)
+      → Every (λ p. Unbroken p.strand.phase (OwnsNow program tables (valid_record program tables memory.records) p.strand p.tally))
+      (path program tables memory (first_state program.tree kits) es).pieces
 
   -- where a run has come to its end without a fault, its tally has counted the needed instances
   abbrev pub PathsCountNeeded : Type 0
-  PathsCountNeeded = (kits : ℕ) (es : List RunStep) (p : Piece) (v : ℤ) (acc : Accumulators) → let s = path program tables memory (first_state program.tree kits) es in s.pieces ≡ p ∷ [] → end_of s ≡ Some (Finished v acc) → CountsNeeded program tables memory.records p.tally
+  PathsCountNeeded = (kits : ℕ) (es : List RunStep) (p : Piece) (v : ℤ) (acc : Accumulators)
+      → let s = path program tables memory (first_state program.tree kits) es in s.pieces ≡ p ∷ [] → end_of s ≡ Some (Finished v acc)
+      → CountsNeeded program tables memory.records p.tally
 
   -- and where it left none of them unrecorded, with its new records put in nothing is executed
   abbrev pub PathsLeaveNothing : Type 0
-  PathsLeaveNothing = (kits : ℕ) (es : List RunStep) (p : Piece) (v : ℤ) (acc : Accumulators) → let s = path program tables memory (first_state program.tree kits) es in
-      s.pieces ≡ p ∷ [] → end_of s ≡ Some (Finished v acc) → p.tally.unrecorded ≡ 0 → executed program.tree (needed program tables (committed memory.records p.tally.made)) ≡ []
+  PathsLeaveNothing = (kits : ℕ) (es : List RunStep) (p : Piece) (v : ℤ) (acc : Accumulators)
+      → let s = path program tables memory (first_state program.tree kits) es in
+      s.pieces ≡ p ∷ [] → end_of s ≡ Some (Finished v acc) → p.tally.unrecorded ≡ 0
+      → executed program.tree (needed program tables (committed memory.records p.tally.made)) ≡ []
 
   -- ---- what is left to do
 
@@ -102,12 +114,15 @@ module _ (program : Revised) (tables : Tables) (memory : Memory) where
 
   -- after any steps, whoever has taken them, it is the elision from scratch
   abbrev pub PathsKeepRest : Type 0
-  PathsKeepRest = (kits : ℕ) (es : List RunStep) → rest_of_run program.tree tables (path program tables memory (first_state program.tree kits) es) ≡ from_scratch program.tree tables
+  PathsKeepRest = (kits : ℕ) (es : List RunStep)
+      → rest_of_run program.tree tables (path program tables memory (first_state program.tree kits) es) ≡ from_scratch program.tree tables
 
   -- where each strand is over, up to the first that has a fault, what is left is the elision's answer: the values in serial order, or that fault
   abbrev pub OverRunsAnswer : Type 0
-  OverRunsAnswer = (s : RunState) (p : Piece) (ps : List Piece) → IsRightNow s → s.pieces ≡ p ∷ ps → AreOver (p ∷ ps) → rest_of_run program.tree tables s ≡ from_scratch program.tree tables
+  OverRunsAnswer = (s : RunState) (p : Piece) (ps : List Piece) → IsRightNow s → s.pieces ≡ p ∷ ps → AreOver (p ∷ ps)
+      → rest_of_run program.tree tables s ≡ from_scratch program.tree tables
 
   -- where the first strand is at work, and no block that is left of it reads a reducer, and the others are over, up to the first that has a fault
   abbrev pub FrontRunsAnswer : Type 0
-  FrontRunsAnswer = (s : RunState) (p : Piece) (ps : List Piece) → IsRightNow s → s.pieces ≡ p ∷ ps → ReadsNoMore p → AreOver ps → rest_of_run program.tree tables s ≡ from_scratch program.tree tables
+  FrontRunsAnswer = (s : RunState) (p : Piece) (ps : List Piece) → IsRightNow s → s.pieces ≡ p ∷ ps → ReadsNoMore p → AreOver ps
+      → rest_of_run program.tree tables s ≡ from_scratch program.tree tables

@@ -7,7 +7,8 @@ use Rattle.meaning.specs.SmallStep.{is_entry, blocks, running, Step, micro}
 use Rattle.meaning.specs.Layers.{bottom}
 use Rattle.meaning.specs.LayeredStrand.{LayeredStrand}
 use Rattle.meaning.specs.Tallies.{Tally, valid_record}
-use Rattle.meaning.specs.Schedules.{Memory, Piece, RunState, RunStep, Change, work, push, inline, pop, stall, steal, fold, first_state, changed, worked_by, after_step, or_same, path, end_of}
+use Rattle.meaning.specs.Schedules.{Memory, Piece, RunState, RunStep, Change, work, push, inline, pop, stall, steal, fold, first_state}
+use Rattle.meaning.specs.Schedules.{changed, worked_by, after_step, or_same, path, end_of}
 use Rattle.trail_theory.specs.Order.{Every}
 use Rattle.trail_theory.specs.Right.{IsOneLayer}
 use Rattle.trail_theory.specs.OwnLayers.{TopTest, frame_by, by_name}
@@ -47,7 +48,8 @@ module _ (program : Revised) (tables : Tables) (memory : Memory) where
   module _ (test : TopTest) where
     -- the small step, in which an instance that returns has the flag that the test gives it, and a read gives the bottom layer's value
     abbrev pub small_step : ℕ → LayeredStrand → Tally → Step
-    small_step kits s t = micro program.tree tables (valid_record program tables memory.records) (memory.recording && nat_lt 0 kits) (bottom s.layers) s.start (frame_by test s.phase t.opened s.frame) s.phase s.under
+    small_step kits s t = micro program.tree tables (valid_record program tables memory.records) (memory.recording && nat_lt 0 kits)
+        (bottom s.layers) s.start (frame_by test s.phase t.opened s.frame) s.phase s.under
 
     abbrev pub worked_with : ℕ → Piece → Option Change
     worked_with kits p = worked_by program tables memory kits p (unflagged_step (small_step kits p.strand p.tally))
@@ -68,7 +70,9 @@ module _ (program : Revised) (tables : Tables) (memory : Memory) where
 
     -- after any steps, each step is taken without flags just where it is taken with them, and comes to the same, flags aside
     abbrev pub StepsBy : Type 0
-    StepsBy = (kits : ℕ) (es : List RunStep) (e : RunStep) → let s = path program tables memory (first_state program.tree kits) es in step_by (unflagged_run s) e ≡ unflagged_after (after_step program tables memory s e)
+    StepsBy = (kits : ℕ) (es : List RunStep) (e : RunStep)
+        → let s = path program tables memory (first_state program.tree kits) es in step_by (unflagged_run s) e
+        ≡ unflagged_after (after_step program tables memory s e)
 
     -- so a run without flags comes to the same states
     abbrev pub PathsBy : Type 0

@@ -5,7 +5,10 @@ ghost use Rattle.meaning.specs.Records.{Revised};
 ghost use Rattle.meaning.specs.Schedules.{Memory};
 ghost use Rattle.meaning.specs.Tables.{Tables};
 ghost use Rattle.strand_theory.specs.Ready.{IsReady};
-ghost use Rattle.run_theory.specs.Theorems.{StepsStayRight, PathsAreRight, RightRunsAnswer, PathsAnswer, StepsKeepKits, PathsKeepKits, EndsFreeKits, PathsKeepHistory, NeighboursFold, PathsMakeNews, PathsOwnLayers, PathsCountNeeded, PathsLeaveNothing, RestBegins, PathsKeepRest, RestEnds, OverRunsAnswer, FrontRunsAnswer};
+ghost use Rattle.run_theory.specs.Theorems.{StepsStayRight, PathsAreRight, RightRunsAnswer, PathsAnswer, StepsKeepKits, PathsKeepKits};
+ghost use Rattle.run_theory.specs.Theorems.{EndsFreeKits, PathsKeepHistory, NeighboursFold, PathsMakeNews, PathsOwnLayers};
+ghost use Rattle.run_theory.specs.Theorems.{PathsCountNeeded, PathsLeaveNothing, RestBegins, PathsKeepRest, RestEnds, OverRunsAnswer};
+ghost use Rattle.run_theory.specs.Theorems.{FrontRunsAnswer};
 ghost use Rattle.trail_theory.specs.OpenLayers.{IsNumbered};
 ghost use Rattle.run_theory.specs.Recorded.{PathsRecordExecutions};
 ghost use Rattle.run_theory.specs.Progress.{HoldersGoOn, LaidRunsGoOn, SomeStepIsThere};
@@ -60,7 +63,8 @@ pub fn paths_keep_history()
         → IsReady program tables memory → PathsKeepHistory program tables memory }
 {}
 
-/// After any steps, neighbours of which the left one is over or has a fault and the right one waits may be folded by any worker that holds nothing: no name that waits stands against it.
+/// After any steps, neighbours of which the left one is over or has a fault and the right one waits may be folded by any worker
+/// that holds nothing: no name that waits stands against it.
 pub fn neighbours_fold()
     ensures folds { (program : Revised) (tables : Tables) (memory : Memory)
         → IsReady program tables memory → NeighboursFold program tables memory }
@@ -79,14 +83,16 @@ pub fn paths_own_layers()
         → PathsOwnLayers program tables memory }
 {}
 
-/// Where a run has come to its end without a fault, its tally has counted the needed instances: as executed those that no valid record answers, as reused the others.
+/// Where a run has come to its end without a fault, its tally has counted the needed instances: as executed those that no valid
+/// record answers, as reused the others.
 pub fn paths_count_needed()
     ensures counted { (program : Revised) (tables : Tables) (memory : Memory)
         → IsReady program tables memory → IsNumbered program
         → PathsCountNeeded program tables memory }
 {}
 
-/// Where a run has come to its end without a fault, its new records have the names and arguments of the executed instances, each as often, but for as many as its tally counts as unrecorded.
+/// Where a run has come to its end without a fault, its new records have the names and arguments of the executed instances,
+/// each as often, but for as many as its tally counts as unrecorded.
 pub fn paths_record_executions()
     ensures recorded { (program : Revised) (tables : Tables) (memory : Memory)
         → IsReady program tables memory → IsNumbered program
@@ -124,7 +130,8 @@ pub fn over_runs_answer()
         → IsReady program tables memory → OverRunsAnswer program tables memory }
 {}
 
-/// Of a right run whose first strand is at work, with no reducer to read in what is left of it, and whose other strands are over, up to the first that has a fault, the elision's answer from scratch is left.
+/// Of a right run whose first strand is at work, with no reducer to read in what is left of it, and whose other strands are
+/// over, up to the first that has a fault, the elision's answer from scratch is left.
 pub fn front_runs_answer()
     ensures answer { (program : Revised) (tables : Tables) (memory : Memory)
         → IsReady program tables memory → FrontRunsAnswer program tables memory }
@@ -142,7 +149,8 @@ pub fn laid_runs_go_on()
         → IsReady program tables memory → LaidRunsGoOn program tables memory }
 {}
 
-/// No run gets stuck: after any steps it has come to its end, or a worker that holds a strand goes on with it, or one that holds nothing folds, whichever that is.
+/// No run gets stuck: after any steps it has come to its end, or a worker that holds a strand goes on with it, or one that
+/// holds nothing folds, whichever that is.
 pub fn some_step_is_there()
     ensures there { (program : Revised) (tables : Tables) (memory : Memory)
         → IsReady program tables memory → SomeStepIsThere program tables memory }
@@ -161,7 +169,8 @@ pub fn paths_read_by_one_layer()
         → PathsReadByOne program tables memory }
 {}
 
-/// A run whose instances carry no flag, and whose layers close where the top one has the name of the instance that returns, or a name as long, takes the same steps and comes to the same states, flags aside, and to the same end.
+/// A run whose instances carry no flag, and whose layers close where the top one has the name of the instance that returns, or
+/// a name as long, takes the same steps and comes to the same states, flags aside, and to the same end.
 pub fn runs_need_no_flags()
     ensures by_name { (program : Revised) (tables : Tables) (memory : Memory)
         → IsReady program tables memory → IsNumbered program → RunsBy program tables memory is_top }

@@ -191,7 +191,8 @@ fn enter_ahead<V: View>(
     requires room { place.index + 1 < 2 ^ 64 }
     requires kinds { machine.old.layer.kinds ≡ setting.program.now.kinds }
     requires running { machine.old.phase ≡ Phase.Running }
-    ensures ahead { GoesAheadBy (lent setting.entry) (λ kit. performed (lent setting.entry) kit place instruction.now.number instruction.now.operation) machine.old machine.new }
+    ensures ahead { GoesAheadBy (lent setting.entry)
+        (λ kit. performed (lent setting.entry) kit place instruction.now.number instruction.now.operation) machine.old machine.new }
 {
     match &instruction.operation {
         Operation::Enter(into, way, callee, arguments) => {
@@ -227,7 +228,9 @@ fn enter_by<V: View>(
     requires room { place.index + 1 < 2 ^ 64 }
     requires kinds { machine.old.layer.kinds ≡ setting.program.now.kinds }
     requires running { machine.old.phase ≡ Phase.Running }
-    ensures ahead { GoesAheadBy (lent setting.entry) (λ kit. called (lent setting.entry) kit statement way into (Work.Block (place_after place)) callee (map plain arguments.now) machine.old.top.slots) machine.old machine.new }
+    ensures ahead { GoesAheadBy (lent setting.entry)
+        (λ kit. called (lent setting.entry) kit statement way into (Work.Block (place_after place)) callee
+        (map plain arguments.now) machine.old.top.slots) machine.old machine.new }
 {
     match way {
         Way::Call => {
@@ -257,7 +260,10 @@ fn enter_plain_ahead<V: View>(
     requires room { place.index + 1 < 2 ^ 64 }
     requires kinds { machine.old.layer.kinds ≡ setting.program.now.kinds }
     requires running { machine.old.phase ≡ Phase.Running }
-    ensures ahead { GoesAhead (lent setting.entry) (evaluated statement (entry_at setting.entry.tables.now.tables machine.old.top.slots (slots_of setting.entry.program.now.codes callee) (map plain arguments.now)) (nested_plain statement Call into (Work.Block (place_after place)) callee)) machine.old machine.new }
+    ensures ahead { GoesAhead (lent setting.entry)
+        (evaluated statement (entry_at setting.entry.tables.now.tables machine.old.top.slots
+        (slots_of setting.entry.program.now.codes callee) (map plain arguments.now))
+        (nested_plain statement Call into (Work.Block (place_after place)) callee)) machine.old machine.new }
 {
     let work = Work::Block(next_of(place));
     match child_ahead(machine, alloc, setting, into, work, callee, arguments, None) {
@@ -316,7 +322,18 @@ fn turn_ahead<V: View>(
     requires more { 0 < share.count }
     requires kinds { machine.old.layer.kinds ≡ setting.program.now.kinds }
     requires running { machine.old.phase ≡ Phase.Running }
-    ensures came { CameBy result (machine.new ≡ machine.old) (GoesAhead (lent setting.entry) (evaluated code.entry.number (entry_at setting.entry.tables.now.tables (turn_slots (record { number = code.entry.number; variable = code.entry.variable; grain = code.entry.grain; callee = code.entry.callee; arguments = code.entry.arguments.now }) site share machine.old) (slots_of setting.entry.program.now.codes code.entry.callee) (map plain code.entry.arguments.now)) (nested_plain code.entry.number Call None (Work.Turns site (later_of share)) code.entry.callee)) machine.old machine.new) }
+    ensures came { CameBy result (machine.new ≡ machine.old)
+        (GoesAhead (lent setting.entry) (evaluated code.entry.number
+        (entry_at setting.entry.tables.now.tables
+        (turn_slots (record {
+          number = code.entry.number;
+          variable = code.entry.variable;
+          grain = code.entry.grain;
+          callee = code.entry.callee;
+          arguments = code.entry.arguments.now;
+        }) site share machine.old)
+        (slots_of setting.entry.program.now.codes code.entry.callee) (map plain code.entry.arguments.now))
+        (nested_plain code.entry.number Call None (Work.Turns site (later_of share)) code.entry.callee)) machine.old machine.new) }
     ensures back { OnBack result (IsBackWith (Work.Turns site (later_of share)) machine.old machine.new) }
 {
     let work = Work::Turns(site, rest_of(site, share));
@@ -350,7 +367,11 @@ fn child_ahead<V: View>(
     requires fits { WorkFits work }
     requires kinds { machine.old.layer.kinds ≡ setting.program.now.kinds }
     requires running { machine.old.phase ≡ Phase.Running }
-    ensures came { CameBy result (machine.new ≡ machine.old) ((statement : ℕ) → GoesAhead (lent setting.entry) (evaluated statement (entry_at setting.entry.tables.now.tables (laid_over meanwhile machine.old.top.slots) (slots_of setting.entry.program.now.codes callee) (map plain arguments.now)) (nested_plain statement Call into work callee)) machine.old machine.new) }
+    ensures came { CameBy result (machine.new ≡ machine.old)
+        ((statement : ℕ) → GoesAhead (lent setting.entry)
+        (evaluated statement (entry_at setting.entry.tables.now.tables (laid_over meanwhile machine.old.top.slots)
+        (slots_of setting.entry.program.now.codes callee) (map plain arguments.now)) (nested_plain statement Call into work callee))
+        machine.old machine.new) }
     ensures back { OnBack result (IsBackWith work machine.old machine.new) }
 {
     let left = machine.top.left();

@@ -1,7 +1,8 @@
 // A script that comes line by line.
 ghost use Rattle.std.specs.Prelude.{◌≡◌, ◌+◌, ◌<◌, ◌^◌, ◌++◌, ◌∷◌, [], All, List, ℕ, None, false, IfOk, OnOk};
 ghost use Rattle.meaning.specs.Script.{commands as commands_of, is_line_end, lines as lines_of};
-ghost use Rattle.script_reader.specs.Beginnings.{command_by, command_ended, command_left, commands_left, define_left, nothing_come, whole_commands, with_line, with_lines};
+ghost use Rattle.script_reader.specs.Beginnings.{command_by, command_ended, command_left, commands_left, define_left, nothing_come};
+ghost use Rattle.script_reader.specs.Beginnings.{whole_commands, with_line, with_lines};
 ghost use Rattle.script_reader.specs.Said.{begun_of, maybe_said, said_found};
 
 use crate::command::Command;

@@ -28,4 +28,5 @@ IsHalted _ _ = ⊥
 
 -- the answer of a run in which valid records answer memo instances
 abbrev pub needed_answer : Revised → Tables → List Kept → elision.Answer
-needed_answer program tables records = elision.answer_of (initial_values program.tree) (needing program tables records elision.depth_limit elision.start elision.main [] (initial_values program.tree))
+needed_answer program tables records = elision.answer_of (initial_values program.tree)
+    (needing program tables records elision.depth_limit elision.start elision.main [] (initial_values program.tree))

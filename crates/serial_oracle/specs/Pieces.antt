@@ -38,7 +38,8 @@ entered tables enters site env x f es = at site (values tables env es) >>= (λ v
 
 abbrev pub chosen : Tree → Tables → Enter → Site → Env → Term → Body → Body → Run Next
 chosen program tables enters site env e a b =
-    at site (value tables env e) >>= (λ v. cond (int_eq v (pos 0)) (body program tables enters site.procedure env b) (body program tables enters site.procedure env a))
+    at site (value tables env e) >>= (λ v. cond (int_eq v (pos 0)) (body program tables enters site.procedure env b)
+    (body program tables enters site.procedure env a))
 
 abbrev pub looped : Tree → Tables → Enter → Site → Env → ℕ → Term → Term → ℕ → Name → List Term → Run Next
 looped program tables enters site env x e f grain g es =

@@ -68,8 +68,10 @@ fn run_main<'p, 's>(
     requires no_executed { journal.old.executed.items ≡ [] }
     requires no_reused { journal.old.reused.items ≡ [] }
     ensures answer { IfOk result (λ a. answer_plain a ≡ needed_answer (revised_in scope.now) (tables_in scope.now) (records_in scope.now)) }
-    ensures executed { IfOk result (λ a. map key_plain journal.new.executed.items ≡ executed (tree_in scope.now) (needed (revised_in scope.now) (tables_in scope.now) (records_in scope.now))) }
-    ensures reused { IfOk result (λ a. map key_plain journal.new.reused.items ≡ reused (needed (revised_in scope.now) (tables_in scope.now) (records_in scope.now))) }
+    ensures executed { IfOk result (λ a. map key_plain journal.new.executed.items
+        ≡ executed (tree_in scope.now) (needed (revised_in scope.now) (tables_in scope.now) (records_in scope.now))) }
+    ensures reused { IfOk result (λ a. map key_plain journal.new.reused.items
+        ≡ reused (needed (revised_in scope.now) (tables_in scope.now) (records_in scope.now))) }
 {
     match enter(scope, DEPTH_LIMIT, "main", 0, "main", &[], journal) {
         Ok(value) => finished(scope, value, &journal.changes),

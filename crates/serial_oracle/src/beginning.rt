@@ -18,7 +18,8 @@ fn note_group(
     n: usize,
     numbers: &[i64],
 ) -> Result<(), AllocError>
-    ensures { OnOk result (noted_in scope.now changes.new.items ≡ noted_in scope.now changes.old.items ++ grouped (slice_get (kinds (tree_in scope.now)) n) n (numbers.now ∷ [])) }
+    ensures { OnOk result (noted_in scope.now changes.new.items
+        ≡ noted_in scope.now changes.old.items ++ grouped (slice_get (kinds (tree_in scope.now)) n) n (numbers.now ∷ [])) }
 {
     let numbers = numbers.to_vec(scope.alloc)?;
     if changes.push(Change::Update(n, numbers)).is_err() {
@@ -34,7 +35,8 @@ fn note_singles(
     n: usize,
     numbers: &[i64],
 ) -> Result<(), AllocError>
-    ensures { OnOk result (noted_in scope.now changes.new.items ≡ noted_in scope.now changes.old.items ++ grouped (slice_get (kinds (tree_in scope.now)) n) n (map (λ v. v ∷ []) numbers.now)) }
+    ensures { OnOk result (noted_in scope.now changes.new.items
+        ≡ noted_in scope.now changes.old.items ++ grouped (slice_get (kinds (tree_in scope.now)) n) n (map (λ v. v ∷ []) numbers.now)) }
 {
     for number in numbers {
         note_group(scope, changes, n, &[*number])?;
@@ -50,7 +52,10 @@ fn note_next(
     held: Option<i64>,
     next: i64,
 ) -> Result<Option<i64>, AllocError>
-    ensures { (rest : List ℤ) → IfOk result (λ held_now. noted_in scope.now changes.new.items ++ grouped (slice_get (kinds (tree_in scope.now)) n) n (in_pairs (waiting held_now rest)) ≡ noted_in scope.now changes.old.items ++ grouped (slice_get (kinds (tree_in scope.now)) n) n (in_pairs (waiting held (next ∷ rest)))) }
+    ensures { (rest : List ℤ) → IfOk result (λ held_now. noted_in scope.now changes.new.items ++ grouped
+        (slice_get (kinds (tree_in scope.now)) n) n (in_pairs (waiting held_now rest))
+        ≡ noted_in scope.now changes.old.items ++ grouped (slice_get (kinds (tree_in scope.now)) n) n
+        (in_pairs (waiting held (next ∷ rest)))) }
 {
     match held {
         None => Ok(Some(next)),
@@ -68,7 +73,8 @@ fn note_pairs(
     n: usize,
     numbers: &[i64],
 ) -> Result<(), AllocError>
-    ensures { OnOk result (noted_in scope.now changes.new.items ≡ noted_in scope.now changes.old.items ++ grouped (slice_get (kinds (tree_in scope.now)) n) n (in_pairs numbers.now)) }
+    ensures { OnOk result (noted_in scope.now changes.new.items
+        ≡ noted_in scope.now changes.old.items ++ grouped (slice_get (kinds (tree_in scope.now)) n) n (in_pairs numbers.now)) }
 {
     let mut held = None;
     for number in numbers {
@@ -85,7 +91,8 @@ fn note_value(
     kind: Kind,
     numbers: &[i64],
 ) -> Result<(), AllocError>
-    ensures { OnOk result (noted_in scope.now changes.new.items ≡ noted_in scope.now changes.old.items ++ grouped (slice_get (kinds (tree_in scope.now)) n) n (in_groups kind numbers.now)) }
+    ensures { OnOk result (noted_in scope.now changes.new.items
+        ≡ noted_in scope.now changes.old.items ++ grouped (slice_get (kinds (tree_in scope.now)) n) n (in_groups kind numbers.now)) }
 {
     if is_pair_kind(kind) {
         note_pairs(scope, changes, n, numbers)

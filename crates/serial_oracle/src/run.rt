@@ -36,7 +36,9 @@ fn run_bind<'p>(
     e: &Expr,
     env: &mut Vec<Option<i64>>,
 ) -> Result<Option<i64>, Stop<'p>>
-    ensures { (program : Tree) (s : Summary) → GivesNext result env.new.items s (results program (bound (tables_plain tables.now) (site_at here.now number) env.old.items x (term e.now)) s) }
+    ensures { (program : Tree) (s : Summary)
+        → GivesNext result env.new.items s (results program
+        (bound (tables_plain tables.now) (site_at here.now number) env.old.items x (term e.now)) s) }
 {
     match evaluate(tables, env, e) {
         Err(kind) => Err(stopped(kind, here, number)),
@@ -55,7 +57,8 @@ fn run_return<'p>(
     e: &Expr,
     env: &[Option<i64>],
 ) -> Result<Option<i64>, Stop<'p>>
-    ensures { (program : Tree) (s : Summary) → GivesNext result env.now s (results program (back (tables_plain tables.now) (site_at here.now number) env.now (term e.now)) s) }
+    ensures { (program : Tree) (s : Summary)
+        → GivesNext result env.now s (results program (back (tables_plain tables.now) (site_at here.now number) env.now (term e.now)) s) }
 {
     match evaluate(tables, env, e) {
         Err(kind) => Err(stopped(kind, here, number)),
@@ -72,7 +75,8 @@ fn run_read<'p, 's>(
     journal: &Journal<'p>,
 ) -> Result<Option<i64>, Stop<'p>>
     requires fit { AreFit (tree_in scope.now) (records_in scope.now) }
-    ensures { GivesNext result env.new.items (summary scope.now journal.now) (results (tree_in scope.now) (told (tree_in scope.now) env.old.items x r.now) (summary scope.now journal.now)) }
+    ensures { GivesNext result env.new.items (summary scope.now journal.now)
+        (results (tree_in scope.now) (told (tree_in scope.now) env.old.items x r.now) (summary scope.now journal.now)) }
 {
     match updates::read(scope, r, &journal.changes) {
         Err(_) => Err(Stop::NoMemory),
@@ -93,7 +97,9 @@ fn run_update<'p, 's>(
     env: &[Option<i64>],
     journal: &mut Journal<'p>,
 ) -> Result<Option<i64>, Stop<'p>>
-    ensures { GivesNext result env.now (summary scope.now journal.new) (results (tree_in scope.now) (updates_here (tree_in scope.now) (tables_in scope.now) (site_at here.now number) env.now r.now (map term es.now)) (summary scope.now journal.old)) }
+    ensures { GivesNext result env.now (summary scope.now journal.new)
+        (results (tree_in scope.now) (updates_here (tree_in scope.now) (tables_in scope.now) (site_at here.now number) env.now r.now
+        (map term es.now)) (summary scope.now journal.old)) }
 {
     match updates::update_reducer(scope, env, r, es, &mut journal.changes) {
         Err(trouble) => Err(trouble.at(here, number)),
@@ -111,7 +117,9 @@ fn turn_values(
     env: &[Option<i64>],
 ) -> Result<Vec<i64>, Trouble>
     requires { i < range.count }
-    ensures { (site : Site) (grain : ℕ) → EvaluatesAll result (turn_values_of (tables_in scope.now) (job_of site env.now x entry.now.callee.now (map term entry.now.arguments.now) grain range.low) i).answer }
+    ensures { (site : Site) (grain : ℕ) → EvaluatesAll result
+        (turn_values_of (tables_in scope.now) (job_of site env.now x entry.now.callee.now
+        (map term entry.now.arguments.now) grain range.low) i).answer }
 {
     match with_name(scope.alloc, env, x, range.at(i)) {
         Err(_) => Err(Trouble::NoMemory),
@@ -128,7 +136,8 @@ fn answer_by<'p, 's>(
     journal: &mut Journal<'p>,
 ) -> Result<i64, Stop<'p>>
     requires place { slice_get (records_in scope.now) found.place ≡ Some (kept found.known.now) }
-    ensures { Gives result (summary scope.now journal.new) (by_record (tree_in scope.now) (kept found.entry.known.now) (name.now, args.now) (summary scope.now journal.old)) }
+    ensures { Gives result (summary scope.now journal.new)
+        (by_record (tree_in scope.now) (kept found.entry.known.now) (name.now, args.now) (summary scope.now journal.old)) }
 {
     match note_reused(scope.alloc, journal, found.place, name, args) {
         Err(_) => Err(Stop::NoMemory),
@@ -197,7 +206,9 @@ fn run_new<'p, 's>(
     journal: &mut Journal<'p>,
 ) -> Result<i64, Stop<'p>>
     requires fit { AreFit (tree_in scope.now) (records_in scope.now) }
-    ensures { Gives result (summary scope.now journal.new) (results (tree_in scope.now) (inside (tree_in scope.now) (tables_in scope.now) (enters_in scope.now left) (proc p.now) args.now) (with_executed (summary scope.now journal.old) (name.now, args.now))) }
+    ensures { Gives result (summary scope.now journal.new)
+        (results (tree_in scope.now) (inside (tree_in scope.now) (tables_in scope.now) (enters_in scope.now left) (proc p.now) args.now)
+        (with_executed (summary scope.now journal.old) (name.now, args.now))) }
 {
     match note_executed(scope.alloc, journal, name, args) {
         Err(_) => Err(Stop::NoMemory),
@@ -239,7 +250,9 @@ fn run_block<'p, 's>(
     journal: &mut Journal<'p>,
 ) -> Result<Option<i64>, Stop<'p>>
     requires fit { AreFit (tree_in scope.now) (records_in scope.now) }
-    ensures { GivesNext result env.new.items (summary scope.now journal.new) (results (tree_in scope.now) (body (tree_in scope.now) (tables_in scope.now) (enters_in scope.now left) (string_bytes p.now.name) env.old.items (block_plain p.now.blocks.items levels n)) (summary scope.now journal.old)) }
+    ensures { GivesNext result env.new.items (summary scope.now journal.new)
+        (results (tree_in scope.now) (body (tree_in scope.now) (tables_in scope.now) (enters_in scope.now left)
+        (string_bytes p.now.name) env.old.items (block_plain p.now.blocks.items levels n)) (summary scope.now journal.old)) }
 {
     if levels == 0 {
         return Ok(None);
@@ -262,7 +275,10 @@ fn run_statements<'p, 's>(
     journal: &mut Journal<'p>,
 ) -> Result<Option<i64>, Stop<'p>>
     requires fit { AreFit (tree_in scope.now) (records_in scope.now) }
-    ensures { GivesNext result env.new.items (summary scope.now journal.new) (results (tree_in scope.now) (body (tree_in scope.now) (tables_in scope.now) (enters_in scope.now left) (string_bytes p.now.name) env.old.items (statements_plain (block_plain p.now.blocks.items levels) statements.now)) (summary scope.now journal.old)) }
+    ensures { GivesNext result env.new.items (summary scope.now journal.new)
+        (results (tree_in scope.now) (body (tree_in scope.now) (tables_in scope.now) (enters_in scope.now left)
+        (string_bytes p.now.name) env.old.items (statements_plain (block_plain p.now.blocks.items levels) statements.now))
+        (summary scope.now journal.old)) }
 {
     for s in statements {
         match run_statement(scope, left, p, levels, s, env, journal) {
@@ -286,7 +302,10 @@ fn run_statement<'p, 's>(
     journal: &mut Journal<'p>,
 ) -> Result<Option<i64>, Stop<'p>>
     requires fit { AreFit (tree_in scope.now) (records_in scope.now) }
-    ensures { GivesNext result env.new.items (summary scope.now journal.new) (results (tree_in scope.now) (deed (tree_in scope.now) (tables_in scope.now) (enters_in scope.now left) (site_at (string_bytes p.now.name) s.now.number) env.old.items (deed_plain (block_plain p.now.blocks.items levels) s.now.action)) (summary scope.now journal.old)) }
+    ensures { GivesNext result env.new.items (summary scope.now journal.new)
+        (results (tree_in scope.now) (deed (tree_in scope.now) (tables_in scope.now) (enters_in scope.now left)
+        (site_at (string_bytes p.now.name) s.now.number) env.old.items (deed_plain (block_plain p.now.blocks.items levels) s.now.action))
+        (summary scope.now journal.old)) }
 {
     let here = &p.name;
     match &s.action {
@@ -336,7 +355,9 @@ fn run_entry<'p, 's>(
     journal: &mut Journal<'p>,
 ) -> Result<Option<i64>, Stop<'p>>
     requires fit { AreFit (tree_in scope.now) (records_in scope.now) }
-    ensures { GivesNext result env.new.items (summary scope.now journal.new) (results (tree_in scope.now) (entered (tables_in scope.now) (enters_in scope.now left) (site_of entry.now) env.old.items x entry.now.callee.now (map term entry.now.arguments.now)) (summary scope.now journal.old)) }
+    ensures { GivesNext result env.new.items (summary scope.now journal.new)
+        (results (tree_in scope.now) (entered (tables_in scope.now) (enters_in scope.now left)
+        (site_of entry.now) env.old.items x entry.now.callee.now (map term entry.now.arguments.now)) (summary scope.now journal.old)) }
 {
     let Entry {
         here,
@@ -368,7 +389,8 @@ fn run_if<'p, 's>(
     journal: &mut Journal<'p>,
 ) -> Result<Option<i64>, Stop<'p>>
     requires fit { AreFit (tree_in scope.now) (records_in scope.now) }
-    ensures { GivesNext result env.new.items (summary scope.now journal.new) (results_in scope.now journal.old (chosen_in scope.now left p.now levels choice.now env.old.items)) }
+    ensures { GivesNext result env.new.items (summary scope.now journal.new)
+        (results_in scope.now journal.old (chosen_in scope.now left p.now levels choice.now env.old.items)) }
 {
     match evaluate(scope.tables, env, choice.condition) {
         Err(kind) => Err(stopped(kind, &p.name, choice.number)),
@@ -392,7 +414,10 @@ fn run_loop<'p, 's>(
     journal: &mut Journal<'p>,
 ) -> Result<Option<i64>, Stop<'p>>
     requires fit { AreFit (tree_in scope.now) (records_in scope.now) }
-    ensures { (grain : ℕ) → GivesNext result env.now (summary scope.now journal.new) (results (tree_in scope.now) (looped (tree_in scope.now) (tables_in scope.now) (enters_in scope.now left) (site_of entry.now) env.now x (term low.now) (term high.now) grain entry.now.callee.now (map term entry.now.arguments.now)) (summary scope.now journal.old)) }
+    ensures { (grain : ℕ) → GivesNext result env.now (summary scope.now journal.new)
+        (results (tree_in scope.now) (looped (tree_in scope.now) (tables_in scope.now) (enters_in scope.now left)
+        (site_of entry.now) env.now x (term low.now) (term high.now) grain entry.now.callee.now (map term entry.now.arguments.now))
+        (summary scope.now journal.old)) }
 {
     match range_of(scope.tables, env, low, high) {
         Err(kind) => Err(stopped(kind, entry.here, entry.number)),
@@ -415,7 +440,9 @@ fn run_turns<'p, 's>(
     journal: &mut Journal<'p>,
 ) -> Result<(), Stop<'p>>
     requires fit { AreFit (tree_in scope.now) (records_in scope.now) }
-    ensures { (grain : ℕ) → Does result (summary scope.now journal.new) (results (tree_in scope.now) (all_turns (tree_in scope.now) (tables_in scope.now) (enters_in scope.now left) (job_in entry.now env.now x grain range.low) range.count) (summary scope.now journal.old)) }
+    ensures { (grain : ℕ) → Does result (summary scope.now journal.new)
+        (results (tree_in scope.now) (all_turns (tree_in scope.now) (tables_in scope.now) (enters_in scope.now left)
+        (job_in entry.now env.now x grain range.low) range.count) (summary scope.now journal.old)) }
 {
     let mut i = 0;
     while i < range.count {
@@ -441,7 +468,9 @@ fn run_turn<'p, 's>(
 ) -> Result<(), Stop<'p>>
     requires within { i < range.count }
     requires fit { AreFit (tree_in scope.now) (records_in scope.now) }
-    ensures { (grain : ℕ) → Does result (summary scope.now journal.new) (results (tree_in scope.now) (turn (tables_in scope.now) (enters_in scope.now left) (job_in entry.now env.now x grain range.low) i) (summary scope.now journal.old)) }
+    ensures { (grain : ℕ) → Does result (summary scope.now journal.new)
+        (results (tree_in scope.now) (turn (tables_in scope.now) (enters_in scope.now left) (job_in entry.now env.now x grain range.low) i)
+        (summary scope.now journal.old)) }
 {
     let Entry {
         here,

@@ -6,7 +6,8 @@ ghost use Rattle.meaning.specs.Statements.{numbered, reducers, reading, number_o
 ghost use Rattle.meaning.specs.Outcome.{after};
 ghost use Rattle.serial_oracle.specs.Keeping.{tree_in, tables_in, records_in};
 ghost use Rattle.serial_oracle.specs.Results.{Notes};
-ghost use Rattle.serial_oracle.specs.Worths.{kinds, kinds as kinds_in, worths, AreFit, change_log, reused_log, combined_from, is_listed, is_paired, noticed, outcome_of, updated_by};
+ghost use Rattle.serial_oracle.specs.Worths.{kinds, kinds as kinds_in, worths, AreFit, change_log, reused_log, combined_from, is_listed};
+ghost use Rattle.serial_oracle.specs.Worths.{is_paired, noticed, outcome_of, updated_by};
 
 use crate::journal::Change;
 use crate::scope::Scope;
@@ -216,7 +217,8 @@ fn combine_at(
     requires within { i < length kinds.now }
     requires of_kinds { AreWorths kinds.now (map meaning values.old.items) }
     requires rights_of_kinds { AreWorths kinds.now (map meaning rights.now) }
-    ensures combined { OnOk result (combined_from (suc i) kinds.now (map meaning values.new.items) (map meaning rights.now) ≡ combined_from i kinds.now (map meaning values.old.items) (map meaning rights.now)) }
+    ensures combined { OnOk result (combined_from (suc i) kinds.now (map meaning values.new.items) (map meaning rights.now)
+        ≡ combined_from i kinds.now (map meaning values.old.items) (map meaning rights.now)) }
     ensures kept { OnOk result (AreWorths kinds.now (map meaning values.new.items)) }
 {
     let kind = kinds[i];
@@ -252,7 +254,8 @@ fn apply_record(
     requires fit { AreFit (tree_in scope.now) (records_in scope.now) }
     requires the_kinds { kinds.now ≡ kinds_in (tree_in scope.now) }
     requires of_kinds { AreWorths kinds.now (map meaning values.old.items) }
-    ensures after { OnOk result (map meaning values.new.items ≡ after (reused_log (reducers (tree_in scope.now)) (slice_get (records_in scope.now) place)) (map meaning values.old.items)) }
+    ensures after { OnOk result (map meaning values.new.items
+        ≡ after (reused_log (reducers (tree_in scope.now)) (slice_get (records_in scope.now) place)) (map meaning values.old.items)) }
     ensures kept { OnOk result (AreWorths kinds.now (map meaning values.new.items)) }
 {
     match scope.records.get(place) {
@@ -271,7 +274,8 @@ fn apply(
     requires fit { AreFit (tree_in scope.now) (records_in scope.now) }
     requires the_kinds { kinds.now ≡ kinds_in (tree_in scope.now) }
     requires of_kinds { AreWorths kinds.now (map meaning values.old.items) }
-    ensures after { OnOk result (map meaning values.new.items ≡ after (change_log (tree_in scope.now) (records_in scope.now) change.now) (map meaning values.old.items)) }
+    ensures after { OnOk result (map meaning values.new.items
+        ≡ after (change_log (tree_in scope.now) (records_in scope.now) change.now) (map meaning values.old.items)) }
     ensures kept { OnOk result (AreWorths kinds.now (map meaning values.new.items)) }
 {
     match change {
@@ -330,7 +334,8 @@ fn note(
     name: &str,
     numbers: Vec<i64>,
 ) -> Result<(), Trouble>
-    ensures { Notes result (worths (tree_in scope.now) (records_in scope.now) changes.new.items) (updated_by (tree_in scope.now) name.now numbers.items (worths (tree_in scope.now) (records_in scope.now) changes.old.items)) }
+    ensures { Notes result (worths (tree_in scope.now) (records_in scope.now) changes.new.items)
+        (updated_by (tree_in scope.now) name.now numbers.items (worths (tree_in scope.now) (records_in scope.now) changes.old.items)) }
 {
     match names::find_reducer(scope.program, name) {
         None => Ok(()),

@@ -2,7 +2,9 @@
 ghost use Rattle.std.specs.Prelude.{◌≡◌, map, string_bytes, slice_get, Some, IfSome, option_map};
 ghost use Rattle.meaning.specs.Every.{every};
 ghost use Rattle.meaning.specs.Records.{if_valid, record_of};
-ghost use Rattle.meaning.specs.Records.{agrees as agrees_of, same_number as same_number_of, same_bool as same_bool_of, is_current as is_current_of, holds_now as holds_now_of, is_valid as is_valid_of, same_args as same_args_of};
+ghost use Rattle.meaning.specs.Records.{agrees as agrees_of, same_number as same_number_of, same_bool as same_bool_of};
+ghost use Rattle.meaning.specs.Records.{is_current as is_current_of, holds_now as holds_now_of, is_valid as is_valid_of};
+ghost use Rattle.meaning.specs.Records.{same_args as same_args_of};
 ghost use Rattle.serial_oracle.specs.Listing.{tables_plain};
 ghost use Rattle.serial_oracle.specs.Keeping.{kept, reading_plain, revision, revised_in, tables_in, records_in};
 

@@ -25,7 +25,8 @@ IsFromScratch s _ = Unit {0}
 -- after a run that has finished the records are those before with its own put in, else those before; but for what is in doubt of them
 abbrev pub LeavesRecords : PlainSession → RunAnswer → List PlainRecord → Type 0
 LeavesRecords s (answer.Finished v values n m k) records =
-    (made : List PlainRecord) × HasRecordedBy s.checked s.tables s.records (answer.Finished v values n m k) made × (map settled records ≡ put_records (map settled s.records) made)
+    (made : List PlainRecord) × HasRecordedBy s.checked s.tables s.records (answer.Finished v values n m k) made
+    × (map settled records ≡ put_records (map settled s.records) made)
 LeavesRecords s _ records = map settled records ≡ map settled s.records
 
 -- by records that the session's stand for nothing is left to execute

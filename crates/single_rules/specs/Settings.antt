@@ -6,4 +6,10 @@ use Rattle.linked_program.specs.Rules.{Setting}
 use Rattle.single_rules.specs.declared.setting.Setting.{Setting as RustSetting}
 
 abbrev pub plain : RustSetting → Setting
-plain s = record { program = map decl s.declarations.now; tables = map columned s.tables.now; in_main = s.in_main; declaration = s.declaration; lines = s.lines }
+plain s = record {
+  program = map decl s.declarations.now;
+  tables = map columned s.tables.now;
+  in_main = s.in_main;
+  declaration = s.declaration;
+  lines = s.lines;
+}

@@ -1,6 +1,7 @@
 //! What is known of a procedure's variables at a statement.
 ghost use Rattle.std.specs.Prelude.{◌≡◌, slice_get, IfOk};
-ghost use Rattle.linked_program.specs.Scope.{scope_of, told, bound, after_spawn, has_read, passed, forgotten, returned, joined, precedes, is_known, is_bound, is_of};
+ghost use Rattle.linked_program.specs.Scope.{scope_of, told, bound, after_spawn, has_read, passed, forgotten, returned, joined, precedes};
+ghost use Rattle.linked_program.specs.Scope.{is_known, is_bound, is_of};
 ghost use Rattle.linked_program.specs.Rules.{use_rules};
 ghost use Rattle.linked_program.specs.declared.knowledge.Knowledge.TheVariants.{Ended};
 ghost use Rattle.linked_program.specs.Violations.{noted, at};

@@ -3,7 +3,8 @@ ghost use Rattle.std.specs.Prelude.{◌≡◌, ℕ, false, map, option_copied, �
 ghost use Rattle.program_tree.specs.Plain.{Body};
 ghost use Rattle.program_tree.specs.View.{decl, deed, term};
 ghost use Rattle.linked_program.specs.Scope.{bound, entered, has_read, looped};
-ghost use Rattle.linked_program.specs.Rules.{bind_rules, target_rules, callee_rules, enter_rules, update_rules, kind_rules, read_rules, term_rules, terms_rules, entry_rules, range_rules, own_rules, kind_of as reducer_kind};
+ghost use Rattle.linked_program.specs.Rules.{bind_rules, target_rules, callee_rules, enter_rules, update_rules, kind_rules, read_rules};
+ghost use Rattle.linked_program.specs.Rules.{term_rules, terms_rules, entry_rules, range_rules, own_rules, kind_of as reducer_kind};
 ghost use Rattle.linked_program.specs.Violations.{noted, at};
 ghost use Rattle.linked_program.specs.TableNames.{columned};
 ghost use Rattle.single_rules.specs.Settings.{plain};
@@ -127,7 +128,8 @@ fn note_arguments(
     name: usize,
     arguments: &[Expr],
 ) -> Option<Violation>
-    ensures noted { result ≡ noted first (at place.declaration place.line (terms_rules (map columned tables.now) (bound now false scope.old name) (map term arguments.now))) }
+    ensures noted { result ≡ noted first (at place.declaration place.line
+        (terms_rules (map columned tables.now) (bound now false scope.old name) (map term arguments.now))) }
     ensures looped { scope.new ≡ looped scope.old name }
 {
     let was_known = scope.is_known(name);
@@ -162,7 +164,8 @@ fn note_entry(
     callee: &str,
     arguments: &[Expr],
 ) -> Option<Violation>
-    ensures noted { result ≡ noted first (at place.declaration place.line (entry_rules (plain setting.now) scope.now name callee.now (map term arguments.now))) }
+    ensures noted { result ≡ noted first (at place.declaration place.line
+        (entry_rules (plain setting.now) scope.now name callee.now (map term arguments.now))) }
 {
     let first = note_terms(first, place, setting.tables, scope, arguments);
     let first = note_target(first, place, scope, name);
@@ -198,7 +201,8 @@ fn note_binding(
     name: usize,
     value: &Expr,
 ) -> Option<Violation>
-    ensures noted { result ≡ noted first (at place.declaration place.line (term_rules (map columned setting.now.tables.now) scope.old (term value.now) ++ bind_rules scope.old name)) }
+    ensures noted { result ≡ noted first (at place.declaration place.line
+        (term_rules (map columned setting.now.tables.now) scope.old (term value.now) ++ bind_rules scope.old name)) }
     ensures bound { scope.new ≡ bound now false scope.old name }
 {
     let first = note_term(first, place, setting.tables, scope, value);
@@ -218,7 +222,9 @@ fn note_reading(
     name: usize,
     reducer: &str,
 ) -> Option<Violation>
-    ensures noted { result ≡ noted first (at place.declaration place.line (bind_rules scope.old name ++ read_rules (setting.now.in_main && (now.depth == 0)) scope.old (reducer_kind (map decl setting.now.declarations.now) reducer.now))) }
+    ensures noted { result ≡ noted first (at place.declaration place.line
+        (bind_rules scope.old name ++ read_rules (setting.now.in_main && (now.depth == 0)) scope.old
+        (reducer_kind (map decl setting.now.declarations.now) reducer.now))) }
     ensures read { scope.new ≡ has_read now (bound now false scope.old name) }
 {
     let first = note_bind(first, place, scope, name);

@@ -91,7 +91,8 @@ impl<V: View> Machine<V> {
         kits: &mut K,
     ) -> Result<(), AllocError>
         requires layered { IsLayered self.old }
-        requires supplied { IsSupplied K.fits K.gives K.free K.total setting.program.now.kinds kits.old setting.records.now self.old.layer.kinds self.old.lower }
+        requires supplied { IsSupplied K.fits K.gives K.free K.total setting.program.now.kinds kits.old setting.records.now
+            self.old.layer.kinds self.old.lower }
         ensures advanced { OnOk result (HoldsBy (K.lacks kits.old) (GivesNone K.gives kits.old)
             (λ kit. self.new ≡ advanced (lent setting.entry) kit self.old)) }
         ensures made { HaveValues self.old.layer.kinds self.old.tally.made → HaveValues self.old.layer.kinds self.new.tally.made }
@@ -118,7 +119,8 @@ impl<V: View> Machine<V> {
         kits: &mut K,
     ) -> Result<(), AllocError>
         requires running { self.old.phase ≡ Phase.Running }
-        requires supplied { IsSupplied K.fits K.gives K.free K.total setting.program.now.kinds kits.old setting.records.now self.old.layer.kinds self.old.lower }
+        requires supplied { IsSupplied K.fits K.gives K.free K.total setting.program.now.kinds kits.old setting.records.now
+            self.old.layer.kinds self.old.lower }
         ensures worked { OnOk result (HoldsBy (K.lacks kits.old) (GivesNone K.gives kits.old)
             (λ kit. self.new ≡ worked (lent setting.entry) kit self.old.top.work self.old)) }
         ensures refused { OnErr result (IsValued self.old self.new) }
@@ -151,7 +153,8 @@ impl<V: View> Machine<V> {
         kits: &mut K,
     ) -> Result<(), AllocError>
         requires running { self.old.phase ≡ Phase.Running }
-        requires supplied { IsSupplied K.fits K.gives K.free K.total setting.program.now.kinds kits.old setting.records.now self.old.layer.kinds self.old.lower }
+        requires supplied { IsSupplied K.fits K.gives K.free K.total setting.program.now.kinds kits.old setting.records.now
+            self.old.layer.kinds self.old.lower }
         ensures gone { OnOk result (HoldsBy (K.lacks kits.old) (GivesNone K.gives kits.old)
             (λ kit. self.new ≡ gone (lent setting.entry) kit place self.old)) }
         ensures refused { OnErr result (IsValued self.old self.new) }
@@ -182,7 +185,8 @@ impl<V: View> Machine<V> {
     ) -> Result<(), AllocError>
         requires room { place.index + 1 < 2 ^ 64 }
         requires running { self.old.phase ≡ Phase.Running }
-        requires supplied { IsSupplied K.fits K.gives K.free K.total setting.program.now.kinds kits.old setting.records.now self.old.layer.kinds self.old.lower }
+        requires supplied { IsSupplied K.fits K.gives K.free K.total setting.program.now.kinds kits.old setting.records.now
+            self.old.layer.kinds self.old.lower }
         ensures performed { OnOk result (HoldsBy (K.lacks kits.old) (GivesNone K.gives kits.old)
             (λ kit. self.new ≡ performed (lent setting.entry) kit place instruction.now.number instruction.now.operation self.old)) }
         ensures refused { OnErr result (IsValued self.old self.new) }

@@ -36,9 +36,11 @@ impl<V: View> Machine<V> {
     ) -> Result<(), AllocError>
         requires room { place.index + 1 < 2 ^ 64 }
         requires running { self.old.phase ≡ Phase.Running }
-        requires supplied { IsSupplied K.fits K.gives K.free K.total setting.program.now.kinds kits.old setting.records.now self.old.layer.kinds self.old.lower }
+        requires supplied { IsSupplied K.fits K.gives K.free K.total setting.program.now.kinds kits.old setting.records.now
+            self.old.layer.kinds self.old.lower }
         ensures called { OnOk result (HoldsBy (K.lacks kits.old) (GivesNone K.gives kits.old)
-            (λ kit. self.new ≡ called (lent setting.entry) kit statement way into (Work.Block (place_after place)) callee (map plain arguments.now) self.old.top.slots self.old)) }
+            (λ kit. self.new ≡ called (lent setting.entry) kit statement way into (Work.Block (place_after place)) callee
+            (map plain arguments.now) self.old.top.slots self.old)) }
         ensures refused { OnErr result (IsValued self.old self.new) }
         ensures kits { KeepsKits K.fits K.gives K.free K.total setting.entry.program.now.kinds kits.old kits.new self.old.lower self.new.lower }
     {
@@ -73,7 +75,9 @@ impl<V: View> Machine<V> {
     ) -> Result<(), AllocError>
         requires room { place.index + 1 < 2 ^ 64 }
         requires running { self.old.phase ≡ Phase.Running }
-        ensures entered { OnOk result (self.new ≡ evaluated statement (entry_at setting.entry.tables.now.tables self.old.top.slots (slots_of setting.entry.program.now.codes callee) (map plain arguments.now)) (nested_plain statement way into (Work.Block (place_after place)) callee) self.old) }
+        ensures entered { OnOk result (self.new ≡ evaluated statement
+            (entry_at setting.entry.tables.now.tables self.old.top.slots (slots_of setting.entry.program.now.codes callee)
+            (map plain arguments.now)) (nested_plain statement way into (Work.Block (place_after place)) callee) self.old) }
         ensures unchanged { OnErr result (self.new ≡ self.old) }
     {
         let before = self.layer.readings();

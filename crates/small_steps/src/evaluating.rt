@@ -21,7 +21,8 @@ impl<V: View> Machine<V> {
         statement: u32,
         expression: &Expression,
     ) -> Result<Option<i64>, AllocError>
-        ensures evaluated { IfOk result (Evaluates (λ v. v) statement (value_at tables.now.tables self.old.top.slots (plain expression.now)) self.old self.new) }
+        ensures evaluated { IfOk result (Evaluates (λ v. v) statement
+            (value_at tables.now.tables self.old.top.slots (plain expression.now)) self.old self.new) }
         ensures unchanged { OnErr result (self.new ≡ self.old) }
     {
         match self.layer.value(expression, self.top.slots(), tables) {
@@ -42,7 +43,8 @@ impl<V: View> Machine<V> {
         expressions: &[Expression],
         numbers: &mut Vec<i64>,
     ) -> Result<Option<()>, AllocError>
-        ensures evaluated { IfOk result (Evaluates (λ u. numbers.new.items) statement (values_at tables.now.tables self.old.top.slots (map plain expressions.now)) self.old self.new) }
+        ensures evaluated { IfOk result (Evaluates (λ u. numbers.new.items) statement
+            (values_at tables.now.tables self.old.top.slots (map plain expressions.now)) self.old self.new) }
         ensures unchanged { OnErr result (self.new ≡ self.old) }
     {
         match self
@@ -67,7 +69,8 @@ impl<V: View> Machine<V> {
         size: usize,
         arguments: &[Expression],
     ) -> Result<Option<Vec<Slot>>, AllocError>
-        ensures evaluated { IfOk result (Evaluates (λ v. v.items) statement (entry_at tables.now.tables self.old.top.slots size (map plain arguments.now)) self.old self.new) }
+        ensures evaluated { IfOk result (Evaluates (λ v. v.items) statement
+            (entry_at tables.now.tables self.old.top.slots size (map plain arguments.now)) self.old self.new) }
         ensures unchanged { OnErr result (self.new ≡ self.old) }
     {
         let room = self.spares.slots(alloc);
@@ -92,7 +95,8 @@ impl<V: View> Machine<V> {
         low: &Expression,
         high: &Expression,
     ) -> Result<Option<LoopRange>, AllocError>
-        ensures evaluated { IfOk result (Evaluates (λ r. (r.low, r.count)) statement (bounds_at tables.now.tables self.old.top.slots (plain low.now) (plain high.now)) self.old self.new) }
+        ensures evaluated { IfOk result (Evaluates (λ r. (r.low, r.count)) statement
+            (bounds_at tables.now.tables self.old.top.slots (plain low.now) (plain high.now)) self.old self.new) }
         ensures unchanged { OnErr result (self.new ≡ self.old) }
     {
         match self.layer.bounds(low, high, self.top.slots(), tables) {

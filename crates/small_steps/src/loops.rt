@@ -45,7 +45,8 @@ impl<V: View> Machine<V> {
         high: &Expression,
     ) -> Result<(), AllocError>
         requires room { place.index + 1 < 2 ^ 64 }
-        ensures looped { OnOk result (self.new ≡ evaluated statement (bounds_at tables.now.tables self.old.top.slots (plain low.now) (plain high.now)) (looping place) self.old) }
+        ensures looped { OnOk result (self.new ≡ evaluated statement
+            (bounds_at tables.now.tables self.old.top.slots (plain low.now) (plain high.now)) (looping place) self.old) }
         ensures unchanged { OnErr result (self.new ≡ self.old) }
     {
         let before = self.layer.readings();
@@ -175,7 +176,8 @@ impl<V: View> Machine<V> {
     ) -> Result<(), AllocError>
         requires fits { ShareFits site share }
         requires running { self.old.phase ≡ Phase.Running }
-        requires supplied { IsSupplied K.fits K.gives K.free K.total setting.program.now.kinds kits.old setting.records.now self.old.layer.kinds self.old.lower }
+        requires supplied { IsSupplied K.fits K.gives K.free K.total setting.program.now.kinds kits.old setting.records.now
+            self.old.layer.kinds self.old.lower }
         ensures turned { OnOk result (HoldsBy (K.lacks kits.old) (GivesNone K.gives kits.old)
             (λ kit. self.new ≡ turned (lent setting.entry) kit site share self.old)) }
         ensures refused { OnErr result (IsValued self.old self.new) }
@@ -202,9 +204,17 @@ impl<V: View> Machine<V> {
         requires fits { ShareFits site share }
         requires more { 0 < share.count }
         requires running { self.old.phase ≡ Phase.Running }
-        requires supplied { IsSupplied K.fits K.gives K.free K.total setting.program.now.kinds kits.old setting.records.now self.old.layer.kinds self.old.lower }
+        requires supplied { IsSupplied K.fits K.gives K.free K.total setting.program.now.kinds kits.old setting.records.now
+            self.old.layer.kinds self.old.lower }
         ensures turned { OnOk result (HoldsBy (K.lacks kits.old) (GivesNone K.gives kits.old)
-            (λ kit. self.new ≡ turn_by (lent setting.entry) kit (record { number = code.entry.number; variable = code.entry.variable; grain = code.entry.grain; callee = code.entry.callee; arguments = code.entry.arguments.now }) site share self.old)) }
+            (λ kit. self.new ≡ turn_by (lent setting.entry) kit
+            (record {
+              number = code.entry.number;
+              variable = code.entry.variable;
+              grain = code.entry.grain;
+              callee = code.entry.callee;
+              arguments = code.entry.arguments.now;
+            }) site share self.old)) }
         ensures refused { OnErr result (IsValued self.old self.new) }
         ensures kits { KeepsKits K.fits K.gives K.free K.total setting.entry.program.now.kinds kits.old kits.new self.old.lower self.new.lower }
     {
@@ -227,7 +237,17 @@ impl<V: View> Machine<V> {
         requires fits { ShareFits site share }
         requires more { 0 < share.count }
         requires running { self.old.phase ≡ Phase.Running }
-        ensures turned { OnOk result (self.new ≡ evaluated code.entry.number (entry_at setting.entry.tables.now.tables (turn_slots (record { number = code.entry.number; variable = code.entry.variable; grain = code.entry.grain; callee = code.entry.callee; arguments = code.entry.arguments.now }) site share self.old) (slots_of setting.entry.program.now.codes code.entry.callee) (map plain code.entry.arguments.now)) (nested_plain code.entry.number Way.Call None (Work.Turns site (later_of share)) code.entry.callee) self.old) }
+        ensures turned { OnOk result (self.new ≡ evaluated code.entry.number
+            (entry_at setting.entry.tables.now.tables
+            (turn_slots (record {
+              number = code.entry.number;
+              variable = code.entry.variable;
+              grain = code.entry.grain;
+              callee = code.entry.callee;
+              arguments = code.entry.arguments.now;
+            }) site share self.old)
+            (slots_of setting.entry.program.now.codes code.entry.callee) (map plain code.entry.arguments.now))
+            (nested_plain code.entry.number Way.Call None (Work.Turns site (later_of share)) code.entry.callee) self.old) }
         ensures unchanged { OnErr result (self.new ≡ self.old) }
     {
         let before = self.layer.readings();
@@ -269,9 +289,20 @@ impl<V: View> Machine<V> {
         requires more { 0 < share.count }
         requires running { self.old.phase ≡ Phase.Running }
         requires memo { memo_of setting.program.now.codes code.callee ≡ true }
-        requires supplied { IsSupplied K.fits K.gives K.free K.total setting.program.now.kinds kits.old setting.records.now self.old.layer.kinds self.old.lower }
+        requires supplied { IsSupplied K.fits K.gives K.free K.total setting.program.now.kinds kits.old setting.records.now
+            self.old.layer.kinds self.old.lower }
         ensures turned { OnOk result (HoldsBy (K.lacks kits.old) (GivesNone K.gives kits.old)
-            (λ kit. self.new ≡ evaluated code.entry.number (values_at setting.entry.tables.now.tables (turn_slots (record { number = code.entry.number; variable = code.entry.variable; grain = code.entry.grain; callee = code.entry.callee; arguments = code.entry.arguments.now }) site share self.old) (map plain code.entry.arguments.now)) (nested_memo (lent setting.entry) kit code.entry.number Way.Call None (Work.Turns site (later_of share)) code.entry.callee) self.old)) }
+            (λ kit. self.new ≡ evaluated code.entry.number
+            (values_at setting.entry.tables.now.tables
+            (turn_slots (record {
+              number = code.entry.number;
+              variable = code.entry.variable;
+              grain = code.entry.grain;
+              callee = code.entry.callee;
+              arguments = code.entry.arguments.now;
+            }) site share self.old)
+            (map plain code.entry.arguments.now)) (nested_memo (lent setting.entry) kit code.entry.number Way.Call None
+            (Work.Turns site (later_of share)) code.entry.callee) self.old)) }
         ensures refused { OnErr result (IsValued self.old self.new) }
         ensures kits { KeepsKits K.fits K.gives K.free K.total setting.entry.program.now.kinds kits.old kits.new self.old.lower self.new.lower }
     {
@@ -296,9 +327,20 @@ impl<V: View> Machine<V> {
         requires more { 0 < share.count }
         requires running { self.old.phase ≡ Phase.Running }
         requires memo { memo_of setting.program.now.codes code.callee ≡ true }
-        requires supplied { IsSupplied K.fits K.gives K.free K.total setting.program.now.kinds kits.old setting.records.now self.old.layer.kinds self.old.lower }
+        requires supplied { IsSupplied K.fits K.gives K.free K.total setting.program.now.kinds kits.old setting.records.now
+            self.old.layer.kinds self.old.lower }
         ensures turned { OnOk result (HoldsBy (K.lacks kits.old) (GivesNone K.gives kits.old)
-            (λ kit. self.new ≡ evaluated code.entry.number (values_at setting.entry.tables.now.tables (turn_slots (record { number = code.entry.number; variable = code.entry.variable; grain = code.entry.grain; callee = code.entry.callee; arguments = code.entry.arguments.now }) site share self.old) (map plain code.entry.arguments.now)) (nested_memo (lent setting.entry) kit code.entry.number Way.Call None (Work.Turns site (later_of share)) code.entry.callee) self.old)) }
+            (λ kit. self.new ≡ evaluated code.entry.number
+            (values_at setting.entry.tables.now.tables
+            (turn_slots (record {
+              number = code.entry.number;
+              variable = code.entry.variable;
+              grain = code.entry.grain;
+              callee = code.entry.callee;
+              arguments = code.entry.arguments.now;
+            }) site share self.old)
+            (map plain code.entry.arguments.now)) (nested_memo (lent setting.entry) kit code.entry.number Way.Call None
+            (Work.Turns site (later_of share)) code.entry.callee) self.old)) }
         ensures refused { OnErr result (IsValued self.old self.new) }
         ensures kits { KeepsKits K.fits K.gives K.free K.total setting.entry.program.now.kinds kits.old kits.new self.old.lower self.new.lower }
     {
@@ -334,7 +376,15 @@ impl<V: View> Machine<V> {
         numbers: &mut Vec<i64>,
     ) -> Result<Option<()>, AllocError>
         requires fits { ShareFits site share }
-        ensures evaluated { IfOk result (Evaluates (λ u. numbers.new.items) code.entry.number (values_at tables.now.tables (turn_slots (record { number = code.entry.number; variable = code.entry.variable; grain = code.entry.grain; callee = code.entry.callee; arguments = code.entry.arguments.now }) site share self.old) (map plain code.entry.arguments.now)) self.old self.new) }
+        ensures evaluated { IfOk result (Evaluates (λ u. numbers.new.items) code.entry.number
+            (values_at tables.now.tables (turn_slots
+            (record {
+              number = code.entry.number;
+              variable = code.entry.variable;
+              grain = code.entry.grain;
+              callee = code.entry.callee;
+              arguments = code.entry.arguments.now;
+            }) site share self.old) (map plain code.entry.arguments.now)) self.old self.new) }
         ensures unchanged { OnErr result (self.new ≡ self.old) }
     {
         let number = Slot::Has(number_of(site, share));
@@ -358,7 +408,9 @@ impl<V: View> Machine<V> {
         number: Slot,
         numbers: &mut Vec<i64>,
     ) -> Result<(), Stop>
-        ensures notes { HasNoted (λ u. numbers.new.items) (values_at tables.now.tables (slice_set self.old.top.slots variable number) (map plain arguments.now)) self.old.layer self.new.layer result }
+        ensures notes { HasNoted (λ u. numbers.new.items)
+            (values_at tables.now.tables (slice_set self.old.top.slots variable number) (map plain arguments.now))
+            self.old.layer self.new.layer result }
         ensures rest { self.new ≡ record self.old { layer = self.new.layer } }
     {
         let held = self.top.exchange(variable, number);
@@ -380,7 +432,15 @@ impl<V: View> Machine<V> {
         share: Share,
     ) -> Result<Option<Vec<Slot>>, AllocError>
         requires fits { ShareFits site share }
-        ensures evaluated { IfOk result (Evaluates (λ v. v.items) code.entry.number (entry_at tables.now.tables (turn_slots (record { number = code.entry.number; variable = code.entry.variable; grain = code.entry.grain; callee = code.entry.callee; arguments = code.entry.arguments.now }) site share self.old) size (map plain code.entry.arguments.now)) self.old self.new) }
+        ensures evaluated { IfOk result (Evaluates (λ v. v.items) code.entry.number
+            (entry_at tables.now.tables (turn_slots (record {
+              number = code.entry.number;
+              variable = code.entry.variable;
+              grain = code.entry.grain;
+              callee = code.entry.callee;
+              arguments = code.entry.arguments.now;
+            }) site share self.old) size
+            (map plain code.entry.arguments.now)) self.old self.new) }
         ensures unchanged { OnErr result (self.new ≡ self.old) }
     {
         let number = Slot::Has(number_of(site, share));
@@ -405,7 +465,8 @@ impl<V: View> Machine<V> {
         variable: usize,
         number: Slot,
     ) -> Result<Vec<Slot>, Stop>
-        ensures notes { HasNoted (λ v. v.items) (entry_at tables.now.tables (slice_set self.old.top.slots variable number) size (map plain arguments.now)) self.old.layer self.new.layer result }
+        ensures notes { HasNoted (λ v. v.items) (entry_at tables.now.tables (slice_set self.old.top.slots variable number) size
+            (map plain arguments.now)) self.old.layer self.new.layer result }
         ensures rest { self.new ≡ record self.old { layer = self.new.layer } }
     {
         let room = self.spares.slots(alloc);

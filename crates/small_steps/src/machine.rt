@@ -46,7 +46,17 @@ impl<V: View> Model for Machine<V> {
 
     ghost Value = { PlainStrand };
 
-    ghost view = { λ s. record { start = s.start; layer = s.layer; lower = reverse s.lower.items; path = s.path.items; top = s.top; below = reverse s.below.items; phase = s.phase; arguments = s.arguments.items; tally = s.tally } };
+    ghost view = { λ s. record {
+      start = s.start;
+      layer = s.layer;
+      lower = reverse s.lower.items;
+      path = s.path.items;
+      top = s.top;
+      below = reverse s.below.items;
+      phase = s.phase;
+      arguments = s.arguments.items;
+      tally = s.tally;
+    } };
 
     ghost invariant = { λ s. LiesReady s.phase s.below.items s.place.items s.path.items };
 }

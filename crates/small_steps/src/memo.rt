@@ -29,7 +29,8 @@ impl<V: View> Machine<V> {
         kits: &mut K,
     ) -> Result<(), AllocError>
         requires entering { self.old.phase ≡ Phase.Entering }
-        requires supplied { IsSupplied K.fits K.gives K.free K.total setting.program.now.kinds kits.old setting.records.now self.old.layer.kinds self.old.lower }
+        requires supplied { IsSupplied K.fits K.gives K.free K.total setting.program.now.kinds kits.old setting.records.now
+            self.old.layer.kinds self.old.lower }
         ensures started { OnOk result (HoldsBy (K.lacks kits.old) (GivesNone K.gives kits.old)
             (λ kit. self.new ≡ started (lent setting.entry) kit self.old)) }
         ensures refused { OnErr result (IsValued self.old self.new) }
@@ -59,7 +60,8 @@ impl<V: View> Machine<V> {
         kits: &mut K,
     ) -> Result<(), AllocError>
         requires entering { self.old.phase ≡ Phase.Entering }
-        requires supplied { IsSupplied K.fits K.gives K.free K.total setting.program.now.kinds kits.old setting.records.now self.old.layer.kinds self.old.lower }
+        requires supplied { IsSupplied K.fits K.gives K.free K.total setting.program.now.kinds kits.old setting.records.now
+            self.old.layer.kinds self.old.lower }
         ensures recalled { OnOk result (HoldsBy (K.lacks kits.old) (GivesNone K.gives kits.old)
             (λ kit. self.new ≡ recalled (lent setting.entry) kit (answer_for (lent setting.entry) self.old) self.old)) }
         ensures refused { OnErr result (IsValued self.old self.new) }
@@ -197,7 +199,8 @@ impl<V: View> Machine<V> {
     ) -> Result<(), AllocError>
         requires returning { self.old.phase ≡ Phase.Returning value }
         requires layered { length self.old.tally.opened ≡ length self.old.lower }
-        requires supplied { IsSupplied K.fits K.gives K.free K.total setting.program.now.kinds kits.old setting.records.now self.old.layer.kinds self.old.lower }
+        requires supplied { IsSupplied K.fits K.gives K.free K.total setting.program.now.kinds kits.old setting.records.now
+            self.old.layer.kinds self.old.lower }
         ensures synced { OnOk result (self.new ≡ synced (lent setting.entry) value self.old) }
         ensures made { HaveValues self.old.layer.kinds self.old.tally.made → HaveValues self.old.layer.kinds self.new.tally.made }
         ensures refused { OnErr result (IsValued self.old self.new) }

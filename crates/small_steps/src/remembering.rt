@@ -59,9 +59,13 @@ impl<V: View> Machine<V> {
         requires fits { WorkFits entrance.work }
         requires running { self.old.phase ≡ Phase.Running }
         requires memo { memo_of setting.program.now.codes entrance.callee ≡ true }
-        requires supplied { IsSupplied K.fits K.gives K.free K.total setting.program.now.kinds kits.old setting.records.now self.old.layer.kinds self.old.lower }
+        requires supplied { IsSupplied K.fits K.gives K.free K.total setting.program.now.kinds kits.old setting.records.now
+            self.old.layer.kinds self.old.lower }
         ensures entered { OnOk result (HoldsBy (K.lacks kits.old) (GivesNone K.gives kits.old)
-            (λ kit. self.new ≡ evaluated entrance.statement (values_at setting.entry.tables.now.tables self.old.top.slots (map plain arguments.now)) (nested_memo (lent setting.entry) kit entrance.statement entrance.way entrance.into entrance.work entrance.callee) self.old)) }
+            (λ kit. self.new ≡ evaluated entrance.statement
+            (values_at setting.entry.tables.now.tables self.old.top.slots (map plain arguments.now))
+            (nested_memo (lent setting.entry) kit entrance.statement entrance.way entrance.into entrance.work entrance.callee)
+            self.old)) }
         ensures refused { OnErr result (IsValued self.old self.new) }
         ensures kits { KeepsKits K.fits K.gives K.free K.total setting.entry.program.now.kinds kits.old kits.new self.old.lower self.new.lower }
     {
@@ -84,9 +88,13 @@ impl<V: View> Machine<V> {
         requires fits { WorkFits entrance.work }
         requires running { self.old.phase ≡ Phase.Running }
         requires memo { memo_of setting.program.now.codes entrance.callee ≡ true }
-        requires supplied { IsSupplied K.fits K.gives K.free K.total setting.program.now.kinds kits.old setting.records.now self.old.layer.kinds self.old.lower }
+        requires supplied { IsSupplied K.fits K.gives K.free K.total setting.program.now.kinds kits.old setting.records.now
+            self.old.layer.kinds self.old.lower }
         ensures entered { OnOk result (HoldsBy (K.lacks kits.old) (GivesNone K.gives kits.old)
-            (λ kit. self.new ≡ evaluated entrance.statement (values_at setting.entry.tables.now.tables self.old.top.slots (map plain arguments.now)) (nested_memo (lent setting.entry) kit entrance.statement entrance.way entrance.into entrance.work entrance.callee) self.old)) }
+            (λ kit. self.new ≡ evaluated entrance.statement
+            (values_at setting.entry.tables.now.tables self.old.top.slots (map plain arguments.now))
+            (nested_memo (lent setting.entry) kit entrance.statement entrance.way entrance.into entrance.work entrance.callee)
+            self.old)) }
         ensures refused { OnErr result (IsValued self.old self.new) }
         ensures kits { KeepsKits K.fits K.gives K.free K.total setting.entry.program.now.kinds kits.old kits.new self.old.lower self.new.lower }
     {
@@ -115,9 +123,11 @@ impl<V: View> Machine<V> {
         requires fits { WorkFits entrance.work }
         requires running { self.old.phase ≡ Phase.Running }
         requires memo { memo_of setting.program.now.codes entrance.callee ≡ true }
-        requires supplied { IsSupplied K.fits K.gives K.free K.total setting.program.now.kinds kits.old setting.records.now self.old.layer.kinds self.old.lower }
+        requires supplied { IsSupplied K.fits K.gives K.free K.total setting.program.now.kinds kits.old setting.records.now
+            self.old.layer.kinds self.old.lower }
         ensures nested { OnOk result (HoldsBy (K.lacks kits.old) (GivesNone K.gives kits.old)
-            (λ kit. self.new ≡ nested_memo (lent setting.entry) kit entrance.statement entrance.way entrance.into entrance.work entrance.callee numbers.old.items self.old)) }
+            (λ kit. self.new ≡ nested_memo (lent setting.entry)
+            kit entrance.statement entrance.way entrance.into entrance.work entrance.callee numbers.old.items self.old)) }
         ensures refused { OnErr result (IsValued self.old self.new) }
         ensures kits { KeepsKits K.fits K.gives K.free K.total setting.entry.program.now.kinds kits.old kits.new self.old.lower self.new.lower }
     {
@@ -145,9 +155,11 @@ impl<V: View> Machine<V> {
         requires fits { WorkFits entrance.work }
         requires running { self.old.phase ≡ Phase.Running }
         requires memo { memo_of setting.program.now.codes entrance.callee ≡ true }
-        requires supplied { IsSupplied K.fits K.gives K.free K.total setting.program.now.kinds kits.old setting.records.now self.old.layer.kinds self.old.lower }
+        requires supplied { IsSupplied K.fits K.gives K.free K.total setting.program.now.kinds kits.old setting.records.now
+            self.old.layer.kinds self.old.lower }
         ensures nested { OnOk result (HoldsBy (K.lacks kits.old) (GivesNone K.gives kits.old)
-            (λ kit. self.new ≡ nested (lent setting.entry) kit entrance.statement entrance.way entrance.into entrance.work entrance.callee slots.items self.old)) }
+            (λ kit. self.new ≡ nested (lent setting.entry)
+            kit entrance.statement entrance.way entrance.into entrance.work entrance.callee slots.items self.old)) }
         ensures refused { OnErr result (IsValued self.old self.new) }
         ensures kits { KeepsKits K.fits K.gives K.free K.total setting.entry.program.now.kinds kits.old kits.new self.old.lower self.new.lower }
     {
@@ -175,9 +187,12 @@ impl<V: View> Machine<V> {
     ) -> Result<(), AllocError>
         requires fits { WorkFits entrance.work }
         requires running { self.old.phase ≡ Phase.Running }
-        requires supplied { IsSupplied K.fits K.gives K.free K.total setting.program.now.kinds kits.old setting.records.now self.old.layer.kinds self.old.lower }
+        requires supplied { IsSupplied K.fits K.gives K.free K.total setting.program.now.kinds kits.old setting.records.now
+            self.old.layer.kinds self.old.lower }
         ensures recalled { OnOk result (HoldsBy (K.lacks kits.old) (GivesNone K.gives kits.old)
-            (λ kit. self.new ≡ recalled (lent setting.entry) kit (answer_for (lent setting.entry) (pushed child false entrance.into entrance.work Phase.Entering self.old)) (pushed child false entrance.into entrance.work Phase.Entering self.old))) }
+            (λ kit. self.new ≡ recalled (lent setting.entry) kit
+            (answer_for (lent setting.entry) (pushed child false entrance.into entrance.work Phase.Entering self.old))
+            (pushed child false entrance.into entrance.work Phase.Entering self.old))) }
         ensures refused { OnErr result (IsValued self.old self.new) }
         ensures kits { KeepsKits K.fits K.gives K.free K.total setting.entry.program.now.kinds kits.old kits.new self.old.lower self.new.lower }
     {

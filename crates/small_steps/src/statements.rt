@@ -48,7 +48,8 @@ impl<V: View> Machine<V> {
         expression: &Expression,
     ) -> Result<(), AllocError>
         requires room { place.index + 1 < 2 ^ 64 }
-        ensures bound { OnOk result (self.new ≡ evaluated statement (value_at tables.now.tables self.old.top.slots (plain expression.now)) (binding place name) self.old) }
+        ensures bound { OnOk result (self.new ≡ evaluated statement (value_at tables.now.tables self.old.top.slots (plain expression.now))
+            (binding place name) self.old) }
         ensures unchanged { OnErr result (self.new ≡ self.old) }
     {
         match self.value(tables, statement, expression)? {
@@ -105,7 +106,8 @@ impl<V: View> Machine<V> {
         second: usize,
     ) -> Result<(), AllocError>
         requires room { place.index + 1 < 2 ^ 64 }
-        ensures chosen { OnOk result (self.new ≡ evaluated statement (value_at tables.now.tables self.old.top.slots (plain condition.now)) (choosing place first second) self.old) }
+        ensures chosen { OnOk result (self.new ≡ evaluated statement (value_at tables.now.tables self.old.top.slots (plain condition.now))
+            (choosing place first second) self.old) }
         ensures unchanged { OnErr result (self.new ≡ self.old) }
     {
         let before = self.layer.readings();

@@ -29,7 +29,9 @@ impl<V: View> Machine<V> {
     ) -> Result<(), AllocError>
         requires room { place.index + 1 < 2 ^ 64 }
         requires kinds { self.old.layer.kinds ≡ setting.program.now.kinds }
-        ensures updated { OnOk result (self.new ≡ evaluated statement (values_at setting.entry.tables.now.tables self.old.top.slots (map plain expressions.now)) (combining (slice_get setting.entry.program.now.kinds reducer) statement place reducer) self.old) }
+        ensures updated { OnOk result (self.new ≡ evaluated statement
+            (values_at setting.entry.tables.now.tables self.old.top.slots (map plain expressions.now))
+            (combining (slice_get setting.entry.program.now.kinds reducer) statement place reducer) self.old) }
         ensures unchanged { OnErr result (self.new ≡ self.old) }
     {
         let mut numbers = mem::replace(&mut self.numbers, Vec::new(alloc));
@@ -57,7 +59,9 @@ impl<V: View> Machine<V> {
     ) -> Result<(), AllocError>
         requires room { place.index + 1 < 2 ^ 64 }
         requires kinds { self.old.layer.kinds ≡ setting.program.now.kinds }
-        ensures updated { OnOk result (self.new ≡ evaluated statement (values_at setting.entry.tables.now.tables self.old.top.slots (map plain expressions.now)) (combining (slice_get setting.entry.program.now.kinds reducer) statement place reducer) self.old) }
+        ensures updated { OnOk result (self.new ≡ evaluated statement
+            (values_at setting.entry.tables.now.tables self.old.top.slots (map plain expressions.now))
+            (combining (slice_get setting.entry.program.now.kinds reducer) statement place reducer) self.old) }
         ensures unchanged { OnErr result (self.new ≡ self.old) }
     {
         let before = self.layer.readings();

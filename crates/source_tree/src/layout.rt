@@ -63,7 +63,8 @@ fn loop_over(
     callee: &str,
     arguments: &[source::Expr],
 ) -> Result<Action, AllocError>
-    ensures { IfOk result (λ a. (pool.new, flat_deed a) ≡ laid_plain pool.old (Loops 0 x.now (phrase low.now) (phrase high.now) grain callee.now (phrases arguments.now))) }
+    ensures { IfOk result (λ a. (pool.new, flat_deed a)
+        ≡ laid_plain pool.old (Loops 0 x.now (phrase low.now) (phrase high.now) grain callee.now (phrases arguments.now))) }
 {
     let number = pool.number_of(alloc, x)?;
     let low = lower_expression(alloc, pool, low)?;
@@ -84,7 +85,9 @@ fn choice(
     second: &[source::Statement],
 ) -> Result<Action, AllocError>
     requires { last.old + count_all (stmts_of (stmts first.now)) + count_all (stmts_of (stmts second.now)) ≤ most_statements }
-    ensures made { IfOk result (λ a. ((pool.new, last.new, flats blocks.new.items), flat_deed a) ≡ laid_deed (pool.old, last.old, flats blocks.old.items) (Tests 0 (phrase condition.now) (stmts_of (stmts first.now)) (stmts_of (stmts second.now)))) }
+    ensures made { IfOk result (λ a. ((pool.new, last.new, flats blocks.new.items), flat_deed a)
+        ≡ laid_deed (pool.old, last.old, flats blocks.old.items)
+        (Tests 0 (phrase condition.now) (stmts_of (stmts first.now)) (stmts_of (stmts second.now)))) }
     ensures counted { IfOk result (λ a. last.new ≡ last.old + count_all (stmts_of (stmts first.now)) + count_all (stmts_of (stmts second.now))) }
 {
     let condition = lower_expression(alloc, pool, condition)?;
@@ -102,7 +105,8 @@ fn action(
     statement: &source::Statement,
 ) -> Result<Action, AllocError>
     requires { last.old + count (stmt statement.now) ≤ 1048577 }
-    ensures made { IfOk result (λ a. ((pool.new, last.new, flats blocks.new.items), flat_deed a) ≡ laid_deed (pool.old, last.old, flats blocks.old.items) (stmt statement.now)) }
+    ensures made { IfOk result (λ a. ((pool.new, last.new, flats blocks.new.items), flat_deed a)
+        ≡ laid_deed (pool.old, last.old, flats blocks.old.items) (stmt statement.now)) }
     ensures counted { IfOk result (λ a. last.new + 1 ≡ last.old + count (stmt statement.now)) }
 {
     match statement {
@@ -165,7 +169,8 @@ fn block(
     body: &[source::Statement],
 ) -> Result<usize, AllocError>
     requires { last.old + count_all (stmts_of (stmts body.now)) ≤ most_statements }
-    ensures made { IfOk result (λ n. ((pool.new, last.new, flats blocks.new.items), n) ≡ laid_block (pool.old, last.old, flats blocks.old.items) (stmts_of (stmts body.now))) }
+    ensures made { IfOk result (λ n. ((pool.new, last.new, flats blocks.new.items), n)
+        ≡ laid_block (pool.old, last.old, flats blocks.old.items) (stmts_of (stmts body.now))) }
     ensures counted { IfOk result (λ n. last.new ≡ last.old + count_all (stmts_of (stmts body.now))) }
 {
     let statements = statements(alloc, pool, last, blocks, body)?;

@@ -4,7 +4,8 @@ ghost use Rattle.std.specs.Prelude.{◌≡◌, ◌≤◌, IfOk, string_bytes};
 ghost use Rattle.program_tree.specs.View.{proc, decl, tree, lines, lined, block_lines};
 ghost use Rattle.source_tree.specs.Source.{stmts, stmts_of, texts};
 ghost use Rattle.source_tree.specs.Source as plain;
-ghost use Rattle.source_tree.specs.Lowering.{count_all, body_len, BodiesWithin, lower_proc, body_lines, lowered_decl, lower_decl, lined_decl, settled, lowered, lines_of, most_statements};
+ghost use Rattle.source_tree.specs.Lowering.{count_all, body_len, BodiesWithin, lower_proc, body_lines, lowered_decl, lower_decl};
+ghost use Rattle.source_tree.specs.Lowering.{lined_decl, settled, lowered, lines_of, most_statements};
 ghost use Rattle.source_tree.specs.Layout.{flats, laid_procedure};
 
 use crate::layout::statements;

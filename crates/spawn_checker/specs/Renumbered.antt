@@ -39,5 +39,6 @@ AreNew names (procedure p ∷ rest) = (has_name names p.called ≡ false) × Are
 -- a program in the place of another is refused by its first violation, for want of numbers where none is violated, or for want of memory
 abbrev pub IsRefusedAnew : Revised → List Columned → Tree → List Lined → CheckError → Type 0
 IsRefusedAnew old tables program lines NoMemory = Unit {0}
-IsRefusedAnew old tables program lines (Check rule name line) = reported program (first_of (violations tables program lines)) ≡ Some (rule, string_bytes name, line)
+IsRefusedAnew old tables program lines (Check rule name line) =
+    reported program (first_of (violations tables program lines)) ≡ Some (rule, string_bytes name, line)
 IsRefusedAnew old tables program lines Exhausted = (violations tables program lines ≡ []) × (nat_lt most (revised old program old.counter).1 ≡ true)

@@ -84,7 +84,8 @@ fn next_checked(
     requires { IsClean (map columned tables.items) program }
     ensures program { IfOk result (λ checked. checked.program ≡ program) }
     ensures tables { IfOk result (λ checked. checked.tables ≡ map columned tables.items) }
-    ensures revisions { IfOk result (λ checked. ((revised_of checked).revisions, checked.counter) ≡ revised (revised_of old.now) (tree program) old.now.counter) }
+    ensures revisions { IfOk result (λ checked. ((revised_of checked).revisions, checked.counter)
+        ≡ revised (revised_of old.now) (tree program) old.now.counter) }
     ensures refused { IfErr result (IsRefusedAnew (revised_of old.now) (map columned tables.items) (tree program) (lines program)) }
 {
     old.revised();
@@ -94,7 +95,8 @@ fn next_checked(
     }
 }
 
-/// Checks a program in the place of another, against these tables' names. A procedure whose tree is as it was, lines aside, keeps its revision number; a changed or new one gets a number that was never used.
+/// Checks a program in the place of another, against these tables' names. A procedure whose tree is as it was, lines aside,
+/// keeps its revision number; a changed or new one gets a number that was never used.
 ///
 /// Refused as by `check`; where no rule is broken, as exhausted where a new number would not fit 64 bits.
 pub fn redefine(

@@ -26,7 +26,9 @@ fn note_body(
     declaration: usize,
     procedure: &Procedure,
 ) -> Result<Option<Violation>, AllocError>
-    ensures { IfOk result (λ found. found ≡ noted first (proc_violations (map decl declarations.now) (map columned tables.now) declaration (proc procedure.now) (block_lines procedure.now.blocks.items))) }
+    ensures { IfOk result (λ found. found ≡ noted first
+        (proc_violations (map decl declarations.now) (map columned tables.now) declaration (proc procedure.now)
+        (block_lines procedure.now.blocks.items))) }
 {
     let mut scope = Scope::new(alloc, procedure.parameters, procedure.names.len())?;
     let lines = LineTable::new(alloc, &procedure.blocks)?;
@@ -52,7 +54,8 @@ fn note_declaration(
     declaration: &Declaration,
 ) -> Result<Option<Violation>, AllocError>
     requires { number < length declarations.now }
-    ensures { IfOk result (λ found. found ≡ noted first (decl_violations (map decl declarations.now) (map columned tables.now) number (decl declaration.now) (lined declaration.now))) }
+    ensures { IfOk result (λ found. found ≡ noted first
+        (decl_violations (map decl declarations.now) (map columned tables.now) number (decl declaration.now) (lined declaration.now))) }
 {
     let before = &declarations[..number];
     match declaration {

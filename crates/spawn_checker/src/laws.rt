@@ -10,7 +10,8 @@ ghost use Rattle.spawn_checker.specs.Scanned.{scanned};
 
 use linked_program::checked::Checked;
 
-/// The revision numbers that a program gets in the place of another: those of procedures that are as they were, lines aside, and for the others numbers from the old counter on, each once; all lie below the new counter.
+/// The revision numbers that a program gets in the place of another: those of procedures that are as they were, lines aside,
+/// and for the others numbers from the old counter on, each once; all lie below the new counter.
 pub fn numbers_are_kept_or_new(old: &Checked)
     ensures kept_or_new { (t : Tree) → AreKeptOrNew (revised_of old.now) old.now.counter
         (procedures t) (revised (revised_of old.now) t old.now.counter).0 }

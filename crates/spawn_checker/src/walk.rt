@@ -61,7 +61,8 @@ fn note_late(
     levels: usize,
     action: &Action,
 ) -> Option<Violation>
-    ensures noted { result ≡ noted first (at place.declaration place.line (late_rules (setting.now.in_main && (now.depth == 0)) scope.now (deed (block blocks.now levels) action.now))) }
+    ensures noted { result ≡ noted first (at place.declaration place.line
+        (late_rules (setting.now.in_main && (now.depth == 0)) scope.now (deed (block blocks.now levels) action.now))) }
 {
     let late = setting.in_main && now.depth == 0 && scope.has_read();
     note_if(
@@ -82,7 +83,8 @@ fn note_here(
     levels: usize,
     statement: &Statement,
 ) -> Option<Violation>
-    ensures noted { result ≡ noted first (at setting.now.declaration (line_of setting.now.lines statement.now.number) (deed_rules (plain setting.now) now scope.old (deed (block blocks.now levels) statement.now.action))) }
+    ensures noted { result ≡ noted first (at setting.now.declaration (line_of setting.now.lines statement.now.number)
+        (deed_rules (plain setting.now) now scope.old (deed (block blocks.now levels) statement.now.action))) }
     ensures after { scope.new ≡ after_own now scope.old (deed (block blocks.now levels) statement.now.action) }
 {
     let place = Place {
@@ -185,7 +187,8 @@ fn note_statement(
     statement: &Statement,
 ) -> Option<Violation>
     requires { now.depth + levels + 1 < 2 ^ 64 }
-    ensures noted { result ≡ noted first (step_violations (plain setting.now) now scope.old statement.now.number (deed (block blocks.now levels) statement.now.action)) }
+    ensures noted { result ≡ noted first (step_violations (plain setting.now) now scope.old statement.now.number
+        (deed (block blocks.now levels) statement.now.action)) }
     ensures after { scope.new ≡ after_deed now scope.old (deed (block blocks.now levels) statement.now.action) }
 {
     let first_here = note_here(setting, first, scope, now, blocks, levels, statement);

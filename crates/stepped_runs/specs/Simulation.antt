@@ -7,7 +7,8 @@ use Rattle.positions.specs.Setting.{Setting, IsLinked, HasItsTables, HasItsRecor
 use Rattle.stepped_runs.specs.Runs.{PlainRun}
 use Rattle.stepped_runs.specs.Stands.{StandsForUnflagged}
 
--- what the steps by numbers ask for: a program and tables that were checked, sound records, a revision number for each procedure, the program's codes and kinds, and records by number that stand for those by name
+-- what the steps by numbers ask for: a program and tables that were checked, sound records, a revision number for each
+-- procedure, the program's codes and kinds, and records by number that stand for those by name
 pub record IsPrepared (setting : Setting) : Type 0 where
   pub ready : IsReady setting.program setting.tables setting.memory
   pub numbered : IsNumbered setting.program

@@ -27,7 +27,8 @@ abbrev pub IsBelowMain : Place → Type 0
 IsBelowMain [] = ⊥
 IsBelowMain (k ∷ n) = Unit {0}
 
--- as what a strand was laid down says at which point it is: a child that has returned, at its entry, with a fault and its lowest layer alone, or main at its end
+-- as what a strand was laid down says at which point it is: a child that has returned, at its entry, with a fault and its
+-- lowest layer alone, or main at its end
 abbrev pub IsLaidAs : State → Phase → PlainStrand → Type 0
 IsLaidAs (Held w) ph s = Unit {0}
 IsLaidAs Ended (Leaving v) s = IsBelowMain s.path

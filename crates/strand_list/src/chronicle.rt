@@ -86,7 +86,8 @@ impl Chronicle {
 
     /// The number of the line of a place.
     pub fn find(&self, place: &[usize]) -> Option<usize>
-        ensures { MatchOption result (position place.now self.now.page.lines ≡ length self.now.page.lines) (λ k. (k ≡ position place.now self.now.page.lines) × (k < length self.now.page.lines)) }
+        ensures { MatchOption result (position place.now self.now.page.lines ≡ length self.now.page.lines)
+            (λ k. (k ≡ position place.now self.now.page.lines) × (k < length self.now.page.lines)) }
     {
         self.page.find(place)
     }

@@ -90,7 +90,8 @@ pub fn is_last(state: State) -> bool
 
 /// The number of the line of a place.
 pub fn find(lines: &[StrandLine], place: &[usize]) -> Option<usize>
-    ensures { MatchOption result (position place.now (shown lines.now) ≡ length lines.now) (λ k. (k ≡ position place.now (shown lines.now)) × (k < length lines.now)) }
+    ensures { MatchOption result (position place.now (shown lines.now) ≡ length lines.now)
+        (λ k. (k ≡ position place.now (shown lines.now)) × (k < length lines.now)) }
 {
     for (k, line) in lines.iter().enumerate() {
         if is_same(&line.place, place) {

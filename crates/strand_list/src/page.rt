@@ -64,7 +64,8 @@ impl Page {
 
     /// The number of the line of a place.
     pub fn find(&self, place: &[usize]) -> Option<usize>
-        ensures { MatchOption result (position place.now self.now.lines ≡ length self.now.lines) (λ k. (k ≡ position place.now self.now.lines) × (k < length self.now.lines)) }
+        ensures { MatchOption result (position place.now self.now.lines ≡ length self.now.lines)
+            (λ k. (k ≡ position place.now self.now.lines) × (k < length self.now.lines)) }
     {
         find(&self.lines, place)
     }

@@ -42,7 +42,8 @@ pub fn join<V: View>(
     ensures made { (kinds : List Kind) → HaveValues kinds machine.old.tally.made → HaveValues kinds right.tally.made → HaveValues kinds machine.new.tally.made }
     ensures left_kept { OnErr result (machine.new ≡ with_worths machine.new.layer.worths machine.old) }
     ensures right_kept { IfErr result (λ e. e.1 ≡ with_worths e.1.layer.worths right) }
-    ensures product { IfErr result (λ e. operate_all machine.old.layer.kinds machine.new.layer.worths e.1.layer.worths ≡ operate_all machine.old.layer.kinds machine.old.layer.worths right.layer.worths) }
+    ensures product { IfErr result (λ e. operate_all machine.old.layer.kinds machine.new.layer.worths e.1.layer.worths
+        ≡ operate_all machine.old.layer.kinds machine.old.layer.worths right.layer.worths) }
     ensures views { IfErr result (λ e. FoldsViews machine.old.phase right.phase ⊎ ((machine.new ≡ machine.old) × (e.1 ≡ right))) }
 {
     match machine.phase {
@@ -97,7 +98,8 @@ fn join_ended<V: View>(
     ensures made { (kinds : List Kind) → HaveValues kinds machine.old.tally.made → HaveValues kinds right.tally.made → HaveValues kinds machine.new.tally.made }
     ensures left_kept { OnErr result (machine.new ≡ with_worths machine.new.layer.worths machine.old) }
     ensures right_kept { IfErr result (λ e. e.1 ≡ with_worths e.1.layer.worths right) }
-    ensures product { IfErr result (λ e. operate_all machine.old.layer.kinds machine.new.layer.worths e.1.layer.worths ≡ operate_all machine.old.layer.kinds machine.old.layer.worths right.layer.worths) }
+    ensures product { IfErr result (λ e. operate_all machine.old.layer.kinds machine.new.layer.worths e.1.layer.worths
+        ≡ operate_all machine.old.layer.kinds machine.old.layer.worths right.layer.worths) }
 {
     match machine
         .tally
@@ -113,7 +115,8 @@ fn join_ended<V: View>(
 
 /// Goes on with the instances of a strand that is let go, whose kit it gives.
 fn go_on_as<V: View>(machine: &mut Machine<V>, right: Machine<V>) -> Kit<V>
-    ensures goes_on { machine.new ≡ record right { start = machine.old.start; layer = machine.old.layer; lower = machine.old.lower; tally = machine.old.tally } }
+    ensures goes_on { machine.new ≡ record right
+        { start = machine.old.start; layer = machine.old.layer; lower = machine.old.lower; tally = machine.old.tally } }
     ensures kit { result ≡ right.layer.kinds }
 {
     let Machine {

@@ -1,5 +1,6 @@
 -- A list of strands with its legal history, what is kept of each strand, and why a fold is refused.
-use Rattle.std.specs.Prelude.{◌≡◌, ◌⊎◌, ◌<◌, ℕ, suc, length, Bool, true, false, cond, ◌&&◌, List, [], ◌∷◌, drop, Option, Some, None, Result, OnOk, IfErr, slice_set, slice_index_or}
+use Rattle.std.specs.Prelude.{◌≡◌, ◌⊎◌, ◌<◌, ℕ, suc, length, Bool, true, false, cond, ◌&&◌, List, [], ◌∷◌, drop, Option, Some, None}
+use Rattle.std.specs.Prelude.{Result, OnOk, IfErr, slice_set, slice_index_or}
 use Rattle.std.specs.List.{remove}
 use Rattle.meaning.specs.Outcome.{Place}
 use Rattle.meaning.specs.Strands.{Line, Fold, Finished, is_held, done, waits, stepped, replayed}
@@ -182,7 +183,8 @@ touch b l r = are_neighbours l r b.chronicle.page.lines && may_touch (drop (posi
 
 abbrev pub fold_refusal : PlainBook → Place → Place → ℕ → Option BookError
 fold_refusal b l r w =
-    unless (stands l b.chronicle.page.lines && stands r b.chronicle.page.lines) error.NoStrand (unless (touch b l r) error.NotNeighbour (unless_allowed (stepped b.chronicle.page (Fold l r w))))
+    unless (stands l b.chronicle.page.lines && stands r b.chronicle.page.lines) error.NoStrand
+    (unless (touch b l r) error.NotNeighbour (unless_allowed (stepped b.chronicle.page (Fold l r w))))
 
 -- ---- a fold of the first two that may be folded
 

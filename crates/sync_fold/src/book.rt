@@ -37,7 +37,8 @@ impl<J: Run, V: View> Model for Book<J, V> {
 }
 
 impl<J: Run, V: View> Book<J, V> {
-    ghost use Rattle.std.specs.Prelude.{◌≡◌, ◌⊎◌, ◌+◌, ◌<◌, ◌≤◌, ◌∷◌, [], suc, true, false, List, length, drop, Some, None, IfSome, IfOk, IfErr, OnOk, OnErr, MatchOption};
+    ghost use Rattle.std.specs.Prelude.{◌≡◌, ◌⊎◌, ◌+◌, ◌<◌, ◌≤◌, ◌∷◌, [], suc, true, false, List, length, drop, Some, None, IfSome, IfOk};
+    ghost use Rattle.std.specs.Prelude.{IfErr, OnOk, OnErr, MatchOption};
     ghost use Rattle.monoid_laws.specs.declared.Kind.{Kind};
     ghost use Rattle.meaning.specs.Strands.{Split, Fold, stepped, replayed};
     ghost use Rattle.rerun_records.specs.Named.{HaveValues};
@@ -49,7 +50,8 @@ impl<J: Run, V: View> Book<J, V> {
     ghost use Rattle.strand_list.specs.Replays.{LeavesRootAlone};
     ghost use Rattle.strand_list.specs.Chronicled.{Took, IsRefusedBy, unless_allowed, first_chronicle, split_refusal, rest_refusal};
     ghost use Rattle.sync_fold.specs.Refusals.{HoldsNone, TookHeld, held_refusal, is_apart};
-    ghost use Rattle.sync_fold.specs.Books.{IsBook, FirstBecome, FirstStay, FoldsAny, FoldsFirst, PlacesAt, first_fold, touch, BecomeOne, KeepsStrands, begins_at, lay_refusal, is_ended, fold_refusal};
+    ghost use Rattle.sync_fold.specs.Books.{IsBook, FirstBecome, FirstStay, FoldsAny, FoldsFirst, PlacesAt, first_fold, touch, BecomeOne};
+    ghost use Rattle.sync_fold.specs.Books.{KeepsStrands, begins_at, lay_refusal, is_ended, fold_refusal};
 
     /// The first strand, held by worker 0, with no history.
     pub fn start(alloc: Global) -> Result<Book<J, V>, AllocError>

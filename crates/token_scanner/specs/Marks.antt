@@ -1,7 +1,11 @@
 -- Marks and keywords, told apart by their numbers.
 use Rattle.std.specs.Prelude.{ℕ, ◌==◌, Bool}
 use Rattle.token_scanner.specs.declared.token.Mark.{Mark}
-use Rattle.token_scanner.specs.declared.token.Mark.TheVariants.{OpenBrace, CloseBrace, OpenParen, CloseParen, OpenBracket, CloseBracket, Colon, Semicolon, Comma, Dot, Range, Assign, Equal, Unequal, Less, AtMost, Greater, AtLeast, Plus, Minus, Star, Slash, Percent, Reducer, Memo, Proc, Call, Spawn, Sync, Update, If, Else, CilkFor, In, Grain, Return, Read, Has, Limit, Sum}
+use Rattle.token_scanner.specs.declared.token.Mark.TheVariants.{OpenBrace, CloseBrace, OpenParen, CloseParen, OpenBracket, CloseBracket}
+use Rattle.token_scanner.specs.declared.token.Mark.TheVariants.{Colon, Semicolon, Comma, Dot, Range, Assign, Equal, Unequal, Less, AtMost}
+use Rattle.token_scanner.specs.declared.token.Mark.TheVariants.{Greater, AtLeast, Plus, Minus, Star, Slash, Percent, Reducer, Memo, Proc}
+use Rattle.token_scanner.specs.declared.token.Mark.TheVariants.{Call, Spawn, Sync, Update, If, Else, CilkFor, In, Grain, Return, Read, Has}
+use Rattle.token_scanner.specs.declared.token.Mark.TheVariants.{Limit, Sum}
 
 abbrev pub mark_number : Mark → ℕ
 mark_number OpenBrace = 0

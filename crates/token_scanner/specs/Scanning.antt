@@ -1,5 +1,6 @@
 -- A text's tokens.
-use Rattle.std.specs.Prelude.{ℕ, zero, suc, ◌+◌, ◌-◌, ◌*◌, List, [], ◌∷◌, length, take, drop, Bool, true, false, ◌==◌, ◌||◌, ◌&&◌, nat_lt, nat_le, Option, Some, None, if◌then◌else◌, bytes_eq, codes, pos}
+use Rattle.std.specs.Prelude.{ℕ, zero, suc, ◌+◌, ◌-◌, ◌*◌, List, [], ◌∷◌, length, take, drop, Bool, true, false, ◌==◌, ◌||◌, ◌&&◌, nat_lt}
+use Rattle.std.specs.Prelude.{nat_le, Option, Some, None, if◌then◌else◌, bytes_eq, codes, pos}
 use Rattle.token_scanner.specs.declared.token.Mark.{Mark}
 use Rattle.token_scanner.specs.declared.token.Mark.TheVariants as mark
 use Rattle.token_scanner.specs.declared.scanning.Class.{Class}

@@ -2,7 +2,8 @@
 
 ghost use Rattle.std.specs.Prelude.{◌≡◌, ◌≤◌, ◌<◌, ◌+◌, length, IfOk, IfSome, MatchOption, IsUtf8, pos, None};
 ghost use Rattle.token_scanner.specs.Words.{words, word};
-ghost use Rattle.token_scanner.specs.Scanning.{is_letter, is_digit, is_space, belongs, front_len, followed, longer, single_of, mark_of, name_of, number_of, keyword_of, decimal, word_at, tokens_of, line_ends, longest_text};
+ghost use Rattle.token_scanner.specs.Scanning.{is_letter, is_digit, is_space, belongs, front_len, followed, longer, single_of, mark_of};
+ghost use Rattle.token_scanner.specs.Scanning.{name_of, number_of, keyword_of, decimal, word_at, tokens_of, line_ends, longest_text};
 
 use crate::token::{Mark, Placed, Token};
 use std::alloc::{AllocError, Global};

@@ -2,7 +2,8 @@
 ghost use Rattle.std.specs.Prelude.{◌≡◌, IfOk, OnOk, flat_map, string_bytes};
 ghost use Rattle.numbered_runs.specs.Named.{book_step, history as steps_of};
 ghost use Rattle.trace_report.specs.Outcomes.{Extends};
-ghost use Rattle.trace_report.specs.Traces.{dotted, place_text, laid_text, places_text, step_text, history_text, trace_text, splits_in, folds_in, instances_text, moves_text, kits_text, counts_text, no_counts_text, stats_text};
+ghost use Rattle.trace_report.specs.Traces.{dotted, place_text, laid_text, places_text, step_text, history_text, trace_text, splits_in};
+ghost use Rattle.trace_report.specs.Traces.{folds_in, instances_text, moves_text, kits_text, counts_text, no_counts_text, stats_text};
 
 use crate::answers::push_run;
 use numbered_runs::step::BookStep;

@@ -3,7 +3,8 @@ use Rattle.std.specs.Prelude.{◌≡◌, ℕ, ℤ, Bool, List, Option}
 use Rattle.program_tree.specs.Plain.{Tree}
 use Rattle.meaning.specs.Tables.{Tables}
 use Rattle.meaning.specs.Outcome.{Accumulators}
-use Rattle.meaning.specs.SmallStep.{Todo, blocks, halves, second, turns, Child, Phase, entering, running, spawning, returning, leaving, broken, Parent, Lookup, Continuation}
+use Rattle.meaning.specs.SmallStep.{Todo, blocks, halves, second, turns, Child, Phase, entering, running, spawning, returning, leaving}
+use Rattle.meaning.specs.SmallStep.{broken, Parent, Lookup, Continuation}
 use Rattle.trail_theory.specs.Order.{Every}
 use Rattle.trail_theory.specs.Waiting.{NoReads}
 use Rattle.meaning.specs.LayeredStrand.{LayeredStrand, advance, first_layered, inlined, detached, continuation, resumed, stolen, joined}
@@ -37,9 +38,11 @@ pub record CalmStays (program : Tree) (tables : Tables) (lookup : Lookup) : Type
   pub begins : IsCalm (first_layered program)
   pub sees : (acc sight : Accumulators) (s : LayeredStrand) → IsCalm s → Sees acc sight s.phase
   pub advances : (kit : Bool) (s : LayeredStrand) → IsCalm s → IsCalm (advance program tables lookup kit s)
-  pub inlines : (s : LayeredStrand) (d : ℕ) (x : Option ℕ) (child : Child) (todo : Todo) → s.phase ≡ spawning d x child todo → IsCalm s → IsCalm (inlined program s d x child todo)
+  pub inlines : (s : LayeredStrand) (d : ℕ) (x : Option ℕ) (child : Child) (todo : Todo) → s.phase ≡ spawning d x child todo → IsCalm s
+      → IsCalm (inlined program s d x child todo)
   pub detaches : (s : LayeredStrand) (d : ℕ) (child : Child) → IsCalm (detached program s d child)
-  pub continues : (s : LayeredStrand) (d : ℕ) (x : Option ℕ) (child : Child) (todo : Todo) → s.phase ≡ spawning d x child todo → IsCalm s → IsCalmContinuation (continuation s x todo)
+  pub continues : (s : LayeredStrand) (d : ℕ) (x : Option ℕ) (child : Child) (todo : Todo) → s.phase ≡ spawning d x child todo → IsCalm s
+      → IsCalmContinuation (continuation s x todo)
   pub steals : (k : Continuation) → IsCalmContinuation k → IsCalm (stolen program k)
   pub pops : (s : LayeredStrand) (k : Continuation) (v : ℤ) → IsCalmContinuation k → IsCalm (resumed program s k v)
   pub joins : (l r : LayeredStrand) (v : ℤ) → IsCalm r → IsCalm (joined program l v r)

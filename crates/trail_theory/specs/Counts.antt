@@ -49,7 +49,9 @@ pub record IsCounted (t : Tally) (es : Log) : Type 0 where
 
 -- up to its first fault the trail marks the instances that are needed
 abbrev pub MarksAreNeeded : Revised → Tables → List Kept → Accumulators → Type 0
-MarksAreNeeded program tables records sight = SameKeys program.tree (needed program tables records) (before_fault (trail_at program.tree tables sight (look_of (valid_record program tables records))))
+MarksAreNeeded program tables records sight =
+    SameKeys program.tree (needed program tables records)
+    (before_fault (trail_at program.tree tables sight (look_of (valid_record program tables records))))
 
 -- the tally of main's strand that is over has counted the needed instances
 pub record CountsNeeded (program : Revised) (tables : Tables) (records : List Kept) (t : Tally) : Type 0 where

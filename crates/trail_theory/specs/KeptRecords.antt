@@ -20,7 +20,8 @@ ValidAnswers program tables records = Every (IsSound program) records → Answer
 
 -- all records stay sound as new ones are put in
 abbrev pub CommitsStaySound : Revised → Type 0
-CommitsStaySound program = (records new : List Kept) → Every (IsSound program) records → Every (IsSound program) new → Every (IsSound program) (committed records new)
+CommitsStaySound program = (records new : List Kept) → Every (IsSound program) records → Every (IsSound program) new
+    → Every (IsSound program) (committed records new)
 
 -- and as procedures are defined anew
 abbrev pub RecordsStaySound : Revised → Revised → Type 0
@@ -28,5 +29,7 @@ RecordsStaySound program later = (records : List Kept) → Every (IsSound progra
 
 -- an instance leaves the values that it found, times its contribution
 abbrev pub ActsByContribution : Tree → Tables → Type 0
-ActsByContribution program tables = (depth : ℕ) (site : Site) (f : Name) (vs : List ℤ) (acc : Accumulators) (v : ℤ) → 0 < depth → depth ≤ depth_limit → IsOther f → Every Fits vs → AreWorths (kinds_of program) acc
-    → (let o = elide program tables (suc depth_limit - depth) site f vs acc in o.answer ≡ Ok v → after o.log acc ≡ combined acc (with_kinds (reducers program) (contribution_of program tables depth f vs)))
+ActsByContribution program tables = (depth : ℕ) (site : Site) (f : Name) (vs : List ℤ) (acc : Accumulators) (v : ℤ) → 0 < depth
+    → depth ≤ depth_limit → IsOther f → Every Fits vs → AreWorths (kinds_of program) acc
+    → (let o = elide program tables (suc depth_limit - depth) site f vs acc in o.answer ≡ Ok v
+    → after o.log acc ≡ combined acc (with_kinds (reducers program) (contribution_of program tables depth f vs)))

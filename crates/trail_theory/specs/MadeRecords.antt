@@ -33,7 +33,8 @@ pub record IsMade (program : Revised) (tables : Tables) (depth : ℕ) (k : Kept)
 pub record IsLater (program later : Revised) : Type 0 where
   pub reducers_are : reducers program.tree ≡ reducers later.tree
   pub counted : program.counter ≤ later.counter
-  pub unchanged : (f : Name) (n : ℕ) → n < program.counter → is_current later.revisions (f, n) ≡ true → (is_current program.revisions (f, n) ≡ true) × (proc_of program.tree f ≡ proc_of later.tree f)
+  pub unchanged : (f : Name) (n : ℕ) → n < program.counter → is_current later.revisions (f, n) ≡ true
+      → (is_current program.revisions (f, n) ≡ true) × (proc_of program.tree f ≡ proc_of later.tree f)
 
 -- an answer at a depth is a sound record of the name and arguments, which holds now and whose instances fit below there
 pub record IsAnswer (program : Revised) (tables : Tables) (f : Name) (vs : List ℤ) (depth : ℕ) (k : Kept) : Type 0 where
@@ -46,7 +47,8 @@ pub record IsAnswer (program : Revised) (tables : Tables) (f : Name) (vs : List 
 
 -- answers for recorded procedures are such
 abbrev pub RecordedBySound : Revised → Tables → Lookup → Type 0
-RecordedBySound program tables lookup = (f : Name) (vs : List ℤ) (depth : ℕ) (k : Kept) → IsRecorded program.tree f → lookup f vs depth ≡ Some k → IsAnswer program tables f vs depth k
+RecordedBySound program tables lookup = (f : Name) (vs : List ℤ) (depth : ℕ) (k : Kept) → IsRecorded program.tree f
+    → lookup f vs depth ≡ Some k → IsAnswer program tables f vs depth k
 
 abbrev pub AnswersBySound : Revised → Tables → Lookup → Type 0
 AnswersBySound program tables lookup = (f : Name) (vs : List ℤ) (depth : ℕ) (k : Kept) → lookup f vs depth ≡ Some k → IsAnswer program tables f vs depth k

@@ -3,7 +3,8 @@ use Rattle.std.specs.Prelude.{◌≡◌, ◌⊎◌, Bool, true, false, ◌&&◌,
 use Rattle.program_tree.specs.Plain.{Body}
 use Rattle.meaning.specs.Elision.{main}
 use Rattle.meaning.specs.Outcome.{Log, Event, Place, Reads, Enters, Updates, Reuses, Begins, Syncs, Leaves, Faults, Marks, Spawns}
-use Rattle.meaning.specs.SmallStep.{Todo, blocks, halves, second, turns, Child, instance, half, Phase, entering, running, spawning, returning, leaving, broken, Parent}
+use Rattle.meaning.specs.SmallStep.{Todo, blocks, halves, second, turns, Child, instance, half, Phase, entering, running, spawning}
+use Rattle.meaning.specs.SmallStep.{returning, leaving, broken, Parent}
 use Rattle.trail_theory.specs.Order.{Every}
 use Rattle.trail_theory.specs.Waiting.{NoReads}
 use Rattle.trail_theory.specs.ReadsAtEnd.{IsOther, EntersOnly, spawns_nothing, ReadsAtEnd}

@@ -79,7 +79,8 @@ module _ (program : Tree) (tables : Tables) (sight : Accumulators) (lookup : Loo
     pub later : Log
     pub memo : IsRecorded program o.of
     pub deep : o.left < depth_limit
-    pub is_trail : x ++ ((run program tables sight o.left (look_of lookup) o.of o.args o.instance).events ++ later) ≡ trail_at program tables sight (look_of lookup)
+    pub is_trail : x ++ ((run program tables sight o.left (look_of lookup) o.of o.args o.instance).events ++ later)
+        ≡ trail_at program tables sight (look_of lookup)
 
   -- each layer above the bottom one is an opened instance's, and begins where its run does
   abbrev pub OpenFit : Log → List Opened → List Log → Type 0

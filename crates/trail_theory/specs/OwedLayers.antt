@@ -1,4 +1,6 @@
--- Which strand has the layer of which instance. A layer stays with the strand that opened it, also where a thief takes its instance: so a strand and its continuations have the instances that it opened and those of strands to the left of it, but for those that strands to the right have.
+-- Which strand has the layer of which instance. A layer stays with the strand that opened it, also where a thief takes its
+-- instance: so a strand and its continuations have the instances that it opened and those of strands to the left of it, but for
+-- those that strands to the right have.
 use Rattle.std.specs.Prelude.{◌≡◌, List, [], ◌∷◌, ◌++◌, map}
 use Rattle.meaning.specs.Outcome.{Place}
 use Rattle.meaning.specs.SmallStep.{Start, root, behind, Phase, entering, running, spawning, returning, leaving, broken, Parent, Continuation}

@@ -1,11 +1,13 @@
--- The open layers of one strand, told of that strand alone: their instances are on the way from main to the topmost one, each inside the next; so none of them has left.
+-- The open layers of one strand, told of that strand alone: their instances are on the way from main to the topmost one, each
+-- inside the next; so none of them has left.
 use Rattle.std.specs.Prelude.{◌≡◌, ℕ, ℤ, Bool, true, false, List, [], ◌∷◌, ◌++◌, Option, suc, nat_eq, length}
 use Rattle.program_tree.specs.Plain.{Name, read, Body, step}
 use Rattle.meaning.specs.Tables.{Tables}
 use Rattle.meaning.specs.Outcome.{Log, Accumulators, Outcome, Place, Leaves}
 use Rattle.meaning.specs.Records.{Revised}
 use Rattle.meaning.specs.Trail.{child_of, sight_of}
-use Rattle.meaning.specs.SmallStep.{Start, behind, same_name, is_entry, Frame, Todo, blocks, Child, Phase, entering, running, spawning, returning, leaving, broken, with_layer, Lookup, Continuation, place_of_continuation}
+use Rattle.meaning.specs.SmallStep.{Start, behind, same_name, is_entry, Frame, Todo, blocks, Child, Phase, entering, running, spawning}
+use Rattle.meaning.specs.SmallStep.{returning, leaving, broken, with_layer, Lookup, Continuation, place_of_continuation}
 use Rattle.meaning.specs.Layers.{Notes}
 use Rattle.meaning.specs.LayeredStrand.{LayeredStrand, first_layered, inlined, detached, resumed, stolen, joined}
 use Rattle.meaning.specs.Tallies.{Opened, Tally, no_tally, tallies_joined}
@@ -113,13 +115,21 @@ module _ (program : Revised) (tables : Tables) (lookup : Lookup) where
   -- each move of a strand leaves it the owner of its layers; no other strand, and no continuation's flag, is asked
   pub record LayersStayOwn : Type 0 where
     pub begins : OwnsNow (first_layered program.tree) no_tally
-    pub advances : (kit : Bool) (s : LayeredStrand) (t : Tally) → OwnsNow s t → OwnsNow (advanced_now program tables lookup kit (by_name s t)) (tallied_now program tables lookup kit (by_name s t) t)
-    pub advances_by_flag : (kit : Bool) (s : LayeredStrand) (t : Tally) → OwnsNow s t → KnowsTop s.start s.frame s.phase t.opened → OwnsNow (advanced_now program tables lookup kit s) (tallied_now program tables lookup kit s t)
-    pub inlines : (s : LayeredStrand) (t : Tally) (d : ℕ) (x : Option ℕ) (child : Child) (todo : Todo) → s.phase ≡ spawning d x child todo → OwnsNow s t → OwnsNow (inlined program.tree s d x child todo) t
-    pub detaches : (s : LayeredStrand) (t : Tally) (d : ℕ) (x : Option ℕ) (child : Child) (todo : Todo) → s.phase ≡ spawning d x child todo → OwnsNow s t → OwnsNow (detached program.tree s d child) t
-    pub pops : (s : LayeredStrand) (t : Tally) (k : Continuation) (v : ℤ) → s.phase ≡ leaving v → s.under ≡ [] → s.start ≡ k.since → s.frame.instance ≡ place_of_continuation k → OwnsNow s t → IsContinuationNow program tables lookup k → OwnsNow (resumed program.tree s k v) t
+    pub advances : (kit : Bool) (s : LayeredStrand) (t : Tally) → OwnsNow s t
+        → OwnsNow (advanced_now program tables lookup kit (by_name s t)) (tallied_now program tables lookup kit (by_name s t) t)
+    pub advances_by_flag : (kit : Bool) (s : LayeredStrand) (t : Tally) → OwnsNow s t → KnowsTop s.start s.frame s.phase t.opened
+        → OwnsNow (advanced_now program tables lookup kit s) (tallied_now program tables lookup kit s t)
+    pub inlines : (s : LayeredStrand) (t : Tally) (d : ℕ) (x : Option ℕ) (child : Child) (todo : Todo) → s.phase ≡ spawning d x child todo
+        → OwnsNow s t → OwnsNow (inlined program.tree s d x child todo) t
+    pub detaches : (s : LayeredStrand) (t : Tally) (d : ℕ) (x : Option ℕ) (child : Child) (todo : Todo) → s.phase ≡ spawning d x child todo
+        → OwnsNow s t → OwnsNow (detached program.tree s d child) t
+    pub pops : (s : LayeredStrand) (t : Tally) (k : Continuation) (v : ℤ) → s.phase ≡ leaving v → s.under ≡ [] → s.start ≡ k.since
+        → s.frame.instance ≡ place_of_continuation k → OwnsNow s t → IsContinuationNow program tables lookup k
+        → OwnsNow (resumed program.tree s k v) t
     pub steals : (k : Continuation) → IsContinuationNow program tables lookup k → OwnsNow (stolen program.tree k) no_tally
-    pub joins : (l r : LayeredStrand) (t u : Tally) (v : ℤ) (m : Place) (c : ℕ) (noted : Notes) → l.phase ≡ leaving v → l.under ≡ [] → r.start ≡ behind m c → l.frame.instance ≡ child_of m c → r.layers ≡ noted ∷ [] → MayJoin l (joined program.tree l v r) → OwnsNow l t → OwnsNow r u → OwnsNow (joined program.tree l v r) (tallies_joined t u)
+    pub joins : (l r : LayeredStrand) (t u : Tally) (v : ℤ) (m : Place) (c : ℕ) (noted : Notes) → l.phase ≡ leaving v → l.under ≡ []
+        → r.start ≡ behind m c → l.frame.instance ≡ child_of m c → r.layers ≡ noted ∷ [] → MayJoin l (joined program.tree l v r)
+        → OwnsNow l t → OwnsNow r u → OwnsNow (joined program.tree l v r) (tallies_joined t u)
 
   -- no instance with an open layer has left in the strand's stretch
   abbrev pub OpenHasNotLeft : Type 0
@@ -127,7 +137,8 @@ module _ (program : Revised) (tables : Tables) (lookup : Lookup) where
 
   -- a strand that stands at its entry has one layer
   abbrev pub OwnEntryHasOneLayer : Type 0
-  OwnEntryHasOneLayer = (s : LayeredStrand) (t : Tally) → is_entry s.start s.frame.instance ≡ true → OwnsNow s t → Unbroken s.phase ((t.opened ≡ []) × IsOneLayer s.layers)
+  OwnEntryHasOneLayer = (s : LayeredStrand) (t : Tally) → is_entry s.start s.frame.instance ≡ true → OwnsNow s t
+      → Unbroken s.phase ((t.opened ≡ []) × IsOneLayer s.layers)
 
   -- and so has one whose topmost instance is main
   abbrev pub OwnMainHasOneLayer : Type 0
@@ -135,7 +146,8 @@ module _ (program : Revised) (tables : Tables) (lookup : Lookup) where
 
   -- and one that stands at a read of a reducer
   abbrev pub OwnReadHasOneLayer : Type 0
-  OwnReadHasOneLayer = (s : LayeredStrand) (t : Tally) (n x : ℕ) (r : Name) (b : Body) (bs : List Body) → s.phase ≡ running (blocks (step n (read x r) b ∷ bs)) → OwnsNow s t → (t.opened ≡ []) × IsOneLayer s.layers
+  OwnReadHasOneLayer = (s : LayeredStrand) (t : Tally) (n x : ℕ) (r : Name) (b : Body) (bs : List Body)
+      → s.phase ≡ running (blocks (step n (read x r) b ∷ bs)) → OwnsNow s t → (t.opened ≡ []) × IsOneLayer s.layers
 
   -- the layer that an instance closes is its own
   pub record OwnClosesItsOwn : Type 0 where
@@ -144,7 +156,9 @@ module _ (program : Revised) (tables : Tables) (lookup : Lookup) where
 
   -- a fold asks for no count of layers: the right strand stands at its entry
   abbrev pub OwnFolds : Type 0
-  OwnFolds = (l r : LayeredStrand) (t u : Tally) (v : ℤ) (m : Place) (c : ℕ) → l.phase ≡ leaving v → l.under ≡ [] → r.start ≡ behind m c → l.frame.instance ≡ child_of m c → is_entry r.start r.frame.instance ≡ true → MayJoin l (joined program.tree l v r) → OwnsNow l t → OwnsNow r u → Unbroken r.phase (OwnsNow (joined program.tree l v r) (tallies_joined t u))
+  OwnFolds = (l r : LayeredStrand) (t u : Tally) (v : ℤ) (m : Place) (c : ℕ) → l.phase ≡ leaving v → l.under ≡ [] → r.start ≡ behind m c
+      → l.frame.instance ≡ child_of m c → is_entry r.start r.frame.instance ≡ true → MayJoin l (joined program.tree l v r) → OwnsNow l t
+      → OwnsNow r u → Unbroken r.phase (OwnsNow (joined program.tree l v r) (tallies_joined t u))
 
   -- a strand has one layer more than open ones, and names can be compared by their lengths
   pub record OwnLayersCount : Type 0 where
@@ -153,6 +167,11 @@ module _ (program : Revised) (tables : Tables) (lookup : Lookup) where
 
   -- where strands owe each other their layers, the flags say what the names say, and what their lengths say: so the step by names is the step
   pub record FlagsAreNames : Type 0 where
-    pub knows : (s : LayeredStrand) (ks : List Continuation) (t : Tally) (left right : List Place) → OwesLayers s ks t left right → Every (IsAround s.frame.instance) (recorded_under (s.under ++ parents_behind ks) ++ right) → KnowsTop s.start s.frame s.phase t.opened
-    pub same : (s : LayeredStrand) (t : Tally) → IsTalliedNow program tables lookup s t → is_entry s.start s.frame.instance ≡ false → KnowsTop s.start s.frame s.phase t.opened → by_name s t ≡ s
-    pub lengths : (s : LayeredStrand) (ks : List Continuation) (t : Tally) (left right : List Place) → OwesLayers s ks t left right → Every (IsAround s.frame.instance) (recorded_under (s.under ++ parents_behind ks) ++ right) → strand_by is_top_by_length s t ≡ by_name s t
+    pub knows : (s : LayeredStrand) (ks : List Continuation) (t : Tally) (left right : List Place) → OwesLayers s ks t left right
+        → Every (IsAround s.frame.instance) (recorded_under (s.under ++ parents_behind ks) ++ right)
+        → KnowsTop s.start s.frame s.phase t.opened
+    pub same : (s : LayeredStrand) (t : Tally) → IsTalliedNow program tables lookup s t → is_entry s.start s.frame.instance ≡ false
+        → KnowsTop s.start s.frame s.phase t.opened → by_name s t ≡ s
+    pub lengths : (s : LayeredStrand) (ks : List Continuation) (t : Tally) (left right : List Place) → OwesLayers s ks t left right
+        → Every (IsAround s.frame.instance) (recorded_under (s.under ++ parents_behind ks) ++ right)
+        → strand_by is_top_by_length s t ≡ by_name s t

@@ -6,7 +6,8 @@ use Rattle.meaning.specs.Outcome.{Log, Accumulators, Outcome, Place, Leaves}
 use Rattle.meaning.specs.Records.{Kept}
 use Rattle.meaning.specs.Statements.{proc_of}
 use Rattle.meaning.specs.Trail.{child_of, env_after, doom_after, run, trail_at}
-use Rattle.meaning.specs.SmallStep.{waits, Start, root, behind, Frame, blocks, Phase, entering, running, spawning, returning, leaving, broken, Parent, Lookup, look_of, Continuation, place_of_continuation}
+use Rattle.meaning.specs.SmallStep.{waits, Start, root, behind, Frame, blocks, Phase, entering, running, spawning, returning, leaving}
+use Rattle.meaning.specs.SmallStep.{broken, Parent, Lookup, look_of, Continuation, place_of_continuation}
 use Rattle.trail_theory.specs.SerialRest.{Beside, rest}
 use Rattle.meaning.specs.Layers.{SameNotes, Notes, notes, notes_of, multiplied}
 use Rattle.meaning.specs.LayeredStrand.{LayeredStrand}
@@ -102,7 +103,10 @@ module _ (program : Tree) (tables : Tables) (sight : Accumulators) (lookup : Loo
     pub beyond : Log
     pub top : Beside
     pub others : List Beside
-    pub is_trail : before ++ (between ++ (Leaves (place_of_continuation k) outcome ∷ (full_rest k.parent.frame (running k.parent.todo) k.under (record { env = env_after top.env k.parent.into outcome; doom = doom_after top.doom outcome }) others ++ beyond))) ≡ trail_at program tables sight (look_of lookup)
+    pub is_trail : before ++ (between ++ (Leaves
+        (place_of_continuation k) outcome ∷ (full_rest k.parent.frame (running k.parent.todo) k.under
+        (record { env = env_after top.env k.parent.into outcome; doom = doom_after top.doom outcome }) others ++ beyond)))
+        ≡ trail_at program tables sight (look_of lookup)
     pub starts : StartsAfter k.since before
     pub waiting : List ℕ
     pub orderly : IsOrderlyTodo (with_name k.parent.into waiting) k.parent.todo
@@ -113,12 +117,15 @@ module _ (program : Tree) (tables : Tables) (sight : Accumulators) (lookup : Loo
     pub counted : k.child < k.parent.frame.next
     pub stacked : Stacked k.parent.frame.instance k.under
     pub unsynced : k.parent.frame.instance ≡ [] → synced_after true (before ++ (between ++ Leaves (place_of_continuation k) outcome ∷ [])) ≡ false
-    pub reads : ReadsAtMainsEnd program → SpawnedReads k.parent.frame.instance k.parent.todo × UnderReads (before ++ (between ++ Leaves (place_of_continuation k) outcome ∷ [])) k.under
+    pub reads : ReadsAtMainsEnd program → SpawnedReads k.parent.frame.instance k.parent.todo
+        × UnderReads (before ++ (between ++ Leaves (place_of_continuation k) outcome ∷ [])) k.under
 
   -- records of these procedures answer only with the runs that they stand for
   pub record AnswersFor (P : Name → Type 0) : Type 0 where
-    pub runs : (f : Name) (vs : List ℤ) (left : ℕ) (n : Place) (k : Kept) → P f → lookup f vs (depth_limit - left) ≡ Some k → (run program tables sight left None f vs n).outcome ≡ Ok k.value
-    pub notes_are : (f : Name) (vs : List ℤ) (left : ℕ) (n : Place) (k : Kept) → P f → lookup f vs (depth_limit - left) ≡ Some k → SameNotes (notes program (run program tables sight left None f vs n).events) (notes_of k (depth_limit - left))
+    pub runs : (f : Name) (vs : List ℤ) (left : ℕ) (n : Place) (k : Kept) → P f → lookup f vs (depth_limit - left) ≡ Some k
+        → (run program tables sight left None f vs n).outcome ≡ Ok k.value
+    pub notes_are : (f : Name) (vs : List ℤ) (left : ℕ) (n : Place) (k : Kept) → P f → lookup f vs (depth_limit - left) ≡ Some k
+        → SameNotes (notes program (run program tables sight left None f vs n).events) (notes_of k (depth_limit - left))
 
   -- records of any
   abbrev pub LookupIsSound : Type 0
@@ -130,7 +137,8 @@ module _ (program : Tree) (tables : Tables) (sight : Accumulators) (lookup : Loo
 
   -- the layers' law: on stretches of the trail the product is the whole's notes
   abbrev pub StretchesMultiply : Type 0
-  StretchesMultiply = (x a b y : Log) → x ++ (a ++ (b ++ y)) ≡ trail_at program tables sight (look_of lookup) → multiplied program (notes program a) (notes program b) ≡ notes program (a ++ b)
+  StretchesMultiply = (x a b y : Log) → x ++ (a ++ (b ++ y)) ≡ trail_at program tables sight (look_of lookup)
+      → multiplied program (notes program a) (notes program b) ≡ notes program (a ++ b)
 
 -- the instance of that name leaves after the strand's place
 abbrev pub EndsAfter : Start → Place → Type 0

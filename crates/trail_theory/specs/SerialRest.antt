@@ -5,8 +5,10 @@ use Rattle.meaning.specs.Tables.{Tables}
 use Rattle.meaning.specs.Outcome.{Accumulators, Fault, Outcome, Place, Begins, Leaves, Spawns}
 use Rattle.meaning.specs.Values.{Env}
 use Rattle.meaning.specs.Statements.{put_into}
-use Rattle.meaning.specs.Trail.{Trace, env_after, doom_after, Look, led, brief, first, stop, over, opening, inner, turns_walk, loop_walk, second_walk, blocks_walk, run_inside, runner}
-use Rattle.meaning.specs.SmallStep.{Frame, Todo, blocks, halves, second, turns, Child, instance, half, Phase, entering, running, spawning, returning, leaving, broken, Parent, child_name}
+use Rattle.meaning.specs.Trail.{Trace, env_after, doom_after, Look, led, brief, first, stop, over, opening, inner, turns_walk, loop_walk}
+use Rattle.meaning.specs.Trail.{second_walk, blocks_walk, run_inside, runner}
+use Rattle.meaning.specs.SmallStep.{Frame, Todo, blocks, halves, second, turns, Child, instance, half, Phase, entering, running, spawning}
+use Rattle.meaning.specs.SmallStep.{returning, leaving, broken, Parent, child_name}
 use Rattle.meaning.specs.Elision.{depth_limit}
 
 -- what the serial run has beside an instance: its names' values, and the fault of a spawned child of it
@@ -16,8 +18,11 @@ pub record Beside : Type 0 where
 
 module _ (program : Tree) (tables : Tables) (sight : Accumulators) (look : Look) where
   abbrev pub child_inside : ℕ → Child → Place → Trace
-  child_inside left (instance f vs) n = led (opening program look left f vs n) (run_inside program tables sight (runner program tables sight left (inner program look left f vs)) left f vs n)
-  child_inside left (half k job count i) n = led (Begins n (depth_limit - left) ∷ []) (loop_walk program tables sight (runner program tables sight left look) left k job count i n 1 None)
+  child_inside left (instance f vs) n = led (opening program look left f vs n)
+      (run_inside program tables sight (runner program tables sight left (inner program look left f vs)) left f vs n)
+  child_inside left (half k job count i) n =
+      led (Begins n (depth_limit - left) ∷ [])
+      (loop_walk program tables sight (runner program tables sight left look) left k job count i n 1 None)
 
   abbrev pub finished_by : Place → Trace → (Outcome → Trace) → Trace
   finished_by n r next = led (r.events ++ Leaves n r.outcome ∷ []) (next r.outcome)
@@ -28,15 +33,19 @@ module _ (program : Tree) (tables : Tables) (sight : Accumulators) (look : Look)
 
   abbrev pub todo_walk : Frame → Todo → Env → ℕ → Option Fault → Trace
   todo_walk fr (blocks bs) env c doom = blocks_walk program tables sight (runner program tables sight fr.left look) fr.left fr.instance fr.here bs env c doom
-  todo_walk fr (halves k job count i) env c doom = loop_walk program tables sight (runner program tables sight fr.left look) fr.left k job count i fr.instance c doom
-  todo_walk fr (second k job count i) env c doom = second_walk program tables sight (runner program tables sight fr.left look) fr.left k job count i fr.instance c doom
+  todo_walk fr (halves k job count i) env c doom =
+      loop_walk program tables sight (runner program tables sight fr.left look) fr.left k job count i fr.instance c doom
+  todo_walk fr (second k job count i) env c doom =
+      second_walk program tables sight (runner program tables sight fr.left look) fr.left k job count i fr.instance c doom
   todo_walk fr (turns job count i) env c doom = turns_walk program tables sight (runner program tables sight fr.left look) job count i fr.instance c doom
 
   -- what is left to do of a task, serially
   abbrev pub phase_walk : Frame → Phase → Beside → Trace
   phase_walk fr (entering child) g = child_inside fr.left child fr.instance
   phase_walk fr (running todo) g = todo_walk fr todo g.env fr.next g.doom
-  phase_walk fr (spawning d x child todo) g = led (Spawns (child_name fr) ∷ []) (finished_by (child_name fr) (child_inside d child (child_name fr)) (λ o. todo_walk fr todo (env_after g.env x o) (suc fr.next) (doom_after g.doom o)))
+  phase_walk fr (spawning d x child todo) g =
+      led (Spawns (child_name fr) ∷ []) (finished_by (child_name fr) (child_inside d child (child_name fr))
+      (λ o. todo_walk fr todo (env_after g.env x o) (suc fr.next) (doom_after g.doom o)))
   phase_walk fr (returning v) g = over fr.instance g.doom v
   phase_walk fr (leaving v) g = brief (Ok v)
   phase_walk fr (broken k) g = stop g.doom k

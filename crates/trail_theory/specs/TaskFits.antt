@@ -4,7 +4,8 @@ use Rattle.program_tree.specs.Plain.{Tree}
 use Rattle.meaning.specs.Outcome.{Log, Fault, Place, Event, Reads, Enters, Updates, Reuses, Begins, Syncs, Leaves, Faults, Marks, Spawns}
 use Rattle.meaning.specs.Values.{Env}
 use Rattle.meaning.specs.Trail.{child_of}
-use Rattle.meaning.specs.SmallStep.{Slot, unset, waits, has, Start, root, behind, Frame, Child, Phase, entering, running, spawning, returning, leaving, broken, Parent, opened}
+use Rattle.meaning.specs.SmallStep.{Slot, unset, waits, has, Start, root, behind, Frame, Child, Phase, entering, running, spawning}
+use Rattle.meaning.specs.SmallStep.{returning, leaving, broken, Parent, opened}
 use Rattle.trail_theory.specs.SerialRest.{Beside}
 use Rattle.trail_theory.specs.Order.{In}
 use Rattle.trail_theory.specs.Waiting.{with_name, IsOrderlyTodo}

@@ -17,26 +17,31 @@ use Rattle.trail_theory.specs.ElisionBeside.{Matches, SaysElision}
 module _ (program : Tree) (tables : Tables) (sight : Accumulators) where
   -- an instance's elision, and the same instance on the trail, at every place, whatever records answer
   abbrev pub ElisionIsTrail : Type 0
-  ElisionIsTrail = (left : ℕ) (look : Look) (site : Site) (f : Name) (vs : List ℤ) (n : Place) (acc : Accumulators) → Matches (elide program tables (suc left) site f vs acc) (run program tables sight left look f vs n)
+  ElisionIsTrail = (left : ℕ) (look : Look) (site : Site) (f : Name) (vs : List ℤ) (n : Place) (acc : Accumulators)
+      → Matches (elide program tables (suc left) site f vs acc) (run program tables sight left look f vs n)
 
   -- the same for every procedure but main
   abbrev pub OthersAreTrail : Type 0
-  OthersAreTrail = (left : ℕ) (look : Look) (site : Site) (f : Name) → IsOther f → (vs : List ℤ) (n : Place) (acc : Accumulators) → Matches (elide program tables (suc left) site f vs acc) (run program tables sight left look f vs n)
+  OthersAreTrail = (left : ℕ) (look : Look) (site : Site) (f : Name) → IsOther f → (vs : List ℤ) (n : Place) (acc : Accumulators)
+      → Matches (elide program tables (suc left) site f vs acc) (run program tables sight left look f vs n)
 
   -- and for main from the initial values
   abbrev pub MainIsTrail : Type 0
-  MainIsTrail = (look : Look) → Matches (elide program tables depth_limit start main [] (initial_values program)) (run program tables sight (depth_limit - 1) look main [] [])
+  MainIsTrail = (look : Look) → Matches (elide program tables depth_limit start main [] (initial_values program))
+      (run program tables sight (depth_limit - 1) look main [] [])
 
   -- records that say what the elision of their keys gives answer only with the runs that they stand for
   abbrev pub RecordsAreSound : Lookup → Type 0
   RecordsAreSound lookup =
-      ((f : Name) (vs : List ℤ) (left : ℕ) (k : Kept) → lookup f vs (depth_limit - left) ≡ Some k → SaysElision program k (elide program tables (suc left) start f vs (identities program)) (depth_limit - left))
+      ((f : Name) (vs : List ℤ) (left : ℕ) (k : Kept) → lookup f vs (depth_limit - left) ≡ Some k
+      → SaysElision program k (elide program tables (suc left) start f vs (identities program)) (depth_limit - left))
       → LookupIsSound program tables sight lookup
 
   -- the same for records of recorded procedures
   abbrev pub RecordedRecordsAreSound : Lookup → Type 0
   RecordedRecordsAreSound lookup =
-      ((f : Name) (vs : List ℤ) (left : ℕ) (k : Kept) → IsRecorded program f → lookup f vs (depth_limit - left) ≡ Some k → SaysElision program k (elide program tables (suc left) start f vs (identities program)) (depth_limit - left))
+      ((f : Name) (vs : List ℤ) (left : ℕ) (k : Kept) → IsRecorded program f → lookup f vs (depth_limit - left) ≡ Some k
+      → SaysElision program k (elide program tables (suc left) start f vs (identities program)) (depth_limit - left))
       → RecordedAreSound program tables sight lookup
 
   module _ (lookup : Lookup) where
@@ -44,36 +49,44 @@ module _ (program : Tree) (tables : Tables) (sight : Accumulators) where
     FirstIsRight = IsRight program tables sight lookup (first_layered program)
 
     abbrev pub AdvanceStaysRight : Type 0
-    AdvanceStaysRight = (kit : Bool) (s : LayeredStrand) → IsRight program tables sight lookup s → Sees (bottom s.layers) sight s.phase → IsRight program tables sight lookup (advance program tables lookup kit s)
+    AdvanceStaysRight = (kit : Bool) (s : LayeredStrand) → IsRight program tables sight lookup s → Sees (bottom s.layers) sight s.phase
+        → IsRight program tables sight lookup (advance program tables lookup kit s)
 
     -- a strand that stands at a read begins at the trail's beginning, is main's, and has nothing below it
     abbrev pub ReadsStandAtRoot : Type 0
-    ReadsStandAtRoot = (s : LayeredStrand) (n x : ℕ) (r : Name) (b : Body) (bs : List Body) → s.phase ≡ running (blocks (step n (read x r) b ∷ bs)) → IsRight program tables sight lookup s → (s.start ≡ root) × (s.frame.instance ≡ []) × (s.under ≡ [])
+    ReadsStandAtRoot = (s : LayeredStrand) (n x : ℕ) (r : Name) (b : Body) (bs : List Body)
+        → s.phase ≡ running (blocks (step n (read x r) b ∷ bs)) → IsRight program tables sight lookup s
+        → (s.start ≡ root) × (s.frame.instance ≡ []) × (s.under ≡ [])
 
     -- a strand of one layer has at a read what the elision has in the end
     abbrev pub ReadsSeeTheEnd : Type 0
     ReadsSeeTheEnd = (s : LayeredStrand) → IsRight program tables sight lookup s → ReadsByOneLayer s.layers s.phase → Sees (bottom s.layers) sight s.phase
 
     abbrev pub AdvanceReadingStaysRight : Type 0
-    AdvanceReadingStaysRight = (kit : Bool) (s : LayeredStrand) → IsRight program tables sight lookup s → ReadsByOneLayer s.layers s.phase → IsRight program tables sight lookup (advance program tables lookup kit s)
+    AdvanceReadingStaysRight = (kit : Bool) (s : LayeredStrand) → IsRight program tables sight lookup s → ReadsByOneLayer s.layers s.phase
+        → IsRight program tables sight lookup (advance program tables lookup kit s)
 
     -- whatever the layers, where a read gives their product
     abbrev pub AdvanceByProductStaysRight : Type 0
-    AdvanceByProductStaysRight = (kit : Bool) (s : LayeredStrand) → IsRight program tables sight lookup s → IsRight program tables sight lookup (advance_with program tables lookup kit (total program s.layers).worth s)
+    AdvanceByProductStaysRight = (kit : Bool) (s : LayeredStrand) → IsRight program tables sight lookup s
+        → IsRight program tables sight lookup (advance_with program tables lookup kit (total program s.layers).worth s)
 
     -- at a spawn: the child as a call
     abbrev pub InlineStaysRight : Type 0
-    InlineStaysRight = (s : LayeredStrand) (d : ℕ) (x : Option ℕ) (child : Child) (todo : Todo) → s.phase ≡ spawning d x child todo → IsRight program tables sight lookup s
+    InlineStaysRight = (s : LayeredStrand) (d : ℕ) (x : Option ℕ) (child : Child) (todo : Todo) → s.phase ≡ spawning d x child todo
+        → IsRight program tables sight lookup s
         → IsRight program tables sight lookup (inlined program s d x child todo)
 
     -- the child alone
     abbrev pub DetachStaysRight : Type 0
-    DetachStaysRight = (s : LayeredStrand) (d : ℕ) (x : Option ℕ) (child : Child) (todo : Todo) → s.phase ≡ spawning d x child todo → IsRight program tables sight lookup s
+    DetachStaysRight = (s : LayeredStrand) (d : ℕ) (x : Option ℕ) (child : Child) (todo : Todo) → s.phase ≡ spawning d x child todo
+        → IsRight program tables sight lookup s
         → IsRight program tables sight lookup (detached program s d child)
 
     -- and what is left behind it
     abbrev pub ContinuationIsRight : Type 0
-    ContinuationIsRight = (s : LayeredStrand) (d : ℕ) (x : Option ℕ) (child : Child) (todo : Todo) → s.phase ≡ spawning d x child todo → IsRight program tables sight lookup s
+    ContinuationIsRight = (s : LayeredStrand) (d : ℕ) (x : Option ℕ) (child : Child) (todo : Todo) → s.phase ≡ spawning d x child todo
+        → IsRight program tables sight lookup s
         → IsRightContinuation program tables sight lookup (continuation s x todo)
 
     abbrev pub StolenIsRight : Type 0
@@ -81,19 +94,25 @@ module _ (program : Tree) (tables : Tables) (sight : Accumulators) where
 
     -- the child that the continuation waits for has returned in the strand that left it
     abbrev pub PopStaysRight : Type 0
-    PopStaysRight = (s : LayeredStrand) (k : Continuation) (v : ℤ) → s.phase ≡ leaving v → s.under ≡ [] → s.start ≡ k.since → s.frame.instance ≡ place_of_continuation k
-        → IsRight program tables sight lookup s → IsRightContinuation program tables sight lookup k → IsRight program tables sight lookup (resumed program s k v)
+    PopStaysRight = (s : LayeredStrand) (k : Continuation) (v : ℤ) → s.phase ≡ leaving v → s.under ≡ [] → s.start ≡ k.since
+        → s.frame.instance ≡ place_of_continuation k
+        → IsRight program tables sight lookup s → IsRightContinuation program tables sight lookup k
+        → IsRight program tables sight lookup (resumed program s k v)
 
     -- the right strand begins after the child with which the left one is over, and no name in it would wait for a child that ends after the left one's place
     abbrev pub JoinStaysRight : Type 0
-    JoinStaysRight = (l r : LayeredStrand) (v : ℤ) (m : Place) (c : ℕ) (noted : Notes) → l.phase ≡ leaving v → l.under ≡ [] → r.start ≡ behind m c → l.frame.instance ≡ m ++ c ∷ [] → r.layers ≡ noted ∷ []
-        → MayJoin l (joined program l v r) → IsRight program tables sight lookup l → IsRight program tables sight lookup r → IsRight program tables sight lookup (joined program l v r)
+    JoinStaysRight = (l r : LayeredStrand) (v : ℤ) (m : Place) (c : ℕ) (noted : Notes) → l.phase ≡ leaving v → l.under ≡ []
+        → r.start ≡ behind m c → l.frame.instance ≡ m ++ c ∷ [] → r.layers ≡ noted ∷ []
+        → MayJoin l (joined program l v r) → IsRight program tables sight lookup l → IsRight program tables sight lookup r
+        → IsRight program tables sight lookup (joined program l v r)
 
     -- the strand of main that is over has the elision's number and values
     abbrev pub EndsWithElision : Type 0
-    EndsWithElision = (s : LayeredStrand) (v : ℤ) (noted : Notes) → s.start ≡ root → s.phase ≡ leaving v → s.under ≡ [] → s.frame.instance ≡ [] → s.layers ≡ noted ∷ []
+    EndsWithElision = (s : LayeredStrand) (v : ℤ) (noted : Notes) → s.start ≡ root → s.phase ≡ leaving v → s.under ≡ []
+        → s.frame.instance ≡ [] → s.layers ≡ noted ∷ []
         → IsRight program tables sight lookup s → from_scratch program tables ≡ Finished v noted.worth
 
     -- a strand at the trail's beginning that has a fault has the elision's
     abbrev pub FaultsWithElision : Type 0
-    FaultsWithElision = (s : LayeredStrand) (k : Fault) → s.start ≡ root → s.phase ≡ broken k → IsRight program tables sight lookup s → from_scratch program tables ≡ Faulted k
+    FaultsWithElision = (s : LayeredStrand) (k : Fault) → s.start ≡ root → s.phase ≡ broken k → IsRight program tables sight lookup s
+        → from_scratch program tables ≡ Faulted k

@@ -16,12 +16,17 @@ ghost use Rattle.trail_theory.specs.KeptRecords.{ActsByContribution, CommitsStay
 ghost use Rattle.trail_theory.specs.MadeRecords.{AnswersBySound, IsLater, IsMade, RecordedBySound};
 ghost use Rattle.trail_theory.specs.OpenLayers.{IsNumbered};
 ghost use Rattle.trail_theory.specs.Order.{Every, LeavesInOrder};
-ghost use Rattle.trail_theory.specs.OwnLayers.{LayersStayOwn, OpenHasNotLeft, OwnClosesItsOwn, OwnEntryHasOneLayer, OwnMainHasOneLayer, OwnReadHasOneLayer, OwnFolds, OwnLayersCount, FlagsAreNames};
+ghost use Rattle.trail_theory.specs.OwnLayers.{LayersStayOwn, OpenHasNotLeft, OwnClosesItsOwn, OwnEntryHasOneLayer, OwnMainHasOneLayer};
+ghost use Rattle.trail_theory.specs.OwnLayers.{OwnReadHasOneLayer, OwnFolds, OwnLayersCount, FlagsAreNames};
 ghost use Rattle.trail_theory.specs.ReadsAtEnd.{KeepsRules, MainIsAlone, ReadsAtMainsEnd};
 ghost use Rattle.trail_theory.specs.Ready.{StepsReady};
 ghost use Rattle.trail_theory.specs.Right.{LookupIsSound, RecordedAreSound, StretchesMultiply};
-ghost use Rattle.trail_theory.specs.TalliedTheorems.{ClosesItsOwn, EndCountsNeeded, EndLeavesNone, EntryHasOneLayer, LayersStayOwed, NoneAfterEach, ReadHasOneLayer, RerunExecutesNone, TalliedStays};
-ghost use Rattle.trail_theory.specs.Theorems.{ElisionIsTrail, OthersAreTrail, MainIsTrail, RecordsAreSound, RecordedRecordsAreSound, FirstIsRight, AdvanceStaysRight, AdvanceReadingStaysRight, AdvanceByProductStaysRight, ReadsStandAtRoot, ReadsSeeTheEnd, InlineStaysRight, DetachStaysRight, ContinuationIsRight, StolenIsRight, PopStaysRight, JoinStaysRight, EndsWithElision, FaultsWithElision};
+ghost use Rattle.trail_theory.specs.TalliedTheorems.{ClosesItsOwn, EndCountsNeeded, EndLeavesNone, EntryHasOneLayer, LayersStayOwed};
+ghost use Rattle.trail_theory.specs.TalliedTheorems.{NoneAfterEach, ReadHasOneLayer, RerunExecutesNone, TalliedStays};
+ghost use Rattle.trail_theory.specs.Theorems.{ElisionIsTrail, OthersAreTrail, MainIsTrail, RecordsAreSound, RecordedRecordsAreSound};
+ghost use Rattle.trail_theory.specs.Theorems.{FirstIsRight, AdvanceStaysRight, AdvanceReadingStaysRight, AdvanceByProductStaysRight};
+ghost use Rattle.trail_theory.specs.Theorems.{ReadsStandAtRoot, ReadsSeeTheEnd, InlineStaysRight, DetachStaysRight, ContinuationIsRight};
+ghost use Rattle.trail_theory.specs.Theorems.{StolenIsRight, PopStaysRight, JoinStaysRight, EndsWithElision, FaultsWithElision};
 ghost use Rattle.meaning.specs.Fitting.{ProgramFits};
 ghost use Rattle.trail_theory.specs.Typed.{HasMonoids, IsTyped, SightFits, TablesFit, kinds_of};
 ghost use Rattle.trail_theory.specs.Unflagged.{FlagsAreNoMatter, UnflaggedStaysOwn};
@@ -51,32 +56,37 @@ pub fn others_are_trail()
         → ReadsAtMainsEnd program → OthersAreTrail program tables sight }
 {}
 
-/// Where main alone reads reducers, at its end, main's elision from scratch is the trail behind the updates by the initial values, on which a read sees what the elision has in the end.
+/// Where main alone reads reducers, at its end, main's elision from scratch is the trail behind the updates by the initial
+/// values, on which a read sees what the elision has in the end.
 pub fn main_is_trail()
     ensures same { (program : Tree) (tables : Tables) → ReadsAtMainsEnd program
         → MainIsTrail program tables (sight_of program tables) }
 {}
 
-/// Where main alone reads reducers, at its end, records of recorded procedures that say what the elision of their keys gives answer only with the runs that they stand for.
+/// Where main alone reads reducers, at its end, records of recorded procedures that say what the elision of their keys gives
+/// answer only with the runs that they stand for.
 pub fn recorded_records_are_sound()
     ensures sound { (program : Tree) (tables : Tables) (sight : Accumulators) (lookup : Lookup)
         → ReadsAtMainsEnd program → RecordedRecordsAreSound program tables sight lookup }
 {}
 
-/// Where main alone reads reducers, at its end, records of recorded procedures that are sound, hold now and fit below their depth answer only with the runs that they stand for.
+/// Where main alone reads reducers, at its end, records of recorded procedures that are sound, hold now and fit below their
+/// depth answer only with the runs that they stand for.
 pub fn valid_recorded_are_sound()
     ensures sound { (program : Revised) (tables : Tables) (sight : Accumulators) (lookup : Lookup)
         → ReadsAtMainsEnd program.tree → RecordedBySound program tables lookup
         → RecordedAreSound program.tree tables sight lookup }
 {}
 
-/// Where main alone reads reducers, at its end, and sees there what the elision has in the end, a right strand of main that is over has the elision's answer from scratch.
+/// Where main alone reads reducers, at its end, and sees there what the elision has in the end, a right strand of main that is
+/// over has the elision's answer from scratch.
 pub fn ends_with_reads()
     ensures answer { (program : Tree) (tables : Tables) (lookup : Lookup) → ReadsAtMainsEnd program
         → EndsWithElision program tables (sight_of program tables) lookup }
 {}
 
-/// Where main alone reads reducers, at its end, and sees there what the elision has in the end, a right strand at the trail's beginning that has a fault has the elision's fault from scratch.
+/// Where main alone reads reducers, at its end, and sees there what the elision has in the end, a right strand at the trail's
+/// beginning that has a fault has the elision's fault from scratch.
 pub fn faults_with_reads()
     ensures answer { (program : Tree) (tables : Tables) (lookup : Lookup) → ReadsAtMainsEnd program
         → FaultsWithElision program tables (sight_of program tables) lookup }
@@ -88,7 +98,8 @@ pub fn records_are_sound()
         → HasNoReads program → RecordsAreSound program tables sight lookup }
 {}
 
-/// A record of what the elision notes of an instance at one depth, with one moment's tables, is sound: at every depth that fits, and with all tables that agree with its reads.
+/// A record of what the elision notes of an instance at one depth, with one moment's tables, is sound: at every depth that
+/// fits, and with all tables that agree with its reads.
 pub fn made_record_is_sound()
     ensures sound { (program : Revised) (tables : Tables) (depth : ℕ) (k : Kept)
         → IsMade program tables depth k → IsSound program k }
@@ -121,14 +132,16 @@ pub fn stretches_multiply()
         → StretchesMultiply program tables sight lookup }
 {}
 
-/// Each update on the trail is of its reducer's kind, whatever a read sees, where main alone reads reducers, at its end, and the numbers of the program and of the tables fit 64 bits.
+/// Each update on the trail is of its reducer's kind, whatever a read sees, where main alone reads reducers, at its end, and
+/// the numbers of the program and of the tables fit 64 bits.
 pub fn trail_with_reads_is_typed()
     ensures typed { (program : Tree) (tables : Tables) (sight : Accumulators) (look : Look)
         → ReadsAtMainsEnd program → ProgramFits program → TablesFit tables
         → Every (IsTyped (kinds_of program)) (trail_at program tables sight look) }
 {}
 
-/// The layers of neighbouring stretches of the trail multiply to the layer of both, whatever a read sees, where main alone reads reducers, at its end, each kind is a monoid and numbers fit 64 bits.
+/// The layers of neighbouring stretches of the trail multiply to the layer of both, whatever a read sees, where main alone
+/// reads reducers, at its end, each kind is a monoid and numbers fit 64 bits.
 pub fn stretches_with_reads_multiply()
     ensures multiply { (program : Tree) (tables : Tables) (sight : Accumulators) (lookup : Lookup)
         → ReadsAtMainsEnd program → HasMonoids program → ProgramFits program → TablesFit tables
@@ -169,7 +182,8 @@ pub fn advance_by_product_stays_right()
         → AdvanceByProductStaysRight program tables (sight_of program tables) lookup }
 {}
 
-/// In a program that keeps the rules, a small step keeps a right strand right, where a read gives the bottom layer's values and the strand has no other layer there.
+/// In a program that keeps the rules, a small step keeps a right strand right, where a read gives the bottom layer's values and
+/// the strand has no other layer there.
 pub fn advance_reading_stays_right()
     ensures right { (program : Tree) (tables : Tables) (lookup : Lookup)
         → StretchesMultiply program tables (sight_of program tables) lookup → KeepsRules program
@@ -232,7 +246,8 @@ pub fn calm_stays()
         → CalmStays program tables lookup }
 {}
 
-/// In a program whose statements use no name that waits, as the checker sees them, a right strand's next statement uses none either: each name has its value or was never bound.
+/// In a program whose statements use no name that waits, as the checker sees them, a right strand's next statement uses none
+/// either: each name has its value or was never bound.
 pub fn steps_are_ready()
     ensures ready { (program : Tree) (tables : Tables) (sight : Accumulators) (lookup : Lookup)
         → StepsReady program tables sight lookup }
@@ -244,7 +259,9 @@ pub fn valid_record_answers()
         → ValidAnswers program tables records }
 {}
 
-/// In a program that keeps the rules, whose procedures have numbers that were used before, each move of a strand keeps it right, with its open layers those of the instances that it opened, each beginning with its instance's run on the trail; and the record of each layer that it closes is sound and holds now; and its tally counts the marks of its stretch.
+/// In a program that keeps the rules, whose procedures have numbers that were used before, each move of a strand keeps it
+/// right, with its open layers those of the instances that it opened, each beginning with its instance's run on the trail; and
+/// the record of each layer that it closes is sound and holds now; and its tally counts the marks of its stretch.
 pub fn new_records_are_sound()
     ensures tallied { (program : Revised) (tables : Tables) (lookup : Lookup)
         → StretchesMultiply program.tree tables (sight_of program.tree tables) lookup
@@ -253,7 +270,8 @@ pub fn new_records_are_sound()
         → TalliedStays program tables lookup }
 {}
 
-/// Each move of a strand keeps the layers that strands owe each other: those of the instances that it has and those that strands to the right have of it are those that it opened and those that it has of strands to the left.
+/// Each move of a strand keeps the layers that strands owe each other: those of the instances that it has and those that
+/// strands to the right have of it are those that it opened and those that it has of strands to the left.
 pub fn layers_stay_owed()
     ensures owed { (program : Revised) (tables : Tables) (lookup : Lookup)
         → ReadsAtMainsEnd program.tree → LayersStayOwed program tables lookup }
@@ -277,7 +295,8 @@ pub fn read_has_one_layer()
         → ReadsAtMainsEnd program.tree → ReadHasOneLayer program tables lookup }
 {}
 
-/// Each move of a strand leaves it the owner of its open layers: they are those of instances on the way to its topmost one, each inside the next. Nothing is asked of other strands, nor of the flags of continuations.
+/// Each move of a strand leaves it the owner of its open layers: they are those of instances on the way to its topmost one,
+/// each inside the next. Nothing is asked of other strands, nor of the flags of continuations.
 pub fn layers_stay_own()
     ensures own { (program : Revised) (tables : Tables) (lookup : Lookup)
         → StretchesMultiply program.tree tables (sight_of program.tree tables) lookup
@@ -363,60 +382,70 @@ pub fn records_stay_sound()
         → RecordsStaySound program later }
 {}
 
-/// Where main alone reads reducers, at its end, each kind is a monoid and numbers fit 64 bits, an instance of another procedure that ends without a fault leaves the values that it found, times its contribution.
+/// Where main alone reads reducers, at its end, each kind is a monoid and numbers fit 64 bits, an instance of another procedure
+/// that ends without a fault leaves the values that it found, times its contribution.
 pub fn instances_act_by_contribution()
     ensures acts { (program : Tree) (tables : Tables) → ReadsAtMainsEnd program → HasMonoids program
         → ProgramFits program → TablesFit tables → ActsByContribution program tables }
 {}
 
-/// Where main alone reads reducers, at its end, and all records are sound, the trail marks up to its first fault the needed instances: as executed those that no valid record answers, as answered the others, in the order of the elision.
+/// Where main alone reads reducers, at its end, and all records are sound, the trail marks up to its first fault the needed
+/// instances: as executed those that no valid record answers, as answered the others, in the order of the elision.
 pub fn marks_are_needed()
     ensures needed { (program : Revised) (tables : Tables) (sight : Accumulators)
         (records : List Kept) → ReadsAtMainsEnd program.tree → Every (IsSound program) records
         → MarksAreNeeded program tables records sight }
 {}
 
-/// Where main alone reads reducers, at its end, and all records are sound, the tally of main's strand that is over has counted the needed instances: as executed those that no valid record answers, as reused the others.
+/// Where main alone reads reducers, at its end, and all records are sound, the tally of main's strand that is over has counted
+/// the needed instances: as executed those that no valid record answers, as reused the others.
 pub fn end_counts_needed()
     ensures counted { (program : Revised) (tables : Tables) (records : List Kept)
         → ReadsAtMainsEnd program.tree → Every (IsSound program) records
         → EndCountsNeeded program tables records }
 {}
 
-/// Where main alone reads reducers, at its end, each procedure has a number that was used before and all records are sound: after a run that finishes and records each instance that it executes, all records are sound, and the same program on the same tables needs to execute no recorded procedure.
+/// Where main alone reads reducers, at its end, each procedure has a number that was used before and all records are sound:
+/// after a run that finishes and records each instance that it executes, all records are sound, and the same program on the
+/// same tables needs to execute no recorded procedure.
 pub fn nothing_is_needed_again()
     ensures needed { (program : Revised) (tables : Tables) (records : List Kept)
         → ReadsAtMainsEnd program.tree → IsNumbered program → Every (IsSound program) records
         → NothingNeeded program tables records }
 {}
 
-/// Under the same premises, in a run of the same program on the same tables by the records after that run, the tally of main's strand that is over has counted no execution.
+/// Under the same premises, in a run of the same program on the same tables by the records after that run, the tally of main's
+/// strand that is over has counted no execution.
 pub fn rerun_executes_nothing()
     ensures none { (program : Revised) (tables : Tables) (records : List Kept)
         → ReadsAtMainsEnd program.tree → IsNumbered program → Every (IsSound program) records
         → RerunExecutesNone program tables records }
 {}
 
-/// Under the same premises, the same program on the same tables needs to execute no recorded procedure by any records into which a finished run has put new ones, where each needed execution has one of its name and arguments.
+/// Under the same premises, the same program on the same tables needs to execute no recorded procedure by any records into
+/// which a finished run has put new ones, where each needed execution has one of its name and arguments.
 pub fn new_records_settle()
     ensures settled { (program : Revised) (tables : Tables) (records : List Kept)
         → ReadsAtMainsEnd program.tree → IsNumbered program → Every (IsSound program) records
         → NoneAfterEach program tables records }
 {}
 
-/// Under the same premises, where main's strand that is over has as many new records as it has counted executions, the same program on the same tables needs to execute no recorded procedure by the records with these put in.
+/// Under the same premises, where main's strand that is over has as many new records as it has counted executions, the same
+/// program on the same tables needs to execute no recorded procedure by the records with these put in.
 pub fn end_leaves_nothing()
     ensures none { (program : Revised) (tables : Tables) (records : List Kept)
         → ReadsAtMainsEnd program.tree → IsNumbered program → Every (IsSound program) records
         → EndLeavesNone program tables records }
 {}
 
-/// Tallies add up through steps and folds: each execution has a new record, an open layer, or is counted as unrecorded; with nothing open and nothing unrecorded there are as many new records as executions.
+/// Tallies add up through steps and folds: each execution has a new record, an open layer, or is counted as unrecorded; with
+/// nothing open and nothing unrecorded there are as many new records as executions.
 pub fn tallies_add_up()
     ensures sums { (program : Revised) → TalliesAddUp program }
 {}
 
-/// Where a program's procedures are defined anew and its reducers stay, it is a later program, in which a procedure whose number is as it was is the same; and its procedures have numbers that were used before, if each that is entered is there.
+/// Where a program's procedures are defined anew and its reducers stay, it is a later program, in which a procedure whose
+/// number is as it was is the same; and its procedures have numbers that were used before, if each that is entered is there.
 pub fn defines_keep_numbers()
     ensures kept { (old : Revised) (tree : Tree) → IsNumbered old → DefinesKeep old tree }
 {}

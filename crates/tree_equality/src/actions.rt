@@ -91,7 +91,8 @@ fn is_loop(
     arguments: &[Expr],
     other: &Action,
 ) -> bool
-    ensures { (inner : ℕ → Body) → result ≡ same_deed (loop name (term low.now) (term high.now) grain callee.now (map term arguments.now)) (deed inner other.now) }
+    ensures { (inner : ℕ → Body) → result ≡ same_deed (loop name (term low.now) (term high.now) grain callee.now (map term arguments.now))
+        (deed inner other.now) }
 {
     match other {
         Action::Loop(target, first, last, size, entered, given) => name == *target

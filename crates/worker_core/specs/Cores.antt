@@ -71,7 +71,8 @@ is_failure s e = is_no_memory e && not (may_be_tried_again (run_step s))
 abbrev pub failed_by : Step → Refusal → PlainCore → PlainCore
 failed_by s e c = record c { failed = is_failure s e || c.failed }
 
--- a fold that memory was refused for keeps the product of the two neighbours, and a small step the places and states of the strands; nothing else changes the strands
+-- a fold that memory was refused for keeps the product of the two neighbours, and a small step the places and states of the
+-- strands; nothing else changes the strands
 abbrev pub StandsAfter : Step → Refusal → PlainStrands → PlainStrands → Type 0
 StandsAfter (step.Fold w q) e s t = LeavesFolded e s t
 StandsAfter (step.Work w) e s t = LeavesMoved Work e s t
@@ -112,7 +113,8 @@ kept_of (answer.Finished v values n m k) made = made
 kept_of _ made = []
 
 -- the beginning of a run: main's strand, held by worker 0, with one kit of the pool
-pub record IsFirstCore (program : PlainChecked) (tables : Edited) (records : List PlainRecord) (pool : Stock (List Kind)) (workers : ℕ) (core : PlainCore) : Type 0 where
+pub record IsFirstCore (program : PlainChecked) (tables : Edited) (records : List PlainRecord) (pool : Stock (List Kind)) (workers : ℕ)
+    (core : PlainCore) : Type 0 where
   pub program_is : core.program ≡ program
   pub tables_are : core.tables ≡ tables
   pub records_are : core.records ≡ records

@@ -32,7 +32,8 @@ pub record IsOnPath (setting : Setting) (s : PlainStrands) : Type 0 where
   pub reached : IsReached setting run
   pub stands : StandsForUnflagged setting (run_of s) run
 
--- the program was checked against the tables, both keep what the theory asks for, and the records are sound and in step with the tables; and whichever sound records they stand for, the run is one of the definitions
+-- the program was checked against the tables, both keep what the theory asks for, and the records are sound and in step with
+-- the tables; and whichever sound records they stand for, the run is one of the definitions
 pub record KeepsRun (program : PlainChecked) (tables : Edited) (records : List PlainRecord) (s : PlainStrands) : Type 0 where
   pub sound : AreSoundFor program records
   pub values : HaveValues program.kinds records

@@ -1,5 +1,6 @@
 -- The strands of a run with the pool and the history, as plain values.
-use Rattle.std.specs.Prelude.{◌≡◌, ℕ, suc, ◌+◌, ◌<◌, true, cond, List, [], ◌∷◌, length, take, drop, slice_index_or, slice_set, ◌++◌, All, Option, Some, None, Ok}
+use Rattle.std.specs.Prelude.{◌≡◌, ℕ, suc, ◌+◌, ◌<◌, true, cond, List, [], ◌∷◌, length, take, drop, slice_index_or, slice_set, ◌++◌, All}
+use Rattle.std.specs.Prelude.{Option, Some, None, Ok}
 use Rattle.monoid_laws.specs.declared.Kind.{Kind}
 use Rattle.meaning.specs.Outcome.{Place}
 use Rattle.meaning.specs.SmallStep.{same_name}
@@ -72,7 +73,9 @@ MayRob i ps = (d : PlainPiece) → i < length ps → has_tasks (slice_index_or p
 -- a thief has taken the oldest continuation of the strand of that number
 abbrev pub IsRobbed : Setting → ℕ → ℕ → PlainStrands → PlainStrands → Type 0
 IsRobbed setting thief i s t =
-    (d : PlainPiece) (kits : ℕ) → among (take i s.pieces) (drop (suc i) s.pieces) s.history (stolen_of setting thief (suc kits) (slice_index_or s.pieces i d) (slice_index_or s.pieces i d).deque) ≡ Ok (record { pieces = t.pieces; kits = kits; history = t.history })
+    (d : PlainPiece) (kits : ℕ) → among (take i s.pieces) (drop (suc i) s.pieces) s.history
+    (stolen_of setting thief (suc kits) (slice_index_or s.pieces i d) (slice_index_or s.pieces i d).deque)
+    ≡ Ok (record { pieces = t.pieces; kits = kits; history = t.history })
 
 -- what a strand that is laid down so keeps: a faulted one its lowest layer alone
 abbrev pub rested_strand : State → PlainStrand → PlainStrand
@@ -101,7 +104,8 @@ LaysDown (Some state) i p s t = IsLaidDown i state p s t
 -- the strand of that number is laid down as what its holder leaves it
 abbrev pub IsLaid : List Code → ℕ → PlainStrands → PlainStrands → Type 0
 IsLaid codes i s t =
-    (d : PlainPiece) → LaysDown (rest_at (pause_of codes (slice_index_or s.pieces i d).strand) (slice_index_or s.pieces i d).deque) i (slice_index_or s.pieces i d) s t
+    (d : PlainPiece) → LaysDown (rest_at (pause_of codes (slice_index_or s.pieces i d).strand) (slice_index_or s.pieces i d).deque) i
+    (slice_index_or s.pieces i d) s t
 
 -- memory is refused where the strand was to be laid down
 abbrev pub IsLayingRefused : Option State → Refusal → Type 0

@@ -98,8 +98,11 @@ impl<V: View> Strands<V> {
         requires fit { AreFit program.now.kinds self.old }
         requires layered { All HasOneLayer self.old.pieces }
         requires monoids { All IsMonoid program.now.kinds }
-        ensures taken { OnOk result (if_idle (is_idle worker self.old.pieces) (folded_at worker place.now (length self.old.kits) [] self.old.pieces self.old.history) ≡ Ok (run_of self.new)) }
-        ensures refused { IfErr result (RefusedAs true (if_idle (is_idle worker self.old.pieces) (folded_at worker place.now (length self.old.kits) [] self.old.pieces self.old.history))) }
+        ensures taken { OnOk result (if_idle (is_idle worker self.old.pieces)
+            (folded_at worker place.now (length self.old.kits) [] self.old.pieces self.old.history) ≡ Ok (run_of self.new)) }
+        ensures refused { IfErr result (RefusedAs true
+            (if_idle (is_idle worker self.old.pieces)
+            (folded_at worker place.now (length self.old.kits) [] self.old.pieces self.old.history))) }
         ensures kept { IfErr result (λ e. LeavesFolded e self.old self.new) }
         ensures fit { AreFit program.now.kinds self.new }
         ensures total { self.new.total ≡ self.old.total }

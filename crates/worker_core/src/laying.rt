@@ -74,8 +74,12 @@ impl<V: View> Strands<V> {
         worker: usize,
     ) -> Result<(), Refusal>
         requires fit { AreFit program.now.kinds self.old }
-        ensures taken { OnOk result ((tables : Edited) (records : List PlainRecord) → changed Refusal.NotThere worker (stalled (given program.now tables records) (length self.old.kits)) [] self.old.pieces self.old.history ≡ Ok (run_of self.new)) }
-        ensures refused { IfErr result (λ e. (tables : Edited) (records : List PlainRecord) → RefusedAs true (changed Refusal.NotThere worker (stalled (given program.now tables records) (length self.old.kits)) [] self.old.pieces self.old.history) e) }
+        ensures taken { OnOk result ((tables : Edited) (records : List PlainRecord)
+            → changed Refusal.NotThere worker (stalled (given program.now tables records) (length self.old.kits))
+            [] self.old.pieces self.old.history ≡ Ok (run_of self.new)) }
+        ensures refused { IfErr result (λ e. (tables : Edited) (records : List PlainRecord)
+            → RefusedAs true (changed Refusal.NotThere worker
+            (stalled (given program.now tables records) (length self.old.kits)) [] self.old.pieces self.old.history) e) }
         ensures unchanged { OnErr result (self.new ≡ self.old) }
         ensures fit { AreFit program.now.kinds self.new }
         ensures total { self.new.total ≡ self.old.total }
@@ -91,7 +95,9 @@ impl<V: View> Strands<V> {
     fn stall_at(&mut self, alloc: Global, program: &Checked, number: usize) -> Result<(), Refusal>
         requires number { number < length self.old.pieces }
         ensures taken { OnOk result (IsLaid program.now.codes number self.old self.new) }
-        ensures refused { IfErr result (λ e. (d : PlainPiece) → IsLayingRefused (rest_at (pause_of program.now.codes (slice_index_or self.old.pieces number d).strand) (slice_index_or self.old.pieces number d).deque) e) }
+        ensures refused { IfErr result (λ e. (d : PlainPiece)
+            → IsLayingRefused (rest_at (pause_of program.now.codes (slice_index_or self.old.pieces number d).strand)
+            (slice_index_or self.old.pieces number d).deque) e) }
         ensures unchanged { OnErr result (self.new ≡ self.old) }
         ensures fit { (kinds : List Kind) → AreFit kinds self.old → AreFit kinds self.new }
         ensures total { self.new.total ≡ self.old.total }

@@ -60,7 +60,14 @@ impl<'a, V: View> Model for Core<'a, V> {
 
     ghost coded = { Prim.hlevel (codes, e.the_row.coded, t.the_row.coded) };
 
-    ghost view = { λ c. record { program = c.program.now; tables = c.tables.now; records = c.records.now; strands = c.strands; workers = c.workers; failed = c.failed } };
+    ghost view = { λ c. record {
+      program = c.program.now;
+      tables = c.tables.now;
+      records = c.records.now;
+      strands = c.strands;
+      workers = c.workers;
+      failed = c.failed;
+    } };
 
     ghost invariant = { λ c. AreFit c.program.now.kinds c.strands × StaysRun c.failed c.program.now c.tables.now c.records.now c.workers c.strands };
 }
@@ -214,7 +221,8 @@ impl<'a, V: View> Core<'a, V> {
 
 /// What the theory asks for of a checked program and its tables.
 fn are_ready(program: &Checked, tables: &Tables)
-    ensures ready { (kept : List Kept) → Every (IsSound (revised_of program.now)) kept → IsReady (revised_of program.now) tables.now.tables (recording_from kept) }
+    ensures ready { (kept : List Kept) → Every (IsSound (revised_of program.now)) kept
+        → IsReady (revised_of program.now) tables.now.tables (recording_from kept) }
     ensures numbered { IsNumbered (revised_of program.now) }
     ensures checked { IsChecked program.now }
     ensures monoids { All IsMonoid program.now.kinds }

@@ -49,7 +49,9 @@ impl<V: View> Piece<V> {
     ) -> Result<(Place, Piece<V>), Kit<V>>
         requires tasks { has_tasks self.old.deque ≡ true }
         requires kinds { kit ≡ program.now.kinds }
-        ensures robbed { IfOk result (λ r. (tables : Edited) (records : List PlainRecord) (kits : ℕ) → stolen_of (given program.now tables records) thief (suc kits) self.old self.old.deque ≡ Ok (record { pieces = self.new ∷ r.1 ∷ []; kits = kits; noted = Split (begins_at self.old) r.0.items thief ∷ [] })) }
+        ensures robbed { IfOk result (λ r. (tables : Edited) (records : List PlainRecord) (kits : ℕ)
+            → stolen_of (given program.now tables records) thief (suc kits) self.old self.old.deque
+            ≡ Ok (record { pieces = self.new ∷ r.1 ∷ []; kits = kits; noted = Split (begins_at self.old) r.0.items thief ∷ [] })) }
         ensures fit { IfOk result (λ r. IsFit program.now.kinds r.1) }
         ensures one_layer { IfOk result (λ r. r.1.strand.lower ≡ []) }
         ensures strand { self.new.strand ≡ self.old.strand }
@@ -89,7 +91,8 @@ impl<V: View> Strands<V> {
         requires fit { AreFit program.now.kinds self.old }
         requires tasks { MayRob number self.old.pieces }
         requires kinds { kit ≡ program.now.kinds }
-        ensures taken { OnOk result ((tables : Edited) (records : List PlainRecord) → IsRobbed (given program.now tables records) thief number self.old self.new) }
+        ensures taken { OnOk result ((tables : Edited) (records : List PlainRecord)
+            → IsRobbed (given program.now tables records) thief number self.old self.new) }
         ensures fit { AreFit program.now.kinds self.new }
         ensures total { self.new.total ≡ self.old.total }
         ensures free { self.new.kits ≡ self.old.kits }
@@ -124,8 +127,14 @@ impl<V: View> Strands<V> {
         victim: usize,
     ) -> Result<(), Refusal>
         requires fit { AreFit program.now.kinds self.old }
-        ensures taken { OnOk result ((tables : Edited) (records : List PlainRecord) → if_idle (is_idle thief self.old.pieces) (changed Refusal.Nothing victim (stolen_from (given program.now tables records) thief (length self.old.kits)) [] self.old.pieces self.old.history) ≡ Ok (run_of self.new)) }
-        ensures refused { IfErr result (λ e. (tables : Edited) (records : List PlainRecord) → RefusedAs true (if_idle (is_idle thief self.old.pieces) (changed Refusal.Nothing victim (stolen_from (given program.now tables records) thief (length self.old.kits)) [] self.old.pieces self.old.history)) e) }
+        ensures taken { OnOk result ((tables : Edited) (records : List PlainRecord)
+            → if_idle (is_idle thief self.old.pieces)
+            (changed Refusal.Nothing victim (stolen_from (given program.now tables records) thief (length self.old.kits))
+            [] self.old.pieces self.old.history) ≡ Ok (run_of self.new)) }
+        ensures refused { IfErr result (λ e. (tables : Edited) (records : List PlainRecord)
+            → RefusedAs true (if_idle (is_idle thief self.old.pieces)
+            (changed Refusal.Nothing victim (stolen_from (given program.now tables records) thief (length self.old.kits))
+            [] self.old.pieces self.old.history)) e) }
         ensures unchanged { OnErr result (self.new ≡ self.old) }
         ensures fit { AreFit program.now.kinds self.new }
         ensures total { self.new.total ≡ self.old.total }

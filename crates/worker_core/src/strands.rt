@@ -77,8 +77,11 @@ impl<V: View> Strands<V> {
         requires values { HaveValues setting.program.now.kinds setting.records.now }
         requires monoids { All IsMonoid setting.program.now.kinds }
         requires fit { AreFit setting.program.now.kinds self.old }
-        ensures taken { OnOk result (changed Refusal.NotThere worker (moved (lent setting.entry) step (length self.old.kits)) [] self.old.pieces self.old.history ≡ Ok (run_of self.new)) }
-        ensures refused { IfErr result (RefusedAs (takes_memory step) (changed Refusal.NotThere worker (moved (lent setting.entry) step (length self.old.kits)) [] self.old.pieces self.old.history)) }
+        ensures taken { OnOk result (changed Refusal.NotThere worker
+            (moved (lent setting.entry) step (length self.old.kits)) [] self.old.pieces self.old.history ≡ Ok (run_of self.new)) }
+        ensures refused { IfErr result (RefusedAs (takes_memory step)
+            (changed Refusal.NotThere worker (moved (lent setting.entry) step (length self.old.kits))
+            [] self.old.pieces self.old.history)) }
         ensures left { IfErr result (λ e. LeavesMoved step e self.old self.new) }
         ensures fit { AreFit setting.entry.program.now.kinds self.new }
         ensures total { self.new.total ≡ self.old.total }
