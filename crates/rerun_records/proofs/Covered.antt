@@ -18,7 +18,7 @@ use Rattle.rerun_records.specs.Record.{rows}
 use Rattle.evaluation.specs.Short.{note_of}
 use Rattle.rerun_records.specs.Validity.{note_agrees}
 use Rattle.rerun_records.specs.Spans.{span_of, has_row, covers, is_covered_by, lies_in, is_touched, joined, put_span, put_spans}
-use Rattle.rerun_records.specs.Doubted.{rests_on, in_step, agrees_if_changed}
+use Rattle.rerun_records.specs.Doubted.{rests_on, in_step}
 use Rattle.rerun_records.proofs.Members.{left_is, right_is, both, every_weaker}
 
 -- ---- a span in its place
@@ -216,29 +216,18 @@ untouched (s ∷ ss) changes note h e =
       | false ↦ λ c f. untouched ss changes note (right_not (list_any (λ c. lies_in c s) changes) (is_touched ss changes) h) f
     ] refl e
 
--- what is covered needn't be looked at
-pub passed_over : (tables : Tables) (spans : List Span) (changes : List (ℕ × ℤ)) (notes : List Note) → is_touched spans changes ≡ false → every (is_covered_by spans) notes ≡ true → every (agrees_if_changed tables changes) notes ≡ true
-passed_over tables spans changes notes h =
-    every_weaker (is_covered_by spans) (agrees_if_changed tables changes) notes
-    (λ note e. ap (λ b. not b || note_agrees tables note) (untouched spans changes note h e))
+-- where the tables hold what no change may have changed, what is covered needn't be looked at
+pub passed_over : (tables : Tables) (spans : List Span) (changes : List (ℕ × ℤ)) (notes : List Note) → is_touched spans changes ≡ false
+    → every (is_covered_by spans) notes ≡ true → every (in_step tables (rows changes)) notes ≡ true → every (note_agrees tables) notes ≡ true
+passed_over tables spans changes [] h c s = refl
+passed_over tables spans changes (n ∷ ns) h c s =
+    let out = untouched spans changes n h (left_is (is_covered_by spans n) (every (is_covered_by spans) ns) c) in
+    both (note_agrees tables n) (every (note_agrees tables) ns)
+    (sym (ap (λ b. b || note_agrees tables n) out) ∙ left_is (in_step tables (rows changes) n) (every (in_step tables (rows changes)) ns) s)
+    (passed_over tables spans changes ns h (right_is (is_covered_by spans n) (every (is_covered_by spans) ns) c) (right_is (in_step tables (rows changes) n) (every (in_step tables (rows changes)) ns) s))
 
 -- where nothing was changed, nothing needs to be looked at
-none_changed : (tables : Tables) (notes : List Note) → every (agrees_if_changed tables []) notes ≡ true
-none_changed tables [] = refl
-none_changed tables (n ∷ ns) = none_changed tables ns
-
-pub none_listed : (tables : Tables) (changes : List (ℕ × ℤ)) (notes : List Note) → nat_eq (length changes) 0 ≡ true → every (agrees_if_changed tables changes) notes ≡ true
-none_listed tables [] notes e = none_changed tables notes
-none_listed tables (c ∷ cs) notes e = let none : suc (length cs) ≡ 0 = (Decides-eqb (suc (length cs)) 0).0 e in absurd (omega (arith, none))
-
-if_in_step : (listed agrees : Bool) → listed || agrees ≡ true → (not listed || agrees) ≡ agrees
-if_in_step true agrees e = refl
-if_in_step false agrees e = sym e
-
--- where the tables hold what no change may have changed, they hold all if they hold the rest
-pub all_in_step : (tables : Tables) (changes : List (ℕ × ℤ)) (notes : List Note) → every (in_step tables (rows changes)) notes ≡ true → every (agrees_if_changed tables changes) notes ≡ every (note_agrees tables) notes
-all_in_step tables changes [] e = refl
-all_in_step tables changes (n ∷ ns) e =
-    let one : agrees_if_changed tables changes n ≡ note_agrees tables n = if_in_step (list_any (rests_on n) changes) (note_agrees tables n) (left_is (in_step tables (rows changes) n) (every (in_step tables (rows changes)) ns) e) in
-    ap (λ b. b && every (agrees_if_changed tables changes) ns) one
-    ∙ ap (λ b. note_agrees tables n && b) (all_in_step tables changes ns (right_is (in_step tables (rows changes) n) (every (in_step tables (rows changes)) ns) e))
+pub none_listed : (tables : Tables) (changes : List (ℕ × ℤ)) (notes : List Note) → nat_eq (length changes) 0 ≡ true
+    → every (in_step tables (rows changes)) notes ≡ true → every (note_agrees tables) notes ≡ true
+none_listed tables [] notes e s = s
+none_listed tables (c ∷ cs) notes e s = let none : suc (length cs) ≡ 0 = (Decides-eqb (suc (length cs)) 0).0 e in absurd (omega (arith, none))

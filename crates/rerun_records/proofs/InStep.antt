@@ -7,7 +7,7 @@ use Rattle.meaning.specs.Every.{every}
 use Rattle.meaning.specs.Tables.{Tables}
 use Rattle.rerun_records.specs.Record.{PlainRecord, rows, same_instance}
 use Rattle.rerun_records.specs.Validity.{note_agrees}
-use Rattle.rerun_records.specs.Doubted.{rests_on, agrees_if_changed, is_doubted, in_step, reads_in_step, IsInStep, reads_agree, ReadNow}
+use Rattle.rerun_records.specs.Doubted.{rests_on, is_doubted, in_step, reads_in_step, IsInStep, reads_agree, ReadNow}
 use Rattle.rerun_records.specs.Commits.{put_record, put_records}
 use Rattle.rerun_records.proofs.Members.{left_is, right_is, both, every_weaker}
 
@@ -33,16 +33,3 @@ in_step_put tables rs (s ∷ ss) h n =
     in_step_put tables (put_record rs s) ss
     (every_put (reads_in_step tables) rs s h (read_now tables s (left_is (reads_agree tables s) (every (reads_agree tables) ss) n)))
     (right_is (reads_agree tables s) (every (reads_agree tables) ss) n)
-
--- one reading: in doubt it is compared, else it agrees
-same_if_held : (d a : Bool) → d || a ≡ true → not d || a ≡ a
-same_if_held true a e = refl
-same_if_held false a e = sym e
-
--- where the readings that aren't in doubt agree, only the others have to be compared
-pub doubted_suffice : (tables : Tables) (changes : List (ℕ × ℤ)) (ns : List Note) → every (in_step tables (rows changes)) ns ≡ true → every (agrees_if_changed tables changes) ns ≡ every (note_agrees tables) ns
-doubted_suffice tables changes [] e = refl
-doubted_suffice tables changes (n ∷ ns) e =
-    let one = same_if_held (list_any (rests_on n) changes) (note_agrees tables n) (left_is (in_step tables (rows changes) n) (every (in_step tables (rows changes)) ns) e) in
-    let rest = doubted_suffice tables changes ns (right_is (in_step tables (rows changes) n) (every (in_step tables (rows changes)) ns) e) in
-    ap (λ b. b && every (agrees_if_changed tables changes) ns) one ∙ ap (λ b. note_agrees tables n && b) rest

@@ -16,7 +16,9 @@ use Rattle.evaluation.specs.declared.reading.Reading.{Reading}
 use Rattle.rerun_records.specs.declared.spans.Span.{Span}
 use Rattle.meaning.specs.Tables.{Tables}
 use Rattle.rerun_records.specs.Spans.{is_covered_by, is_touched, span_of, put_spans}
-use Rattle.rerun_records.specs.Doubted.{agrees_if_changed}
+use Rattle.rerun_records.specs.Doubted.{in_step}
+use Rattle.rerun_records.specs.Record.{rows}
+use Rattle.rerun_records.specs.Validity.{note_agrees}
 use Rattle.rerun_records.proofs.Members.{left_is, right_is, both, every_mapped, every_weaker}
 use Rattle.rerun_records.proofs.Covered.{keeps_all, adds_all, adds_read, passed_over}
 use Rattle.rerun_records.specs.Readings.{all_of, Told, node_step, below_step, node_told, below_told, node_notes, is_covered, shared_notes, is_covered_share, held_notes, is_covered_below}
@@ -113,12 +115,24 @@ module _ (n : Node) where
       ∙ every_append p (map note_of (out-Node n).own.items) (held_notes (out-Node n).below)
       ∙ ap (λ c. c && every p (held_notes (out-Node n).below)) h
 
-  -- where no change lies in the spans, the parts needn't be asked
+  pub every_own : (p : Note → Bool) → every p (node_notes n) ≡ true → every p (map note_of (out-Node n).own.items) ≡ true
+  every_own p h =
+      left_is (every p (map note_of (out-Node n).own.items)) (every p (held_notes (out-Node n).below))
+      (sym (every_append p (map note_of (out-Node n).own.items) (held_notes (out-Node n).below)) ∙ sym (ap (every p) (notes_out n)) ∙ h)
+
+  pub every_part : (p : Note → Bool) (b : Box Below Global) → (out-Node n).below ≡ Some b → every p (node_notes n) ≡ true
+      → every p (flat_map shared_notes (out-Below b.value).parts.items) ≡ true
+  every_part p b e h =
+      right_is (every p (map note_of (out-Node n).own.items)) (every p (flat_map shared_notes (out-Below b.value).parts.items))
+      (sym (every_append p (map note_of (out-Node n).own.items) (flat_map shared_notes (out-Below b.value).parts.items)) ∙ sym (ap (every p) (with_parts b e)) ∙ h)
+
+  -- where no change lies in the spans, the tables hold what the parts have read
   pub every_passed_over : (tables : Tables) (changes : List (ℕ × ℤ)) (b : Box Below Global) → (out-Node n).below ≡ Some b → is_covered n ≡ true → is_touched (out-Below b.value).spans.items changes ≡ false
-      → every (agrees_if_changed tables changes) (map note_of (out-Node n).own.items) ≡ true → every (agrees_if_changed tables changes) (node_notes n) ≡ true
-  every_passed_over tables changes b e h t own =
-      every_with_parts (agrees_if_changed tables changes) b e own
+      → every (in_step tables (rows changes)) (node_notes n) ≡ true → every (note_agrees tables) (map note_of (out-Node n).own.items) ≡ true → every (note_agrees tables) (node_notes n) ≡ true
+  every_passed_over tables changes b e h t step own =
+      every_with_parts (note_agrees tables) b e own
       ∙ passed_over tables (out-Below b.value).spans.items changes (flat_map shared_notes (out-Below b.value).parts.items) t (spans_cover b e h)
+      (every_part (in_step tables (rows changes)) b e step)
 
   -- ---- its notes are covered by spans that it is joined with
 

@@ -25,10 +25,6 @@ is_doubted (rows changes) note = list_any (rests_on note) changes
 abbrev pub in_step : Tables → Doubts → Note → Bool
 in_step tables doubts note = is_doubted doubts note || note_agrees tables note
 
--- none of the changes may have changed what is read so, or the tables hold it
-abbrev pub agrees_if_changed : Tables → List (ℕ × ℤ) → Note → Bool
-agrees_if_changed tables changes note = not (list_any (rests_on note) changes) || note_agrees tables note
-
 -- the tables hold each reading that is not in doubt
 abbrev pub reads_in_step : Tables → PlainRecord → Bool
 reads_in_step tables r = every (in_step tables r.doubted) r.reads

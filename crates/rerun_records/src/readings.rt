@@ -8,7 +8,7 @@ ghost use Rattle.evaluation.specs.Short.{note_of};
 ghost use Rattle.rerun_records.specs.Spans.{is_covered_by};
 ghost use Rattle.rerun_records.specs.Readings.{all_of, node_notes, shared_notes, held_notes, is_covered, is_covered_share, is_covered_below};
 ghost use Rattle.rerun_records.specs.Validity.{note_agrees};
-ghost use Rattle.rerun_records.specs.Doubted.{rests_on, agrees_if_changed, in_step};
+ghost use Rattle.rerun_records.specs.Doubted.{rests_on, in_step};
 ghost use Rattle.rerun_records.specs.Blocks.{is_apart};
 
 use crate::changes::is_among;
@@ -20,7 +20,7 @@ use std::alloc::{AllocError, Global};
 use std::marker::Model;
 use std::sync::Arc;
 
-/// So many changes are looked through before the tables are.
+/// So many changes are looked through before the tables are asked.
 const FEW: usize = 8;
 
 // Most have nothing below, so that lies by itself.
@@ -93,18 +93,16 @@ impl Readings {
         node_agrees(&self.node, tables)
     }
 
-    /// Whether the tables hold what was read of the rows that were changed, each given by its table's number and its own, and each
-    /// limit and sum of their tables. It takes no memory, and passes over parts that read none of these.
-    pub fn doubted_agree(&self, changes: &[(usize, i64)], tables: &Tables) -> bool
-        ensures agree { result
-            ≡ every (agrees_if_changed tables.now.tables changes.now) self.now }
-        ensures in_step { every (in_step tables.now.tables (rows changes.now)) self.now ≡ true
-            → result ≡ every (note_agrees tables.now.tables) self.now }
+    /// Whether the tables hold what was read, where they hold each reading that those changes, each given by its table's number
+    /// and the row, don't put in doubt. It takes no memory, and passes over parts that read none of these rows.
+    pub(crate) fn still_agree(&self, changes: &[(usize, i64)], tables: &Tables) -> bool
+        requires in_step { every (in_step tables.now.tables (rows changes.now)) self.now ≡ true }
+        ensures agree { result ≡ every (note_agrees tables.now.tables) self.now }
     {
         if changes.is_empty() {
             return true;
         }
-        node_doubted_agrees(&self.node, changes, tables)
+        node_still_agrees(&self.node, changes, tables)
     }
 
     /// Whether one of these changes, each given by its table's number and the row, may have changed what was read, by its own
@@ -209,21 +207,21 @@ fn parts_agree(parts: &[Arc<Node>], tables: &Tables) -> bool
     true
 }
 
-// Whether the tables hold what was read there and below and a change may have changed. Where no changed row lies in the spans, the
-// parts aren't asked.
+// Whether the tables hold what was read there and below, where they hold what no change may have changed. Where no changed row lies
+// in the spans, the parts aren't asked.
 #[cycle(doubting)]
-fn node_doubted_agrees(node: &Node, changes: &[(usize, i64)], tables: &Tables) -> bool
+fn node_still_agrees(node: &Node, changes: &[(usize, i64)], tables: &Tables) -> bool
     requires covered { is_covered node.now ≡ true }
-    ensures agrees { result
-        ≡ every (agrees_if_changed tables.now.tables changes.now) (node_notes node.now) }
+    requires in_step { every (in_step tables.now.tables (rows changes.now)) (node_notes node.now) ≡ true }
+    ensures agrees { result ≡ every (note_agrees tables.now.tables) (node_notes node.now) }
 {
-    if !doubted_reads_agree(&node.own, changes, tables) {
+    if !reads_still_agree(&node.own, changes, tables) {
         return false;
     }
     match &node.below {
         Some(below) => {
             if are_touched(&below.spans, changes) {
-                doubted_parts_agree(&below.parts, changes, tables)
+                parts_still_agree(&below.parts, changes, tables)
             } else {
                 true
             }
@@ -233,13 +231,15 @@ fn node_doubted_agrees(node: &Node, changes: &[(usize, i64)], tables: &Tables) -
 }
 
 #[cycle(doubting)]
-fn doubted_parts_agree(parts: &[Arc<Node>], changes: &[(usize, i64)], tables: &Tables) -> bool
+fn parts_still_agree(parts: &[Arc<Node>], changes: &[(usize, i64)], tables: &Tables) -> bool
     requires covered { every is_covered_share parts.now ≡ true }
-    ensures agree { result ≡ every (agrees_if_changed tables.now.tables changes.now)
-        (flat_map shared_notes parts.now) }
+    requires in_step { every (in_step tables.now.tables (rows changes.now))
+        (flat_map shared_notes parts.now) ≡ true }
+    ensures agree { result
+        ≡ every (note_agrees tables.now.tables) (flat_map shared_notes parts.now) }
 {
     for part in parts {
-        if !node_doubted_agrees(part, changes, tables) {
+        if !node_still_agrees(part, changes, tables) {
             return false;
         }
     }
@@ -305,29 +305,29 @@ fn put_own(own: &[Reading], notes: &mut Vec<Note>) -> Result<(), AllocError>
     Ok(())
 }
 
-// Whether the tables hold those of the readings that a change may have changed.
-fn doubted_reads_agree(reads: &[Reading], changes: &[(usize, i64)], tables: &Tables) -> bool
-    ensures agree { result
-        ≡ every (agrees_if_changed tables.now.tables changes.now) (map note_of reads.now) }
+// Whether the tables hold these readings, where they hold those that no change may have changed.
+fn reads_still_agree(reads: &[Reading], changes: &[(usize, i64)], tables: &Tables) -> bool
+    requires in_step { every (in_step tables.now.tables (rows changes.now)) (map note_of reads.now)
+        ≡ true }
+    ensures agree { result ≡ every (note_agrees tables.now.tables) (map note_of reads.now) }
 {
     for reading in reads {
-        if !agrees_if_changed(reading, changes, tables) {
+        if !still_agrees(reading, changes, tables) {
             return false;
         }
     }
     true
 }
 
-// Whether no change may have changed what is read so, or the tables hold it: what takes less is asked first.
-fn agrees_if_changed(reading: &Reading, changes: &[(usize, i64)], tables: &Tables) -> bool
-    ensures agrees { result
-        ≡ agrees_if_changed tables.now.tables changes.now (note_of reading.now) }
+// Whether the tables hold what was read so: few changes are looked through first, since that takes less than to ask the tables.
+fn still_agrees(reading: &Reading, changes: &[(usize, i64)], tables: &Tables) -> bool
+    requires in_step { in_step tables.now.tables (rows changes.now) (note_of reading.now) ≡ true }
+    ensures agrees { result ≡ note_agrees tables.now.tables (note_of reading.now) }
 {
-    if changes.len() <= FEW {
-        !is_among(reading, changes) || agrees(&reading.note(), tables)
-    } else {
-        agrees(&reading.note(), tables) || !is_among(reading, changes)
+    if changes.len() <= FEW && !is_among(reading, changes) {
+        return true;
     }
+    agrees(&reading.note(), tables)
 }
 
 // Whether the tables hold what was read.

@@ -158,7 +158,7 @@ impl Record {
         ensures valid { result
             ≡ record_valid program.now.revisions tables.now.tables depth self.now }
     {
-        doubted_agree(&self.reads, changes, tables)
+        still_agree(&self.reads, changes, tables)
             && are_current(self.nested.entered(), program)
             && fits(depth, self.nested.height())
     }
@@ -188,23 +188,15 @@ fn fits(depth: u32, height: u32) -> bool
 }
 
 // Whether the tables hold what was read, where they held each reading that those changes of rows, or any, don't put in doubt.
-fn doubted_agree(reads: &Readings, changes: Option<&[(usize, i64)]>, tables: &Tables) -> bool
+fn still_agree(reads: &Readings, changes: Option<&[(usize, i64)]>, tables: &Tables) -> bool
     requires in_step { every (in_step tables.now.tables (doubts_by (option_copied changes)))
         reads.now ≡ true }
     ensures agree { result ≡ every (note_agrees tables.now.tables) reads.now }
 {
     match changes {
-        Some(changes) => those_agree(reads, changes, tables),
+        Some(changes) => reads.still_agree(changes, tables),
         None => reads.agree(tables),
     }
-}
-
-// Whether the tables hold each reading that those changes put in doubt.
-fn those_agree(reads: &Readings, changes: &[(usize, i64)], tables: &Tables) -> bool
-    requires in_step { every (in_step tables.now.tables (rows changes.now)) reads.now ≡ true }
-    ensures agree { result ≡ every (note_agrees tables.now.tables) reads.now }
-{
-    reads.doubted_agree(changes, tables)
 }
 
 // Whether these procedures have these revision numbers.

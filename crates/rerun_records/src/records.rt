@@ -36,6 +36,9 @@ const FEWEST: usize = 1024;
 /// And one for so many records, since to compare them takes as long as there are many.
 const RECORDS_A_CHANGE: usize = 16;
 
+/// Room for one more record is made for so many.
+const RECORDS_A_SPARE: usize = 64;
+
 /// Records, at most one of each procedure and arguments, in the order in which those were first recorded. A row that is changed
 /// is listed, and of a record those readings are in doubt that rest on rows listed since it stands: they alone are compared.
 #[derive(Drop)]
@@ -373,8 +376,9 @@ impl Records {
             → HaveValues kinds records.items → HaveValues kinds self.new) }
         ensures same { OnErr result (self.new ≡ self.old) }
     {
-        self.by_instance.reserve(records.len())?;
-        self.moments.reserve(records.len())?;
+        let room = with_spare(records.len());
+        self.by_instance.reserve(room)?;
+        self.moments.reserve(room)?;
         put_all(
             &mut self.by_instance,
             &mut self.moments,
@@ -431,6 +435,13 @@ impl Records {
         self.changes.clear();
         compare_all(self.by_instance.as_slice(), &mut self.moments, tables);
     }
+}
+
+// Room for so many records, and for those of some runs behind: else the first put after a large run would move all of them.
+fn with_spare(records: usize) -> usize
+    ensures room { records ≤ result }
+{
+    records.saturating_add(records / RECORDS_A_SPARE)
 }
 
 // Whether it is time to compare that many records.
