@@ -122,7 +122,8 @@ fn gather_these(
 {
     make_fine(records, alloc, places, tables, program)?;
     make_wider(records, alloc, Width::Middle, places, program)?;
-    make_wider(records, alloc, Width::Wide, places, program)
+    make_wider(records, alloc, Width::Wide, places, program)?;
+    make_wider(records, alloc, Width::Vast, places, program)
 }
 
 // Makes fine blocks that have the records at these places as part.

@@ -20,8 +20,11 @@ use std::alloc::{AllocError, Global};
 /// A middle block is made of fine ones between multiples of its width.
 const MIDDLE: u64 = 128;
 
-/// And a wide one of middle ones.
+/// A wide one of middle ones.
 const WIDE: u64 = 1024;
+
+/// And a vast one of wide ones.
+const VAST: u64 = 8192;
 
 /// So many at most.
 const PARTS: u64 = 8;
@@ -227,6 +230,7 @@ fn part_next<'a>(
 // The width of the blocks that one of that width is made of.
 fn part_of(width: Width) -> Width {
     match width {
+        Width::Vast => Width::Wide,
         Width::Wide => Width::Middle,
         _ => Width::Fine,
     }
@@ -235,6 +239,7 @@ fn part_of(width: Width) -> Width {
 // How many records these have at most.
 fn longest_part(width: Width) -> usize {
     match width {
+        Width::Vast => WIDE as usize,
         Width::Wide => MIDDLE as usize,
         _ => FINE as usize,
     }
@@ -243,6 +248,7 @@ fn longest_part(width: Width) -> usize {
 // How many of these there may be before the one with that number, within the bounds of a block of that width.
 fn parts_before(width: Width, number: i64) -> u64 {
     match width {
+        Width::Vast => number.cast_unsigned() % VAST / WIDE,
         Width::Wide => number.cast_unsigned() % WIDE / MIDDLE,
         _ => number.cast_unsigned() % MIDDLE / FINE,
     }

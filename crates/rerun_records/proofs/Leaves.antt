@@ -84,16 +84,18 @@ remaining_fit records now before r h = record {
   fine = λ n b l. subst (λ ks. BlockFits ks records b) (sym r.kinds) (h.fine n b (r.fine n b l));
   middle = λ n b l. subst (λ ks. BlockFits ks records b) (sym r.kinds) (h.middle n b (r.middle n b l));
   wide = λ n b l. subst (λ ks. BlockFits ks records b) (sym r.kinds) (h.wide n b (r.wide n b l));
+  vast = λ n b l. subst (λ ks. BlockFits ks records b) (sym r.kinds) (h.vast n b (r.vast n b l));
 }
 
 no_live : (bs : List (Option PlainBlock)) (n : ℕ) (b : PlainBlock) → bs ≡ [] → live_at bs n ≡ Some b → ⊥
 no_live bs n b e h = nothing_live n b (subst (λ xs. live_at xs n ≡ Some b) e h)
 
-pub none_fit : (records : List PlainRecord) (now : PlainBlocks) → now.fine ≡ [] → now.middle ≡ [] → now.wide ≡ [] → BlocksFit records now
-none_fit records now e g f = record {
+pub none_fit : (records : List PlainRecord) (now : PlainBlocks) → now.fine ≡ [] → now.middle ≡ [] → now.wide ≡ [] → now.vast ≡ [] → BlocksFit records now
+none_fit records now e g f v = record {
   fine = λ n b l. absurd (no_live now.fine n b e l);
   middle = λ n b l. absurd (no_live now.middle n b g l);
   wide = λ n b l. absurd (no_live now.wide n b f l);
+  vast = λ n b l. absurd (no_live now.vast n b v l);
 }
 
 -- ---- a record is put in, which is part of none
@@ -118,12 +120,13 @@ put_again old new r place ps e at free p m t there reads s =
     let now_there : slice_get new p ≡ Some old_there.0 = ap (λ xs. slice_get xs p) e ∙ put_elsewhere old r p old_there.0 apart old_there.1 in
     (settled_at new p old_there.0 now_there ∙ ap Some (sym old_there.2), ap stands_if (now_there ∙ sym old_there.1) ∙ s)
 
-pub put_fits : (old new : List PlainRecord) (r : PlainRecord) (place : ℕ) (now before : PlainBlocks) → BlocksFit old before → BlocksRemain now before → IsFree place now.fine → IsFree place now.middle → IsFree place now.wide
+pub put_fits : (old new : List PlainRecord) (r : PlainRecord) (place : ℕ) (now before : PlainBlocks) → BlocksFit old before → BlocksRemain now before → IsFree place now.fine → IsFree place now.middle → IsFree place now.wide → IsFree place now.vast
     → new ≡ put_record old r → place ≡ position_or_len (same_instance r) old → BlocksFit new now
-put_fits old new r place now before h rem fine middle wide e at = record {
+put_fits old new r place now before h rem fine middle wide vast e at = record {
   fine = all_again old new (λ _. true) now.kinds now.fine now.fine (remaining_fit old now before rem h).fine (λ n b l. l) (λ n b l. every_all b.sum.reads) (λ n b l. put_again old new r place b.places e at (fine n b l));
   middle = all_again old new (λ _. true) now.kinds now.middle now.middle (remaining_fit old now before rem h).middle (λ n b l. l) (λ n b l. every_all b.sum.reads) (λ n b l. put_again old new r place b.places e at (middle n b l));
   wide = all_again old new (λ _. true) now.kinds now.wide now.wide (remaining_fit old now before rem h).wide (λ n b l. l) (λ n b l. every_all b.sum.reads) (λ n b l. put_again old new r place b.places e at (wide n b l));
+  vast = all_again old new (λ _. true) now.kinds now.vast now.vast (remaining_fit old now before rem h).vast (λ n b l. l) (λ n b l. every_all b.sum.reads) (λ n b l. put_again old new r place b.places e at (vast n b l));
 }
 
 module _ (changes : List (ℕ × ℤ)) where
@@ -190,13 +193,15 @@ module _ (changes : List (ℕ × ℤ)) where
   pub marked_fits : (more : List (ℕ × ℤ)) (change : ℕ × ℤ) (ns : List ℕ) (rs : List PlainRecord) (now before : PlainBlocks) → more ≡ changes ++ change ∷ [] → BlocksFit (standing changes ns rs) before → BlocksRemain now before
       → ((n : ℕ) (b : PlainBlock) → live_at now.fine n ≡ Some b → every (is_apart (change ∷ [])) b.sum.reads ≡ true)
       → ((n : ℕ) (b : PlainBlock) → live_at now.middle n ≡ Some b → every (is_apart (change ∷ [])) b.sum.reads ≡ true)
-      → ((n : ℕ) (b : PlainBlock) → live_at now.wide n ≡ Some b → every (is_apart (change ∷ [])) b.sum.reads ≡ true) → BlocksFit (standing more ns rs) now
-  marked_fits more change ns rs now before e h rem fine middle wide =
+      → ((n : ℕ) (b : PlainBlock) → live_at now.wide n ≡ Some b → every (is_apart (change ∷ [])) b.sum.reads ≡ true)
+      → ((n : ℕ) (b : PlainBlock) → live_at now.vast n ≡ Some b → every (is_apart (change ∷ [])) b.sum.reads ≡ true) → BlocksFit (standing more ns rs) now
+  marked_fits more change ns rs now before e h rem fine middle wide vast =
       let old = standing changes ns rs in
       record {
         fine = all_again old (standing more ns rs) (is_apart (change ∷ [])) now.kinds now.fine now.fine (remaining_fit old now before rem h).fine (λ n b l. l) fine (λ n b l. marked_again more change ns rs b.places e);
         middle = all_again old (standing more ns rs) (is_apart (change ∷ [])) now.kinds now.middle now.middle (remaining_fit old now before rem h).middle (λ n b l. l) middle (λ n b l. marked_again more change ns rs b.places e);
         wide = all_again old (standing more ns rs) (is_apart (change ∷ [])) now.kinds now.wide now.wide (remaining_fit old now before rem h).wide (λ n b l. l) wide (λ n b l. marked_again more change ns rs b.places e);
+        vast = all_again old (standing more ns rs) (is_apart (change ∷ [])) now.kinds now.vast now.vast (remaining_fit old now before rem h).vast (λ n b l. l) vast (λ n b l. marked_again more change ns rs b.places e);
       }
 
   -- ---- a record stands since now
@@ -247,6 +252,7 @@ module _ (changes : List (ℕ × ℤ)) where
         fine = all_again old (standing changes ms rs) (λ _. true) blocks.kinds blocks.fine blocks.fine h.fine (λ n b l. l) (λ n b l. every_all b.sum.reads) (λ n b l. same b.places);
         middle = all_again old (standing changes ms rs) (λ _. true) blocks.kinds blocks.middle blocks.middle h.middle (λ n b l. l) (λ n b l. every_all b.sum.reads) (λ n b l. same b.places);
         wide = all_again old (standing changes ms rs) (λ _. true) blocks.kinds blocks.wide blocks.wide h.wide (λ n b l. l) (λ n b l. every_all b.sum.reads) (λ n b l. same b.places);
+        vast = all_again old (standing changes ms rs) (λ _. true) blocks.kinds blocks.vast blocks.vast h.vast (λ n b l. l) (λ n b l. every_all b.sum.reads) (λ n b l. same b.places);
       }
 
   pub stamped_step : (tables : Tables) (ns : List ℕ) (rs : List PlainRecord) (i : ℕ) (k : PlainRecord) → slice_get rs i ≡ Some k → reads_agree tables k ≡ true → IsInStep tables (standing changes ns rs)
@@ -281,23 +287,34 @@ found_fits kinds records blocks b h is =
       | inr r ↦
           (elim r as (λ _. BlockFits blocks.kinds records b) [
             | inl l ↦ h.middle l.number b l.there
-            | inr l ↦ h.wide l.number b l.there
+            | inr q ↦
+                (elim q as (λ _. BlockFits blocks.kinds records b) [
+                  | inl l ↦ h.wide l.number b l.there
+                  | inr l ↦ h.vast l.number b l.there
+                ])
           ])
     ])
 
+-- they are those that were there, or none
+pub still_fit : (records : List PlainRecord) (old mid : PlainBlocks) → BlocksFit records old
+    → BlocksRemain mid old ⊎ ((mid.fine ≡ []) × (mid.middle ≡ []) × (mid.wide ≡ []) × (mid.vast ≡ [])) → BlocksFit records mid
+still_fit records old mid h rem = elim rem as (λ _. BlocksFit records mid) [
+  | inl r ↦ remaining_fit records mid old r h
+  | inr e ↦ none_fit records mid e.0 e.1 e.2 e.3
+]
+
 -- one more fits, for those kinds
-pub added_blocks_fit : (records : List PlainRecord) (old mid new : PlainBlocks) (kinds : List Kind) (block : PlainBlock) → BlocksFit records old → BlocksRemain mid old ⊎ ((mid.fine ≡ []) × (mid.middle ≡ []) × (mid.wide ≡ [])) → mid.kinds ≡ kinds
+pub added_blocks_fit : (records : List PlainRecord) (old mid new : PlainBlocks) (kinds : List Kind) (block : PlainBlock) → BlocksFit records old → BlocksRemain mid old ⊎ ((mid.fine ≡ []) × (mid.middle ≡ []) × (mid.wide ≡ []) × (mid.vast ≡ [])) → mid.kinds ≡ kinds
     → BlockFits kinds records block → new.kinds ≡ mid.kinds → ((n : ℕ) (b : PlainBlock) → live_at new.fine n ≡ Some b → (b ≡ block) ⊎ (live_at mid.fine n ≡ Some b))
     → ((n : ℕ) (b : PlainBlock) → live_at new.middle n ≡ Some b → (b ≡ block) ⊎ (live_at mid.middle n ≡ Some b))
-    → ((n : ℕ) (b : PlainBlock) → live_at new.wide n ≡ Some b → (b ≡ block) ⊎ (live_at mid.wide n ≡ Some b)) → BlocksFit records new
-added_blocks_fit records old mid new kinds block h rem is fits same fine middle wide =
-    let mid_fit : BlocksFit records mid = elim rem as (λ _. BlocksFit records mid) [
-      | inl r ↦ remaining_fit records mid old r h
-      | inr e ↦ none_fit records mid e.0 e.1 e.2
-    ] in
+    → ((n : ℕ) (b : PlainBlock) → live_at new.wide n ≡ Some b → (b ≡ block) ⊎ (live_at mid.wide n ≡ Some b))
+    → ((n : ℕ) (b : PlainBlock) → live_at new.vast n ≡ Some b → (b ≡ block) ⊎ (live_at mid.vast n ≡ Some b)) → BlocksFit records new
+added_blocks_fit records old mid new kinds block h rem is fits same fine middle wide vast =
+    let mid_fit : BlocksFit records mid = still_fit records old mid h rem in
     let one : BlockFits new.kinds records block = subst (λ ks. BlockFits ks records block) (sym (same ∙ is)) fits in
     record {
       fine = added_fit new.kinds records block new.fine mid.fine one (λ n b l. subst (λ ks. BlockFits ks records b) (sym same) (mid_fit.fine n b l)) fine;
       middle = added_fit new.kinds records block new.middle mid.middle one (λ n b l. subst (λ ks. BlockFits ks records b) (sym same) (mid_fit.middle n b l)) middle;
       wide = added_fit new.kinds records block new.wide mid.wide one (λ n b l. subst (λ ks. BlockFits ks records b) (sym same) (mid_fit.wide n b l)) wide;
+      vast = added_fit new.kinds records block new.vast mid.vast one (λ n b l. subst (λ ks. BlockFits ks records b) (sym same) (mid_fit.vast n b l)) vast;
     }

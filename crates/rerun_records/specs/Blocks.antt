@@ -115,29 +115,32 @@ abbrev pub is_hull_apart : List (ℕ × ℤ) → Option (List Span) → Bool
 is_hull_apart changes None = false
 is_hull_apart changes (Some h) = not (is_touched h changes)
 
--- ---- the blocks of three widths
+-- ---- the blocks of four widths
 
 pub record PlainBlocks : Type 0 where
   pub kinds : List Kind
   pub fine : List (Option PlainBlock)
   pub middle : List (Option PlainBlock)
   pub wide : List (Option PlainBlock)
+  pub vast : List (Option PlainBlock)
 
 pub record BlocksFit (records : List PlainRecord) (blocks : PlainBlocks) : Type 0 where
   pub fine : AllFit blocks.kinds records blocks.fine
   pub middle : AllFit blocks.kinds records blocks.middle
   pub wide : AllFit blocks.kinds records blocks.wide
+  pub vast : AllFit blocks.kinds records blocks.vast
 
 pub record BlocksRemain (now before : PlainBlocks) : Type 0 where
   pub kinds : now.kinds ≡ before.kinds
   pub fine : Remain now.fine before.fine
   pub middle : Remain now.middle before.middle
   pub wide : Remain now.wide before.wide
+  pub vast : Remain now.vast before.vast
 
 -- one of these, for reducers of those kinds
 pub record IsBlock (kinds : List Kind) (blocks : PlainBlocks) (block : PlainBlock) : Type 0 where
   pub kinds_are : blocks.kinds ≡ kinds
-  pub live : IsLive blocks.fine block ⊎ (IsLive blocks.middle block ⊎ IsLive blocks.wide block)
+  pub live : IsLive blocks.fine block ⊎ (IsLive blocks.middle block ⊎ (IsLive blocks.wide block ⊎ IsLive blocks.vast block))
 
 -- the block begins at that place, counts that argument, has no more records than that, and answers an instance at that depth
 pub record Answers (program : PlainChecked) (depth place counted most : ℕ) (block : PlainBlock) : Type 0 where

@@ -25,15 +25,17 @@ pub enum Width {
     Fine,
     Middle,
     Wide,
+    Vast,
 }
 
-/// Blocks of three widths, all for reducers of these kinds.
+/// Blocks of four widths, all for reducers of these kinds.
 #[derive(Drop)]
 pub(crate) struct Blocks {
     kinds: Vec<Kind>,
     fine: Level,
     middle: Level,
     wide: Level,
+    vast: Level,
     // What was put in or dropped since blocks were made.
     due: Due,
     // How many rows were changed since.
@@ -45,19 +47,20 @@ impl Model for Blocks {
 
     ghost Value = { PlainBlocks };
 
-    ghost view = { λ b. record { kinds = b.kinds.items; fine = b.fine; middle = b.middle; wide = b.wide } };
+    ghost view = { λ b. record { kinds = b.kinds.items; fine = b.fine; middle = b.middle; wide = b.wide; vast = b.vast } };
 }
 
 impl Blocks {
     /// No blocks; it takes no memory.
     pub(crate) fn new(alloc: Global) -> Blocks
-        ensures none { result ≡ record { kinds = []; fine = []; middle = []; wide = [] } }
+        ensures none { result ≡ record { kinds = []; fine = []; middle = []; wide = []; vast = [] } }
     {
         Blocks {
             kinds: Vec::new(alloc),
             fine: Level::new(alloc),
             middle: Level::new(alloc),
             wide: Level::new(alloc),
+            vast: Level::new(alloc),
             due: Due::new(alloc),
             changes: 0,
         }
@@ -66,11 +69,13 @@ impl Blocks {
     /// Drops the blocks that have the record at that place as part, and notes that it is due.
     pub(crate) fn put_in(&mut self, place: usize)
         ensures remain { BlocksRemain self.new self.old }
-        ensures free { IsFree place self.new.fine × IsFree place self.new.middle × IsFree place self.new.wide }
+        ensures free { IsFree place self.new.fine × IsFree place self.new.middle × IsFree place self.new.wide
+            × IsFree place self.new.vast }
     {
         self.fine.drop_at(place, &mut self.due);
         self.middle.drop_at(place, &mut self.due);
         self.wide.drop_at(place, &mut self.due);
+        self.vast.drop_at(place, &mut self.due);
         match u32::try_from(place) {
             Ok(place) => self.due.note(place),
             Err(_) => {}
@@ -87,6 +92,8 @@ impl Blocks {
             → every (is_apart ((table, row) ∷ [])) b.sum.reads ≡ true }
         ensures wide { (n : ℕ) (b : PlainBlock) → live_at self.new.wide n ≡ Some b
             → every (is_apart ((table, row) ∷ [])) b.sum.reads ≡ true }
+        ensures vast { (n : ℕ) (b : PlainBlock) → live_at self.new.vast n ≡ Some b
+            → every (is_apart ((table, row) ∷ [])) b.sum.reads ≡ true }
     {
         self.changes = self.changes.saturating_add(1);
         if self.changes > FEWEST && self.changes > self.fine.len() / BLOCKS_A_CHANGE {
@@ -99,13 +106,15 @@ impl Blocks {
                 .drop_touched(slice::from_ref(&change), &mut self.due);
             self.wide
                 .drop_touched(slice::from_ref(&change), &mut self.due);
+            self.vast
+                .drop_touched(slice::from_ref(&change), &mut self.due);
         }
     }
 
     /// Drops all blocks.
     pub(crate) fn clear(&mut self)
         ensures kinds { self.new.kinds ≡ self.old.kinds }
-        ensures none { (self.new.fine ≡ []) × (self.new.middle ≡ []) × (self.new.wide ≡ []) }
+        ensures none { (self.new.fine ≡ []) × (self.new.middle ≡ []) × (self.new.wide ≡ []) × (self.new.vast ≡ []) }
     {
         if self.fine.len() > 0 {
             self.due.note_all();
@@ -113,6 +122,7 @@ impl Blocks {
         self.fine.clear();
         self.middle.clear();
         self.wide.clear();
+        self.vast.clear();
     }
 
     /// The widest block that begins at that place, counts that argument, has no more records than that, and answers an instance
@@ -129,6 +139,13 @@ impl Blocks {
         ensures answers { IfSome result (λ b.
             Answers program.now depth place counted most b.now) }
     {
+        if let Some(block) = self.vast.at(place) {
+            if block.answers(place, counted, most, depth, program)
+                && self.are_for(program.kinds())
+            {
+                return Some(block);
+            }
+        }
         if let Some(block) = self.wide.at(place) {
             if block.answers(place, counted, most, depth, program)
                 && self.are_for(program.kinds())
@@ -164,6 +181,7 @@ impl Blocks {
             Width::Fine => self.fine.at(place),
             Width::Middle => self.middle.at(place),
             Width::Wide => self.wide.at(place),
+            Width::Vast => self.vast.at(place),
         }
     }
 
@@ -176,7 +194,8 @@ impl Blocks {
 
     /// Has the blocks be for reducers of these kinds, for which those for others are dropped.
     pub(crate) fn have_kinds(&mut self, alloc: Global, kinds: &[Kind]) -> Result<(), AllocError>
-        ensures remain { BlocksRemain self.new self.old ⊎ ((self.new.fine ≡ []) × (self.new.middle ≡ []) × (self.new.wide ≡ [])) }
+        ensures remain { BlocksRemain self.new self.old
+            ⊎ ((self.new.fine ≡ []) × (self.new.middle ≡ []) × (self.new.wide ≡ []) × (self.new.vast ≡ [])) }
         ensures kinds { OnOk result (self.new.kinds ≡ kinds.now) }
     {
         if !self.are_for(kinds) {
@@ -198,11 +217,14 @@ impl Blocks {
             → (b ≡ block) ⊎ (live_at self.old.middle n ≡ Some b) }
         ensures wide { (n : ℕ) (b : PlainBlock) → live_at self.new.wide n ≡ Some b
             → (b ≡ block) ⊎ (live_at self.old.wide n ≡ Some b) }
+        ensures vast { (n : ℕ) (b : PlainBlock) → live_at self.new.vast n ≡ Some b
+            → (b ≡ block) ⊎ (live_at self.old.vast n ≡ Some b) }
     {
         match width {
             Width::Fine => self.fine.add(block, &mut self.due),
             Width::Middle => self.middle.add(block, &mut self.due),
             Width::Wide => self.wide.add(block, &mut self.due),
+            Width::Vast => self.vast.add(block, &mut self.due),
         }
     }
 

@@ -26,5 +26,5 @@ returns-clause-standing c =
 pub returns-clause-fit : goal.returns-clause-fit
 returns-clause-fit c =
     put_fits (standing c.args.changes.now c.args.moments.now.items c.args.by_instance.now.keys) (standing c.args.changes.now c.stand.new.moments.items c.replace_full.new.self.keys) c.args.made c.unwrap-place.result.0
-    c.put_in.new.self c.args.blocks.now c.requires.fit c.put_in.ensures.remain c.put_in.ensures.free.0 c.put_in.ensures.free.1 c.put_in.ensures.free.2 (returns-clause-put c)
+    c.put_in.new.self c.args.blocks.now c.requires.fit c.put_in.ensures.remain c.put_in.ensures.free.0 c.put_in.ensures.free.1 c.put_in.ensures.free.2 c.put_in.ensures.free.3 (returns-clause-put c)
     ((rw c.unwrap-place.ensures at c.replace_full.ensures.index) ∙ sym (standing_place c.args.changes.now c.args.moments.now.items c.args.by_instance.now.keys c.args.made))

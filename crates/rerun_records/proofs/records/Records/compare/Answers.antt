@@ -15,7 +15,7 @@ invariant_of-self c =
     subst (λ (cs : List (ℕ × ℤ)). AreStanding cs moments keys × BlocksFit (standing cs moments keys) c.clear.new.self) (sym c.clear-2.ensures.items) (
       compared_stand c.args.tables.now.tables c.self.inside.changes.items c.self.inside.moments.items moments keys (c.compare_all.ensures.moments ∙ ap (map (first_moment c.args.tables.now.tables)) c.as_slice.ensures.keys)
           c.self.invariant.0,
-      none_fit (standing [] moments keys) c.clear.new.self c.clear.ensures.none.0 c.clear.ensures.none.1 c.clear.ensures.none.2,
+      none_fit (standing [] moments keys) c.clear.new.self c.clear.ensures.none.0 c.clear.ensures.none.1 c.clear.ensures.none.2 c.clear.ensures.none.3,
     )
 
 pub returns-clause-in_step : goal.returns-clause-in_step

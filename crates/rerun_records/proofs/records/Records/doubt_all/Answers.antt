@@ -16,7 +16,7 @@ invariant_of-self c =
     let moments = c.fill.new.self.items in
     subst (λ (cs : List (ℕ × ℤ)). AreStanding cs moments keys × BlocksFit (standing cs moments keys) c.clear.new.self) (sym c.clear-2.ensures.items) (
       all_doubted_stand c.self.inside.changes.items c.self.inside.moments.items moments (vec_len c.self.inside.moments) keys (c.fill.ensures.items (λ y e. e)) long c.self.invariant.0,
-      none_fit (standing [] moments keys) c.clear.new.self c.clear.ensures.none.0 c.clear.ensures.none.1 c.clear.ensures.none.2,
+      none_fit (standing [] moments keys) c.clear.new.self c.clear.ensures.none.0 c.clear.ensures.none.1 c.clear.ensures.none.2 c.clear.ensures.none.3,
     )
 
 pub returns-clause-doubted : goal.returns-clause-doubted

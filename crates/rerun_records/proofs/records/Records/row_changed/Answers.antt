@@ -25,7 +25,8 @@ invariant_of-self-else-not-is_listed c =
       listed_stand before c.is_listed.new.changes.items (c.args.table, c.args.row) c.self.inside.moments.items c.self.inside.by_instance.keys listed (c.is_listed.ensures.few c.if-not-is_listed.false) c.self.invariant.0,
       marked_fits before c.is_listed.new.changes.items (c.args.table, c.args.row) c.self.inside.moments.items c.self.inside.by_instance.keys blocks c.self.inside.blocks listed c.self.invariant.1 c.row_changed.ensures.remain
           (subst (apart blocks.fine) (to_z-of_z w64 _ c.ranges.row) c.row_changed.ensures.fine)
-          (subst (apart blocks.middle) (to_z-of_z w64 _ c.ranges.row) c.row_changed.ensures.middle) (subst (apart blocks.wide) (to_z-of_z w64 _ c.ranges.row) c.row_changed.ensures.wide),
+          (subst (apart blocks.middle) (to_z-of_z w64 _ c.ranges.row) c.row_changed.ensures.middle) (subst (apart blocks.wide) (to_z-of_z w64 _ c.ranges.row) c.row_changed.ensures.wide)
+          (subst (apart blocks.vast) (to_z-of_z w64 _ c.ranges.row) c.row_changed.ensures.vast),
     )
 
 pub returns-then-not-is_listed-clause-same : goal.returns-then-not-is_listed-clause-same
