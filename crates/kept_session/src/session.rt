@@ -7,7 +7,7 @@ ghost use Rattle.rerun_records.specs.Commits.{put_records};
 ghost use Rattle.rerun_records.specs.Named.{HaveValues};
 ghost use Rattle.numbered_runs.specs.Sound.{AreSoundFor};
 ghost use Rattle.session_edits.specs.Said.{said};
-ghost use Rattle.kept_session.specs.Sessions.{AreNewFor, begun, stock_of, standing_of};
+ghost use Rattle.kept_session.specs.Sessions.{AreKeptFor, AreNewFor, begun, stock_of, standing_of};
 ghost use Rattle.kept_session.specs.Applied.{edited, IsApplyCause};
 
 use crate::refusal::ApplyError;
@@ -158,6 +158,14 @@ impl<V: View> Session<V> {
         ensures columns { self.now.checked.tables ≡ columned_of self.now.tables.tables }
         ensures kinds { All (λ k. k ≡ self.now.checked.kinds) self.now.kits.kits }
         ensures in_step { IsInStep self.now.tables.tables self.now.records }
+    {
+        let _ = &self.checked;
+    }
+
+    /// What the type keeps beside that: the records stand for sound ones, and each procedure that one of these names is one of the
+    /// program. So whatever is defined anew, what they name keeps its number.
+    pub fn named(&self)
+        ensures there { AreKeptFor self.now.checked self.now.records }
     {
         let _ = &self.checked;
     }
