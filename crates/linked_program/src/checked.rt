@@ -16,6 +16,7 @@ ghost use Rattle.linked_program.specs.Checked.{IsChecked, numbers_in, names_in, 
 use crate::code::{Code, Instruction};
 use crate::fitting::numbers_fit;
 use crate::initial::Initial;
+use crate::linking::procedure_number;
 use crate::tables::TableNames;
 use indexmap::IndexMap;
 use monoid_laws::Kind;
@@ -79,16 +80,15 @@ impl Model for Checked {
 }
 
 impl Checked {
-    /// The program with these tables' names, its code, its reducers' kinds and what they begin with, the number of `main`, its
-    /// procedures' names with their revision numbers and the least number that was never used. That its numbers fit is found
-    /// out here, in time proportional to the tree.
+    /// The program with these tables' names, its code, its reducers' kinds and what they begin with, its procedures' names with
+    /// their revision numbers and the least number that was never used. That its numbers fit is found out here, in time
+    /// proportional to the tree.
     pub fn new(
         program: Program,
         tables: Vec<TableNames>,
         codes: Vec<Code>,
         kinds: Vec<Kind>,
         initials: Vec<Initial>,
-        main: usize,
         revisions: IndexMap<String, u64>,
         counter: u64,
     ) -> Checked
@@ -98,7 +98,7 @@ impl Checked {
           codes = codes.items;
           kinds = kinds.items;
           initials = map plain_initial initials.items;
-          main = main;
+          main = main_number (tree program);
           revisions = numbers_in revisions;
           counter = counter;
         }) }
@@ -108,12 +108,13 @@ impl Checked {
           codes = codes.items;
           kinds = kinds.items;
           initials = map plain_initial initials.items;
-          main = main;
+          main = main_number (tree program);
           revisions = numbers_in revisions;
           counter = counter;
         } }
     {
         numbers_fit(&program);
+        let main = procedure_number(&program.declarations, "main");
         Checked {
             program,
             tables,

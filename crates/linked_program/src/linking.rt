@@ -141,26 +141,32 @@ fn expressions(
     Ok(made)
 }
 
+// The numbers that a loop counts: those between two values, of which so many go into a strand.
+#[derive(Clone, Copy)]
+struct Counted<'a> {
+    low: &'a Expr,
+    high: &'a Expr,
+    grain: u32,
+}
+
 // A loop that spawns the procedure of this number.
 fn repetition(
     alloc: Global,
     tables: &[TableNames],
     name: usize,
-    low: &Expr,
-    high: &Expr,
-    grain: u32,
+    counted: Counted<'_>,
     procedure: usize,
     arguments: &[Expr],
 ) -> Result<Operation, AllocError>
     ensures { IfOk result (λ made. (inner : ℕ → Acts)
-        → act inner made ≡ loops name (linked_term (map columned tables.now) (term low.now))
-        (linked_term (map columned tables.now) (term high.now)) grain procedure
+        → act inner made ≡ loops name (linked_term (map columned tables.now) (term counted.entry.low.now))
+        (linked_term (map columned tables.now) (term counted.entry.high.now)) counted.entry.grain procedure
         (map (linked_term (map columned tables.now)) (map term arguments.now))) }
 {
-    let low = expression(alloc, tables, low)?;
-    let high = expression(alloc, tables, high)?;
+    let low = expression(alloc, tables, counted.low)?;
+    let high = expression(alloc, tables, counted.high)?;
     let arguments = expressions(alloc, tables, arguments)?;
-    Ok(Operation::Loop(name, low, high, grain, procedure, arguments))
+    Ok(Operation::Loop(name, low, high, counted.grain, procedure, arguments))
 }
 
 // What a statement does, where its blocks keep their numbers.
@@ -196,7 +202,12 @@ fn operation(
         }
         Action::Loop(name, low, high, grain, callee, arguments) => {
             let number = procedure_number(declarations, callee.as_str());
-            repetition(alloc, tables, *name, low, high, *grain, number, arguments)
+            let counted = Counted {
+                low,
+                high,
+                grain: *grain,
+            };
+            repetition(alloc, tables, *name, counted, number, arguments)
         }
         Action::Return(value) => Ok(Operation::Return(expression(alloc, tables, value)?)),
     }

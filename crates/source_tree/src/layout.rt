@@ -53,25 +53,32 @@ fn update(
     Ok(Action::Update(String::from_str(alloc, reducer)?, numbers))
 }
 
+/// The numbers that a loop counts: those between two values, of which so many go into a strand.
+#[derive(Clone, Copy)]
+struct Counted<'a> {
+    low: &'a source::Expr,
+    high: &'a source::Expr,
+    grain: u32,
+}
+
 fn loop_over(
     alloc: Global,
     pool: &mut Pool,
     x: &str,
-    low: &source::Expr,
-    high: &source::Expr,
-    grain: u32,
+    counted: Counted<'_>,
     callee: &str,
     arguments: &[source::Expr],
 ) -> Result<Action, AllocError>
     ensures { IfOk result (λ a. (pool.new, flat_deed a)
-        ≡ laid_plain pool.old (Loops 0 x.now (phrase low.now) (phrase high.now) grain callee.now (phrases arguments.now))) }
+        ≡ laid_plain pool.old (Loops 0 x.now (phrase counted.entry.low.now) (phrase counted.entry.high.now) counted.entry.grain callee.now
+        (phrases arguments.now))) }
 {
     let number = pool.number_of(alloc, x)?;
-    let low = lower_expression(alloc, pool, low)?;
-    let high = lower_expression(alloc, pool, high)?;
+    let low = lower_expression(alloc, pool, counted.low)?;
+    let high = lower_expression(alloc, pool, counted.high)?;
     let arguments = lower_expressions(alloc, pool, arguments)?;
     let callee = String::from_str(alloc, callee)?;
-    Ok(Action::Loop(number, low, high, grain, callee, arguments))
+    Ok(Action::Loop(number, low, high, counted.grain, callee, arguments))
 }
 
 #[cycle(laying)]
@@ -121,7 +128,12 @@ fn action(
             choice(alloc, pool, last, blocks, condition, first, second)
         }
         source::Statement::Loop(_, x, low, high, grain, callee, arguments) => {
-            loop_over(alloc, pool, x, low, high, *grain, callee, arguments)
+            let counted = Counted {
+                low,
+                high,
+                grain: *grain,
+            };
+            loop_over(alloc, pool, x, counted, callee, arguments)
         }
         source::Statement::Return(_, value) => {
             Ok(Action::Return(lower_expression(alloc, pool, value)?))

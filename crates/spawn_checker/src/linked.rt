@@ -9,7 +9,7 @@ ghost use Rattle.linked_program.specs.Checked.{numbers_in, names_in};
 use indexmap::IndexMap;
 use linked_program::checked::Checked;
 use linked_program::initial::initials;
-use linked_program::linking::{codes, kinds, procedure_number};
+use linked_program::linking::{codes, kinds};
 use linked_program::tables::TableNames;
 use program_tree::Program;
 use std::alloc::{AllocError, Global};
@@ -34,8 +34,5 @@ pub fn linked(
     let codes = codes(alloc, &program.declarations, &tables)?;
     let kinds = kinds(alloc, &program.declarations)?;
     let initials = initials(alloc, &program.declarations)?;
-    let main = procedure_number(&program.declarations, "main");
-    Ok(Checked::new(
-        program, tables, codes, kinds, initials, main, revisions, counter,
-    ))
+    Ok(Checked::new(program, tables, codes, kinds, initials, revisions, counter))
 }

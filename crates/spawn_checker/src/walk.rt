@@ -5,7 +5,7 @@ ghost use Rattle.program_tree.specs.View.{block, deed, statements as body_of};
 ghost use Rattle.linked_program.specs.Scope.{after_deed, after_body, after_block, after_branches, closed, closed_deed};
 ghost use Rattle.linked_program.specs.Rules.{late_rules, deed_rules};
 ghost use Rattle.linked_program.specs.Bodies.{line_of, body_violations, branch_violations, step_violations};
-ghost use Rattle.linked_program.specs.Violations.{noted, at};
+ghost use Rattle.linked_program.specs.Violations.{noted, at, when};
 ghost use Rattle.single_rules.specs.Settings.{plain};
 ghost use Rattle.single_rules.specs.Own.{after_own};
 
@@ -17,6 +17,13 @@ use single_rules::place::{Place, note_if};
 use single_rules::scope::Scope;
 use single_rules::setting::Setting;
 use single_rules::statements::note_own;
+
+// The two branches of an `if`, by their blocks' numbers.
+#[derive(Clone, Copy)]
+struct Branches {
+    one: usize,
+    two: usize,
+}
 
 // The block of that depth has ended: what this statement bound isn't seen any more.
 fn close_statement(scope: &mut Scope, depth: usize, action: &Action)
@@ -50,27 +57,20 @@ fn close_block(scope: &mut Scope, depth: usize, blocks: &[Block], levels: usize,
     }
 }
 
-// The first violation so far or that of a statement that comes after a read.
-fn note_late(
+// Whether a statement may not stand there because it comes after a read.
+fn is_late(
     setting: &Setting,
-    first: Option<Violation>,
-    place: Place,
     scope: &Scope,
     now: Moment,
     blocks: &[Block],
     levels: usize,
     action: &Action,
-) -> Option<Violation>
-    ensures noted { result ≡ noted first (at place.declaration place.line
-        (late_rules (setting.now.in_main && (now.depth == 0)) scope.now (deed (block blocks.now levels) action.now))) }
+) -> bool
+    ensures late { when result Rule.Read
+        ≡ late_rules (setting.now.in_main && (now.depth == 0)) scope.now (deed (block blocks.now levels) action.now) }
 {
     let late = setting.in_main && now.depth == 0 && scope.has_read();
-    note_if(
-        first,
-        late && !is_quiet(blocks, levels, action),
-        place,
-        Rule::Read,
-    )
+    late && !is_quiet(blocks, levels, action)
 }
 
 // The first violation so far or that of a statement by itself; what is known after it, its blocks aside.
@@ -92,7 +92,8 @@ fn note_here(
         line: setting.lines.line_of(statement.number),
     };
     let action = &statement.action;
-    let first = note_late(setting, first, place, scope, now, blocks, levels, action);
+    let late = is_late(setting, scope, now, blocks, levels, action);
+    let first = note_if(first, late, place, Rule::Read);
     note_own(setting, first, place, scope, now, action)
 }
 
@@ -193,9 +194,13 @@ fn note_statement(
 {
     let first_here = note_here(setting, first, scope, now, blocks, levels, statement);
     match &statement.action {
-        Action::If(_, one, two) => note_branches(
-            setting, first_here, scope, now, blocks, levels, *one, *two,
-        ),
+        Action::If(_, one, two) => {
+            let branches = Branches {
+                one: *one,
+                two: *two,
+            };
+            note_branches(setting, first_here, scope, now, blocks, levels, branches)
+        }
         _ => first_here,
     }
 }
@@ -209,13 +214,14 @@ fn note_branches(
     now: Moment,
     blocks: &[Block],
     levels: usize,
-    one: usize,
-    two: usize,
+    branches: Branches,
 ) -> Option<Violation>
     requires { now.depth + levels + 1 < 2 ^ 64 }
-    ensures noted { result ≡ noted first (branch_violations (plain setting.now) now scope.old (block blocks.now levels one) (block blocks.now levels two)) }
-    ensures after { scope.new ≡ after_branches now scope.old (block blocks.now levels one) (block blocks.now levels two) }
+    ensures noted { result ≡ noted first (branch_violations (plain setting.now) now scope.old (block blocks.now levels branches.one)
+        (block blocks.now levels branches.two)) }
+    ensures after { scope.new ≡ after_branches now scope.old (block blocks.now levels branches.one) (block blocks.now levels branches.two) }
 {
+    let Branches { one, two } = branches;
     let before = scope.synced();
     let found = note_branch(setting, first, scope, now.depth + 1, blocks, levels, one);
     let after_one = scope.synced();

@@ -68,7 +68,6 @@ fn before(rt: &impl Abort, alloc: Global, counter: u64) -> Checked
         codes,
         kinds,
         initials,
-        0,
         numbers,
         counter,
     )

@@ -13,8 +13,8 @@ use Rattle.spawn_checker.proofs.walk.+walk.Goals as goal
 pub note_branches-returns-clause-noted : goal.note_branches-returns-clause-noted
 note_branches-returns-clause-noted t c =
     let s = plain c.args.setting.now in
-    let a = block c.args.blocks.now c.args.levels c.args.one in
-    let b = block c.args.blocks.now c.args.levels c.args.two in
+    let a = block c.args.blocks.now c.args.levels c.args.branches.one in
+    let b = block c.args.blocks.now c.args.levels c.args.branches.two in
     let depth = c.args.now.depth + 1 in
     c.note_branch-found-2.ensures.noted
     ∙ rw (c.return_to.ensures.returned, c.synced-before.ensures.synced, c.note_branch-found.ensures.after, c.note_branch-found.ensures.noted)
