@@ -17,9 +17,8 @@ ghost use Rattle.serial_oracle.specs.Scoped.{results_in, inside_in, memo_results
 use crate::expressions::{all_values, evaluate};
 use crate::journal::{Journal, note_executed, note_reused};
 use crate::names::{find_procedure, fresh, put, put_into, with_name};
-use crate::range::Range;
 use crate::ranges::range_of;
-use crate::scope::{Choice, Entry, Scope};
+use crate::scope::{Choice, Counted, Entry, Scope, Turns};
 use crate::stops::{Stop, Trouble, stopped};
 use crate::tables::TableRows;
 use crate::updates;
@@ -111,17 +110,16 @@ fn run_update<'p, 's>(
 fn turn_values(
     scope: &Scope,
     entry: &Entry,
-    x: usize,
-    range: Range,
+    turns: Turns,
     i: u64,
     env: &[Option<i64>],
 ) -> Result<Vec<i64>, Trouble>
-    requires { i < range.count }
+    requires { i < turns.range.count }
     ensures { (site : Site) (grain : ℕ) → EvaluatesAll result
-        (turn_values_of (tables_in scope.now) (job_of site env.now x entry.now.callee.now
-        (map term entry.now.arguments.now) grain range.low) i).answer }
+        (turn_values_of (tables_in scope.now) (job_of site env.now turns.x entry.now.callee.now
+        (map term entry.now.arguments.now) grain turns.range.low) i).answer }
 {
-    match with_name(scope.alloc, env, x, range.at(i)) {
+    match with_name(scope.alloc, env, turns.x, turns.range.at(i)) {
         Err(_) => Err(Trouble::NoMemory),
         Ok(inner) => all_values(scope.alloc, scope.tables, &inner, entry.arguments),
     }
@@ -338,7 +336,8 @@ fn run_statement<'p, 's>(
                 callee,
                 arguments,
             };
-            run_loop(scope, left, &entry, *x, low, high, env, journal)
+            let counted = Counted { x: *x, low, high };
+            run_loop(scope, left, &entry, &counted, env, journal)
         }
         Action::Return(e) => run_return(scope.tables, here, s.number, e, env),
     }
@@ -407,24 +406,28 @@ fn run_loop<'p, 's>(
     scope: &Scope<'p, 's>,
     left: u32,
     entry: &Entry<'p>,
-    x: usize,
-    low: &Expr,
-    high: &Expr,
+    counted: &Counted,
     env: &[Option<i64>],
     journal: &mut Journal<'p>,
 ) -> Result<Option<i64>, Stop<'p>>
     requires fit { AreFit (tree_in scope.now) (records_in scope.now) }
     ensures { (grain : ℕ) → GivesNext result env.now (summary scope.now journal.new)
         (results (tree_in scope.now) (looped (tree_in scope.now) (tables_in scope.now) (enters_in scope.now left)
-        (site_of entry.now) env.now x (term low.now) (term high.now) grain entry.now.callee.now (map term entry.now.arguments.now))
-        (summary scope.now journal.old)) }
+        (site_of entry.now) env.now counted.now.x (term counted.now.low.now) (term counted.now.high.now) grain entry.now.callee.now
+        (map term entry.now.arguments.now)) (summary scope.now journal.old)) }
 {
-    match range_of(scope.tables, env, low, high) {
+    match range_of(scope.tables, env, counted.low, counted.high) {
         Err(kind) => Err(stopped(kind, entry.here, entry.number)),
-        Ok(range) => match run_turns(scope, left, entry, x, range, env, journal) {
-            Err(stop) => Err(stop),
-            Ok(()) => Ok(None),
-        },
+        Ok(range) => {
+            let turns = Turns {
+                x: counted.x,
+                range,
+            };
+            match run_turns(scope, left, entry, turns, env, journal) {
+                Err(stop) => Err(stop),
+                Ok(()) => Ok(None),
+            }
+        }
     }
 }
 
@@ -434,19 +437,18 @@ fn run_turns<'p, 's>(
     scope: &Scope<'p, 's>,
     left: u32,
     entry: &Entry<'p>,
-    x: usize,
-    range: Range,
+    turns: Turns,
     env: &[Option<i64>],
     journal: &mut Journal<'p>,
 ) -> Result<(), Stop<'p>>
     requires fit { AreFit (tree_in scope.now) (records_in scope.now) }
     ensures { (grain : ℕ) → Does result (summary scope.now journal.new)
         (results (tree_in scope.now) (all_turns (tree_in scope.now) (tables_in scope.now) (enters_in scope.now left)
-        (job_in entry.now env.now x grain range.low) range.count) (summary scope.now journal.old)) }
+        (job_in entry.now env.now turns.x grain turns.range.low) turns.range.count) (summary scope.now journal.old)) }
 {
     let mut i = 0;
-    while i < range.count {
-        match run_turn(scope, left, entry, x, range, i, env, journal) {
+    while i < turns.range.count {
+        match run_turn(scope, left, entry, turns, i, env, journal) {
             Err(stop) => return Err(stop),
             Ok(()) => i += 1,
         }
@@ -460,16 +462,15 @@ fn run_turn<'p, 's>(
     scope: &Scope<'p, 's>,
     left: u32,
     entry: &Entry<'p>,
-    x: usize,
-    range: Range,
+    turns: Turns,
     i: u64,
     env: &[Option<i64>],
     journal: &mut Journal<'p>,
 ) -> Result<(), Stop<'p>>
-    requires within { i < range.count }
+    requires within { i < turns.range.count }
     requires fit { AreFit (tree_in scope.now) (records_in scope.now) }
     ensures { (grain : ℕ) → Does result (summary scope.now journal.new)
-        (results (tree_in scope.now) (turn (tables_in scope.now) (enters_in scope.now left) (job_in entry.now env.now x grain range.low) i)
+        (results (tree_in scope.now) (turn (tables_in scope.now) (enters_in scope.now left) (job_in entry.now env.now turns.x grain turns.range.low) i)
         (summary scope.now journal.old)) }
 {
     let Entry {
@@ -478,7 +479,7 @@ fn run_turn<'p, 's>(
         callee,
         ..
     } = *entry;
-    match turn_values(scope, entry, x, range, i, env) {
+    match turn_values(scope, entry, turns, i, env) {
         Err(trouble) => Err(trouble.at(here, number)),
         Ok(vs) => match enter(scope, left, here, number, callee, &vs, journal) {
             Err(stop) => Err(stop),

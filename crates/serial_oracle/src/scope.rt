@@ -1,5 +1,6 @@
 //! What a run goes by and doesn't change.
 
+use crate::range::Range;
 use crate::records::{Record, Revisions};
 use crate::tables::TableRows;
 use program_tree::{Expr, Program};
@@ -22,6 +23,21 @@ pub struct Entry<'p> {
     pub number: u32,
     pub callee: &'p str,
     pub arguments: &'p [Expr],
+}
+
+/// The numbers that a loop's variable has: from one expression's value on, up to below another's.
+#[derive(Clone, Copy)]
+pub struct Counted<'p> {
+    pub x: usize,
+    pub low: &'p Expr,
+    pub high: &'p Expr,
+}
+
+/// The same where their range is known.
+#[derive(Clone, Copy)]
+pub struct Turns {
+    pub x: usize,
+    pub range: Range,
 }
 
 /// An `if`: its number, its condition and its two blocks.

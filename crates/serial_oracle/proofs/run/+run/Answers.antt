@@ -62,27 +62,27 @@ run_if-returns-after-v-eq0 t c =
 
 pub run_loop-returns-in-Err : goal.run_loop-returns-in-Err
 run_loop-returns-in-Err t c =
-    λ grain. loop_bad (tree_in c.args.scope.now) (tables_in c.args.scope.now) (enters_in c.args.scope.now c.args.left) (site_of c.args.entry.now) c.args.env.now c.args.x (term c.args.low.now) (term c.args.high.now) grain c.args.entry.now.callee.now (map term c.args.entry.now.arguments.now) c.in-Err.kind c.stopped.result c.args.env.now (summary c.args.scope.now c.args.journal.now) c.in-Err.ensures c.stopped.ensures
+    λ grain. loop_bad (tree_in c.args.scope.now) (tables_in c.args.scope.now) (enters_in c.args.scope.now c.args.left) (site_of c.args.entry.now) c.args.env.now c.args.counted.now.x (term c.args.counted.now.low.now) (term c.args.counted.now.high.now) grain c.args.entry.now.callee.now (map term c.args.entry.now.arguments.now) c.in-Err.kind c.stopped.result c.args.env.now (summary c.args.scope.now c.args.journal.now) c.in-Err.ensures c.stopped.ensures
 
 pub run_loop-returns-in-Err-run_turns : goal.run_loop-returns-in-Err-run_turns
 run_loop-returns-in-Err-run_turns t c =
-    λ grain. loop_fails (tree_in c.args.scope.now) (tables_in c.args.scope.now) (enters_in c.args.scope.now c.args.left) (site_of c.args.entry.now) c.args.env.now c.args.x (term c.args.low.now) (term c.args.high.now) grain c.args.entry.now.callee.now (map term c.args.entry.now.arguments.now) c.in-Ok.range.low c.in-Ok.range.count c.in-Err-run_turns.stop c.args.env.now (summary c.args.scope.now c.args.journal.now) (summary c.args.scope.now c.run_turns.new.journal) c.in-Ok.ensures (c.in-Err-run_turns.ensures grain)
+    λ grain. loop_fails (tree_in c.args.scope.now) (tables_in c.args.scope.now) (enters_in c.args.scope.now c.args.left) (site_of c.args.entry.now) c.args.env.now c.args.counted.now.x (term c.args.counted.now.low.now) (term c.args.counted.now.high.now) grain c.args.entry.now.callee.now (map term c.args.entry.now.arguments.now) c.in-Ok.range.low c.in-Ok.range.count c.in-Err-run_turns.stop c.args.env.now (summary c.args.scope.now c.args.journal.now) (summary c.args.scope.now c.run_turns.new.journal) c.in-Ok.ensures (c.in-Err-run_turns.ensures grain)
 
 pub run_loop-returns-in-Ok-run_turns : goal.run_loop-returns-in-Ok-run_turns
 run_loop-returns-in-Ok-run_turns t c =
-    λ grain. loop_goes (tree_in c.args.scope.now) (tables_in c.args.scope.now) (enters_in c.args.scope.now c.args.left) (site_of c.args.entry.now) c.args.env.now c.args.x (term c.args.low.now) (term c.args.high.now) grain c.args.entry.now.callee.now (map term c.args.entry.now.arguments.now) c.in-Ok.range.low c.in-Ok.range.count (summary c.args.scope.now c.args.journal.now) (summary c.args.scope.now c.run_turns.new.journal) c.in-Ok.ensures (c.in-Ok-run_turns.ensures grain)
+    λ grain. loop_goes (tree_in c.args.scope.now) (tables_in c.args.scope.now) (enters_in c.args.scope.now c.args.left) (site_of c.args.entry.now) c.args.env.now c.args.counted.now.x (term c.args.counted.now.low.now) (term c.args.counted.now.high.now) grain c.args.entry.now.callee.now (map term c.args.entry.now.arguments.now) c.in-Ok.range.low c.in-Ok.range.count (summary c.args.scope.now c.args.journal.now) (summary c.args.scope.now c.run_turns.new.journal) c.in-Ok.ensures (c.in-Ok-run_turns.ensures grain)
 
 pub run_turn-returns-in-Err : goal.run_turn-returns-in-Err
 run_turn-returns-in-Err t c =
-    λ grain. turn_troubled (tree_in c.args.scope.now) (tables_in c.args.scope.now) (enters_in c.args.scope.now c.args.left) (job_in c.args.entry.now c.args.env.now c.args.x grain c.args.range.low) c.args.i c.in-Err.trouble c.at.result (summary c.args.scope.now c.args.journal.now) (c.in-Err.ensures (site_of c.args.entry.now) grain) c.at.ensures (turn_quiet (tree_in c.args.scope.now) (tables_in c.args.scope.now) (job_in c.args.entry.now c.args.env.now c.args.x grain c.args.range.low) c.args.i (summary c.args.scope.now c.args.journal.now))
+    λ grain. turn_troubled (tree_in c.args.scope.now) (tables_in c.args.scope.now) (enters_in c.args.scope.now c.args.left) (job_in c.args.entry.now c.args.env.now c.args.turns.x grain c.args.turns.range.low) c.args.i c.in-Err.trouble c.at.result (summary c.args.scope.now c.args.journal.now) (c.in-Err.ensures (site_of c.args.entry.now) grain) c.at.ensures (turn_quiet (tree_in c.args.scope.now) (tables_in c.args.scope.now) (job_in c.args.entry.now c.args.env.now c.args.turns.x grain c.args.turns.range.low) c.args.i (summary c.args.scope.now c.args.journal.now))
 
 pub run_turn-returns-in-Err-enter : goal.run_turn-returns-in-Err-enter
 run_turn-returns-in-Err-enter t c =
-    λ grain. turn_fails (tree_in c.args.scope.now) (tables_in c.args.scope.now) (enters_in c.args.scope.now c.args.left) (job_in c.args.entry.now c.args.env.now c.args.x grain c.args.range.low) c.args.i c.in-Ok.vs.items c.in-Err-enter.stop (summary c.args.scope.now c.args.journal.now) (summary c.args.scope.now c.enter.new.journal) (c.in-Ok.ensures (site_of c.args.entry.now) grain) (turn_quiet (tree_in c.args.scope.now) (tables_in c.args.scope.now) (job_in c.args.entry.now c.args.env.now c.args.x grain c.args.range.low) c.args.i (summary c.args.scope.now c.args.journal.now)) (rw c.deref.ensures.value at c.in-Err-enter.ensures)
+    λ grain. turn_fails (tree_in c.args.scope.now) (tables_in c.args.scope.now) (enters_in c.args.scope.now c.args.left) (job_in c.args.entry.now c.args.env.now c.args.turns.x grain c.args.turns.range.low) c.args.i c.in-Ok.vs.items c.in-Err-enter.stop (summary c.args.scope.now c.args.journal.now) (summary c.args.scope.now c.enter.new.journal) (c.in-Ok.ensures (site_of c.args.entry.now) grain) (turn_quiet (tree_in c.args.scope.now) (tables_in c.args.scope.now) (job_in c.args.entry.now c.args.env.now c.args.turns.x grain c.args.turns.range.low) c.args.i (summary c.args.scope.now c.args.journal.now)) (rw c.deref.ensures.value at c.in-Err-enter.ensures)
 
 pub run_turn-returns : goal.run_turn-returns
 run_turn-returns t c =
-    λ grain. turn_goes (tree_in c.args.scope.now) (tables_in c.args.scope.now) (enters_in c.args.scope.now c.args.left) (job_in c.args.entry.now c.args.env.now c.args.x grain c.args.range.low) c.args.i c.in-Ok.vs.items c.in-Ok-enter.field-0 (summary c.args.scope.now c.args.journal.now) (summary c.args.scope.now c.enter.new.journal) (c.in-Ok.ensures (site_of c.args.entry.now) grain) (turn_quiet (tree_in c.args.scope.now) (tables_in c.args.scope.now) (job_in c.args.entry.now c.args.env.now c.args.x grain c.args.range.low) c.args.i (summary c.args.scope.now c.args.journal.now)) (rw c.deref.ensures.value at c.in-Ok-enter.ensures)
+    λ grain. turn_goes (tree_in c.args.scope.now) (tables_in c.args.scope.now) (enters_in c.args.scope.now c.args.left) (job_in c.args.entry.now c.args.env.now c.args.turns.x grain c.args.turns.range.low) c.args.i c.in-Ok.vs.items c.in-Ok-enter.field-0 (summary c.args.scope.now c.args.journal.now) (summary c.args.scope.now c.enter.new.journal) (c.in-Ok.ensures (site_of c.args.entry.now) grain) (turn_quiet (tree_in c.args.scope.now) (tables_in c.args.scope.now) (job_in c.args.entry.now c.args.env.now c.args.turns.x grain c.args.turns.range.low) c.args.i (summary c.args.scope.now c.args.journal.now)) (rw c.deref.ensures.value at c.in-Ok-enter.ensures)
 
 pub run_statement-returns-in-Loop : goal.run_statement-returns-in-Loop
 run_statement-returns-in-Loop t c =
@@ -94,16 +94,16 @@ run_statements-loop-s-preserved t c =
 
 pub run_turns-loop-i-init : goal.run_turns-loop-i-init
 run_turns-loop-i-init t c =
-    (omega arith, λ grain. turns_begin (tree_in c.args.scope.now) (tables_in c.args.scope.now) (enters_in c.args.scope.now c.args.left) (job_in c.args.entry.now c.args.env.now c.args.x grain c.args.range.low) c.args.range.count (summary c.args.scope.now c.args.journal.now))
+    (omega arith, λ grain. turns_begin (tree_in c.args.scope.now) (tables_in c.args.scope.now) (enters_in c.args.scope.now c.args.left) (job_in c.args.entry.now c.args.env.now c.args.turns.x grain c.args.turns.range.low) c.args.turns.range.count (summary c.args.scope.now c.args.journal.now))
 
 pub run_turns-returns-in-Err : goal.run_turns-returns-in-Err
 run_turns-returns-in-Err t c =
-    λ grain. turns_fail (tree_in c.args.scope.now) (tables_in c.args.scope.now) (enters_in c.args.scope.now c.args.left) (job_in c.args.entry.now c.args.env.now c.args.x grain c.args.range.low) c.args.range.count c.loop-i.i c.in-Err.stop (summary c.args.scope.now c.loop-i.journal) (summary c.args.scope.now c.run_turn.new.journal) (results (tree_in c.args.scope.now) (all_turns (tree_in c.args.scope.now) (tables_in c.args.scope.now) (enters_in c.args.scope.now c.args.left) (job_in c.args.entry.now c.args.env.now c.args.x grain c.args.range.low) c.args.range.count) (summary c.args.scope.now c.args.journal.now)) c.loop-i-test.true (c.loop-i.invariant.1 grain) (c.in-Err.ensures grain)
+    λ grain. turns_fail (tree_in c.args.scope.now) (tables_in c.args.scope.now) (enters_in c.args.scope.now c.args.left) (job_in c.args.entry.now c.args.env.now c.args.turns.x grain c.args.turns.range.low) c.args.turns.range.count c.loop-i.i c.in-Err.stop (summary c.args.scope.now c.loop-i.journal) (summary c.args.scope.now c.run_turn.new.journal) (results (tree_in c.args.scope.now) (all_turns (tree_in c.args.scope.now) (tables_in c.args.scope.now) (enters_in c.args.scope.now c.args.left) (job_in c.args.entry.now c.args.env.now c.args.turns.x grain c.args.turns.range.low) c.args.turns.range.count) (summary c.args.scope.now c.args.journal.now)) c.loop-i-test.true (c.loop-i.invariant.1 grain) (c.in-Err.ensures grain)
 
 pub run_turns-loop-i-preserved : goal.run_turns-loop-i-preserved
 run_turns-loop-i-preserved t c =
-    let lt : c.loop-i.i < c.args.range.count = c.loop-i-test.true in
-    (omega (arith, lt), λ grain. c.loop-i.invariant.1 grain ∙ turns_go (tree_in c.args.scope.now) (tables_in c.args.scope.now) (enters_in c.args.scope.now c.args.left) (job_in c.args.entry.now c.args.env.now c.args.x grain c.args.range.low) c.args.range.count c.loop-i.i (summary c.args.scope.now c.loop-i.journal) (summary c.args.scope.now c.run_turn.new.journal) lt (c.in-Ok.ensures grain))
+    let lt : c.loop-i.i < c.args.turns.range.count = c.loop-i-test.true in
+    (omega (arith, lt), λ grain. c.loop-i.invariant.1 grain ∙ turns_go (tree_in c.args.scope.now) (tables_in c.args.scope.now) (enters_in c.args.scope.now c.args.left) (job_in c.args.entry.now c.args.env.now c.args.turns.x grain c.args.turns.range.low) c.args.turns.range.count c.loop-i.i (summary c.args.scope.now c.loop-i.journal) (summary c.args.scope.now c.run_turn.new.journal) lt (c.in-Ok.ensures grain))
 
 pub run_statement-returns-in-Bind : goal.run_statement-returns-in-Bind
 run_statement-returns-in-Bind t c =

@@ -53,10 +53,10 @@ invariant-run_statements-loop-s l =
 -- the rest of the iterations does what all of them do
 abbrev pub invariant-run_turns-loop-i : goal.invariant-run_turns-loop-i
 invariant-run_turns-loop-i l =
-    (l.i ≤ l.range.count)
+    (l.i ≤ l.turns.range.count)
     × ((grain : ℕ)
-    → results (tree_in l.scope) (all_turns (tree_in l.scope) (tables_in l.scope) (enters_in l.scope l.left) (job_in l.entry l.env l.x grain l.range.low) l.range.count) (summary l.scope l.initial.journal)
-    ≡ results (tree_in l.scope) (turns (tree_in l.scope) (tables_in l.scope) (enters_in l.scope l.left) (job_in l.entry l.env l.x grain l.range.low) (l.range.count - l.i) l.i) (summary l.scope l.journal))
+    → results (tree_in l.scope) (all_turns (tree_in l.scope) (tables_in l.scope) (enters_in l.scope l.left) (job_in l.entry l.env l.turns.x grain l.turns.range.low) l.turns.range.count) (summary l.scope l.initial.journal)
+    ≡ results (tree_in l.scope) (turns (tree_in l.scope) (tables_in l.scope) (enters_in l.scope l.left) (job_in l.entry l.env l.turns.x grain l.turns.range.low) (l.turns.range.count - l.i) l.i) (summary l.scope l.journal))
 
 abbrev pub decreases-run_turns-loop-i : goal.decreases-run_turns-loop-i
-decreases-run_turns-loop-i l = l.range.count - l.i
+decreases-run_turns-loop-i l = l.turns.range.count - l.i
