@@ -29,6 +29,13 @@ const VAST: u64 = 8192;
 /// So many at most.
 const PARTS: u64 = 8;
 
+/// The places of the records of blocks that are joined, and what these records have together.
+#[derive(Drop)]
+struct Joined {
+    places: Vec<u32>,
+    sum: Sum,
+}
+
 /// Makes a block of that width of narrower ones in a row with that of the record at that place, where it has such a one, none of
 /// that width, and wasn't tried.
 pub(crate) fn widen_at(
@@ -98,23 +105,16 @@ fn widen_row(
     ensures same { records.new ≡ records.old }
 {
     let first = lowest_part(records, width, row, kinds);
-    let mut places = Vec::new(alloc);
-    let mut sum = Sum::new(alloc, kinds)?;
-    join_parts(
-        records,
-        alloc,
-        width,
-        row,
-        first,
-        kinds,
-        &mut places,
-        &mut sum,
-    )?;
-    tried.put_all(&places);
-    if places.len() <= longest_part(width) {
+    let mut joined = Joined {
+        places: Vec::new(alloc),
+        sum: Sum::new(alloc, kinds)?,
+    };
+    join_parts(records, alloc, width, row, first, kinds, &mut joined)?;
+    tried.put_all(&joined.places);
+    if joined.places.len() <= longest_part(width) {
         return Ok(());
     }
-    add_wide(records, alloc, width, row, first, places, sum, kinds)
+    add_wide(records, alloc, width, row, first, joined, kinds)
 }
 
 // Adds a block of that width of the records in that row at these places.
@@ -124,18 +124,18 @@ fn add_wide(
     width: Width,
     row: &Row,
     first: i64,
-    places: Vec<u32>,
-    sum: Sum,
+    joined: Joined,
     kinds: &[Kind],
 ) -> Result<(), AllocError>
     requires monoids { All IsMonoid kinds.now }
     requires values { HaveValues kinds.now records.old }
-    requires row { AreInRow records.old row.now first places.items }
-    requires summed { HasSummed kinds.now (at_places (map settled records.old) places.items) sum }
-    requires some { 0 < length places.items }
+    requires row { AreInRow records.old row.now first joined.places.items }
+    requires summed { HasSummed kinds.now (at_places (map settled records.old) joined.places.items) joined.sum }
+    requires some { 0 < length joined.places.items }
     ensures same { records.new ≡ records.old }
 {
     let counted = row.counted();
+    let Joined { places, sum } = joined;
     let block = Block::new(places, counted, sum.finish(alloc)?);
     records.add_block(alloc, width, kinds, block)
 }
@@ -181,19 +181,18 @@ fn join_parts(
     row: &mut Row,
     first: i64,
     kinds: &[Kind],
-    places: &mut Vec<u32>,
-    sum: &mut Sum,
+    joined: &mut Joined,
 ) -> Result<(), AllocError>
     requires monoids { All IsMonoid kinds.now }
-    requires none { places.old.items ≡ [] }
-    requires nothing { sum.old ≡ nothing_summed kinds.now }
-    ensures row { OnOk result (AreInRow records.now row.new first places.new.items) }
+    requires none { joined.old.places.items ≡ [] }
+    requires nothing { joined.old.sum ≡ nothing_summed kinds.now }
+    ensures row { OnOk result (AreInRow records.now row.new first joined.new.places.items) }
     ensures summed { OnOk result (
-        HasSummed kinds.now (at_places (map settled records.now) places.new.items) sum.new) }
+        HasSummed kinds.now (at_places (map settled records.now) joined.new.places.items) joined.new.sum) }
 {
     for _ in parts_before(width, first)..PARTS {
-        match part_next(records, width, row, first, places.len(), kinds) {
-            Some(block) => put_part(alloc, block, kinds, places, sum)?,
+        match part_next(records, width, row, first, joined.places.len(), kinds) {
+            Some(block) => put_part(alloc, block, kinds, joined)?,
             None => return Ok(()),
         }
     }
@@ -259,17 +258,16 @@ fn put_part(
     alloc: Global,
     block: &Block,
     kinds: &[Kind],
-    places: &mut Vec<u32>,
-    sum: &mut Sum,
+    joined: &mut Joined,
 ) -> Result<(), AllocError>
     requires monoids { All IsMonoid kinds.now }
-    requires worths { AreWorths kinds.now sum.old.worths }
+    requires worths { AreWorths kinds.now joined.old.sum.worths }
     requires values { AreValuesFrom 0 kinds.now block.now.sum.contribution }
-    ensures places { OnOk result (places.new.items ≡ places.old.items ++ block.now.places) }
-    ensures added { OnOk result (sum.new ≡ added kinds.now sum.old block.now.sum) }
+    ensures places { OnOk result (joined.new.places.items ≡ joined.old.places.items ++ block.now.places) }
+    ensures added { OnOk result (joined.new.sum ≡ added kinds.now joined.old.sum block.now.sum) }
 {
-    places.extend_from_slice(block.places())?;
-    sum.add(alloc, kinds, block.sum())
+    joined.places.extend_from_slice(block.places())?;
+    joined.sum.add(alloc, kinds, block.sum())
 }
 
 // Whether a block counts that argument, and its first record has that place.

@@ -20,18 +20,18 @@ put_part-requires c = record {
 
 pub loop-preserved : goal.loop-preserved
 loop-preserved c =
-    let count : c.len.result ≡ length c.loop.places.items = search rules in
+    let count : c.len.result ≡ length c.loop.joined.places.items = search rules in
     record {
-      row = next_part c.args.records.now c.loop.row c.part_next.new.row _ c.loop.places.items c.put_part.new.places.items c.len.result c.args.kinds.now c.in-Some.block.now c.in-Some.ensures.moved count
+      row = next_part c.args.records.now c.loop.row c.part_next.new.row _ c.loop.joined.places.items c.put_part.new.joined.places.items c.len.result c.args.kinds.now c.in-Some.block.now c.in-Some.ensures.moved count
           c.in-Some.ensures.part c.in-Some.ensures.within c.in_ok-put_part-in-Some.ensures.places c.loop.invariant.row;
-      summed = next_summed c.args.records.now c.loop.row c.part_next.new.row _ c.loop.places.items c.put_part.new.places.items c.len.result c.args.kinds.now c.in-Some.block.now c.in-Some.ensures.moved count
-          c.in-Some.ensures.part c.in-Some.ensures.within c.in_ok-put_part-in-Some.ensures.places c.loop.invariant.row c.loop.sum c.put_part.new.sum c.in_ok-put_part-in-Some.ensures.added c.loop.invariant.summed;
+      summed = next_summed c.args.records.now c.loop.row c.part_next.new.row _ c.loop.joined.places.items c.put_part.new.joined.places.items c.len.result c.args.kinds.now c.in-Some.block.now c.in-Some.ensures.moved count
+          c.in-Some.ensures.part c.in-Some.ensures.within c.in_ok-put_part-in-Some.ensures.places c.loop.invariant.row c.loop.joined.sum c.put_part.new.joined.sum c.in_ok-put_part-in-Some.ensures.added c.loop.invariant.summed;
     }
 
 pub returns-in-None-clause-row : goal.returns-in-None-clause-row
 returns-in-None-clause-row c =
-    subst (λ (f : ℤ). AreInRow c.args.records.now c.part_next.new.row f c.loop.places.items) (to_z-of_z w64 _ c.ranges.first)
-    (in_row_moved c.args.records.now c.loop.row c.part_next.new.row _ c.loop.places.items (λ z. sym (c.part_next.ensures.row z)) c.loop.invariant.row)
+    subst (λ (f : ℤ). AreInRow c.args.records.now c.part_next.new.row f c.loop.joined.places.items) (to_z-of_z w64 _ c.ranges.first)
+    (in_row_moved c.args.records.now c.loop.row c.part_next.new.row _ c.loop.joined.places.items (λ z. sym (c.part_next.ensures.row z)) c.loop.invariant.row)
 
 pub returns-clause-row : goal.returns-clause-row
-returns-clause-row c = subst (λ (f : ℤ). AreInRow c.args.records.now c.loop.row f c.loop.places.items) (to_z-of_z w64 _ c.ranges.first) c.loop.invariant.row
+returns-clause-row c = subst (λ (f : ℤ). AreInRow c.args.records.now c.loop.row f c.loop.joined.places.items) (to_z-of_z w64 _ c.ranges.first) c.loop.invariant.row

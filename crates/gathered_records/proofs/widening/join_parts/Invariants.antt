@@ -6,6 +6,6 @@ use Rattle.gathered_records.proofs.widening.join_parts.Given as goal
 
 abbrev pub invariant-loop : goal.invariant-loop
 invariant-loop l = record {
-  row : AreInRow l.records l.row l.first l.places.items;
-  summed : HasSummed l.kinds (at_places (map settled l.records) l.places.items) l.sum;
+  row : AreInRow l.records l.row l.first l.joined.places.items;
+  summed : HasSummed l.kinds (at_places (map settled l.records) l.joined.places.items) l.joined.sum;
 }
