@@ -18,6 +18,15 @@ use std::alloc::AllocError;
 // How many calls of this file are nested in an instance at most: two a block, of which 32 are nested, and one for a loop.
 const LEVELS: u32 = 99;
 
+// Iterations of a loop: the numbers that its variable's slot has in them, and what each of them enters.
+#[derive(Clone, Copy)]
+struct Iterations<'a> {
+    range: LoopRange,
+    variable: usize,
+    callee: usize,
+    arguments: &'a [Expression],
+}
+
 /// Runs the program, and finds what its memo instances come to, as far as to its first fault. What is read of reducers isn't known
 /// here, but no instance is entered behind that. Want of memory is the only error.
 pub(crate) fn replay(setting: Setting<'_>, found: &mut Found) -> Result<Ending, AllocError>
@@ -204,7 +213,13 @@ fn step(
         }
         Operation::Loop(x, low, high, _, callee, arguments) => {
             let range = range_of(setting.tables, low, high, slots, found)?;
-            turns(setting, left, range, *x, *callee, arguments, slots, found)?;
+            let iterations = Iterations {
+                range,
+                variable: *x,
+                callee: *callee,
+                arguments: arguments.as_slice(),
+            };
+            turns(setting, left, iterations, slots, found)?;
         }
         Operation::Return(value) => return Ok(Some(value_of(setting.tables, value, slots)?)),
     }
@@ -223,18 +238,21 @@ fn put_into(slots: &mut Vec<Slot>, number: Option<usize>, value: i64) {
 fn turns(
     setting: Setting<'_>,
     left: u32,
-    range: LoopRange,
-    x: usize,
-    callee: usize,
-    arguments: &[Expression],
+    iterations: Iterations<'_>,
     slots: &mut Vec<Slot>,
     found: &mut Found,
 ) -> Result<(), Halt>
     ensures unanswered { AreUnanswered setting.entry found.old.first.items
         → AreUnanswered setting.entry found.new.first.items }
 {
+    let Iterations {
+        range,
+        variable,
+        callee,
+        arguments,
+    } = iterations;
     for turn in 0..range.count {
-        put(slots, x, range.low.wrapping_add(i64::from(turn)));
+        put(slots, variable, range.low.wrapping_add(i64::from(turn)));
         if let Err(halt) = entered(setting, left, callee, arguments, slots, found) {
             return Err(halt);
         }
