@@ -17,6 +17,15 @@ use std::alloc::Global;
 // How many calls of this file are nested in an instance at most: two a block, of which 32 are nested, and one for a loop.
 const LEVELS: u32 = 99;
 
+// Iterations of a loop: the numbers that its variable's slot has in them, and what each of them enters.
+#[derive(Clone, Copy)]
+struct Iterations<'a> {
+    range: LoopRange,
+    variable: usize,
+    callee: usize,
+    arguments: &'a [Expression],
+}
+
 /// The first row that a program's run on these tables, done serially and from scratch, reads and that isn't there. None where the run
 /// ends otherwise, reads a reducer before, or asks for too many values.
 pub fn first_missing(alloc: Global, checked: &Checked, tables: &Tables) -> Option<Missed>
@@ -139,17 +148,13 @@ fn step(
         }
         Operation::Loop(x, low, high, _, callee, arguments) => {
             let range = range_of(ground, low, high, slots, asked)?;
-            turns(
-                ground,
-                depth,
-                levels - 1,
+            let iterations = Iterations {
                 range,
-                *x,
-                *callee,
-                arguments,
-                slots,
-                asked,
-            )?;
+                variable: *x,
+                callee: *callee,
+                arguments: arguments.as_slice(),
+            };
+            turns(ground, depth, levels - 1, iterations, slots, asked)?;
         }
         Operation::Return(value) => return Ok(Some(value_of(ground, value, slots, asked)?)),
     }
@@ -171,10 +176,7 @@ fn turns(
     ground: Ground<'_>,
     depth: u32,
     levels: u32,
-    range: LoopRange,
-    x: usize,
-    callee: usize,
-    arguments: &[Expression],
+    iterations: Iterations<'_>,
     slots: &mut Vec<Slot>,
     asked: &mut Asked,
 ) -> Result<(), Halt>
@@ -183,8 +185,14 @@ fn turns(
     if levels == 0 {
         return Err(Halt::Unknown);
     }
+    let Iterations {
+        range,
+        variable,
+        callee,
+        arguments,
+    } = iterations;
     for turn in 0..range.count {
-        put(slots, x, range.low.wrapping_add(i64::from(turn)));
+        put(slots, variable, range.low.wrapping_add(i64::from(turn)));
         if let Err(halt) = entered(ground, depth, callee, arguments, slots, asked) {
             return Err(halt);
         }
