@@ -105,7 +105,7 @@ impl Activation {
         fill_slots(&mut self.slots, size, arguments, slots, tables, notes)
     }
 
-    /// The same, where nothing is noted.
+    /// Puts its slots in place as `fill` does, where nothing is noted.
     #[inline(always)]
     pub fn fill_unnoted(
         &mut self,

@@ -64,7 +64,7 @@ pub fn fill_slots(
     put_values(made, size, arguments, slots, tables)
 }
 
-// The same, in an empty list.
+// Puts the slots of an instance into an empty list: the values of its arguments, and then no values.
 #[inline(always)]
 fn put_values(
     made: &mut Vec<Slot>,
@@ -127,7 +127,8 @@ fn evaluate(expression: &Expression, slots: &[Slot], tables: &Tables) -> Result<
     }
 }
 
-// The same of an operand; that of a number or a slot, and of a cell whose row is one of these, without a call of itself.
+// The value of an operand, or its fault; that of a number or a slot, and of a cell whose row is one of these, without a call of
+// `evaluate`.
 #[inline(always)]
 #[cycle(evaluate)]
 fn operand(expression: &Expression, slots: &[Slot], tables: &Tables) -> Result<i64, Stop>

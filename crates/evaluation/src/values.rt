@@ -36,7 +36,7 @@ pub fn value(
     }
 }
 
-// The same, of whatever expression.
+// The value of an expression that may read something, or its fault.
 fn noted_value(
     expression: &Expression,
     slots: &[Slot],
@@ -192,7 +192,8 @@ pub(crate) fn evaluate(
     }
 }
 
-/// The same of an operand; that of a number, of a slot, and of a cell whose row is one of these, without a call of itself.
+/// The value of an operand, or its fault; that of a number, of a slot, and of a cell whose row is one of these, without a call of
+/// `evaluate`.
 #[inline(always)]
 #[cycle(evaluate)]
 fn operand(
@@ -214,7 +215,7 @@ fn operand(
     }
 }
 
-/// The same; that of numbers and slots, and of an operator on two of them, without a call.
+/// The value of an expression, or its fault; that of numbers and slots, and of an operator on two of them, without a call.
 #[inline(always)]
 pub(crate) fn evaluated(
     expression: &Expression,

@@ -169,7 +169,7 @@ impl<V: View> Hypermap<V> {
         Hypermap::open_in(kit, Vec::new(alloc))
     }
 
-    /// The same, with that empty list for the reducers that will be used. It takes no memory.
+    /// A hypermap in which no reducer was used, with that empty list for those that will be. It takes no memory.
     pub fn open_in(kit: Kit<V>, used: Vec<usize>) -> Self
         requires { used.items ≡ [] }
         ensures { result ≡ record { kinds = kit; worths = identities kit } }
@@ -194,7 +194,8 @@ impl<V: View> Hypermap<V> {
         kit
     }
 
-    /// The same, and the list of the reducers that were used, for another hypermap. What it holds doesn't matter.
+    /// The kit, each view at its identity again, and the list of the reducers that were used, for another hypermap. What it holds
+    /// doesn't matter.
     pub fn close_in(self) -> (Kit<V>, Vec<usize>)
         ensures { result.0 ≡ self.kinds }
     {

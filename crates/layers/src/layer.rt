@@ -82,7 +82,7 @@ impl<V: View> Layer<V> {
         )
     }
 
-    /// The same, in those empty lists: the last one is for the reducers that will be used.
+    /// A layer that has noted nothing, in those empty lists: the last one is for the reducers that will be used.
     pub fn open_in(
         alloc: Global,
         kit: Kit<V>,
@@ -118,7 +118,7 @@ impl<V: View> Layer<V> {
         self.hypermap.close()
     }
 
-    /// The same; its lists of notes, of flags and of used reducers are kept.
+    /// The kit, each view at its identity again; the lists of notes, of flags and of used reducers are kept.
     pub fn close_in(self, spares: &mut SpareLists) -> Kit<V>
         ensures kit { result ≡ self.kinds }
     {

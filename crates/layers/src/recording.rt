@@ -229,7 +229,7 @@ fn kept_reads(alloc: Global, notes: &Notes, shared: &[Readings]) -> Result<Readi
     Readings::new(alloc, own, parts)
 }
 
-/// The same readings once more, without spare room.
+/// These readings once more, by reference and without spare room.
 fn shares(alloc: Global, shared: &[Readings]) -> Result<Vec<Readings>, AllocError>
     ensures same { IfOk result (λ parts. parts.items ≡ shared.now) }
 {

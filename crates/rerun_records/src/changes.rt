@@ -68,7 +68,7 @@ fn after<'a>(changes: &'a [(usize, i64)], first: usize) -> Option<&'a [(usize, i
 }
 
 /// Lists one more change: whether that was done, for which memory may be refused.
-pub(crate) fn is_listed(changes: &mut Vec<(usize, i64)>, table: usize, row: i64) -> bool
+pub(crate) fn list_change(changes: &mut Vec<(usize, i64)>, table: usize, row: i64) -> bool
     ensures listed { result ≡ true
         → changes.new.items ≡ changes.old.items ++ (table, row) ∷ [] }
     ensures few { result ≡ true → length changes.new.items < never }

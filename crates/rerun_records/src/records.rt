@@ -19,7 +19,7 @@ ghost use Rattle.monoid_laws.specs.declared.Kind.{Kind as PlainKind};
 use crate::batch::Batch;
 use crate::block::Block;
 use crate::blocks::{Blocks, Width};
-use crate::changes::{NEVER, changes_since, is_listed, is_stamped, stamp, stand};
+use crate::changes::{NEVER, changes_since, is_stamped, list_change, stamp, stand};
 use crate::key::Key;
 use crate::record::Record;
 use indexmap::{Equivalent, IndexSet};
@@ -397,7 +397,7 @@ impl Records {
             → IsInStep before self.old → IsInStep after self.new }
         ensures same { map settled self.new ≡ map settled self.old }
     {
-        if !is_listed(&mut self.changes, table, row) {
+        if !list_change(&mut self.changes, table, row) {
             self.doubt_all();
         } else {
             self.blocks.row_changed(table, row);

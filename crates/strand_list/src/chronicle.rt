@@ -123,7 +123,7 @@ impl Chronicle {
         }
     }
 
-    /// The same, with a refusal.
+    /// A step is taken and noted, or refused for its cause.
     fn take(&mut self, alloc: Global, step: BookStep) -> Result<(), BookError>
         requires apart { Apart self.old.page.lines }
         ensures taken { OnOk result (Took (told self.old) (book_step step) (told self.new)) }

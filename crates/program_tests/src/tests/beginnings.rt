@@ -42,7 +42,7 @@ pub fn checked_on(rt: &impl Abort, alloc: Global, text: &str, tables: &Tables) -
     check(alloc, program, tables).expect(rt, "no violation")
 }
 
-/// The same over two tables.
+/// The checked program of a text over two tables.
 pub fn checked(rt: &impl Abort, alloc: Global, text: &str) -> Checked {
     checked_on(rt, alloc, text, &two_tables(rt, alloc))
 }

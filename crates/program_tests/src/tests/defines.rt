@@ -15,7 +15,7 @@ proc main() { cilk_for r in 1 .. limit sales : line(r); t = read total; return t
 const LINE: &str =
     "memo proc line(r) { v = sales[r].qty * sales[r].price; update total v; update top v, r; return v; }";
 
-/// The same tree.
+/// The text above on other lines: it has that tree too.
 const SPACED: &str = "
 memo proc line ( r ) {
     v = (sales[r].qty * sales[r].price);

@@ -13,7 +13,7 @@ proc leaf(v) { return v; }
 proc main() { return 0; }
 proc extra() { return 7; }";
 
-/// The same on other lines, with another `main` and one more procedure.
+/// These procedures on other lines, with another `main` and one more procedure.
 const LONGER: &str = "reducer total :
 add;
 proc leaf(v) {

@@ -61,10 +61,10 @@ fn tables_are_added(rt: HostRuntime) {
 /// The sums of the example's columns, of one that there isn't, and of a table that there isn't.
 const SUMS: [Look; 4] = [Sum(0, 0, 6), Sum(0, 1, 112), Sum(0, 2, 0), Sum(1, 0, 0)];
 
-/// The same behind a row in the place of the second, one more, and one less. The quantities wrap.
+/// The sums behind a row in the place of the second, one more, and one less. The quantities wrap.
 const SUMS_BEHIND_EDITS: [Look; 2] = [Sum(0, 0, i64::MIN), Sum(0, 1, 111)];
 
-/// The same behind all rows.
+/// The sums once all rows are gone.
 const NO_SUMS: [Look; 2] = [Sum(0, 0, 0), Sum(0, 1, 0)];
 
 /// Edits two rows and takes the first one out; and then the others.

@@ -55,7 +55,7 @@ fn over_boxes<W: View>(rt: &impl Abort, alloc: Global, session: &Session<W>, row
     );
 }
 
-/// The same in a session of its program.
+/// Runs the row in a session of its own program, over kits in boxes.
 fn over_boxes_in(rt: &impl Abort, alloc: Global, row: Row) {
     let done = in_session(
         alloc,
@@ -198,7 +198,7 @@ fn let_go<V: View, W: View>(
     let _refused = take_all(rt, alloc, &mut core, line);
 }
 
-/// The same over two kits of lists, each of which is dropped once.
+/// Gives a run up over two kits of lists, each of which is dropped once.
 fn drops_each<W: View>(rt: &impl Abort, alloc: Global, session: &Session<W>, line: &str) {
     let drops = Arc::new(alloc, AtomicUsize::new(0)).expect(rt, "memory");
     let make = |_kind: Kind| Stubborn::new(alloc, Refuses::Nothing, &drops);

@@ -54,7 +54,7 @@ fn replayed_text(rt: &impl Abort, alloc: Global, steps: &[BookStep]) -> String {
     }
 }
 
-/// The same of a history of words.
+/// The list that a history of words leaves, or why it leaves none.
 pub fn replayed(rt: &impl Abort, alloc: Global, line: &str) -> String {
     replayed_text(rt, alloc, &steps(rt, alloc, line))
 }

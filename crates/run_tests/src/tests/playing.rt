@@ -116,7 +116,7 @@ pub fn play_over<V: View, W: View>(
     (played, pool)
 }
 
-/// The same over the session's kits, all of which it has again.
+/// Plays a line over the session's kits, all of which it has again.
 fn play_in<V: View>(
     rt: &impl Abort,
     alloc: Global,

@@ -97,7 +97,7 @@ fn one_is_done<V: View>(rt: &impl Abort, alloc: Global, session: &mut Session<V>
     assert!(rt; !first || !second);
 }
 
-/// The same over lists, each of which is dropped once.
+/// Of two runs over lists one at most is refused, and each list is dropped once.
 fn lists_are_dropped(rt: &impl Abort, alloc: Global, row: Row) {
     let drops = Arc::new(alloc, AtomicUsize::new(0)).expect(rt, "memory");
     let done = in_session_of_lists(
@@ -120,7 +120,7 @@ fn lists_that_are_refused_memory(rt: HostRuntime) {
     }
 }
 
-/// The same over plain views.
+/// Of two runs over plain views one at most is refused.
 fn others_are_done(rt: &impl Abort, alloc: Global, row: Row) {
     let done = in_session(
         alloc,

@@ -63,7 +63,7 @@ fn folds_twice<V: View>(left: &mut Hypermap<V>, right: &mut Hypermap<V>) -> bool
     left.fold(right).is_ok() && hold(left, &[1, 2], &[1, 2]) && hold(right, &[], &[])
 }
 
-/// The same of the views' lists, 1 on the left and 2 on the right.
+/// Folds hypermaps of these views twice, whose lists hold 1 on the left and 2 on the right.
 fn fold_views_twice<V: View>(alloc: Global, left: Vec<V>, right: Vec<V>) -> Option<bool> {
     let mut left = holding(alloc, left, 1)?;
     let mut right = holding(alloc, right, 2)?;
@@ -118,7 +118,7 @@ fn takes_record<V: View>(alloc: Global, views: Vec<V>, second: &[i64]) -> Option
     Some((refused, held && is_empty_again(alloc, hypermap)))
 }
 
-/// The same of boxes.
+/// Whether a record of 2s behind 1s is refused by boxes, and what is there then.
 fn boxes_take_record(alloc: Global, refuses: Refuses, second: &[i64]) -> Option<(bool, bool)> {
     let drops = Arc::new(alloc, AtomicUsize::new(0)).ok()?;
     let views = boxes(alloc, refuses, &drops).ok()?;

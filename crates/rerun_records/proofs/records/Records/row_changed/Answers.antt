@@ -14,36 +14,36 @@ pub invariant_of-self : goal.invariant_of-self
 invariant_of-self c =
     let keys = c.self.inside.by_instance.keys in
     let moments = c.self.inside.moments.items in
-    subst (λ (cs : List (ℕ × ℤ)). AreStanding cs moments keys × BlocksFit (standing cs moments keys) c.self.inside.blocks) (sym (c.is_listed.ensures.unlisted c.if-not-is_listed.true)) c.self.invariant
+    subst (λ (cs : List (ℕ × ℤ)). AreStanding cs moments keys × BlocksFit (standing cs moments keys) c.self.inside.blocks) (sym (c.list_change.ensures.unlisted c.if-not-list_change.true)) c.self.invariant
 
-pub invariant_of-self-else-not-is_listed : goal.invariant_of-self-else-not-is_listed
-invariant_of-self-else-not-is_listed c =
+pub invariant_of-self-else-not-list_change : goal.invariant_of-self-else-not-list_change
+invariant_of-self-else-not-list_change c =
     let before = c.self.inside.changes.items in
-    let listed = subst (λ (z : ℤ). c.is_listed.new.changes.items ≡ before ++ (c.args.table, z) ∷ []) (to_z-of_z w64 _ c.ranges.row) (c.is_listed.ensures.listed c.if-not-is_listed.false) in
+    let listed = subst (λ (z : ℤ). c.list_change.new.changes.items ≡ before ++ (c.args.table, z) ∷ []) (to_z-of_z w64 _ c.ranges.row) (c.list_change.ensures.listed c.if-not-list_change.false) in
     let blocks = c.row_changed.new.self in
     let apart : List (Option PlainBlock) → ℤ → Type 0 = λ bs z. (n : ℕ) (b : PlainBlock) → live_at bs n ≡ Some b → every (is_apart ((c.args.table, z) ∷ [])) b.sum.reads ≡ true in (
-      listed_stand before c.is_listed.new.changes.items (c.args.table, c.args.row) c.self.inside.moments.items c.self.inside.by_instance.keys listed (c.is_listed.ensures.few c.if-not-is_listed.false) c.self.invariant.0,
-      marked_fits before c.is_listed.new.changes.items (c.args.table, c.args.row) c.self.inside.moments.items c.self.inside.by_instance.keys blocks c.self.inside.blocks listed c.self.invariant.1 c.row_changed.ensures.remain
+      listed_stand before c.list_change.new.changes.items (c.args.table, c.args.row) c.self.inside.moments.items c.self.inside.by_instance.keys listed (c.list_change.ensures.few c.if-not-list_change.false) c.self.invariant.0,
+      marked_fits before c.list_change.new.changes.items (c.args.table, c.args.row) c.self.inside.moments.items c.self.inside.by_instance.keys blocks c.self.inside.blocks listed c.self.invariant.1 c.row_changed.ensures.remain
           (subst (apart blocks.fine) (to_z-of_z w64 _ c.ranges.row) c.row_changed.ensures.fine)
           (subst (apart blocks.middle) (to_z-of_z w64 _ c.ranges.row) c.row_changed.ensures.middle) (subst (apart blocks.wide) (to_z-of_z w64 _ c.ranges.row) c.row_changed.ensures.wide)
           (subst (apart blocks.vast) (to_z-of_z w64 _ c.ranges.row) c.row_changed.ensures.vast),
     )
 
-pub returns-then-not-is_listed-clause-same : goal.returns-then-not-is_listed-clause-same
-returns-then-not-is_listed-clause-same c =
+pub returns-then-not-list_change-clause-same : goal.returns-then-not-list_change-clause-same
+returns-then-not-list_change-clause-same c =
     c.doubt_all.ensures.same
-    ∙ standing_settled c.is_listed.new.changes.items c.self.inside.moments.items c.self.inside.by_instance.keys
+    ∙ standing_settled c.list_change.new.changes.items c.self.inside.moments.items c.self.inside.by_instance.keys
     ∙ sym (standing_settled c.self.inside.changes.items c.self.inside.moments.items c.self.inside.by_instance.keys)
     ∙ ap (map settled) c.self.view_is
 
-pub returns-else-not-is_listed-clause-marked : goal.returns-else-not-is_listed-clause-marked
-returns-else-not-is_listed-clause-marked c = λ before after same step.
-    listed_marked c.self.inside.changes.items c.is_listed.new.changes.items c.args.table c.args.row c.self.inside.moments.items c.self.inside.by_instance.keys
-    (subst (λ (z : ℤ). c.is_listed.new.changes.items ≡ c.self.inside.changes.items ++ (c.args.table, z) ∷ []) (to_z-of_z w64 _ c.ranges.row) (c.is_listed.ensures.listed c.if-not-is_listed.false))
-    (c.is_listed.ensures.few c.if-not-is_listed.false) c.self.invariant.0 before after same (subst (IsInStep before) (sym c.self.view_is) step)
+pub returns-else-not-list_change-clause-marked : goal.returns-else-not-list_change-clause-marked
+returns-else-not-list_change-clause-marked c = λ before after same step.
+    listed_marked c.self.inside.changes.items c.list_change.new.changes.items c.args.table c.args.row c.self.inside.moments.items c.self.inside.by_instance.keys
+    (subst (λ (z : ℤ). c.list_change.new.changes.items ≡ c.self.inside.changes.items ++ (c.args.table, z) ∷ []) (to_z-of_z w64 _ c.ranges.row) (c.list_change.ensures.listed c.if-not-list_change.false))
+    (c.list_change.ensures.few c.if-not-list_change.false) c.self.invariant.0 before after same (subst (IsInStep before) (sym c.self.view_is) step)
 
-pub returns-else-not-is_listed-clause-same : goal.returns-else-not-is_listed-clause-same
-returns-else-not-is_listed-clause-same c =
-    standing_settled c.is_listed.new.changes.items c.self.inside.moments.items c.self.inside.by_instance.keys
+pub returns-else-not-list_change-clause-same : goal.returns-else-not-list_change-clause-same
+returns-else-not-list_change-clause-same c =
+    standing_settled c.list_change.new.changes.items c.self.inside.moments.items c.self.inside.by_instance.keys
     ∙ sym (standing_settled c.self.inside.changes.items c.self.inside.moments.items c.self.inside.by_instance.keys)
     ∙ ap (map settled) c.self.view_is
