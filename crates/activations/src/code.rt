@@ -1,6 +1,7 @@
 // What stands in the code at a place.
 ghost use Rattle.std.specs.Prelude.{◌≡◌, ◌+◌, ◌<◌, ◌^◌, ℕ, option_copied, slice_get, OnSome};
-ghost use Rattle.positions.specs.Code.{instruction_inside, loop_at, PlainLoop};
+ghost use Rattle.positions.specs.Code.{instruction_inside, loop_at};
+ghost use Rattle.activations.specs.Given.{loop_of};
 
 use linked_program::checked::Checked;
 use linked_program::code::{Expression, Instruction, Operation};
@@ -58,13 +59,7 @@ pub struct LoopCode<'a> {
 
 /// The statement of a loop of a procedure; that of none where no loop stands there.
 pub fn loop_code(program: &Checked, procedure: usize, place: Loop) -> LoopCode
-    ensures found { record {
-      number = result.number;
-      variable = result.variable;
-      grain = result.grain;
-      callee = result.callee;
-      arguments = result.arguments.now;
-    } ≡ loop_at program.now.codes procedure place }
+    ensures found { loop_of result ≡ loop_at program.now.codes procedure place }
 {
     if let Some(instruction) = program.instruction(procedure, place.block, place.index) {
         if let Operation::Loop(variable, _, _, grain, callee, arguments) = &instruction.operation {

@@ -5,6 +5,13 @@ ghost use Rattle.positions.specs.Advance.{left_of as first_half_of, right_of as 
 
 use positions::work::{Loop, Share};
 
+/// Iterations of that loop: that share of them.
+#[derive(Clone, Copy)]
+pub struct Turns {
+    pub site: Loop,
+    pub share: Share,
+}
+
 /// The first half.
 pub fn left_of(loop_place: Loop, share: Share) -> Share
     requires fits { ShareFits loop_place share }

@@ -1,16 +1,10 @@
 -- What records that answer a loop's iterations leave of a strand.
-use Rattle.std.specs.Prelude.{◌≡◌, ℕ, zero, suc, ◌+◌, Bool, true, false, List, None}
-use Rattle.linked_program.specs.declared.code.Expression.{Expression}
+use Rattle.std.specs.Prelude.{◌≡◌, ℕ, zero, suc, ◌+◌, Bool, true, false, None}
 use Rattle.positions.specs.declared.work.Work.{Work}
 use Rattle.positions.specs.Setting.{Setting}
 use Rattle.positions.specs.Activations.{PlainActivation}
-use Rattle.positions.specs.Code.{PlainLoop}
 use Rattle.positions.specs.Strands.{PlainStrand}
 use Rattle.answered_loops.specs.Ways.{IsWay}
-
--- a loop's statement by its parts
-abbrev pub loop_with : ℕ → ℕ → ℕ → ℕ → List Expression → PlainLoop
-loop_with number variable grain callee arguments = record { number = number; variable = variable; grain = grain; callee = callee; arguments = arguments }
 
 -- many steps lead from the one to the other, and the layers below the topmost one, the kinds and the records made stay
 pub record IsAnsweredAhead (setting : Setting) (s t : PlainStrand) : Type 0 where

@@ -12,6 +12,7 @@ use crate::finding::{Wanted, answers};
 use crate::taking::{end_halves, end_turns};
 use activations::code::loop_code;
 use activations::setting::Setting;
+use activations::shares::Turns;
 use layers::tally::Tally;
 use positions::phase::Phase;
 use positions::start::Start;
@@ -81,7 +82,8 @@ fn answer_half<V: View>(
         most: share.count,
         all: true,
     };
-    let Some(found) = answers(machine, alloc, setting, code, site, share, wanted) else {
+    let turns = Turns { site, share };
+    let Some(found) = answers(machine, alloc, setting, code, turns, wanted) else {
         return Ok(false);
     };
     if found.count != share.count {
@@ -117,7 +119,8 @@ fn answer_turns<V: View>(
         all: false,
     };
     let code = loop_code(setting.program, machine.top.procedure(), site);
-    let Some(found) = answers(machine, alloc, setting, code, site, share, wanted) else {
+    let turns = Turns { site, share };
+    let Some(found) = answers(machine, alloc, setting, code, turns, wanted) else {
         return Ok(false);
     };
     of_kinds(machine);

@@ -8,13 +8,13 @@ ghost use Rattle.rerun_records.specs.Named.{HaveValues};
 ghost use Rattle.rerun_records.specs.Validity.{valid_at};
 ghost use Rattle.positions.specs.Activations.{ShareFits};
 ghost use Rattle.positions.specs.Code.{loop_at};
-ghost use Rattle.activations.specs.Given.{lent};
+ghost use Rattle.activations.specs.Given.{lent, loop_of};
 ghost use Rattle.answered_loops.specs.Arguments.{counts, are_fixed, is_fixed, is_slot};
-ghost use Rattle.loop_answers.specs.Ahead.{loop_with};
 ghost use Rattle.loop_answers.specs.Batches.{instances_in, HasBatches, IsBatchFrom, CountsAt, AreArguments};
 
 use activations::code::LoopCode;
 use activations::setting::Setting;
+use activations::shares::Turns;
 use evaluation::notes::Notes;
 use evaluation::slot::Slot;
 use evaluation::values::values;
@@ -23,6 +23,7 @@ use layers::layer::DEEPEST;
 use linked_program::code::Expression;
 use positions::work::{Loop, Share};
 use rerun_records::batch::Batch;
+use rerun_records::series::Series;
 use small_steps::machine::Machine;
 use std::alloc::Global;
 use std::mem;
@@ -54,6 +55,13 @@ pub(crate) struct Wanted {
     pub(crate) all: bool,
 }
 
+/// A search for iterations that are wanted, and the number that one before it asked for last, where it is known.
+#[derive(Clone, Copy)]
+struct Search {
+    wanted: Wanted,
+    tried: Option<i64>,
+}
+
 /// Iterations of a loop: the number of the first, how many at most, their depth, and which argument is the number.
 #[derive(Clone, Copy)]
 struct Ahead {
@@ -70,34 +78,23 @@ pub(crate) fn answers<'a, V: View>(
     alloc: Global,
     setting: Setting<'a>,
     code: LoopCode<'_>,
-    site: Loop,
-    share: Share,
+    turns: Turns,
     wanted: Wanted,
 ) -> Option<Found<'a>>
-    requires fits { ShareFits site share }
-    requires most { wanted.most ≤ share.count }
-    requires code { loop_with code.number code.variable code.grain code.callee code.arguments.now
-        ≡ loop_at setting.program.now.codes machine.old.top.procedure site }
+    requires fits { ShareFits turns.site turns.share }
+    requires most { wanted.most ≤ turns.share.count }
+    requires code { loop_of code ≡ loop_at setting.program.now.codes machine.old.top.procedure turns.site }
     requires values { HaveValues setting.program.now.kinds setting.records.now }
     ensures unchanged { machine.new ≡ machine.old }
     ensures count { IfSome result (λ found. found.count ≡ instances_in found.batches.items) }
     ensures few { IfSome result (λ found. found.count ≤ wanted.most) }
-    ensures answers { IfSome result (λ found. HasBatches (lent setting.entry) site machine.old.top share.first found.batches.items) }
+    ensures answers { IfSome result (λ found. HasBatches (lent setting.entry) turns.site machine.old.top turns.share.first found.batches.items) }
 {
     let place = counted_place(machine, code);
     let tried = number_at(&machine.numbers, place);
     let mut numbers = mem::replace(&mut machine.numbers, Vec::new(alloc));
-    let found = answers_by(
-        machine,
-        alloc,
-        setting,
-        code,
-        site,
-        share,
-        wanted,
-        tried,
-        &mut numbers,
-    );
+    let search = Search { wanted, tried };
+    let found = answers_by(machine, alloc, setting, code, turns, search, &mut numbers);
     if are_all(&found, wanted) {
         keep_number(&mut numbers, place, tried);
     }
@@ -136,32 +133,29 @@ fn answers_by<'a, V: View>(
     alloc: Global,
     setting: Setting<'a>,
     code: LoopCode<'_>,
-    site: Loop,
-    share: Share,
-    wanted: Wanted,
-    tried: Option<i64>,
+    turns: Turns,
+    search: Search,
     numbers: &mut Vec<i64>,
 ) -> Option<Found<'a>>
-    requires fits { ShareFits site share }
-    requires most { wanted.most ≤ share.count }
-    requires code { loop_with code.number code.variable code.grain code.callee code.arguments.now
-        ≡ loop_at setting.program.now.codes machine.old.top.procedure site }
+    requires fits { ShareFits turns.site turns.share }
+    requires most { search.wanted.most ≤ turns.share.count }
+    requires code { loop_of code ≡ loop_at setting.program.now.codes machine.old.top.procedure turns.site }
     requires values { HaveValues setting.program.now.kinds setting.records.now }
     ensures unchanged { machine.new ≡ machine.old }
     ensures count { IfSome result (λ found. found.count ≡ instances_in found.batches.items) }
-    ensures few { IfSome result (λ found. found.count ≤ wanted.most) }
-    ensures answers { IfSome result (λ found. HasBatches (lent setting.entry) site machine.old.top share.first found.batches.items) }
+    ensures few { IfSome result (λ found. found.count ≤ search.wanted.most) }
+    ensures answers { IfSome result (λ found. HasBatches (lent setting.entry) turns.site machine.old.top turns.share.first found.batches.items) }
 {
-    let depth = depth_of(machine, setting, code, wanted)?;
-    let begin = number_behind(site, share, 0);
+    let depth = depth_of(machine, setting, code, search.wanted)?;
+    let begin = number_behind(turns.site, turns.share, 0);
     let counted = counted_from(machine, alloc, setting.tables, code, begin, numbers);
     let first = Ahead {
         number: begin,
-        most: wanted.most,
+        most: search.wanted.most,
         depth,
         counted,
     };
-    if is_stale(machine, alloc, setting, code, wanted, first, tried, numbers) {
+    if is_stale(machine, alloc, setting, code, search, first, numbers) {
         return None;
     }
     let mut batches = Vec::new(alloc);
@@ -169,19 +163,19 @@ fn answers_by<'a, V: View>(
     let mut count = 0;
     let mut singles = 0;
     for _ in 0..BATCHES {
-        if count == wanted.most {
+        if count == search.wanted.most {
             return Some(Found { batches, count });
         }
         let ahead = Ahead {
-            number: number_behind(site, share, count),
-            most: wanted.most - count,
+            number: number_behind(turns.site, turns.share, count),
+            most: search.wanted.most - count,
             depth,
             counted,
         };
         match batch_from(machine, alloc, setting, code, ahead, numbers) {
             Some(batch) => {
                 singles = singles_with(singles, batch);
-                if is_in_vain(wanted, ahead, batch, singles) {
+                if is_in_vain(search.wanted, ahead, batch, singles) {
                     return Some(Found { batches, count });
                 }
                 if batches.push(batch).is_err() {
@@ -225,9 +219,8 @@ fn is_stale<V: View>(
     alloc: Global,
     setting: Setting<'_>,
     code: LoopCode<'_>,
-    wanted: Wanted,
+    search: Search,
     first: Ahead,
-    tried: Option<i64>,
     numbers: &mut Vec<i64>,
 ) -> bool
     requires deep { 0 < first.depth }
@@ -240,7 +233,7 @@ fn is_stale<V: View>(
     ensures known { IfSome first.counted (λ place. AreArguments setting.entry.tables.now.tables machine.old.top.slots code.entry.variable
         (map plain code.entry.arguments.now) numbers.new.items) }
 {
-    match behind_first(wanted, first, tried) {
+    match behind_first(search, first) {
         Some((number, most)) => {
             let ahead = Ahead {
                 number,
@@ -249,7 +242,7 @@ fn is_stale<V: View>(
                 counted: first.counted,
             };
             match batch_from(machine, alloc, setting, code, ahead, numbers) {
-                Some(batch) => is_in_vain(wanted, ahead, batch, 1),
+                Some(batch) => is_in_vain(search.wanted, ahead, batch, 1),
                 None => true,
             }
         }
@@ -259,13 +252,13 @@ fn is_stale<V: View>(
 
 /// The number that was tried and how many iterations there are from there on, where it is that of one of these, and all are asked
 /// for.
-fn behind_first(wanted: Wanted, first: Ahead, tried: Option<i64>) -> Option<(i64, u32)>
+fn behind_first(search: Search, first: Ahead) -> Option<(i64, u32)>
     ensures some { IfSome result (λ found. 0 < found.1) }
 {
-    if !wanted.all {
+    if !search.wanted.all {
         return None;
     }
-    let number = tried?;
+    let number = search.tried?;
     let behind = number.checked_sub(first.number)?;
     match u32::try_from(behind) {
         Ok(behind) if behind < first.most => Some((number, first.most - behind)),
@@ -312,8 +305,7 @@ fn batch_from<'a, V: View>(
         (map plain code.arguments.now) numbers.old.items) }
     requires values { HaveValues setting.program.now.kinds setting.records.now }
     ensures unchanged { machine.new ≡ machine.old }
-    ensures batch { IfSome result (IsBatchFrom (lent setting.entry)
-        (loop_with code.entry.number code.entry.variable code.entry.grain code.entry.callee code.entry.arguments.now)
+    ensures batch { IfSome result (IsBatchFrom (lent setting.entry) (loop_of code.entry)
         machine.old.top.slots machine.old.top.left ahead.number ahead.most) }
     ensures known { IfSome ahead.counted (λ place. AreArguments setting.entry.tables.now.tables machine.old.top.slots code.entry.variable
         (map plain code.entry.arguments.now) numbers.new.items) }
@@ -321,12 +313,15 @@ fn batch_from<'a, V: View>(
     match ahead.counted {
         Some(place) => {
             put_number(numbers, place, ahead.number);
+            let series = Series {
+                counted: place,
+                most: ahead.most,
+                depth: ahead.depth,
+            };
             setting.records.batch(
                 code.callee,
                 numbers,
-                place,
-                ahead.most,
-                ahead.depth,
+                series,
                 setting.tables,
                 setting.program,
             )
@@ -357,8 +352,7 @@ fn single_at<'a, V: View>(
     requires depth { ahead.depth ≡ depth_limit - (machine.old.top.left - 1) }
     requires values { HaveValues setting.program.now.kinds setting.records.now }
     ensures unchanged { machine.new ≡ machine.old }
-    ensures batch { IfSome result (IsBatchFrom (lent setting.entry)
-        (loop_with code.entry.number code.entry.variable code.entry.grain code.entry.callee code.entry.arguments.now)
+    ensures batch { IfSome result (IsBatchFrom (lent setting.entry) (loop_of code.entry)
         machine.old.top.slots machine.old.top.left ahead.number ahead.most) }
 {
     if !unread_values_at(machine, alloc, setting.tables, code, ahead.number, numbers) {

@@ -5,14 +5,13 @@ ghost use Rattle.evaluation.specs.Values.{values_at};
 ghost use Rattle.positions.specs.Advance.{evaluated, combining};
 ghost use Rattle.own_statements.specs.Paths.{Does, OnNext, IsInBlock, Takes, Combines};
 
-use crate::statements::Did;
+use crate::statements::{Did, Here};
 use activations::activation::Activation;
 use activations::setting::Setting;
 use layers::layer::Layer;
 use layers::updating::arity;
 use linked_program::checked::Checked;
 use linked_program::code::Expression;
-use positions::work::Position;
 use view_pool::View;
 
 /// Combines what the expressions' values name with a reducer's value; one or two numbers need no list.
@@ -20,19 +19,17 @@ use view_pool::View;
 pub fn combine_some<V: View>(
     layer: &mut Layer<V>,
     setting: Setting<'_>,
-    passes_syncs: bool,
-    statement: u32,
-    place: Position,
+    here: Here,
     reducer: usize,
     expressions: &[Expression],
     top: &mut Activation,
     numbers: &mut Vec<i64>,
 ) -> Did
-    requires room { place.index + 1 < 2 ^ 64 }
+    requires room { here.place.index + 1 < 2 ^ 64 }
     requires kinds { layer.old.kinds ≡ setting.program.now.kinds }
-    ensures done { Does passes_syncs place (λ kit. evaluated statement
+    ensures done { Does here.passes_syncs here.place (λ kit. evaluated here.statement
         (values_at setting.entry.tables.now.tables top.old.slots (map plain expressions.now))
-        (combining (slice_get setting.entry.program.now.kinds reducer) statement place reducer))
+        (combining (slice_get setting.entry.program.now.kinds reducer) here.statement here.place reducer))
         top.old layer.old result top.new layer.new }
     ensures same_block { OnNext result (IsInBlock top.old top.new) }
     ensures kinds { layer.new.kinds ≡ layer.old.kinds }
@@ -40,43 +37,14 @@ pub fn combine_some<V: View>(
     let count = expressions.len();
     if count == 1 && takes(setting.program, reducer, count) {
         let first = &expressions[0];
-        return combine_one(
-            layer,
-            setting,
-            passes_syncs,
-            statement,
-            place,
-            reducer,
-            first,
-            top,
-        );
+        return combine_one(layer, setting, here, reducer, first, top);
     }
     if count == 2 && takes(setting.program, reducer, count) {
         let first = &expressions[0];
         let second = &expressions[1];
-        return combine_two(
-            layer,
-            setting,
-            passes_syncs,
-            statement,
-            place,
-            reducer,
-            first,
-            second,
-            top,
-        );
+        return combine_two(layer, setting, here, reducer, first, second, top);
     }
-    combine_all(
-        layer,
-        setting,
-        passes_syncs,
-        statement,
-        place,
-        reducer,
-        expressions,
-        top,
-        numbers,
-    )
+    combine_all(layer, setting, here, reducer, expressions, top, numbers)
 }
 
 /// The same for one expression, where the reducer takes one number.
@@ -84,19 +52,17 @@ pub fn combine_some<V: View>(
 fn combine_one<V: View>(
     layer: &mut Layer<V>,
     setting: Setting<'_>,
-    passes_syncs: bool,
-    statement: u32,
-    place: Position,
+    here: Here,
     reducer: usize,
     expression: &Expression,
     top: &mut Activation,
 ) -> Did
-    requires room { place.index + 1 < 2 ^ 64 }
+    requires room { here.place.index + 1 < 2 ^ 64 }
     requires takes { Takes setting.program.now.kinds reducer 1 }
     requires kinds { layer.old.kinds ≡ setting.program.now.kinds }
-    ensures done { Does passes_syncs place (λ kit. evaluated statement
+    ensures done { Does here.passes_syncs here.place (λ kit. evaluated here.statement
         (values_at setting.entry.tables.now.tables top.old.slots (plain expression.now ∷ []))
-        (combining (slice_get setting.entry.program.now.kinds reducer) statement place reducer))
+        (combining (slice_get setting.entry.program.now.kinds reducer) here.statement here.place reducer))
         top.old layer.old result top.new layer.new }
     ensures same_block { OnNext result (IsInBlock top.old top.new) }
     ensures kinds { layer.new.kinds ≡ layer.old.kinds }
@@ -121,20 +87,18 @@ fn combine_one<V: View>(
 fn combine_two<V: View>(
     layer: &mut Layer<V>,
     setting: Setting<'_>,
-    passes_syncs: bool,
-    statement: u32,
-    place: Position,
+    here: Here,
     reducer: usize,
     first: &Expression,
     second: &Expression,
     top: &mut Activation,
 ) -> Did
-    requires room { place.index + 1 < 2 ^ 64 }
+    requires room { here.place.index + 1 < 2 ^ 64 }
     requires takes { Takes setting.program.now.kinds reducer 2 }
     requires kinds { layer.old.kinds ≡ setting.program.now.kinds }
-    ensures done { Does passes_syncs place (λ kit. evaluated statement
+    ensures done { Does here.passes_syncs here.place (λ kit. evaluated here.statement
         (values_at setting.entry.tables.now.tables top.old.slots (plain first.now ∷ plain second.now ∷ []))
-        (combining (slice_get setting.entry.program.now.kinds reducer) statement place reducer))
+        (combining (slice_get setting.entry.program.now.kinds reducer) here.statement here.place reducer))
         top.old layer.old result top.new layer.new }
     ensures same_block { OnNext result (IsInBlock top.old top.new) }
     ensures kinds { layer.new.kinds ≡ layer.old.kinds }
@@ -159,19 +123,17 @@ fn combine_two<V: View>(
 fn combine_all<V: View>(
     layer: &mut Layer<V>,
     setting: Setting<'_>,
-    passes_syncs: bool,
-    statement: u32,
-    place: Position,
+    here: Here,
     reducer: usize,
     expressions: &[Expression],
     top: &mut Activation,
     numbers: &mut Vec<i64>,
 ) -> Did
-    requires room { place.index + 1 < 2 ^ 64 }
+    requires room { here.place.index + 1 < 2 ^ 64 }
     requires kinds { layer.old.kinds ≡ setting.program.now.kinds }
-    ensures done { Does passes_syncs place (λ kit. evaluated statement
+    ensures done { Does here.passes_syncs here.place (λ kit. evaluated here.statement
         (values_at setting.entry.tables.now.tables top.old.slots (map plain expressions.now))
-        (combining (slice_get setting.entry.program.now.kinds reducer) statement place reducer))
+        (combining (slice_get setting.entry.program.now.kinds reducer) here.statement here.place reducer))
         top.old layer.old result top.new layer.new }
     ensures same_block { OnNext result (IsInBlock top.old top.new) }
     ensures kinds { layer.new.kinds ≡ layer.old.kinds }

@@ -27,6 +27,14 @@ pub enum Did {
     Gave(i64),
 }
 
+/// Where an instance is: at that statement, which stands at that place, and whether it may pass a sync.
+#[derive(Clone, Copy)]
+pub struct Here {
+    pub statement: u32,
+    pub place: Position,
+    pub passes_syncs: bool,
+}
+
 /// One statement. Where the next one of the block is next, what the instance has left is not noted.
 #[inline(always)]
 pub fn perform<V: View>(
@@ -45,58 +53,21 @@ pub fn perform<V: View>(
     ensures same_block { OnNext result (IsInBlock top.old top.new) }
     ensures kinds { layer.new.kinds ≡ layer.old.kinds }
 {
-    let number = instruction.number;
+    let here = Here {
+        statement: instruction.number,
+        place,
+        passes_syncs,
+    };
     match &instruction.operation {
-        Operation::Bind(name, value) => {
-            bind(
-                layer,
-                setting.tables,
-                passes_syncs,
-                number,
-                place,
-                *name,
-                value,
-                top,
-            )
-        }
+        Operation::Bind(name, value) => { bind(layer, setting.tables, here, *name, value, top) }
         Operation::Update(reducer, values) => {
             let values = values.as_slice();
-            combine_some(
-                layer,
-                setting,
-                passes_syncs,
-                number,
-                place,
-                *reducer,
-                values,
-                top,
-                numbers,
-            )
+            combine_some(layer, setting, here, *reducer, values, top, numbers)
         }
         Operation::If(condition, first, second) => {
-            choose(
-                layer,
-                setting.tables,
-                passes_syncs,
-                number,
-                place,
-                condition,
-                *first,
-                *second,
-                top,
-            )
+            choose(layer, setting.tables, here, condition, *first, *second, top)
         }
-        Operation::Return(value) => {
-            give(
-                layer,
-                setting.tables,
-                passes_syncs,
-                number,
-                place,
-                value,
-                top,
-            )
-        }
+        Operation::Return(value) => { give(layer, setting.tables, here, value, top) }
         Operation::Sync => pass_sync(layer, passes_syncs, place, top),
         _ => Did::Nothing,
     }
@@ -128,16 +99,14 @@ fn pass_sync<V: View>(
 fn bind<V: View>(
     layer: &mut Layer<V>,
     tables: &Tables,
-    passes_syncs: bool,
-    statement: u32,
-    place: Position,
+    here: Here,
     name: usize,
     expression: &Expression,
     top: &mut Activation,
 ) -> Did
-    requires room { place.index + 1 < 2 ^ 64 }
-    ensures done { Does passes_syncs place (λ kit. evaluated statement (value_at tables.now.tables top.old.slots (plain expression.now))
-        (binding place name)) top.old layer.old result top.new layer.new }
+    requires room { here.place.index + 1 < 2 ^ 64 }
+    ensures done { Does here.passes_syncs here.place (λ kit. evaluated here.statement (value_at tables.now.tables top.old.slots (plain expression.now))
+        (binding here.place name)) top.old layer.old result top.new layer.new }
     ensures same_block { OnNext result (IsInBlock top.old top.new) }
     ensures kinds { layer.new.kinds ≡ layer.old.kinds }
 {
@@ -159,17 +128,15 @@ fn bind<V: View>(
 fn choose<V: View>(
     layer: &mut Layer<V>,
     tables: &Tables,
-    passes_syncs: bool,
-    statement: u32,
-    place: Position,
+    here: Here,
     condition: &Expression,
     first: usize,
     second: usize,
     top: &mut Activation,
 ) -> Did
-    requires room { place.index + 1 < 2 ^ 64 }
-    ensures done { Does passes_syncs place (λ kit. evaluated statement (value_at tables.now.tables top.old.slots (plain condition.now))
-        (choosing place first second)) top.old layer.old result top.new layer.new }
+    requires room { here.place.index + 1 < 2 ^ 64 }
+    ensures done { Does here.passes_syncs here.place (λ kit. evaluated here.statement (value_at tables.now.tables top.old.slots (plain condition.now))
+        (choosing here.place first second)) top.old layer.old result top.new layer.new }
     ensures same_block { OnNext result (IsInBlock top.old top.new) }
     ensures kinds { layer.new.kinds ≡ layer.old.kinds }
 {
@@ -177,7 +144,7 @@ fn choose<V: View>(
     match layer.value(condition, top.slots(), tables) {
         Ok(value) => {
             let block = if value == 0 { second } else { first };
-            if top.go_inside(block, place).is_err() {
+            if top.go_inside(block, here.place).is_err() {
                 layer.forget(before);
                 return Did::Nothing;
             }
@@ -195,13 +162,11 @@ fn choose<V: View>(
 fn give<V: View>(
     layer: &mut Layer<V>,
     tables: &Tables,
-    passes_syncs: bool,
-    statement: u32,
-    place: Position,
+    here: Here,
     expression: &Expression,
     top: &mut Activation,
 ) -> Did
-    ensures done { Does passes_syncs place (λ kit. evaluated statement
+    ensures done { Does here.passes_syncs here.place (λ kit. evaluated here.statement
         (value_at tables.now.tables top.old.slots (plain expression.now)) giving) top.old layer.old result top.new layer.new }
     ensures same_block { OnNext result (IsInBlock top.old top.new) }
     ensures kinds { layer.new.kinds ≡ layer.old.kinds }

@@ -4,6 +4,7 @@ ghost use Rattle.meaning.specs.Every.{every};
 ghost use Rattle.rerun_records.specs.Blocks.{is_apart, Answers};
 
 use crate::record::Record;
+use crate::series::Series;
 use linked_program::checked::Checked;
 use std::marker::Model;
 
@@ -65,23 +66,16 @@ impl Block {
         self.sum.reads().are_touched(changes)
     }
 
-    /// Whether it begins at that place, counts that argument, has no more records than that, and its procedures and depth allow
-    /// it to answer.
-    pub(crate) fn answers(
-        &self,
-        place: usize,
-        counted: usize,
-        most: u32,
-        depth: u32,
-        program: &Checked,
-    ) -> bool
+    /// Whether it begins at that place, counts that series' argument, has no more records than that, and its procedures and depth
+    /// allow it to answer.
+    pub(crate) fn answers(&self, place: usize, series: Series, program: &Checked) -> bool
         ensures answers { result ≡ true
-            → Answers program.now depth place counted most self.now }
+            → Answers program.now series.depth place series.counted series.most self.now }
     {
         self.begins_at(place)
-            && self.counted == counted
-            && self.places.len() <= most as usize
-            && self.sum.is_allowed(depth, program)
+            && self.counted == series.counted
+            && self.places.len() <= series.most as usize
+            && self.sum.is_allowed(series.depth, program)
     }
 
     // Whether the first of its records has that place.

@@ -7,6 +7,7 @@ ghost use Rattle.rerun_records.specs.Blocks.{PlainBlock, PlainBlocks, BlocksRema
 use crate::block::Block;
 use crate::due::Due;
 use crate::level::Level;
+use crate::series::Series;
 use linked_program::checked::Checked;
 use monoid_laws::Kind;
 use std::alloc::{AllocError, Global};
@@ -125,45 +126,29 @@ impl Blocks {
         self.vast.clear();
     }
 
-    /// The widest block that begins at that place, counts that argument, has no more records than that, and answers an instance
-    /// at that depth.
-    pub(crate) fn widest(
-        &self,
-        place: usize,
-        counted: usize,
-        most: u32,
-        depth: u32,
-        program: &Checked,
-    ) -> Option<&Block>
+    /// The widest block that begins at that place and answers instances of that series, no more than those.
+    pub(crate) fn widest(&self, place: usize, series: Series, program: &Checked) -> Option<&Block>
         ensures block { IfSome result (λ b. IsBlock program.now.kinds self.now b.now) }
         ensures answers { IfSome result (λ b.
-            Answers program.now depth place counted most b.now) }
+            Answers program.now series.depth place series.counted series.most b.now) }
     {
         if let Some(block) = self.vast.at(place) {
-            if block.answers(place, counted, most, depth, program)
-                && self.are_for(program.kinds())
-            {
+            if block.answers(place, series, program) && self.are_for(program.kinds()) {
                 return Some(block);
             }
         }
         if let Some(block) = self.wide.at(place) {
-            if block.answers(place, counted, most, depth, program)
-                && self.are_for(program.kinds())
-            {
+            if block.answers(place, series, program) && self.are_for(program.kinds()) {
                 return Some(block);
             }
         }
         if let Some(block) = self.middle.at(place) {
-            if block.answers(place, counted, most, depth, program)
-                && self.are_for(program.kinds())
-            {
+            if block.answers(place, series, program) && self.are_for(program.kinds()) {
                 return Some(block);
             }
         }
         if let Some(block) = self.fine.at(place) {
-            if block.answers(place, counted, most, depth, program)
-                && self.are_for(program.kinds())
-            {
+            if block.answers(place, series, program) && self.are_for(program.kinds()) {
                 return Some(block);
             }
         }

@@ -15,4 +15,5 @@ mod nested;
 pub mod readings;
 pub mod record;
 pub mod records;
+pub mod series;
 mod spans;

@@ -22,6 +22,7 @@ use crate::blocks::{Blocks, Width};
 use crate::changes::{NEVER, changes_since, is_stamped, list_change, stamp, stand};
 use crate::key::Key;
 use crate::record::Record;
+use crate::series::Series;
 use indexmap::{Equivalent, IndexSet};
 use input_tables::Tables;
 use linked_program::checked::Checked;
@@ -185,30 +186,25 @@ impl Records {
         Some(record)
     }
 
-    /// Instances that records answer: that of the procedure of that number with these arguments, at that depth, and those with
-    /// the next greater numbers in the counted argument, in all as many as are known to go together, at most so many. None where
-    /// the first has no valid record. It takes no memory.
+    /// Instances that records answer: that of the procedure of that number with these arguments, and those behind it in that
+    /// series, in all as many as are known to go together. None where the first has no valid record. It takes no memory.
     pub fn batch(
         &self,
         procedure: usize,
         arguments: &[i64],
-        counted: usize,
-        most: u32,
-        depth: u32,
+        series: Series,
         tables: &Tables,
         program: &Checked,
     ) -> Option<Batch<'_>>
         requires in_step { IsInStep tables.now.tables self.now }
         requires values { HaveValues program.now.kinds self.now }
-        requires counted { counted < length arguments.now }
-        requires some { 0 < most }
-        ensures batch { IfSome result (λ b. IsBatch program.now tables.now.tables depth self.now
-            procedure arguments.now counted most b.count b.sum.now) }
+        requires counted { series.counted < length arguments.now }
+        requires some { 0 < series.most }
+        ensures batch { IfSome result (λ b. IsBatch program.now tables.now.tables series.depth self.now
+            procedure arguments.now series.counted series.most b.count b.sum.now) }
     {
         match self.place_of(procedure, arguments) {
-            Some((place, record)) => {
-                self.batch_at(place, record, counted, most, depth, tables, program)
-            }
+            Some((place, record)) => self.batch_at(place, record, series, tables, program),
             None => None,
         }
     }
@@ -218,23 +214,21 @@ impl Records {
         &'a self,
         place: usize,
         record: &'a Record,
-        counted: usize,
-        most: u32,
-        depth: u32,
+        series: Series,
         tables: &Tables,
         program: &Checked,
     ) -> Option<Batch<'a>>
         requires in_step { IsInStep tables.now.tables self.now }
         requires values { HaveValues program.now.kinds self.now }
         requires there { slice_get (map settled self.now) place ≡ Some record.now }
-        requires counted { counted < length record.now.arguments }
-        requires some { 0 < most }
-        ensures batch { IfSome result (λ b. IsBatch program.now tables.now.tables depth self.now
-            record.now.procedure record.now.arguments counted most b.count b.sum.now) }
+        requires counted { series.counted < length record.now.arguments }
+        requires some { 0 < series.most }
+        ensures batch { IfSome result (λ b. IsBatch program.now tables.now.tables series.depth self.now
+            record.now.procedure record.now.arguments series.counted series.most b.count b.sum.now) }
     {
-        match self.blocks.widest(place, counted, most, depth, program) {
+        match self.blocks.widest(place, series, program) {
             Some(block) => Some(Batch::whole(block)),
-            None => self.batch_of_one(place, record, counted, most, depth, tables, program),
+            None => self.batch_of_one(place, record, series, tables, program),
         }
     }
 
@@ -243,21 +237,19 @@ impl Records {
         &self,
         place: usize,
         record: &'a Record,
-        counted: usize,
-        most: u32,
-        depth: u32,
+        series: Series,
         tables: &Tables,
         program: &Checked,
     ) -> Option<Batch<'a>>
         requires in_step { IsInStep tables.now.tables self.now }
         requires values { HaveValues program.now.kinds self.now }
         requires there { slice_get (map settled self.now) place ≡ Some record.now }
-        requires counted { counted < length record.now.arguments }
-        requires some { 0 < most }
-        ensures batch { IfSome result (λ b. IsBatch program.now tables.now.tables depth self.now
-            record.now.procedure record.now.arguments counted most b.count b.sum.now) }
+        requires counted { series.counted < length record.now.arguments }
+        requires some { 0 < series.most }
+        ensures batch { IfSome result (λ b. IsBatch program.now tables.now.tables series.depth self.now
+            record.now.procedure record.now.arguments series.counted series.most b.count b.sum.now) }
     {
-        match self.valid_in(place, record, depth, tables, program) {
+        match self.valid_in(place, record, series.depth, tables, program) {
             Some(record) => Some(Batch::one(record)),
             None => None,
         }

@@ -3,12 +3,12 @@ ghost use Rattle.std.specs.Prelude.{◌≡◌, ◌+◌, ◌<◌, ◌^◌, ◌++�
 ghost use Rattle.program_tree.specs.declared.Way.TheVariants.{Call};
 ghost use Rattle.linked_program.specs.CodeView.{expression as plain, slots_of};
 ghost use Rattle.evaluation.specs.Values.{entry_at};
-ghost use Rattle.positions.specs.Activations.{ShareFits, WorkFits, next_of as place_after};
+ghost use Rattle.positions.specs.Activations.{ShareFits, WorkFits};
 ghost use Rattle.positions.specs.Setting.{Setting as PlainSetting};
 ghost use Rattle.positions.specs.Strands.{entry_by};
 ghost use Rattle.positions.specs.Tallies.{is_own};
 ghost use Rattle.positions.specs.Advance.{called, evaluated, performed, turn_slots, rest_of as later_of};
-ghost use Rattle.activations.specs.Given.{lent};
+ghost use Rattle.activations.specs.Given.{lent, loop_of};
 ghost use Rattle.activations.specs.Slots.{laid_over};
 ghost use Rattle.own_statements.specs.Paths.{phase_by};
 ghost use Rattle.small_steps.specs.Steps.{nested_plain};
@@ -35,6 +35,16 @@ use view_pool::View;
 const STRETCHES: u32 = 1024;
 
 const ITERATIONS: u32 = 1024;
+
+/// An instance that is to be called: of that procedure, with those arguments; its value goes into that slot, and that is left
+/// behind it.
+#[derive(Clone, Copy)]
+struct Callee<'a> {
+    procedure: usize,
+    arguments: &'a [Expression],
+    into: Option<usize>,
+    work: Work,
+}
 
 /// What came of an instance that was to be called: nothing was done; it is over, and its value went to the one that called it; or
 /// it stands on the strand and has more to do.
@@ -197,17 +207,13 @@ fn enter_ahead<V: View>(
     match &instruction.operation {
         Operation::Enter(into, way, callee, arguments) => {
             let arguments = arguments.as_slice();
-            enter_by(
-                machine,
-                alloc,
-                setting,
-                instruction.number,
-                place,
-                *way,
-                *into,
-                *callee,
+            let callee = Callee {
+                procedure: *callee,
                 arguments,
-            )
+                into: *into,
+                work: Work::Block(next_of(place)),
+            };
+            enter_by(machine, alloc, setting, instruction.number, *way, callee)
         }
         _ => false,
     }
@@ -219,27 +225,22 @@ fn enter_by<V: View>(
     alloc: Global,
     setting: Setting<'_>,
     statement: u32,
-    place: Position,
     way: Way,
-    into: Option<usize>,
-    callee: usize,
-    arguments: &[Expression],
+    callee: Callee<'_>,
 ) -> bool
-    requires room { place.index + 1 < 2 ^ 64 }
+    requires fits { WorkFits callee.work }
     requires kinds { machine.old.layer.kinds ≡ setting.program.now.kinds }
     requires running { machine.old.phase ≡ Phase.Running }
     ensures ahead { GoesAheadBy (lent setting.entry)
-        (λ kit. called (lent setting.entry) kit statement way into (Work.Block (place_after place)) callee
-        (map plain arguments.now) machine.old.top.slots) machine.old machine.new }
+        (λ kit. called (lent setting.entry) kit statement way callee.entry.into callee.entry.work callee.entry.procedure
+        (map plain callee.entry.arguments.now) machine.old.top.slots) machine.old machine.new }
 {
     match way {
         Way::Call => {
-            if setting.program.is_memo(callee) {
+            if setting.program.is_memo(callee.procedure) {
                 false
             } else {
-                enter_plain_ahead(
-                    machine, alloc, setting, statement, place, into, callee, arguments,
-                )
+                enter_plain_ahead(machine, alloc, setting, statement, callee)
             }
         }
         Way::Spawn => false,
@@ -252,21 +253,17 @@ fn enter_plain_ahead<V: View>(
     alloc: Global,
     setting: Setting<'_>,
     statement: u32,
-    place: Position,
-    into: Option<usize>,
-    callee: usize,
-    arguments: &[Expression],
+    callee: Callee<'_>,
 ) -> bool
-    requires room { place.index + 1 < 2 ^ 64 }
+    requires fits { WorkFits callee.work }
     requires kinds { machine.old.layer.kinds ≡ setting.program.now.kinds }
     requires running { machine.old.phase ≡ Phase.Running }
     ensures ahead { GoesAhead (lent setting.entry)
         (evaluated statement (entry_at setting.entry.tables.now.tables machine.old.top.slots
-        (slots_of setting.entry.program.now.codes callee) (map plain arguments.now))
-        (nested_plain statement Call into (Work.Block (place_after place)) callee)) machine.old machine.new }
+        (slots_of setting.entry.program.now.codes callee.entry.procedure) (map plain callee.entry.arguments.now))
+        (nested_plain statement Call callee.entry.into callee.entry.work callee.entry.procedure)) machine.old machine.new }
 {
-    let work = Work::Block(next_of(place));
-    match child_ahead(machine, alloc, setting, into, work, callee, arguments, None) {
+    match child_ahead(machine, alloc, setting, callee, None) {
         Came::Nowhere => false,
         Came::Back => true,
         Came::Stays => true,
@@ -324,55 +321,46 @@ fn turn_ahead<V: View>(
     requires running { machine.old.phase ≡ Phase.Running }
     ensures came { CameBy result (machine.new ≡ machine.old)
         (GoesAhead (lent setting.entry) (evaluated code.entry.number
-        (entry_at setting.entry.tables.now.tables
-        (turn_slots (record {
-          number = code.entry.number;
-          variable = code.entry.variable;
-          grain = code.entry.grain;
-          callee = code.entry.callee;
-          arguments = code.entry.arguments.now;
-        }) site share machine.old)
+        (entry_at setting.entry.tables.now.tables (turn_slots (loop_of code.entry) site share machine.old)
         (slots_of setting.entry.program.now.codes code.entry.callee) (map plain code.entry.arguments.now))
         (nested_plain code.entry.number Call None (Work.Turns site (later_of share)) code.entry.callee)) machine.old machine.new) }
     ensures back { OnBack result (IsBackWith (Work.Turns site (later_of share)) machine.old machine.new) }
 {
-    let work = Work::Turns(site, rest_of(site, share));
+    let callee = Callee {
+        procedure: code.callee,
+        arguments: code.arguments,
+        into: None,
+        work: Work::Turns(site, rest_of(site, share)),
+    };
     let number = Slot::Has(number_of(site, share));
     child_ahead(
         machine,
         alloc,
         setting,
-        None,
-        work,
-        code.callee,
-        code.arguments,
+        callee,
         Some((code.variable, number)),
     )
 }
 
-/// Calls an instance of that procedure, which isn't marked memo, with those arguments, over the topmost instance's slots, of
-/// which one may hold something else meanwhile; and does the statements that it does by itself. What is left then is as `work`
-/// says. It stands on the strand only where it has more to do.
+/// Calls that instance, whose procedure isn't marked memo, over the topmost instance's slots, of which one may hold something else
+/// meanwhile; and does the statements that it does by itself. It stands on the strand only where it has more to do.
 #[inline(always)]
 fn child_ahead<V: View>(
     machine: &mut Machine<V>,
     alloc: Global,
     setting: Setting<'_>,
-    into: Option<usize>,
-    work: Work,
-    callee: usize,
-    arguments: &[Expression],
+    callee: Callee<'_>,
     meanwhile: Option<(usize, Slot)>,
 ) -> Came
-    requires fits { WorkFits work }
+    requires fits { WorkFits callee.work }
     requires kinds { machine.old.layer.kinds ≡ setting.program.now.kinds }
     requires running { machine.old.phase ≡ Phase.Running }
     ensures came { CameBy result (machine.new ≡ machine.old)
         ((statement : ℕ) → GoesAhead (lent setting.entry)
         (evaluated statement (entry_at setting.entry.tables.now.tables (laid_over meanwhile machine.old.top.slots)
-        (slots_of setting.entry.program.now.codes callee) (map plain arguments.now)) (nested_plain statement Call into work callee))
-        machine.old machine.new) }
-    ensures back { OnBack result (IsBackWith work machine.old machine.new) }
+        (slots_of setting.entry.program.now.codes callee.entry.procedure) (map plain callee.entry.arguments.now))
+        (nested_plain statement Call callee.entry.into callee.entry.work callee.entry.procedure)) machine.old machine.new) }
+    ensures back { OnBack result (IsBackWith callee.entry.work machine.old machine.new) }
 {
     let left = machine.top.left();
     if left == 0 || ends_otherwise(machine) {
@@ -384,14 +372,14 @@ fn child_ahead<V: View>(
     if machine.path.reserve(1).is_err() || machine.below.reserve(1).is_err() {
         return Came::Nowhere;
     }
-    let size = setting.program.slots(callee);
+    let size = setting.program.slots(callee.procedure);
     if !fills(
         &mut machine.layer,
         &mut machine.spares.child,
         &mut machine.top,
         meanwhile,
         size,
-        arguments,
+        callee.arguments,
         setting.tables,
     ) {
         return Came::Nowhere;
@@ -399,13 +387,13 @@ fn child_ahead<V: View>(
     match call(
         &mut machine.layer,
         setting,
-        callee,
+        callee.procedure,
         left - 1,
         &mut machine.spares.child,
         &mut machine.numbers,
     ) {
         Some(value) => {
-            machine.top.wait(false, into, work);
+            machine.top.wait(false, callee.into, callee.work);
             machine.top.receive(value);
             Came::Back
         }
@@ -414,7 +402,7 @@ fn child_ahead<V: View>(
             let child = mem::replace(&mut machine.spares.child, blank);
             machine.path.push_reserved(number);
             let mut parent = mem::replace(&mut machine.top, child);
-            parent.wait(false, into, work);
+            parent.wait(false, callee.into, callee.work);
             machine.below.push_reserved(parent);
             Came::Stays
         }

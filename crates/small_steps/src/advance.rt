@@ -7,6 +7,8 @@ ghost use Rattle.activations.specs.Given.{lent};
 ghost use Rattle.small_steps.specs.Steps.{GivesNone, HoldsBy, IsSupplied, IsValued, KeepsKits};
 
 use crate::machine::Machine;
+use crate::remembering::Entrance;
+use activations::activation::next_of;
 use activations::code::instruction;
 use activations::setting::Setting;
 use input_tables::Tables;
@@ -197,9 +199,14 @@ impl<V: View> Machine<V> {
             Operation::Bind(name, value) => self.bind(setting.tables, number, place, *name, value),
             Operation::Enter(into, way, callee, arguments) => {
                 let arguments = arguments.as_slice();
-                self.enter(
-                    alloc, setting, number, place, *way, *into, *callee, arguments, kits,
-                )
+                let entrance = Entrance {
+                    statement: number,
+                    way: *way,
+                    into: *into,
+                    work: Work::Block(next_of(place)),
+                    callee: *callee,
+                };
+                self.enter(alloc, setting, entrance, arguments, kits)
             }
             Operation::Read(name, reducer) => self.read(place, *name, *reducer),
             Operation::Sync => {

@@ -1,21 +1,21 @@
 // Instances of procedures that are called and spawned.
-ghost use Rattle.std.specs.Prelude.{◌≡◌, ◌+◌, ◌<◌, ◌^◌, OnErr, OnOk, map};
+ghost use Rattle.std.specs.Prelude.{◌≡◌, OnErr, OnOk, map};
 ghost use Rattle.linked_program.specs.CodeView.{expression as plain, slots_of};
 ghost use Rattle.evaluation.specs.Values.{entry_at};
-ghost use Rattle.positions.specs.Activations.{WorkFits, next_of as place_after};
+ghost use Rattle.positions.specs.Activations.{WorkFits};
 ghost use Rattle.positions.specs.Advance.{evaluated, called};
 ghost use Rattle.activations.specs.Given.{lent};
 ghost use Rattle.small_steps.specs.Steps.{GivesNone, HoldsBy, IsSupplied, IsValued, KeepsKits, nested_plain};
 
 use crate::machine::Machine;
 use crate::remembering::Entrance;
-use activations::activation::{Activation, FIRST, next_of};
+use activations::activation::{Activation, FIRST};
 use activations::setting::Setting;
 use evaluation::slot::Slot;
 use linked_program::code::Expression;
 use meaning::FaultKind;
 use positions::phase::Phase;
-use positions::work::{Position, Work};
+use positions::work::Work;
 use program_tree::Way;
 use std::alloc::{AllocError, Global};
 use view_pool::{Kit, KitSource, View};
@@ -26,38 +26,24 @@ impl<V: View> Machine<V> {
         &mut self,
         alloc: Global,
         setting: Setting<'_>,
-        statement: u32,
-        place: Position,
-        way: Way,
-        into: Option<usize>,
-        callee: usize,
+        entrance: Entrance,
         arguments: &[Expression],
         kits: &mut K,
     ) -> Result<(), AllocError>
-        requires room { place.index + 1 < 2 ^ 64 }
+        requires fits { WorkFits entrance.work }
         requires running { self.old.phase ≡ Phase.Running }
         requires supplied { IsSupplied K.fits K.gives K.free K.total setting.program.now.kinds kits.old setting.records.now
             self.old.layer.kinds self.old.lower }
         ensures called { OnOk result (HoldsBy (K.lacks kits.old) (GivesNone K.gives kits.old)
-            (λ kit. self.new ≡ called (lent setting.entry) kit statement way into (Work.Block (place_after place)) callee
+            (λ kit. self.new ≡ called (lent setting.entry) kit entrance.statement entrance.way entrance.into entrance.work entrance.callee
             (map plain arguments.now) self.old.top.slots self.old)) }
         ensures refused { OnErr result (IsValued self.old self.new) }
         ensures kits { KeepsKits K.fits K.gives K.free K.total setting.entry.program.now.kinds kits.old kits.new self.old.lower self.new.lower }
     {
-        if setting.program.is_memo(callee) {
-            let work = Work::Block(next_of(place));
-            let entrance = Entrance {
-                statement,
-                way,
-                into,
-                work,
-                callee,
-            };
+        if setting.program.is_memo(entrance.callee) {
             self.enter_memo(alloc, setting, entrance, arguments, kits)
         } else {
-            self.enter_plain(
-                alloc, setting, statement, place, way, into, callee, arguments,
-            )
+            self.enter_plain(alloc, setting, entrance, arguments)
         }
     }
 
@@ -66,69 +52,58 @@ impl<V: View> Machine<V> {
         &mut self,
         alloc: Global,
         setting: Setting<'_>,
-        statement: u32,
-        place: Position,
-        way: Way,
-        into: Option<usize>,
-        callee: usize,
+        entrance: Entrance,
         arguments: &[Expression],
     ) -> Result<(), AllocError>
-        requires room { place.index + 1 < 2 ^ 64 }
+        requires fits { WorkFits entrance.work }
         requires running { self.old.phase ≡ Phase.Running }
-        ensures entered { OnOk result (self.new ≡ evaluated statement
-            (entry_at setting.entry.tables.now.tables self.old.top.slots (slots_of setting.entry.program.now.codes callee)
-            (map plain arguments.now)) (nested_plain statement way into (Work.Block (place_after place)) callee) self.old) }
+        ensures entered { OnOk result (self.new ≡ evaluated entrance.statement
+            (entry_at setting.entry.tables.now.tables self.old.top.slots (slots_of setting.entry.program.now.codes entrance.callee)
+            (map plain arguments.now)) (nested_plain entrance.statement entrance.way entrance.into entrance.work entrance.callee) self.old) }
         ensures unchanged { OnErr result (self.new ≡ self.old) }
     {
         let before = self.layer.readings();
-        let size = setting.program.slots(callee);
-        match self.entry(alloc, setting.tables, statement, size, arguments)? {
-            Some(slots) => {
-                let work = Work::Block(next_of(place));
-                match self.nest(alloc, statement, way, into, work, callee, slots) {
-                    Ok(()) => Ok(()),
-                    Err(AllocError) => {
-                        self.forget(before);
-                        Err(AllocError)
-                    }
+        let size = setting.program.slots(entrance.callee);
+        match self.entry(alloc, setting.tables, entrance.statement, size, arguments)? {
+            Some(slots) => match self.nest(alloc, entrance, slots) {
+                Ok(()) => Ok(()),
+                Err(AllocError) => {
+                    self.forget(before);
+                    Err(AllocError)
                 }
-            }
+            },
             None => Ok(()),
         }
     }
 
-    /// Enters an instance of that procedure, which isn't marked memo, with those slots, at that statement, which is then left as
-    /// `work` says; or too deep.
+    /// Enters an instance of a procedure that isn't marked memo, with those slots; or too deep.
     #[inline(always)]
     pub(crate) fn nest(
         &mut self,
         alloc: Global,
-        statement: u32,
-        way: Way,
-        into: Option<usize>,
-        work: Work,
-        callee: usize,
+        entrance: Entrance,
         slots: Vec<Slot>,
     ) -> Result<(), AllocError>
-        requires fits { WorkFits work }
+        requires fits { WorkFits entrance.work }
         requires running { self.old.phase ≡ Phase.Running }
-        ensures nested { OnOk result (self.new ≡ nested_plain statement way into work callee slots.items self.old) }
+        ensures nested { OnOk result (self.new ≡ nested_plain entrance.statement entrance.way entrance.into entrance.work
+            entrance.callee slots.items self.old) }
         ensures unchanged { OnErr result (self.new ≡ self.old) }
     {
         let left = self.top.left();
         if left == 0 {
-            self.fault(statement, FaultKind::TooDeep);
+            self.fault(entrance.statement, FaultKind::TooDeep);
             return Ok(());
         }
         let places = self.spares.places(alloc);
-        let child = Activation::new(callee, slots, places, Work::Block(FIRST), left - 1);
-        match way {
+        let child = Activation::new(entrance.callee, slots, places, Work::Block(FIRST), left - 1);
+        match entrance.way {
             Way::Call => {
-                self.push_called(child, work, into, Phase::Entering)?;
+                self.push_called(child, entrance.work, entrance.into, Phase::Entering)?;
                 self.begin();
                 Ok(())
             }
-            Way::Spawn => self.push_spawned(child, work, into),
+            Way::Spawn => self.push_spawned(child, entrance.work, entrance.into),
         }
     }
 }

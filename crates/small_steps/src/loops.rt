@@ -4,9 +4,8 @@ ghost use Rattle.linked_program.specs.CodeView.{expression as plain, slots_of, m
 ghost use Rattle.evaluation.specs.Values.{bounds_at, entry_at, values_at};
 ghost use Rattle.evaluation.specs.declared.slot.Slot.TheVariants.{Has};
 ghost use Rattle.positions.specs.Activations.{ShareFits};
-ghost use Rattle.positions.specs.Code.{PlainLoop};
 ghost use Rattle.positions.specs.Advance.{evaluated, looping, split, halved, second_half, nested_memo, turned, turn_by, turn_slots, rest_of as later_of};
-ghost use Rattle.activations.specs.Given.{lent};
+ghost use Rattle.activations.specs.Given.{lent, loop_of};
 ghost use Rattle.small_steps.specs.Ends.{Evaluates};
 ghost use Rattle.layers.specs.Ends.{HasNoted};
 ghost use Rattle.small_steps.specs.Steps.{GivesNone, HoldsBy, IsSupplied, IsValued, KeepsKits, nested_plain};
@@ -16,7 +15,7 @@ use crate::remembering::Entrance;
 use activations::activation::{Activation, next_of};
 use activations::code::{LoopCode, loop_code};
 use activations::setting::Setting;
-use activations::shares::{left_of, number_of, rest_of, right_of};
+use activations::shares::{Turns, left_of, number_of, rest_of, right_of};
 use evaluation::ranges::LoopRange;
 use evaluation::slot::Slot;
 use evaluation::stop::Stop;
@@ -188,7 +187,8 @@ impl<V: View> Machine<V> {
             return Ok(());
         }
         let code = loop_code(setting.program, self.top.procedure(), site);
-        self.iterate(alloc, setting, code, site, share, kits)
+        let turns = Turns { site, share };
+        self.iterate(alloc, setting, code, turns, kits)
     }
 
     /// Enters the next iteration of a loop that has more.
@@ -197,31 +197,23 @@ impl<V: View> Machine<V> {
         alloc: Global,
         setting: Setting<'_>,
         code: LoopCode,
-        site: Loop,
-        share: Share,
+        turns: Turns,
         kits: &mut K,
     ) -> Result<(), AllocError>
-        requires fits { ShareFits site share }
-        requires more { 0 < share.count }
+        requires fits { ShareFits turns.site turns.share }
+        requires more { 0 < turns.share.count }
         requires running { self.old.phase ≡ Phase.Running }
         requires supplied { IsSupplied K.fits K.gives K.free K.total setting.program.now.kinds kits.old setting.records.now
             self.old.layer.kinds self.old.lower }
         ensures turned { OnOk result (HoldsBy (K.lacks kits.old) (GivesNone K.gives kits.old)
-            (λ kit. self.new ≡ turn_by (lent setting.entry) kit
-            (record {
-              number = code.entry.number;
-              variable = code.entry.variable;
-              grain = code.entry.grain;
-              callee = code.entry.callee;
-              arguments = code.entry.arguments.now;
-            }) site share self.old)) }
+            (λ kit. self.new ≡ turn_by (lent setting.entry) kit (loop_of code.entry) turns.site turns.share self.old)) }
         ensures refused { OnErr result (IsValued self.old self.new) }
         ensures kits { KeepsKits K.fits K.gives K.free K.total setting.entry.program.now.kinds kits.old kits.new self.old.lower self.new.lower }
     {
         if setting.program.is_memo(code.callee) {
-            self.iterate_memo(alloc, setting, code, site, share, kits)
+            self.iterate_memo(alloc, setting, code, turns, kits)
         } else {
-            self.iterate_plain(alloc, setting, code, site, share)
+            self.iterate_plain(alloc, setting, code, turns)
         }
     }
 
@@ -231,39 +223,29 @@ impl<V: View> Machine<V> {
         alloc: Global,
         setting: Setting<'_>,
         code: LoopCode,
-        site: Loop,
-        share: Share,
+        turns: Turns,
     ) -> Result<(), AllocError>
-        requires fits { ShareFits site share }
-        requires more { 0 < share.count }
+        requires fits { ShareFits turns.site turns.share }
+        requires more { 0 < turns.share.count }
         requires running { self.old.phase ≡ Phase.Running }
         ensures turned { OnOk result (self.new ≡ evaluated code.entry.number
-            (entry_at setting.entry.tables.now.tables
-            (turn_slots (record {
-              number = code.entry.number;
-              variable = code.entry.variable;
-              grain = code.entry.grain;
-              callee = code.entry.callee;
-              arguments = code.entry.arguments.now;
-            }) site share self.old)
+            (entry_at setting.entry.tables.now.tables (turn_slots (loop_of code.entry) turns.site turns.share self.old)
             (slots_of setting.entry.program.now.codes code.entry.callee) (map plain code.entry.arguments.now))
-            (nested_plain code.entry.number Way.Call None (Work.Turns site (later_of share)) code.entry.callee) self.old) }
+            (nested_plain code.entry.number Way.Call None (Work.Turns turns.site (later_of turns.share)) code.entry.callee) self.old) }
         ensures unchanged { OnErr result (self.new ≡ self.old) }
     {
         let before = self.layer.readings();
         let size = setting.program.slots(code.callee);
-        match self.turn_entry(alloc, setting.tables, size, code, site, share)? {
+        match self.turn_entry(alloc, setting.tables, size, code, turns)? {
             Some(slots) => {
-                let work = Work::Turns(site, rest_of(site, share));
-                match self.nest(
-                    alloc,
-                    code.number,
-                    Way::Call,
-                    None,
-                    work,
-                    code.callee,
-                    slots,
-                ) {
+                let entrance = Entrance {
+                    statement: code.number,
+                    way: Way::Call,
+                    into: None,
+                    work: Work::Turns(turns.site, rest_of(turns.site, turns.share)),
+                    callee: code.callee,
+                };
+                match self.nest(alloc, entrance, slots) {
                     Ok(()) => Ok(()),
                     Err(AllocError) => {
                         self.forget(before);
@@ -281,33 +263,25 @@ impl<V: View> Machine<V> {
         alloc: Global,
         setting: Setting<'_>,
         code: LoopCode,
-        site: Loop,
-        share: Share,
+        turns: Turns,
         kits: &mut K,
     ) -> Result<(), AllocError>
-        requires fits { ShareFits site share }
-        requires more { 0 < share.count }
+        requires fits { ShareFits turns.site turns.share }
+        requires more { 0 < turns.share.count }
         requires running { self.old.phase ≡ Phase.Running }
         requires memo { memo_of setting.program.now.codes code.callee ≡ true }
         requires supplied { IsSupplied K.fits K.gives K.free K.total setting.program.now.kinds kits.old setting.records.now
             self.old.layer.kinds self.old.lower }
         ensures turned { OnOk result (HoldsBy (K.lacks kits.old) (GivesNone K.gives kits.old)
             (λ kit. self.new ≡ evaluated code.entry.number
-            (values_at setting.entry.tables.now.tables
-            (turn_slots (record {
-              number = code.entry.number;
-              variable = code.entry.variable;
-              grain = code.entry.grain;
-              callee = code.entry.callee;
-              arguments = code.entry.arguments.now;
-            }) site share self.old)
+            (values_at setting.entry.tables.now.tables (turn_slots (loop_of code.entry) turns.site turns.share self.old)
             (map plain code.entry.arguments.now)) (nested_memo (lent setting.entry) kit code.entry.number Way.Call None
-            (Work.Turns site (later_of share)) code.entry.callee) self.old)) }
+            (Work.Turns turns.site (later_of turns.share)) code.entry.callee) self.old)) }
         ensures refused { OnErr result (IsValued self.old self.new) }
         ensures kits { KeepsKits K.fits K.gives K.free K.total setting.entry.program.now.kinds kits.old kits.new self.old.lower self.new.lower }
     {
         let mut numbers = mem::replace(&mut self.numbers, Vec::new(alloc));
-        let outcome = self.iterate_memo_by(alloc, setting, code, site, share, &mut numbers, kits);
+        let outcome = self.iterate_memo_by(alloc, setting, code, turns, &mut numbers, kits);
         self.numbers = numbers;
         outcome
     }
@@ -318,40 +292,32 @@ impl<V: View> Machine<V> {
         alloc: Global,
         setting: Setting<'_>,
         code: LoopCode,
-        site: Loop,
-        share: Share,
+        turns: Turns,
         numbers: &mut Vec<i64>,
         kits: &mut K,
     ) -> Result<(), AllocError>
-        requires fits { ShareFits site share }
-        requires more { 0 < share.count }
+        requires fits { ShareFits turns.site turns.share }
+        requires more { 0 < turns.share.count }
         requires running { self.old.phase ≡ Phase.Running }
         requires memo { memo_of setting.program.now.codes code.callee ≡ true }
         requires supplied { IsSupplied K.fits K.gives K.free K.total setting.program.now.kinds kits.old setting.records.now
             self.old.layer.kinds self.old.lower }
         ensures turned { OnOk result (HoldsBy (K.lacks kits.old) (GivesNone K.gives kits.old)
             (λ kit. self.new ≡ evaluated code.entry.number
-            (values_at setting.entry.tables.now.tables
-            (turn_slots (record {
-              number = code.entry.number;
-              variable = code.entry.variable;
-              grain = code.entry.grain;
-              callee = code.entry.callee;
-              arguments = code.entry.arguments.now;
-            }) site share self.old)
+            (values_at setting.entry.tables.now.tables (turn_slots (loop_of code.entry) turns.site turns.share self.old)
             (map plain code.entry.arguments.now)) (nested_memo (lent setting.entry) kit code.entry.number Way.Call None
-            (Work.Turns site (later_of share)) code.entry.callee) self.old)) }
+            (Work.Turns turns.site (later_of turns.share)) code.entry.callee) self.old)) }
         ensures refused { OnErr result (IsValued self.old self.new) }
         ensures kits { KeepsKits K.fits K.gives K.free K.total setting.entry.program.now.kinds kits.old kits.new self.old.lower self.new.lower }
     {
         let before = self.layer.readings();
-        match self.turn_values(setting.tables, code, site, share, numbers)? {
+        match self.turn_values(setting.tables, code, turns, numbers)? {
             Some(()) => {
                 let entrance = Entrance {
                     statement: code.number,
                     way: Way::Call,
                     into: None,
-                    work: Work::Turns(site, rest_of(site, share)),
+                    work: Work::Turns(turns.site, rest_of(turns.site, turns.share)),
                     callee: code.callee,
                 };
                 match self.nest_memo(alloc, setting, entrance, numbers, kits) {
@@ -371,23 +337,16 @@ impl<V: View> Machine<V> {
         &mut self,
         tables: &Tables,
         code: LoopCode,
-        site: Loop,
-        share: Share,
+        turns: Turns,
         numbers: &mut Vec<i64>,
     ) -> Result<Option<()>, AllocError>
-        requires fits { ShareFits site share }
+        requires fits { ShareFits turns.site turns.share }
         ensures evaluated { IfOk result (Evaluates (λ u. numbers.new.items) code.entry.number
-            (values_at tables.now.tables (turn_slots
-            (record {
-              number = code.entry.number;
-              variable = code.entry.variable;
-              grain = code.entry.grain;
-              callee = code.entry.callee;
-              arguments = code.entry.arguments.now;
-            }) site share self.old) (map plain code.entry.arguments.now)) self.old self.new) }
+            (values_at tables.now.tables (turn_slots (loop_of code.entry) turns.site turns.share self.old)
+            (map plain code.entry.arguments.now)) self.old self.new) }
         ensures unchanged { OnErr result (self.new ≡ self.old) }
     {
-        let number = Slot::Has(number_of(site, share));
+        let number = Slot::Has(number_of(turns.site, turns.share));
         match self.values_with(tables, code.arguments, code.variable, number, numbers) {
             Ok(()) => Ok(Some(())),
             Err(Stop::Fault(kind)) => {
@@ -428,22 +387,15 @@ impl<V: View> Machine<V> {
         tables: &Tables,
         size: usize,
         code: LoopCode,
-        site: Loop,
-        share: Share,
+        turns: Turns,
     ) -> Result<Option<Vec<Slot>>, AllocError>
-        requires fits { ShareFits site share }
+        requires fits { ShareFits turns.site turns.share }
         ensures evaluated { IfOk result (Evaluates (λ v. v.items) code.entry.number
-            (entry_at tables.now.tables (turn_slots (record {
-              number = code.entry.number;
-              variable = code.entry.variable;
-              grain = code.entry.grain;
-              callee = code.entry.callee;
-              arguments = code.entry.arguments.now;
-            }) site share self.old) size
+            (entry_at tables.now.tables (turn_slots (loop_of code.entry) turns.site turns.share self.old) size
             (map plain code.entry.arguments.now)) self.old self.new) }
         ensures unchanged { OnErr result (self.new ≡ self.old) }
     {
-        let number = Slot::Has(number_of(site, share));
+        let number = Slot::Has(number_of(turns.site, turns.share));
         match self.entry_with(alloc, tables, size, code.arguments, code.variable, number) {
             Ok(slots) => Ok(Some(slots)),
             Err(Stop::Fault(kind)) => {

@@ -3,9 +3,8 @@ use Rattle.monoid_laws.specs.Kinds.{AreWorths}
 use Rattle.rerun_records.specs.declared.batch.Batch.{Batch}
 use Rattle.positions.specs.Code.{PlainLoop, loop_at}
 use Rattle.positions.specs.Strands.{PlainStrand}
-use Rattle.activations.specs.Given.{lent}
+use Rattle.activations.specs.Given.{lent, loop_of}
 use Rattle.answered_loops.specs.Answered.{IsInside, is_by_turns}
-use Rattle.loop_answers.specs.Ahead.{loop_with}
 use Rattle.loop_answers.specs.Batches.{instances_in, HasBatches}
 use Rattle.loop_answers.proofs.Replays.{values_ready, half_over}
 use Rattle.loop_answers.proofs.answering.answer_half.Goals as goal
@@ -33,7 +32,7 @@ returns-clause-ahead g c =
     let are : AreWorths s.layer.kinds s.layer.worths = subst (λ (z : PlainStrand). AreWorths z.layer.kinds z.layer.worths) back c.of_kinds.ensures.worths in
     let has : HasBatches S c.args.site s.top c.args.share.first bs = c.in-Some.ensures.answers in
     let a = c.loop_code-code.result in
-    let j : PlainLoop = loop_with a.number a.variable a.grain a.callee a.arguments.now in
+    let j : PlainLoop = loop_of a in
     let found : j ≡ loop_at S.codes s.top.procedure c.args.site = c.loop_code-code.ensures.found ∙ ap (λ f. loop_at S.codes f c.args.site) (c.procedure.ensures.procedure ∙ ap (λ (z : PlainStrand). z.top.procedure) c.machine.view_is) in
     let halved : is_by_turns S.codes s.top c.args.site c.args.halvings c.args.share.count ≡ false =
     sym (c.goes_by_turns-by_turns.ensures.turns ∙ ap (λ (i : PlainLoop). (c.args.halvings == 0) || nat_le c.args.share.count i.grain) found) ∙ c.if-by_turns.false in

@@ -2,8 +2,7 @@ use Rattle.std.proofs.Common.{rules, to_z, of_z, w64, ◌≡◌, ◌+◌, ◌-�
 use Rattle.linked_program.specs.CodeView.{expression as plain}
 use Rattle.rerun_records.specs.declared.batch.Batch.{Batch}
 use Rattle.positions.specs.Strands.{PlainStrand}
-use Rattle.activations.specs.Given.{lent}
-use Rattle.loop_answers.specs.Ahead.{loop_with}
+use Rattle.activations.specs.Given.{lent, loop_of}
 use Rattle.loop_answers.specs.Batches.{instances_in, AreBatches, IsBatchFrom, AreArguments}
 use Rattle.loop_answers.proofs.Batches.{instances_more, batches_more}
 use Rattle.loop_answers.proofs.finding.answers_by.Goals as goal
@@ -12,14 +11,14 @@ pub loop-preserved : goal.loop-preserved
 loop-preserved g c =
     let S = lent c.args.setting in
     let a = c.args.code in
-    let j = loop_with a.number a.variable a.grain a.callee a.arguments.now in
+    let j = loop_of a in
     let s = c.args.machine.now in
     let inv = c.loop.invariant in
     let xs : List Batch = c.loop.batches.items in
     let b : Batch = c.in-Some.batch in
-    let first = c.args.share.first in
-    let low = c.args.site.low in
-    let left = c.args.wanted.most - c.loop.count in
+    let first = c.args.turns.share.first in
+    let low = c.args.turns.site.low in
+    let left = c.args.search.wanted.most - c.loop.count in
     let items : c.push.new.self.items ≡ xs ++ b ∷ [] = search rules in
     let v : ℤ = to_z w64 (of_z w64 c.number_behind.result) in
     let at : v ≡ low +ℤ pos (first + c.loop.count) = search rules in
@@ -27,7 +26,7 @@ loop-preserved g c =
     let more : AreBatches S j s.top.slots s.top.left low first (xs ++ b ∷ []) =
     batches_more S j s.top.slots s.top.left low first xs b v left inv.batches one (at ∙ ap (λ n. low +ℤ pos (first + n)) inv.count) in
     let fits : b.count ≤ left = one.few in
-    let before : c.loop.count ≤ c.args.wanted.most = inv.few in
+    let before : c.loop.count ≤ c.args.search.wanted.most = inv.few in
     record {
       same = c.batch_from.ensures.unchanged ∙ inv.same;
       known = subst (λ (x : PlainStrand). IfSome c.counted_from-counted.result (λ place. AreArguments c.args.setting.tables.now.tables x.top.slots a.variable (map plain a.arguments.now) c.batch_from.new.numbers.items)) inv.same c.batch_from.ensures.known;

@@ -3,8 +3,8 @@ use Rattle.linked_program.specs.Linked.{Linked}
 use Rattle.linked_program.specs.CodeView.{expression}
 use Rattle.evaluation.specs.declared.slot.Slot.TheVariants.{Has}
 use Rattle.evaluation.specs.Values.{values_at, pure}
+use Rattle.activations.specs.Given.{loop_of}
 use Rattle.answered_loops.proofs.Arguments.{counted_within, other_values}
-use Rattle.loop_answers.specs.Ahead.{loop_with}
 use Rattle.loop_answers.specs.Batches.{CountsAt, AreArguments}
 use Rattle.loop_answers.proofs.Replays.{batches_answer}
 use Rattle.loop_answers.proofs.finding.batch_from.Goals as goal
@@ -41,7 +41,7 @@ returns-in-Some-clause-batch g c =
     let es : List Linked = map expression a.arguments.now in
     let at : CountsAt s.top.slots a.variable es c.in-Some.place = subst (λ o. IfSome o (CountsAt s.top.slots a.variable es)) c.in-Some.is c.requires.counted in
     let known : AreArguments T s.top.slots a.variable es c.args.numbers.now.items = subst (λ o. IfSome o (λ place. AreArguments T s.top.slots a.variable es c.args.numbers.now.items)) c.in-Some.is c.requires.known in
-    let j = loop_with a.number a.variable a.grain a.callee a.arguments.now in
+    let j = loop_of a in
     let v : ℤ = c.args.ahead.number in
     let vs : List ℤ = slice_set c.args.numbers.now.items c.in-Some.place v in
     let put : c.deref.result.now ≡ vs = search rules in

@@ -1,6 +1,5 @@
 use Rattle.std.proofs.Common.{rules, to_z, of_z, w64, ◌≡◌, ℤ, true, [], IfSome, subst}
-use Rattle.activations.specs.Given.{lent}
-use Rattle.loop_answers.specs.Ahead.{loop_with}
+use Rattle.activations.specs.Given.{lent, loop_of}
 use Rattle.loop_answers.specs.Batches.{IsBatchFrom}
 use Rattle.loop_answers.proofs.Replays.{singles_answer}
 use Rattle.loop_answers.proofs.finding.single_at.Goals as goal
@@ -11,7 +10,7 @@ returns-clause-batch g c =
     let a = c.args.code in
     let s = c.args.machine.now in
     let known : c.unread_values_at.result ≡ true = search rules in
-    let j = loop_with a.number a.variable a.grain a.callee a.arguments.now in
+    let j = loop_of a in
     let v : ℤ = to_z w64 (of_z w64 c.args.ahead.number) in
     let same : v ≡ c.args.ahead.number = search rules in
     subst (λ (u : ℤ). IfSome c.single.result (IsBatchFrom S j s.top.slots s.top.left u c.args.ahead.most)) same

@@ -15,23 +15,23 @@ use Rattle.own_statements.proofs.combining.combine_some.Goals as goal
 pub returns-then-takes-clause-done : goal.returns-then-takes-clause-done
 returns-then-takes-clause-done g c =
     let S = lent c.args.setting in
-    let n = c.args.statement in
-    let p = c.args.place in
+    let n = c.args.here.statement in
+    let p = c.args.here.place in
     let r = c.args.reducer in
     let a = c.args.top.now in
     let xs = c.args.expressions.now in
     let x = c.index-expressions-0.result in
     let count : length xs ≡ 1 = search rules in
     let is : xs ≡ x ∷ [] = one_of xs x count c.index-expressions-0.is in
-    does_as S c.args.passes_syncs p (λ kit. evaluated n (values_at S.tables a.slots (map expression (x ∷ []))) (combining (slice_get S.kinds r) n p r)) (λ kit. evaluated n (values_at S.tables a.slots (map expression xs)) (combining (slice_get S.kinds r) n p r))
+    does_as S c.args.here.passes_syncs p (λ kit. evaluated n (values_at S.tables a.slots (map expression (x ∷ []))) (combining (slice_get S.kinds r) n p r)) (λ kit. evaluated n (values_at S.tables a.slots (map expression xs)) (combining (slice_get S.kinds r) n p r))
     a c.args.layer.now c.combine_one.result c.combine_one.new.top c.combine_one.new.layer
     (λ kit s. ap (λ (es : List Expression). evaluated n (values_at S.tables a.slots (map expression es)) (combining (slice_get S.kinds r) n p r) (topped Running (at (Block p) a) c.args.layer.now s)) (sym is)) c.combine_one.ensures.done
 
 pub returns-then-takes-2-clause-done : goal.returns-then-takes-2-clause-done
 returns-then-takes-2-clause-done g c =
     let S = lent c.args.setting in
-    let n = c.args.statement in
-    let p = c.args.place in
+    let n = c.args.here.statement in
+    let p = c.args.here.place in
     let r = c.args.reducer in
     let a = c.args.top.now in
     let xs = c.args.expressions.now in
@@ -39,6 +39,6 @@ returns-then-takes-2-clause-done g c =
     let y = c.index-expressions-1.result in
     let count : length xs ≡ 2 = search rules in
     let is : xs ≡ x ∷ y ∷ [] = two_of xs x y count c.index-expressions-0-then-takes-2.is c.index-expressions-1.is in
-    does_as S c.args.passes_syncs p (λ kit. evaluated n (values_at S.tables a.slots (map expression (x ∷ y ∷ []))) (combining (slice_get S.kinds r) n p r)) (λ kit. evaluated n (values_at S.tables a.slots (map expression xs)) (combining (slice_get S.kinds r) n p r))
+    does_as S c.args.here.passes_syncs p (λ kit. evaluated n (values_at S.tables a.slots (map expression (x ∷ y ∷ []))) (combining (slice_get S.kinds r) n p r)) (λ kit. evaluated n (values_at S.tables a.slots (map expression xs)) (combining (slice_get S.kinds r) n p r))
     a c.args.layer.now c.combine_two.result c.combine_two.new.top c.combine_two.new.layer
     (λ kit s. ap (λ (es : List Expression). evaluated n (values_at S.tables a.slots (map expression es)) (combining (slice_get S.kinds r) n p r) (topped Running (at (Block p) a) c.args.layer.now s)) (sym is)) c.combine_two.ensures.done

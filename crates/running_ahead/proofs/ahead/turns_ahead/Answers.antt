@@ -6,7 +6,7 @@ use Rattle.positions.specs.declared.work.Work.TheVariants.{Turns}
 use Rattle.positions.specs.Code.{PlainLoop, loop_at}
 use Rattle.positions.specs.Strands.{PlainStrand}
 use Rattle.positions.specs.Advance.{in_phase, turn_slots, rest_of}
-use Rattle.activations.specs.Given.{lent}
+use Rattle.activations.specs.Given.{lent, loop_of}
 use Rattle.small_steps.proofs.Nesting.{turned_more}
 use Rattle.running_ahead.proofs.Paths.{ahead_here, ahead_join, called_plain, loop_over, turned_next}
 use Rattle.running_ahead.proofs.ahead.turns_ahead.Goals as goal
@@ -32,7 +32,7 @@ returns-in-Stays g c =
     let site = c.args.site in
     let share = c.loop.share in
     let a = c.loop_code-code.result in
-    let j : PlainLoop = record { number = a.number; variable = a.variable; grain = a.grain; callee = a.callee; arguments = a.arguments.now } in
+    let j : PlainLoop = loop_of a in
     let more : (share.count == 0) ≡ false = search rules in
     let found : j ≡ loop_at S.codes s.top.procedure site = c.loop_code-code.ensures.found ∙ ap (λ f. loop_at S.codes f site) (c.procedure.ensures.procedure ∙ ap (λ (z : PlainStrand). z.top.procedure) c.machine.view_is ∙ sym c.loop.invariant.procedure) in
     let memo : memo_of S.codes j.callee ≡ false = sym c.is_memo-is_memo.ensures.memo ∙ c.if-is_memo.false in
@@ -47,7 +47,7 @@ loop-preserved g c =
     let site = c.args.site in
     let share = c.loop.share in
     let a = c.loop_code-code.result in
-    let j : PlainLoop = record { number = a.number; variable = a.variable; grain = a.grain; callee = a.callee; arguments = a.arguments.now } in
+    let j : PlainLoop = loop_of a in
     let more : (share.count == 0) ≡ false = search rules in
     let found : j ≡ loop_at S.codes s.top.procedure site = c.loop_code-code.ensures.found ∙ ap (λ f. loop_at S.codes f site) (c.procedure.ensures.procedure ∙ ap (λ (z : PlainStrand). z.top.procedure) c.machine.view_is ∙ sym c.loop.invariant.procedure) in
     let memo : memo_of S.codes j.callee ≡ false = sym c.is_memo-is_memo.ensures.memo ∙ c.if-is_memo.false in

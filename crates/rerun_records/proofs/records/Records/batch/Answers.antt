@@ -8,7 +8,7 @@ returns-in-Some c =
     let T = c.args.tables.now.tables in
     record {
       batch =
-          subst (λ (xs : List ℤ). IfSome c.batch_at.result (λ b. IsBatch P T c.args.depth c.args.self.now c.args.procedure xs c.args.counted c.args.most b.count b.sum.now)) c.in-Some.ensures.arguments
-          (subst (λ (f : ℕ). IfSome c.batch_at.result (λ b. IsBatch P T c.args.depth c.args.self.now f c.in-Some.record.now.arguments c.args.counted c.args.most b.count b.sum.now)) c.in-Some.ensures.procedure
+          subst (λ (xs : List ℤ). IfSome c.batch_at.result (λ b. IsBatch P T c.args.series.depth c.args.self.now c.args.procedure xs c.args.series.counted c.args.series.most b.count b.sum.now)) c.in-Some.ensures.arguments
+          (subst (λ (f : ℕ). IfSome c.batch_at.result (λ b. IsBatch P T c.args.series.depth c.args.self.now f c.in-Some.record.now.arguments c.args.series.counted c.args.series.most b.count b.sum.now)) c.in-Some.ensures.procedure
           c.batch_at.ensures.batch);
     }
