@@ -4,7 +4,6 @@ use Rattle.meaning.specs.Every.{every}
 use Rattle.meaning.specs.Tables.{Tables}
 use Rattle.meaning.specs.Records.{Revised, Kept, holds_now}
 use Rattle.trail_theory.specs.Order.{Every}
-use Rattle.trail_theory.specs.OpenLayers.{IsNewRecord}
 use Rattle.linked_program.specs.TableNames.{columned_of}
 use Rattle.linked_program.specs.Checked.{PlainChecked, revised_of}
 use Rattle.input_tables.specs.Edited.{Edited}
@@ -13,7 +12,7 @@ use Rattle.rerun_records.specs.Doubted.{IsInStep, ReadNow}
 use Rattle.rerun_records.specs.Named.{AreKept}
 use Rattle.rerun_records.proofs.Members.{both}
 use Rattle.rerun_records.proofs.Lookups.{same_but_doubts, agree_now}
-use Rattle.kept_session.specs.Sessions.{AreKeptFor, AreNewFor}
+use Rattle.kept_session.specs.Sessions.{AreKeptFor, IsRightNow, AreNewFor}
 
 pub twice : (rs : List PlainRecord) → map settled (map settled rs) ≡ map settled rs
 twice [] = refl
@@ -28,14 +27,14 @@ kept_so program rs ss e k = record {
   there = k.there;
 }
 
-news_hold : (program : Revised) (tables : Tables) (ks : List Kept) → Every (IsNewRecord program tables) ks → every (holds_now program tables) ks ≡ true
+news_hold : (program : Revised) (tables : Tables) (ks : List Kept) → Every (IsRightNow program tables) ks → every (holds_now program tables) ks ≡ true
 news_hold program tables [] h = refl
 news_hold program tables (k ∷ ks) h = both (holds_now program tables k) (every (holds_now program tables) ks) h.0.now (news_hold program tables ks h.1)
 
 -- what new records have read, the tables hold
 pub made_read_now : (program : PlainChecked) (tables : Edited) (made : List PlainRecord) → program.tables ≡ columned_of tables.tables → AreNewFor program tables made → ReadNow tables.tables made
 made_read_now program tables made columns n =
-    agree_now (revised_of program) program.tables program.kinds tables.tables (sym columns) n.kept made n.stand (news_hold (revised_of program) tables.tables n.kept n.news)
+    agree_now (revised_of program) program.tables program.kinds tables.tables (sym columns) n.kept made n.stand (news_hold (revised_of program) tables.tables n.kept n.right)
 
 -- whether memory was refused or not
 pub stay_in_step : {E : Type 0} (given : Result Unit E) (tables : Tables) (old new : List PlainRecord) → OnOk given (IsInStep tables new) → OnErr given (new ≡ old) → IsInStep tables old → IsInStep tables new

@@ -1,5 +1,5 @@
 -- What a session keeps: its records, as procedures are defined anew and as new records are put in, and the names of its tables' columns.
-use Rattle.std.proofs.Common.{◌≡◌, ℕ, true, false, Bool, ◌&&◌, cond, List, [], ◌∷◌, map, All, Result, Ok, Err, OnOk, OnErr, refl, sym, ap, subst, ◌∙◌}
+use Rattle.std.proofs.Common.{◌≡◌, ℕ, true, false, Bool, ◌&&◌, cond, List, [], ◌∷◌, length, map, All, Result, Ok, Err, OnOk, OnErr, refl, sym, ap, subst, ◌∙◌}
 use Rattle.std.proofs.lemmas.List.Elements.{All-nil, All-cons, All-head, All-tail, All-weaker}
 use Rattle.monoid_laws.specs.declared.Kind.{Kind}
 use Rattle.program_tree.specs.Plain.{Name, Tree}
@@ -11,7 +11,6 @@ use Rattle.meaning.specs.Records.{Kept, IsSound, agrees, is_current}
 use Rattle.meaning.specs.Commits.{same_key, replaced, committed}
 use Rattle.trail_theory.specs.Order.{Every}
 use Rattle.trail_theory.specs.KeptRecords.{RecordsStaySound}
-use Rattle.trail_theory.specs.OpenLayers.{IsNewRecord}
 use Rattle.trail_theory.proofs.Contributions.{commits_sound}
 use Rattle.linked_program.specs.TableNames.{Columned}
 use Rattle.linked_program.specs.Checked.{PlainChecked, IsChecked, revised_of}
@@ -20,7 +19,7 @@ use Rattle.rerun_records.specs.Record.{PlainRecord}
 use Rattle.rerun_records.specs.Named.{IsRecord, AreRecords, SameMembers, numbered_entry, CommitsNamed, HaveValues}
 use Rattle.checked_defines.specs.Standings.{KeepsPlaces, KeepsNumbers}
 use Rattle.checked_defines.proofs.Numbers.{keeps_numbers, current_are_there}
-use Rattle.kept_session.specs.Sessions.{NamesThere, AreKeptFor, AreNewFor}
+use Rattle.kept_session.specs.Sessions.{NamesThere, AreKeptFor, NameReducersFrom, IsRightNow, AreNewFor}
 
 -- ---- procedures that keep their numbers
 
@@ -101,17 +100,17 @@ all_current revisions (e ∷ es) h =
     All-cons (λ e. is_current revisions e ≡ true) e es both.0 (all_current revisions es both.1)
 
 module _ (program : PlainChecked) (is : IsChecked program) (tables : Edited) where
-  new_there : (k : Kept) → IsNewRecord (revised_of program) tables.tables k → NamesThere (tree program.program) k
+  new_there : (k : Kept) → IsRightNow (revised_of program) tables.tables k → NamesThere (tree program.program) k
   new_there k new =
       let current = (and_holds (every (agrees tables.tables) k.read) (every (is_current program.revisions) k.revisions) new.now).1 in
       All-weaker (λ e. is_current program.revisions e ≡ true) (IsThere (tree program.program)) (λ e h. current_are_there program is e.0 e.1 h) k.revisions
       (all_current program.revisions k.revisions current)
 
-  news_there : (ks : List Kept) → Every (IsNewRecord (revised_of program) tables.tables) ks → Every (NamesThere (tree program.program)) ks
+  news_there : (ks : List Kept) → Every (IsRightNow (revised_of program) tables.tables) ks → Every (NamesThere (tree program.program)) ks
   news_there [] news = tt
   news_there (k ∷ ks) news = (new_there k news.0, news_there ks news.1)
 
-  news_sound : (ks : List Kept) → Every (IsNewRecord (revised_of program) tables.tables) ks → Every (IsSound (revised_of program)) ks
+  news_sound : (ks : List Kept) → Every (IsRightNow (revised_of program) tables.tables) ks → Every (IsSound (revised_of program)) ks
   news_sound [] news = tt
   news_sound (k ∷ ks) news = (news.0.sound, news_sound ks news.1)
 
@@ -121,9 +120,9 @@ module _ (program : PlainChecked) (is : IsChecked program) (tables : Edited) whe
     sound = record {
       kept = committed k.sound.kept n.kept;
       stand = named k.sound.kept n.kept k.sound.stand n.stand;
-      sound = commits_sound (revised_of program) k.sound.kept n.kept k.sound.sound (news_sound n.kept n.news);
+      sound = commits_sound (revised_of program) k.sound.kept n.kept k.sound.sound (news_sound n.kept n.right);
     };
-    there = committed_keeps (NamesThere (tree program.program)) k.sound.kept n.kept k.there (news_there n.kept n.news);
+    there = committed_keeps (NamesThere (tree program.program)) k.sound.kept n.kept k.there (news_there n.kept n.right);
   }
 
   -- whether memory was refused or not
@@ -145,4 +144,4 @@ none_kept program = record { sound = record { kept = []; stand = tt; sound = tt 
 
 -- a run that has made none has made none that don't hold now
 pub none_new : (program : PlainChecked) (tables : Edited) → AreNewFor program tables []
-none_new program tables = record { kept = []; stand = tt; news = tt }
+none_new program tables = record { kept = []; stand = tt; named = All-nil (λ r. NameReducersFrom 0 (length program.kinds) r.contribution); right = tt }

@@ -1,3 +1,6 @@
 pub mod Doubts
+pub mod Elided
 pub mod Keeping
+pub mod News
 pub mod Refusals
+pub mod Values

@@ -2,6 +2,7 @@
 #![tactic(auto)]
 
 mod applying;
+mod arguments;
 mod refusal;
 mod session;
 

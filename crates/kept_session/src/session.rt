@@ -1,5 +1,6 @@
 // A session: a checked program, its tables, its pool of kits, and the records that its runs have left.
-ghost use Rattle.std.specs.Prelude.{◌≡◌, ◌<◌, [], true, false, All, Ok, length, map, IfOk, IfErr, OnOk, OnErr};
+ghost use Rattle.std.specs.Prelude.{◌≡◌, ◌<◌, ◌≤◌, [], true, false, All, Ok, length, map, IfOk, IfErr, OnOk, OnErr};
+ghost use Rattle.meaning.specs.Elision.{depth_limit};
 ghost use Rattle.linked_program.specs.TableNames.{columned_of};
 ghost use Rattle.rerun_records.specs.Record.{settled};
 ghost use Rattle.rerun_records.specs.Doubted.{IsInStep};
@@ -10,6 +11,7 @@ ghost use Rattle.session_edits.specs.Said.{said};
 ghost use Rattle.kept_session.specs.Sessions.{AreKeptFor, AreNewFor, begun, stock_of, standing_of};
 ghost use Rattle.kept_session.specs.Applied.{edited, IsApplyCause};
 
+use crate::arguments::arguments_fit;
 use crate::refusal::ApplyError;
 use gathered_records::gathering::keep;
 use input_tables::Tables;
@@ -191,17 +193,21 @@ impl<V: View> Session<V> {
     pub fn settle(&mut self, pool: Pool<Kit<V>>, made: Vec<Record>) -> Result<(), AllocError>
         requires kinds { All (λ k. k ≡ self.old.checked.kinds) pool.kits }
         requires new { AreNewFor self.old.checked self.old.tables made.items }
-        requires values { HaveValues self.old.checked.kinds made.items }
+        // Of a record that is too high for every depth being sound says nothing.
+        requires answerable { All (λ r. r.height ≤ depth_limit) made.items }
         ensures settled { OnOk result (self.new
             ≡ record self.old { kits = pool; records = self.new.records }) }
         ensures records { OnOk result (map settled self.new.records
             ≡ put_records (map settled self.old.records) made.items) }
         ensures refused { OnErr result (self.new ≡ record self.old { kits = pool }) }
     {
-        // What the program's type keeps.
+        // What the types of the program, the tables and the records keep: so the values are of the reducers' kinds.
         self.checked.clean();
         self.checked.linked();
         self.checked.revised();
+        self.checked.fitting();
+        self.tables.cells_fit();
+        arguments_fit(&made);
         self.kits = pool;
         keep(&mut self.records, made, &self.tables, &self.checked)
     }

@@ -1,10 +1,12 @@
-use Rattle.std.proofs.Common.{◌≡◌, All, sym, subst}
+use Rattle.std.proofs.Common.{◌≡◌, List, All, sym, subst}
+use Rattle.monoid_laws.specs.Kinds.{Fits}
 use Rattle.linked_program.specs.Checked.{IsChecked}
-use Rattle.rerun_records.specs.Named.{HaveValues}
 use Rattle.rules_theory.proofs.Monoids.{checked_monoids}
+use Rattle.rerun_records.specs.Record.{PlainRecord}
 use Rattle.kept_session.specs.Sessions.{PlainSession, AreNewFor}
 use Rattle.kept_session.proofs.Doubts.{made_read_now, stay_in_step}
 use Rattle.kept_session.proofs.Keeping.{settled_keeps, settled_values}
+use Rattle.kept_session.proofs.Values.{new_have_values}
 use Rattle.kept_session.proofs.session.Session.settle.Goals as goal
 
 pub keep-requires : goal.keep-requires
@@ -19,12 +21,14 @@ keep-requires g c =
       each = c.revised.ensures.each;
       below = c.revised.ensures.below;
     } in
+    let new = subst (λ (x : PlainSession). AreNewFor x.checked x.tables c.args.made.items) (sym c.self.view_is) c.requires.new in
     record {
       in_step = c.self.invariant.in_step;
-      read_now = made_read_now s.checked s.tables c.args.made.items c.self.invariant.columns (subst (λ (x : PlainSession). AreNewFor x.checked x.tables c.args.made.items) (sym c.self.view_is) c.requires.new);
+      read_now = made_read_now s.checked s.tables c.args.made.items c.self.invariant.columns new;
       monoids = checked_monoids s.checked is;
       values = c.self.invariant.values;
-      made_values = subst (λ (x : PlainSession). HaveValues x.checked.kinds c.args.made.items) (sym c.self.view_is) c.requires.values;
+      made_values = new_have_values s.checked is s.tables c.fitting.ensures.numbers c.cells_fit.ensures.fit c.args.made.items new c.requires.answerable
+          (subst (λ (rs : List PlainRecord). All (λ r. All Fits r.arguments) rs) c.deref.ensures.value c.arguments_fit.ensures.fit);
     }
 
 pub invariant_of-self : goal.invariant_of-self
@@ -40,11 +44,12 @@ invariant_of-self g c =
       each = c.revised.ensures.each;
       below = c.revised.ensures.below;
     } in
+    let new = subst (λ (x : PlainSession). AreNewFor x.checked x.tables c.args.made.items) (sym c.self.view_is) c.requires.new in
     record {
-      kept = settled_keeps s.checked is s.tables c.keep.result s.records c.args.made.items c.keep.new.records c.keep.ensures.named c.keep.ensures.same keeps.kept
-          (subst (λ (x : PlainSession). AreNewFor x.checked x.tables c.args.made.items) (sym c.self.view_is) c.requires.new);
+      kept = settled_keeps s.checked is s.tables c.keep.result s.records c.args.made.items c.keep.new.records c.keep.ensures.named c.keep.ensures.same keeps.kept new;
       values = settled_values c.keep.result s.checked.kinds s.records c.args.made.items c.keep.new.records c.keep.ensures.values c.keep.ensures.same keeps.values
-          (subst (λ (x : PlainSession). HaveValues x.checked.kinds c.args.made.items) (sym c.self.view_is) c.requires.values);
+          (new_have_values s.checked is s.tables c.fitting.ensures.numbers c.cells_fit.ensures.fit c.args.made.items new c.requires.answerable
+          (subst (λ (rs : List PlainRecord). All (λ r. All Fits r.arguments) rs) c.deref.ensures.value c.arguments_fit.ensures.fit));
       in_step = stay_in_step c.keep.result s.tables.tables s.records c.keep.new.records c.keep.ensures.in_step c.keep.ensures.same keeps.in_step;
       columns = keeps.columns;
       kinds = subst (λ (x : PlainSession). All (λ k. k ≡ x.checked.kinds) c.args.pool.kits) (sym c.self.view_is) c.requires.kinds;
