@@ -257,7 +257,7 @@ module _ (setting : Setting) where
         recorded = none_counted f (lowest s.layer s.lower).worths s.tally s.tally.made given b;
       }
 
-  rest_ends : IsReady setting.program setting.tables setting.memory → IsNumbered setting.program → (r : Rest) (s : PlainStrand) → IsAtRest setting.codes r s → ends_as r s ≡ true → IsRightBy setting s → (given : RunAnswer) → IsAnswer (ending_of s) (lowest s.layer s.lower).worths s.tally given → Ended s given
+  pub rest_ends : IsReady setting.program setting.tables setting.memory → IsNumbered setting.program → (r : Rest) (s : PlainStrand) → IsAtRest setting.codes r s → ends_as r s ≡ true → IsRightBy setting s → (given : RunAnswer) → IsAnswer (ending_of s) (lowest s.layer s.lower).worths s.tally given → Ended s given
   rest_ends ready numbered rest.Finished s at e h given a = finished_ends ready numbered s (finished_is setting.codes s at.at) h given a
   rest_ends ready numbered rest.Faulted s at e h given a = let f = fault_is setting.codes s at.at in faulted_ends ready s f.0 f.1 e h given a
   rest_ends ready numbered rest.Ended s at e h given a = absurd cc

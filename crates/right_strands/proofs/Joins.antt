@@ -247,7 +247,7 @@ module _ (setting : Setting) where
     waits_joined ready numbered (inl at) = subst (IsRightBy setting) (sym (joined_by (sync_is setting.codes r at))) (by_sync ready numbered at)
     waits_joined ready numbered (inr f) = subst (IsRightBy setting) (sym (ap (λ ph. joined_at ph l r) p.phase ∙ ap (λ ph. joined_after ph l p.value r) f.1)) (by_fault f.0 f.1)
 
-  over_joined : (l r : PlainStrand) → IsReady setting.program setting.tables setting.memory → IsNumbered setting.program → IsPair setting l r → (pause_of setting.codes l ≡ paused.Returned) ⊎ StopsBroken l → IsRightBy setting (joined l r)
+  pub over_joined : (l r : PlainStrand) → IsReady setting.program setting.tables setting.memory → IsNumbered setting.program → IsPair setting l r → (pause_of setting.codes l ≡ paused.Returned) ⊎ StopsBroken l → IsRightBy setting (joined l r)
   over_joined l r ready numbered h (inl e) = waits_joined l r h (returned_is setting.codes l e) ready numbered h.waits
   over_joined l r ready numbered h (inr f) =
       let c = cut_of setting (with_worths h.left_worths l) f.0 f.1 h.left in

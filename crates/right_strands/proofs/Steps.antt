@@ -98,7 +98,7 @@ step_kept setting p e r set lacks none s s' adv step kinds start failed h = reco
 
 -- ---- many small steps
 
-along : (i : Setting) → IsReady i.program i.tables i.memory → IsNumbered i.program → (s t : PlainStrand) → IsPathOf i s t → IsRightBy i s → GoesOn i s t
+pub along : (i : Setting) → IsReady i.program i.tables i.memory → IsNumbered i.program → (s t : PlainStrand) → IsPathOf i s t → IsRightBy i s → GoesOn i s t
 along i ready numbered s t here h = record { right = h; begins = refl }
 along i ready numbered s t (on u v p e steps) h =
     let before : GoesOn i s u = along i ready numbered s u p h in

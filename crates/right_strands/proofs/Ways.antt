@@ -20,7 +20,7 @@ use Rattle.right_strands.proofs.Moves.{inlined_right}
 use Rattle.right_strands.proofs.Settings.{set_with, kept_with}
 use Rattle.right_strands.proofs.Steps.{GoesOn, step_right}
 
-on_way : (i : Setting) → IsReady i.program i.tables i.memory → IsNumbered i.program → (s t : PlainStrand) → IsWayOf i s t → IsRightBy i s → GoesOn i s t
+pub on_way : (i : Setting) → IsReady i.program i.tables i.memory → IsNumbered i.program → (s t : PlainStrand) → IsWayOf i s t → IsRightBy i s → GoesOn i s t
 on_way i ready numbered s t here h = record { right = h; begins = refl }
 on_way i ready numbered s t (on u v p e steps) h =
     let before : GoesOn i s u = on_way i ready numbered s u p h in

@@ -4,3 +4,4 @@ pub mod Rightness
 pub mod Laid
 pub mod Pairs
 pub mod Waiting
+pub mod Staying

@@ -1,9 +1,13 @@
-//! What the tests of this crate are for the definitions, each as the contract of a function that does nothing.
+//! What the calls of a strand keep, and what the tests of this crate are for the definitions, each as the contract of a function that
+//! does nothing.
 ghost use Rattle.std.specs.Prelude.{◌≡◌, ℤ};
+ghost use Rattle.trail_theory.specs.OpenLayers.{IsNumbered};
+ghost use Rattle.strand_theory.specs.Ready.{IsReady};
 ghost use Rattle.positions.specs.Setting.{Setting};
 ghost use Rattle.positions.specs.Strands.{PlainStrand};
 ghost use Rattle.positions.specs.Advance.{pause_of};
 ghost use Rattle.activations.specs.Waiting.{leaves_none};
+ghost use Rattle.right_strands.specs.Staying.{StrandsStayRight};
 ghost use Rattle.right_strands.specs.Waiting.{DecidesWaiting};
 
 use positions::phase::{Paused, Phase};
@@ -14,4 +18,12 @@ pub fn waiting_is_the_definitions()
     ensures decided { (setting : Setting) (l r : PlainStrand) (v : ℤ) → l.phase ≡ Phase.Leaving v
         → pause_of setting.codes r ≡ Paused.AtSync
         → DecidesWaiting setting l r (leaves_none l r) }
+{}
+
+/// Each call of a strand of `frames` keeps it right, by what its own contract says of it: what is left of it to do is what the serial
+/// run has left there, the first strand has all of it, the end answers the elision from scratch, and the new records are sound and hold
+/// now.
+pub fn strands_stay_right()
+    ensures stay { (setting : Setting) → IsReady setting.program setting.tables setting.memory
+        → IsNumbered setting.program → StrandsStayRight setting }
 {}

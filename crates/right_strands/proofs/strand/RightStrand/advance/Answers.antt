@@ -1,4 +1,4 @@
-use Rattle.std.proofs.Common.{◌≡◌, ◌+◌, ◌≤◌, suc, length, All, List, sym, ◌∙◌, subst}
+use Rattle.std.proofs.Common.{◌≡◌, All, List, sym, ◌∙◌, subst}
 use Rattle.positions.specs.Advance.{advanced}
 use Rattle.small_steps.specs.Steps.{GivesNone, HoldsBy}
 use Rattle.monoid_laws.specs.declared.Kind.{Kind}
