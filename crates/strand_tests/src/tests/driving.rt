@@ -16,6 +16,13 @@ use view_pool::{Kit, PlainView, Pool};
 /// More small steps than any of the programs takes.
 const STEPS: usize = 2000;
 
+/// A program, and the tables that it runs on.
+#[derive(Clone, Copy)]
+pub struct Input<'a> {
+    pub program: &'a Checked,
+    pub tables: &'a Tables,
+}
+
 /// The kits of a strand that has its own: none is free.
 fn no_kits(rt: &impl Abort, alloc: Global) -> Pool<Kit<PlainView>>
     ensures none { result.kits ≡ [] }
@@ -159,14 +166,13 @@ fn advance(
 fn step(
     rt: &impl Abort,
     alloc: Global,
-    program: &Checked,
-    tables: &Tables,
+    input: Input<'_>,
     strand: &mut Strand<PlainView>,
     pool: &mut Pool<Kit<PlainView>>,
     child: Child,
     parents: &mut Vec<Task>,
 )
-    requires kinds { strand.old.layer.kinds ≡ program.now.kinds }
+    requires kinds { strand.old.layer.kinds ≡ input.program.now.kinds }
     requires lower { strand.old.lower ≡ [] }
     requires none { pool.old.kits ≡ [] }
     requires total { pool.old.total ≡ 1 }
@@ -175,6 +181,7 @@ fn step(
     ensures none { pool.new.kits ≡ [] }
     ensures total { pool.new.total ≡ 1 }
 {
+    let Input { program, tables } = input;
     go_ahead(alloc, program, tables, strand, child);
     advance(rt, alloc, program, tables, strand, pool);
     spawn(rt, alloc, strand, child, parents);
@@ -235,16 +242,8 @@ pub fn go_on(
     let mut steps = STEPS;
     for i in 0..STEPS {
         steps = first_at_end(program, strand, steps, i);
-        step(
-            rt,
-            alloc,
-            program,
-            tables,
-            strand,
-            &mut pool,
-            child,
-            &mut parents,
-        );
+        let input = Input { program, tables };
+        step(rt, alloc, input, strand, &mut pool, child, &mut parents);
     }
     steps
 }

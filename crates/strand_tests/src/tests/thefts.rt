@@ -3,7 +3,7 @@ ghost use Rattle.std.specs.Prelude.{◌≡◌, [], All};
 ghost use Rattle.monoid_laws.specs.Kinds.{IsMonoid};
 
 use super::answers::{answer_text, slow_text};
-use super::driving::{Child, are_monoids, begin, go_on, parent, to_pause};
+use super::driving::{Child, Input, are_monoids, begin, go_on, parent, to_pause};
 use frames::strand::Strand;
 use input_tables::Tables;
 use linked_program::checked::Checked;
@@ -128,22 +128,22 @@ fn join(
 fn go_on_beside(
     rt: &impl Abort,
     alloc: Global,
-    program: &Checked,
-    tables: &Tables,
+    input: Input<'_>,
     left: &mut Strand<PlainView>,
     right: &mut Strand<PlainView>,
     pool: &mut Pool<Kit<PlainView>>,
     child: Child,
 )
-    requires kinds { left.old.layer.kinds ≡ program.now.kinds }
+    requires kinds { left.old.layer.kinds ≡ input.program.now.kinds }
     requires lower { left.old.lower ≡ [] }
-    requires right_kinds { right.old.layer.kinds ≡ program.now.kinds }
+    requires right_kinds { right.old.layer.kinds ≡ input.program.now.kinds }
     requires right_lower { right.old.lower ≡ [] }
     ensures kinds { left.new.layer.kinds ≡ left.old.layer.kinds }
     ensures lower { left.new.lower ≡ [] }
     ensures right_kinds { right.new.layer.kinds ≡ right.old.layer.kinds }
     ensures right_lower { right.new.lower ≡ [] }
 {
+    let Input { program, tables } = input;
     let _ = go_on(rt, alloc, program, tables, right, child);
     let _ = go_on(rt, alloc, program, tables, left, child);
     give_up(left, pool);
@@ -156,15 +156,14 @@ fn go_on_beside(
 fn play(
     rt: &impl Abort,
     alloc: Global,
-    program: &Checked,
-    tables: &Tables,
+    input: Input<'_>,
     victim: &mut Strand<PlainView>,
     pool: &mut Pool<Kit<PlainView>>,
     thefts: usize,
     child: Child,
 )
-    requires kits { All (λ k. k ≡ program.now.kinds) pool.old.kits }
-    requires kinds { victim.old.layer.kinds ≡ program.now.kinds }
+    requires kits { All (λ k. k ≡ input.program.now.kinds) pool.old.kits }
+    requires kinds { victim.old.layer.kinds ≡ input.program.now.kinds }
     requires lower { victim.old.lower ≡ [] }
     ensures kinds { victim.new.layer.kinds ≡ victim.old.layer.kinds }
     ensures lower { victim.new.lower ≡ [] }
@@ -172,19 +171,10 @@ fn play(
     if thefts == 0 {
         return;
     }
-    let mut thief = rob(rt, alloc, program, tables, victim, pool);
-    play(
-        rt,
-        alloc,
-        program,
-        tables,
-        &mut thief,
-        pool,
-        thefts - 1,
-        child,
-    );
-    go_on_beside(rt, alloc, program, tables, victim, &mut thief, pool, child);
-    are_monoids(program);
+    let mut thief = rob(rt, alloc, input.program, input.tables, victim, pool);
+    play(rt, alloc, input, &mut thief, pool, thefts - 1, child);
+    go_on_beside(rt, alloc, input, victim, &mut thief, pool, child);
+    are_monoids(input.program);
     join(rt, victim, thief, pool);
 }
 
@@ -208,16 +198,8 @@ pub fn run(
     let mut pool = pool_of(rt, alloc, program);
     let kit = taken(rt, program, &mut pool);
     let mut strand = begin(rt, alloc, program, kit);
-    play(
-        rt,
-        alloc,
-        program,
-        tables,
-        &mut strand,
-        &mut pool,
-        thefts,
-        child,
-    );
+    let input = Input { program, tables };
+    play(rt, alloc, input, &mut strand, &mut pool, thefts, child);
     let steps = go_on(rt, alloc, program, tables, &mut strand, child);
     let (answer, _) = strand.end(alloc, &mut pool);
     Ran {
