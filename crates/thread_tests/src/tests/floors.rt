@@ -20,27 +20,38 @@ use test_kit::texts::{FIRST, SALES};
 use threaded_driver::{Deques, Floor, NewDeques, Run, Stocked, deques_of};
 use view_pool::{Kit, PlainView, Pool};
 
+/// What a run is lent: a program, its tables, and the records that may answer its memo instances.
+#[derive(Clone, Copy)]
+struct Lent<'a> {
+    program: &'a Checked,
+    tables: &'a Tables,
+    records: &'a Records,
+}
+
 /// How many kits are home, where the run through these deques is given up at once; none where it isn't begun.
 fn through<J, D>(
     alloc: Global,
-    program: &Checked,
-    tables: &Tables,
-    records: &Records,
+    lent: Lent<'_>,
     pool: Pool<Kit<PlainView>>,
     deques: NewDeques<J>,
 ) -> Option<usize>
 where
     J: Run + Ledger + Stocked + Send,
     D: Deques,
-    requires same { setting_with program.now tables.now.tables [] records.now ≡ J.setting }
-    requires names { program.now.tables ≡ columned_of tables.now.tables }
-    requires sound { AreSound (revised_of program.now) program.now.tables program.now.kinds records.now }
-    requires values { HaveValues program.now.kinds records.now }
-    requires in_step { IsInStep tables.now.tables records.now }
+    requires same { setting_with lent.program.now lent.tables.now.tables [] lent.records.now ≡ J.setting }
+    requires names { lent.program.now.tables ≡ columned_of lent.tables.now.tables }
+    requires sound { AreSound (revised_of lent.program.now) lent.program.now.tables lent.program.now.kinds lent.records.now }
+    requires values { HaveValues lent.program.now.kinds lent.records.now }
+    requires in_step { IsInStep lent.tables.now.tables lent.records.now }
     requires kinds { All (λ k. k ≡ J.setting.kinds) pool.kits }
     requires total { pool.total ≡ J.total }
     requires named { D.deques ≡ deques }
 {
+    let Lent {
+        program,
+        tables,
+        records,
+    } = lent;
     match Floor::<J, D, PlainView>::new(alloc, program, tables, records, pool, deques) {
         Ok((floor, _seats)) => Some(floor.into_pool().free()),
         Err(_) => None,
@@ -51,20 +62,18 @@ where
 fn by_workers<J>(
     rt: &impl Abort,
     alloc: Global,
-    program: &Checked,
-    tables: &Tables,
-    records: &Records,
+    lent: Lent<'_>,
     pool: Pool<Kit<PlainView>>,
     blank: Blank,
     workers: usize,
 ) -> Option<usize>
 where
     J: Run + Ledger + Stocked + Send,
-    requires same { setting_with program.now tables.now.tables [] records.now ≡ J.setting }
-    requires names { program.now.tables ≡ columned_of tables.now.tables }
-    requires sound { AreSound (revised_of program.now) program.now.tables program.now.kinds records.now }
-    requires values { HaveValues program.now.kinds records.now }
-    requires in_step { IsInStep tables.now.tables records.now }
+    requires same { setting_with lent.program.now lent.tables.now.tables [] lent.records.now ≡ J.setting }
+    requires names { lent.program.now.tables ≡ columned_of lent.tables.now.tables }
+    requires sound { AreSound (revised_of lent.program.now) lent.program.now.tables lent.program.now.kinds lent.records.now }
+    requires values { HaveValues lent.program.now.kinds lent.records.now }
+    requires in_step { IsInStep lent.tables.now.tables lent.records.now }
     requires kinds { All (λ k. k ≡ J.setting.kinds) pool.kits }
     requires total { pool.total ≡ J.total }
     requires name { blank.name ≡ J.name }
@@ -72,7 +81,7 @@ where
     requires some { 0 < workers }
 {
     let deques = deques_of::<J>(alloc, blank, workers).expect(rt, "memory");
-    through::<J, Brand>(alloc, program, tables, records, pool, deques)
+    through::<J, Brand>(alloc, lent, pool, deques)
 }
 
 /// The same of a session's program on its tables with its kits; the session has no kits behind it.
@@ -86,16 +95,12 @@ fn given_up(
 {
     session.kept();
     let pool = session.take_pool(alloc);
-    by_workers::<Brand>(
-        rt,
-        alloc,
-        session.checked(),
-        session.tables(),
-        session.records(),
-        pool,
-        Blank::new(workers as u64),
-        workers,
-    )
+    let lent = Lent {
+        program: session.checked(),
+        tables: session.tables(),
+        records: session.records(),
+    };
+    by_workers::<Brand>(rt, alloc, lent, pool, Blank::new(workers as u64), workers)
 }
 
 /// The first strand has a kit.
