@@ -181,9 +181,9 @@ class TablesFromCsv(unittest.TestCase):
 
 
 if __name__ == "__main__":
-    # Those of the smaller tools, of the picture of a trace, of bench/fuzz and of examples/year stand in modules beside this one.
+    # Those of the smaller tools, of the picture of a trace, of bench/fuzz, of examples/year and of the house stand in modules beside it.
     sys.dont_write_bytecode = True
-    suite = unittest.defaultTestLoader.loadTestsFromNames(["__main__", "text_and_edit_tests", "picture_tests", "fuzz_tests", "tutorial_tests"])
+    suite = unittest.defaultTestLoader.loadTestsFromNames(["__main__", "text_and_edit_tests", "picture_tests", "fuzz_tests", "tutorial_tests", "house_tests"])
     result = unittest.TextTestRunner(stream=sys.stdout, verbosity=0).run(suite)
     failed = len(result.failures) + len(result.errors)
     print(f"{result.testsRun - len(result.skipped) - failed} passed, {failed} failed")

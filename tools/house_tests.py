@@ -1,0 +1,67 @@
+"""Tests of the house: how wide clauses are, how many parameters a function takes, and that docs/CHANGING.md names files that are there."""
+import glob
+import os
+import re
+import unittest
+
+TOP = os.path.dirname(os.path.dirname(os.path.realpath(__file__)))
+WIDEST, MOST = 160, 7
+OPEN, CLOSE = "([{<", ")]}>"
+
+
+def sources(pattern):
+    """Each source file of the crates that fits, by its path below them, with its text."""
+    for path in sorted(glob.glob(f"{TOP}/crates/*/{pattern}", recursive=True)):
+        with open(path, encoding="utf-8") as file:
+            yield os.path.relpath(path, f"{TOP}/crates"), file.read()
+
+
+def parameters(text, begin):
+    """How many parameters stand in the parentheses that begin there."""
+    depth, count, is_some = 1, 0, False
+    for place in range(begin, len(text)):
+        letter = text[place]
+        if letter in OPEN:
+            depth += 1
+        elif letter in CLOSE and text[place - 1] not in "-=":
+            depth -= 1
+        if depth == 0:
+            return count + is_some
+        if letter == "," and depth == 1:
+            count, is_some = count + 1, False
+        elif not letter.isspace():
+            is_some = True
+    return count
+
+
+class House(unittest.TestCase):
+    def test_clauses_and_definitions_are_narrow(self):
+        for pattern in ("src/**/*.rt", "specs/**/*.antt"):
+            for path, text in sources(pattern):
+                wide = [line for line in text.splitlines() if len(line) > WIDEST and not line.lstrip().startswith('"')]
+                self.assertEqual(wide, [], path)
+
+    def test_functions_take_few_parameters(self):
+        for path, text in sources("src/**/*.rt"):
+            for found in re.finditer(r"\bfn (\w+)(?:<[^(]*>)?\(", text):
+                self.assertLessEqual(parameters(text, found.end()), MOST, f"{path}: {found[1]}")
+
+    def test_changing_names_files_that_are_there(self):
+        with open(f"{TOP}/docs/CHANGING.md", encoding="utf-8") as file:
+            page = file.read()
+        for crate, name in re.findall(r"\b([a-z_]+)/((?:src|specs|proofs)/[\w/]+\.(?:rt|antt))", page):
+            self.assertTrue(os.path.isfile(f"{TOP}/crates/{crate}/{name}"), f"{crate}/{name}")
+        for line in page.splitlines():
+            cells = line.split("|")
+            for before, cell in zip(cells, cells[1:]):
+                crates = [name for name in re.findall(r"`(\w+)`", before) if os.path.isdir(f"{TOP}/crates/{name}")]
+                if crates and re.match(r" *(src|specs|proofs)/", cell):
+                    self.look_for(crates, cell)
+
+    def look_for(self, crates, cell):
+        """Each file of the cell is one of these crates; a folder's name stands once, before its first file."""
+        folder = ""
+        for named, name in re.findall(r"(?:\b(src|specs|proofs)/)?\b([\w/]+\.(?:rt|antt))", cell):
+            folder = named or folder
+            there = [crate for crate in crates if os.path.isfile(f"{TOP}/crates/{crate}/{folder}/{name}")]
+            self.assertTrue(there, f"{crates}: {folder}/{name}")
