@@ -8,5 +8,5 @@ pub mod sorts;
 
 pub use program_endings::files;
 pub use report_session::kits;
-pub use script_session::{live, session};
+pub use script_session::{live, runner, session};
 pub use session_notes::{explained, notes, run_notes};

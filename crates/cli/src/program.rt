@@ -26,6 +26,7 @@ use program_endings::streams::Failures;
 use program_formatter::formatting::format_file;
 use report_files::ReportFiles;
 use script_session::live::answer_lines;
+use script_session::runner::Runner;
 use script_session::session::answer_whole;
 use session_notes::explained::{Crew, Explain, Explained};
 use session_notes::notes::Notes;
@@ -39,6 +40,21 @@ use std::sync::Wait;
 use std::thread::Threads;
 use threaded_driver::NoGate;
 use view_pool::View;
+
+/// What a report goes by: the runtime, where memory is from, and the options of its line.
+#[derive(Clone, Copy)]
+pub struct Setting<'a, T> {
+    pub rt: &'a T,
+    pub alloc: Global,
+    pub options: Options<'a>,
+}
+
+/// Who is told of a session beside its answers: the writer of counts, and who explains.
+#[derive(Drop)]
+pub struct Told<E: Write + Drop, X: Explain + Drop> {
+    pub errors: E,
+    pub explain: X,
+}
 
 /// How the program ends after its report: with status 0, or an error's text on standard error and its status; a text that
 /// the line asks for is on standard output. That a text can't be written changes nothing.
@@ -125,20 +141,22 @@ fn report_by<V: View, M: Fn(Sort, Kind) -> Result<V, AllocError>, X: Explain + D
     let Ok(mut writer) = BufWriter::new(alloc, io::writer(rt)) else {
         return Err(no_memory());
     };
-    report_on(
+    let files = ReportFiles {
         rt,
-        alloc,
-        options,
+        program: options.program,
+        tables: options.tables,
+    };
+    let told = Told {
+        errors: StandardError { rt },
+        explain,
+    };
+    report_on(
+        &Setting { rt, alloc, options },
         make,
-        &ReportFiles {
-            rt,
-            program: options.program,
-            tables: options.tables,
-        },
+        &files,
         &mut reader,
         &mut writer,
-        StandardError { rt },
-        explain,
+        told,
         &mut Failures::none(),
     )
 }
@@ -156,37 +174,35 @@ pub fn report_on<
     W: Write,
     E: Write + Drop,
     X: Explain + Drop,
+    T: Threads + Wait + Sync,
 >(
-    rt: &(impl Threads + Wait + Sync),
-    alloc: Global,
-    options: Options<'_>,
+    setting: &Setting<'_, T>,
     make: &M,
     files: &F,
     reader: &mut R,
     writer: &mut W,
-    errors: E,
-    explain: X,
+    told: Told<E, X>,
     failures: &mut Failures,
 ) -> Result<(), ProgramError>
     requires callable { M.IsAlwaysCallable make.now }
-    requires workers { (0 < options.workers) × (options.workers ≤ 16) }
-    ensures answered { OnOk result (IsReportedOver (F.held files.now) options.entry
+    requires workers { (0 < setting.now.options.workers) × (setting.now.options.workers ≤ 16) }
+    ensures answered { OnOk result (IsReportedOver (F.held files.now) setting.now.options
         (R.remaining reader.old) (W.contents writer.old) (W.contents writer.new)) }
     ensures over { OnOk result (IsAtEnd (R.remaining reader.new)) }
-    ensures unopened { IfErr result (IsUnopened (F.held files.now) options.entry) }
-    ensures beginning { IsBegunOver (F.held files.now) options.entry
+    ensures unopened { IfErr result (IsUnopened (F.held files.now) setting.now.options) }
+    ensures beginning { IsBegunOver (F.held files.now) setting.now.options
         (R.remaining reader.old) (W.contents writer.old) (W.contents writer.new) }
     ensures unbegun { IfErr result (λ e. ReadsNothing e
         → Keeps (W.contents writer.old) (W.contents writer.new)) }
-    ensures unwritten { options.entry.live ≡ false → IfErr result (λ e. WritesNothing e
+    ensures unwritten { setting.now.options.live ≡ false → IfErr result (λ e. WritesNothing e
         → Keeps (W.contents writer.old) (W.contents writer.new)) }
-    ensures read { options.entry.live ≡ true
+    ensures read { setting.now.options.live ≡ true
         → result ≡ Err (ProgramError.Session SessionError.Read)
-        → IsReadOver (F.held files.now) options.entry (R.remaining reader.old)
+        → IsReadOver (F.held files.now) setting.now.options (R.remaining reader.old)
         (R.remaining reader.new) (W.contents writer.old) (W.contents writer.new) }
     ensures unread { IfErr result (λ e. ReadsNothing e
         → Keeps (R.remaining reader.old) (R.remaining reader.new)) }
-    ensures kits { 0 < options.entry.kits
+    ensures kits { 0 < setting.now.options.kits
         → result ≢ Err (ProgramError.Session SessionError.NoKit) }
     ensures mismatch { IfErr result ReportsRefusal }
     ensures input { result ≡ Err (ProgramError.Session SessionError.Read)
@@ -197,57 +213,51 @@ pub fn report_on<
     ensures input_stays { result ≢ Err (ProgramError.Session SessionError.Read)
         → failures.new.input ≡ failures.old.input }
 {
-    let mut session = session_of(alloc, options, make, files)?;
-    let reported = report_in(
-        rt,
-        alloc,
-        options,
-        &mut session,
-        files,
-        reader,
-        writer,
-        errors,
-        explain,
-        failures,
-    );
+    let mut session = session_of(setting.alloc, setting.options, make, files)?;
+    let reported = report_in(setting, &mut session, files, reader, writer, told, failures);
     session.end();
     reported
 }
 
 // The same of a session that is only lent, so that who owns it does nothing else.
-fn report_in<V: View, F: FileSource, R: Read, W: Write, E: Write + Drop, X: Explain + Drop>(
-    rt: &(impl Threads + Wait + Sync),
-    alloc: Global,
-    options: Options<'_>,
+fn report_in<
+    V: View,
+    F: FileSource,
+    R: Read,
+    W: Write,
+    E: Write + Drop,
+    X: Explain + Drop,
+    T: Threads + Wait + Sync,
+>(
+    setting: &Setting<'_, T>,
     session: &mut Session<V>,
     files: &F,
     reader: &mut R,
     writer: &mut W,
-    errors: E,
-    explain: X,
+    told: Told<E, X>,
     failures: &mut Failures,
 ) -> Result<(), ProgramError>
-    requires workers { (0 < options.workers) × (options.workers ≤ 16) }
-    requires opened { IsOpened (F.held files.now) options session.old.checked session.old.tables.tables }
+    requires workers { (0 < setting.now.options.workers) × (setting.now.options.workers ≤ 16) }
+    requires opened { IsOpened (F.held files.now) setting.now.options session.old.checked session.old.tables.tables }
     requires unedited { session.old.tables.edits ≡ 0 }
-    requires count { length session.old.kits.kits ≡ options.kits }
-    ensures answered { OnOk result (IsReportedOver (F.held files.now) options.entry
+    requires count { length session.old.kits.kits ≡ setting.now.options.kits }
+    ensures answered { OnOk result (IsReportedOver (F.held files.now) setting.now.options
         (R.remaining reader.old) (W.contents writer.old) (W.contents writer.new)) }
     ensures over { OnOk result (IsAtEnd (R.remaining reader.new)) }
-    ensures unopened { IfErr result (IsUnopened (F.held files.now) options.entry) }
-    ensures beginning { IsBegunOver (F.held files.now) options.entry
+    ensures unopened { IfErr result (IsUnopened (F.held files.now) setting.now.options) }
+    ensures beginning { IsBegunOver (F.held files.now) setting.now.options
         (R.remaining reader.old) (W.contents writer.old) (W.contents writer.new) }
     ensures unbegun { IfErr result (λ e. ReadsNothing e
         → Keeps (W.contents writer.old) (W.contents writer.new)) }
-    ensures unwritten { options.entry.live ≡ false → IfErr result (λ e. WritesNothing e
+    ensures unwritten { setting.now.options.live ≡ false → IfErr result (λ e. WritesNothing e
         → Keeps (W.contents writer.old) (W.contents writer.new)) }
-    ensures read { options.entry.live ≡ true
+    ensures read { setting.now.options.live ≡ true
         → result ≡ Err (ProgramError.Session SessionError.Read)
-        → IsReadOver (F.held files.now) options.entry (R.remaining reader.old)
+        → IsReadOver (F.held files.now) setting.now.options (R.remaining reader.old)
         (R.remaining reader.new) (W.contents writer.old) (W.contents writer.new) }
     ensures unread { IfErr result (λ e. ReadsNothing e
         → Keeps (R.remaining reader.old) (R.remaining reader.new)) }
-    ensures kits { 0 < options.entry.kits
+    ensures kits { 0 < setting.now.options.kits
         → result ≢ Err (ProgramError.Session SessionError.NoKit) }
     ensures mismatch { IfErr result ReportsRefusal }
     ensures input { result ≡ Err (ProgramError.Session SessionError.Read)
@@ -258,12 +268,17 @@ fn report_in<V: View, F: FileSource, R: Read, W: Write, E: Write + Drop, X: Expl
     ensures input_stays { result ≢ Err (ProgramError.Session SessionError.Read)
         → failures.new.input ≡ failures.old.input }
 {
-    let mut notes = notes_of(alloc, options, files, errors, explain)?;
-    match answered(
+    let Setting { rt, alloc, options } = *setting;
+    let mut notes = notes_of(alloc, options, files, told)?;
+    let runner = Runner {
         rt,
         alloc,
+        workers: options.workers,
+        gate: &NoGate,
+    };
+    match answered(
+        &runner,
         session,
-        options.workers,
         options.live,
         &mut notes,
         reader,
@@ -276,18 +291,16 @@ fn report_in<V: View, F: FileSource, R: Read, W: Write, E: Write + Drop, X: Expl
 }
 
 // Answers the script that the reader has: as its lines come in a live session, otherwise once it is read.
-fn answered<V: View, N: Notes, R: Read, W: Write>(
-    rt: &(impl Threads + Wait + Sync),
-    alloc: Global,
+fn answered<V: View, N: Notes, R: Read, W: Write, T: Threads + Wait + Sync>(
+    runner: &Runner<'_, T, NoGate>,
     session: &mut Session<V>,
-    workers: usize,
     live: bool,
     notes: &mut N,
     reader: &mut R,
     writer: &mut W,
     failures: &mut Failures,
 ) -> Result<(), SessionError>
-    requires workers { (0 < workers) × (workers ≤ 16) }
+    requires workers { (0 < runner.now.workers) × (runner.now.workers ≤ 16) }
     ensures answered { OnOk result (WritesAll (answers_of session.old)
         (R.remaining reader.old) (W.contents writer.old) (W.contents writer.new)) }
     ensures over { OnOk result (IsAtEnd (R.remaining reader.new)) }
@@ -307,13 +320,9 @@ fn answered<V: View, N: Notes, R: Read, W: Write>(
         → failures.new.input ≡ failures.old.input }
 {
     if live {
-        return answer_lines(
-            rt, alloc, session, workers, notes, &NoGate, reader, writer, failures,
-        );
+        return answer_lines(runner, session, notes, reader, writer, failures);
     }
-    answer_whole(
-        rt, alloc, session, workers, notes, &NoGate, reader, writer, failures,
-    )
+    answer_whole(runner, session, notes, reader, writer, failures)
 }
 
 // The session of a program's file and a tables' file.
@@ -365,8 +374,7 @@ fn notes_of<F: FileSource, E: Write + Drop, X: Explain + Drop>(
     alloc: Global,
     options: Options<'_>,
     files: &F,
-    errors: E,
-    explain: X,
+    told: Told<E, X>,
 ) -> Result<Explained<RunNotes<F::Made, E>, X>, ProgramError>
     ensures unmade { IfErr result (IsUnmade (option_map (λ t. t.now) options.entry.trace)) }
     ensures kits { result ≢ Err (ProgramError.Session SessionError.NoKit) }
@@ -374,6 +382,7 @@ fn notes_of<F: FileSource, E: Write + Drop, X: Explain + Drop>(
     ensures input { result ≢ Err (ProgramError.Session SessionError.Read) }
     ensures output { result ≢ Err (ProgramError.Session SessionError.Write) }
 {
+    let Told { errors, explain } = told;
     match run_notes_of(alloc, options, files, errors) {
         Ok(notes) => Ok(Explained {
             notes,

@@ -2,7 +2,7 @@
 // trace finds no room, or isn't flushed.
 use crate::running::prepare_error;
 use cli::files::FileSource;
-use cli::program::report_on;
+use cli::program::{Setting, Told, report_on};
 use cli::sorts::Sort;
 use command_line::line::options;
 use command_line::options::{Options, OptionsError, Views};
@@ -135,10 +135,22 @@ fn reported(
     };
     let mut reader = script;
     let (answers, trace, counts) = (Cell::new(EMPTY), Cell::new(EMPTY), Cell::new(EMPTY));
-    let ended = report_on(
+    let setting = Setting {
         rt,
         alloc,
-        ASKED,
+        options: ASKED,
+    };
+    let counts_pen = Pen {
+        page: &counts,
+        room: 128,
+        flushes: true,
+    };
+    let told = Told {
+        errors: counts_pen,
+        explain: Explainer::new(alloc, io::sink()),
+    };
+    let ended = report_on(
+        &setting,
         &make,
         &Program {
             text,
@@ -152,12 +164,7 @@ fn reported(
             room: 128,
             flushes: true,
         },
-        Pen {
-            page: &counts,
-            room: 128,
-            flushes: true,
-        },
-        Explainer::new(alloc, io::sink()),
+        told,
         &mut Failures::none(),
     );
     let status = match ended {

@@ -2,6 +2,7 @@
 use cli::beginning::begin;
 use cli::live::live_text;
 use cli::notes::NoNotes;
+use cli::runner::Runner;
 use cli::session::session_text;
 use cli::sorts::Sort;
 use command_line::options::Views;
@@ -36,9 +37,13 @@ pub fn ended<R: Read, W: Write>(
     failures: &mut Failures,
 ) -> Result<(), SessionError> {
     let notes = &mut NoNotes;
-    session_text(
-        rt, alloc, session, 1, notes, &NoGate, reader, writer, failures,
-    )
+    let runner = Runner {
+        rt,
+        alloc,
+        workers: 1,
+        gate: &NoGate,
+    };
+    session_text(&runner, session, notes, reader, writer, failures)
 }
 
 // What a live session ends by over these streams.
@@ -51,9 +56,13 @@ pub fn ended_live<R: Read, W: Write>(
     failures: &mut Failures,
 ) -> Result<(), SessionError> {
     let notes = &mut NoNotes;
-    live_text(
-        rt, alloc, session, 1, notes, &NoGate, reader, writer, failures,
-    )
+    let runner = Runner {
+        rt,
+        alloc,
+        workers: 1,
+        gate: &NoGate,
+    };
+    live_text(&runner, session, notes, reader, writer, failures)
 }
 
 // Why a program isn't prepared.

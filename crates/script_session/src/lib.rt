@@ -2,4 +2,5 @@
 #![tactic(auto)]
 
 pub mod live;
+pub mod runner;
 pub mod session;

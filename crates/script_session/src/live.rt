@@ -10,6 +10,7 @@ ghost use Rattle.script_session.specs.Coming.{answer_to, runs_behind, session_so
 ghost use Rattle.program_endings.specs.Endings.{CarriesRefusal};
 ghost use Rattle.program_endings.specs.Written.{HasBeginning, WritesAll, WritesBeginning, WritesRead};
 
+use crate::runner::Runner;
 use crate::session::answer_written;
 use kept_session::Session;
 use program_endings::session_error::SessionError;
@@ -25,22 +26,26 @@ use std::thread::Threads;
 use threaded_driver::Gate;
 use view_pool::View;
 
+/// A script as far as its lines have come, and how many runs there were in it.
+#[derive(Drop)]
+pub struct LiveScript {
+    pub script: OpenScript,
+    pub runs: usize,
+}
+
 /// Answers the script that a reader has as its lines come: each command is done as soon as its last line is read, and its answer
 /// is written and flushed before a byte of the next line is read. What is answered, by whom it is noted, and what ends it early is
 /// as of `session_text`, but for two things: after a failed read the answers to the commands that came whole are written, and
 /// 2^64 - 2 lines without an end count as a failed read. Of lines that are done nothing is kept.
-pub fn live_text<V: View, N: Notes, R: Read, W: Write>(
-    rt: &(impl Threads + Wait + Sync),
-    alloc: Global,
+pub fn live_text<V: View, N: Notes, R: Read, W: Write, T: Threads + Wait + Sync, G: Gate>(
+    runner: &Runner<'_, T, G>,
     session: Session<V>,
-    workers: usize,
     notes: &mut N,
-    gate: &impl Gate,
     reader: &mut R,
     writer: &mut W,
     failures: &mut Failures,
 ) -> Result<(), SessionError>
-    requires workers { (0 < workers) × (workers ≤ 16) }
+    requires workers { (0 < runner.now.workers) × (runner.now.workers ≤ 16) }
     ensures answered { OnOk result (WritesAll (answers_of session)
         (R.remaining reader.old) (W.contents writer.old) (W.contents writer.new)) }
     ensures over { OnOk result (IsAtEnd (R.remaining reader.new)) }
@@ -64,34 +69,21 @@ pub fn live_text<V: View, N: Notes, R: Read, W: Write>(
         → N.failed notes.new ≡ N.failed notes.old }
 {
     let mut session = session;
-    let answered = answer_lines(
-        rt,
-        alloc,
-        &mut session,
-        workers,
-        notes,
-        gate,
-        reader,
-        writer,
-        failures,
-    );
+    let answered = answer_lines(runner, &mut session, notes, reader, writer, failures);
     session.end();
     answered
 }
 
 /// Does what `live_text` does in a session that is only lent: who owns it goes on with it, or ends it.
-pub fn answer_lines<V: View, N: Notes, R: Read, W: Write>(
-    rt: &(impl Threads + Wait + Sync),
-    alloc: Global,
+pub fn answer_lines<V: View, N: Notes, R: Read, W: Write, T: Threads + Wait + Sync, G: Gate>(
+    runner: &Runner<'_, T, G>,
     session: &mut Session<V>,
-    workers: usize,
     notes: &mut N,
-    gate: &impl Gate,
     reader: &mut R,
     writer: &mut W,
     failures: &mut Failures,
 ) -> Result<(), SessionError>
-    requires workers { (0 < workers) × (workers ≤ 16) }
+    requires workers { (0 < runner.now.workers) × (runner.now.workers ≤ 16) }
     ensures answered { OnOk result (WritesAll (answers_of session.old)
         (R.remaining reader.old) (W.contents writer.old) (W.contents writer.new)) }
     ensures over { OnOk result (IsAtEnd (R.remaining reader.new)) }
@@ -114,59 +106,49 @@ pub fn answer_lines<V: View, N: Notes, R: Read, W: Write>(
     ensures notes_stay { result ≢ Err SessionError.Notes
         → N.failed notes.new ≡ N.failed notes.old }
 {
-    let mut script = OpenScript::new(alloc);
-    let mut line = Vec::new(alloc);
-    let mut runs = 0;
+    let script = OpenScript::new(runner.alloc);
+    let mut so_far = LiveScript { script, runs: 0 };
+    let mut line = Vec::new(runner.alloc);
     for _ in 0..u64::MAX - 1 {
         let ended = read_line(reader, &mut line, failures)?;
-        runs = answer_line(
-            rt,
-            alloc,
+        answer_line(
+            runner,
             session,
-            workers,
             notes,
-            gate,
-            &mut script,
-            runs,
+            &mut so_far,
             line.as_slice(),
             writer,
             failures,
         )?;
         if !ended {
-            return answer_rest(
-                rt, alloc, session, workers, notes, gate, &script, runs, writer, failures,
-            );
+            return answer_rest(runner, session, notes, &so_far, writer, failures);
         }
     }
     Err(failures.of_input())
 }
 
-/// Answers the command that the next line of a script ends, if it ends one, after so many runs: its answer is written and flushed.
-/// Gives the number of runs after it. It ends as `session_text` where it can't be answered, and the script is lost then.
-pub fn answer_line<V: View, N: Notes, W: Write>(
-    rt: &(impl Threads + Wait + Sync),
-    alloc: Global,
+/// Answers the command that the next line of a script ends, if it ends one: its answer is written and flushed. It ends as
+/// `session_text` where it can't be answered, and the script is lost then.
+pub fn answer_line<V: View, N: Notes, W: Write, T: Threads + Wait + Sync, G: Gate>(
+    runner: &Runner<'_, T, G>,
     session: &mut Session<V>,
-    workers: usize,
     notes: &mut N,
-    gate: &impl Gate,
-    script: &mut OpenScript,
-    runs: usize,
+    so_far: &mut LiveScript,
     line: &[u8],
     writer: &mut W,
     failures: &mut Failures,
-) -> Result<usize, SessionError>
-    requires room { script.old.passed + 1 < 2 ^ 64 }
-    requires few { runs + 1 < 2 ^ 64 }
-    requires workers { (0 < workers) × (workers ≤ 16) }
+) -> Result<(), SessionError>
+    requires room { so_far.old.script.passed + 1 < 2 ^ 64 }
+    requires few { so_far.old.runs + 1 < 2 ^ 64 }
+    requires workers { (0 < runner.now.workers) × (runner.now.workers ≤ 16) }
     ensures written { OnOk result (Appends (W.contents writer.old) (W.contents writer.new)
-        (answer_to (standing_of session.old) runs (command_by script.old line.now))) }
+        (answer_to (standing_of session.old) so_far.old.runs (command_by so_far.old.script line.now))) }
     ensures beginning { HasBeginning (W.contents writer.old) (W.contents writer.new)
-        (answer_to (standing_of session.old) runs (command_by script.old line.now)) }
+        (answer_to (standing_of session.old) so_far.old.runs (command_by so_far.old.script line.now)) }
     ensures after { OnOk result (standing_of session.new
-        ≡ standing_behind (standing_of session.old) (command_by script.old line.now)) }
-    ensures runs { IfOk result (λ n. n ≡ runs_behind runs (command_by script.old line.now)) }
-    ensures taken { OnOk result (script.new ≡ with_line script.old line.now) }
+        ≡ standing_behind (standing_of session.old) (command_by so_far.old.script line.now)) }
+    ensures runs { OnOk result (so_far.new.runs ≡ runs_behind so_far.old.runs (command_by so_far.old.script line.now)) }
+    ensures taken { OnOk result (so_far.new.script ≡ with_line so_far.old.script line.now) }
     ensures read { OnErr result (result ≢ Err SessionError.Read) }
     ensures mismatch { IfErr result CarriesRefusal }
     ensures no_kit { result ≡ Err SessionError.NoKit → session.old.kits.kits ≡ [] }
@@ -179,40 +161,50 @@ pub fn answer_line<V: View, N: Notes, W: Write>(
     ensures notes_stay { result ≢ Err SessionError.Notes
         → N.failed notes.new ≡ N.failed notes.old }
 {
-    match script.take_line(line) {
+    match so_far.script.take_line(line) {
         Err(_) => Err(SessionError::NoMemory),
-        Ok(Found::Nothing) => Ok(runs),
-        Ok(Found::Command(command)) => answer_now(
-            rt, alloc, session, workers, notes, gate, runs, &command, writer, failures,
-        ),
+        Ok(Found::Nothing) => Ok(()),
+        Ok(Found::Command(command)) => {
+            answer_now(
+                runner,
+                session,
+                notes,
+                &mut so_far.runs,
+                &command,
+                writer,
+                failures,
+            )
+        }
         Ok(Found::Define(text)) => {
             let command = Command::Change(Edit::Define(text.as_slice()));
             answer_now(
-                rt, alloc, session, workers, notes, gate, runs, &command, writer, failures,
+                runner,
+                session,
+                notes,
+                &mut so_far.runs,
+                &command,
+                writer,
+                failures,
             )
         }
     }
 }
 
 // Answers the command that is left where no line comes any more, if there is one.
-fn answer_rest<V: View, N: Notes, W: Write>(
-    rt: &(impl Threads + Wait + Sync),
-    alloc: Global,
+fn answer_rest<V: View, N: Notes, W: Write, T: Threads + Wait + Sync, G: Gate>(
+    runner: &Runner<'_, T, G>,
     session: &mut Session<V>,
-    workers: usize,
     notes: &mut N,
-    gate: &impl Gate,
-    script: &OpenScript,
-    runs: usize,
+    so_far: &LiveScript,
     writer: &mut W,
     failures: &mut Failures,
 ) -> Result<(), SessionError>
-    requires few { runs + 1 < 2 ^ 64 }
-    requires workers { (0 < workers) × (workers ≤ 16) }
+    requires few { so_far.now.runs + 1 < 2 ^ 64 }
+    requires workers { (0 < runner.now.workers) × (runner.now.workers ≤ 16) }
     ensures written { OnOk result (Appends (W.contents writer.old) (W.contents writer.new)
-        (answer_to (standing_of session.old) runs (command_left script.now))) }
+        (answer_to (standing_of session.old) so_far.now.runs (command_left so_far.now.script))) }
     ensures beginning { HasBeginning (W.contents writer.old) (W.contents writer.new)
-        (answer_to (standing_of session.old) runs (command_left script.now)) }
+        (answer_to (standing_of session.old) so_far.now.runs (command_left so_far.now.script)) }
     ensures read { OnErr result (result ≢ Err SessionError.Read) }
     ensures mismatch { IfErr result CarriesRefusal }
     ensures no_kit { result ≡ Err SessionError.NoKit → session.old.kits.kits ≡ [] }
@@ -224,39 +216,36 @@ fn answer_rest<V: View, N: Notes, W: Write>(
     ensures notes_stay { result ≢ Err SessionError.Notes
         → N.failed notes.new ≡ N.failed notes.old }
 {
-    match script.rest() {
+    match so_far.script.rest() {
         None => Ok(()),
-        Some(command) => match answer_now(
-            rt, alloc, session, workers, notes, gate, runs, &command, writer, failures,
-        ) {
-            Ok(_) => Ok(()),
-            Err(error) => Err(error),
-        },
+        Some(command) => {
+            let mut runs = so_far.runs;
+            answer_now(
+                runner, session, notes, &mut runs, &command, writer, failures,
+            )
+        }
     }
 }
 
-// Writes the answer to a command after so many runs, flushes it, and gives the number of runs after it.
-fn answer_now<V: View, N: Notes, W: Write>(
-    rt: &(impl Threads + Wait + Sync),
-    alloc: Global,
+// Writes the answer to a command after so many runs, flushes it, and counts its run.
+fn answer_now<V: View, N: Notes, W: Write, T: Threads + Wait + Sync, G: Gate>(
+    runner: &Runner<'_, T, G>,
     session: &mut Session<V>,
-    workers: usize,
     notes: &mut N,
-    gate: &impl Gate,
-    runs: usize,
+    runs: &mut usize,
     command: &Command<'_>,
     writer: &mut W,
     failures: &mut Failures,
-) -> Result<usize, SessionError>
-    requires few { runs + 1 < 2 ^ 64 }
-    requires workers { (0 < workers) × (workers ≤ 16) }
+) -> Result<(), SessionError>
+    requires few { runs.old + 1 < 2 ^ 64 }
+    requires workers { (0 < runner.now.workers) × (runner.now.workers ≤ 16) }
     ensures written { OnOk result (Appends (W.contents writer.old) (W.contents writer.new)
-        (answer_text (standing_of session.old) runs (said command.now))) }
+        (answer_text (standing_of session.old) runs.old (said command.now))) }
     ensures beginning { HasBeginning (W.contents writer.old) (W.contents writer.new)
-        (answer_text (standing_of session.old) runs (said command.now)) }
+        (answer_text (standing_of session.old) runs.old (said command.now)) }
     ensures after { OnOk result (standing_of session.new
         ≡ standing_after (standing_of session.old) (said command.now)) }
-    ensures runs { IfOk result (λ n. n ≡ runs_after runs (said command.now)) }
+    ensures runs { OnOk result (runs.new ≡ runs_after runs.old (said command.now)) }
     ensures read { OnErr result (result ≢ Err SessionError.Read) }
     ensures mismatch { IfErr result CarriesRefusal }
     ensures no_kit { result ≡ Err SessionError.NoKit → session.old.kits.kits ≡ [] }
@@ -269,11 +258,8 @@ fn answer_now<V: View, N: Notes, W: Write>(
     ensures notes_stay { result ≢ Err SessionError.Notes
         → N.failed notes.new ≡ N.failed notes.old }
 {
-    let answered = answer_written(
-        rt, alloc, session, workers, notes, gate, runs, command, writer, failures,
-    );
+    let answered = answer_written(runner, session, notes, *runs, command, writer, failures);
     let flushed = flush(writer, failures);
-    let runs = answered?;
-    flushed?;
-    Ok(runs)
+    *runs = answered?;
+    flushed
 }

@@ -13,6 +13,7 @@ ghost use Rattle.session_runs.specs.Runs.{IsFromScratch};
 ghost use Rattle.program_endings.specs.Endings.{CarriesRefusal, IsAnswerError, IsRunError, IsWriterError};
 ghost use Rattle.program_endings.specs.Written.{HasBeginning, WritesAll, WritesBeginning};
 
+use crate::runner::Runner;
 use frames::answer::RunAnswer;
 use input_tables::Tables;
 use kept_session::{ApplyError, Session};
@@ -34,25 +35,21 @@ use trace_report::answers::{answer_text, push_unknown};
 use trace_report::edits::{push_accepted, push_edit_refusal};
 use view_pool::View;
 
-/// Answers the script that a reader has, all of it read before anything runs. Each run is by that many threads, 1 to 16,
-/// which the gate watches; the notes are told of each that comes to a result or a fault, and of what is refused. It ends early where memory is
-/// refused, no kit is free, a run's list of strands refuses a worker, a run can't be noted, or a read, a write or a flush
-/// fails; a failed read leaves the writer as it was. It is noted which streams failed: a
-/// failed read is answered where the reader is noted, and nowhere else is the reader noted; a failed write is answered
-/// where the writer is noted. The writer is noted besides where its flush fails after another error has ended the session,
-/// and that error is answered.
-pub fn session_text<V: View, N: Notes, R: Read, W: Write>(
-    rt: &(impl Threads + Wait + Sync),
-    alloc: Global,
+/// Answers the script that a reader has, all of it read before anything runs. Each run is by as many threads as the runner has,
+/// 1 to 16, which its gate watches; the notes are told of each that comes to a result or a fault, and of what is refused. It ends
+/// early where memory is refused, no kit is free, a run's list of strands refuses a worker, a run can't be noted, or a read, a
+/// write or a flush fails; a failed read leaves the writer as it was. It is noted which streams failed: a failed read is answered
+/// where the reader is noted, and nowhere else is the reader noted; a failed write is answered where the writer is noted. The
+/// writer is noted besides where its flush fails after another error has ended the session, and that error is answered.
+pub fn session_text<V: View, N: Notes, R: Read, W: Write, T: Threads + Wait + Sync, G: Gate>(
+    runner: &Runner<'_, T, G>,
     session: Session<V>,
-    workers: usize,
     notes: &mut N,
-    gate: &impl Gate,
     reader: &mut R,
     writer: &mut W,
     failures: &mut Failures,
 ) -> Result<(), SessionError>
-    requires workers { (0 < workers) × (workers ≤ 16) }
+    requires workers { (0 < runner.now.workers) × (runner.now.workers ≤ 16) }
     ensures answered { OnOk result (WritesAll (answers_of session)
         (R.remaining reader.old) (W.contents writer.old) (W.contents writer.new)) }
     ensures over { OnOk result (IsAtEnd (R.remaining reader.new)) }
@@ -75,34 +72,21 @@ pub fn session_text<V: View, N: Notes, R: Read, W: Write>(
         → N.failed notes.new ≡ N.failed notes.old }
 {
     let mut session = session;
-    let answered = answer_whole(
-        rt,
-        alloc,
-        &mut session,
-        workers,
-        notes,
-        gate,
-        reader,
-        writer,
-        failures,
-    );
+    let answered = answer_whole(runner, &mut session, notes, reader, writer, failures);
     session.end();
     answered
 }
 
 /// Does what `session_text` does in a session that is only lent: who owns it goes on with it, or ends it.
-pub fn answer_whole<V: View, N: Notes, R: Read, W: Write>(
-    rt: &(impl Threads + Wait + Sync),
-    alloc: Global,
+pub fn answer_whole<V: View, N: Notes, R: Read, W: Write, T: Threads + Wait + Sync, G: Gate>(
+    runner: &Runner<'_, T, G>,
     session: &mut Session<V>,
-    workers: usize,
     notes: &mut N,
-    gate: &impl Gate,
     reader: &mut R,
     writer: &mut W,
     failures: &mut Failures,
 ) -> Result<(), SessionError>
-    requires workers { (0 < workers) × (workers ≤ 16) }
+    requires workers { (0 < runner.now.workers) × (runner.now.workers ≤ 16) }
     ensures answered { OnOk result (WritesAll (answers_of session.old)
         (R.remaining reader.old) (W.contents writer.old) (W.contents writer.new)) }
     ensures over { OnOk result (IsAtEnd (R.remaining reader.new)) }
@@ -124,29 +108,24 @@ pub fn answer_whole<V: View, N: Notes, R: Read, W: Write>(
     ensures notes_stay { result ≢ Err SessionError.Notes
         → N.failed notes.new ≡ N.failed notes.old }
 {
-    let script = read_all(alloc, reader, failures)?;
+    let script = read_all(runner.alloc, reader, failures)?;
     let text = script.as_slice();
-    let answered = answer_script(
-        rt, alloc, session, workers, notes, gate, text, writer, failures,
-    );
+    let answered = answer_script(runner, session, notes, text, writer, failures);
     let flushed = flush(writer, failures);
     answered?;
     flushed
 }
 
 // Writes the answers to a script.
-fn answer_script<V: View, N: Notes, W: Write>(
-    rt: &(impl Threads + Wait + Sync),
-    alloc: Global,
+fn answer_script<V: View, N: Notes, W: Write, T: Threads + Wait + Sync, G: Gate>(
+    runner: &Runner<'_, T, G>,
     session: &mut Session<V>,
-    workers: usize,
     notes: &mut N,
-    gate: &impl Gate,
     script: &[u8],
     writer: &mut W,
     failures: &mut Failures,
 ) -> Result<(), SessionError>
-    requires workers { (0 < workers) × (workers ≤ 16) }
+    requires workers { (0 < runner.now.workers) × (runner.now.workers ≤ 16) }
     ensures written { OnOk result (Appends (W.contents writer.old) (W.contents writer.new)
         (answers_of session.old script.now)) }
     ensures beginning { HasBeginning (W.contents writer.old) (W.contents writer.new)
@@ -161,34 +140,29 @@ fn answer_script<V: View, N: Notes, W: Write>(
     ensures notes_stay { result ≢ Err SessionError.Notes
         → N.failed notes.new ≡ N.failed notes.old }
 {
-    let commands = match commands(alloc, script) {
+    let commands = match commands(runner.alloc, script) {
         Ok(commands) => commands,
         Err(_) => return Err(SessionError::NoMemory),
     };
     let mut runs = 0;
     for command in commands.iter() {
-        runs = answer_written(
-            rt, alloc, session, workers, notes, gate, runs, command, writer, failures,
-        )?;
+        runs = answer_written(runner, session, notes, runs, command, writer, failures)?;
     }
     Ok(())
 }
 
 /// Writes the answer to a command, after so many runs, and gives the number of runs after it.
-pub(crate) fn answer_written<V: View, N: Notes, W: Write>(
-    rt: &(impl Threads + Wait + Sync),
-    alloc: Global,
+pub(crate) fn answer_written<V: View, N: Notes, W: Write, T: Threads + Wait + Sync, G: Gate>(
+    runner: &Runner<'_, T, G>,
     session: &mut Session<V>,
-    workers: usize,
     notes: &mut N,
-    gate: &impl Gate,
     runs: usize,
     command: &Command<'_>,
     writer: &mut W,
     failures: &mut Failures,
 ) -> Result<usize, SessionError>
     requires few { runs + 1 < 2 ^ 64 }
-    requires workers { (0 < workers) × (workers ≤ 16) }
+    requires workers { (0 < runner.now.workers) × (runner.now.workers ≤ 16) }
     ensures written { OnOk result (Appends (W.contents writer.old) (W.contents writer.new)
         (answer_text (standing_of session.old) runs (said command.now))) }
     ensures beginning { HasBeginning (W.contents writer.old) (W.contents writer.new)
@@ -207,28 +181,23 @@ pub(crate) fn answer_written<V: View, N: Notes, W: Write>(
     ensures notes_stay { result ≢ Err SessionError.Notes
         → N.failed notes.new ≡ N.failed notes.old }
 {
-    let mut text = String::new(alloc);
-    let runs = answer(
-        rt, alloc, session, workers, notes, gate, runs, command, &mut text,
-    )?;
+    let mut text = String::new(runner.alloc);
+    let runs = answer(runner, session, notes, runs, command, &mut text)?;
     write_whole(writer, text.as_bytes(), failures)?;
     Ok(runs)
 }
 
 // Puts the answer to a command, after so many runs, at the end of the text, and gives the number of runs after it.
-fn answer<V: View, N: Notes>(
-    rt: &(impl Threads + Wait + Sync),
-    alloc: Global,
+fn answer<V: View, N: Notes, T: Threads + Wait + Sync, G: Gate>(
+    runner: &Runner<'_, T, G>,
     session: &mut Session<V>,
-    workers: usize,
     notes: &mut N,
-    gate: &impl Gate,
     runs: usize,
     command: &Command<'_>,
     text: &mut String,
 ) -> Result<usize, SessionError>
     requires few { runs + 1 < 2 ^ 64 }
-    requires workers { (0 < workers) × (workers ≤ 16) }
+    requires workers { (0 < runner.now.workers) × (runner.now.workers ≤ 16) }
     ensures answered { OnOk result (Extends text.old text.new
         (answer_text (standing_of session.old) runs (said command.now))) }
     ensures after { OnOk result (standing_of session.new
@@ -253,11 +222,11 @@ fn answer<V: View, N: Notes>(
             Ok(runs)
         }
         Command::Change(edit) => {
-            change(alloc, session, notes, edit, text)?;
+            change(runner.alloc, session, notes, edit, text)?;
             Ok(runs)
         }
         Command::Run => {
-            run_once(rt, alloc, session, workers, notes, gate, runs + 1, text)?;
+            run_once(runner, session, notes, runs + 1, text)?;
             Ok(runs + 1)
         }
     }
@@ -291,17 +260,14 @@ fn change<V: View, N: Notes>(
 }
 
 // Runs once, puts the line of the run of that number and what it came to at the end of the text, and tells the notes of it, before and after.
-fn run_once<V: View, N: Notes>(
-    rt: &(impl Threads + Wait + Sync),
-    alloc: Global,
+fn run_once<V: View, N: Notes, T: Threads + Wait + Sync, G: Gate>(
+    runner: &Runner<'_, T, G>,
     session: &mut Session<V>,
-    workers: usize,
     notes: &mut N,
-    gate: &impl Gate,
     number: usize,
     text: &mut String,
 ) -> Result<(), SessionError>
-    requires workers { (0 < workers) × (workers ≤ 16) }
+    requires workers { (0 < runner.now.workers) × (runner.now.workers ≤ 16) }
     ensures answered { OnOk result (Extends text.old text.new
         (run_answer (standing_of session.old) number)) }
     ensures same { standing_of session.new ≡ standing_of session.old }
@@ -315,9 +281,15 @@ fn run_once<V: View, N: Notes>(
 {
     session.kept();
     notes.begin(session.checked(), session.tables(), session.records());
-    let (answer, history) = run_threads(rt, alloc, session, workers, gate)?;
+    let (answer, history) = run_threads(
+        runner.rt,
+        runner.alloc,
+        session,
+        runner.workers,
+        runner.gate,
+    )?;
     tell(
-        alloc,
+        runner.alloc,
         session,
         notes,
         number,

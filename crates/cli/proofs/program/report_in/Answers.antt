@@ -50,11 +50,11 @@ pub returns-in_err-notes-clause-unopened : goal.returns-in_err-notes-clause-unop
 returns-in_err-notes-clause-unopened g c =
     let p = err_from_is_err_and c.from_residual.result c.from_residual.ensures.1 in
     let session = c.args.session.now in
-    rw (p.1, p.2) (unmade_unopened (g.F.FileSource.held c.args.files.now) c.args.options session.checked session.tables.tables _ c.in_err-notes.field-0.0 refl c.in_err-notes.ensures.unmade c.requires.opened)
+    rw (p.1, p.2) (unmade_unopened (g.F.FileSource.held c.args.files.now) c.args.setting.now.options session.checked session.tables.tables _ c.in_err-notes.field-0.0 refl c.in_err-notes.ensures.unmade c.requires.opened)
 
 pub returns-clause-unopened : goal.returns-clause-unopened
 returns-clause-unopened g c =
-    late_unopened (g.F.FileSource.held c.args.files.now) c.args.options c.ended_by.result c.ended_by.ensures.named
+    late_unopened (g.F.FileSource.held c.args.files.now) c.args.setting.now.options c.ended_by.result c.ended_by.ensures.named
 
 pub returns-clause-unread : goal.returns-clause-unread
 returns-clause-unread g c h = absurd (late_read _ c.ended_by.result c.ended_by.ensures.named h)

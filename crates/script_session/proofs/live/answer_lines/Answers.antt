@@ -28,43 +28,43 @@ returns-in_err-ended-clause-input_stays g c other =
 
 -- a line that can't be answered
 
-pub returns-in_err-runs-clause-beginning : goal.returns-in_err-runs-clause-beginning
-returns-in_err-runs-clause-beginning g c =
+pub returns-in_err-answer_line-clause-beginning : goal.returns-in_err-answer_line-clause-beginning
+returns-in_err-answer_line-clause-beginning g c =
     begun_line _ _ _ _ _ _ _ _ c.loop.invariant.answered _ _
     (first_line_read c.in_ok-ended.ended _ _ _ _ c.as_slice.ensures.value c.in_ok-ended.ensures.one c.in_ok-ended.ensures.ended c.in_ok-ended.ensures.last c.in_ok-ended.ensures.over)
-    c.in_err-runs.ensures.beginning
+    c.in_err-answer_line.ensures.beginning
 
-pub returns-in_err-runs-clause-no_kit : goal.returns-in_err-runs-clause-no_kit
-returns-in_err-runs-clause-no_kit g c is =
-    let p = err_from_is_err_and c.from_residual-in_err-runs.result c.from_residual-in_err-runs.ensures.1 in
-    still_none _ _ c.loop.invariant.free (c.in_err-runs.ensures.no_kit (ap Err (same_error c.from_residual-in_err-runs.result c.in_err-runs.field-0.0 p.0 NoKit p.1 p.2 is)))
+pub returns-in_err-answer_line-clause-no_kit : goal.returns-in_err-answer_line-clause-no_kit
+returns-in_err-answer_line-clause-no_kit g c is =
+    let p = err_from_is_err_and c.from_residual-in_err-answer_line.result c.from_residual-in_err-answer_line.ensures.1 in
+    still_none _ _ c.loop.invariant.free (c.in_err-answer_line.ensures.no_kit (ap Err (same_error c.from_residual-in_err-answer_line.result c.in_err-answer_line.field-0.0 p.0 NoKit p.1 p.2 is)))
 
-pub returns-in_err-runs-clause-notes_stay : goal.returns-in_err-runs-clause-notes_stay
-returns-in_err-runs-clause-notes_stay g c other =
-    let p = err_from_is_err_and c.from_residual-in_err-runs.result c.from_residual-in_err-runs.ensures.1 in
-    c.in_err-runs.ensures.notes_stay (no_such_error c.from_residual-in_err-runs.result c.in_err-runs.field-0.0 p.0 Notes p.1 p.2 other _ refl) ∙ c.loop.invariant.noted
+pub returns-in_err-answer_line-clause-notes_stay : goal.returns-in_err-answer_line-clause-notes_stay
+returns-in_err-answer_line-clause-notes_stay g c other =
+    let p = err_from_is_err_and c.from_residual-in_err-answer_line.result c.from_residual-in_err-answer_line.ensures.1 in
+    c.in_err-answer_line.ensures.notes_stay (no_such_error c.from_residual-in_err-answer_line.result c.in_err-answer_line.field-0.0 p.0 Notes p.1 p.2 other _ refl) ∙ c.loop.invariant.noted
 
 -- one more line
 
 pub loop-preserved : goal.loop-preserved
 loop-preserved g c =
-    let passed = ap (λ s. s.passed) c.in_ok-runs.ensures.taken in
+    let passed = ap (λ s. s.passed) c.in_ok-answer_line.ensures.taken in
     record {
       room = omega (arith, passed, c.loop.invariant.room);
-      few = runs_behind-le _ _ _ _ c.in_ok-runs.ensures.runs c.loop.invariant.few;
-      free = c.in_ok-runs.ensures.free ∙ c.loop.invariant.free;
-      unmarked = c.in_ok-runs.ensures.unmarked ∙ c.in_ok-ended.ensures.unmarked (ok_is_none _ _) ∙ c.loop.invariant.unmarked;
-      noted = c.in_ok-runs.ensures.notes_stay (ok_is_none _ _) ∙ c.loop.invariant.noted;
+      few = runs_behind-le _ _ _ _ c.in_ok-answer_line.ensures.runs c.loop.invariant.few;
+      free = c.in_ok-answer_line.ensures.free ∙ c.loop.invariant.free;
+      unmarked = c.in_ok-answer_line.ensures.unmarked ∙ c.in_ok-ended.ensures.unmarked (ok_is_none _ _) ∙ c.loop.invariant.unmarked;
+      noted = c.in_ok-answer_line.ensures.notes_stay (ok_is_none _ _) ∙ c.loop.invariant.noted;
       answered = next_line _ _ _ _ _ _ _ _ c.loop.invariant.answered _ _ _ _ _ _
           (shown_one _ _ c.as_slice.ensures.value c.in_ok-ended.ensures.one) (shown_ended _ _ _ _ c.as_slice.ensures.value (c.in_ok-ended.ensures.ended c.if-not-ended.false))
-          c.in_ok-runs.ensures.written c.in_ok-runs.ensures.after c.in_ok-runs.ensures.runs c.in_ok-runs.ensures.taken;
+          c.in_ok-answer_line.ensures.written c.in_ok-answer_line.ensures.after c.in_ok-answer_line.ensures.runs c.in_ok-answer_line.ensures.taken;
     }
 
 -- the last line
 
 pub answer_rest-requires-clause-few : goal.answer_rest-requires-clause-few
 answer_rest-requires-clause-few g c =
-    let few : c.in_ok-runs.runs ≤ c.loop.counter + 1 = runs_behind-le c.loop.runs c.loop.counter c.in_ok-runs.runs _ c.in_ok-runs.ensures.runs c.loop.invariant.few in omega (arith, few, c.loop-test.true)
+    let few : c.answer_line.new.so_far.runs ≤ c.loop.counter + 1 = runs_behind-le c.loop.so_far.runs c.loop.counter c.answer_line.new.so_far.runs _ c.in_ok-answer_line.ensures.runs c.loop.invariant.few in omega (arith, few, c.loop-test.true)
 
 pub returns-then-not-ended-clause-answered : goal.returns-then-not-ended-clause-answered
 returns-then-not-ended-clause-answered g c =
@@ -72,7 +72,7 @@ returns-then-not-ended-clause-answered g c =
     (all_answered _ _ _ _ _ _ _ _ c.loop.invariant.answered _ _ _ _ _ _
     (shown_one _ _ c.as_slice.ensures.value c.in_ok-ended.ensures.one) (shown_last _ _ _ _ c.as_slice.ensures.value (c.in_ok-ended.ensures.last c.if-not-ended.true))
     (c.in_ok-ended.ensures.over c.if-not-ended.true)
-    c.in_ok-runs.ensures.written c.in_ok-runs.ensures.after c.in_ok-runs.ensures.runs c.in_ok-runs.ensures.taken _)
+    c.in_ok-answer_line.ensures.written c.in_ok-answer_line.ensures.after c.in_ok-answer_line.ensures.runs c.in_ok-answer_line.ensures.taken _)
     c.answer_rest.ensures.written
 
 pub returns-then-not-ended-clause-over : goal.returns-then-not-ended-clause-over
@@ -83,29 +83,29 @@ returns-then-not-ended-clause-beginning g c =
     begun_rest _ _ _ _ _ _ _ _ c.loop.invariant.answered _ _ _ _ _ _
     (shown_one _ _ c.as_slice.ensures.value c.in_ok-ended.ensures.one) (shown_last _ _ _ _ c.as_slice.ensures.value (c.in_ok-ended.ensures.last c.if-not-ended.true))
     (c.in_ok-ended.ensures.over c.if-not-ended.true)
-    c.in_ok-runs.ensures.written c.in_ok-runs.ensures.after c.in_ok-runs.ensures.runs c.in_ok-runs.ensures.taken _ c.answer_rest.ensures.beginning
+    c.in_ok-answer_line.ensures.written c.in_ok-answer_line.ensures.after c.in_ok-answer_line.ensures.runs c.in_ok-answer_line.ensures.taken _ c.answer_rest.ensures.beginning
 
 pub returns-then-not-ended-clause-no_kit : goal.returns-then-not-ended-clause-no_kit
-returns-then-not-ended-clause-no_kit g c is = still_none _ _ (c.in_ok-runs.ensures.free ∙ c.loop.invariant.free) (c.answer_rest.ensures.no_kit is)
+returns-then-not-ended-clause-no_kit g c is = still_none _ _ (c.in_ok-answer_line.ensures.free ∙ c.loop.invariant.free) (c.answer_rest.ensures.no_kit is)
 
 pub returns-then-not-ended-clause-unmarked : goal.returns-then-not-ended-clause-unmarked
 returns-then-not-ended-clause-unmarked g c =
     on_ok c.answer_rest.result _ _
-    (λ e. e ∙ c.in_ok-runs.ensures.unmarked ∙ c.in_ok-ended.ensures.unmarked (ok_is_none _ _) ∙ c.loop.invariant.unmarked)
+    (λ e. e ∙ c.in_ok-answer_line.ensures.unmarked ∙ c.in_ok-ended.ensures.unmarked (ok_is_none _ _) ∙ c.loop.invariant.unmarked)
     c.answer_rest.ensures.unmarked
 
 pub returns-then-not-ended-clause-input_stays : goal.returns-then-not-ended-clause-input_stays
 returns-then-not-ended-clause-input_stays g c other =
     c.answer_rest.ensures.input
-    ∙ ap (λ f. f.input) (c.in_ok-runs.ensures.unmarked ∙ c.in_ok-ended.ensures.unmarked (ok_is_none _ _) ∙ c.loop.invariant.unmarked)
+    ∙ ap (λ f. f.input) (c.in_ok-answer_line.ensures.unmarked ∙ c.in_ok-ended.ensures.unmarked (ok_is_none _ _) ∙ c.loop.invariant.unmarked)
 
 pub returns-then-not-ended-clause-output_stays : goal.returns-then-not-ended-clause-output_stays
 returns-then-not-ended-clause-output_stays g c h =
-    c.answer_rest.ensures.output_stays (ap (λ f. f.output) (c.in_ok-runs.ensures.unmarked ∙ c.in_ok-ended.ensures.unmarked (ok_is_none _ _) ∙ c.loop.invariant.unmarked) ∙ h)
+    c.answer_rest.ensures.output_stays (ap (λ f. f.output) (c.in_ok-answer_line.ensures.unmarked ∙ c.in_ok-ended.ensures.unmarked (ok_is_none _ _) ∙ c.loop.invariant.unmarked) ∙ h)
 
 pub returns-then-not-ended-clause-notes_stay : goal.returns-then-not-ended-clause-notes_stay
 returns-then-not-ended-clause-notes_stay g c other =
-    c.answer_rest.ensures.notes_stay other ∙ c.in_ok-runs.ensures.notes_stay (ok_is_none _ _) ∙ c.loop.invariant.noted
+    c.answer_rest.ensures.notes_stay other ∙ c.in_ok-answer_line.ensures.notes_stay (ok_is_none _ _) ∙ c.loop.invariant.noted
 
 -- too many lines
 
