@@ -1,3 +1,4 @@
+pub mod Counting
 pub mod Crosses
 mod Fitting
 mod Places

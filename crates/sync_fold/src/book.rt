@@ -37,7 +37,7 @@ impl<J: Run, V: View> Model for Book<J, V> {
 }
 
 impl<J: Run, V: View> Book<J, V> {
-    ghost use Rattle.std.specs.Prelude.{◌≡◌, ◌⊎◌, ◌+◌, ◌<◌, ◌≤◌, ◌∷◌, [], suc, true, false, List, length, drop, Some, None, IfSome, IfOk};
+    ghost use Rattle.std.specs.Prelude.{◌≡◌, ◌⊎◌, ◌+◌, ◌^◌, ◌<◌, ◌≤◌, ◌∷◌, [], suc, true, false, List, length, drop, Some, None, IfSome, IfNone, IfOk};
     ghost use Rattle.std.specs.Prelude.{IfErr, OnOk, OnErr, MatchOption};
     ghost use Rattle.monoid_laws.specs.declared.Kind.{Kind};
     ghost use Rattle.meaning.specs.Strands.{Split, Fold, stepped, replayed};
@@ -52,11 +52,13 @@ impl<J: Run, V: View> Book<J, V> {
     ghost use Rattle.sync_fold.specs.Refusals.{HoldsNone, TookHeld, held_refusal, is_apart};
     ghost use Rattle.sync_fold.specs.Books.{IsBook, FirstBecome, FirstStay, FoldsAny, FoldsFirst, PlacesAt, first_fold, touch, BecomeOne};
     ghost use Rattle.sync_fold.specs.Books.{KeepsStrands, begins_at, lay_refusal, is_ended, fold_refusal};
+    ghost use Rattle.sync_fold.specs.Counts.{HoldsMore, LaysDown, TakesUp, held_among, kits_laid};
 
     /// The first strand, held by worker 0, with no history.
     pub fn start(alloc: Global) -> Result<Book<J, V>, AllocError>
         ensures first { IfOk result (λ b. b.chronicle ≡ first_chronicle) }
         ensures going { IfOk result (λ b. is_ended b ≡ false) }
+        ensures none { IfOk result (λ b. (held_among b.laid ≡ 1) × (kits_laid b.laid ≡ 0)) }
     {
         let mut laid = Vec::new(alloc);
         laid.push(Laid::Nothing)?;
@@ -71,6 +73,14 @@ impl<J: Run, V: View> Book<J, V> {
         ensures kept { IsBook self.now.chronicle self.now.laid }
     {
         let _ = &self.laid;
+    }
+
+    /// How many strands workers hold: as many as a list is long at most, and none where the run is at its end.
+    pub fn counted(&self)
+        ensures few { held_among self.now.laid < 2 ^ 64 }
+        ensures none { is_ended self.now ≡ true → held_among self.now.laid ≡ 0 }
+    {
+        let _ = self.laid.len();
     }
 
     /// The strands in serial order.
@@ -106,6 +116,7 @@ impl<J: Run, V: View> Book<J, V> {
     ) -> Result<(), Refusal>
         ensures taken { OnOk result
             (Took self.old.chronicle (Split victim.now new.now thief) self.new.chronicle) }
+        ensures counted { OnOk result (HoldsMore self.old.laid self.new.laid) }
         ensures refused { IfErr result
             (IsRefusedBy (split_refusal self.old.chronicle.page victim.now new.now thief)) }
         ensures same { OnErr result (self.new ≡ self.old) }
@@ -127,6 +138,7 @@ impl<J: Run, V: View> Book<J, V> {
     ) -> Result<(), Refusal>
         ensures taken { OnOk result
             (TookHeld self.old.chronicle victim new.now thief self.new.chronicle) }
+        ensures counted { OnOk result (HoldsMore self.old.laid self.new.laid) }
         ensures refused { IfErr result
             (IsRefusedBy (held_refusal self.old.chronicle.page victim new.now thief)) }
         ensures near { IfErr result (λ e. is_apart e ≡ false) }
@@ -165,6 +177,7 @@ impl<J: Run, V: View> Book<J, V> {
     ) -> Result<(), BookError>
         ensures taken { OnOk result
             (Took self.old.chronicle (Split victim.now new.now thief) self.new.chronicle) }
+        ensures counted { OnOk result (HoldsMore self.old.laid self.new.laid) }
         ensures refused { IfErr result
             (IsRefusedBy (split_refusal self.old.chronicle.page victim.now new.now thief)) }
         ensures same { OnErr result (self.new ≡ self.old) }
@@ -188,6 +201,7 @@ impl<J: Run, V: View> Book<J, V> {
         requires within { k < length self.old.chronicle.page.lines }
         ensures taken { OnOk result
             (Took self.old.chronicle (Split victim.now new.now thief) self.new.chronicle) }
+        ensures counted { OnOk result (HoldsMore self.old.laid self.new.laid) }
         ensures refused { IfErr result
             (IsRefusedBy (split_refusal self.old.chronicle.page victim.now new.now thief)) }
         ensures same { OnErr result (self.new ≡ self.old) }
@@ -208,6 +222,7 @@ impl<J: Run, V: View> Book<J, V> {
     pub fn lay(&mut self, alloc: Global, piece: Piece<J, V>) -> Result<(), (Refusal, Piece<J, V>)>
         ensures taken { OnOk result
             (Took self.old.chronicle (rest_step piece.rest (begins_at piece)) self.new.chronicle) }
+        ensures counted { OnOk result (LaysDown piece.strand self.old.laid self.new.laid) }
         ensures refused { IfErr result
             (λ e. IsRefusedBy (lay_refusal self.old piece) e.0) }
         ensures near { IfErr result (λ e. is_apart e.0 ≡ false) }
@@ -225,6 +240,7 @@ impl<J: Run, V: View> Book<J, V> {
     fn try_lay(&mut self, alloc: Global, piece: Piece<J, V>) -> Result<(), (BookError, Piece<J, V>)>
         ensures taken { OnOk result
             (Took self.old.chronicle (rest_step piece.rest (begins_at piece)) self.new.chronicle) }
+        ensures counted { OnOk result (LaysDown piece.strand self.old.laid self.new.laid) }
         ensures refused { IfErr result
             (λ e. IsRefusedBy (lay_refusal self.old piece) e.0) }
         ensures same { OnErr result (self.new ≡ self.old) }
@@ -246,6 +262,7 @@ impl<J: Run, V: View> Book<J, V> {
         requires place { place.now ≡ begins_at piece }
         ensures taken { OnOk result
             (Took self.old.chronicle (rest_step piece.rest place.now) self.new.chronicle) }
+        ensures counted { OnOk result (LaysDown piece.strand self.old.laid self.new.laid) }
         ensures refused { IfErr result
             (λ e. IsRefusedBy (rest_refusal self.old.chronicle.page piece.rest place.now) e.0) }
         ensures same { OnErr result (self.new ≡ self.old) }
@@ -290,6 +307,7 @@ impl<J: Run, V: View> Book<J, V> {
             (λ r. BecomeOne self.old left.now r.0.strand) }
         ensures going { IfOk result (λ r. r.0.failed ≡ false) }
         ensures kit { IfOk result (λ r. r.1 ≡ J.setting.kinds) }
+        ensures counted { IfOk result (λ r. TakesUp r.0.strand self.old.laid self.new.laid) }
         ensures refused { IfErr result
             (IsRefusedBy (fold_refusal self.old left.now right.now worker)) }
         ensures same { OnErr result (self.new.chronicle ≡ self.old.chronicle) }
@@ -318,6 +336,7 @@ impl<J: Run, V: View> Book<J, V> {
             (λ r. BecomeOne self.old left.now r.0.strand) }
         ensures going { IfOk result (λ r. r.0.failed ≡ false) }
         ensures kit { IfOk result (λ r. r.1 ≡ J.setting.kinds) }
+        ensures counted { IfOk result (λ r. TakesUp r.0.strand self.old.laid self.new.laid) }
         ensures refused { IfErr result
             (IsRefusedBy (fold_refusal self.old left.now right.now worker)) }
         ensures same { OnErr result (self.new.chronicle ≡ self.old.chronicle) }
@@ -349,6 +368,7 @@ impl<J: Run, V: View> Book<J, V> {
             (λ r. BecomeOne self.old left.now r.0.strand) }
         ensures going { IfOk result (λ r. r.0.failed ≡ false) }
         ensures kit { IfOk result (λ r. r.1 ≡ J.setting.kinds) }
+        ensures counted { IfOk result (λ r. TakesUp r.0.strand self.old.laid self.new.laid) }
         ensures refused { IfErr result
             (IsRefusedBy (unless_allowed (stepped self.old.chronicle.page (Fold left.now right.now worker)))) }
         ensures same { OnErr result (self.new.chronicle ≡ self.old.chronicle) }
@@ -387,6 +407,9 @@ impl<J: Run, V: View> Book<J, V> {
         ensures kept { IfSome result (λ r. IfErr r (λ e. FirstStay self.old e self.new)) }
         ensures going { IfSome result (λ r. IfOk r (λ s. s.0.failed ≡ false)) }
         ensures kit { IfSome result (λ r. IfOk r (λ s. s.1 ≡ J.setting.kinds)) }
+        ensures counted { IfSome result
+            (λ r. IfOk r (λ s. TakesUp s.0.strand self.old.laid self.new.laid)) }
+        ensures none { IfNone result (self.new ≡ self.old) }
         ensures near { IfSome result (λ r. IfErr r (λ e. is_apart e ≡ false)) }
         ensures same { IfSome result (λ r. OnErr r (self.new.chronicle ≡ self.old.chronicle)) }
     {
@@ -410,6 +433,7 @@ impl<J: Run, V: View> Book<J, V> {
         ensures kept { IfErr result (λ e. FirstStay self.old e self.new) }
         ensures going { IfOk result (λ r. r.0.failed ≡ false) }
         ensures kit { IfOk result (λ r. r.1 ≡ J.setting.kinds) }
+        ensures counted { IfOk result (λ r. TakesUp r.0.strand self.old.laid self.new.laid) }
         ensures near { IfErr result (λ e. is_apart e ≡ false) }
         ensures same { OnErr result (self.new.chronicle ≡ self.old.chronicle) }
     {
@@ -449,6 +473,8 @@ impl<J: Run, V: View> Book<J, V> {
         ensures home { (p : PlainPiece) → self.laid ≡ Whole p ∷ []
             → suc (length p.strand.lower) + K.free kits.old ≤ K.total kits.old
             → K.free kits.new ≡ suc (length p.strand.lower) + K.free kits.old }
+        ensures counted { kits_laid self.laid + K.free kits.old ≤ K.total kits.old
+            → K.free kits.new ≡ kits_laid self.laid + K.free kits.old }
         ensures total { K.total kits.new ≡ K.total kits.old }
     {
         let Book { chronicle, laid } = self;

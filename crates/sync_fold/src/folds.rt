@@ -1,6 +1,7 @@
 //! Neighbours that become one strand.
 ghost use Rattle.std.specs.Prelude.{◌≡◌, ◌<◌, ◌+◌, length, drop, false, Some, None, IfOk, OnOk, OnErr, MatchOption};
 ghost use Rattle.strand_list.specs.Pages.{shown};
+ghost use Rattle.sync_fold.specs.Counts.{TakesUp};
 ghost use Rattle.sync_fold.specs.Books.{BeginAsOne, BeginWithPair, IsHalved, PlacesAt, fold_among, folded, folds_here};
 
 use crate::kept::{keep_pair, take_behind, take_two};
@@ -65,6 +66,7 @@ pub(crate) fn fold_kept<J: Run, V: View>(
     ensures going { IfOk result (λ r. r.0.failed ≡ false) }
     ensures kit { IfOk result (λ r. r.1 ≡ J.setting.kinds) }
     ensures folded { OnOk result (laid.new.items ≡ folded k laid.old.items) }
+    ensures counted { IfOk result (λ r. TakesUp r.0.strand laid.old.items laid.new.items) }
     ensures halved { OnErr result (IsHalved k laid.old.items laid.new.items) }
 {
     let (left, right) = take_two(laid, k);

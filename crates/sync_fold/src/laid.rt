@@ -1,6 +1,7 @@
 //! What the book keeps of a line's strand.
 ghost use Rattle.std.specs.Prelude.{◌≡◌, ◌<◌, ◌∷◌, [], length, drop, true, false, IfOk, IfErr};
 ghost use Rattle.sync_fold.specs.Books.{AreOne, ArePair, IsLent, IsMadeOf, IsPairOf, IsWhole, RestsAs, ends_alone, may_be_one, may_touch};
+ghost use Rattle.sync_fold.specs.Counts.{HaveOneMore};
 ghost use Rattle.sync_fold.specs.declared.laid.Laid.TheVariants.{Whole};
 
 use right_strands::laid::{Piece, Rest};
@@ -148,6 +149,7 @@ pub(crate) fn join_up<J: Run, V: View>(
     ensures joined { IfOk result (λ r. AreOne left right r.0.strand) }
     ensures going { IfOk result (λ r. r.0.failed ≡ false) }
     ensures kit { IfOk result (λ r. r.1 ≡ J.setting.kinds) }
+    ensures counted { IfOk result (λ r. HaveOneMore left right r.0.strand) }
     ensures made { IfErr result (λ e. IsMadeOf left right e.0) }
     ensures over { IfErr result (λ e. RestsAs left e.1) }
     ensures waiting { IfErr result (λ e. RestsAs right e.2) }

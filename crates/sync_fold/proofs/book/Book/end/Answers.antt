@@ -2,6 +2,8 @@ use Rattle.std.proofs.Common.{◌≡◌, ◌+◌, ◌≤◌, suc, true, List, le
 use Rattle.numbered_runs.specs.Named.{history as steps_of}
 use Rattle.right_strands.specs.Laid.{PlainPiece}
 use Rattle.sync_fold.specs.Books.{PlainBook, PlainLaid, ends_alone}
+use Rattle.sync_fold.specs.Counts.{kits_laid}
+use Rattle.sync_fold.proofs.Counting.{kits_alone}
 use Rattle.strand_list.specs.Replays.{LeavesRootAlone}
 use Rattle.strand_list.specs.Chronicles.{told}
 use Rattle.sync_fold.proofs.Fitting.{leaves_root_alone}
@@ -30,5 +32,9 @@ returns g c = record {
       let same : c.into_alone.result ≡ p = whole_same c.into_alone.result p c.self.inside.laid.items c.into_alone.ensures.alone (ap (λ (b : PlainBook). b.laid) c.self.view_is ∙ e) in
       subst (λ (q : PlainPiece). suc (length q.strand.lower) + g.K.KitSource.free c.args.kits.now ≤ g.K.KitSource.total c.args.kits.now → g.K.KitSource.free c.end-answer.new.kits ≡ suc (length q.strand.lower) + g.K.KitSource.free c.args.kits.now)
       same c.end-answer.ensures.home h;
+  counted = subst (λ (b : PlainBook). kits_laid b.laid + g.K.KitSource.free c.args.kits.now ≤ g.K.KitSource.total c.args.kits.now → g.K.KitSource.free c.end-answer.new.kits ≡ kits_laid b.laid + g.K.KitSource.free c.args.kits.now)
+      c.self.view_is
+      (subst (λ n. n + g.K.KitSource.free c.args.kits.now ≤ g.K.KitSource.total c.args.kits.now → g.K.KitSource.free c.end-answer.new.kits ≡ n + g.K.KitSource.free c.args.kits.now)
+      (sym (kits_alone c.into_alone.result c.self.inside.laid.items c.into_alone.ensures.alone)) c.end-answer.ensures.home);
   total = c.end-answer.ensures.total;
 }

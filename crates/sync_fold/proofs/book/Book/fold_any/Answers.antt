@@ -25,6 +25,8 @@ returns-in-Some g c = record {
   kept = c.fold_from.ensures.kept;
   going = c.fold_from.ensures.going;
   kit = c.fold_from.ensures.kit;
+  counted = c.fold_from.ensures.counted;
+  none = tt;
   near = c.fold_from.ensures.near;
   same = c.fold_from.ensures.same;
 }
@@ -40,6 +42,8 @@ returns-in-None g c = record {
   kept = tt;
   going = tt;
   kit = tt;
+  counted = tt;
+  none = refl;
   near = tt;
   same = tt;
 }

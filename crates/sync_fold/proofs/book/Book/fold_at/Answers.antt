@@ -3,6 +3,7 @@ use Rattle.meaning.specs.Strands.{Fold, is_free, may_fold, stepped}
 use Rattle.strand_list.specs.Pages.{Apart, position}
 use Rattle.strand_list.specs.Chronicled.{PlainChronicle, IsRefusedBy, Took, unless_allowed}
 use Rattle.sync_fold.specs.Books.{PlainBook, BeginAsOne, BeginWithPair, IsHalved, touch}
+use Rattle.sync_fold.specs.Counts.{TakesUp}
 use Rattle.strand_list.specs.Chronicles.{told}
 use Rattle.sync_fold.proofs.Keeping.{apart_of, same_keeps, fold_keeps, halve_keeps, pair_there, pair_long, touch_missing, kept_same, book_of}
 use Rattle.sync_fold.proofs.book.Book.fold_at.Goals as goal
@@ -48,6 +49,7 @@ returns-in-Ok-fold_kept g c = record {
       (subst (λ k. BeginAsOne (drop k c.self.inside.laid.items) c.in-Ok-fold_kept.joined.0.strand) c.in-Some.ensures.0 c.in-Ok-fold_kept.ensures.joined);
   going = c.in-Ok-fold_kept.ensures.going;
   kit = c.in-Ok-fold_kept.ensures.kit;
+  counted = subst (λ (b : PlainBook). TakesUp c.in-Ok-fold_kept.joined.0.strand b.laid c.fold_kept.new.laid.items) c.self.view_is c.in-Ok-fold_kept.ensures.counted;
   refused = tt;
   same = tt;
   kept = tt;
@@ -59,6 +61,7 @@ returns-in-Err-fold_kept g c = record {
   joined = tt;
   going = tt;
   kit = tt;
+  counted = tt;
   refused = tt;
   same = c.prepare_fold.ensures.same ∙ ap (λ (b : PlainBook). b.chronicle) c.self.view_is;
   kept = subst (λ (b : PlainBook). (c.fold_kept.new.laid.items ≡ b.laid) ⊎ IsHalved (position c.args.left.now b.chronicle.page.lines) b.laid c.fold_kept.new.laid.items) c.self.view_is
@@ -71,6 +74,7 @@ returns-in-Err g c = record {
   joined = tt;
   going = tt;
   kit = tt;
+  counted = tt;
   refused = subst (λ (b : PlainBook). IsRefusedBy (unless_allowed (stepped b.chronicle.page (Fold c.args.left.now c.args.right.now c.args.worker))) c.in-Err.error) c.self.view_is c.in-Err.ensures.refused;
   same = c.prepare_fold.ensures.same ∙ ap (λ (b : PlainBook). b.chronicle) c.self.view_is;
   kept = kept_same (position c.args.left.now c.args.self.now.chronicle.page.lines) c.in-Err.error c.args.self.now.laid c.self.inside.laid.items (ap (λ (b : PlainBook). b.laid) c.self.view_is);

@@ -35,6 +35,7 @@ returns-in-Ok g c =
       kept = first_stay b c.fold_pair.new.self c.in-Ok.left.items c.in-Ok.right.items c.deref.result.now first c.deref.ensures.value c.fold_pair.result c.fold_pair.ensures.kept;
       going = c.fold_pair.ensures.going;
       kit = c.fold_pair.ensures.kit;
+      counted = c.fold_pair.ensures.counted;
       near = first_near b c.in-Ok.left.items c.in-Ok.right.items c.args.worker c.fold_pair.result c.kept.ensures.kept first refused;
       same = c.fold_pair.ensures.same;
     }
@@ -61,6 +62,7 @@ returns-in-Err g c =
       };
       going = tt;
       kit = tt;
+      counted = tt;
       near = ap is_apart c.without_memory.ensures.error;
       same = refl;
     }

@@ -14,6 +14,7 @@ returns-in-Err g c = record {
   joined = tt;
   going = tt;
   kit = tt;
+  counted = tt;
   refused = subst (IsRefusedBy (fold_refusal c.args.self.now c.args.left.now c.args.right.now c.args.worker)) (sym c.of.ensures.error) c.in-Err.ensures.refused;
   same = c.in-Err.ensures.same;
   kept = subst (λ e. KeepsStrands c.args.self.now c.args.left.now e c.try_fold_pair.new.self) (sym c.of.ensures.error) c.in-Err.ensures.kept;

@@ -11,6 +11,7 @@ of-requires g c = record { given = given c.args.self.now c.kept.ensures.kept (La
 pub returns-in-Err : goal.returns-in-Err
 returns-in-Err g c = record {
   taken = tt;
+  counted = tt;
   refused = subst (IsRefusedBy (lay_refusal c.args.self.now c.args.piece)) (sym c.of.ensures.error) c.in-Err.ensures.refused;
   near = subst (λ e. is_apart e ≡ false) (sym c.of.ensures.error) (lay_near c.args.self.now c.args.piece c.in-Err.error c.in-Err.ensures.refused);
   same = c.in-Err.ensures.same;

@@ -2,6 +2,8 @@ use Rattle.std.proofs.Common.{◌<◌, refl, ap, sym, ◌∙◌, subst}
 use Rattle.strand_list.specs.Laying.{rest_step}
 use Rattle.strand_list.specs.Chronicled.{PlainChronicle, Took, IsRefusedBy, rest_refusal}
 use Rattle.sync_fold.specs.Books.{PlainBook}
+use Rattle.sync_fold.specs.Counts.{LaysDown}
+use Rattle.sync_fold.proofs.Counting.{lay_counts}
 use Rattle.strand_list.specs.Chronicles.{told}
 use Rattle.strand_list.specs.declared.error.BookError.TheVariants as error
 use Rattle.sync_fold.proofs.Keeping.{apart_of, long_of, same_keeps, lay_keeps, lay_missing, book_of}
@@ -24,6 +26,7 @@ invariant_of-self-in-Err g c = same_keeps (told c.self.inside.chronicle) (told c
 pub returns-in-Err : goal.returns-in-Err
 returns-in-Err g c = record {
   taken = tt;
+  counted = tt;
   refused = subst (λ (b : PlainBook). IsRefusedBy (rest_refusal b.chronicle.page c.args.piece.rest c.args.place.now) c.in-Err.error) c.self.view_is
       (subst (λ r. IsRefusedBy (rest_refusal c.self.inside.chronicle.page r c.args.place.now) c.in-Err.error) c.rest.ensures.rest c.in-Err.ensures.refused);
   same = ap (λ (x : PlainChronicle). book_of x c.self.inside.laid.items) c.in-Err.ensures.same ∙ c.self.view_is;
@@ -34,6 +37,9 @@ pub returns-in-Ok : goal.returns-in-Ok
 returns-in-Ok g c = record {
   taken = subst (λ (b : PlainBook). Took b.chronicle (rest_step c.args.piece.rest c.args.place.now) (told c.lay.new.self)) c.self.view_is
       (subst (λ r. Took (told c.self.inside.chronicle) (rest_step r c.args.place.now) (told c.lay.new.self)) c.rest.ensures.rest c.in-Ok.ensures.taken);
+  counted = subst (λ (b : PlainBook). LaysDown c.args.piece.strand b.laid c.keep.new.laid.items) c.self.view_is
+      (lay_counts (told c.self.inside.chronicle) (told c.lay.new.self) c.self.inside.laid.items c.keep.new.laid.items c.rest.result c.args.place.now c.args.piece c.in-Some.k c.self.invariant c.in-Ok.ensures.taken
+      c.in-Some.ensures.0 c.keep.ensures.kept);
   refused = tt;
   same = tt;
   back = tt;
@@ -42,6 +48,7 @@ returns-in-Ok g c = record {
 pub returns-in-None : goal.returns-in-None
 returns-in-None g c = record {
   taken = tt;
+  counted = tt;
   refused = subst (λ (b : PlainBook). IsRefusedBy (rest_refusal b.chronicle.page c.args.piece.rest c.args.place.now) error.NoStrand) c.self.view_is (lay_missing c.self.inside.chronicle.page c.args.piece.rest c.args.place.now c.in-None.ensures);
   same = refl;
   back = refl;

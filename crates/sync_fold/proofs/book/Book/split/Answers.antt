@@ -10,6 +10,7 @@ of-requires g c = record { given = given c.args.self.now c.kept.ensures.kept (Sp
 pub returns-in-Err : goal.returns-in-Err
 returns-in-Err g c = record {
   taken = tt;
+  counted = tt;
   refused = subst (IsRefusedBy (split_refusal c.args.self.now.chronicle.page c.args.victim.now c.args.new.now c.args.thief)) (sym c.of.ensures.error) c.in-Err.ensures.refused;
   same = c.in-Err.ensures.same;
 }

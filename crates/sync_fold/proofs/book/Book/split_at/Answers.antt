@@ -4,6 +4,8 @@ use Rattle.meaning.specs.Strands.{Split}
 use Rattle.strand_list.specs.Pages.{position}
 use Rattle.strand_list.specs.Chronicled.{PlainChronicle, Took, IsRefusedBy, split_refusal}
 use Rattle.sync_fold.specs.Books.{PlainBook, PlainLaid}
+use Rattle.sync_fold.specs.Counts.{HoldsMore}
+use Rattle.sync_fold.proofs.Counting.{split_counts}
 use Rattle.strand_list.specs.Chronicles.{told}
 use Rattle.sync_fold.specs.declared.laid.Laid.TheVariants.{Nothing}
 use Rattle.sync_fold.proofs.Keeping.{apart_of, long_of, same_keeps, split_keeps, put_long, put_taken, book_of}
@@ -50,22 +52,27 @@ returns-in-Err g c =
     put_taken c.args.k c.self.inside.laid.items c.put_behind.new.laid.items c.take_behind.new.laid.items Nothing within put c.take_behind.ensures.taken in
     record {
       taken = tt;
+      counted = tt;
       refused = subst (λ (b : PlainBook). IsRefusedBy (split_refusal b.chronicle.page c.args.victim.now c.args.new.now c.args.thief) c.in-Err.error) c.self.view_is c.in-Err.ensures.refused;
       same = ap (λ (x : PlainChronicle). book_of x c.take_behind.new.laid.items) c.in-Err.ensures.same ∙ ap (λ (ds : List PlainLaid). book_of (told c.self.inside.chronicle) ds) same ∙ c.self.view_is;
     }
 
 pub returns-in-Ok : goal.returns-in-Ok
-returns-in-Ok g c = record {
-  taken = subst (λ (b : PlainBook). Took b.chronicle (Split c.args.victim.now c.args.new.now c.args.thief) (told c.split.new.self)) c.self.view_is c.in-Ok.ensures.taken;
-  refused = tt;
-  same = tt;
-}
+returns-in-Ok g c =
+    let put : c.put_behind.new.laid.items ≡ insert c.self.inside.laid.items (c.args.k + 1) Nothing = search rules in
+    record {
+      taken = subst (λ (b : PlainBook). Took b.chronicle (Split c.args.victim.now c.args.new.now c.args.thief) (told c.split.new.self)) c.self.view_is c.in-Ok.ensures.taken;
+      counted = subst (λ (b : PlainBook). HoldsMore b.laid c.put_behind.new.laid.items) c.self.view_is (split_counts (c.args.k + 1) c.self.inside.laid.items c.put_behind.new.laid.items put);
+      refused = tt;
+      same = tt;
+    }
 
 pub returns-then-is_err : goal.returns-then-is_err
 returns-then-is_err g c =
     let same : c.put_behind.new.laid.items ≡ c.self.inside.laid.items = search rules in
     record {
       taken = tt;
+      counted = tt;
       refused = tt;
       same = ap (λ (ds : List PlainLaid). book_of (told c.self.inside.chronicle) ds) same ∙ c.self.view_is;
     }

@@ -20,6 +20,7 @@ returns-in-Err g c =
     let refused = none_held b.chronicle.page c.args.victim c.args.new.now c.args.thief c.in-Err.error c.in-Err.ensures.none in
     record {
       taken = tt;
+      counted = tt;
       refused = subst (IsRefusedBy (held_refusal b.chronicle.page c.args.victim c.args.new.now c.args.thief)) (sym c.of.ensures.error) refused;
       near = subst (λ e. is_apart e ≡ false) (sym c.of.ensures.error) (held_near b.chronicle.page c.args.victim c.args.new.now c.args.thief c.in-Err.error refused);
       same = refl;
@@ -33,6 +34,7 @@ returns-in-Ok g c =
     record {
       taken = took_held b.chronicle c.split.new.self.chronicle c.args.victim c.in-Ok.from.items c.args.new.now c.args.thief c.split.result c.in-Ok.ensures.held
           (subst (λ (from : Place). OnOk c.split.result (Took b.chronicle (Split from c.args.new.now c.args.thief) c.split.new.self.chronicle)) c.deref.ensures.value c.split.ensures.taken);
+      counted = c.split.ensures.counted;
       refused = refused;
       near = held_all_near b.chronicle.page c.args.victim c.args.new.now c.args.thief c.split.result refused;
       same = c.split.ensures.same;

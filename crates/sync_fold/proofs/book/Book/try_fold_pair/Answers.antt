@@ -13,6 +13,7 @@ returns g c = record {
   joined = c.fold_at.ensures.joined;
   going = c.fold_at.ensures.going;
   kit = c.fold_at.ensures.kit;
+  counted = c.fold_at.ensures.counted;
   refused = subst (λ o. IfErr c.fold_at.result (IsRefusedBy o))
       (sym (fold_passes c.args.self.now c.args.left.now c.args.right.now c.args.worker c.both_stand.result
       (c.both_stand.ensures.stand ∙ ap (λ (b : PlainBook). both_in c.args.left.now c.args.right.now b.chronicle.page.lines) c.self.view_is) c.may_touch.result c.if-not-both_stand.false c.may_touch.ensures.may c.if-not-may_touch.false))
@@ -27,6 +28,7 @@ returns-then-not-both_stand g c = record {
   joined = tt;
   going = tt;
   kit = tt;
+  counted = tt;
   refused = fold_missing c.args.self.now c.args.left.now c.args.right.now c.args.worker c.both_stand.result
       (c.both_stand.ensures.stand ∙ ap (λ (b : PlainBook). both_in c.args.left.now c.args.right.now b.chronicle.page.lines) c.self.view_is) c.if-not-both_stand.true;
   same = refl;
@@ -39,6 +41,7 @@ returns-then-not-may_touch g c = record {
   joined = tt;
   going = tt;
   kit = tt;
+  counted = tt;
   refused = fold_apart c.args.self.now c.args.left.now c.args.right.now c.args.worker c.both_stand.result
       (c.both_stand.ensures.stand ∙ ap (λ (b : PlainBook). both_in c.args.left.now c.args.right.now b.chronicle.page.lines) c.self.view_is) c.may_touch.result c.if-not-both_stand.false c.may_touch.ensures.may c.if-not-may_touch.true;
   same = refl;

@@ -9,6 +9,7 @@ use Rattle.sync_fold.proofs.book.Book.try_split.Goals as goal
 pub returns-in-None : goal.returns-in-None
 returns-in-None g c = record {
   taken = tt;
+  counted = tt;
   refused = subst (λ (b : PlainBook). IsRefusedBy (split_refusal b.chronicle.page c.args.victim.now c.args.new.now c.args.thief) error.NoStrand) c.self.view_is
       (split_missing c.self.inside.chronicle.page c.args.victim.now c.args.new.now c.args.thief c.in-None.ensures);
   same = refl;
