@@ -1,5 +1,5 @@
 -- A worker's deque is bound to the lowest instance of the strand that it goes on with.
-use Rattle.std.proofs.Common.{◌≡◌, ℕ, ◌+◌, ℤ, Bool, true, false, List, [], ◌∷◌, length, Option, Some, refl, sym, ap, ◌∙◌, subst, arith}
+use Rattle.std.proofs.Common.{◌≡◌, ℕ, ◌+◌, ℤ, Bool, true, false, List, [], ◌∷◌, length, Option, Some, None, refl, sym, ap, ◌∙◌, subst, arith}
 use Rattle.std.proofs.lemmas.List.{length-append}
 use Rattle.positions.specs.declared.phase.Phase.{Phase}
 use Rattle.positions.specs.declared.phase.Phase.TheVariants.{Entering, Running, AtSpawn, Returning, Leaving, Broken}
@@ -11,7 +11,7 @@ use Rattle.positions.specs.Setting.{Setting}
 use Rattle.positions.specs.Activations.{PlainActivation}
 use Rattle.positions.specs.Layers.{PlainLayer}
 use Rattle.positions.specs.Tallies.{PlainTally}
-use Rattle.positions.specs.Strands.{PlainStrand, shorter}
+use Rattle.positions.specs.Strands.{PlainStrand, PlainTask, shorter}
 use Rattle.positions.specs.Advance.{advanced, pause_of, sync_pause}
 use Rattle.positions.specs.Moves.{detached, attached, resumed, resumed_by, returned_at}
 use Rattle.small_steps.specs.Steps.{HoldsBy}
@@ -94,6 +94,11 @@ resumed_at s k h fits =
     ap (λ o. spot_of (resumed_by o k.task s)) h.1
     ∙ ap (λ path. spot (lowest_name (shorter path) k.task.below) (numbers_of s.start)) fits.1
     ∙ ap (λ start. spot (bottom_of k.task) (numbers_of start)) fits.0
+
+-- with the layers that it has
+pub resumed_lower : (o : Option ℤ) (k : PlainTask) (s : PlainStrand) → (resumed_by o k s).lower ≡ s.lower
+resumed_lower None k s = refl
+resumed_lower (Some v) k s = refl
 
 -- ---- a spawn
 

@@ -1,5 +1,5 @@
 //! The floor: the scene, and the one lock over the list of strands, the thieves' ends of the deques and the pool.
-ghost use Rattle.std.specs.Prelude.{◌≡◌, ◌<◌, [], true, false, None, Some, All, length, IfOk, IfErr, IfSome, IfNone, OnOk};
+ghost use Rattle.std.specs.Prelude.{◌≡◌, ◌+◌, ◌<◌, [], true, false, None, Some, All, length, IfOk, IfErr, IfSome, IfNone, OnOk};
 ghost use Rattle.linked_program.specs.Checked.{revised_of};
 ghost use Rattle.linked_program.specs.TableNames.{columned_of};
 ghost use Rattle.rerun_records.specs.Doubted.{IsInStep};
@@ -11,6 +11,8 @@ ghost use Rattle.right_strands.specs.Laid.{AnswersElision, IsGiven, HasRecorded}
 ghost use Rattle.run_terms.specs.Starts.{CannotStart};
 ghost use Rattle.stealing_deques.specs.Order.{IsBoundTo};
 ghost use Rattle.run_terms.specs.Come.{HasEnded};
+ghost use Rattle.sync_fold.specs.Counts.{kits_of};
+ghost use Rattle.worker_seats.specs.Balances.{most};
 ghost use Rattle.worker_seats.specs.Histories.{HasHistory};
 ghost use Rattle.worker_seats.specs.Ends.{IsAlone, IsEnd};
 ghost use Rattle.threaded_driver.specs.Finds.{is_left};
@@ -38,13 +40,15 @@ use right_strands::task::RightTask;
 use std::alloc::{AllocError, Global};
 use std::marker::Model;
 use std::sync::atomic::{AtomicBool, Ordering};
-use std::sync::ledger::Ledger;
+use std::sync::ledger::{Ledger, Share};
 use std::sync::{Mutex, Wait};
 use stealing_deques::Deques;
 use view_pool::{Kit, Pool, View};
 use worker_seats::beginning::{NewDeques, first_of};
+use worker_seats::depot::Depot;
 use worker_seats::ended::Ended;
 use worker_seats::failure::{Failure, Mismatch};
+use worker_seats::held::Held;
 use worker_seats::kits::{KitsOf, RightPool, Stocked};
 use worker_seats::seat::Seat;
 use worker_seats::supply::Supply;
@@ -57,7 +61,7 @@ pub struct PlainFloor {
     pub kits: usize,
 }
 
-/// What the workers of a run share. The run began with so many kits. That it gave up stands beside the lock too, where workers look
+/// What the workers of a run share. The run began with so many free kits. That it gave up stands beside the lock too, where workers look
 /// that go on without it: they stop earlier then, and nothing else rests on it. The bell is for those without a strand.
 #[derive(Drop)]
 pub struct Floor<'a, J: Run + Ledger + Stocked + Send, D: Deques, V: View> {
@@ -70,11 +74,14 @@ pub struct Floor<'a, J: Run + Ledger + Stocked + Send, D: Deques, V: View> {
 }
 
 impl<'a, J: Run + Ledger + Stocked + Send, D: Deques, V: View> Model for Floor<'a, J, D, V> {
+    ghost use Rattle.std.specs.Prelude.{◌≡◌};
     ghost use Rattle.threaded_driver.specs.declared.floor.PlainFloor.{PlainFloor};
 
     ghost Value = { PlainFloor };
 
     ghost view = { λ f. record { kits = f.kits } };
+
+    ghost invariant = { λ f. f.kits ≡ J.begun };
 }
 
 /// One worker's life: it leaves where the run is over.
@@ -95,8 +102,8 @@ where
     let mut seat = seat;
     let (number, first) = floor.desk.lock(rt).come(seat.deque());
     floor.drain(rt, &mut seat);
-    if let Some(strand) = first {
-        floor.go_on(rt, number, &mut seat, strand, gate);
+    if let Some(held) = first {
+        floor.go_on(rt, number, &mut seat, held, gate);
     }
     let listener = floor.bell.listener();
     listener.listen();
@@ -107,9 +114,9 @@ where
                 return seat;
             }
             Found::Nothing => listener.wait(rt),
-            Found::Folded(strand) | Found::Stolen(strand) => {
+            Found::Folded(held) | Found::Stolen(held) => {
                 listener.leave();
-                floor.go_on(rt, number, &mut seat, strand, gate);
+                floor.go_on(rt, number, &mut seat, held, gate);
                 listener.listen();
             }
         }
@@ -164,14 +171,15 @@ impl<J: Run + Ledger + Stocked + Send, D: Deques, V: View> Floor<'_, J, D, V> {
         rt: &R,
         number: usize,
         seat: &mut Seat<J, D>,
-        strand: RightStrand<J, V>,
+        held: Held<J, V>,
         gate: &G,
     )
         requires fresh { seat.old.here ≡ None }
         ensures fresh { seat.new.here ≡ None }
     {
+        let (strand, share) = held.into_parts();
         let mut strand = strand;
-        let mut supply = Supply::new(rt, &self.desk, self.kits);
+        let mut supply = Supply::new(rt, &self.desk, share, strand.kits());
         for _ in rt.forever() {
             if !self.step(rt, number, seat, &mut strand, &mut supply, gate) {
                 break;
@@ -187,11 +195,13 @@ impl<J: Run + Ledger + Stocked + Send, D: Deques, V: View> Floor<'_, J, D, V> {
         number: usize,
         seat: &mut Seat<J, D>,
         strand: &mut RightStrand<J, V>,
-        supply: &mut Supply<'_, Desk<J, D, V>, Kit<V>, R>,
+        supply: &mut Supply<'_, Desk<J, D, V>, Kit<V>, KitsOf<J>, R>,
         gate: &G,
     ) -> bool
         requires bound { IsBoundTo seat.old.here (spot_of strand.old.strand) }
+        requires kits { kits_of strand.old.strand + supply.old.free ≡ most }
         ensures bound { result ≡ true → IsBoundTo seat.new.here (spot_of strand.new.strand) }
+        ensures kits { kits_of strand.new.strand + supply.new.free ≡ most }
     {
         match self.advance(number, strand, supply, gate) {
             Ok(Paused::Working) => !self.has_given_up(),
@@ -207,16 +217,16 @@ impl<J: Run + Ledger + Stocked + Send, D: Deques, V: View> Floor<'_, J, D, V> {
         &self,
         number: usize,
         strand: &mut RightStrand<J, V>,
-        supply: &mut Supply<'_, Desk<J, D, V>, Kit<V>, R>,
+        supply: &mut Supply<'_, Desk<J, D, V>, Kit<V>, KitsOf<J>, R>,
         gate: &G,
     ) -> Result<Paused, AllocError>
+        requires kits { kits_of strand.old.strand + supply.old.free ≡ most }
+        ensures kits { kits_of strand.new.strand + supply.new.free ≡ most }
         ensures spot { OnOk result (spot_of strand.new.strand ≡ spot_of strand.old.strand) }
         ensures returned { IfOk result
             (λ paused. paused ≡ Paused.Returned → HasReturned strand.new.strand) }
     {
-        if !supply.begin(strand.kits()) {
-            return Err(AllocError);
-        }
+        supply.begin();
         let is_watched = gate.watches_updates();
         for _ in 0..STEPS {
             self.go_ahead(number, is_watched, strand, gate)?;
@@ -264,6 +274,7 @@ impl<J: Run + Ledger + Stocked + Send, D: Deques, V: View> Floor<'_, J, D, V> {
     ) -> bool
         requires bound { IsBoundTo seat.old.here (spot_of strand.old.strand) }
         ensures bound { IsBoundTo seat.new.here (spot_of strand.new.strand) }
+        ensures lower { strand.new.strand.lower ≡ strand.old.strand.lower }
     {
         if strand.has_failed() || self.has_given_up() {
             return false;
@@ -289,6 +300,7 @@ impl<J: Run + Ledger + Stocked + Send, D: Deques, V: View> Floor<'_, J, D, V> {
         requires at_spawn { strand.old.strand.phase ≡ Phase.AtSpawn }
         requires bound { IsBoundTo seat.old.here (spot_of strand.old.strand) }
         ensures bound { IsBoundTo seat.new.here (spot_of strand.new.strand) }
+        ensures lower { strand.new.strand.lower ≡ strand.old.strand.lower }
     {
         self.scene.kept();
         let task = strand.detach(self.alloc);
@@ -315,6 +327,7 @@ impl<J: Run + Ledger + Stocked + Send, D: Deques, V: View> Floor<'_, J, D, V> {
         requires returned { HasReturned strand.old.strand }
         requires bound { IsBoundTo seat.old.here (spot_of strand.old.strand) }
         ensures bound { result ≡ true → IsBoundTo seat.new.here (spot_of strand.new.strand) }
+        ensures lower { strand.new.strand.lower ≡ strand.old.strand.lower }
     {
         if self.has_given_up() {
             return false;
@@ -359,7 +372,7 @@ impl<J: Run + Ledger + Stocked + Send, D: Deques, V: View> Floor<'_, J, D, V> {
         unreachable!()
     }
 
-    /// Lays a strand down, once its worker's deque is empty and its supply has no kit. Where it isn't at a point to lie at, for want of
+    /// Lays a strand down, once its worker's deque is empty; the kit that is kept for it goes home. Where it isn't at a point to lie at, for want of
     /// memory, the run gives up.
     fn lay<R: Wait, G: Gate>(
         &self,
@@ -367,29 +380,35 @@ impl<J: Run + Ledger + Stocked + Send, D: Deques, V: View> Floor<'_, J, D, V> {
         number: usize,
         seat: &mut Seat<J, D>,
         strand: RightStrand<J, V>,
-        supply: Supply<'_, Desk<J, D, V>, Kit<V>, R>,
+        supply: Supply<'_, Desk<J, D, V>, Kit<V>, KitsOf<J>, R>,
         gate: &G,
     )
+        requires kits { kits_of strand.strand + supply.free ≡ most }
         ensures drained { seat.new.here ≡ None }
     {
         self.drain(rt, seat);
         let mut supply = supply;
-        supply.begin(strand.kits());
-        let laid = Piece::lay(&self.scene, strand, &mut supply);
-        supply.clear();
-        match laid {
+        match Piece::lay(&self.scene, strand, &mut supply) {
             Ok(piece) => {
-                self.put(rt, piece);
+                let (share, kits) = supply.end();
+                self.put(rt, piece, share, kits);
                 gate.at(number, Point::Laid);
             }
-            Err(_) => self.fail(rt, Failure::NoMemory),
+            Err(_) => {
+                supply.end();
+                self.fail(rt, Failure::NoMemory);
+            }
         }
     }
 
-    /// Lays a piece down under the lock.
-    fn put<R: Wait>(&self, rt: &R, piece: Piece<J, V>) {
+    /// Lays a piece down under the lock, which has that share and so many kits.
+    fn put<R: Wait>(&self, rt: &R, piece: Piece<J, V>, share: Share<KitsOf<J>>, kits: usize)
+        requires one { share.parts ≡ 1 }
+        requires counted { share.amount ≡ kits }
+        requires kits { kits ≡ kits_of piece.strand }
+    {
         let mut desk = self.desk.lock(rt);
-        desk.lay(self.alloc, piece);
+        desk.lay(self.alloc, piece, share, kits);
         self.note(desk.has_failed());
     }
 
@@ -434,6 +453,7 @@ impl<'a, J: Run + Ledger + Stocked + Send, D: Deques, V: View> Floor<'a, J, D, V
         requires in_step { IsInStep tables.now.tables records.now }
         requires kinds { All (λ k. k ≡ J.setting.kinds) pool.kits }
         requires total { pool.total ≡ J.total }
+        requires begun { length pool.kits ≡ J.begun }
         requires named { D.deques ≡ deques }
         ensures kits { IfOk result (λ r. r.0.kits ≡ length pool.kits) }
         ensures some { IfOk result (λ _. 0 < length pool.kits) }
@@ -447,13 +467,14 @@ impl<'a, J: Run + Ledger + Stocked + Send, D: Deques, V: View> Floor<'a, J, D, V
             return Err((StartError::NoKit, pool));
         }
         let scene = Scene::new(program, tables, records);
-        let (parts, seats) = match Parts::new(alloc, deques) {
+        let (parts, seats, ledger) = match Parts::new(alloc, deques) {
             Ok(begun) => begun,
             Err(AllocError) => return Err((StartError::NoMemory, pool)),
         };
         match first_of(alloc, &scene, pool) {
             Ok((first, pool)) => {
-                let desk = Desk::new(parts, first, RightPool::new(pool));
+                let (depot, share) = Depot::new(RightPool::new(pool), ledger);
+                let desk = Desk::new(parts, Held::new(first, share), depot);
                 let floor = Floor {
                     alloc,
                     scene,
@@ -525,10 +546,9 @@ impl<'a, J: Run + Ledger + Stocked + Send, D: Deques, V: View> Floor<'a, J, D, V
             alloc,
             scene,
             desk,
-            kits,
             ..
         } = self;
         let desk = desk.into_inner().into_inner();
-        desk.close(alloc, &scene, seat, kits)
+        desk.close(alloc, &scene, seat)
     }
 }

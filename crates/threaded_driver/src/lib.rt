@@ -3,10 +3,12 @@
 
 mod bell;
 mod desk;
+mod ending;
 mod floor;
 mod found;
 pub mod gate;
 pub mod run;
+mod table;
 
 pub use floor::{Floor, PlainFloor, work};
 pub use gate::{Gate, NoGate, Point};
@@ -14,7 +16,7 @@ pub use numbered_runs::refusal::StartError;
 pub use right_strands::run::Run;
 pub use run::run_threads;
 pub use stealing_deques::Deques;
-pub use worker_seats::beginning::{NewDeques, deques_of};
+pub use worker_seats::beginning::{Blanks, NewDeques, deques_of};
 pub use worker_seats::failure;
 pub use worker_seats::failure::Mismatch;
 pub use worker_seats::kits::Stocked;

@@ -1,3 +1,4 @@
+pub mod Balances
 pub mod Histories
 pub mod Ends
 pub mod Over

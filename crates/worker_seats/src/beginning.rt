@@ -1,6 +1,7 @@
 //! What a run begins with: new deques, and the first strand.
-ghost use Rattle.std.specs.Prelude.{◌≡◌, ◌<◌, All, length, IfOk, IfErr};
+ghost use Rattle.std.specs.Prelude.{◌≡◌, ◌<◌, ◌≤◌, [], suc, All, length, IfOk, IfErr};
 ghost use Rattle.run_terms.specs.Starts.{CannotStart};
+ghost use Rattle.worker_seats.specs.Balances.{most};
 
 use crate::kits::Stocked;
 use crate::waiting::Waiting;
@@ -16,12 +17,31 @@ use view_pool::{Kit, Pool, View};
 /// How many continuations a deque has room for at first.
 const ROOM: usize = 64;
 
-/// A deque for each worker of the run J, which nobody has used, and the count of those that will leave. Contracts see which deques
-/// they are.
+/// New ledgers of a run: of the workers that will leave, and of the kits that strands have.
+#[derive(Drop)]
+pub struct Blanks {
+    pub leavers: Blank,
+    pub kits: Blank,
+    ghost enough: { kits.parts ≡ most },
+}
+
+impl Blanks {
+    /// Those of a run with so many workers.
+    pub fn new(workers: usize) -> Blanks
+        ensures parts { result.leavers.parts ≡ workers }
+    {
+        Blanks {
+            leavers: Blank::new(workers as u64),
+            kits: Blank::new(u64::MAX),
+        }
+    }
+}
+
+/// A deque for each worker of the run J, which nobody has used, and the run's ledgers. Contracts see which deques they are.
 #[derive(Drop)]
 pub struct NewDeques<J: Run + Ledger + Stocked + Send> {
     pub deques: Vec<NewDeque<Waiting<J>>>,
-    pub blank: Blank,
+    pub blanks: Blanks,
 }
 
 impl<J: Run + Ledger + Stocked + Send> Model for NewDeques<J> {
@@ -32,23 +52,24 @@ impl<J: Run + Ledger + Stocked + Send> Model for NewDeques<J> {
 
     ghost view = { λ d. d.deques.items };
 
-    ghost invariant = { λ d. (d.blank.name ≡ J.name) × (d.blank.parts ≡ J.parts)
-        × (J.parts ≡ length d.deques.items) };
+    ghost invariant = { λ d. (d.blanks.leavers.name ≡ J.name) × (d.blanks.leavers.parts ≡ J.parts)
+        × (J.parts ≡ length d.deques.items) × (d.blanks.kits.name ≡ J.ledger) };
 }
 
 /// A deque for each of so many workers. Want of memory is the only error.
 pub fn deques_of<J: Run + Ledger + Stocked + Send>(
     alloc: Global,
-    blank: Blank,
+    blanks: Blanks,
     workers: usize,
 ) -> Result<NewDeques<J>, AllocError>
-    requires name { blank.name ≡ J.name }
-    requires parts { blank.parts ≡ J.parts }
+    requires name { blanks.leavers.name ≡ J.name }
+    requires parts { blanks.leavers.parts ≡ J.parts }
+    requires ledger { blanks.kits.name ≡ J.ledger }
     requires workers { J.parts ≡ workers }
     ensures count { IfOk result (λ deques. length deques ≡ workers) }
 {
     let deques = new_deques(alloc, workers, ROOM)?;
-    Ok(NewDeques { deques, blank })
+    Ok(NewDeques { deques, blanks })
 }
 
 /// The run's first strand, with a kit of the pool. Refused where no kit is free, or for want of memory; the pool is handed back.
@@ -61,6 +82,9 @@ pub fn first_of<J: Run, V: View>(
     ensures kits { IfOk result (λ r. All (λ k. k ≡ J.setting.kinds) r.1.kits) }
     ensures total { IfOk result (λ r. r.1.total ≡ pool.total) }
     ensures some { IfOk result (λ r. 0 < length pool.kits) }
+    ensures taken { IfOk result (λ r. suc (length r.1.kits) ≡ length pool.kits) }
+    ensures one_layer { IfOk result (λ r. r.0.strand.lower ≡ []) }
+    ensures room { IfOk result (λ r. length pool.kits ≤ pool.total) }
     ensures refused { IfErr result (λ e. CannotStart pool e.0) }
     ensures handed_back { IfErr result (λ e. e.1 ≡ pool) }
 {

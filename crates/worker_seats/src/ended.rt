@@ -1,6 +1,5 @@
 //! How a run has ended.
 ghost use Rattle.std.specs.Prelude.{◌≡◌};
-ghost use Rattle.run_terms.specs.Come.{HasEnded};
 ghost use Rattle.right_strands.specs.Laid.{HasRecorded};
 ghost use Rattle.rerun_records.specs.Named.{HaveValues};
 ghost use Rattle.positions.specs.Setting.{Setting};
@@ -44,15 +43,4 @@ pub fn kept_of(alloc: Global, answer: &RunAnswer, made: Vec<Record>) -> Vec<Reco
         RunAnswer::Finished { .. } => made,
         _ => Vec::new(alloc),
     }
-}
-
-/// How a run has ended that has come to this end, with so many kits home of so many. Where not all are, it was refused memory.
-pub fn unless_lost(alloc: Global, ended: Ended, home: usize, kits: usize) -> Ended
-    ensures end { (setting : Setting) → IsEnd setting ended → IsEnd setting result }
-    ensures home { HasEnded result.answer → home ≡ kits }
-{
-    if home != kits {
-        return Ended::without_memory(alloc);
-    }
-    ended
 }

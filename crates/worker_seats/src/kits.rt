@@ -3,26 +3,38 @@ ghost use Rattle.std.specs.Prelude.{◌≡◌, All, length};
 
 use right_strands::run::Run;
 use std::marker::{Brand, Model, PhantomData};
+use std::sync::ledger::Ledger;
 use view_pool::{Kit, KitSource, Pool, View};
 
-/// How many kits there are in all, free or not. Each call of a program picks it.
+/// How many kits there are in all, free or not, how many of them are free when the run begins, and the name of the ledger of those
+/// that workers' strands have. Each call of a program picks them.
 pub trait Stocked {
     ghost use Rattle.std.specs.Prelude.{ℕ};
 
     ghost total: { ℕ };
+
+    ghost begun: { ℕ };
+
+    ghost ledger: { ℕ };
 }
 
 impl Stocked for Brand {
     ghost total = { 0 };
+
+    ghost begun = { 0 };
+
+    ghost ledger = { 0 };
 }
 
-/// Which kits of type `K` belong to a run, and how many there are in all.
+/// Which kits of type `K` belong to a run, how many there are in all, and how many of them were free when it began.
 pub trait Stock<K> {
     ghost use Rattle.std.specs.Prelude.{ℕ};
 
     ghost fits: { K → Type 0 };
 
     ghost total: { ℕ };
+
+    ghost begun: { ℕ };
 }
 
 /// The kits of the run J: those of its reducers' kinds.
@@ -34,6 +46,17 @@ impl<J: Run + Stocked, V: View> Stock<Kit<V>> for KitsOf<J> {
     ghost fits = { λ k. k ≡ J.setting.kinds };
 
     ghost total = { J.total };
+
+    ghost begun = { J.begun };
+}
+
+/// In its ledger each strand that a worker holds has a part, and its kits are the part's amount.
+impl<J: Run + Stocked> Ledger for KitsOf<J> {
+    ghost use Rattle.worker_seats.specs.Balances.{most};
+
+    ghost name = { J.ledger };
+
+    ghost parts = { most };
 }
 
 /// The free kits of a run. Contracts see how many they are.

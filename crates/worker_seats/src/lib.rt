@@ -2,8 +2,10 @@
 #![tactic(auto)]
 
 pub mod beginning;
+pub mod depot;
 pub mod ended;
 pub mod failure;
+pub mod held;
 pub mod kits;
 pub mod seat;
 mod spare;

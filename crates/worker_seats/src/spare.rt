@@ -1,17 +1,19 @@
 //! A place for one kit that lies beside the lock.
-ghost use Rattle.std.specs.Prelude.{IfSome};
+ghost use Rattle.std.specs.Prelude.{◌≡◌, None, Some, IfSome, OnSome};
 
 use crate::supply::Shelf;
 use std::marker::{Model, PhantomData};
+use std::sync::ledger::Ledger;
 
-/// A kit that is free and doesn't lie on its shelf, or none.
+/// A kit that doesn't lie on its shelf and isn't with a strand, or none.
 #[derive(Drop)]
-pub(crate) struct Spare<D: Shelf<K>, K> {
+pub(crate) struct Spare<D: Shelf<K, L>, K, L: Ledger> {
     kit: Option<K>,
     of: PhantomData<D>,
+    by: PhantomData<L>,
 }
 
-impl<D: Shelf<K>, K> Model for Spare<D, K> {
+impl<D: Shelf<K, L>, K, L: Ledger> Model for Spare<D, K, L> {
     ghost use Rattle.std.specs.Prelude.{Option, IfSome};
 
     ghost Value = { Option K };
@@ -21,18 +23,23 @@ impl<D: Shelf<K>, K> Model for Spare<D, K> {
     ghost invariant = { λ s. IfSome s.kit D.fits };
 }
 
-impl<D: Shelf<K>, K> Spare<D, K> {
+impl<D: Shelf<K, L>, K, L: Ledger> Spare<D, K, L> {
     /// A place without a kit.
-    pub(crate) fn new() -> Spare<D, K> {
+    pub(crate) fn new() -> Spare<D, K, L>
+        ensures none { result ≡ None }
+    {
         Spare {
             kit: None,
             of: PhantomData,
+            by: PhantomData,
         }
     }
 
     /// The kit, if there is one.
     pub(crate) fn take(&mut self) -> Option<K>
         ensures fits { IfSome result D.fits }
+        ensures taken { result ≡ self.old }
+        ensures none { self.new ≡ None }
     {
         self.kit.take()
     }
@@ -41,6 +48,8 @@ impl<D: Shelf<K>, K> Spare<D, K> {
     pub(crate) fn put(&mut self, kit: K) -> Option<K>
         requires fits { D.fits kit }
         ensures fits { IfSome result D.fits }
+        ensures other { result ≡ self.old }
+        ensures put { self.new ≡ Some kit }
     {
         self.kit.replace(kit)
     }

@@ -1,26 +1,35 @@
 //! Kits for the strand of one worker, while the others go on.
-ghost use Rattle.std.specs.Prelude.{◌≡◌, ◌+◌, true, IfSome};
+ghost use Rattle.std.specs.Prelude.{◌≡◌, ◌+◌, ◌<◌, suc, true, None, IfSome, OnSome, IsNone};
+ghost use Rattle.worker_seats.specs.Balances.{kept, most};
 
 use crate::spare::Spare;
 use std::marker::PhantomData;
+use std::sync::ledger::{Ledger, Share};
 use std::sync::{Mutex, Wait};
 use view_pool::KitSource;
 
 /// In how many goes one after the other nobody asks for a kit, at most, before the one that is kept goes home.
 const MOST_UNUSED: u32 = 16;
 
-/// Where kits of type `K` lie under a lock.
-pub trait Shelf<K> {
+/// Where kits of type `K` lie under a lock. The ledger `L` counts those that don't lie there.
+pub trait Shelf<K, L: Ledger> {
     /// A kit that may lie there.
     ghost fits: { K → Type 0 };
 
-    /// A free kit, if there is one.
-    fn take_kit(&mut self) -> Option<K>
-        ensures fits { IfSome result fits };
+    /// A free kit, if there is one; it counts for that share.
+    fn take_kit(&mut self, share: &mut Share<L>) -> Option<K>
+        requires one { 0 < share.old.parts }
+        ensures fits { IfSome result fits }
+        ensures parts { share.new.parts ≡ share.old.parts }
+        ensures counted { OnSome result (share.new.amount ≡ suc share.old.amount) }
+        ensures uncounted { IsNone result → share.new.amount ≡ share.old.amount };
 
-    /// Puts a kit among the free ones, or hands it back where there is no room for it.
-    fn give_kit(&mut self, kit: K) -> Result<(), K>
-        requires fits { fits kit };
+    /// Puts a kit among the free ones that counted for that share.
+    fn give_kit(&mut self, kit: K, share: &mut Share<L>)
+        requires fits { fits kit }
+        requires some { 0 < share.old.amount }
+        ensures parts { share.new.parts ≡ share.old.parts }
+        ensures counted { suc share.new.amount ≡ share.old.amount };
 
     /// Whether there are so many free kits that each worker may keep one.
     fn has_plenty(&self) -> bool;
@@ -28,50 +37,64 @@ pub trait Shelf<K> {
 
 /// The kits of a run for the strand of one worker. Those that the strand doesn't hold count as free: some may be with others, then
 /// there is none to take. They are taken and given under the lock; but where there were plenty when the last one was taken there,
-/// one that comes back is kept beside it.
+/// one that comes back is kept beside it. The strand's kits and the one that is kept are the amount of a share.
 #[derive(Drop)]
-pub struct Supply<'a, D: Shelf<K>, K, R: Wait> {
+pub struct Supply<'a, D: Shelf<K, L>, K, L: Ledger, R: Wait> {
     rt: &'a R,
     shelf: &'a Mutex<D>,
-    spare: Spare<D, K>,
+    spare: Spare<D, K, L>,
+    share: Share<L>,
     had_plenty: bool,
     unused: u32,
     free: usize,
-    total: usize,
     of: PhantomData<K>,
+    ghost one: { share.parts ≡ 1 },
+    ghost counted: { free + share.amount ≡ most + kept spare },
 }
 
-impl<'a, D: Shelf<K>, K: Drop, R: Wait> Supply<'a, D, K, R> {
-    /// The kits of a run with so many in all, for a strand that holds none yet.
-    pub fn new(rt: &'a R, shelf: &'a Mutex<D>, total: usize) -> Supply<'a, D, K, R>
-        ensures total { result.total ≡ total }
+/// Puts a kit among the free ones under the lock that counted for that share.
+fn give_back<D: Shelf<K, L>, K, L: Ledger, R: Wait>(
+    rt: &R,
+    shelf: &Mutex<D>,
+    kit: K,
+    share: &mut Share<L>,
+)
+    requires fits { D.fits kit }
+    requires some { 0 < share.old.amount }
+    ensures parts { share.new.parts ≡ share.old.parts }
+    ensures counted { suc share.new.amount ≡ share.old.amount }
+{
+    shelf.lock(rt).give_kit(kit, share);
+}
+
+impl<'a, D: Shelf<K, L>, K: Drop, L: Ledger, R: Wait> Supply<'a, D, K, L, R> {
+    /// The kits of a run for a strand with so many, which are that share's amount.
+    pub fn new(
+        rt: &'a R,
+        shelf: &'a Mutex<D>,
+        share: Share<L>,
+        kits: usize,
+    ) -> Supply<'a, D, K, L, R>
+        requires one { share.parts ≡ 1 }
+        requires counted { share.amount ≡ kits }
+        ensures free { kits + result.free ≡ most }
     {
         Supply {
             rt,
             shelf,
             spare: Spare::new(),
+            share,
             had_plenty: false,
             unused: 0,
-            free: total,
-            total,
+            free: usize::MAX - kits,
             of: PhantomData,
         }
     }
 
-    /// A go begins with a strand that holds so many; whether there are so many. A kit that is kept goes home where nobody has asked
-    /// for one in many goes.
-    pub fn begin(&mut self, held: usize) -> bool
-        ensures total { self.new.total ≡ self.old.total }
-        ensures free { result ≡ true → held + self.new.free ≡ self.old.total }
-    {
-        self.let_go();
-        self.free = self.total.saturating_sub(held);
-        held <= self.total
-    }
-
-    /// Has the kit that is kept go home where nobody has asked for one in many goes.
-    fn let_go(&mut self)
-        ensures total { self.new.total ≡ self.old.total }
+    /// A go of the strand begins: a kit that is kept goes home where nobody has asked for one in many goes.
+    pub fn begin(&mut self)
+        requires some { self.old.free < most }
+        ensures free { self.new.free ≡ self.old.free }
     {
         if self.unused < MOST_UNUSED {
             self.unused += 1;
@@ -81,62 +104,76 @@ impl<'a, D: Shelf<K>, K: Drop, R: Wait> Supply<'a, D, K, R> {
     }
 
     /// Has the kit that is kept go home.
-    pub fn clear(&mut self)
-        ensures total { self.new.total ≡ self.old.total }
+    fn clear(&mut self)
+        requires some { self.old.free < most }
+        ensures free { self.new.free ≡ self.old.free }
+        ensures none { self.new.spare ≡ None }
     {
         if let Some(kit) = self.spare.take() {
-            self.give_back(kit);
+            give_back(self.rt, self.shelf, kit, &mut self.share);
         }
     }
 
-    /// A kit: the one that is kept, or one from under the lock.
-    fn find(&mut self) -> Option<K>
-        ensures fits { IfSome result D.fits }
-        ensures free { self.new.free ≡ self.old.free }
-        ensures total { self.new.total ≡ self.old.total }
+    /// The share again, of which the strand's kits are the amount, and how many these are; the kit that is kept goes home.
+    pub fn end(self) -> (Share<L>, usize)
+        requires some { self.free < most }
+        ensures one { result.0.parts ≡ 1 }
+        ensures counted { result.0.amount ≡ result.1 }
+        ensures kits { result.1 + self.entry.free ≡ most }
     {
-        self.unused = 0;
-        if let Some(kit) = self.spare.take() {
-            return Some(kit);
-        }
+        let mut supply = self;
+        supply.clear();
+        let Supply { share, free, .. } = supply;
+        (share, usize::MAX - free)
+    }
+
+    /// A kit from under the lock, if there is one.
+    fn fetch(&mut self) -> Option<K>
+        requires some { 0 < self.old.free }
+        requires none { self.old.spare ≡ None }
+        ensures fits { IfSome result D.fits }
+        ensures taken { OnSome result (self.old.free ≡ suc self.new.free) }
+        ensures untaken { IsNone result → self.new.free ≡ self.old.free }
+    {
         let mut shelf = self.shelf.lock(self.rt);
         self.had_plenty = shelf.has_plenty();
-        shelf.take_kit()
+        match shelf.take_kit(&mut self.share) {
+            Some(kit) => {
+                self.free -= 1;
+                Some(kit)
+            }
+            None => None,
+        }
     }
 
-    /// Keeps a kit, or has it go home.
+    /// Keeps a kit of the strand, or has it go home.
     fn keep(&mut self, kit: K)
         requires fits { D.fits kit }
-        ensures free { self.new.free ≡ self.old.free }
-        ensures total { self.new.total ≡ self.old.total }
+        requires some { self.old.free < most }
+        ensures free { self.new.free ≡ suc self.old.free }
     {
         if !self.had_plenty {
-            self.give_back(kit);
-            return;
+            give_back(self.rt, self.shelf, kit, &mut self.share);
+        } else {
+            self.unused = 0;
+            if let Some(other) = self.spare.put(kit) {
+                give_back(self.rt, self.shelf, other, &mut self.share);
+            }
         }
-        self.unused = 0;
-        if let Some(other) = self.spare.put(kit) {
-            self.give_back(other);
-        }
-    }
-
-    /// Puts a kit among the free ones under the lock.
-    fn give_back(&self, kit: K)
-        requires fits { D.fits kit }
-    {
-        // The pool has room for each kit of the run.
-        let _ = self.shelf.lock(self.rt).give_kit(kit);
+        self.free += 1;
     }
 }
 
-impl<D: Shelf<K>, K: Drop, R: Wait> KitSource<K> for Supply<'_, D, K, R> {
+impl<D: Shelf<K, L>, K: Drop, L: Ledger, R: Wait> KitSource<K> for Supply<'_, D, K, L, R> {
+    ghost use Rattle.worker_seats.specs.Balances.{most};
+
     ghost gives = { λ k s. D.fits k };
 
     ghost fits = { λ k s. D.fits k };
 
     ghost free = { λ s. s.free };
 
-    ghost total = { λ s. s.total };
+    ghost total = { λ s. most };
 
     ghost lacks = { λ s. Unit {0} };
 
@@ -144,17 +181,21 @@ impl<D: Shelf<K>, K: Drop, R: Wait> KitSource<K> for Supply<'_, D, K, R> {
         if self.free == 0 {
             return None;
         }
-        let kit = self.find()?;
-        self.free -= 1;
-        Some(kit)
+        self.unused = 0;
+        match self.spare.take() {
+            Some(kit) => {
+                self.free -= 1;
+                Some(kit)
+            }
+            None => self.fetch(),
+        }
     }
 
     fn give(&mut self, kit: K) -> Result<(), K> {
-        if self.free >= self.total {
+        if self.free == usize::MAX {
             return Err(kit);
         }
         self.keep(kit);
-        self.free += 1;
         Ok(())
     }
 }

@@ -1,5 +1,5 @@
 //! A run by the calls that a run by threads is made of, which is given up before a worker has come.
-ghost use Rattle.std.specs.Prelude.{◌≡◌, ◌<◌, ◌≤◌, [], All};
+ghost use Rattle.std.specs.Prelude.{◌≡◌, ◌<◌, ◌≤◌, [], All, length};
 ghost use Rattle.linked_program.specs.Checked.{revised_of};
 ghost use Rattle.linked_program.specs.TableNames.{columned_of};
 ghost use Rattle.rerun_records.specs.Doubted.{IsInStep};
@@ -15,9 +15,9 @@ use session_kit::owners::in_session;
 use std::alloc::Global;
 use std::marker::Brand;
 use std::process::Abort;
-use std::sync::ledger::{Blank, Ledger};
+use std::sync::ledger::Ledger;
 use test_kit::texts::{FIRST, SALES};
-use threaded_driver::{Deques, Floor, NewDeques, Run, Stocked, deques_of};
+use threaded_driver::{Blanks, Deques, Floor, NewDeques, Run, Stocked, deques_of};
 use view_pool::{Kit, PlainView, Pool};
 
 /// What a run is lent: a program, its tables, and the records that may answer its memo instances.
@@ -45,6 +45,7 @@ where
     requires in_step { IsInStep lent.tables.now.tables lent.records.now }
     requires kinds { All (λ k. k ≡ J.setting.kinds) pool.kits }
     requires total { pool.total ≡ J.total }
+    requires begun { length pool.kits ≡ J.begun }
     requires named { D.deques ≡ deques }
 {
     let Lent {
@@ -64,7 +65,7 @@ fn by_workers<J>(
     alloc: Global,
     lent: Lent<'_>,
     pool: Pool<Kit<PlainView>>,
-    blank: Blank,
+    blanks: Blanks,
     workers: usize,
 ) -> Option<usize>
 where
@@ -76,11 +77,13 @@ where
     requires in_step { IsInStep lent.tables.now.tables lent.records.now }
     requires kinds { All (λ k. k ≡ J.setting.kinds) pool.kits }
     requires total { pool.total ≡ J.total }
-    requires name { blank.name ≡ J.name }
-    requires parts { (blank.parts ≡ J.parts) × (J.parts ≡ workers) }
+    requires begun { length pool.kits ≡ J.begun }
+    requires name { blanks.leavers.name ≡ J.name }
+    requires parts { (blanks.leavers.parts ≡ J.parts) × (J.parts ≡ workers) }
+    requires ledger { blanks.kits.name ≡ J.ledger }
     requires some { 0 < workers }
 {
-    let deques = deques_of::<J>(alloc, blank, workers).expect(rt, "memory");
+    let deques = deques_of::<J>(alloc, blanks, workers).expect(rt, "memory");
     through::<J, Brand>(alloc, lent, pool, deques)
 }
 
@@ -100,7 +103,7 @@ fn given_up(
         tables: session.tables(),
         records: session.records(),
     };
-    by_workers::<Brand>(rt, alloc, lent, pool, Blank::new(workers as u64), workers)
+    by_workers::<Brand>(rt, alloc, lent, pool, Blanks::new(workers), workers)
 }
 
 /// The first strand has a kit.

@@ -1,14 +1,14 @@
 use Rattle.threaded_driver.proofs.Settling.{has_history}
-use Rattle.threaded_driver.proofs.desk.end_of.Goals as goal
+use Rattle.threaded_driver.proofs.ending.end_of.Goals as goal
 
 pub returns-clause-end : goal.returns-clause-end
 returns-clause-end g c =
     let setting = g.J.Run.setting in
-    c.unless_lost.ensures.end setting (record {
+    record {
       elision = c.end-answer.ensures.elision;
       given = c.end-answer.ensures.given;
       recorded = c.kept_of-made.ensures.recorded setting c.end-answer.ensures.recorded;
       alone = c.kept_of-made.ensures.alone;
       values = c.kept_of-made.ensures.values setting c.end-answer.ensures.values;
       history_of = has_history c.end-answer.result.0 c.end-answer.result.2.items _ c.end-answer.ensures.history c.end-answer.ensures.legal;
-    })
+    }

@@ -1,4 +1,4 @@
-use Rattle.std.proofs.Common.{[]}
+use Rattle.std.proofs.Common.{[], length}
 use Rattle.positions.specs.Setting.{setting_with}
 use Rattle.thread_tests.proofs.tests.floors.given_up.Given as goal
 
@@ -6,7 +6,7 @@ abbrev pub ghosts-by_workers-J-Run : goal.ghosts-by_workers-J-Run
 ghosts-by_workers-J-Run g a = record { setting = setting_with a.lent.program.now a.lent.tables.now.tables [] a.lent.records.now }
 
 abbrev pub ghosts-by_workers-J-Ledger : goal.ghosts-by_workers-J-Ledger
-ghosts-by_workers-J-Ledger g a = record { name = a.blank.name; parts = a.blank.parts }
+ghosts-by_workers-J-Ledger g a = record { name = a.blanks.leavers.name; parts = a.blanks.leavers.parts }
 
 abbrev pub ghosts-by_workers-J-Stocked : goal.ghosts-by_workers-J-Stocked
-ghosts-by_workers-J-Stocked g a = record { total = a.pool.total }
+ghosts-by_workers-J-Stocked g a = record { total = a.pool.total; begun = length a.pool.kits; ledger = a.blanks.kits.name }

@@ -1,4 +1,4 @@
-use Rattle.std.proofs.Common.{sym, ap, subst}
+use Rattle.std.proofs.Common.{sym, ap, subst, ◌∙◌}
 use Rattle.right_strands.specs.Rightness.{PlainRight}
 use Rattle.stealing_deques.specs.Order.{IsBoundTo}
 use Rattle.worker_seats.specs.Spots.{spot_of}
@@ -17,4 +17,5 @@ pub returns-in-Err : goal.returns-in-Err
 returns-in-Err g c = record {
   bound = subst (λ (seat : PlainSeat). IsBoundTo seat.here (spot_of c.attach.new.self.strand)) (sym c.in-Err.ensures.same)
       (attached_bound c.args.seat.now.here c.args.strand.now.strand c.detach-task.new.self.strand c.attach.new.self.strand c.detach-task.result c.in-Err.task c.detach-task.ensures.below c.in-Err.ensures.back (ap (λ (s : PlainRight). s.strand) c.detach-task.ensures.child) (ap (λ (s : PlainRight). s.strand) c.attach.ensures.called) c.requires.bound);
+  lower = ap (λ (s : PlainRight). s.strand.lower) c.attach.ensures.called ∙ ap (λ (s : PlainRight). s.strand.lower) c.detach-task.ensures.child;
 }
