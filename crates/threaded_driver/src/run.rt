@@ -29,16 +29,24 @@ use right_strands::run::Run;
 use std::alloc::{AllocError, Global};
 use std::marker::Brand;
 use std::sync::Wait;
-use std::sync::ledger::{Blank, Ledger};
+use std::sync::ledger::Ledger;
 use std::thread;
 use std::thread::Threads;
 use stealing_deques::Deques;
 use view_pool::{Kit, Pool, View};
-use worker_seats::beginning::{NewDeques, deques_of};
+use worker_seats::beginning::{Blanks, NewDeques, deques_of};
 use worker_seats::ended::Ended;
 use worker_seats::failure::Mismatch;
 use worker_seats::kits::Stocked;
 use worker_seats::seat::Seat;
+
+/// What a run is lent: a program, its tables, and the records that may answer its memo instances.
+#[derive(Clone, Copy)]
+struct Lent<'a> {
+    program: &'a Checked,
+    tables: &'a Tables,
+    records: &'a Records,
+}
 
 /// Runs a session's program on its tables by so many threads. Its memo instances are answered by the records that hold now, and
 /// those that a finished run makes are kept for the next one. The answer is NoKit where no kit is free, and NoMemory where memory
@@ -74,14 +82,17 @@ pub fn run_threads<V: View + Send, R: Threads + Wait + Sync, G: Gate>(
     }
     session.kept();
     let pool = session.take_pool(alloc);
+    let lent = Lent {
+        program: session.checked(),
+        tables: session.tables(),
+        records: session.records(),
+    };
     let (ran, pool) = run_on::<Brand, V, R, G>(
         rt,
         alloc,
-        session.checked(),
-        session.tables(),
-        session.records(),
+        lent,
         pool,
-        Blank::new(workers as u64),
+        Blanks::new(workers),
         workers,
         gate,
     );
@@ -125,15 +136,13 @@ fn settle<V: View>(
     }
 }
 
-/// How a run of the program on the tables over the records has ended, and the pool.
+/// How a run of what is lent has ended, and the pool.
 fn run_on<J, V, R, G>(
     rt: &R,
     alloc: Global,
-    program: &Checked,
-    tables: &Tables,
-    records: &Records,
+    lent: Lent<'_>,
     pool: Pool<Kit<V>>,
-    blank: Blank,
+    blanks: Blanks,
     workers: usize,
     gate: &G,
 ) -> (Result<Ended, Mismatch>, Pool<Kit<V>>)
@@ -142,15 +151,17 @@ where
     V: View + Send,
     R: Threads + Wait + Sync,
     G: Gate,
-    requires same { setting_with program.now tables.now.tables [] records.now ≡ J.setting }
-    requires names { program.now.tables ≡ columned_of tables.now.tables }
-    requires sound { AreSound (revised_of program.now) program.now.tables program.now.kinds records.now }
-    requires values { HaveValues program.now.kinds records.now }
-    requires in_step { IsInStep tables.now.tables records.now }
+    requires same { setting_with lent.program.now lent.tables.now.tables [] lent.records.now ≡ J.setting }
+    requires names { lent.program.now.tables ≡ columned_of lent.tables.now.tables }
+    requires sound { AreSound (revised_of lent.program.now) lent.program.now.tables lent.program.now.kinds lent.records.now }
+    requires values { HaveValues lent.program.now.kinds lent.records.now }
+    requires in_step { IsInStep lent.tables.now.tables lent.records.now }
     requires kinds { All (λ k. k ≡ J.setting.kinds) pool.kits }
     requires total { pool.total ≡ J.total }
-    requires name { blank.name ≡ J.name }
-    requires parts { (blank.parts ≡ J.parts) × (J.parts ≡ workers) }
+    requires begun { length pool.kits ≡ J.begun }
+    requires name { blanks.leavers.name ≡ J.name }
+    requires parts { (blanks.leavers.parts ≡ J.parts) × (J.parts ≡ workers) }
+    requires ledger { blanks.kits.name ≡ J.ledger }
     requires some { 0 < workers }
     ensures end { IfOk result.0 (IsEnd J.setting) }
     ensures refusal { IfErr result.0 (λ m. is_refusal m.refusal ≡ true) }
@@ -160,21 +171,17 @@ where
     ensures kinds { All (λ k. k ≡ J.setting.kinds) result.1.kits }
     ensures total { result.1.total ≡ J.total }
 {
-    match deques_of(alloc, blank, workers) {
-        Ok(deques) => run_through::<J, Brand, V, R, G>(
-            rt, alloc, program, tables, records, pool, deques, gate,
-        ),
+    match deques_of(alloc, blanks, workers) {
+        Ok(deques) => run_through::<J, Brand, V, R, G>(rt, alloc, lent, pool, deques, gate),
         Err(AllocError) => (Ok(Ended::without_memory(alloc)), pool),
     }
 }
 
-/// The same through these deques, one for each worker.
+/// How a run of what is lent has ended through these deques, one for each worker, and the pool.
 fn run_through<J, D, V, R, G>(
     rt: &R,
     alloc: Global,
-    program: &Checked,
-    tables: &Tables,
-    records: &Records,
+    lent: Lent<'_>,
     pool: Pool<Kit<V>>,
     deques: NewDeques<J>,
     gate: &G,
@@ -185,13 +192,14 @@ where
     V: View + Send,
     R: Threads + Wait + Sync,
     G: Gate,
-    requires same { setting_with program.now tables.now.tables [] records.now ≡ J.setting }
-    requires names { program.now.tables ≡ columned_of tables.now.tables }
-    requires sound { AreSound (revised_of program.now) program.now.tables program.now.kinds records.now }
-    requires values { HaveValues program.now.kinds records.now }
-    requires in_step { IsInStep tables.now.tables records.now }
+    requires same { setting_with lent.program.now lent.tables.now.tables [] lent.records.now ≡ J.setting }
+    requires names { lent.program.now.tables ≡ columned_of lent.tables.now.tables }
+    requires sound { AreSound (revised_of lent.program.now) lent.program.now.tables lent.program.now.kinds lent.records.now }
+    requires values { HaveValues lent.program.now.kinds lent.records.now }
+    requires in_step { IsInStep lent.tables.now.tables lent.records.now }
     requires kinds { All (λ k. k ≡ J.setting.kinds) pool.kits }
     requires total { pool.total ≡ J.total }
+    requires begun { length pool.kits ≡ J.begun }
     requires named { D.deques ≡ deques }
     requires some { 0 < length deques }
     ensures end { IfOk result.0 (IsEnd J.setting) }
@@ -202,6 +210,11 @@ where
     ensures kinds { All (λ k. k ≡ J.setting.kinds) result.1.kits }
     ensures total { result.1.total ≡ J.total }
 {
+    let Lent {
+        program,
+        tables,
+        records,
+    } = lent;
     match Floor::<J, D, V>::new(alloc, program, tables, records, pool, deques) {
         Ok((floor, seats)) => run_floor(rt, alloc, floor, seats, gate),
         Err((_, pool)) => (Ok(Ended::without_memory(alloc)), pool),
