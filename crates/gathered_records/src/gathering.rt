@@ -26,6 +26,9 @@ use std::alloc::{AllocError, Global};
 /// each other.
 pub(crate) const FINE: u64 = 16;
 
+/// Vast blocks are made of so many records at least: an edit has one made again, which takes more than it saves among fewer.
+const MANY: usize = 250_000;
+
 /// Puts records in as `commit` does, and then makes blocks of those in a row.
 pub fn keep(
     records: &mut Records,
@@ -123,6 +126,9 @@ fn gather_these(
     make_fine(records, alloc, places, tables, program)?;
     make_wider(records, alloc, Width::Middle, places, program)?;
     make_wider(records, alloc, Width::Wide, places, program)?;
+    if records.len() < MANY {
+        return Ok(());
+    }
     make_wider(records, alloc, Width::Vast, places, program)
 }
 
@@ -141,7 +147,7 @@ fn make_fine(
     ensures in_step { IsInStep tables.now.tables records.new }
     ensures same { map settled records.new ≡ map settled records.old }
 {
-    let mut tried = Tried::new(alloc, records.len())?;
+    let mut tried = Tried::new(alloc, records.len(), places.len())?;
     for place in places {
         gather_at(records, alloc, *place as usize, &mut tried, tables, program);
     }
@@ -160,7 +166,7 @@ fn make_wider(
     requires values { HaveValues program.now.kinds records.old }
     ensures same { records.new ≡ records.old }
 {
-    let mut tried = Tried::new(alloc, records.len())?;
+    let mut tried = Tried::new(alloc, records.len(), places.len())?;
     for place in places {
         widen_at(records, alloc, width, *place as usize, &mut tried, program);
     }
@@ -350,14 +356,29 @@ pub(crate) fn go_on(row: &mut Row, first: i64, step: usize) -> bool
     }
 }
 
-/// Whether the record at that place is part of a block.
+/// Whether the record at that place is part of a block. Records in a row mostly have places in a row: there it is looked for first.
 pub(crate) fn is_part(block: &Block, place: usize) -> bool {
-    for other in block.places() {
+    let places = block.places();
+    if is_in_row(places, place) {
+        return true;
+    }
+    for other in places {
         if *other as usize == place {
             return true;
         }
     }
     false
+}
+
+// Whether that place stands where it would if these went up by one.
+fn is_in_row(places: &[u32], place: usize) -> bool {
+    match places.first() {
+        Some(first) => match places.get(place.wrapping_sub(*first as usize)) {
+            Some(other) => *other as usize == place,
+            None => false,
+        },
+        None => false,
+    }
 }
 
 // Which argument of the record at that place is counted: the one in which the next record or the one before it differs from it by

@@ -10,20 +10,28 @@ const WORDS: usize = 64;
 /// How many places a page has.
 const PAGE: usize = 4096;
 
+/// Where so few places are asked, none is noted: to look whether a place has a block by now takes less than to note all places of
+/// a block.
+const FEW: usize = 64;
+
 /// A flag for each place. A page has memory once a place of it was tried, since a rerun tries few among many.
 #[derive(Drop)]
 pub(crate) struct Tried {
     pages: Vec<Vec<u64>>,
+    notes: bool,
 }
 
 impl Tried {
-    /// None of so many places was tried.
-    pub(crate) fn new(alloc: Global, places: usize) -> Result<Tried, AllocError> {
+    /// None of so many places was tried, of which so many will be asked.
+    pub(crate) fn new(alloc: Global, places: usize, asked: usize) -> Result<Tried, AllocError> {
+        let notes = asked > FEW;
         let mut pages = Vec::new(alloc);
-        for _ in 0..places / PAGE + 1 {
-            pages.push(Vec::new(alloc))?;
+        if notes {
+            for _ in 0..places / PAGE + 1 {
+                pages.push(Vec::new(alloc))?;
+            }
         }
-        Ok(Tried { pages })
+        Ok(Tried { pages, notes })
     }
 
     /// Whether that place was tried.
@@ -33,14 +41,16 @@ impl Tried {
                 Some(word) => *word & bit(place) != 0,
                 None => false,
             },
-            None => true,
+            None => self.notes,
         }
     }
 
     /// Notes that places were tried.
     pub(crate) fn put_all(&mut self, places: &[u32]) {
-        for place in places {
-            self.put(*place as usize);
+        if self.notes {
+            for place in places {
+                self.put(*place as usize);
+            }
         }
     }
 
