@@ -1,5 +1,5 @@
 //! The list of a run's strands, and its kits.
-ghost use Rattle.std.specs.Prelude.{◌≡◌, ◌+◌, false, true, suc, IfErr, IfSome, IfNone, OnErr, OnOk, OnSome};
+ghost use Rattle.std.specs.Prelude.{◌≡◌, ◌+◌, false, true, suc, IfErr, IfSome, IfNone, OnOk};
 ghost use Rattle.sync_fold.specs.Counts.{kits_of};
 ghost use Rattle.worker_seats.specs.Balances.{Balances, Lacks, LacksOne, LacksPart};
 ghost use Rattle.worker_seats.specs.Over.{is_far, is_right};

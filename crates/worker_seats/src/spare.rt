@@ -1,5 +1,5 @@
 //! A place for one kit that lies beside the lock.
-ghost use Rattle.std.specs.Prelude.{◌≡◌, None, Some, IfSome, OnSome};
+ghost use Rattle.std.specs.Prelude.{◌≡◌, None, Some, IfSome};
 
 use crate::supply::Shelf;
 use std::marker::{Model, PhantomData};

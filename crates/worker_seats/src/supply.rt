@@ -1,5 +1,5 @@
 //! Kits for the strand of one worker, while the others go on.
-ghost use Rattle.std.specs.Prelude.{◌≡◌, ◌+◌, ◌<◌, suc, true, None, IfSome, OnSome, IsNone};
+ghost use Rattle.std.specs.Prelude.{◌≡◌, ◌+◌, ◌<◌, suc, None, IfSome, OnSome, IsNone};
 ghost use Rattle.worker_seats.specs.Balances.{kept, most};
 
 use crate::spare::Spare;
