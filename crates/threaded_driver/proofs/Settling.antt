@@ -2,11 +2,6 @@
 use Rattle.std.proofs.Common.{◌≡◌, List, [], map, sym, ap, subst, ◌∙◌}
 use Rattle.monoid_laws.specs.declared.Kind.{Kind}
 use Rattle.view_pool.specs.Stock.{Stock}
-use Rattle.meaning.specs.Strands.{BookStep as NamedStep}
-use Rattle.numbered_runs.specs.declared.step.BookStep.{BookStep}
-use Rattle.numbered_runs.specs.Named.{history}
-use Rattle.strand_list.specs.Replays.{LeavesRootAlone}
-use Rattle.worker_seats.specs.Histories.{HasHistory}
 use Rattle.rerun_records.specs.Record.{PlainRecord, settled}
 use Rattle.rerun_records.specs.Commits.{put_records}
 use Rattle.positions.specs.Setting.{Setting, setting_with}
@@ -19,14 +14,6 @@ use Rattle.kept_session.specs.Sessions.{PlainSession}
 use Rattle.session_runs.specs.Runs.{LeavesRecords, IsQuietAfter}
 use Rattle.session_runs.proofs.Outcomes.{quiet_after}
 use Rattle.worker_seats.specs.Ends.{IsAlone}
-
--- a legal history that leaves the first strand alone is that of a run that has ended, whatever its answer
-pub has_history : (given : RunAnswer) (steps : List BookStep) (noted : List NamedStep) → history steps ≡ noted → LeavesRootAlone noted → HasHistory given (history steps)
-has_history (answer.Finished v values n m k) steps noted is h = subst LeavesRootAlone (sym is) h
-has_history (answer.Fault f) steps noted is h = subst LeavesRootAlone (sym is) h
-has_history answer.Unfinished steps noted is h = tt
-has_history answer.NoMemory steps noted is h = tt
-has_history answer.NoKit steps noted is h = tt
 
 -- the setting of a run of the session's program
 abbrev setting_of : PlainSession → Setting

@@ -10,9 +10,7 @@ ghost use Rattle.threaded_driver.specs.Finds.{is_left};
 ghost use Rattle.worker_seats.specs.Over.{is_far, is_over, is_right, is_refusal, is_noted, notes_far, has_failed};
 ghost use Rattle.worker_seats.specs.declared.failure.Failure.TheVariants as reason;
 
-use crate::ending::outcome_of;
 use crate::found::Found;
-use crate::table::Table;
 use right_strands::laid::Piece;
 use right_strands::run::{Run, Scene};
 use std::alloc::{AllocError, Global};
@@ -23,11 +21,13 @@ use view_pool::{Kit, View};
 use worker_seats::beginning::{Blanks, NewDeques};
 use worker_seats::depot::Depot;
 use worker_seats::ended::Ended;
+use worker_seats::ending::outcome_of;
 use worker_seats::failure::{Failure, Mismatch, is_over};
 use worker_seats::held::Held;
 use worker_seats::kits::{KitsOf, RightPool, Stocked};
 use worker_seats::seat::{Seat, seats_of};
 use worker_seats::supply::Shelf;
+use worker_seats::table::Table;
 use worker_seats::waiting::Waiting;
 
 /// The list of strands and the kits, the thieves' ends of the deques by their numbers, why the run gave up, and how many workers

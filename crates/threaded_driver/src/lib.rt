@@ -3,12 +3,10 @@
 
 mod bell;
 mod desk;
-mod ending;
 mod floor;
 mod found;
 pub mod gate;
 pub mod run;
-mod table;
 
 pub use floor::{Floor, PlainFloor, work};
 pub use gate::{Gate, NoGate, Point};

@@ -4,10 +4,12 @@
 pub mod beginning;
 pub mod depot;
 pub mod ended;
+pub mod ending;
 pub mod failure;
 pub mod held;
 pub mod kits;
 pub mod seat;
 mod spare;
 pub mod supply;
+pub mod table;
 pub mod waiting;

@@ -11,14 +11,14 @@ ghost use Rattle.worker_seats.specs.Ends.{IsEnd};
 ghost use Rattle.worker_seats.specs.Over.{is_far, is_over, is_noted, is_refusal, is_right, notes_far};
 ghost use Rattle.worker_seats.specs.declared.failure.Failure.TheVariants as reason;
 
+use crate::ended::{Ended, kept_of};
+use crate::failure::{Failure, Mismatch, mismatch_of};
+use crate::kits::{KitsOf, RightPool, Stocked};
 use crate::table::Table;
 use right_strands::run::{Run, Scene};
 use std::alloc::Global;
 use sync_fold::Book;
 use view_pool::{Kit, View};
-use worker_seats::ended::{Ended, kept_of};
-use worker_seats::failure::{Failure, Mismatch, mismatch_of};
-use worker_seats::kits::{KitsOf, RightPool, Stocked};
 
 /// How a run has ended that gave up for that reason.
 fn without_end(alloc: Global, failure: Failure) -> Result<Ended, Mismatch>
@@ -76,7 +76,7 @@ fn end_of_table<J: Run + Stocked, V: View>(
 }
 
 /// How a run that is over has ended, and the pool: as its list of strands has, unless it gave up.
-pub(crate) fn outcome_of<J: Run + Stocked, V: View>(
+pub fn outcome_of<J: Run + Stocked, V: View>(
     alloc: Global,
     scene: &Scene<'_, J>,
     table: Table<J, V>,

@@ -1,5 +1,5 @@
-use Rattle.threaded_driver.proofs.Settling.{has_history}
-use Rattle.threaded_driver.proofs.ending.end_of.Goals as goal
+use Rattle.worker_seats.proofs.Histories.{has_history}
+use Rattle.worker_seats.proofs.ending.end_of.Goals as goal
 
 pub returns-clause-end : goal.returns-clause-end
 returns-clause-end g c =

@@ -4,6 +4,11 @@ ghost use Rattle.sync_fold.specs.Counts.{kits_of};
 ghost use Rattle.worker_seats.specs.Balances.{Balances, Lacks, LacksOne, LacksPart};
 ghost use Rattle.worker_seats.specs.Over.{is_far, is_right};
 
+use crate::depot::Depot;
+use crate::failure::{Failure, failure_of};
+use crate::held::Held;
+use crate::kits::{KitsOf, RightPool, Stocked};
+use crate::waiting::Waiting;
 use right_strands::laid::Piece;
 use right_strands::run::{Run, Scene};
 use right_strands::strand::RightStrand;
@@ -13,17 +18,12 @@ use std::sync::ledger::Share;
 use stealing_deques::{Deques, ThiefEnd};
 use sync_fold::Book;
 use view_pool::{Kit, View};
-use worker_seats::depot::Depot;
-use worker_seats::failure::{Failure, failure_of};
-use worker_seats::held::Held;
-use worker_seats::kits::{KitsOf, RightPool, Stocked};
-use worker_seats::waiting::Waiting;
 
 /// The list of a run's strands, and its kits. Where a step is refused, the error says why the run gives up; kits may be lost then.
 #[derive(Drop)]
-pub(crate) struct Table<J: Run + Stocked, V: View> {
-    pub(crate) book: Book<J, V>,
-    pub(crate) depot: Depot<KitsOf<J>, Kit<V>>,
+pub struct Table<J: Run + Stocked, V: View> {
+    pub book: Book<J, V>,
+    pub depot: Depot<KitsOf<J>, Kit<V>>,
 }
 
 /// The oldest continuation of the worker of that number, where it has one.
@@ -66,7 +66,7 @@ fn take_oldest<J: Run + Send, D: Deques>(
 
 impl<J: Run + Stocked, V: View> Table<J, V> {
     /// The pool by itself.
-    pub(crate) fn into_pool(self) -> RightPool<KitsOf<J>, Kit<V>> {
+    pub fn into_pool(self) -> RightPool<KitsOf<J>, Kit<V>> {
         let Table { depot, .. } = self;
         depot.into_pool()
     }
@@ -74,7 +74,7 @@ impl<J: Run + Stocked, V: View> Table<J, V> {
 
 impl<J: Run + Stocked + Send, V: View> Table<J, V> {
     /// Lays a strand down that a worker held with that share, which has so many kits.
-    pub(crate) fn lay(
+    pub fn lay(
         &mut self,
         alloc: Global,
         piece: Piece<J, V>,
@@ -102,7 +102,7 @@ impl<J: Run + Stocked + Send, V: View> Table<J, V> {
     }
 
     /// Folds the first neighbours that may be folded, if there are any.
-    pub(crate) fn fold(
+    pub fn fold(
         &mut self,
         alloc: Global,
         scene: &Scene<'_, J>,
@@ -144,7 +144,7 @@ impl<J: Run + Stocked + Send, V: View> Table<J, V> {
     }
 
     /// Takes a kit, and then the oldest continuation of a worker that has one, from which another goes on.
-    pub(crate) fn steal<D: Deques>(
+    pub fn steal<D: Deques>(
         &mut self,
         alloc: Global,
         scene: &Scene<'_, J>,
