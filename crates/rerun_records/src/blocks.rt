@@ -18,7 +18,7 @@ use std::slice;
 const FEWEST: usize = 64;
 
 /// And one for so many blocks.
-const BLOCKS_A_CHANGE: usize = 32;
+const BLOCKS_A_CHANGE: usize = 2;
 
 /// The width of a block.
 #[derive(Clone, Copy)]
