@@ -141,6 +141,10 @@ impl Records {
         ensures valid { option_copied result ≡ valid_at program.now.revisions tables.now.tables depth
             self.now procedure arguments.now }
     {
+        // A first run asks for each instance: without records there is nothing to hash for.
+        if self.is_empty() {
+            return None;
+        }
         match self.place_of(procedure, arguments) {
             Some((place, record)) => self.valid_in(place, record, depth, tables, program),
             None => None,
