@@ -5,6 +5,8 @@ ghost use Rattle.input_tables.specs.Pages.{lower_count, page_of, AreRising, IsOf
 
 const PAGE_ROWS: i64 = 64;
 
+const PLACES: usize = 64;
+
 /// The number of the page that covers a row. No row has a number below 0, so there is no page of those.
 #[inline(always)]
 pub fn page_of(row: i64) -> i64
@@ -13,20 +15,16 @@ pub fn page_of(row: i64) -> i64
     if row < 0 { -1 } else { row / PAGE_ROWS }
 }
 
-/// Where a row stands in its page, if those before it on the page are all there.
+/// Where a row stands in its page, if those before it on the page are all there. A number below 0 is no row's: any place will do.
 #[inline(always)]
 pub fn place_on_page(row: i64) -> usize {
-    if row < 0 {
-        0
-    } else {
-        (row % PAGE_ROWS) as usize
-    }
+    row.cast_unsigned() as usize % PLACES
 }
 
-/// Where a page stands, if those before it are all there.
+/// Where a page stands, if those before it are all there. None stands at the place of a number below 0.
 #[inline(always)]
 pub fn place_among_pages(page: i64) -> usize {
-    if page < 0 { 0 } else { page as usize }
+    page.cast_unsigned() as usize
 }
 
 /// Where the entry of this number stands, or else where it is to be put. It is quick where the entry stands at `guess`.
@@ -40,7 +38,24 @@ pub fn find<T>(entries: &[(i64, T)], number: i64, guess: usize) -> Result<usize,
     ensures upto_end { IfErr result (λ place. place ≤ length entries.now) }
     ensures absent { IfErr result (λ place. IsAbsent number (slice_get entries.now place)) }
 {
-    let place = lower_count(entries, number, guess);
+    match entries.get(guess) {
+        Some(entry) if entry.0 == number => Ok(guess),
+        _ => look_for(entries, number),
+    }
+}
+
+// Where the entry of this number stands, or else where it is to be put, without a guess.
+#[inline(never)]
+fn look_for<T>(entries: &[(i64, T)], number: i64) -> Result<usize, usize>
+    requires { AreRising entries.now }
+    ensures place { IfOk result (λ place. place ≡ lower_count number entries.now) }
+    ensures within { IfOk result (λ place. place < length entries.now) }
+    ensures there { IfOk result (λ place. IsOf number (slice_get entries.now place)) }
+    ensures new_place { IfErr result (λ place. place ≡ lower_count number entries.now) }
+    ensures upto_end { IfErr result (λ place. place ≤ length entries.now) }
+    ensures absent { IfErr result (λ place. IsAbsent number (slice_get entries.now place)) }
+{
+    let place = search(entries, number);
     match entries.get(place) {
         Some(entry) => {
             if entry.0 == number {
@@ -54,17 +69,6 @@ pub fn find<T>(entries: &[(i64, T)], number: i64, guess: usize) -> Result<usize,
 }
 
 // How many entries have lower numbers.
-#[inline(always)]
-fn lower_count<T>(entries: &[(i64, T)], number: i64, guess: usize) -> usize
-    requires { AreRising entries.now }
-    ensures { result ≡ lower_count number entries.now }
-{
-    match entries.get(guess) {
-        Some(entry) if entry.0 == number => guess,
-        _ => search(entries, number),
-    }
-}
-
 fn search<T>(entries: &[(i64, T)], number: i64) -> usize
     requires { AreRising entries.now }
     ensures { result ≡ lower_count number entries.now }

@@ -1,16 +1,17 @@
-use Rattle.std.proofs.Common.{◌≡◌, ◌≤◌, None, length, arith, sym, false, ltb}
-use Rattle.std.proofs.lemmas.Bool.Decides.{nat_tests}
-use Rattle.std.proofs.lemmas.Option.{slice_get_past}
+use Rattle.std.proofs.Common.{rules, ◌≡◌, Some, ap, sym, refl, w64, FitsSigned}
+use Rattle.std.proofs.lemmas.Int.{to_z-of_z}
+use Rattle.std.proofs.lemmas.Option.{slice_get_read}
+use Rattle.std.specs.Int.{cast_signed}
 use Rattle.std.specs.Prelude.{slice_get}
-use Rattle.input_tables.proofs.Orders.{place_within}
+use Rattle.input_tables.proofs.Orders.{place_there}
 use Rattle.input_tables.proofs.places.find.Goals as goal
 
-pub returns-in-None-clause-upto_end : goal.returns-in-None-clause-upto_end
-returns-in-None-clause-upto_end g c = rw c.lower_count-place.ensures (place_within _ c.args.entries.now)
-
-pub returns-in-None-clause-absent : goal.returns-in-None-clause-absent
-returns-in-None-clause-absent g c =
-    let test : ltb c.lower_count-place.result (length c.args.entries.now) ≡ false = sym c.in-None.ensures.lookup.0 in
-    let past : length c.args.entries.now ≤ c.lower_count-place.result = grind (arith, nat_tests) in
-    let none : slice_get c.args.entries.now c.lower_count-place.result ≡ None = slice_get_past c.args.entries.now c.lower_count-place.result past in
-    rw none tt
+pub returns-in-Some-clause-place : goal.returns-in-Some-clause-place
+returns-in-Some-clause-place g c =
+    let e = c.in-Some.entry.now in
+    let f : FitsSigned w64 c.args.number = c.ranges.number in
+    let fits : FitsSigned w64 e.0 = search rules in
+    let is : e.0 ≡ c.args.number = simp to_z-of_z at (ap (cast_signed w64) c.if-entry-number.true) in
+    let there : slice_get c.args.entries.now c.args.guess ≡ Some e =
+    slice_get_read c.args.entries.now _ c.args.guess e refl c.in-Some.ensures.lookup.3.0 c.in-Some.ensures.lookup.1 in
+    sym (place_there c.args.number c.args.entries.now c.args.guess e c.requires there is)
