@@ -1,7 +1,7 @@
 //! Updates in place: a number behind a list, an amount at a key.
-ghost use Rattle.std.specs.Prelude.{◌≡◌, ℕ, ◌≤◌, OnOk, OnErr, IfErr, IsOk, ◌++◌, ◌∷◌, [], take, length, true};
-ghost use Rattle.monoid_laws.specs.Worth.{items, amounts, the_amounts};
-ghost use Rattle.monoid_laws.specs.Kinds.{last_of, merge, meaning, operate, element_of, arity, names_element, refusal, IsWorth, IsAmounts, IsNumberKind};
+ghost use Rattle.std.specs.Prelude.{◌≡◌, ℕ, ◌≤◌, OnOk, OnErr, IfErr, IsOk, ◌++◌, ◌∷◌, [], take, length, true, Some};
+ghost use Rattle.monoid_laws.specs.Worth.{items, amounts, best, the_amounts, the_best};
+ghost use Rattle.monoid_laws.specs.Kinds.{better, last_of, merge, meaning, operate, element_of, arity, names_element, refusal, IsWorth, IsAmounts, IsNumberKind};
 ghost use Rattle.reducer_values.specs.Forms.{kept, is_fixed, IsListKind};
 
 use crate::adding::add_amount;
@@ -98,14 +98,26 @@ fn add_at_key(alloc: Global, value: &mut Val, key: i64, amount: i64) -> Result<(
     }
 }
 
+/// Puts a value in place of one of another form.
+#[inline(never)]
+fn put(value: &mut Val, new: Val)
+    ensures { meaning value.new ≡ meaning new }
+{
+    *value = new;
+}
+
 /// Combines a number on the right of a value of a kind of numbers.
+#[inline(always)]
 fn add_to_number(kind: &Kind, value: &mut Val, number: i64)
     requires { IsNumberKind kind.now }
     ensures { meaning value.new ≡ operate kind.now (meaning value.old) (element_of kind.now (number ∷ [])) }
 {
     match value {
         Val::Int(held) => *held = combine_numbers(kind, *held, number),
-        other => *other = Val::Int(combine_numbers(kind, number_of(other), number)),
+        other => put(
+            other,
+            Val::Int(combine_numbers(kind, number_of(other), number)),
+        ),
     }
 }
 
@@ -131,9 +143,27 @@ fn add_fixed(
     Ok(())
 }
 
-/// Combines the element that the numbers name on the right of a value. An error is BadElement, where a table has no such
-/// element, or NoMemory; the value is then worth the same as before.
-pub fn add_element(
+/// Puts a pair in place of the best one, where its first number is greater.
+#[inline(always)]
+fn add_best(value: &mut Val, measure: i64, row: i64)
+    ensures { meaning value.new ≡ best (better (the_best (meaning value.old)) (Some (measure, row))) }
+{
+    match value {
+        Val::Arg(held) => match held {
+            Some(pair) => {
+                if pair.0 < measure {
+                    *pair = (measure, row);
+                }
+            }
+            None => *held = Some((measure, row)),
+        },
+        other => put(other, Val::Arg(Some((measure, row)))),
+    }
+}
+
+/// Combines the element that the numbers name on the right of a value of whatever kind.
+#[inline(never)]
+fn add_by_kind(
     alloc: Global,
     kind: &Kind,
     value: &mut Val,
@@ -164,5 +194,39 @@ pub fn add_element(
     match added {
         Ok(()) => Ok(()),
         Err(_) => Err(InjectError::NoMemory),
+    }
+}
+
+/// Combines the element that the numbers name on the right of a value. An error is BadElement, where a table has no such
+/// element, or NoMemory; the value is then worth the same as before. Sums and best pairs are
+/// quickest.
+#[inline(always)]
+pub fn add_element(
+    alloc: Global,
+    kind: &Kind,
+    value: &mut Val,
+    numbers: &[i64],
+) -> Result<(), InjectError>
+    requires count { length numbers.now ≡ arity kind.now }
+    requires of_kind { IsWorth kind.now (meaning value.old) }
+    ensures combined { OnOk result (meaning value.new
+        ≡ operate kind.now (meaning value.old) (element_of kind.now numbers.now)) }
+    ensures element { OnOk result (IsWorth kind.now (element_of kind.now numbers.now)) }
+    ensures named { OnOk result (names_element kind.now numbers.now ≡ true) }
+    ensures refused { OnErr result (meaning value.new ≡ meaning value.old) }
+    ensures cause { IfErr result (λ e. e ≡ refusal kind.now numbers.now) }
+    ensures fixed { is_fixed kind.now ≡ true → names_element kind.now numbers.now ≡ true
+        → IsOk result }
+{
+    match kind {
+        Kind::Add => {
+            add_to_number(kind, value, numbers[0]);
+            Ok(())
+        }
+        Kind::Argmax => {
+            add_best(value, numbers[0], numbers[1]);
+            Ok(())
+        }
+        _ => add_by_kind(alloc, kind, value, numbers),
     }
 }
