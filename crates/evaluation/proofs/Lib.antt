@@ -3,3 +3,4 @@ pub mod Sequences
 pub mod Readings
 pub mod Meant
 pub mod Slots
+pub mod Padded

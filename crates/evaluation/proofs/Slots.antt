@@ -38,13 +38,13 @@ unset_meant : (n : ℕ) → map meant (replicate n Unset) ≡ replicate n defini
 unset_meant zero = refl
 unset_meant (suc n) = ap (λ l. definitions.unset ∷ l) (unset_meant n)
 
-past_end : (k : ℕ) → replicate {A = Slot} (0 - k) Unset ≡ []
+pub past_end : (k : ℕ) → replicate {A = Slot} (0 - k) Unset ≡ []
 past_end k = ap (λ n. replicate n Unset) (let z : 0 - k ≡ 0 = omega arith in z)
 
-both_less : (n : ℕ) (ss : List Slot) → replicate (suc n - suc (length ss)) Unset ≡ replicate {A = Slot} (n - length ss) Unset
+pub both_less : (n : ℕ) (ss : List Slot) → replicate (suc n - suc (length ss)) Unset ≡ replicate {A = Slot} (n - length ss) Unset
 both_less n ss = ap (λ m. replicate m Unset) (let z : suc n - suc (length ss) ≡ n - length ss = omega arith in z)
 
-none_less : (n : ℕ) → n - 0 ≡ n
+pub none_less : (n : ℕ) → n - 0 ≡ n
 none_less n = omega arith
 
 -- the slots of a new instance are its names' values

@@ -12,6 +12,7 @@ use Rattle.linked_program.specs.Linked.{Linked, constant, slot, cell_at, has_at,
 use Rattle.evaluation.specs.declared.note.Note.{Note}
 use Rattle.evaluation.specs.declared.note.Note.TheVariants.{Cell, Has, Limit, Sum}
 use Rattle.evaluation.specs.declared.slot.Slot.{Slot}
+use Rattle.evaluation.specs.declared.slot.Slot.TheVariants as forms
 use Rattle.evaluation.specs.Slots.{number_in, slots_for}
 
 infixl 20 ◌>>=◌
@@ -88,6 +89,11 @@ module _ (ts : Tables) (slots : List Slot) where
   -- the slots of an instance of so many names that is entered with these arguments
   abbrev pub entry_at : ℕ → List Linked → NumberedOut (List Slot)
   entry_at size es = mapped (slots_for size) (values_at es)
+
+  -- the slot of such an instance at a place, by the argument that stands there
+  abbrev pub slot_by : Option Linked → NumberedOut Slot
+  slot_by None = pure forms.Unset
+  slot_by (Some e) = mapped forms.Has (value_at e)
 
   -- a loop's first number, and how many iterations it has
   abbrev pub bounds_at : Linked → Linked → NumberedOut (ℤ × ℕ)

@@ -1,29 +1,38 @@
 //! The values of expressions where nobody asks what they read.
 
-ghost use Rattle.std.specs.Prelude.{◌≡◌, ◌∷◌, [], map};
+ghost use Rattle.std.specs.Prelude.{◌≡◌, ◌≤◌, ◌∷◌, [], length, map, slice_get};
 ghost use Rattle.linked_program.specs.CodeView.{expression as plain};
 ghost use Rattle.evaluation.specs.Ends.{Answers};
 ghost use Rattle.input_tables.specs.Edited as read;
-ghost use Rattle.evaluation.specs.Values.{value_at, values_at, entry_at, looked, applied as applied_to};
+ghost use Rattle.evaluation.specs.Values.{value_at, values_at, entry_at, slot_by, looked, applied as applied_to};
 
 use crate::operators::{apply, one_if};
 use crate::slot::Slot;
 use crate::stop::Stop;
-use crate::values::{at_once, number_in, without_reading};
+use crate::values::{at_once, number_in};
 use input_tables::Tables;
 use linked_program::code::Expression;
 use meaning::FaultKind;
 use program_tree::Operator;
 
-/// The value of an expression, or its fault.
+/// The value of an expression, or its fault; that of numbers, of slots, and of an operator on these or on cells whose rows are
+/// these, without a call of `evaluate`.
 #[inline(always)]
 pub fn value(expression: &Expression, slots: &[Slot], tables: &Tables) -> Result<i64, Stop>
     ensures answer { Answers (λ v. v) (value_at tables.now.tables slots.now (plain expression.now))
         result }
 {
-    match without_reading(expression, slots) {
-        Some(value) => Ok(value),
-        None => evaluate(expression, slots, tables),
+    match expression {
+        Expression::Number(number) => Ok(*number),
+        Expression::Slot(number) => Ok(number_in(slots, *number)),
+        Expression::Binary(operator, left, right) => match operand(left, slots, tables) {
+            Ok(left) => match operand(right, slots, tables) {
+                Ok(right) => applied(*operator, left, right),
+                Err(stop) => Err(stop),
+            },
+            Err(stop) => Err(stop),
+        },
+        _ => evaluate(expression, slots, tables),
     }
 }
 
@@ -60,12 +69,55 @@ pub fn fill_slots(
     ensures answer { Answers (λ u. made.new.items) (entry_at tables.now.tables slots.now size
         (map plain arguments.now)) result }
 {
+    if made.len() == size && arguments.len() <= size {
+        return put_over(made, arguments, slots, tables);
+    }
     made.clear();
     put_values(made, size, arguments, slots, tables)
 }
 
-// Puts the slots of an instance into an empty list: the values of its arguments, and then no values.
+// Puts the slots of an instance in place of as many others: the values of its arguments, and then no values.
 #[inline(always)]
+fn put_over(
+    made: &mut Vec<Slot>,
+    arguments: &[Expression],
+    slots: &[Slot],
+    tables: &Tables,
+) -> Result<(), Stop>
+    requires room { length arguments.now ≤ length made.old.items }
+    ensures answer { Answers (λ u. made.new.items)
+        (entry_at tables.now.tables slots.now (length made.old.items) (map plain arguments.now)) result }
+{
+    for place in 0..made.len() {
+        match slot_at(place, arguments, slots, tables) {
+            Ok(slot) => made[place] = slot,
+            Err(stop) => return Err(stop),
+        }
+    }
+    Ok(())
+}
+
+// The slot at a place of an instance that is entered with these arguments.
+#[inline(always)]
+fn slot_at(
+    place: usize,
+    arguments: &[Expression],
+    slots: &[Slot],
+    tables: &Tables,
+) -> Result<Slot, Stop>
+    ensures answer { Answers (λ s. s) (slot_by tables.now.tables slots.now (slice_get (map plain arguments.now) place)) result }
+{
+    match arguments.get(place) {
+        None => Ok(Slot::Unset),
+        Some(argument) => match value(argument, slots, tables) {
+            Ok(value) => Ok(Slot::Has(value)),
+            Err(stop) => Err(stop),
+        },
+    }
+}
+
+// Puts the slots of an instance into an empty list: the values of its arguments, and then no values.
+#[inline(never)]
 fn put_values(
     made: &mut Vec<Slot>,
     size: usize,
