@@ -58,7 +58,19 @@ fn note_use(used: &mut Vec<usize>, reducer: usize) -> Result<(), AllocError>
     ensures keys { OnOk result (used.new.items ≡ used_also used.old.items reducer) }
     ensures same { OnErr result (used.new.items ≡ used.old.items) }
 {
-    if is_in_order(used, reducer) || is_used(used, reducer) {
+    if is_in_order(used, reducer) {
+        return Ok(());
+    }
+    note_anew(used, reducer)
+}
+
+/// The same by a look at all that are used.
+#[inline(never)]
+fn note_anew(used: &mut Vec<usize>, reducer: usize) -> Result<(), AllocError>
+    ensures keys { OnOk result (used.new.items ≡ used_also used.old.items reducer) }
+    ensures same { OnErr result (used.new.items ≡ used.old.items) }
+{
+    if is_used(used, reducer) {
         return Ok(());
     }
     match used.push(reducer) {
@@ -213,6 +225,7 @@ impl<V: View> Hypermap<V> {
 
     /// Combines the element that the numbers name on the right of the reducer's value. An error is BadElement, where a table
     /// has no such element, or NoMemory; all values stay.
+    #[inline(always)]
     pub fn update(&mut self, reducer: usize, numbers: &[i64]) -> Result<(), InjectError>
         requires reducer_is { reducer < length self.old.kinds }
         requires count { (c : Kind) → IsAt self.old.kinds reducer c → length numbers.now ≡ arity c }
