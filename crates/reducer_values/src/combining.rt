@@ -5,7 +5,7 @@ ghost use Rattle.reducer_values.specs.Forms.{is_fixed, IsBlank};
 
 use crate::adding::combine_amounts;
 use crate::copying::copy_of;
-use crate::fixed::{combine_fixed, is_fixed};
+use crate::fixed::{is_fixed, put_fixed};
 use crate::joining::{combine_kept, combine_lists};
 use crate::{Kind, Val};
 use std::alloc::{AllocError, Global};
@@ -85,7 +85,7 @@ pub fn combine(alloc: Global, kind: &Kind, left: &mut Val, right: Val) -> Result
     ensures room { meaning left.old ≡ identity_of kind.now → IsOk result }
 {
     if is_fixed(kind) {
-        *left = combine_fixed(kind, left, &right);
+        put_fixed(kind, left, &right);
         return Ok(());
     }
     match combine_growing(alloc, kind, left, right) {
@@ -100,7 +100,8 @@ pub fn combine(alloc: Global, kind: &Kind, left: &mut Val, right: Val) -> Result
     }
 }
 
-/// Combines a copy of a value on the right of another. It is refused for want of memory alone.
+/// Combines a copy of a value on the right of another. It is refused for want of memory alone; a value that takes none isn't
+/// copied.
 pub fn combine_copy(
     alloc: Global,
     kind: &Kind,
@@ -112,6 +113,10 @@ pub fn combine_copy(
     ensures combined { OnOk result
         (meaning held.new ≡ operate kind.now (meaning held.old) (meaning value.now)) }
 {
+    if is_fixed(kind) {
+        put_fixed(kind, held, value);
+        return Ok(());
+    }
     let copy = copy_of(alloc, value)?;
     match combine(alloc, kind, held, copy) {
         Ok(()) => Ok(()),

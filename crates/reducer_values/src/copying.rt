@@ -20,8 +20,20 @@ fn copied_pieces(
     Ok(copies)
 }
 
-/// A value worth the same. Want of memory is the only error.
+/// A value worth the same. Want of memory is the only error. The forms that most values have come first.
+#[inline(always)]
 pub fn copy_of(alloc: Global, value: &Val) -> Result<Val, AllocError>
+    ensures { IfOk result (λ v. meaning v ≡ meaning value.now) }
+{
+    match value {
+        Val::Int(number) => Ok(Val::Int(*number)),
+        Val::Arg(best) => Ok(Val::Arg(*best)),
+        other => copied(alloc, other),
+    }
+}
+
+/// The same of a value of any form.
+fn copied(alloc: Global, value: &Val) -> Result<Val, AllocError>
     ensures { IfOk result (λ v. meaning v ≡ meaning value.now) }
 {
     match value {

@@ -1,6 +1,6 @@
 //! Values that take no memory: numbers, pairs and elements of tables.
 ghost use Rattle.std.specs.Prelude.{◌≡◌, ℕ, ◌<◌, ◌+ℤ◌, ◌*ℤ◌, true};
-ghost use Rattle.monoid_laws.specs.Worth.{Worth, number, the_number, the_best, the_factor, the_term, the_element};
+ghost use Rattle.monoid_laws.specs.Worth.{Worth, number, best, the_number, the_best, the_factor, the_term, the_element};
 ghost use Rattle.monoid_laws.specs.Kinds.{wrap, operate, meaning, better, IsWorth, IsNumberKind};
 ghost use Rattle.reducer_values.specs.Forms.{is_fixed};
 ghost use Rattle.monoid_laws.specs.declared.Kind.TheVariants as kinds;
@@ -23,6 +23,7 @@ pub(crate) fn product_of(a: i64, b: i64) -> i64
 }
 
 /// Whether the values of a kind take no memory.
+#[inline(always)]
 pub(crate) fn is_fixed(kind: &Kind) -> bool
     ensures { result ≡ is_fixed kind.now }
 {
@@ -128,6 +129,43 @@ fn combine_lines(left: &Val, right: &Val) -> Val
         product_of(factor_of(left), factor),
         sum_of(moved, term_of(right)),
     )
+}
+
+/// Combines a number on the right of a value of a kind of numbers, in its place.
+#[inline(always)]
+fn put_number(kind: &Kind, held: &mut Val, number: i64)
+    ensures { (y : Worth) → number ≡ the_number y → IsNumberKind kind.now → meaning held.new ≡ operate kind.now (meaning held.old) y }
+{
+    match held {
+        Val::Int(value) => *value = combine_numbers(kind, *value, number),
+        other => *other = Val::Int(combine_numbers(kind, number_of(other), number)),
+    }
+}
+
+/// Combines a pair on the right of a value, in its place: the better one stays.
+#[inline(always)]
+fn put_best(held: &mut Val, more: Option<(i64, i64)>)
+    ensures { meaning held.new ≡ best (better (the_best (meaning held.old)) more) }
+{
+    match held {
+        Val::Arg(held) => *held = better(*held, more),
+        other => *other = Val::Arg(better(best_of(other), more)),
+    }
+}
+
+/// Combines a value of a kind that takes no memory on the right of another, in its place.
+#[inline(always)]
+pub(crate) fn put_fixed(kind: &Kind, held: &mut Val, right: &Val)
+    requires fixed { is_fixed kind.now ≡ true }
+    requires left_value { IsWorth kind.now (meaning held.old) }
+    requires right_value { IsWorth kind.now (meaning right.now) }
+    ensures { meaning held.new ≡ operate kind.now (meaning held.old) (meaning right.now) }
+{
+    match kind {
+        Kind::Argmax => put_best(held, best_of(right)),
+        Kind::Affine | Kind::Table(_) => *held = combine_fixed(kind, held, right),
+        _ => put_number(kind, held, number_of(right)),
+    }
 }
 
 /// Combines two values of a kind that takes no memory.

@@ -58,6 +58,23 @@ fn join_short(kind: &Kind, left: &mut Val, right: &Val) -> bool
     }
 }
 
+/// Makes `left` the two combined, of a kind whose values may be kept in pieces.
+fn combine_long(alloc: Global, kind: &Kind, left: &mut Val, right: Val) -> Result<(), Val>
+    requires left_value { IsWorth kind.now (meaning left.old) }
+    requires right_value { IsWorth kind.now (meaning right) }
+    ensures combined { OnOk result (meaning left.new
+        ≡ operate kind.now (meaning left.old) (meaning right)) }
+    ensures refused { OnErr result (meaning left.new ≡ meaning left.old) }
+    ensures handed_back { IfErr result (λ v. v ≡ right) }
+    ensures room { meaning left.old ≡ identity_of kind.now → IsOk result }
+{
+    if join_short(kind, left, &right) {
+        return Ok(());
+    }
+    split_for(alloc, kind, left, &right);
+    combine(alloc, kind, left, right)
+}
+
 /// Makes `left` the two combined, left then right; where memory is refused, hands `right` back. Pieces stay pieces.
 pub(crate) fn combine_in_pieces(
     alloc: Global,
@@ -73,11 +90,10 @@ pub(crate) fn combine_in_pieces(
     ensures handed_back { IfErr result (λ v. v ≡ right) }
     ensures room { meaning left.old ≡ identity_of kind.now → IsOk result }
 {
-    if join_short(kind, left, &right) {
-        return Ok(());
+    match kind {
+        Kind::List | Kind::Hist => combine_long(alloc, kind, left, right),
+        _ => combine(alloc, kind, left, right),
     }
-    split_for(alloc, kind, left, &right);
-    combine(alloc, kind, left, right)
 }
 
 /// Combines the element that the numbers name on the right of a value; refused as by `add_element`.
