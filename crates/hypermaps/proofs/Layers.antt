@@ -3,9 +3,10 @@ use Rattle.std.specs.Prelude.{◌≡◌, ◌≢◌, ℕ, zero, suc, ◌<◌, Lis
 use Rattle.std.specs.List.{list_any, slice_get}
 use Rattle.std.proofs.Common.{sym, ◌∙◌, ap, subst, arith, get_or, set}
 use Rattle.std.proofs.Math.ListN.{length-map}
+use Rattle.std.proofs.lemmas.Bool.Decides.{Decides-eqb}
 use Rattle.std.proofs.Math.Seq.{map-set_same}
 use Rattle.std.proofs.lemmas.List.{map-set, get_or-map, get_or-set_other}
-use Rattle.std.proofs.lemmas.List.Elements.{All-head, All-tail, All-push, All-nil, All-get_or}
+use Rattle.std.proofs.lemmas.List.Elements.{All-head, All-tail, All-push, All-nil, All-cons, All-get_or}
 use Rattle.std.proofs.lemmas.Grind.{common_steps}
 use Rattle.hypermaps.specs.Layer.{used_also}
 use Rattle.monoid_laws.specs.Worth.{Worth}
@@ -70,6 +71,17 @@ pub worths_at_identity : {X : Type 0} (kind : X → Kind) (worth : X → Worth) 
 worths_at_identity kind worth [] h = refl
 worths_at_identity kind worth (x ∷ xs) h =
     cons_same _ _ _ _ (All-head (λ x. worth x ≡ identity_of (kind x)) x xs h) (worths_at_identity kind worth xs (All-tail (λ x. worth x ≡ identity_of (kind x)) x xs h))
+
+pub no_items : (xs : List ℕ) → nat_eq (length xs) 0 ≡ true → xs ≡ []
+no_items [] e = refl
+no_items (x ∷ xs) e = (let none : suc (length xs) ≡ 0 = (Decides-eqb (suc (length xs)) 0).0 e in absurd (omega (arith, none)))
+
+pub all_at_identity : {X : Type 0} (kind : X → Kind) (worth : X → Worth) (xs : List X) → map worth xs ≡ identities (map kind xs) → All (λ x. worth x ≡ identity_of (kind x)) xs
+all_at_identity kind worth [] e = All-nil _
+all_at_identity kind worth (x ∷ xs) e =
+    let first : worth x ≡ identity_of (kind x) = cc in
+    let others : map worth xs ≡ identities (map kind xs) = cc in
+    All-cons (λ y. worth y ≡ identity_of (kind y)) x xs first (all_at_identity kind worth xs others)
 
 module _ {X : Type 0} (kind : X → Kind) (worth : X → Worth) (xs : List X) (i : ℕ) (old new : X) (within : i < length xs) (is : old ≡ get_or xs i old) (same : kind new ≡ kind old) where
   pub kinds_written : map kind (set xs i new) ≡ map kind xs

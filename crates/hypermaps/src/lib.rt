@@ -173,6 +173,26 @@ fn absorb_at<V: View>(
     view.absorb(value)
 }
 
+/// The kit of these views, which are there already.
+fn kit_at_identity<V: View>(views: Vec<V>) -> Kit<V>
+    requires at_identity { All (λ v. V.worth_of v ≡ identity_of (V.kind_of v)) views.items }
+    ensures kit { result ≡ map V.kind_of views.items }
+{
+    Kit::new(views)
+}
+
+/// The kit of these views, each put at its identity; where none was used, they are there already.
+fn kit_of<V: View>(views: Vec<V>, used: &[usize]) -> Kit<V>
+    requires layer { IsLayer (map V.kind_of views.items) (map V.worth_of views.items) used.now }
+    ensures kit { result ≡ map V.kind_of views.items }
+{
+    if used.is_empty() {
+        kit_at_identity(views)
+    } else {
+        Kit::reset(views)
+    }
+}
+
 impl<V: View> Hypermap<V> {
     /// A hypermap in which no reducer was used.
     pub fn open(alloc: Global, kit: Kit<V>) -> Self
@@ -198,6 +218,11 @@ impl<V: View> Hypermap<V> {
         self.views.len()
     }
 
+    /// How many reducers were used: for who makes room for what they gave.
+    pub fn used_count(&self) -> usize {
+        self.used.len()
+    }
+
     /// The kit, each view at its identity again.
     pub fn close(self) -> Kit<V>
         ensures { result ≡ self.kinds }
@@ -212,7 +237,7 @@ impl<V: View> Hypermap<V> {
         ensures { result.0 ≡ self.kinds }
     {
         let Hypermap { views, used } = self;
-        (Kit::reset(views), used)
+        (kit_of(views, &used), used)
     }
 
     /// The value of one reducer. Want of memory is the only error.
