@@ -1,9 +1,9 @@
 //! Many small steps in one go: those for which no kit is needed, and which spawn nothing.
-ghost use Rattle.std.specs.Prelude.{◌≡◌, ◌+◌, ◌<◌, ◌^◌, ◌++◌, ◌∷◌, [], ℕ, true, false, length, map, None};
+ghost use Rattle.std.specs.Prelude.{◌≡◌, ◌+◌, ◌<◌, ◌^◌, ◌++◌, ◌∷◌, [], ℕ, true, false, length, map, None, vec_len, vec_capacity};
 ghost use Rattle.program_tree.specs.declared.Way.TheVariants.{Call};
 ghost use Rattle.linked_program.specs.CodeView.{expression as plain, slots_of};
 ghost use Rattle.evaluation.specs.Values.{entry_at};
-ghost use Rattle.positions.specs.Activations.{ShareFits, WorkFits};
+ghost use Rattle.positions.specs.Activations.{ShareFits, WorkFits, waiting};
 ghost use Rattle.positions.specs.Setting.{Setting as PlainSetting};
 ghost use Rattle.positions.specs.Strands.{entry_by};
 ghost use Rattle.positions.specs.Tallies.{is_own};
@@ -14,10 +14,11 @@ ghost use Rattle.own_statements.specs.Paths.{phase_by};
 ghost use Rattle.small_steps.specs.Steps.{nested_plain};
 ghost use Rattle.running_ahead.specs.Ahead.{IsAhead, GoesAhead, GoesAheadBy, CameBy, OnBack, IsBackWith};
 
-use activations::activation::next_of;
+use activations::activation::{Activation, next_of};
 use activations::code::{LoopCode, instruction, loop_code};
 use activations::setting::Setting;
 use activations::shares::{number_of, rest_of};
+use activations::spares::Spares;
 use evaluation::slot::Slot;
 use linked_program::code::{Expression, Instruction, Operation};
 use own_statements::filling::fills;
@@ -272,6 +273,7 @@ fn enter_plain_ahead<V: View>(
 
 /// Enters the iterations of a loop that has so many left, one after another, where their procedure isn't marked memo, and does
 /// their statements; or ends the loop. False where nothing is left that could be done so.
+#[inline(never)]
 fn turns_ahead<V: View>(
     machine: &mut Machine<V>,
     alloc: Global,
@@ -398,15 +400,46 @@ fn child_ahead<V: View>(
             Came::Back
         }
         None => {
-            let blank = machine.spares.blank(alloc);
-            let child = mem::replace(&mut machine.spares.child, blank);
-            machine.path.push_reserved(number);
-            let mut parent = mem::replace(&mut machine.top, child);
-            parent.wait(false, callee.into, callee.work);
-            machine.below.push_reserved(parent);
+            put_on_top(
+                &mut machine.path,
+                &mut machine.below,
+                &mut machine.top,
+                &mut machine.spares,
+                alloc,
+                number,
+                callee,
+            );
             Came::Stays
         }
     }
+}
+
+/// Puts the instance that was begun on top of the one that has called it, which waits for it and is its child of that number. There
+/// is room for both.
+#[inline(never)]
+fn put_on_top(
+    path: &mut Vec<usize>,
+    below: &mut Vec<Activation>,
+    top: &mut Activation,
+    spares: &mut Spares,
+    alloc: Global,
+    number: usize,
+    callee: Callee<'_>,
+)
+    requires fits { WorkFits callee.work }
+    requires children { top.old.children + 1 < 2 ^ 64 }
+    requires path_room { vec_len path.old < vec_capacity path.old }
+    requires below_room { vec_len below.old < vec_capacity below.old }
+    ensures path { path.new.items ≡ path.old.items ++ number ∷ [] }
+    ensures top { top.new ≡ spares.old.child }
+    ensures below { below.new.items ≡ below.old.items ++ waiting false callee.entry.into callee.entry.work top.old ∷ [] }
+{
+    let blank = spares.blank(alloc);
+    let child = mem::replace(&mut spares.child, blank);
+    path.push_reserved(number);
+    let mut parent = mem::replace(top, child);
+    parent.wait(false, callee.into, callee.work);
+    below.push_reserved(parent);
 }
 
 /// Whether a called child of the topmost instance would end otherwise than by going back to it: it is where the strand begins,

@@ -72,9 +72,9 @@ returns-in-None-clause-came g c n e =
     let entry : is_entry (with_child S into w f slots x) ≡ false = subst (λ (z : PlainStrand). entry_by z.start (z.path ++ (s.top.children + 1) ∷ []) ≡ false) (sym c.machine.view_is) (c.if-ends_otherwise.ensures.entry refl (s.top.children + 1)) in
     let come : ComesTo S true (child_of f slots x) (layer_then S into w f slots x) None c.call.new.child c.call.new.layer =
     subst (λ (k : ℕ). ComesTo S true (made f slots (Block (first_of 0)) (k - 1)) (entering f (depth_limit - (k - 1)) c.fills.new.layer) None c.call.new.child c.call.new.layer) count c.in-None.ensures.ahead in
-    let path : c.push_reserved.new.self.items ≡ s.path ++ (s.top.children + 1) ∷ [] = search rules in
-    let top : c.replace-parent.new.dest ≡ c.call.new.child = search rules in
-    let items : c.push_reserved-in-None.new.self.items ≡ c.machine.inside.below.items ++ waiting false into w s.top ∷ [] = search rules in
-    let below : reverse c.push_reserved-in-None.new.self.items ≡ waiting false into w s.top ∷ s.below = ap (λ (xs : List PlainActivation). reverse xs) items ∙ reverse-append c.machine.inside.below.items (waiting false into w s.top ∷ []) in
+    let path : c.put_on_top.new.path.items ≡ s.path ++ (s.top.children + 1) ∷ [] = search rules in
+    let top : c.put_on_top.new.top ≡ c.call.new.child = search rules in
+    let items : c.put_on_top.new.below.items ≡ c.machine.inside.below.items ++ waiting false into w s.top ∷ [] = search rules in
+    let below : reverse c.put_on_top.new.below.items ≡ waiting false into w s.top ∷ s.below = ap (λ (xs : List PlainActivation). reverse xs) items ∙ reverse-append c.machine.inside.below.items (waiting false into w s.top ∷ []) in
     subst (goes _) c.machine.view_is (enter_ahead S n o into w f slots s x _ filled.0 is
     (child_stays S into w f slots x n deep c.call.new.child c.call.new.layer c.call.ensures.kinds _ (λ _. entry) come (same_parts s c.call.new.layer _ _ _ _ _ _ _ _ path top below phase))) e
