@@ -1,14 +1,11 @@
 -- What is known of a record that answers: it is one of the records, and has the arguments that were asked for.
-use Rattle.std.proofs.Common.{◌≡◌, ℕ, zero, suc, nat_eq, Bool, true, false, cond, ◌&&◌, ℤ, List, [], ◌∷◌, All, Option, Some, None, refl, sym, subst, arith}
+use Rattle.std.proofs.Common.{◌≡◌, ℕ, zero, suc, nat_eq, Bool, true, false, cond, ◌&&◌, ℤ, List, [], ◌∷◌, Option, Some, None, refl, sym, subst}
 use Rattle.std.specs.List.{find}
 use Rattle.std.specs.Ordering.{int_eq}
 use Rattle.std.specs.Cmp.Lexicographic.{pointwise}
 use Rattle.std.proofs.lemmas.Bool.Decides.{Decides-int_eq}
 use Rattle.std.proofs.lemmas.Slice.Eq.{slice_eq-Decides}
-use Rattle.std.proofs.lemmas.List.Elements.{All-tail}
-use Rattle.monoid_laws.specs.declared.Kind.{Kind}
 use Rattle.rerun_records.specs.Record.{PlainRecord, is_of, settled}
-use Rattle.rerun_records.specs.Named.{AreValuesFrom, HaveValues}
 use Rattle.rerun_records.specs.Validity.{only_valid, record_valid}
 use Rattle.positions.specs.Setting.{Setting}
 use Rattle.positions.specs.Advance.{record_for}
@@ -21,10 +18,6 @@ by_cond P false y x found h f e = f e
 found_passes : {A : Type 0} (P : A → Type 0) (test : A → Bool) (xs : List A) (x : A) → ((i : A) → test i ≡ true → P i) → find test xs ≡ Some x → P x
 found_passes P test [] x h e = absurd cc
 found_passes P test (y ∷ xs) x h e = by_cond P (test y) y x (find test xs) (h y) (λ f. found_passes P test xs x h f) e
-
-found_has : {A : Type 0} (P : A → Type 0) (test : A → Bool) (xs : List A) (x : A) → All P xs → find test xs ≡ Some x → P x
-found_has P test [] x h e = absurd cc
-found_has P test (y ∷ xs) x h e = by_cond P (test y) y x (find test xs) (λ t. h 0 y (omega arith)) (λ f. found_has P test xs x (All-tail P y xs h) f) e
 
 right_too : (a b : Bool) → (a && b) ≡ true → b ≡ true
 right_too true b e = e
@@ -44,10 +37,3 @@ module _ (setting : Setting) where
   found_arguments (suc d) procedure vs r e =
       valid_has (λ (q : PlainRecord). q.arguments ≡ vs) (suc d) (find (is_of procedure vs) setting.records) r
       (λ q f. found_passes (λ (p : PlainRecord). p.arguments ≡ vs) (is_of procedure vs) setting.records q (same_arguments procedure vs) f) e
-
-  -- and values of the reducers' kinds
-  pub found_values : (ks : List Kind) (depth procedure : ℕ) (vs : List ℤ) (r : PlainRecord) → HaveValues ks setting.records → record_for setting depth procedure vs ≡ Some r → AreValuesFrom 0 ks r.contribution
-  found_values ks zero procedure vs r h e = absurd cc
-  found_values ks (suc d) procedure vs r h e =
-      valid_has (λ (q : PlainRecord). AreValuesFrom 0 ks q.contribution) (suc d) (find (is_of procedure vs) setting.records) r
-      (λ q f. found_has (λ (p : PlainRecord). AreValuesFrom 0 ks p.contribution) (is_of procedure vs) setting.records q h f) e

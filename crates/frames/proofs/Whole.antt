@@ -3,7 +3,7 @@ use Rattle.std.proofs.Common.{◌≡◌, ℕ, ℤ, Bool, List, [], ◌∷◌, le
 use Rattle.std.proofs.lemmas.List.Elements.{All-cons, All-tail, All-nil}
 use Rattle.monoid_laws.specs.declared.Kind.{Kind}
 use Rattle.rerun_records.specs.Record.{PlainRecord}
-use Rattle.rerun_records.specs.Named.{AreValuesFrom, HaveValues}
+use Rattle.rerun_records.specs.Named.{HasValuesIfAnswers, HaveValues}
 use Rattle.positions.specs.declared.phase.Phase.{Phase}
 use Rattle.positions.specs.declared.phase.Phase.TheVariants.{Entering, Running, AtSpawn, Returning, Leaving, Broken}
 use Rattle.positions.specs.Setting.{Setting}
@@ -149,7 +149,7 @@ pub begun_whole : (s : PlainStrand) → s.lower ≡ [] → s.tally.opened ≡ []
 begun_whole s e f k = record {
   layered = layered_at s.phase s (ap length f ∙ sym (ap length e));
   kinds = subst (λ ls. All (λ (l : PlainLayer). l.kinds ≡ s.layer.kinds) ls) (sym e) (All-nil (λ (l : PlainLayer). l.kinds ≡ s.layer.kinds));
-  made = subst (λ rs. HaveValues s.layer.kinds rs) (sym k) (All-nil (λ (r : PlainRecord). AreValuesFrom 0 s.layer.kinds r.contribution));
+  made = subst (λ rs. HaveValues s.layer.kinds rs) (sym k) (All-nil (HasValuesIfAnswers s.layer.kinds));
 }
 
 pub worths_whole : (s t : PlainStrand) → t ≡ with_worths t.layer.worths s → IsWhole s → IsWhole t

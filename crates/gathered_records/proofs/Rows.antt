@@ -3,14 +3,15 @@ use Rattle.std.proofs.Common.{◌≡◌, ℕ, zero, suc, ◌<◌, ℤ, Bool, tru
 use Rattle.std.specs.Prelude.{◌+ℤ◌, pos, slice_get, slice_set, Some, None, Option, Result, Ok, Err, IfOk, ◌≤◌}
 use Rattle.std.proofs.lemmas.Int.{ints}
 use Rattle.std.proofs.lemmas.List.{append-nil, length-set, set-set, take_all, take_more}
-use Rattle.std.proofs.lemmas.List.Elements.{All-cons, All-head, All-tail, All-nil}
+use Rattle.std.proofs.lemmas.List.Elements.{All-head, All-tail}
 use Rattle.monoid_laws.specs.declared.Kind.{Kind}
 use Rattle.monoid_laws.specs.Kinds.{IsMonoid}
+use Rattle.meaning.specs.Elision.{depth_limit}
 use Rattle.meaning.specs.Every.{every}
 use Rattle.meaning.specs.Commits.{committed}
 use Rattle.linked_program.specs.Checked.{PlainChecked, revised_of}
 use Rattle.rerun_records.specs.Record.{PlainRecord, settled}
-use Rattle.rerun_records.specs.Named.{AreValuesFrom, HaveValues, CommitsNamed}
+use Rattle.rerun_records.specs.Named.{HasValuesIfAnswers, HaveValues, CommitsNamed}
 use Rattle.rerun_records.specs.Sums.{IsSumOf}
 use Rattle.gathered_records.specs.Summing.{PlainSum, at_places, got_before, added, summed, HasSummed}
 use Rattle.rerun_records.specs.Blocks.{PlainBlock, AreLeaves, BlockFits, stands_at}
@@ -34,19 +35,10 @@ at_more rs (p ∷ ps) qs = ap (got_before (slice_get rs p)) (at_more rs ps qs) �
 pub at_one : (rs : List PlainRecord) (p : ℕ) (r : PlainRecord) → slice_get rs p ≡ Some r → at_places rs (p ∷ []) ≡ r ∷ []
 at_one rs p r e = ap (λ o. got_before o []) e
 
-got_all : (P : PlainRecord → Type 0) (rs : List PlainRecord) (p : ℕ) (xs : List PlainRecord) → All P rs → All P xs → All P (got_before (slice_get rs p) xs)
-got_all P [] p xs a b = b
-got_all P (r ∷ rs) zero xs a b = All-cons P r xs (All-head P r rs a) b
-got_all P (r ∷ rs) (suc p) xs a b = got_all P rs p xs (All-tail P r rs a) b
-
 pub got_has : (P : PlainRecord → Type 0) (rs : List PlainRecord) (p : ℕ) (r : PlainRecord) → All P rs → slice_get rs p ≡ Some r → P r
 got_has P [] p r a e = absurd cc
 got_has P (x ∷ xs) zero r a e = subst P (let s : x ≡ r = cc (e) in s) (All-head P x xs a)
 got_has P (x ∷ xs) (suc p) r a e = got_has P xs p r (All-tail P x xs a) e
-
-pub all_at : (P : PlainRecord → Type 0) (rs : List PlainRecord) (ps : List ℕ) → All P rs → All P (at_places rs ps)
-all_at P rs [] a = All-nil P
-all_at P rs (p ∷ ps) a = got_all P rs p (at_places rs ps) a (all_at P rs ps a)
 
 settled_twice : (rs : List PlainRecord) → map settled (map settled rs) ≡ map settled rs
 settled_twice [] = refl
@@ -199,11 +191,11 @@ module _ (rs : List PlainRecord) (row : PlainRow) (first : ℤ) (ps : List ℕ) 
     part_in_row : AreInRow rs row first (ps ++ b.places)
     part_in_row = in_row_more b.places part.fits.leaves part_leaves part.fits.standing
 
-    part_summed : (s : PlainSum) → HasSummed kinds (at_places (map settled rs) ps) s → HasSummed kinds (at_places (map settled rs) (ps ++ b.places)) (added kinds s b.sum)
-    part_summed s m =
+    part_summed : (s : PlainSum) → All IsMonoid kinds → HasSummed kinds (at_places (map settled rs) ps) s → HasSummed kinds (at_places (map settled rs) (ps ++ b.places)) (added kinds s b.sum)
+    part_summed s monoids m =
         subst (λ xs. HasSummed kinds xs (added kinds s b.sum))
         (ap (λ ys. at_places (map settled rs) ps ++ ys) (sym (leaves_are (map settled rs) row.procedure row.arguments row.counted (first +ℤ pos (length ps)) b.places part.fits.leaves part_leaves)) ∙ sym (at_more (map settled rs) ps b.places))
-        (one_part_more kinds (at_places (map settled rs) ps) part.fits.leaves s b.sum m part.fits.sum_is)
+        (one_part_more kinds (at_places (map settled rs) ps) part.fits.leaves s b.sum monoids m part.fits.sum_is)
 
 pub moved_twice : (row : PlainRow) (n z : ℤ) → moved_to (moved_to row n) z ≡ moved_to row z
 moved_twice row n z = ap (λ (zs : List ℤ). record row { arguments = zs }) (set-set row.arguments row.counted n z)
@@ -252,38 +244,37 @@ module _ (rs : List PlainRecord) (row other : PlainRow) (first : ℤ) (ps more :
       subst (AreInRow rs other first) (sym is)
       (in_row_moved rs row other first (ps ++ b.places) (λ z. sym (ap (λ r. moved_to r z) moved ∙ moved_twice row (first +ℤ pos n) z)) (part_in_row rs row first ps h kinds b there inside))
 
-  pub next_summed : (s new : PlainSum) → new ≡ added kinds s b.sum → HasSummed kinds (at_places (map settled rs) ps) s → HasSummed kinds (at_places (map settled rs) more) new
-  next_summed s new e m =
+  pub next_summed : (s new : PlainSum) → All IsMonoid kinds → new ≡ added kinds s b.sum → HasSummed kinds (at_places (map settled rs) ps) s → HasSummed kinds (at_places (map settled rs) more) new
+  next_summed s new monoids e m =
       subst (λ qs. HasSummed kinds (at_places (map settled rs) qs) new) (sym is)
-      (subst (HasSummed kinds (at_places (map settled rs) (ps ++ b.places))) (sym e) (part_summed rs row first ps h kinds b there inside s m))
+      (subst (HasSummed kinds (at_places (map settled rs) (ps ++ b.places))) (sym e) (part_summed rs row first ps h kinds b there inside s monoids m))
 
 -- ---- the sum of records at places
 
-pub record_more : (kinds : List Kind) (rs : List PlainRecord) (ps : List ℕ) (i p d : ℕ) (s new : PlainSum) → HaveValues kinds rs → i < length ps → p ≡ get_or ps i d
-    → (slice_get rs p ≡ None → new ≡ s) → ((r : PlainRecord) → slice_get rs p ≡ Some r → new ≡ added kinds s r) → HasSummed kinds (at_places rs (take i ps)) s
+pub record_more : (kinds : List Kind) (rs : List PlainRecord) (ps : List ℕ) (i p d : ℕ) (s new : PlainSum) → All IsMonoid kinds → HaveValues kinds rs → i < length ps → p ≡ get_or ps i d
+    → (slice_get rs p ≡ None → new ≡ s) → ((r : PlainRecord) → slice_get rs p ≡ Some r → new ≡ added kinds s r) → ((r : PlainRecord) → slice_get rs p ≡ Some r → r.height ≤ depth_limit) → HasSummed kinds (at_places rs (take i ps)) s
     → HasSummed kinds (at_places rs (take (i + 1) ps)) new
-record_more kinds rs ps i p d s new values l at none some h =
+record_more kinds rs ps i p d s new monoids values l at none some low h =
     let next : take (i + 1) ps ≡ take i ps ++ p ∷ [] = take_more ps i d l ∙ ap (λ q. take i ps ++ q ∷ []) (sym at) in
     subst (λ qs. HasSummed kinds (at_places rs qs) new) (sym next)
     (subst (λ xs. HasSummed kinds xs new) (sym (at_more rs (take i ps) (p ∷ [])))
     (elim (slice_get rs p) as (λ o. slice_get rs p ≡ o → HasSummed kinds (at_places rs (take i ps) ++ got_before o []) new) [
       | None ↦ λ e. subst (λ xs. HasSummed kinds xs new) (sym (append-nil (at_places rs (take i ps)))) (subst (HasSummed kinds (at_places rs (take i ps))) (sym (none e)) h)
-      | Some r ↦ λ e. subst (HasSummed kinds (at_places rs (take i ps) ++ r ∷ [])) (sym (some r e)) (one_record_more kinds (at_places rs (take i ps)) s r (got_has (λ q. AreValuesFrom 0 kinds q.contribution) rs p r values e) h)
+      | Some r ↦ λ e. subst (HasSummed kinds (at_places rs (take i ps) ++ r ∷ [])) (sym (some r e))
+          (one_record_more kinds (at_places rs (take i ps)) s r monoids (got_has (HasValuesIfAnswers kinds) rs p r values e (low r e)) h)
     ] refl))
 
 -- the record made of the sum, where memory for it was there
-pub sum_over : {E : Type 0} (made : Result PlainRecord E) (kinds : List Kind) (rs : List PlainRecord) (ps : List ℕ) (i : ℕ) (s : PlainSum) → All IsMonoid kinds → HaveValues kinds rs → 0 < length (at_places rs ps) → length ps ≤ i
+pub sum_over : {E : Type 0} (made : Result PlainRecord E) (kinds : List Kind) (rs : List PlainRecord) (ps : List ℕ) (i : ℕ) (s : PlainSum) → 0 < length (at_places rs ps) → length ps ≤ i
     → HasSummed kinds (at_places rs (take i ps)) s → IfOk made (λ x. x ≡ summed s) → IfOk made (λ x. IsSumOf kinds (at_places rs ps) x)
-sum_over (Err e) kinds rs ps i s monoids values some over h is = tt
-sum_over (Ok x) kinds rs ps i s monoids values some over h is =
+sum_over (Err e) kinds rs ps i s some over h is = tt
+sum_over (Ok x) kinds rs ps i s some over h is =
     subst (IsSumOf kinds (at_places rs ps)) (sym is)
-    (sum_is kinds (at_places rs ps) s monoids (all_at (λ q. AreValuesFrom 0 kinds q.contribution) rs ps values) some (subst (λ qs. HasSummed kinds (at_places rs qs) s) (take_all i ps over) h))
+    (sum_is kinds (at_places rs ps) s some (subst (λ qs. HasSummed kinds (at_places rs qs) s) (take_all i ps over) h))
 
-pub wide_sum : (kinds : List Kind) (rs : List PlainRecord) (row : PlainRow) (first : ℤ) (ps : List ℕ) (s : PlainSum) → All IsMonoid kinds → HaveValues kinds rs → AreInRow rs row first ps → 0 < length ps
+pub wide_sum : (kinds : List Kind) (rs : List PlainRecord) (row : PlainRow) (first : ℤ) (ps : List ℕ) (s : PlainSum) → AreInRow rs row first ps → 0 < length ps
     → HasSummed kinds (at_places (map settled rs) ps) s → IsSumOf kinds (at_places (map settled rs) ps) (summed s)
-wide_sum kinds rs row first ps s monoids values in_row some h =
-    sum_is kinds (at_places (map settled rs) ps) s monoids (all_at (λ q. AreValuesFrom 0 kinds q.contribution) (map settled rs) ps (values_settled kinds rs values))
-    (subst (λ n. 0 < n) (row_count rs row first ps in_row) some) h
+wide_sum kinds rs row first ps s in_row some h = sum_is kinds (at_places (map settled rs) ps) s (subst (λ n. 0 < n) (row_count rs row first ps in_row) some) h
 
 -- ---- what a commit and the gathering behind it leave
 

@@ -5,7 +5,7 @@ use Rattle.std.specs.List.{flat_map, list_any}
 use Rattle.std.proofs.lemmas.List.{append-nil, get_or-map, length-map, map-append, map-set}
 use Rattle.std.proofs.lemmas.Grind.{flat_map-append}
 use Rattle.std.proofs.Math.Seq.{set-append_seam}
-use Rattle.std.proofs.lemmas.List.Elements.{All-head, All-tail, Contains-append_left, Contains-append_right, Contains-append_cases}
+use Rattle.std.proofs.lemmas.List.Elements.{Contains-append_left, Contains-append_right, Contains-append_cases}
 use Rattle.std.proofs.lemmas.Bool.Decides.{Decides-eqb}
 use Rattle.monoid_laws.specs.declared.Kind.{Kind}
 use Rattle.monoid_laws.specs.declared.Val.{Val}
@@ -13,7 +13,7 @@ use Rattle.monoid_laws.specs.Worth.{Worth}
 use Rattle.monoid_laws.specs.Kinds.{meaning, operate, operate_all, identities, AreWorths, IsWorth, IsMonoid}
 use Rattle.monoid_laws.proofs.Rows.{operate_all_identities, operate_all_assoc, operate_all_right, AreWorths-at, AreWorths-identities}
 use Rattle.rerun_records.specs.Record.{PlainRecord, touched}
-use Rattle.rerun_records.specs.Named.{filled, SameMembers, IsValueAt, AreValuesFrom, HaveValues}
+use Rattle.rerun_records.specs.Named.{filled, SameMembers, IsValueAt, AreValuesFrom}
 use Rattle.rerun_records.specs.Sums.{IsSumOf, contributed, highest, arguments_of_last}
 use Rattle.gathered_records.specs.Summing.{PlainSum, same_entry, put_entry, put_entries, numbered_from, summed, nothing_summed, added, HasSummed}
 use Rattle.rerun_records.proofs.Absorbed.{each, same_at, filled_right}
@@ -78,15 +78,6 @@ module _ (kinds : List Kind) where
 
   pub given_right : (r : PlainRecord) → AreValuesFrom 0 kinds r.contribution → AreWorths kinds (given r)
   given_right r v = filled_right 0 kinds (identities kinds) r.contribution (AreWorths-identities kinds) v
-
-  -- values that are there go before
-  pub contributed_behind : (ws vs : List Worth) (rs : List PlainRecord) → All IsMonoid kinds → AreWorths kinds ws → AreWorths kinds vs → HaveValues kinds rs
-      → operate_all kinds ws (contributed kinds vs rs) ≡ contributed kinds (operate_all kinds ws vs) rs
-  contributed_behind ws vs [] m a b v = refl
-  contributed_behind ws vs (r ∷ rs) m a b v =
-      let g : AreWorths kinds (given r) = given_right r (All-head (λ q. AreValuesFrom 0 kinds q.contribution) r rs v) in
-      contributed_behind ws (operate_all kinds vs (given r)) rs m a (operate_all_right kinds vs (given r) b g) (All-tail (λ q. AreValuesFrom 0 kinds q.contribution) r rs v)
-      ∙ ap (λ us. contributed kinds us rs) (sym (operate_all_assoc kinds ws vs (given r) m a b g))
 
 -- ---- all values with their reducers' numbers
 
@@ -179,13 +170,17 @@ module _ (kinds : List Kind) where
   contributed_append ws [] ss = refl
   contributed_append ws (r ∷ rs) ss = contributed_append (operate_all kinds ws (filled (identities kinds) r.contribution)) rs ss
 
-  pub nothing_summed_so : HasSummed kinds [] (nothing_summed kinds)
-  nothing_summed_so = record { worths = refl; right = AreWorths-identities kinds; reads = refl; entered = members_same [] [] refl; height = refl; arguments = refl }
+  pub nothing_summed_so : All IsMonoid kinds → HasSummed kinds [] (nothing_summed kinds)
+  nothing_summed_so monoids = record { worths = λ ws are. operate_all_identities kinds ws monoids are; right = AreWorths-identities kinds; reads = refl; entered = members_same [] [] refl; height = refl; arguments = refl }
 
   -- one part more, which is the sum of some records
-  pub one_part_more : (rs qs : List PlainRecord) (s : PlainSum) (part : PlainRecord) → HasSummed kinds rs s → IsSumOf kinds qs part → HasSummed kinds (rs ++ qs) (added kinds s part)
-  one_part_more rs qs s part h is = record {
-    worths = is.worths s.worths h.right ∙ ap (λ ws. contributed kinds ws qs) h.worths ∙ sym (contributed_append (identities kinds) rs qs);
+  pub one_part_more : (rs qs : List PlainRecord) (s : PlainSum) (part : PlainRecord) → All IsMonoid kinds → HasSummed kinds rs s → IsSumOf kinds qs part → HasSummed kinds (rs ++ qs) (added kinds s part)
+  one_part_more rs qs s part monoids h is = record {
+    worths = λ ws are.
+        sym (operate_all_assoc kinds ws s.worths (given kinds part) monoids are h.right (given_right kinds part is.values))
+        ∙ is.worths (operate_all kinds ws s.worths) (operate_all_right kinds ws s.worths are h.right)
+        ∙ ap (λ us. contributed kinds us qs) (h.worths ws are)
+        ∙ sym (contributed_append ws rs qs);
     right = operate_all_right kinds s.worths (given kinds part) h.right (given_right kinds part is.values);
     reads = ap (λ ns. ns ++ part.reads) h.reads ∙ ap (λ ns. flat_map (λ r. r.reads) rs ++ ns) is.reads ∙ sym (flat_map-append (λ r. r.reads) rs qs);
     entered =
@@ -197,17 +192,14 @@ module _ (kinds : List Kind) where
     arguments = sym (last_append [] rs qs ∙ is.arguments (arguments_of_last [] rs));
   }
 
-  pub one_record_more : (rs : List PlainRecord) (s : PlainSum) (r : PlainRecord) → AreValuesFrom 0 kinds r.contribution → HasSummed kinds rs s → HasSummed kinds (rs ++ r ∷ []) (added kinds s r)
-  one_record_more rs s r v h = one_part_more rs (r ∷ []) s r h (sum_of_one kinds r v)
+  pub one_record_more : (rs : List PlainRecord) (s : PlainSum) (r : PlainRecord) → All IsMonoid kinds → AreValuesFrom 0 kinds r.contribution → HasSummed kinds rs s → HasSummed kinds (rs ++ r ∷ []) (added kinds s r)
+  one_record_more rs s r monoids v h = one_part_more rs (r ∷ []) s r monoids h (sum_of_one kinds r v)
 
   -- the record of the sum of some records
-  pub sum_is : (rs : List PlainRecord) (s : PlainSum) → All IsMonoid kinds → HaveValues kinds rs → 0 < length rs → HasSummed kinds rs s → IsSumOf kinds rs (summed s)
-  sum_is [] s monoids v l h = absurd (omega (arith, l))
-  sum_is (r ∷ rs) s monoids v l h = record {
-    worths = λ ws are.
-        ap (operate_all kinds ws) (all_filled [] (identities kinds) s.worths 0 refl (identities_length kinds ∙ each kinds s.worths h.right) ∙ h.worths)
-        ∙ contributed_behind kinds ws (identities kinds) (r ∷ rs) monoids are (AreWorths-identities kinds) v
-        ∙ ap (λ us. contributed kinds us (r ∷ rs)) (operate_all_identities kinds ws monoids are);
+  pub sum_is : (rs : List PlainRecord) (s : PlainSum) → 0 < length rs → HasSummed kinds rs s → IsSumOf kinds rs (summed s)
+  sum_is [] s l h = absurd (omega (arith, l))
+  sum_is (r ∷ rs) s l h = record {
+    worths = λ ws are. ap (operate_all kinds ws) (all_filled [] (identities kinds) s.worths 0 refl (identities_length kinds ∙ each kinds s.worths h.right)) ∙ h.worths ws are;
     values = numbered_values [] kinds 0 s.worths refl h.right;
     reads = h.reads;
     entered = h.entered;

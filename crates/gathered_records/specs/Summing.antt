@@ -67,9 +67,9 @@ module _ (kinds : List Kind) where
         height = max s.height r.height;
       }
 
-  -- it has what the records have, one after another
+  -- it has what the records have, one after another, whatever values go before them
   pub record HasSummed (rs : List PlainRecord) (s : PlainSum) : Type 0 where
-    pub worths : s.worths ≡ contributed kinds (identities kinds) rs
+    pub worths : (ws : List Worth) → AreWorths kinds ws → operate_all kinds ws s.worths ≡ contributed kinds ws rs
     pub right : AreWorths kinds s.worths
     pub reads : s.reads ≡ flat_map (λ r. r.reads) rs
     pub entered : SameMembers s.entered (flat_map (λ r. r.entered) rs)

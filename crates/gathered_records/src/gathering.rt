@@ -163,7 +163,6 @@ fn make_wider(
     program: &Checked,
 ) -> Result<(), AllocError>
     requires monoids { All IsMonoid program.now.kinds }
-    requires values { HaveValues program.now.kinds records.old }
     ensures same { records.new ≡ records.old }
 {
     let mut tried = Tried::new(alloc, records.len(), places.len())?;

@@ -1,14 +1,16 @@
 //! One record that has what several have together.
-ghost use Rattle.std.specs.Prelude.{◌≡◌, ◌<◌, ◌++◌, ◌∷◌, [], IfOk, OnOk, All, length, map, slice_get, slice_index_or, slice_set, None, Some};
+ghost use Rattle.std.specs.Prelude.{◌≡◌, ◌<◌, ◌≤◌, ◌++◌, ◌∷◌, [], IfOk, OnOk, All, length, map, slice_get, slice_index_or, slice_set, None, Some};
 ghost use Rattle.std.specs.List.{list_any};
 ghost use Rattle.monoid_laws.specs.Worth.{Worth};
 ghost use Rattle.monoid_laws.specs.declared.Kind.{Kind as PlainKind};
 ghost use Rattle.monoid_laws.specs.Kinds.{meaning, identities, operate, operate_all, AreWorths, IsMonoid, IsWorth};
+ghost use Rattle.meaning.specs.Elision.{depth_limit};
 ghost use Rattle.rerun_records.specs.Record.{PlainRecord, touched};
 ghost use Rattle.rerun_records.specs.Named.{filled, AreValuesFrom, HaveValues};
 ghost use Rattle.rerun_records.specs.Sums.{IsSumOf};
 ghost use Rattle.gathered_records.specs.Summing.{nothing_summed, added, summed, same_entry, put_entry, put_entries, numbered_from, at_places};
 
+use meaning::DEPTH_LIMIT;
 use monoid_laws::{Kind, Val};
 use reducer_values::{combine_copy, identity};
 use rerun_records::readings::Readings;
@@ -127,7 +129,8 @@ pub(crate) fn sum_at(
     sum.finish(alloc)
 }
 
-// Adds the record at that place; where none is, nothing.
+// Adds the record at that place; where none is, nothing. One that is too high to answer at any depth is refused: nothing is
+// known of its values.
 fn add_record(
     sum: &mut Sum,
     alloc: Global,
@@ -141,9 +144,12 @@ fn add_record(
     ensures none { OnOk result (slice_get records.now place ≡ None → sum.new ≡ sum.old) }
     ensures added { (r : PlainRecord) → slice_get records.now place ≡ Some r
         → OnOk result (sum.new ≡ added kinds.now sum.old r) }
+    ensures low { (r : PlainRecord) → slice_get records.now place ≡ Some r
+        → OnOk result (r.height ≤ depth_limit) }
 {
     match records.get(place) {
-        Some(record) => sum.add(alloc, kinds, record),
+        Some(record) if record.height() <= DEPTH_LIMIT => sum.add(alloc, kinds, record),
+        Some(_) => Err(AllocError),
         None => Ok(()),
     }
 }

@@ -2,7 +2,7 @@
 ghost use Rattle.std.specs.Prelude.{◌≡◌, ◌<◌, ◌+ℤ◌, ◌++◌, ℤ, pos, [], OnOk, OnSome, IfSome, All, length, map, slice_get, Some, true};
 ghost use Rattle.monoid_laws.specs.Kinds.{AreWorths, IsMonoid};
 ghost use Rattle.rerun_records.specs.Record.{settled};
-ghost use Rattle.rerun_records.specs.Named.{AreValuesFrom, HaveValues};
+ghost use Rattle.rerun_records.specs.Named.{AreValuesFrom};
 ghost use Rattle.gathered_records.specs.Summing.{at_places, nothing_summed, added, HasSummed};
 ghost use Rattle.gathered_records.specs.Gathering.{moved_to, AreInRow, IsPart};
 
@@ -47,7 +47,6 @@ pub(crate) fn widen_at(
     program: &Checked,
 )
     requires monoids { All IsMonoid program.now.kinds }
-    requires values { HaveValues program.now.kinds records.old }
     ensures same { records.new ≡ records.old }
 {
     if tried.has(place) || has_block(records, width, place, program.kinds()) {
@@ -101,7 +100,6 @@ fn widen_row(
     kinds: &[Kind],
 ) -> Result<(), AllocError>
     requires monoids { All IsMonoid kinds.now }
-    requires values { HaveValues kinds.now records.old }
     ensures same { records.new ≡ records.old }
 {
     let first = lowest_part(records, width, row, kinds);
@@ -127,8 +125,6 @@ fn add_wide(
     joined: Joined,
     kinds: &[Kind],
 ) -> Result<(), AllocError>
-    requires monoids { All IsMonoid kinds.now }
-    requires values { HaveValues kinds.now records.old }
     requires row { AreInRow records.old row.now first joined.places.items }
     requires summed { HasSummed kinds.now (at_places (map settled records.old) joined.places.items) joined.sum }
     requires some { 0 < length joined.places.items }

@@ -1,5 +1,5 @@
 -- What a session keeps: its records, as procedures are defined anew and as new records are put in, and the names of its tables' columns.
-use Rattle.std.proofs.Common.{◌≡◌, ℕ, true, false, Bool, ◌&&◌, cond, List, [], ◌∷◌, length, map, All, Result, Ok, Err, OnOk, OnErr, refl, sym, ap, subst, ◌∙◌}
+use Rattle.std.proofs.Common.{◌≡◌, ℕ, true, false, Bool, ◌&&◌, cond, List, [], ◌∷◌, map, All, Result, Ok, Err, OnOk, OnErr, refl, sym, ap, subst, ◌∙◌}
 use Rattle.std.proofs.lemmas.List.Elements.{All-nil, All-cons, All-head, All-tail, All-weaker}
 use Rattle.monoid_laws.specs.declared.Kind.{Kind}
 use Rattle.program_tree.specs.Plain.{Name, Tree}
@@ -19,7 +19,7 @@ use Rattle.rerun_records.specs.Record.{PlainRecord}
 use Rattle.rerun_records.specs.Named.{IsRecord, AreRecords, SameMembers, numbered_entry, CommitsNamed, HaveValues}
 use Rattle.checked_defines.specs.Standings.{KeepsPlaces, KeepsNumbers}
 use Rattle.checked_defines.proofs.Numbers.{keeps_numbers, current_are_there}
-use Rattle.kept_session.specs.Sessions.{NamesThere, AreKeptFor, NameReducersFrom, IsRightNow, AreNewFor}
+use Rattle.kept_session.specs.Sessions.{NamesThere, AreKeptFor, IsRightNow, AreNewFor}
 
 -- ---- procedures that keep their numbers
 
@@ -41,6 +41,7 @@ module _ (t u : Tree) (keeps : KeepsNumbers t u) where
     arguments = is.arguments;
     value = is.value;
     contribution = is.contribution;
+    named = is.named;
     reads = is.reads;
     entered = subst (SameMembers r.entered) (sym (entries_stay k.revisions there)) is.entered;
     height = is.height;
@@ -144,4 +145,4 @@ none_kept program = record { sound = record { kept = []; stand = tt; sound = tt 
 
 -- a run that has made none has made none that don't hold now
 pub none_new : (program : PlainChecked) (tables : Edited) → AreNewFor program tables []
-none_new program tables = record { kept = []; stand = tt; named = All-nil (λ r. NameReducersFrom 0 (length program.kinds) r.contribution); right = tt }
+none_new program tables = record { kept = []; stand = tt; right = tt }

@@ -16,10 +16,10 @@ use Rattle.trail_theory.specs.Typed.{kinds_of, HasMonoids, TablesFit}
 use Rattle.linked_program.specs.Checked.{PlainChecked, IsChecked, revised_of}
 use Rattle.input_tables.specs.Edited.{Edited, CellsFit}
 use Rattle.rerun_records.specs.Record.{PlainRecord}
-use Rattle.rerun_records.specs.Named.{IsKept, AreKept, IsValueAt, AreValuesFrom, HaveValues, filled}
+use Rattle.rerun_records.specs.Named.{NameReducersFrom, IsKept, AreKept, IsValueAt, AreValuesFrom, HasValuesIfAnswers, HaveValues, filled}
 use Rattle.rules_theory.proofs.Monoids.{has_monoids}
 use Rattle.rules_theory.proofs.Reading.{main_reads_at_its_end}
-use Rattle.kept_session.specs.Sessions.{NameReducersFrom, NameReducers, IsRightNow, AreNewFor}
+use Rattle.kept_session.specs.Sessions.{IsRightNow, AreNewFor}
 use Rattle.kept_session.proofs.Elided.{worths_elided}
 
 -- ---- values by numbers
@@ -77,29 +77,24 @@ module _ (program : PlainChecked) (tables : Tables) (rules : ReadsAtMainsEnd (tr
   abbrev FitArguments : PlainRecord → Type 0
   FitArguments r = All Fits r.arguments
 
-  one_has_values : (k : Kept) (r : PlainRecord) → IsKept program k r → IsRightNow (revised_of program) tables k → r.height ≤ depth_limit → FitArguments r → NameReducersFrom 0 (length program.kinds) r.contribution
-      → AreValuesFrom 0 program.kinds r.contribution
-  one_has_values k r is right low fit named =
+  one_has_values : (k : Kept) (r : PlainRecord) → IsKept program k r → IsRightNow (revised_of program) tables k → FitArguments r → HasValuesIfAnswers program.kinds r
+  one_has_values k r is right fit low =
       let shallow : 1 + k.height ≤ suc depth_limit = let e : r.height ≡ k.height = is.height in omega (arith, low, e) in
       let given = right.sound.gives tables 1 (omega arith) right.now shallow in
       let fits : Every Fits k.args = subst (Every Fits) is.arguments (every_of Fits r.arguments fit) in
       let worths : AreWorths (kinds_of (tree program.program)) k.contribution = subst (AreWorths (kinds_of (tree program.program))) given.1 (worths_elided (tree program.program) tables numbers held rules monoids (suc depth_limit - 1) start k.of k.args fits) in
-      values_from program.kinds (identities program.kinds) 0 r.contribution (identities_length program.kinds) named
+      values_from program.kinds (identities program.kinds) 0 r.contribution (identities_length program.kinds) is.named
       (subst (AreWorths program.kinds) is.contribution (subst (λ (cs : List Kind). AreWorths cs k.contribution) (sym kinds_are) worths))
 
-  have_values : (ks : List Kept) (rs : List PlainRecord) → AreKept program ks rs → Every (IsRightNow (revised_of program) tables) ks → All (λ r. r.height ≤ depth_limit) rs → All FitArguments rs → NameReducers program.kinds rs
-      → HaveValues program.kinds rs
-  have_values [] [] stand right low fit named = All-nil (λ r. AreValuesFrom 0 program.kinds r.contribution)
-  have_values [] (r ∷ rs) stand right low fit named = absurd stand
-  have_values (k ∷ ks) [] stand right low fit named = absurd stand
-  have_values (k ∷ ks) (r ∷ rs) stand right low fit named =
-      let Named : PlainRecord → Type 0 = λ x. NameReducersFrom 0 (length program.kinds) x.contribution in
-      All-cons (λ x. AreValuesFrom 0 program.kinds x.contribution) r rs
-      (one_has_values k r stand.0 right.0 (All-head (λ x. x.height ≤ depth_limit) r rs low) (All-head FitArguments r rs fit) (All-head Named r rs named))
-      (have_values ks rs stand.1 right.1 (All-tail (λ x. x.height ≤ depth_limit) r rs low) (All-tail FitArguments r rs fit) (All-tail Named r rs named))
+  have_values : (ks : List Kept) (rs : List PlainRecord) → AreKept program ks rs → Every (IsRightNow (revised_of program) tables) ks → All FitArguments rs → HaveValues program.kinds rs
+  have_values [] [] stand right fit = All-nil (HasValuesIfAnswers program.kinds)
+  have_values [] (r ∷ rs) stand right fit = absurd stand
+  have_values (k ∷ ks) [] stand right fit = absurd stand
+  have_values (k ∷ ks) (r ∷ rs) stand right fit =
+      All-cons (HasValuesIfAnswers program.kinds) r rs (one_has_values k r stand.0 right.0 (All-head FitArguments r rs fit)) (have_values ks rs stand.1 right.1 (All-tail FitArguments r rs fit))
 
 -- new ones, of a checked program
 pub new_have_values : (program : PlainChecked) → IsChecked program → (tables : Edited) → ProgramFits (tree program.program) → CellsFit tables.tables → (made : List PlainRecord) → AreNewFor program tables made
-    → All (λ r. r.height ≤ depth_limit) made → All (λ r. All Fits r.arguments) made → HaveValues program.kinds made
-new_have_values program is tables numbers cells made n low fit =
-    have_values program tables.tables (main_reads_at_its_end program.tables program.program is.clean) (has_monoids program.tables program.program is.clean) numbers cells is.kinds_are n.kept made n.stand n.right low fit n.named
+    → All (λ r. All Fits r.arguments) made → HaveValues program.kinds made
+new_have_values program is tables numbers cells made n fit =
+    have_values program tables.tables (main_reads_at_its_end program.tables program.program is.clean) (has_monoids program.tables program.program is.clean) numbers cells is.kinds_are n.kept made n.stand n.right fit

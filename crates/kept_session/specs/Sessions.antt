@@ -1,7 +1,6 @@
 -- A session as a plain value, and what it keeps.
-use Rattle.std.specs.Prelude.{◌≡◌, ℕ, suc, ◌<◌, ◌≤◌, true, List, [], ◌∷◌, length, All}
+use Rattle.std.specs.Prelude.{◌≡◌, ℕ, true, List, [], length, All}
 use Rattle.monoid_laws.specs.declared.Kind.{Kind}
-use Rattle.monoid_laws.specs.Worth.{Worth}
 use Rattle.view_pool.specs.Stock.{Stock}
 use Rattle.program_tree.specs.Plain.{Tree}
 use Rattle.program_tree.specs.View.{tree}
@@ -48,15 +47,6 @@ pub record AreKeptFor (program : PlainChecked) (records : List PlainRecord) : Ty
   pub sound : AreSoundFor program records
   pub there : Every (NamesThere (tree program.program)) sound.kept
 
--- each entry names a reducer, of so many, from that number on, in order
-abbrev pub NameReducersFrom : ℕ → ℕ → List (ℕ × Worth) → Type 0
-NameReducersFrom i count [] = Unit {0}
-NameReducersFrom i count (e ∷ es) = (i ≤ e.0) × (e.0 < count) × NameReducersFrom (suc e.0) count es
-
--- what the records contribute is to reducers that there are, to each once, in order
-abbrev pub NameReducers : List Kind → List PlainRecord → Type 0
-NameReducers kinds rs = All (λ r. NameReducersFrom 0 (length kinds) r.contribution) rs
-
 -- the record is sound, and what it has noted holds now
 pub record IsRightNow (program : Revised) (tables : Tables) (k : Kept) : Type 0 where
   pub sound : IsSound program k
@@ -66,7 +56,6 @@ pub record IsRightNow (program : Revised) (tables : Tables) (k : Kept) : Type 0 
 pub record AreNewFor (program : PlainChecked) (tables : Edited) (made : List PlainRecord) : Type 0 where
   pub kept : List Kept
   pub stand : AreKept program kept made
-  pub named : NameReducers program.kinds made
   pub right : Every (IsRightNow (revised_of program) tables.tables) kept
 
 -- what a session keeps in its type: its records are in step with its tables, whatever rows were changed since they were made

@@ -1,6 +1,5 @@
 // A session: a checked program, its tables, its pool of kits, and the records that its runs have left.
-ghost use Rattle.std.specs.Prelude.{◌≡◌, ◌<◌, ◌≤◌, [], true, false, All, Ok, length, map, IfOk, IfErr, OnOk, OnErr};
-ghost use Rattle.meaning.specs.Elision.{depth_limit};
+ghost use Rattle.std.specs.Prelude.{◌≡◌, ◌<◌, [], true, false, All, Ok, length, map, IfOk, IfErr, OnOk, OnErr};
 ghost use Rattle.linked_program.specs.TableNames.{columned_of};
 ghost use Rattle.rerun_records.specs.Record.{settled};
 ghost use Rattle.rerun_records.specs.Doubted.{IsInStep};
@@ -193,8 +192,6 @@ impl<V: View> Session<V> {
     pub fn settle(&mut self, pool: Pool<Kit<V>>, made: Vec<Record>) -> Result<(), AllocError>
         requires kinds { All (λ k. k ≡ self.old.checked.kinds) pool.kits }
         requires new { AreNewFor self.old.checked self.old.tables made.items }
-        // Of a record that is too high for every depth being sound says nothing.
-        requires answerable { All (λ r. r.height ≤ depth_limit) made.items }
         ensures settled { OnOk result (self.new
             ≡ record self.old { kits = pool; records = self.new.records }) }
         ensures records { OnOk result (map settled self.new.records

@@ -10,7 +10,7 @@ use Rattle.rerun_records.specs.Record.{PlainRecord}
 use Rattle.monoid_laws.specs.declared.Kind.{Kind}
 use Rattle.monoid_laws.specs.Worth.{Worth}
 use Rattle.monoid_laws.specs.Kinds.{identity_of, AreWorths}
-use Rattle.rerun_records.specs.Named.{IsValueAt, AreValuesFrom, HaveValues}
+use Rattle.rerun_records.specs.Named.{IsValueAt, AreValuesFrom, HasValuesIfAnswers, HaveValues}
 use Rattle.positions.specs.Values.{same_worth}
 use Rattle.positions.specs.Tallies.{touched_from, entries_from}
 use Rattle.layers.specs.Recordings.{touched_at, entry_of}
@@ -141,4 +141,4 @@ some_is P o x e h = subst (λ z. IfSome z P) e h
 -- ---- the records made
 
 pub one_more_values : (ks : List Kind) (old new : List PlainRecord) (r : PlainRecord) → new ≡ old ++ r ∷ [] → AreValuesFrom 0 ks r.contribution → HaveValues ks old → HaveValues ks new
-one_more_values ks old new r e v h = subst (λ rs. HaveValues ks rs) (sym e) (All-push (λ s. AreValuesFrom 0 ks s.contribution) old r h v)
+one_more_values ks old new r e v h = subst (λ rs. HaveValues ks rs) (sym e) (All-push (HasValuesIfAnswers ks) old r h (λ _. v))

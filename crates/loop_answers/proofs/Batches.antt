@@ -7,7 +7,7 @@ use Rattle.monoid_laws.proofs.Rows.{operate_all_right, AreWorths-identities}
 use Rattle.evaluation.specs.declared.slot.Slot.{Slot}
 use Rattle.rerun_records.specs.declared.batch.Batch.{Batch}
 use Rattle.rerun_records.specs.Record.{PlainRecord}
-use Rattle.rerun_records.specs.Named.{HaveValues, filled}
+use Rattle.rerun_records.specs.Named.{filled}
 use Rattle.rerun_records.specs.Sums.{IsSumOf, arguments_of_last}
 use Rattle.positions.specs.Setting.{Setting}
 use Rattle.positions.specs.Code.{PlainLoop}
@@ -17,7 +17,7 @@ use Rattle.rerun_records.proofs.Absorbed.{filled_right}
 use Rattle.answered_loops.specs.Answered.{AreAnswers, absorbed, answered_more, with_answers}
 use Rattle.answered_loops.proofs.Sums.{absorbing_sum}
 use Rattle.answered_loops.proofs.Halves.{absorbed_append, last_append, answers_behind}
-use Rattle.loop_answers.specs.Batches.{sums_of, instances_in, AreSums, all_in, AreBatches, IsBatchFrom, with_batches}
+use Rattle.loop_answers.specs.Batches.{sums_of, SumsHaveValues, instances_in, AreSums, all_in, AreBatches, IsBatchFrom, with_batches}
 
 -- ---- lists
 
@@ -44,7 +44,7 @@ module _ (kinds : List Kind) where
   sums_more (xs ∷ parts) [] rs b h sum count = absurd h
   sums_more (xs ∷ parts) (c ∷ bs) rs b h sum count = (h.0, h.1, sums_more parts bs rs b h.2 sum count)
 
-  pub sums_values : (parts : List (List PlainRecord)) (bs : List Batch) → AreSums kinds parts bs → HaveValues kinds (sums_of bs)
+  pub sums_values : (parts : List (List PlainRecord)) (bs : List Batch) → AreSums kinds parts bs → SumsHaveValues kinds bs
   sums_values [] [] h k d l = absurd (let none : ⊥ = omega arith in none)
   sums_values [] (b ∷ bs) h k d l = absurd h
   sums_values (rs ∷ parts) [] h k d l = absurd h

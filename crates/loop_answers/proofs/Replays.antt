@@ -34,7 +34,7 @@ use Rattle.answered_loops.proofs.Arguments.{counted_is, other_values}
 use Rattle.answered_loops.proofs.Found.{found_arguments}
 use Rattle.answered_loops.proofs.Halves.{half_answers, turns_answer}
 use Rattle.loop_answers.specs.Ahead.{IsAnsweredAhead, DoneBy}
-use Rattle.loop_answers.specs.Batches.{sums_of, instances_in, AreSums, all_in, HasBatches, IsBatchFrom, CountsAt, with_batches, halves_left, turns_left}
+use Rattle.loop_answers.specs.Batches.{SumsHaveValues, instances_in, AreSums, all_in, HasBatches, IsBatchFrom, CountsAt, with_batches, halves_left, turns_left}
 use Rattle.loop_answers.proofs.Batches.{as_many, sums_values, batches_leave}
 
 module _ (setting : Setting) where
@@ -94,7 +94,7 @@ module _ (program : PlainChecked) (tables : Tables) (kept : List Kept) (records 
       let count : b.count ≡ 1 = h.0 in
       record {
         members = r ∷ [];
-        sum_is = sum_of_one program.kinds r (valid_values program.revisions tables program.kinds d j.callee vs records r have (sym h.1));
+        sum_is = sum_of_one program.kinds r (valid_values program.revisions tables program.kinds d j.callee vs records r deep have (sym h.1));
         count_is = sym count;
         some = omega arith;
         few = omega arith;
@@ -166,9 +166,9 @@ module _ (setting : Setting) where
 
   -- ---- what a call came to
 
-  pub values_ready : (ks : List Kind) (l : Loop) (a : PlainActivation) (i : ℕ) (bs qs : List Batch) → HasBatches setting l a i bs → qs ≡ bs → ks ≡ setting.kinds → HaveValues ks (sums_of qs)
+  pub values_ready : (ks : List Kind) (l : Loop) (a : PlainActivation) (i : ℕ) (bs qs : List Batch) → HasBatches setting l a i bs → qs ≡ bs → ks ≡ setting.kinds → SumsHaveValues ks qs
   values_ready ks l a i bs qs has same kinds =
-      subst (λ cs. HaveValues cs (sums_of qs)) (sym kinds) (subst (λ cs. HaveValues setting.kinds (sums_of cs)) (sym same) (sums_values setting.kinds has.batches.parts bs has.batches.sums))
+      subst (λ cs. SumsHaveValues cs qs) (sym kinds) (subst (SumsHaveValues setting.kinds) (sym same) (sums_values setting.kinds has.batches.parts bs has.batches.sums))
 
   pub half_over : {E : Type 0} (r : Result Bool E) (s m t : PlainStrand) (l : Loop) (h : Share) (bs qs : List Batch) (k : ℕ) → m ≡ s → s.phase ≡ Running → s.layer.kinds ≡ setting.kinds → AreWorths s.layer.kinds s.layer.worths
       → HasBatches setting l s.top h.first bs → s.top.work ≡ Halves l k h → IsInside s → instances_in bs ≡ h.count → is_by_turns setting.codes s.top l k h.count ≡ false → qs ≡ bs

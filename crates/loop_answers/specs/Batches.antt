@@ -1,5 +1,5 @@
 -- Batches that answer a loop's iterations: the records that they stand for, and what they leave.
-use Rattle.std.specs.Prelude.{◌≡◌, ℕ, ◌+◌, ◌<◌, ◌≤◌, ℤ, pos, ◌+ℤ◌, true, List, [], ◌∷◌, map, length, slice_set}
+use Rattle.std.specs.Prelude.{◌≡◌, ℕ, ◌+◌, ◌<◌, ◌≤◌, ℤ, pos, ◌+ℤ◌, true, List, [], ◌∷◌, map, length, slice_set, All}
 use Rattle.std.specs.List.{flat_map}
 use Rattle.monoid_laws.specs.declared.Kind.{Kind}
 use Rattle.meaning.specs.Tables.{Tables}
@@ -9,6 +9,7 @@ use Rattle.evaluation.specs.declared.slot.Slot.TheVariants.{Has}
 use Rattle.evaluation.specs.Values.{values_at, pure}
 use Rattle.rerun_records.specs.declared.batch.Batch.{Batch}
 use Rattle.rerun_records.specs.Record.{PlainRecord}
+use Rattle.rerun_records.specs.Named.{AreValuesFrom}
 use Rattle.rerun_records.specs.Sums.{IsSumOf, arguments_of_last}
 use Rattle.positions.specs.declared.work.Loop.{Loop}
 use Rattle.positions.specs.declared.work.Share.{Share}
@@ -25,6 +26,10 @@ use Rattle.answered_loops.specs.Arguments.{counts}
 -- for each batch the record that has what its instances have together
 abbrev pub sums_of : List Batch → List PlainRecord
 sums_of bs = map (λ b. b.sum.now) bs
+
+-- these have values of the reducers' kinds
+abbrev pub SumsHaveValues : List Kind → List Batch → Type 0
+SumsHaveValues kinds bs = All (λ s. AreValuesFrom 0 kinds s.contribution) (sums_of bs)
 
 abbrev pub instances_in : List Batch → ℕ
 instances_in [] = 0

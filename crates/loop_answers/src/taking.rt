@@ -1,12 +1,11 @@
 //! What batches that answer a loop's iterations leave of a strand.
 ghost use Rattle.std.specs.Prelude.{◌≡◌, ◌+◌, ◌-◌, ◌≤◌, ◌<◌, ◌^◌, All, OnErr, OnOk, IfOk};
 ghost use Rattle.monoid_laws.specs.Kinds.{IsMonoid};
-ghost use Rattle.rerun_records.specs.Named.{HaveValues};
 ghost use Rattle.rerun_records.specs.Sums.{arguments_of_last};
 ghost use Rattle.positions.specs.Activations.{ShareFits, WorkFits};
 ghost use Rattle.answered_loops.specs.Answered.{absorbed, answered_more, iteration_depth, turned_to, halved_to};
 ghost use Rattle.loop_answers.specs.Ahead.{called_more, DoneBy, IsSameButAnswers};
-ghost use Rattle.loop_answers.specs.Batches.{sums_of, instances_in, with_batches, halves_left, turns_left};
+ghost use Rattle.loop_answers.specs.Batches.{sums_of, SumsHaveValues, instances_in, with_batches, halves_left, turns_left};
 
 use crate::finding::Found;
 use activations::activation::Activation;
@@ -27,7 +26,7 @@ pub(crate) fn end_halves<V: View>(
     found: &[Batch<'_>],
 ) -> Result<bool, AllocError>
     requires monoids { All IsMonoid machine.old.layer.kinds }
-    requires values { HaveValues machine.old.layer.kinds (sums_of found.now) }
+    requires values { SumsHaveValues machine.old.layer.kinds found.now }
     ensures ended { IfOk result (λ done. DoneBy done (machine.new ≡ halves_left found.now machine.old) (machine.new ≡ machine.old)) }
     ensures refused { OnErr result (IsSameButAnswers machine.old machine.new) }
 {
@@ -54,7 +53,7 @@ pub(crate) fn end_turns<V: View>(
     requires few { found.now.count ≤ share.count }
     requires running { machine.old.phase ≡ Phase.Running }
     requires monoids { All IsMonoid machine.old.layer.kinds }
-    requires values { HaveValues machine.old.layer.kinds (sums_of found.now.batches.items) }
+    requires values { SumsHaveValues machine.old.layer.kinds found.now.batches.items }
     ensures ended { IfOk result (λ done. DoneBy done (machine.new ≡ turns_left site share found.now.batches.items machine.old) (machine.new ≡ machine.old)) }
     ensures refused { OnErr result (IsSameButAnswers machine.old machine.new) }
 {
@@ -79,7 +78,7 @@ fn take_answers<V: View>(
     found: &[Batch<'_>],
 ) -> Result<(), AllocError>
     requires monoids { All IsMonoid machine.old.layer.kinds }
-    requires values { HaveValues machine.old.layer.kinds (sums_of found.now) }
+    requires values { SumsHaveValues machine.old.layer.kinds found.now }
     ensures taken { OnOk result (machine.new ≡ with_batches (iteration_depth machine.old.top) found.now machine.old) }
     ensures refused { OnErr result (IsSameButAnswers machine.old machine.new) }
 {
@@ -97,7 +96,7 @@ fn take_over<V: View>(
     depth: u32,
 ) -> Result<(), AllocError>
     requires monoids { All IsMonoid layer.old.kinds }
-    requires values { HaveValues layer.old.kinds (sums_of found.now) }
+    requires values { SumsHaveValues layer.old.kinds found.now }
     ensures answered { OnOk result (tally.new ≡ answered_more (instances_in found.now) tally.old) }
     ensures absorbed { OnOk result (layer.new ≡ absorbed depth (sums_of found.now) layer.old) }
     ensures counted { tally.new ≡ record tally.old { reused = tally.new.reused } }

@@ -1,5 +1,5 @@
 -- Values and readings that are found to be the same are equal: each reading once are the same readings, and the values that differ from the identities are all that there are.
-use Rattle.std.proofs.Common.{◌≡◌, ℕ, suc, ◌+◌, ◌⊎◌, ℤ, Bool, true, false, true≢false, cond, List, [], ◌∷◌, ◌++◌, length, Option, Some, None, inl, inr, ⊎_elim, refl, sym, ◌∙◌, ap, ap₂, subst, arith, append_assoc}
+use Rattle.std.proofs.Common.{◌≡◌, ℕ, suc, ◌+◌, ◌<◌, ◌≤◌, ◌⊎◌, ℤ, Bool, true, false, true≢false, cond, List, [], ◌∷◌, ◌++◌, length, Option, Some, None, inl, inr, ⊎_elim, refl, sym, ◌∙◌, ap, ap₂, subst, arith, append_assoc}
 use Rattle.std.specs.Prelude.{◌&&◌, ◌||◌, nat_eq, slice_set}
 use Rattle.std.specs.Cmp.Lexicographic.{pointwise}
 use Rattle.std.specs.List.{list_any}
@@ -11,7 +11,7 @@ use Rattle.monoid_laws.specs.Worth.{Worth, number, items, best, line, amounts, e
 use Rattle.monoid_laws.specs.Kinds.{identities, identity_of}
 use Rattle.evaluation.specs.declared.note.Note.{Note}
 use Rattle.evaluation.specs.declared.note.Note.TheVariants.{Cell, Has, Limit, Sum}
-use Rattle.rerun_records.specs.Named.{SameMembers, filled}
+use Rattle.rerun_records.specs.Named.{NameReducersFrom, SameMembers, filled}
 use Rattle.trail_theory.specs.Order.{In}
 use Rattle.trail_theory.proofs.Places.{in_append, in_left, in_right}
 use Rattle.positions.specs.Tallies.{touched_from}
@@ -190,3 +190,21 @@ filled_from (k ∷ ks) (w ∷ ws) pre i e l =
 
 pub touched_is : (kinds : List Kind) (ws : List Worth) → length ws ≡ length kinds → filled (identities kinds) (touched_from 0 kinds ws) ≡ ws
 touched_is kinds ws l = filled_from kinds ws [] 0 refl l
+
+-- they name reducers, each once and in order
+named_lower : (count i : ℕ) (es : List (ℕ × Worth)) → NameReducersFrom (suc i) count es → NameReducersFrom i count es
+named_lower count i [] h = tt
+named_lower count i (e ∷ es) h = (let b : suc i ≤ e.0 = h.0 in omega (arith, b), h.1, h.2)
+
+named_by : (b : Bool) (count i : ℕ) (w : Worth) (es : List (ℕ × Worth)) → i < count → NameReducersFrom (suc i) count es → NameReducersFrom i count (cond b es ((i, w) ∷ es))
+named_by true count i w es l h = named_lower count i es h
+named_by false count i w es l h = (omega arith, l, h)
+
+named_from : (kinds : List Kind) (ws : List Worth) (i count : ℕ) → i + length kinds ≡ count → NameReducersFrom i count (touched_from i kinds ws)
+named_from [] ws i count e = tt
+named_from (k ∷ ks) [] i count e = tt
+named_from (k ∷ ks) (w ∷ ws) i count e =
+    named_by (same_worth w (identity_of k)) count i w (touched_from (suc i) ks ws) (omega (arith, e)) (named_from ks ws (suc i) count (omega (arith, e)))
+
+pub touched_named : (kinds : List Kind) (ws : List Worth) → NameReducersFrom 0 (length kinds) (touched_from 0 kinds ws)
+touched_named kinds ws = named_from kinds ws 0 (length kinds) (omega arith)

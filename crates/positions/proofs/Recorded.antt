@@ -11,7 +11,7 @@ use Rattle.meaning.specs.Layers.{Notes}
 use Rattle.meaning.specs.Tallies as definitions
 use Rattle.meaning.specs.Tallies.{Opened, Tally, opened_all, passed_all, answered_one, closed_by, valid_record}
 use Rattle.rerun_records.specs.Record.{PlainRecord}
-use Rattle.rerun_records.specs.Named.{SameMembers, IsRecord, AreRecords, IsAnswer, filled, number_of, numbered_entry}
+use Rattle.rerun_records.specs.Named.{NameReducersFrom, SameMembers, IsRecord, AreRecords, IsAnswer, filled, number_of, numbered_entry}
 use Rattle.rerun_records.proofs.Lookups.{looks_up}
 use Rattle.trail_theory.specs.Order.{Every}
 use Rattle.trail_theory.specs.OwnLayers.{is_top_by_length}
@@ -22,7 +22,7 @@ use Rattle.positions.specs.Tallies.{PlainOpened, PlainTally, touched_from, entri
 use Rattle.positions.specs.Advance.{record_for}
 use Rattle.positions.specs.Stands.{IsNotes, IsOpened, AreOpened, IsTally}
 use Rattle.positions.specs.Simulation.{HoldNow}
-use Rattle.positions.proofs.Once.{second_is, touched_is}
+use Rattle.positions.proofs.Once.{second_is, touched_is, touched_named}
 use Rattle.positions.proofs.Products.{kept_reads_are}
 use Rattle.positions.proofs.Entries.{entries_are}
 
@@ -65,6 +65,7 @@ module _ (setting : Setting) where
           arguments = i.arguments;
           value = refl;
           contribution = h.worths ∙ sym (touched_is l.kinds l.worths h.each) ∙ ap (λ ks. filled (identities ks) (touched_from 0 l.kinds l.worths)) (sym same_kinds);
+          named = subst (λ ks. NameReducersFrom 0 (length ks) (touched_from 0 l.kinds l.worths)) (sym same_kinds) (touched_named l.kinds l.worths);
           reads = kept_reads_are setting l n h (h.keeps ∙ i.recorded);
           entered =
               subst (λ flags. SameMembers (entries_from 0 setting.program.revisions flags) (map (numbered_entry setting.program.tree) (definitions.record_by setting.program k n v).revisions)) (sym h.entered)

@@ -40,6 +40,7 @@ module _ (program : Revised) (names : List Columned) (kinds : List Kind) where
     arguments = h.arguments;
     value = h.value;
     contribution = h.contribution;
+    named = h.named;
     reads = h.reads;
     entered = h.entered;
     height = h.height;
@@ -102,6 +103,7 @@ module _ (program : Revised) (names : List Columned) (kinds : List Kind) where
     arguments = h.arguments;
     value = h.value;
     contribution = h.contribution;
+    named = h.named;
     reads = h.reads;
     entered = h.entered;
     height = h.height;

@@ -4,7 +4,7 @@ use Rattle.std.proofs.lemmas.List.Elements.{All-cons, All-head, All-tail}
 use Rattle.std.specs.List.{list_any}
 use Rattle.indexmap.specs.IndexSet.{replace_key, swap_key}
 use Rattle.rerun_records.specs.Record.{PlainRecord, same_instance, settled}
-use Rattle.rerun_records.specs.Named.{AreValuesFrom, HaveValues}
+use Rattle.rerun_records.specs.Named.{HasValuesIfAnswers, HaveValues}
 use Rattle.monoid_laws.specs.declared.Kind.{Kind}
 use Rattle.rerun_records.specs.Commits.{put_record, put_records}
 
@@ -79,4 +79,4 @@ unsettled_pass P f [] a = a
 unsettled_pass P f (r ∷ rs) a = All-cons P r rs (f r (All-head P (settled r) (map settled rs) a)) (unsettled_pass P f rs (All-tail P (settled r) (map settled rs) a))
 
 pub same_values : (kinds : List Kind) (rs ss : List PlainRecord) → map settled ss ≡ map settled rs → HaveValues kinds rs → HaveValues kinds ss
-same_values kinds rs ss e h = unsettled_pass (λ r. AreValuesFrom 0 kinds r.contribution) (λ r v. v) ss (rw e (settled_pass (λ r. AreValuesFrom 0 kinds r.contribution) (λ r v. v) rs h))
+same_values kinds rs ss e h = unsettled_pass (HasValuesIfAnswers kinds) (λ r v. v) ss (rw e (settled_pass (HasValuesIfAnswers kinds) (λ r v. v) rs h))

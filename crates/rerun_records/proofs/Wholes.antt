@@ -1,11 +1,11 @@
 -- What a block answers, its records answer one by one.
-use Rattle.std.proofs.Common.{◌≡◌, inl, inr, ℕ, zero, suc, ◌<◌, ◌≤◌, ◌+◌, ℤ, pos, Bool, true, false, true≢false, cond, not, List, [], ◌∷◌, map, length, Some, None, refl, sym, ap, ◌∙◌, subst, arith}
+use Rattle.std.proofs.Common.{◌≡◌, ℕ, zero, suc, ◌<◌, ◌≤◌, ◌+◌, ℤ, pos, Bool, true, false, true≢false, cond, not, List, [], ◌∷◌, map, length, Some, None, refl, sym, ap, ◌∙◌, subst, arith}
 use Rattle.std.specs.Prelude.{◌&&◌, ◌||◌, ◌+ℤ◌, max, nat_eq, nat_le, slice_get, slice_set}
 use Rattle.std.specs.Cmp.Lexicographic.{pointwise}
 use Rattle.std.specs.List.{find, flat_map, position_or_len, AllByRecursion, IsDistinct}
 use Rattle.std.specs.Ordering.{int_eq}
 use Rattle.std.proofs.lemmas.Bool.{le-leb}
-use Rattle.std.proofs.lemmas.Bool.Decides.{Decides-eqb, Decides-int_eq, leb_tells}
+use Rattle.std.proofs.lemmas.Bool.Decides.{Decides-eqb, Decides-int_eq}
 use Rattle.std.proofs.lemmas.Slice.Eq.{slice_eq-Decides}
 use Rattle.program_tree.specs.Plain.{Name}
 use Rattle.evaluation.specs.declared.note.Note.{Note}
@@ -23,7 +23,7 @@ use Rattle.rerun_records.specs.Batches.{AreValidFrom, IsBatch}
 use Rattle.rerun_records.specs.Blocks.{PlainBlock, stands, stands_at, AreLeaves, BlockFits, Answers}
 use Rattle.rerun_records.proofs.Members.{left_is, right_is, both, every_member}
 use Rattle.rerun_records.proofs.NodeNotes.{every_append}
-use Rattle.rerun_records.proofs.Singles.{set_itself}
+use Rattle.rerun_records.proofs.Singles.{is_le, set_itself}
 use Rattle.rerun_records.proofs.Standing.{found_stands}
 use Rattle.rerun_records.proofs.Homes.{false_if}
 
@@ -97,13 +97,6 @@ module _ (revisions : List (Name × ℕ)) (tables : Tables) (depth : ℕ) where
   leaf_valid (r ∷ rs) (suc p) m single h e s c f =
       ap (λ b. only_valid revisions tables depth (cond b (Some r) (find (is_of m.procedure m.arguments) rs))) (other_instance r rs p m single.0 e)
       ∙ leaf_valid rs p m single.1 (right_is (reads_in_step tables r) (every (reads_in_step tables) rs) h) e s c f
-
-is_le : (a b : ℕ) → nat_le a b ≡ true → a ≤ b
-is_le a b e =
-    elim (leb_tells a b) as (λ _. a ≤ b) [
-      | inl le ↦ le.1
-      | inr gt ↦ absurd (true≢false (sym e ∙ gt.0))
-    ]
 
 lower : (a b c : ℕ) → b ≤ c → nat_le (a + c) (suc depth_limit) ≡ true → nat_le (a + b) (suc depth_limit) ≡ true
 lower a b c l e = let h = is_le (a + c) (suc depth_limit) e in le-leb (a + b) (suc depth_limit) (below (suc depth_limit) h)

@@ -1,5 +1,5 @@
 -- Which records of the definitions, in which everything goes by name, the records by number stand for.
-use Rattle.std.specs.Prelude.{◌≡◌, ℕ, suc, ◌≤◌, ℤ, true, cond, List, [], ◌∷◌, map, Option, Some, None, Contains, ◌↔◌, slice_get, slice_set, All}
+use Rattle.std.specs.Prelude.{◌≡◌, ℕ, suc, ◌<◌, ◌≤◌, ℤ, true, cond, List, [], ◌∷◌, map, length, Option, Some, None, Contains, ◌↔◌, slice_get, slice_set, All}
 use Rattle.program_tree.specs.Plain.{Name, Tree}
 use Rattle.program_tree.specs.View.{tree}
 use Rattle.monoid_laws.specs.Worth.{Worth}
@@ -7,6 +7,7 @@ use Rattle.monoid_laws.specs.declared.Kind.{Kind}
 use Rattle.monoid_laws.specs.Kinds.{identities, IsWorth}
 use Rattle.meaning.specs.Tables.{Tables, is_there}
 use Rattle.meaning.specs.Outcome.{Accumulators}
+use Rattle.meaning.specs.Elision.{depth_limit}
 use Rattle.meaning.specs.Statements.{procedure_of}
 use Rattle.meaning.specs.Records.{Revised, Kept, Key, if_valid, record_of}
 use Rattle.meaning.specs.Commits.{committed}
@@ -23,6 +24,11 @@ abbrev pub filled : Accumulators → List (ℕ × Worth) → Accumulators
 filled acc [] = acc
 filled acc (e ∷ es) = filled (slice_set acc e.0 e.1) es
 
+-- each entry names a reducer, of so many, from that number on, in order
+abbrev pub NameReducersFrom : ℕ → ℕ → List (ℕ × Worth) → Type 0
+NameReducersFrom i count [] = Unit {0}
+NameReducersFrom i count (e ∷ es) = (i ≤ e.0) × (e.0 < count) × NameReducersFrom (suc e.0) count es
+
 -- two lists have the same members
 abbrev pub SameMembers : {A : Type 0} → List A → List A → Type 0
 SameMembers {A} xs ys = (x : A) → Contains xs x ↔ Contains ys x
@@ -38,13 +44,15 @@ module _ (t : Tree) where
 
 -- for a program whose tables have those names, and whose reducers are of those kinds
 module _ (t : Tree) (names : List Columned) (kinds : List Kind) where
-  -- a record of the definitions that a record by numbers stands for: names lead to the numbers, and the procedure is one of the program
+  -- a record of the definitions that a record by numbers stands for: names lead to the numbers, the procedure is one of the program,
+  -- and what it contributes is to reducers that there are, to each once, in order
   pub record IsRecord (k : Kept) (r : PlainRecord) : Type 0 where
     pub known : is_there (procedure_of t k.of) ≡ true
     pub procedure : r.procedure ≡ number_of t k.of
     pub arguments : r.arguments ≡ k.args
     pub value : r.value ≡ k.value
     pub contribution : k.contribution ≡ filled (identities kinds) r.contribution
+    pub named : NameReducersFrom 0 (length kinds) r.contribution
     pub reads : SameMembers r.reads (map (numbered names) k.read)
     pub entered : SameMembers r.entered (map (numbered_entry t) k.revisions)
     pub height : r.height ≡ k.height
@@ -84,9 +92,13 @@ abbrev pub AreValuesFrom : ℕ → List Kind → List (ℕ × Worth) → Type 0
 AreValuesFrom i kinds [] = Unit {0}
 AreValuesFrom i kinds (e ∷ es) = (i ≤ e.0) × IsValueAt (slice_get kinds e.0) e.1 × AreValuesFrom (suc e.0) kinds es
 
--- what the records contribute are values of the reducers' kinds, each reducer's once
+-- what a record contributes are values of the reducers' kinds, each reducer's once, unless it is too high to answer at any depth
+abbrev pub HasValuesIfAnswers : List Kind → PlainRecord → Type 0
+HasValuesIfAnswers kinds r = r.height ≤ depth_limit → AreValuesFrom 0 kinds r.contribution
+
+-- so it is of all these
 abbrev pub HaveValues : List Kind → List PlainRecord → Type 0
-HaveValues kinds rs = All (λ r. AreValuesFrom 0 kinds r.contribution) rs
+HaveValues kinds rs = All (HasValuesIfAnswers kinds) rs
 
 -- the record of a key by its name, where there is such a procedure and the record is valid at that depth
 abbrev pub looked_up : PlainChecked → Tables → ℕ → List PlainRecord → Key → Option PlainRecord

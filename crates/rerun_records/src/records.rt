@@ -204,6 +204,7 @@ impl Records {
         requires values { HaveValues program.now.kinds self.now }
         requires counted { series.counted < length arguments.now }
         requires some { 0 < series.most }
+        requires deep { 0 < series.depth }
         ensures batch { IfSome result (λ b. IsBatch program.now tables.now.tables series.depth self.now
             procedure arguments.now series.counted series.most b.count b.sum.now) }
     {
@@ -227,6 +228,7 @@ impl Records {
         requires there { slice_get (map settled self.now) place ≡ Some record.now }
         requires counted { series.counted < length record.now.arguments }
         requires some { 0 < series.most }
+        requires deep { 0 < series.depth }
         ensures batch { IfSome result (λ b. IsBatch program.now tables.now.tables series.depth self.now
             record.now.procedure record.now.arguments series.counted series.most b.count b.sum.now) }
     {
@@ -250,6 +252,7 @@ impl Records {
         requires there { slice_get (map settled self.now) place ≡ Some record.now }
         requires counted { series.counted < length record.now.arguments }
         requires some { 0 < series.most }
+        requires deep { 0 < series.depth }
         ensures batch { IfSome result (λ b. IsBatch program.now tables.now.tables series.depth self.now
             record.now.procedure record.now.arguments series.counted series.most b.count b.sum.now) }
     {

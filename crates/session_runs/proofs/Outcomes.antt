@@ -1,8 +1,6 @@
 -- What a run that has ended leaves of a session: its records, and nothing to be executed.
-use Rattle.std.proofs.Common.{◌≡◌, ◌≤◌, ℕ, List, [], ◌∷◌, map, All, refl, sym, ap, subst, ◌∙◌}
-use Rattle.std.proofs.lemmas.List.Elements.{All-nil}
+use Rattle.std.proofs.Common.{◌≡◌, ℕ, List, [], ◌∷◌, map, refl, sym, ap, subst, ◌∙◌}
 use Rattle.meaning.specs.Tables.{Tables}
-use Rattle.meaning.specs.Elision.{depth_limit}
 use Rattle.meaning.specs.Records.{Revised, Kept, IsSound}
 use Rattle.meaning.specs.Commits.{committed}
 use Rattle.trail_theory.specs.Order.{Every}
@@ -11,7 +9,7 @@ use Rattle.trail_theory.proofs.Contributions.{commits_sound}
 use Rattle.linked_program.specs.Checked.{PlainChecked, revised_of}
 use Rattle.input_tables.specs.Edited.{Edited}
 use Rattle.rerun_records.specs.Record.{PlainRecord, settled}
-use Rattle.rerun_records.specs.Named.{AreKept, HaveValues}
+use Rattle.rerun_records.specs.Named.{AreKept}
 use Rattle.rerun_records.specs.Commits.{put_records}
 use Rattle.rerun_records.proofs.Lookups.{put_all}
 use Rattle.frames.specs.declared.answer.RunAnswer.{RunAnswer}
@@ -21,7 +19,7 @@ use Rattle.numbered_runs.specs.Sound.{AreSoundFor, setting_by}
 use Rattle.run_terms.specs.Recorded.{HasRecordedBy, tally_of}
 use Rattle.kept_session.specs.Sessions.{PlainSession, AreNewFor}
 use Rattle.kept_session.proofs.Keeping.{none_new}
-use Rattle.kept_session.proofs.News.{are_new, are_answerable}
+use Rattle.kept_session.proofs.News.{are_new}
 use Rattle.kept_session.proofs.Doubts.{twice, stand_so}
 use Rattle.session_runs.specs.Runs.{LeavesRecords, NeedsNothing, IsQuietAfter}
 
@@ -63,17 +61,12 @@ quiet_after program tables records (answer.Fault f) made sound h s p t r = tt
 
 -- those that a run has made may be put among the others
 module _ (program : PlainChecked) (tables : Edited) (records : List PlainRecord) where
-  abbrev MayBePut : List PlainRecord → Type 0
-  MayBePut made = AreNewFor program tables made × All (λ r. r.height ≤ depth_limit) made
+  none_put : (made : List PlainRecord) → made ≡ [] → AreNewFor program tables made
+  none_put made none = subst (AreNewFor program tables) (sym none) (none_new program tables)
 
-  none_put : (made : List PlainRecord) → made ≡ [] → MayBePut made
-  none_put made none = subst MayBePut (sym none) (none_new program tables, All-nil (λ r. r.height ≤ depth_limit))
-
-  pub news_of : (given : RunAnswer) (made : List PlainRecord) → HasRecordedBy program tables records given made → HaveValues program.kinds made → AreSoundFor program records → MayBePut made
-  news_of (answer.Finished v ws n m k) made has values sound =
-      let news = (has sound).1 in
-      (are_new program tables news.kept made news.stand news.news values, are_answerable program tables news.kept made news.stand news.news)
-  news_of answer.Unfinished made none values sound = none_put made none
-  news_of answer.NoMemory made none values sound = none_put made none
-  news_of answer.NoKit made none values sound = none_put made none
-  news_of (answer.Fault f) made none values sound = none_put made none
+  pub news_of : (given : RunAnswer) (made : List PlainRecord) → HasRecordedBy program tables records given made → AreSoundFor program records → AreNewFor program tables made
+  news_of (answer.Finished v ws n m k) made has sound = let news = (has sound).1 in are_new program tables news.kept made news.stand news.news
+  news_of answer.Unfinished made none sound = none_put made none
+  news_of answer.NoMemory made none sound = none_put made none
+  news_of answer.NoKit made none sound = none_put made none
+  news_of (answer.Fault f) made none sound = none_put made none

@@ -1,5 +1,5 @@
 -- Memo instances that are entered, and layers that close.
-use Rattle.std.proofs.Common.{◌≡◌, ℕ, zero, suc, ◌-◌, ◌⊎◌, Bool, true, false, ℤ, List, [], ◌∷◌, ◌++◌, reverse, Option, Some, None, Result, Ok, Err, OnOk, sym, ap, ◌∙◌, subst, inl, inr}
+use Rattle.std.proofs.Common.{◌≡◌, ℕ, zero, suc, ◌-◌, ◌⊎◌, Bool, true, false, ℤ, List, [], ◌∷◌, ◌++◌, reverse, Option, Some, None, Result, Ok, Err, OnOk, sym, ap, ◌∙◌, subst, inl, inr, arith}
 use Rattle.std.proofs.lemmas.List.{reverse-append}
 use Rattle.monoid_laws.specs.declared.Kind.{Kind}
 use Rattle.meaning.specs.Elision.{depth_limit}
@@ -22,7 +22,7 @@ use Rattle.small_steps.specs.Steps.{HoldsBy}
 module _ (setting : Setting) where
   record_values : (ks : List Kind) (depth procedure : ℕ) (arguments : List ℤ) (r : PlainRecord) → HaveValues ks setting.records → Some r ≡ record_for setting depth procedure arguments → AreValuesFrom 0 ks r.contribution
   record_values ks zero procedure arguments r h e = absurd cc
-  record_values ks (suc d) procedure arguments r h e = valid_values setting.program.revisions setting.tables ks (suc d) procedure arguments setting.records r h e
+  record_values ks (suc d) procedure arguments r h e = valid_values setting.program.revisions setting.tables ks (suc d) procedure arguments setting.records r (omega arith) h e
 
   pub answer_values : (s : PlainStrand) (r : PlainRecord) (ks : List Kind) → s.layer.kinds ≡ ks → HaveValues ks setting.records → Some r ≡ answer_for setting s → AreValuesFrom 0 s.layer.kinds r.contribution
   answer_values s r ks e h f = subst (λ cs. AreValuesFrom 0 cs r.contribution) (sym e) (record_values ks (depth_limit - s.top.left) s.top.procedure s.arguments r h f)

@@ -5,15 +5,15 @@ use Rattle.gathered_records.proofs.Rows.{record_more, sum_over}
 use Rattle.gathered_records.proofs.sums.sum_at.Goals as goal
 
 pub loop-place-init : goal.loop-place-init
-loop-place-init c = subst (HasSummed c.args.kinds.now []) (sym c.in_ok-sum.ensures.none) (nothing_summed_so c.args.kinds.now)
+loop-place-init c = subst (HasSummed c.args.kinds.now []) (sym c.in_ok-sum.ensures.none) (nothing_summed_so c.args.kinds.now c.requires.monoids)
 
 pub loop-place-preserved : goal.loop-place-preserved
 loop-place-preserved c =
-    record_more c.args.kinds.now c.args.records.now c.args.places.now c.loop-place.place-index _ _ c.loop-place.sum c.add_record.new.sum c.requires.values c.loop-place-test.true refl
-    c.in_ok-add_record.ensures.none c.in_ok-add_record.ensures.added c.loop-place.invariant
+    record_more c.args.kinds.now c.args.records.now c.args.places.now c.loop-place.place-index _ _ c.loop-place.sum c.add_record.new.sum c.requires.monoids c.requires.values c.loop-place-test.true refl
+    c.in_ok-add_record.ensures.none c.in_ok-add_record.ensures.added c.in_ok-add_record.ensures.low c.loop-place.invariant
 
 pub returns : goal.returns
 returns c = record {
-  sum = sum_over c.finish.result c.args.kinds.now c.args.records.now c.args.places.now c.loop-place.place-index c.loop-place.sum c.requires.monoids c.requires.values c.requires.some c.loop-place-test.false
+  sum = sum_over c.finish.result c.args.kinds.now c.args.records.now c.args.places.now c.loop-place.place-index c.loop-place.sum c.requires.some c.loop-place-test.false
       c.loop-place.invariant c.finish.ensures.summed;
 }

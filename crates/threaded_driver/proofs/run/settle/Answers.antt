@@ -8,14 +8,7 @@ settle-requires-clause-new g c κs within =
     let s = c.args.session.now in
     let e = c.args.ended in
     let recorded = recorded_by s e.answer e.made.items c.requires.end.recorded c.requires.end.alone in
-    (news_of s.checked s.tables s.records e.answer e.made.items recorded c.requires.end.values c.kept.ensures.sound).0
-
-pub settle-requires-clause-answerable : goal.settle-requires-clause-answerable
-settle-requires-clause-answerable g c κs within =
-    let s = c.args.session.now in
-    let e = c.args.ended in
-    let recorded = recorded_by s e.answer e.made.items c.requires.end.recorded c.requires.end.alone in
-    (news_of s.checked s.tables s.records e.answer e.made.items recorded c.requires.end.values c.kept.ensures.sound).1
+    news_of s.checked s.tables s.records e.answer e.made.items recorded c.kept.ensures.sound
 
 pub returns-in-Ok-clause-quiet : goal.returns-in-Ok-clause-quiet
 returns-in-Ok-clause-quiet g c =

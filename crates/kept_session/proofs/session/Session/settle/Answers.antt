@@ -27,7 +27,7 @@ keep-requires g c =
       read_now = made_read_now s.checked s.tables c.args.made.items c.self.invariant.columns new;
       monoids = checked_monoids s.checked is;
       values = c.self.invariant.values;
-      made_values = new_have_values s.checked is s.tables c.fitting.ensures.numbers c.cells_fit.ensures.fit c.args.made.items new c.requires.answerable
+      made_values = new_have_values s.checked is s.tables c.fitting.ensures.numbers c.cells_fit.ensures.fit c.args.made.items new
           (subst (λ (rs : List PlainRecord). All (λ r. All Fits r.arguments) rs) c.deref.ensures.value c.arguments_fit.ensures.fit);
     }
 
@@ -48,7 +48,7 @@ invariant_of-self g c =
     record {
       kept = settled_keeps s.checked is s.tables c.keep.result s.records c.args.made.items c.keep.new.records c.keep.ensures.named c.keep.ensures.same keeps.kept new;
       values = settled_values c.keep.result s.checked.kinds s.records c.args.made.items c.keep.new.records c.keep.ensures.values c.keep.ensures.same keeps.values
-          (new_have_values s.checked is s.tables c.fitting.ensures.numbers c.cells_fit.ensures.fit c.args.made.items new c.requires.answerable
+          (new_have_values s.checked is s.tables c.fitting.ensures.numbers c.cells_fit.ensures.fit c.args.made.items new
           (subst (λ (rs : List PlainRecord). All (λ r. All Fits r.arguments) rs) c.deref.ensures.value c.arguments_fit.ensures.fit));
       in_step = stay_in_step c.keep.result s.tables.tables s.records c.keep.new.records c.keep.ensures.in_step c.keep.ensures.same keeps.in_step;
       columns = keeps.columns;

@@ -9,5 +9,5 @@ returns-in-Some c =
     record {
       batch =
           rw (c.one.ensures.count, c.one.ensures.one)
-          (batch_of_one P T c.args.series.depth c.args.self.now k.procedure k.arguments c.args.series.counted c.args.series.most c.in-Some.record.now c.requires.counted c.requires.some c.requires.values c.in-Some.ensures.valid);
+          (batch_of_one P T c.args.series.depth c.args.self.now k.procedure k.arguments c.args.series.counted c.args.series.most c.in-Some.record.now c.requires.counted c.requires.some c.requires.deep c.requires.values c.in-Some.ensures.valid);
     }

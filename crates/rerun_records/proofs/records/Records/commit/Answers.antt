@@ -4,7 +4,7 @@ use Rattle.linked_program.specs.Checked.{revised_of}
 use Rattle.rerun_records.specs.Commits.{put_records}
 use Rattle.rerun_records.specs.Doubted.{IsInStep}
 use Rattle.rerun_records.specs.Moments.{standing}
-use Rattle.rerun_records.specs.Named.{AreKept, AreValuesFrom, HaveValues}
+use Rattle.rerun_records.specs.Named.{AreKept, HasValuesIfAnswers, HaveValues}
 use Rattle.rerun_records.proofs.Puts.{all_put_in, same_values}
 use Rattle.rerun_records.proofs.InStep.{in_step_put}
 use Rattle.rerun_records.proofs.Standing.{put_into, settled_put_into}
@@ -41,4 +41,4 @@ returns-clause-values c = λ kinds old made.
     put_into c.self.inside.changes.items _ c.self.inside.moments.items _ c.put_all.new.moments.items c.self.inside.by_instance.keys _ c.put_all.new.by_instance.keys c.args.self.now c.args.records.items
     c.deref.ensures.value c.reserve-2.ensures.items c.reserve.ensures.keys c.self.view_is c.put_all.ensures.put in
     same_values kinds (standing c.self.inside.changes.items c.put_all.new.moments.items c.put_all.new.by_instance.keys) c.tidy.new.self c.tidy.ensures.same
-    (subst (HaveValues kinds) (sym put) (all_put_in (λ x. AreValuesFrom 0 kinds x.contribution) c.args.self.now c.args.records.items old made))
+    (subst (HaveValues kinds) (sym put) (all_put_in (HasValuesIfAnswers kinds) c.args.self.now c.args.records.items old made))
