@@ -7,6 +7,7 @@ ghost use Rattle.monoid_laws.specs.Kinds.{meaning, identities, operate, operate_
 ghost use Rattle.meaning.specs.Elision.{depth_limit};
 ghost use Rattle.rerun_records.specs.Record.{PlainRecord, touched};
 ghost use Rattle.rerun_records.specs.Named.{filled, AreValuesFrom, HaveValues};
+ghost use Rattle.rerun_records.specs.ShortLists.{items_in};
 ghost use Rattle.rerun_records.specs.Sums.{IsSumOf};
 ghost use Rattle.gathered_records.specs.Summing.{nothing_summed, added, summed, same_entry, put_entry, put_entries, numbered_from, at_places};
 
@@ -15,6 +16,7 @@ use monoid_laws::{Kind, Val};
 use reducer_values::{combine_copy, identity};
 use rerun_records::readings::Readings;
 use rerun_records::record::Record;
+use rerun_records::short_list::ShortList;
 use std::alloc::{AllocError, Global};
 use std::marker::Model;
 
@@ -26,11 +28,11 @@ const MOST: usize = 64;
 #[derive(Drop)]
 pub(crate) struct Sum {
     procedure: usize,
-    arguments: Vec<i64>,
+    arguments: ShortList<i64>,
     value: i64,
     worths: Vec<Val>,
     reads: Vec<Readings>,
-    entered: Vec<(usize, u64)>,
+    entered: ShortList<(usize, u64)>,
     height: u32,
 }
 
@@ -38,17 +40,18 @@ impl Model for Sum {
     ghost use Rattle.std.specs.Prelude.{map};
     ghost use Rattle.monoid_laws.specs.Kinds.{meaning};
     ghost use Rattle.rerun_records.specs.Readings.{all_of};
+    ghost use Rattle.rerun_records.specs.ShortLists.{items_in};
     ghost use Rattle.gathered_records.specs.Summing.{PlainSum};
 
     ghost Value = { PlainSum };
 
     ghost view = { λ s. record {
       procedure = s.procedure;
-      arguments = s.arguments.items;
+      arguments = items_in s.arguments;
       value = s.value;
       worths = map meaning s.worths.items;
       reads = all_of s.reads.items;
-      entered = s.entered.items;
+      entered = items_in s.entered;
       height = s.height;
     } };
 }
@@ -60,11 +63,11 @@ impl Sum {
     {
         Ok(Sum {
             procedure: 0,
-            arguments: Vec::new(alloc),
+            arguments: ShortList::new(Vec::new(alloc)),
             value: 0,
             worths: units(alloc, kinds)?,
             reads: Vec::new(alloc),
-            entered: Vec::new(alloc),
+            entered: ShortList::new(Vec::new(alloc)),
             height: 0,
         })
     }
@@ -84,8 +87,8 @@ impl Sum {
     {
         add_values(&mut self.worths, alloc, kinds, record.contribution())?;
         add_reads(&mut self.reads, record.reads())?;
-        add_entries(&mut self.entered, record.entered())?;
-        copy_into(&mut self.arguments, record.arguments())?;
+        add_entries(alloc, &mut self.entered, record.entered())?;
+        self.arguments = ShortList::from_slice(alloc, record.arguments())?;
         self.procedure = record.procedure();
         self.value = record.value();
         self.height = self.height.max(record.height());
@@ -97,7 +100,7 @@ impl Sum {
         ensures summed { IfOk result (λ r. r ≡ summed self) }
     {
         let contribution = numbered(alloc, self.worths)?;
-        let reads = Readings::new(alloc, Vec::new(alloc), self.reads)?;
+        let reads = Readings::new(alloc, ShortList::new(Vec::new(alloc)), self.reads)?;
         Ok(Record::new(
             self.procedure,
             self.arguments,
@@ -264,27 +267,34 @@ fn add_reads(parts: &mut Vec<Readings>, reads: &Readings) -> Result<(), AllocErr
 }
 
 // Puts in the entries that aren't there.
-fn add_entries(entries: &mut Vec<(usize, u64)>, more: &[(usize, u64)]) -> Result<(), AllocError>
-    ensures put { OnOk result (entries.new.items ≡ put_entries entries.old.items more.now) }
+fn add_entries(
+    alloc: Global,
+    entries: &mut ShortList<(usize, u64)>,
+    more: &[(usize, u64)],
+) -> Result<(), AllocError>
+    ensures put { OnOk result (items_in entries.new ≡ put_entries (items_in entries.old) more.now) }
 {
     for entry in more {
-        add_entry(entries, entry)?;
+        add_entry(alloc, entries, entry)?;
     }
     Ok(())
 }
 
 // Puts in an entry, unless it is there; refused where they get too many.
-fn add_entry(entries: &mut Vec<(usize, u64)>, entry: &(usize, u64)) -> Result<(), AllocError>
-    ensures put { OnOk result (entries.new.items ≡ put_entry entries.old.items entry.now) }
+fn add_entry(
+    alloc: Global,
+    entries: &mut ShortList<(usize, u64)>,
+    entry: &(usize, u64),
+) -> Result<(), AllocError>
+    ensures put { OnOk result (items_in entries.new ≡ put_entry (items_in entries.old) entry.now) }
 {
-    if is_entered(entries, entry) {
+    if is_entered(entries.as_slice(), entry) {
         return Ok(());
     }
-    if entries.len() >= MOST {
+    if entries.as_slice().len() >= MOST {
         return Err(AllocError);
     }
-    entries.push(*entry)?;
-    Ok(())
+    entries.push(alloc, *entry)
 }
 
 // Whether the entry is one of these.
@@ -304,13 +314,4 @@ fn is_same(entry: &(usize, u64), other: &(usize, u64)) -> bool
     ensures same { result ≡ same_entry entry.now other.now }
 {
     entry.0 == other.0 && entry.1 == other.1
-}
-
-// Makes one list a copy of the other.
-fn copy_into(list: &mut Vec<i64>, numbers: &[i64]) -> Result<(), AllocError>
-    ensures copied { OnOk result (list.new.items ≡ numbers.now) }
-{
-    list.clear();
-    list.extend_from_slice(numbers)?;
-    Ok(())
 }

@@ -8,6 +8,7 @@ ghost use Rattle.evaluation.specs.Short.{note_of};
 ghost use Rattle.rerun_records.specs.Record.{touched};
 ghost use Rattle.rerun_records.specs.Named.{AreValuesFrom};
 ghost use Rattle.rerun_records.specs.Readings.{all_of};
+ghost use Rattle.rerun_records.specs.ShortLists.{items_in};
 ghost use Rattle.positions.specs.Values.{same_note, once, put_note};
 ghost use Rattle.positions.specs.Tallies.{touched_from, entries_from};
 ghost use Rattle.layers.specs.Recordings.{recording_of, recorded, touched_at, entry_of};
@@ -23,6 +24,7 @@ use linked_program::checked::Checked;
 use monoid_laws::{Kind, Val};
 use rerun_records::readings::Readings;
 use rerun_records::record::Record;
+use rerun_records::short_list::ShortList;
 use std::alloc::{AllocError, Global};
 use std::marker::Model;
 use view_pool::View;
@@ -32,17 +34,18 @@ use view_pool::View;
 #[derive(Drop)]
 pub struct Opened {
     procedure: usize,
-    arguments: Vec<i64>,
+    arguments: ShortList<i64>,
     left: u32,
     depth: usize,
 }
 
 impl Model for Opened {
     ghost use Rattle.positions.specs.Tallies.{PlainOpened};
+    ghost use Rattle.rerun_records.specs.ShortLists.{items_in};
 
     ghost Value = { PlainOpened };
 
-    ghost view = { λ o. record { procedure = o.procedure; arguments = o.arguments.items; left = o.left; depth = o.depth } };
+    ghost view = { λ o. record { procedure = o.procedure; arguments = items_in o.arguments; left = o.left; depth = o.depth } };
 }
 
 impl Opened {
@@ -59,7 +62,7 @@ impl Opened {
     {
         Ok(Opened {
             procedure,
-            arguments: Vec::from_slice(alloc, arguments)?,
+            arguments: ShortList::from_slice(alloc, arguments)?,
             left,
             depth,
         })
@@ -79,18 +82,19 @@ impl Opened {
 pub(crate) struct Recording {
     contribution: Vec<(usize, Val)>,
     reads: Readings,
-    entered: Vec<(usize, u64)>,
+    entered: ShortList<(usize, u64)>,
     levels: u32,
 }
 
 impl Model for Recording {
     ghost use Rattle.std.specs.Prelude.{map};
     ghost use Rattle.rerun_records.specs.Record.{touched};
+    ghost use Rattle.rerun_records.specs.ShortLists.{items_in};
     ghost use Rattle.layers.specs.Recordings.{PlainRecording};
 
     ghost Value = { PlainRecording };
 
-    ghost view = { λ r. record { contribution = map touched r.contribution.items; reads = r.reads; entered = r.entered.items; levels = r.levels } };
+    ghost view = { λ r. record { contribution = map touched r.contribution.items; reads = r.reads; entered = items_in r.entered; levels = r.levels } };
 }
 
 impl Recording {
@@ -170,8 +174,8 @@ fn contribution<V: View>(
 {
     let _ = hypermap.len();
     let mut values = Vec::new(alloc);
+    let room = hypermap.used_count();
     for reducer in 0..kinds.len() {
-        let room = kinds.len() - reducer;
         push_touched(&mut values, hypermap, reducer, &kinds[reducer], room)?;
     }
     Ok(values)
@@ -242,15 +246,16 @@ fn shares(alloc: Global, shared: &[Readings]) -> Result<Vec<Readings>, AllocErro
 }
 
 /// Each reading once, in the order in which they were first made.
-fn distinct_readings(alloc: Global, found: &[Reading]) -> Result<Vec<Reading>, AllocError>
-    ensures once { IfOk result (λ rs. map note_of rs.items ≡ once (map note_of found.now)) }
+fn distinct_readings(alloc: Global, found: &[Reading]) -> Result<ShortList<Reading>, AllocError>
+    ensures once { IfOk result (λ rs. map note_of (items_in rs) ≡ once (map note_of found.now)) }
 {
     if found.len() > FEW {
         let seen = distinct(alloc, found)?;
-        return readings(alloc, seen.as_slice());
+        let own = readings(alloc, seen.as_slice())?;
+        return Ok(ShortList::new(own));
     }
     if are_distinct(found) {
-        return Vec::from_slice(alloc, found);
+        return ShortList::from_slice(alloc, found);
     }
     distinct_of_few(alloc, found)
 }
@@ -268,28 +273,29 @@ fn are_distinct(found: &[Reading]) -> bool
 }
 
 /// The readings, each once; by looking through those before it.
-fn distinct_of_few(alloc: Global, found: &[Reading]) -> Result<Vec<Reading>, AllocError>
-    ensures once { IfOk result (λ seen. map note_of seen.items ≡ once (map note_of found.now)) }
+fn distinct_of_few(alloc: Global, found: &[Reading]) -> Result<ShortList<Reading>, AllocError>
+    ensures once { IfOk result (λ seen. map note_of (items_in seen) ≡ once (map note_of found.now)) }
 {
-    let mut seen = Vec::new(alloc);
+    let mut seen = ShortList::new(Vec::new(alloc));
     for reading in found {
-        mark_few(&mut seen, reading)?;
+        mark_few(alloc, &mut seen, reading)?;
     }
     Ok(seen)
 }
 
 /// Puts in a reading, unless it is there.
-fn mark_few(seen: &mut Vec<Reading>, reading: &Reading) -> Result<(), AllocError>
-    ensures put { OnOk result
-        (map note_of seen.new.items ≡ put_note (map note_of seen.old.items) (note_of reading.now)) }
+fn mark_few(
+    alloc: Global,
+    seen: &mut ShortList<Reading>,
+    reading: &Reading,
+) -> Result<(), AllocError>
+    ensures put { OnOk result (map note_of (items_in seen.new)
+        ≡ put_note (map note_of (items_in seen.old)) (note_of reading.now)) }
 {
-    if is_among(seen, reading) {
+    if is_among(seen.as_slice(), reading) {
         return Ok(());
     }
-    match seen.push(*reading) {
-        Ok(()) => Ok(()),
-        Err(_) => Err(AllocError),
-    }
+    seen.push(alloc, *reading)
 }
 
 /// Whether a reading is among those.
@@ -338,14 +344,14 @@ fn entries(
     alloc: Global,
     flags: &[bool],
     program: &Checked,
-) -> Result<Vec<(usize, u64)>, AllocError>
+) -> Result<ShortList<(usize, u64)>, AllocError>
     ensures entries { IfOk result (λ es.
-        es.items ≡ entries_from 0 program.now.revisions flags.now) }
+        items_in es ≡ entries_from 0 program.now.revisions flags.now) }
 {
-    let mut entries = Vec::new(alloc);
+    let mut entries = ShortList::new(Vec::new(alloc));
     for procedure in 0..flags.len() {
         if flags[procedure] {
-            push_entry(&mut entries, procedure, program)?;
+            push_entry(alloc, &mut entries, procedure, program)?;
         }
     }
     Ok(entries)
@@ -353,15 +359,16 @@ fn entries(
 
 /// Puts the number of a procedure, where there is one, with its revision number behind the others.
 fn push_entry(
-    entries: &mut Vec<(usize, u64)>,
+    alloc: Global,
+    entries: &mut ShortList<(usize, u64)>,
     procedure: usize,
     program: &Checked,
 ) -> Result<(), AllocError>
-    ensures pushed { OnOk result (entries.new.items
-        ≡ entries.old.items ++ entry_of procedure (slice_get program.now.revisions procedure)) }
+    ensures pushed { OnOk result (items_in entries.new
+        ≡ items_in entries.old ++ entry_of procedure (slice_get program.now.revisions procedure)) }
 {
     if let Some(revision) = program.revision_at(procedure) {
-        entries.push((procedure, revision))?;
+        entries.push(alloc, (procedure, revision))?;
     }
     Ok(())
 }

@@ -7,7 +7,6 @@ use Rattle.monoid_laws.proofs.Val.TheSendSync as vals
 use Rattle.monoid_laws.proofs.Kind.TheSendSync as kinds
 use Rattle.evaluation.proofs.reading.Reading.TheSendSync as reading
 use Rattle.rerun_records.proofs.spans.Span.TheSendSync as spans
-use Rattle.rerun_records.proofs.nested.Nested.TheSendSync as nested
 use Rattle.rerun_records.specs.contracts.readings.Node as Node
 use Rattle.rerun_records.specs.contracts.readings.Readings as Readings
 use Rattle.rerun_records.specs.contracts.record.Record as Record
@@ -24,7 +23,7 @@ node_send =
     (λ h s y. search (sendable, crosses) depth 20)
     (λ h s y. search (sendable, crosses) depth 20)
     (Vec-send _ spans.the_send) (Vec-sync _ spans.the_sync)
-    (Vec-send _ reading.the_send) (Vec-sync _ reading.the_sync)
+    (search (sendable, crosses, reading.the_send) depth 20) (search (sendable, crosses, reading.the_sync) depth 20)
     (λ h s y. search (sendable, crosses) depth 20)
     (λ h s y. search (sendable, crosses) depth 20)
 
@@ -34,7 +33,7 @@ node_sync =
     (λ h s y. search (sendable, crosses) depth 20)
     (λ h s y. search (sendable, crosses) depth 20)
     (Vec-send _ spans.the_send) (Vec-sync _ spans.the_sync)
-    (Vec-send _ reading.the_send) (Vec-sync _ reading.the_sync)
+    (search (sendable, crosses, reading.the_send) depth 20) (search (sendable, crosses, reading.the_sync) depth 20)
     (λ h s y. search (sendable, crosses) depth 20)
     (λ h s y. search (sendable, crosses) depth 20)
 
@@ -45,10 +44,10 @@ pub readings_sync : IsSync (Readings.the_field).row
 readings_sync = let s = node_send in let y = node_sync in search (sendable, crosses) depth 20
 
 pub record_send : IsSend (Record.the_field).row
-record_send = let s = readings_send in search (sendable, crosses, vals.the_send, nested.the_send) depth 20
+record_send = let s = readings_send in search (sendable, crosses, vals.the_send) depth 20
 
 pub record_sync : IsSync (Record.the_field).row
-record_sync = let y = readings_sync in search (sendable, crosses, vals.the_sync, nested.the_sync) depth 20
+record_sync = let y = readings_sync in search (sendable, crosses, vals.the_sync) depth 20
 
 block_send : IsSend (Block.the_field).row
 block_send = let s = record_send in search (sendable, crosses) depth 20

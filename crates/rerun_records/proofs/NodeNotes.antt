@@ -1,6 +1,6 @@
 -- The notes of a node and of all below it, one level at a time.
 use Rattle.std.proofs.Common.{◌≡◌, Bool, true, false, List, [], ◌∷◌, map, ◌++◌, refl, sym, ap, ◌∙◌, append_assoc, subst, ℕ, ℤ, Option, Some, None, Result, Ok, Err, OnOk}
-use Rattle.std.specs.Prelude.{◌&&◌, Box, Vec}
+use Rattle.std.specs.Prelude.{◌&&◌, Box}
 use Rattle.std.specs.declared.alloc.Global.{Global}
 use Rattle.std.specs.declared.sync.Arc.{Arc}
 use Rattle.std.specs.Arc.{arc_value}
@@ -13,7 +13,9 @@ use Rattle.rerun_records.specs.declared.readings.Node.{Node, out-Node, roll-Node
 use Rattle.rerun_records.specs.declared.readings.Below.{Below, Below-F, out-Below, roll-Below, roll-out-Below, fold-roll-Below}
 use Rattle.evaluation.specs.Short.{note_of}
 use Rattle.evaluation.specs.declared.reading.Reading.{Reading}
+use Rattle.rerun_records.specs.declared.short_list.ShortList.{ShortList}
 use Rattle.rerun_records.specs.declared.spans.Span.{Span}
+use Rattle.rerun_records.specs.ShortLists.{items_in}
 use Rattle.meaning.specs.Tables.{Tables}
 use Rattle.rerun_records.specs.Spans.{is_covered_by, is_touched, span_of, put_spans}
 use Rattle.rerun_records.specs.Doubted.{in_step}
@@ -25,20 +27,20 @@ use Rattle.rerun_records.specs.Readings.{all_of, Told, node_step, below_step, no
 
 -- ---- one level of a fold
 
-roll_told : (own : Vec Reading Global) (below : Option (Box Below Global)) → node_told (roll-Node (record { own = own; below = below })) ≡ (map note_of own.items ++ held_notes below, is_covered_below below)
+roll_told : (own : ShortList Reading) (below : Option (Box Below Global)) → node_told (roll-Node (record { own = own; below = below })) ≡ (map note_of (items_in own) ++ held_notes below, is_covered_below below)
 roll_told own None = fold-roll-Node Told Told below_step node_step (record { own = own; below = None })
 roll_told own (Some b) = fold-roll-Node Told Told below_step node_step (record { own = own; below = Some b })
 
-out_told : (n : Node) → node_told n ≡ (map note_of (out-Node n).own.items ++ held_notes (out-Node n).below, is_covered_below (out-Node n).below)
+out_told : (n : Node) → node_told n ≡ (map note_of (items_in (out-Node n).own) ++ held_notes (out-Node n).below, is_covered_below (out-Node n).below)
 out_told n = ap node_told (sym (roll-out-Node n)) ∙ roll_told (out-Node n).own (out-Node n).below
 
-pub notes_roll : (own : Vec Reading Global) (below : Option (Box Below Global)) → node_notes (roll-Node (record { own = own; below = below })) ≡ map note_of own.items ++ held_notes below
+pub notes_roll : (own : ShortList Reading) (below : Option (Box Below Global)) → node_notes (roll-Node (record { own = own; below = below })) ≡ map note_of (items_in own) ++ held_notes below
 notes_roll own below = ap (λ t. t.0) (roll_told own below)
 
-pub covered_roll : (own : Vec Reading Global) (below : Option (Box Below Global)) → is_covered (roll-Node (record { own = own; below = below })) ≡ is_covered_below below
+pub covered_roll : (own : ShortList Reading) (below : Option (Box Below Global)) → is_covered (roll-Node (record { own = own; below = below })) ≡ is_covered_below below
 covered_roll own below = ap (λ t. t.1) (roll_told own below)
 
-pub notes_out : (n : Node) → node_notes n ≡ map note_of (out-Node n).own.items ++ held_notes (out-Node n).below
+pub notes_out : (n : Node) → node_notes n ≡ map note_of (items_in (out-Node n).own) ++ held_notes (out-Node n).below
 notes_out n = ap (λ t. t.0) (out_told n)
 
 pub covered_out : (n : Node) → is_covered n ≡ is_covered_below (out-Node n).below
@@ -82,11 +84,11 @@ append_nil (x ∷ xs) = ap (λ ys. x ∷ ys) (append_nil xs)
 
 module _ (n : Node) where
   -- its own notes and those of its parts are all of them
-  pub with_parts : (b : Box Below Global) → (out-Node n).below ≡ Some b → node_notes n ≡ map note_of (out-Node n).own.items ++ flat_map shared_notes (out-Below b.value).parts.items
-  with_parts b e = notes_out n ∙ ap (λ o. map note_of (out-Node n).own.items ++ held_notes o) e ∙ ap (λ ns. map note_of (out-Node n).own.items ++ ns) (below_out b.value)
+  pub with_parts : (b : Box Below Global) → (out-Node n).below ≡ Some b → node_notes n ≡ map note_of (items_in (out-Node n).own) ++ flat_map shared_notes (out-Below b.value).parts.items
+  with_parts b e = notes_out n ∙ ap (λ o. map note_of (items_in (out-Node n).own) ++ held_notes o) e ∙ ap (λ ns. map note_of (items_in (out-Node n).own) ++ ns) (below_out b.value)
 
-  pub alone : (out-Node n).below ≡ None → node_notes n ≡ map note_of (out-Node n).own.items ++ []
-  alone e = notes_out n ∙ ap (λ o. map note_of (out-Node n).own.items ++ held_notes o) e
+  pub alone : (out-Node n).below ≡ None → node_notes n ≡ map note_of (items_in (out-Node n).own) ++ []
+  alone e = notes_out n ∙ ap (λ o. map note_of (items_in (out-Node n).own) ++ held_notes o) e
 
   covered_there : (b : Box Below Global) → (out-Node n).below ≡ Some b → is_covered n ≡ true → (every is_covered_share (out-Below b.value).parts.items && every (is_covered_by (out-Below b.value).spans.items) (flat_map shared_notes (out-Below b.value).parts.items)) ≡ true
   covered_there b e h = sym (below_covered_out b.value) ∙ ap is_covered_below (sym e) ∙ sym (covered_out n) ∙ h
@@ -99,36 +101,36 @@ module _ (n : Node) where
 
   -- ---- tests of all notes
 
-  pub every_alone : (p : Note → Bool) → (out-Node n).below ≡ None → every p (node_notes n) ≡ every p (map note_of (out-Node n).own.items)
-  every_alone p e = ap (every p) (alone e ∙ append_nil (map note_of (out-Node n).own.items))
+  pub every_alone : (p : Note → Bool) → (out-Node n).below ≡ None → every p (node_notes n) ≡ every p (map note_of (items_in (out-Node n).own))
+  every_alone p e = ap (every p) (alone e ∙ append_nil (map note_of (items_in (out-Node n).own)))
 
-  pub every_with_parts : (p : Note → Bool) (b : Box Below Global) → (out-Node n).below ≡ Some b → every p (map note_of (out-Node n).own.items) ≡ true
+  pub every_with_parts : (p : Note → Bool) (b : Box Below Global) → (out-Node n).below ≡ Some b → every p (map note_of (items_in (out-Node n).own)) ≡ true
       → every p (node_notes n) ≡ every p (flat_map shared_notes (out-Below b.value).parts.items)
   every_with_parts p b e h =
       ap (every p) (with_parts b e)
-      ∙ every_append p (map note_of (out-Node n).own.items) (flat_map shared_notes (out-Below b.value).parts.items)
+      ∙ every_append p (map note_of (items_in (out-Node n).own)) (flat_map shared_notes (out-Below b.value).parts.items)
       ∙ ap (λ c. c && every p (flat_map shared_notes (out-Below b.value).parts.items)) h
 
-  pub every_not_own : (p : Note → Bool) → every p (map note_of (out-Node n).own.items) ≡ false → every p (node_notes n) ≡ false
+  pub every_not_own : (p : Note → Bool) → every p (map note_of (items_in (out-Node n).own)) ≡ false → every p (node_notes n) ≡ false
   every_not_own p h =
       ap (every p) (notes_out n)
-      ∙ every_append p (map note_of (out-Node n).own.items) (held_notes (out-Node n).below)
+      ∙ every_append p (map note_of (items_in (out-Node n).own)) (held_notes (out-Node n).below)
       ∙ ap (λ c. c && every p (held_notes (out-Node n).below)) h
 
-  pub every_own : (p : Note → Bool) → every p (node_notes n) ≡ true → every p (map note_of (out-Node n).own.items) ≡ true
+  pub every_own : (p : Note → Bool) → every p (node_notes n) ≡ true → every p (map note_of (items_in (out-Node n).own)) ≡ true
   every_own p h =
-      left_is (every p (map note_of (out-Node n).own.items)) (every p (held_notes (out-Node n).below))
-      (sym (every_append p (map note_of (out-Node n).own.items) (held_notes (out-Node n).below)) ∙ sym (ap (every p) (notes_out n)) ∙ h)
+      left_is (every p (map note_of (items_in (out-Node n).own))) (every p (held_notes (out-Node n).below))
+      (sym (every_append p (map note_of (items_in (out-Node n).own)) (held_notes (out-Node n).below)) ∙ sym (ap (every p) (notes_out n)) ∙ h)
 
   pub every_part : (p : Note → Bool) (b : Box Below Global) → (out-Node n).below ≡ Some b → every p (node_notes n) ≡ true
       → every p (flat_map shared_notes (out-Below b.value).parts.items) ≡ true
   every_part p b e h =
-      right_is (every p (map note_of (out-Node n).own.items)) (every p (flat_map shared_notes (out-Below b.value).parts.items))
-      (sym (every_append p (map note_of (out-Node n).own.items) (flat_map shared_notes (out-Below b.value).parts.items)) ∙ sym (ap (every p) (with_parts b e)) ∙ h)
+      right_is (every p (map note_of (items_in (out-Node n).own))) (every p (flat_map shared_notes (out-Below b.value).parts.items))
+      (sym (every_append p (map note_of (items_in (out-Node n).own)) (flat_map shared_notes (out-Below b.value).parts.items)) ∙ sym (ap (every p) (with_parts b e)) ∙ h)
 
   -- where no change lies in the spans, the tables hold what the parts have read
   pub every_passed_over : (tables : Tables) (changes : List (ℕ × ℤ)) (b : Box Below Global) → (out-Node n).below ≡ Some b → is_covered n ≡ true → is_touched (out-Below b.value).spans.items changes ≡ false
-      → every (in_step tables (rows changes)) (node_notes n) ≡ true → every (note_agrees tables) (map note_of (out-Node n).own.items) ≡ true → every (note_agrees tables) (node_notes n) ≡ true
+      → every (in_step tables (rows changes)) (node_notes n) ≡ true → every (note_agrees tables) (map note_of (items_in (out-Node n).own)) ≡ true → every (note_agrees tables) (node_notes n) ≡ true
   every_passed_over tables changes b e h t step own =
       every_with_parts (note_agrees tables) b e own
       ∙ passed_over tables (out-Below b.value).spans.items changes (flat_map shared_notes (out-Below b.value).parts.items) t (spans_cover b e h)
@@ -136,19 +138,19 @@ module _ (n : Node) where
 
   -- ---- its notes are covered by spans that it is joined with
 
-  own_covered : (old new : List Span) → new ≡ put_spans old (map span_of (out-Node n).own.items) → every (is_covered_by new) (map note_of (out-Node n).own.items) ≡ true
-  own_covered old new e = subst (λ ss. every (is_covered_by ss) (map note_of (out-Node n).own.items) ≡ true) (sym e) (adds_read (out-Node n).own.items old)
+  own_covered : (old new : List Span) → new ≡ put_spans old (map span_of (items_in (out-Node n).own)) → every (is_covered_by new) (map note_of (items_in (out-Node n).own)) ≡ true
+  own_covered old new e = subst (λ ss. every (is_covered_by ss) (map note_of (items_in (out-Node n).own)) ≡ true) (sym e) (adds_read (items_in (out-Node n).own) old)
 
-  pub alone_covered : (old new : List Span) → new ≡ put_spans old (map span_of (out-Node n).own.items) → (out-Node n).below ≡ None → every (is_covered_by new) (node_notes n) ≡ true
+  pub alone_covered : (old new : List Span) → new ≡ put_spans old (map span_of (items_in (out-Node n).own)) → (out-Node n).below ≡ None → every (is_covered_by new) (node_notes n) ≡ true
   alone_covered old new e h = every_alone (is_covered_by new) h ∙ own_covered old new e
 
   pub all_covered : (old mid new : List Span) (b : Box Below Global) → (out-Node n).below ≡ Some b → is_covered n ≡ true
-      → mid ≡ put_spans old (map span_of (out-Node n).own.items) → new ≡ put_spans mid (out-Below b.value).spans.items → every (is_covered_by new) (node_notes n) ≡ true
+      → mid ≡ put_spans old (map span_of (items_in (out-Node n).own)) → new ≡ put_spans mid (out-Below b.value).spans.items → every (is_covered_by new) (node_notes n) ≡ true
   all_covered old mid new b e h f g =
       let spans = (out-Below b.value).spans.items in
       let more : (note : Note) → is_covered_by mid note ≡ true → is_covered_by new note ≡ true = λ note k. subst (λ ss. is_covered_by ss note ≡ true) (sym g) (keeps_all spans mid note k) in
       let put : (note : Note) → is_covered_by spans note ≡ true → is_covered_by new note ≡ true = λ note k. subst (λ ss. is_covered_by ss note ≡ true) (sym g) (adds_all spans mid note k) in
-      every_with_parts (is_covered_by new) b e (every_weaker (is_covered_by mid) (is_covered_by new) (map note_of (out-Node n).own.items) more (own_covered old mid f))
+      every_with_parts (is_covered_by new) b e (every_weaker (is_covered_by mid) (is_covered_by new) (map note_of (items_in (out-Node n).own)) more (own_covered old mid f))
       ∙ every_weaker (is_covered_by spans) (is_covered_by new) (flat_map shared_notes (out-Below b.value).parts.items) put (spans_cover b e h)
 
 -- what was covered stays so, where more is put in
@@ -177,12 +179,12 @@ moved_on before after p part whole items rest e f g h =
     ∙ h
 
 -- the node's own notes are put behind the others, and then those of its parts
-pub put_with_parts : (n : Node) (b : Box Below Global) (old mid new : List Note) → (out-Node n).below ≡ Some b → mid ≡ old ++ map note_of (out-Node n).own.items
+pub put_with_parts : (n : Node) (b : Box Below Global) (old mid new : List Note) → (out-Node n).below ≡ Some b → mid ≡ old ++ map note_of (items_in (out-Node n).own)
     → new ≡ mid ++ flat_map shared_notes (out-Below b.value).parts.items → new ≡ old ++ node_notes n
 put_with_parts n b old mid new e f g =
     g
     ∙ ap (λ ns. ns ++ flat_map shared_notes (out-Below b.value).parts.items) f
-    ∙ append_assoc old (map note_of (out-Node n).own.items) (flat_map shared_notes (out-Below b.value).parts.items)
+    ∙ append_assoc old (map note_of (items_in (out-Node n).own)) (flat_map shared_notes (out-Below b.value).parts.items)
     ∙ ap (λ ns. old ++ ns) (sym (with_parts n b e))
 
 pub on_ok : {A E P Q : Type 0} (r : Result A E) → (P → Q) → OnOk r P → OnOk r Q

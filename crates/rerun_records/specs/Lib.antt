@@ -6,7 +6,7 @@ pub mod Commits
 pub mod Doubted
 pub mod Moments
 pub mod Named
-pub mod Nested
+pub mod ShortLists
 pub mod Batches
 pub mod Sums
 pub mod Blocks

@@ -9,6 +9,7 @@ use Rattle.meaning.specs.Every.{every}
 use Rattle.rerun_records.specs.declared.readings.Node.{Node, Node-F, fold-Node}
 use Rattle.rerun_records.specs.declared.readings.Below.{Below, Below-F, fold-Below}
 use Rattle.evaluation.specs.Short.{note_of}
+use Rattle.rerun_records.specs.ShortLists.{items_in}
 use Rattle.rerun_records.specs.Spans.{is_covered_by}
 
 -- lists one after another
@@ -26,7 +27,7 @@ held_told (Some b) = b.value
 
 -- one node, with what is told of that below: its own notes, then those
 abbrev pub node_step : Node-F Told Told → Told
-node_step n = (map note_of n.own.items ++ (held_told n.below).0, (held_told n.below).1)
+node_step n = (map note_of (items_in n.own) ++ (held_told n.below).0, (held_told n.below).1)
 
 -- what is below a node, with what is told of each part
 abbrev pub below_step : Below-F Told Told → Told

@@ -7,11 +7,13 @@ ghost use Rattle.rerun_records.specs.Record.{rows};
 ghost use Rattle.evaluation.specs.Short.{note_of};
 ghost use Rattle.rerun_records.specs.Spans.{is_covered_by};
 ghost use Rattle.rerun_records.specs.Readings.{all_of, node_notes, shared_notes, held_notes, is_covered, is_covered_share, is_covered_below};
+ghost use Rattle.rerun_records.specs.ShortLists.{items_in};
 ghost use Rattle.rerun_records.specs.Validity.{note_agrees};
 ghost use Rattle.rerun_records.specs.Doubted.{rests_on, in_step};
 ghost use Rattle.rerun_records.specs.Blocks.{is_apart};
 
 use crate::changes::is_among;
+use crate::short_list::ShortList;
 use crate::spans::{Span, are_touched, put_read, put_spans};
 use evaluation::note::Note;
 use evaluation::reading::Reading;
@@ -27,7 +29,7 @@ const FEW: usize = 8;
 #[cycle(parts)]
 #[derive(Drop)]
 struct Node {
-    own: Vec<Reading>,
+    own: ShortList<Reading>,
     below: Option<Box<Below>>,
 }
 
@@ -62,10 +64,10 @@ impl Readings {
     /// An instance's own readings, then those of the parts. Nothing keeps spare room.
     pub fn new(
         alloc: Global,
-        mut own: Vec<Reading>,
+        mut own: ShortList<Reading>,
         parts: Vec<Readings>,
     ) -> Result<Readings, AllocError>
-        ensures made { IfOk result (λ r. r ≡ map note_of own.items ++ all_of parts.items) }
+        ensures made { IfOk result (λ r. r ≡ map note_of (items_in own) ++ all_of parts.items) }
     {
         own.shrink_to_fit();
         let node = Node {
@@ -173,7 +175,7 @@ fn put_node(node: &Node, spans: &mut Vec<Span>) -> Result<(), AllocError>
         → is_covered_by spans.new.items note ≡ true) }
     ensures put { OnOk result (every (is_covered_by spans.new.items) (node_notes node.now) ≡ true) }
 {
-    put_read(&node.own, spans)?;
+    put_read(node.own.as_slice(), spans)?;
     match &node.below {
         Some(below) => put_spans(&below.spans, spans),
         None => Ok(()),
@@ -185,7 +187,7 @@ fn put_node(node: &Node, spans: &mut Vec<Span>) -> Result<(), AllocError>
 fn node_agrees(node: &Node, tables: &Tables) -> bool
     ensures agrees { result ≡ every (note_agrees tables.now.tables) (node_notes node.now) }
 {
-    if !reads_agree(&node.own, tables) {
+    if !reads_agree(node.own.as_slice(), tables) {
         return false;
     }
     match &node.below {
@@ -215,7 +217,7 @@ fn node_still_agrees(node: &Node, changes: &[(usize, i64)], tables: &Tables) -> 
     requires in_step { every (in_step tables.now.tables (rows changes.now)) (node_notes node.now) ≡ true }
     ensures agrees { result ≡ every (note_agrees tables.now.tables) (node_notes node.now) }
 {
-    if !reads_still_agree(&node.own, changes, tables) {
+    if !reads_still_agree(node.own.as_slice(), changes, tables) {
         return false;
     }
     match &node.below {
@@ -251,7 +253,7 @@ fn node_is_touched(node: &Node, changes: &[(usize, i64)]) -> bool
     requires covered { is_covered node.now ≡ true }
     ensures apart { result ≡ false → every (is_apart changes.now) (node_notes node.now) ≡ true }
 {
-    if are_own_touched(&node.own, changes) {
+    if are_own_touched(node.own.as_slice(), changes) {
         return true;
     }
     match &node.below {
@@ -278,7 +280,7 @@ fn are_own_touched(own: &[Reading], changes: &[(usize, i64)]) -> bool
 fn put_notes(node: &Node, notes: &mut Vec<Note>) -> Result<(), AllocError>
     ensures put { OnOk result (notes.new.items ≡ notes.old.items ++ node_notes node.now) }
 {
-    put_own(&node.own, notes)?;
+    put_own(node.own.as_slice(), notes)?;
     match &node.below {
         Some(below) => put_parts(&below.parts, notes),
         None => Ok(()),

@@ -10,10 +10,11 @@ ghost use Rattle.meaning.specs.Every.{every};
 ghost use Rattle.rerun_records.specs.Record.{touched, made_of, settled, rows};
 ghost use Rattle.rerun_records.specs.Doubted.{in_step, reads_agree};
 ghost use Rattle.rerun_records.specs.Moments.{doubts_by};
+ghost use Rattle.rerun_records.specs.ShortLists.{items_in};
 ghost use Rattle.rerun_records.specs.Validity.{note_agrees, has_revision, record_holds, record_valid};
 
-use crate::nested::Nested;
 use crate::readings::Readings;
+use crate::short_list::ShortList;
 use input_tables::Tables;
 use linked_program::checked::Checked;
 use meaning::DEPTH_LIMIT;
@@ -26,29 +27,29 @@ use std::marker::Model;
 #[derive(Drop)]
 pub struct Record {
     procedure: usize,
-    arguments: Vec<i64>,
+    arguments: ShortList<i64>,
     value: i64,
     contribution: Vec<(usize, Val)>,
     reads: Readings,
-    nested: Nested,
+    entered: ShortList<(usize, u64)>,
+    height: u32,
 }
 
 impl Model for Record {
     ghost use Rattle.std.specs.Prelude.{[], map};
     ghost use Rattle.rerun_records.specs.Record.{PlainRecord, rows, touched};
-    ghost use Rattle.rerun_records.specs.Nested.{entered_in, height_in};
+    ghost use Rattle.rerun_records.specs.ShortLists.{items_in};
 
     ghost Value = { PlainRecord };
 
     ghost view = { λ r. record {
       procedure = r.procedure;
-      arguments = r.arguments.items;
+      arguments = items_in r.arguments;
       value = r.value;
       contribution = map touched r.contribution.items;
       reads = r.reads;
-      entered =
-          entered_in r.nested;
-      height = height_in r.nested;
+      entered = items_in r.entered;
+      height = r.height;
       doubted = rows [];
     } };
 }
@@ -59,25 +60,27 @@ impl Record {
     /// it at most, itself counted. Reducers and procedures go by their numbers. It takes no memory, and keeps no spare room.
     pub fn new(
         procedure: usize,
-        mut arguments: Vec<i64>,
+        mut arguments: ShortList<i64>,
         value: i64,
         mut contribution: Vec<(usize, Val)>,
         reads: Readings,
-        entered: Vec<(usize, u64)>,
+        mut entered: ShortList<(usize, u64)>,
         height: u32,
     ) -> Record
-        ensures made { result ≡ made_of procedure arguments.items value contribution.items reads
-            entered.items height }
+        ensures made { result ≡ made_of procedure (items_in arguments) value contribution.items reads
+            (items_in entered) height }
     {
         arguments.shrink_to_fit();
         contribution.shrink_to_fit();
+        entered.shrink_to_fit();
         Record {
             procedure,
             arguments,
             value,
             contribution,
             reads,
-            nested: Nested::new(entered, height),
+            entered,
+            height,
         }
     }
 
@@ -99,7 +102,7 @@ impl Record {
     pub fn arguments(&self) -> &[i64]
         ensures arguments { result.now ≡ self.now.arguments }
     {
-        &self.arguments
+        self.arguments.as_slice()
     }
 
     /// The instance's value.
@@ -127,21 +130,21 @@ impl Record {
     pub fn entered(&self) -> &[(usize, u64)]
         ensures entered { result.now ≡ self.now.entered }
     {
-        self.nested.entered()
+        self.entered.as_slice()
     }
 
     /// How many instances were nested at most, this one counted.
     pub fn height(&self) -> u32
         ensures height { result ≡ self.now.height }
     {
-        self.nested.height()
+        self.height
     }
 
     /// Whether the tables hold what was read, and the procedures entered are as they were.
     pub fn holds_now(&self, tables: &Tables, program: &Checked) -> bool
         ensures holds { result ≡ record_holds program.now.revisions tables.now.tables self.now }
     {
-        self.reads.agree(tables) && are_current(self.nested.entered(), program)
+        self.reads.agree(tables) && are_current(self.entered(), program)
     }
 
     /// Whether the record holds now, and an instance at that depth with as many nested in it stays within the limit, where the
@@ -159,8 +162,8 @@ impl Record {
             ≡ record_valid program.now.revisions tables.now.tables depth self.now }
     {
         still_agree(&self.reads, changes, tables)
-            && are_current(self.nested.entered(), program)
-            && fits(depth, self.nested.height())
+            && are_current(self.entered(), program)
+            && fits(depth, self.height)
     }
 
     /// Whether the procedures entered are as they were, and an instance at that depth with as many nested in it stays within the
@@ -169,7 +172,7 @@ impl Record {
         ensures allowed { result ≡ (every (has_revision program.now.revisions) self.now.entered
             && nat_le (depth + self.now.height) (suc depth_limit)) }
     {
-        are_current(self.nested.entered(), program) && fits(depth, self.nested.height())
+        are_current(self.entered(), program) && fits(depth, self.height)
     }
 
     /// Whether the tables hold what was read.
@@ -226,7 +229,7 @@ impl PartialEq for Record {
     ghost laws = { Prim.search (comparing, rules) };
 
     fn eq(&self, other: &Record) -> bool {
-        self.procedure == other.procedure && self.arguments == other.arguments
+        self.procedure == other.procedure && self.arguments() == other.arguments()
     }
 }
 
@@ -241,6 +244,6 @@ impl Hash for Record {
 
     fn hash<H: Hasher>(&self, state: &mut H) {
         state.write_usize(self.procedure);
-        self.arguments.hash(state);
+        self.arguments().hash(state);
     }
 }

@@ -1,7 +1,8 @@
 use Rattle.std.proofs.Common.{◌≡◌, ◌++◌, drop}
 use Rattle.positions.specs.Tallies.{entries_from}
+use Rattle.rerun_records.specs.ShortLists.{items_in}
 use Rattle.layers.proofs.recording.entries.Given as goal
 
 abbrev pub invariant-loop-procedure : goal.invariant-loop-procedure
 invariant-loop-procedure l =
-    l.entries.items ++ entries_from l.procedure (drop l.procedure l.program.revisions) (drop l.procedure l.flags) ≡ entries_from 0 l.program.revisions l.flags
+    items_in l.entries ++ entries_from l.procedure (drop l.procedure l.program.revisions) (drop l.procedure l.flags) ≡ entries_from 0 l.program.revisions l.flags

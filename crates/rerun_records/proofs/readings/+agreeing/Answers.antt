@@ -11,10 +11,10 @@ use Rattle.rerun_records.proofs.readings.+agreeing.Goals as goal
 pub node_agrees-returns-in-Some : goal.node_agrees-returns-in-Some
 node_agrees-returns-in-Some t c =
     let p = note_agrees c.args.tables.now.tables in
-    let own = ap (λ rs. every p (map note_of rs)) (sym c.deref.ensures.value) ∙ sym c.reads_agree.ensures.agree ∙ c.if-not-reads_agree.false in
+    let own = ap (λ rs. every p (map note_of rs)) (sym c.as_slice.ensures.items) ∙ sym c.reads_agree.ensures.agree ∙ c.if-not-reads_agree.false in
     record {
       agrees =
           c.parts_agree.ensures.agree
-          ∙ ap (λ ps. every p (flat_map shared_notes ps)) (c.deref-in-Some-2.ensures.value ∙ ap (λ b. (out-Below b).parts.items) c.deref-in-Some.ensures)
+          ∙ ap (λ ps. every p (flat_map shared_notes ps)) (c.deref-in-Some.ensures.value ∙ ap (λ b. (out-Below b).parts.items) c.deref.ensures)
           ∙ sym (every_with_parts c.args.node.now p c.in-Some.below c.in-Some.is own);
     }

@@ -26,7 +26,7 @@ node_still_agrees-parts_still_agree-requires t c =
 pub node_still_agrees-returns-then-are_touched : goal.node_still_agrees-returns-then-are_touched
 node_still_agrees-returns-then-are_touched t c =
     let p = note_agrees c.args.tables.now.tables in
-    let own = ap (λ rs. every p (map note_of rs)) (sym c.deref.ensures.value) ∙ sym c.reads_still_agree.ensures.agree ∙ c.if-not-reads_still_agree.false in
+    let own = ap (λ rs. every p (map note_of rs)) (sym c.as_slice.ensures.items) ∙ sym c.reads_still_agree.ensures.agree ∙ c.if-not-reads_still_agree.false in
     record {
       agrees =
           c.parts_still_agree.ensures.agree
@@ -37,8 +37,8 @@ node_still_agrees-returns-then-are_touched t c =
 pub node_still_agrees-returns-else-are_touched : goal.node_still_agrees-returns-else-are_touched
 node_still_agrees-returns-else-are_touched t c =
     let p = note_agrees c.args.tables.now.tables in
-    let own = ap (λ rs. every p (map note_of rs)) (sym c.deref.ensures.value) ∙ sym c.reads_still_agree.ensures.agree ∙ c.if-not-reads_still_agree.false in
-    let spans_are = c.deref-in-Some-2.ensures.value ∙ ap (λ b. (out-Below b).spans.items) c.deref-in-Some.ensures in
+    let own = ap (λ rs. every p (map note_of rs)) (sym c.as_slice.ensures.items) ∙ sym c.reads_still_agree.ensures.agree ∙ c.if-not-reads_still_agree.false in
+    let spans_are = c.deref-in-Some.ensures.value ∙ ap (λ b. (out-Below b).spans.items) c.deref.ensures in
     let passed = ap (λ ss. is_touched ss c.args.changes.now) (sym spans_are) ∙ sym c.are_touched.ensures.touched ∙ c.if-are_touched.false in
     record {
       agrees = sym (every_passed_over c.args.node.now c.args.tables.now.tables c.args.changes.now c.in-Some.below c.in-Some.is c.requires.covered passed c.requires.in_step own);

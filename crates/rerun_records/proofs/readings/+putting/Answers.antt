@@ -12,7 +12,7 @@ put_notes-returns-in-Some t c = record {
       on_ok c.put_parts.result
       (λ e.
       put_with_parts c.args.node.now c.in-Some.below c.args.notes.now.items c.put_own.new.notes.items c.put_parts.new.notes.items c.in-Some.is
-      (c.in_ok-put_own.ensures.put ∙ ap (λ rs. c.args.notes.now.items ++ map note_of rs) c.deref.ensures.value)
-      (e ∙ ap (λ ps. c.put_own.new.notes.items ++ flat_map shared_notes ps) (c.deref-in-Some-2.ensures.value ∙ ap (λ b. (out-Below b).parts.items) c.deref-in-Some.ensures)))
+      (c.in_ok-put_own.ensures.put ∙ ap (λ rs. c.args.notes.now.items ++ map note_of rs) c.as_slice.ensures.items)
+      (e ∙ ap (λ ps. c.put_own.new.notes.items ++ flat_map shared_notes ps) (c.deref-in-Some.ensures.value ∙ ap (λ b. (out-Below b).parts.items) c.deref.ensures)))
       c.put_parts.ensures.put;
 }

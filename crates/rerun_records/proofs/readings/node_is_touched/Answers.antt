@@ -6,6 +6,7 @@ use Rattle.std.specs.List.{list_any}
 use Rattle.rerun_records.specs.Doubted.{rests_on}
 use Rattle.rerun_records.specs.Spans.{is_touched}
 use Rattle.rerun_records.specs.Blocks.{is_apart}
+use Rattle.rerun_records.specs.ShortLists.{items_in}
 use Rattle.rerun_records.proofs.NodeNotes.{every_with_parts, every_alone, spans_cover}
 use Rattle.rerun_records.proofs.Touched.{own_apart, spans_apart}
 use Rattle.rerun_records.proofs.readings.node_is_touched.Goals as goal
@@ -15,8 +16,8 @@ returns-in-Some c = record {
   apart = λ e.
       let changes = c.args.changes.now in
       let node = c.args.node.now in
-      let own = own_apart changes (map note_of (out-Node node).own.items) (ap (λ rs. list_any (λ note. list_any (rests_on note) changes) (map note_of rs)) (sym c.deref.ensures.value) ∙ sym c.are_own_touched.ensures.touched ∙ c.if-are_own_touched.false) in
-      let spans_are = c.deref-in-Some-2.ensures.value ∙ ap (λ b. (out-Below b).spans.items) c.deref-in-Some.ensures in
+      let own = own_apart changes (map note_of (items_in (out-Node node).own)) (ap (λ rs. list_any (λ note. list_any (rests_on note) changes) (map note_of rs)) (sym c.as_slice.ensures.items) ∙ sym c.are_own_touched.ensures.touched ∙ c.if-are_own_touched.false) in
+      let spans_are = c.deref-in-Some.ensures.value ∙ ap (λ b. (out-Below b).spans.items) c.deref.ensures in
       let untouched = ap (λ ss. is_touched ss changes) (sym spans_are) ∙ sym c.are_touched.ensures.touched ∙ e in
       every_with_parts node (is_apart changes) c.in-Some.below c.in-Some.is own
       ∙ spans_apart changes (out-Below c.in-Some.below.value).spans.items _ untouched (spans_cover node c.in-Some.below c.in-Some.is c.requires.covered);
@@ -27,6 +28,6 @@ returns-in-None c = record {
   apart = λ e.
       let changes = c.args.changes.now in
       let node = c.args.node.now in
-      let own = own_apart changes (map note_of (out-Node node).own.items) (ap (λ rs. list_any (λ note. list_any (rests_on note) changes) (map note_of rs)) (sym c.deref.ensures.value) ∙ sym c.are_own_touched.ensures.touched ∙ c.if-are_own_touched.false) in
+      let own = own_apart changes (map note_of (items_in (out-Node node).own)) (ap (λ rs. list_any (λ note. list_any (rests_on note) changes) (map note_of rs)) (sym c.as_slice.ensures.items) ∙ sym c.are_own_touched.ensures.touched ∙ c.if-are_own_touched.false) in
       every_alone node (is_apart changes) c.in-None.is ∙ own;
 }
