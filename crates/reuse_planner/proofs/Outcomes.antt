@@ -1,12 +1,10 @@
 -- What a run by given steps leaves of a session: its records, and nothing to be executed.
-use Rattle.std.proofs.Common.{◌≡◌, ◌≤◌, ℕ, List, [], map, All, sym, ap, subst, ◌∙◌}
+use Rattle.std.proofs.Common.{◌≡◌, ℕ, List, [], map, sym, ap, subst, ◌∙◌}
 use Rattle.monoid_laws.specs.declared.Kind.{Kind}
-use Rattle.meaning.specs.Elision.{depth_limit}
 use Rattle.linked_program.specs.Checked.{PlainChecked}
 use Rattle.input_tables.specs.Edited.{Edited}
 use Rattle.rerun_records.specs.Record.{PlainRecord, settled}
 use Rattle.rerun_records.specs.Commits.{put_records}
-use Rattle.rerun_records.specs.Named.{HaveValues}
 use Rattle.frames.specs.declared.answer.RunAnswer.{RunAnswer}
 use Rattle.frames.specs.declared.answer.RunAnswer.TheVariants as answer
 use Rattle.numbered_runs.specs.declared.step.Step.{Step}
@@ -60,10 +58,8 @@ module _ (s t : PlainSession) (same : t ≡ record s { kits = stock_of []; inlin
     put_back new put = put ∙ ap (λ (z : PlainSession). put_records (map settled z.records) made) noted_is
 
     -- the new records may be put among the others
-    pub news_back : HaveValues checked.kinds made → AreSoundFor s.checked s.records → AreNewFor u.checked u.tables made × All (λ r. r.height ≤ depth_limit) made
-    news_back values sound =
-        let may = news_of s.checked s.tables s.records given made recorded_by (lent_back (λ p ts rs. HaveValues p.kinds made) values) sound in
-        (subst (λ (z : PlainSession). AreNewFor z.checked z.tables made) (sym noted_is) may.0, may.1)
+    pub news_back : AreSoundFor s.checked s.records → AreNewFor u.checked u.tables made
+    news_back sound = subst (λ (z : PlainSession). AreNewFor z.checked z.tables made) (sym noted_is) (news_of s.checked s.tables s.records given made recorded_by sound)
 
     pub recorded_back : (new : List PlainRecord) → map settled new ≡ put_records (map settled u.records) made → LeavesRecords s given new
     recorded_back new put = leaves_records s given made new recorded_by (put_back new put)

@@ -12,16 +12,8 @@ settle-requires-clause-new g c κs within =
     let s = c.args.session.now in
     let t = c.take_pool-pool.new.self in
     let same : t ≡ record s { kits = stock_of []; inlined = 0 } = c.take_pool-pool.ensures.left ∙ ap (λ (z : PlainSession). record z { kits = stock_of [] }) c.note_inlined.ensures.noted in
-    (news_back s t same c.checked.result.now c.tables.result.now c.records.result.now c.checked.ensures.checked c.tables.ensures.tables c.records.ensures.records c.note_inlined-2.new.self c.run_on-ended.result.inlined c.note_inlined-2.ensures.noted
-    c.run_on-ended.result.answer c.run_on-ended.result.made.items c.run_on-ended.ensures.recorded c.run_on-ended.ensures.values (subst (λ (z : PlainSession). AreSoundFor z.checked z.records) c.note_inlined.ensures.noted c.kept.ensures.sound)).0
-
-pub settle-requires-clause-answerable : goal.settle-requires-clause-answerable
-settle-requires-clause-answerable g c κs within =
-    let s = c.args.session.now in
-    let t = c.take_pool-pool.new.self in
-    let same : t ≡ record s { kits = stock_of []; inlined = 0 } = c.take_pool-pool.ensures.left ∙ ap (λ (z : PlainSession). record z { kits = stock_of [] }) c.note_inlined.ensures.noted in
-    (news_back s t same c.checked.result.now c.tables.result.now c.records.result.now c.checked.ensures.checked c.tables.ensures.tables c.records.ensures.records c.note_inlined-2.new.self c.run_on-ended.result.inlined c.note_inlined-2.ensures.noted
-    c.run_on-ended.result.answer c.run_on-ended.result.made.items c.run_on-ended.ensures.recorded c.run_on-ended.ensures.values (subst (λ (z : PlainSession). AreSoundFor z.checked z.records) c.note_inlined.ensures.noted c.kept.ensures.sound)).1
+    news_back s t same c.checked.result.now c.tables.result.now c.records.result.now c.checked.ensures.checked c.tables.ensures.tables c.records.ensures.records c.note_inlined-2.new.self c.run_on-ended.result.inlined c.note_inlined-2.ensures.noted
+    c.run_on-ended.result.answer c.run_on-ended.result.made.items c.run_on-ended.ensures.recorded (subst (λ (z : PlainSession). AreSoundFor z.checked z.records) c.note_inlined.ensures.noted c.kept.ensures.sound)
 
 pub returns-clause-elision : goal.returns-clause-elision
 returns-clause-elision g c =
