@@ -4,7 +4,8 @@
 usage: flat.py [--program FILE] [--report FILE] [ROWS ..]    by default ./cilkreport as it is built, and 10000 100000 rows
 
 The report is the flat loop of README over a table of so many rows, or one of your own over the same table. Each line says what was
-sent, and how many instructions it took, with what reading the line and writing the answer take. Takes valgrind.
+sent, and how many instructions it took, with what reading the line and writing the answer take, and with the blocks of records that a
+live session makes behind an answer. Takes valgrind.
 """
 import argparse
 import os
@@ -56,6 +57,12 @@ class Session:
         for _ in range(edits + commands.count("run") * (2 + reducers)):
             self.run.stdout.readline()
 
+    def settle(self):
+        """Waits until the session reads again: what it does behind an answer is done before the next line's."""
+        self.run.stdin.write("settled\n")
+        self.run.stdin.flush()
+        self.run.stdout.readline()
+
     def control(self, *words):
         subprocess.run(["callgrind_control", *words, str(self.run.pid)], check=True, stdout=subprocess.DEVNULL, stderr=subprocess.DEVNULL)
 
@@ -64,6 +71,7 @@ class Session:
         before = set(os.listdir(os.path.dirname(self.out)))
         self.control("--instr=on")
         self.answer(commands, reducers)
+        self.settle()
         self.control("--dump")
         self.control("--instr=off")
         found = [name for name in os.listdir(os.path.dirname(self.out)) if name not in before]
@@ -80,8 +88,10 @@ def measure(program, report, rows):
                 file.write(text)
         session = Session(program, folder)
         session.answer(["run"], reducers)
+        session.settle()
+        settling = session.counted([], reducers)
         for commands in steps(rows):
-            print(f"{rows} rows: {', '.join(commands)}: {session.counted(commands, reducers):,}", flush=True)
+            print(f"{rows} rows: {', '.join(commands)}: {session.counted(commands, reducers) - settling:,}", flush=True)
         session.run.stdin.close()
         session.run.wait()
 

@@ -1,6 +1,7 @@
 #!/usr/bin/env bash
 # Counts the instructions of runs that record and are answered by records: a report that calls a procedure for each row of a table, with
-# that procedure marked memo and not, by one worker. Takes valgrind.
+# that procedure marked memo and not, by one worker. A first run alone makes no blocks of its records, so these are counted by
+# themselves, and what comes behind stands beside a session of two runs. Takes valgrind.
 #
 # usage: run.sh [PROGRAM] [ROWS ..]      by default ./cilkreport as it is built, and 1000 10000 100000 rows
 set -eu
@@ -20,7 +21,8 @@ sed 's/^memo //' "$room/memo" > "$room/plain"
 printf '' > "$room/script0"
 printf 'run\n' > "$room/script1"
 printf 'run\nrun\n' > "$room/script2"
-printf 'run\nput sales 5 9 7\nrun\n' > "$room/script3"
+printf 'run\nrun\nrun\n' > "$room/script3"
+printf 'run\nput sales 5 9 7\nrun\nrun\n' > "$room/script4"
 
 # The instructions of a session of that report with so many runs.
 instructions() {
@@ -34,7 +36,8 @@ for rows in "$@"; do
         begun=$(instructions $report 0)
         first=$(instructions $report 1)
         both=$(instructions $report 2)
-        edited=$(instructions $report 3)
-        echo "$rows rows, $report: first run $(((first - begun) / rows)) instructions a row, run again $(((both - first) / rows)), behind a put of one row $(((edited - first) / rows))"
+        again=$(instructions $report 3)
+        edited=$(instructions $report 4)
+        echo "$rows rows, $report: first run $(((first - begun) / rows)) instructions a row, its blocks $(((both - first - (again - both)) / rows)), run again $(((again - both) / rows)), behind a put of one row $(((edited - both) / rows))"
     done
 done

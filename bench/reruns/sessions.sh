@@ -2,7 +2,8 @@
 # Prints, for each number of rows, a table of what a session's parts cost a row: the first run, a second one, a run behind a put of one
 # row, one behind a define of the procedure that is called for each row, and one behind a define of main alone. Beside the program stand
 # sqlite3 that asks the same by a query of all rows, sqlite3 whose triggers and index keep the total and the best row, and a loop in Rust
-# that does all from scratch. Each number is that of a session with the part, less that of the session without it, by the number of rows:
+# that does all from scratch. Each number is that of a session with the part, less that of the session without it, by the number of rows;
+# but for the first run's both end with one more run, since the program makes blocks of a run's records where another run follows:
 # instructions as callgrind counts them, or with --time the nanoseconds of a processor, by the least of three sessions that have each part
 # four times; these are read to a millisecond, so they want a million rows and a quiet machine. The answers of all four are compared.
 # Without a program its column is empty. Takes sqlite3, rustc, and valgrind where it counts.
@@ -36,7 +37,8 @@ rustc -O -C target-cpu=x86-64-v2 --edition 2024 -o "$room/lines" "$here/lines.rs
 source "$here/report.sh"
 report 0 0 > "$room/report"
 
-# ---- the sessions: `begun` has no run, and each other one the first run and then its part so many times
+# ---- the sessions: `begun` has no run, `first` one, and each other one the first run, then its part so many times, and a last run; of
+# these `both` has no part
 
 # Each turn of a part, numbered from 1: what is printed by these words with the turn behind them.
 each() {
@@ -48,11 +50,12 @@ each() {
 report_scripts() { # the number of rows
     printf '' > "$room/report.begun"
     printf 'run\n' > "$room/report.first"
-    { echo run; each report_again; } > "$room/report.again"
-    { echo run; each report_put $((2 * $1)); } > "$room/report.put"
-    { echo run; each report_define line_added; } > "$room/report.line"
-    { echo run; each report_define main_added; } > "$room/report.main"
-    for part in begun "${parts[@]}"; do cp "$room/report.$part" "$room/rust.$part"; done
+    printf 'run\nrun\n' > "$room/report.both"
+    { echo run; each report_again; echo run; } > "$room/report.again"
+    { echo run; each report_put $((2 * $1)); echo run; } > "$room/report.put"
+    { echo run; each report_define line_added; echo run; } > "$room/report.line"
+    { echo run; each report_define main_added; echo run; } > "$room/report.main"
+    for part in begun both "${parts[@]}"; do cp "$room/report.$part" "$room/rust.$part"; done
 }
 
 report_again() { echo run; }
@@ -68,9 +71,10 @@ with recursive n (r) as (select 1 union all select r + 1 from n where r < $1) in
     for asker in query kept; do
         echo "$load" > "$room/$asker.begun"
         echo "$load $(${asker}_keep 0) $(${asker}_ask 0)" > "$room/$asker.first"
-        for part in again main; do { cat "$room/$asker.first"; each sqlite_again $asker; } > "$room/$asker.$part"; done
-        { cat "$room/$asker.first"; each sqlite_put $asker $((2 * $1)); } > "$room/$asker.put"
-        { cat "$room/$asker.first"; each sqlite_define $asker; } > "$room/$asker.line"
+        { cat "$room/$asker.first"; sqlite_again $asker; } > "$room/$asker.both"
+        for part in again main; do { cat "$room/$asker.first"; each sqlite_again $asker; sqlite_again $asker; } > "$room/$asker.$part"; done
+        { cat "$room/$asker.first"; each sqlite_put $asker $((2 * $1)); sqlite_again $asker; } > "$room/$asker.put"
+        { cat "$room/$asker.first"; each sqlite_define $asker; "${asker}_ask" "$times"; } > "$room/$asker.line"
     done
 }
 
@@ -147,14 +151,14 @@ measure() {
     local asker part words
     for asker in "${askers[@]}"; do
         words_of "$asker"
-        for part in begun "${parts[@]}"; do cost[$asker.$part]=$("$unit" "$asker" "$part"); done
+        for part in begun both "${parts[@]}"; do cost[$asker.$part]=$("$unit" "$asker" "$part"); done
     done
 }
 
 # What a part costs a row, with two digits behind the point.
 a_row() { # whose, which part, the number of rows
     if [ -z "${cost[$1.$2]:-}" ]; then return; fi
-    local less=$1.first turns=$times
+    local less=$1.both turns=$times
     if [ "$2" = first ]; then less=$1.begun turns=1; fi
     awk "BEGIN { printf \"%.2f\", (${cost[$1.$2]} - ${cost[$less]}) / $3 / $turns }"
 }

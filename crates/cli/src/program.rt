@@ -16,7 +16,7 @@ use crate::sorts::Sort;
 use command_line::line::asked_by;
 use command_line::options::{Asked, Options};
 use command_line::words::{held_words, lent};
-use kept_session::Session;
+use kept_session::{Blocks, Session};
 use monoid_laws::Kind;
 use program_endings::failing::{failed, failed_file, no_memory};
 use program_endings::files::{FileSource, StandardError};
@@ -34,6 +34,7 @@ use session_notes::run_notes::{NotesError, RunNotes};
 use std::alloc::{AllocError, Global};
 use std::io;
 use std::io::{BufReader, BufWriter, Read, Write};
+use std::mem::ManuallyDrop;
 use std::process::ExitCode;
 use std::rt::Runtime;
 use std::sync::Wait;
@@ -165,7 +166,8 @@ fn report_by<V: View, M: Fn(Sort, Kind) -> Result<V, AllocError>, X: Explain + D
 /// that the caller makes, its script is all that the reader has, its answers go to the writer. The trace is a file that is
 /// made before the script is read; counts go to the writer of errors; what is refused is explained where the options ask
 /// for it. Where a file fails or is refused nothing is written; which streams failed is noted. A live session reads, answers and
-/// flushes line by line: after a failed read the answers to the commands that came whole are written, where otherwise nothing is.
+/// flushes line by line: after a failed read the answers to the commands that came whole are written, where otherwise nothing is. The
+/// memory of the session isn't given back at its end, which is the program's.
 pub fn report_on<
     V: View,
     M: Fn(Sort, Kind) -> Result<V, AllocError>,
@@ -214,8 +216,10 @@ pub fn report_on<
         → failures.new.input ≡ failures.old.input }
 {
     let mut session = session_of(setting.alloc, setting.options, make, files)?;
+    session.make_blocks(Blocks::Later);
     let reported = report_in(setting, &mut session, files, reader, writer, told, failures);
-    session.end();
+    // The program ends now, and its memory goes back as a whole: to give back record by record takes a tenth of a first run.
+    let _ = ManuallyDrop::new(session);
     reported
 }
 

@@ -29,12 +29,13 @@ pub(crate) const FINE: u64 = 16;
 /// Vast blocks are made of so many records at least: an edit has one made again, which takes more than it saves among fewer.
 const MANY: usize = 250_000;
 
-/// Puts records in as `commit` does, and then makes blocks of those in a row.
+/// Puts records in as `commit` does, and then makes blocks of those in a row, if they are to be made at once.
 pub fn keep(
     records: &mut Records,
     made: Vec<Record>,
     tables: &Tables,
     program: &Checked,
+    at_once: bool,
 ) -> Result<(), AllocError>
     requires in_step { IsInStep tables.now.tables records.old }
     requires read_now { ReadNow tables.now.tables made.items }
@@ -51,13 +52,16 @@ pub fn keep(
 {
     let alloc = *made.allocator();
     records.commit(made, tables, program)?;
+    if !at_once {
+        return Ok(());
+    }
     gather(records, alloc, tables, program);
     Ok(())
 }
 
-// Makes blocks of records in a row that stand, as many as there is memory for: of those at the places that were put in, or
-// whose blocks were dropped, since it was done last. Nothing that can be told of the records changes but what is in doubt.
-fn gather(records: &mut Records, alloc: Global, tables: &Tables, program: &Checked)
+/// Makes blocks of records in a row that stand, as many as there is memory for: of those at the places that were put in, or
+/// whose blocks were dropped, since it was done last. Nothing that can be told of the records changes but what is in doubt.
+pub fn gather(records: &mut Records, alloc: Global, tables: &Tables, program: &Checked)
     requires in_step { IsInStep tables.now.tables records.old }
     requires monoids { All IsMonoid program.now.kinds }
     requires values { HaveValues program.now.kinds records.old }

@@ -3,8 +3,10 @@
 
 mod applying;
 mod arguments;
+mod blocks;
 mod refusal;
 mod session;
 
+pub use blocks::Blocks;
 pub use refusal::ApplyError;
 pub use session::Session;

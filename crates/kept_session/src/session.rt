@@ -11,8 +11,9 @@ ghost use Rattle.kept_session.specs.Sessions.{AreKeptFor, AreNewFor, begun, stoc
 ghost use Rattle.kept_session.specs.Applied.{edited, IsApplyCause};
 
 use crate::arguments::arguments_fit;
+use crate::blocks::Blocks;
 use crate::refusal::ApplyError;
-use gathered_records::gathering::keep;
+use gathered_records::gathering::{gather, keep};
 use input_tables::Tables;
 use linked_program::checked::Checked;
 use numbered_runs::records::no_records;
@@ -33,6 +34,8 @@ pub struct Session<V: View = Box<dyn View>> {
     pub(crate) kits: Pool<Kit<V>>,
     pub(crate) records: Records,
     pub(crate) inlined: usize,
+    // When blocks are made of the records that runs leave.
+    blocks: Blocks,
 }
 
 impl<V: View> Model for Session<V> {
@@ -75,6 +78,7 @@ impl<V: View> Session<V> {
             kits: Pool::new(kits),
             records,
             inlined: 0,
+            blocks: Blocks::AtOnce,
         })
     }
 
@@ -206,6 +210,34 @@ impl<V: View> Session<V> {
         self.tables.cells_fit();
         arguments_fit(&made);
         self.kits = pool;
-        keep(&mut self.records, made, &self.tables, &self.checked)
+        let at_once = self.blocks.are_at_once();
+        keep(
+            &mut self.records,
+            made,
+            &self.tables,
+            &self.checked,
+            at_once,
+        )
+    }
+
+    /// Has blocks be made from now on as runs' records are put in, or by `gather` alone. A session begins with the first.
+    pub fn make_blocks(&mut self, blocks: Blocks)
+        ensures same { self.new ≡ self.old }
+    {
+        self.blocks = blocks;
+    }
+
+    /// Makes blocks of the records that runs have put in since that was done last, and of those whose blocks edits have dropped: a
+    /// block answers for all its records in later runs. Nothing that can be told of the records changes but what is in doubt of
+    /// them; where memory is refused there are fewer blocks.
+    pub fn gather(&mut self, alloc: Global)
+        ensures rest { self.new ≡ record self.old { records = self.new.records } }
+        ensures records { map settled self.new.records ≡ map settled self.old.records }
+    {
+        // What the program's type keeps: so its reducers are monoids.
+        self.checked.clean();
+        self.checked.linked();
+        self.checked.revised();
+        gather(&mut self.records, alloc, &self.tables, &self.checked);
     }
 }

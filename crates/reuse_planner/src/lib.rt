@@ -6,5 +6,5 @@ mod running;
 mod stepped;
 
 pub use commands::{Answer, Command};
-pub use kept_session::{ApplyError, Session};
+pub use kept_session::{ApplyError, Blocks, Session};
 pub use stepped::{play_session, run_session};

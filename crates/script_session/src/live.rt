@@ -11,7 +11,7 @@ ghost use Rattle.program_endings.specs.Endings.{CarriesRefusal};
 ghost use Rattle.program_endings.specs.Written.{HasBeginning, WritesAll, WritesBeginning, WritesRead};
 
 use crate::runner::Runner;
-use crate::session::answer_written;
+use crate::session::{answer_written, gather_behind};
 use kept_session::Session;
 use program_endings::session_error::SessionError;
 use program_endings::streams::{Failures, flush, read_line};
@@ -227,7 +227,8 @@ fn answer_rest<V: View, N: Notes, W: Write, T: Threads + Wait + Sync, G: Gate>(
     }
 }
 
-// Writes the answer to a command after so many runs, flushes it, and counts its run.
+// Writes the answer to a command after so many runs, flushes it, and counts its run. Only then are blocks made of the run's records, for
+// which nobody has to wait so.
 fn answer_now<V: View, N: Notes, W: Write, T: Threads + Wait + Sync, G: Gate>(
     runner: &Runner<'_, T, G>,
     session: &mut Session<V>,
@@ -261,5 +262,6 @@ fn answer_now<V: View, N: Notes, W: Write, T: Threads + Wait + Sync, G: Gate>(
     let answered = answer_written(runner, session, notes, *runs, command, writer, failures);
     let flushed = flush(writer, failures);
     *runs = answered?;
+    gather_behind(runner.alloc, session, command, true);
     flushed
 }

@@ -144,11 +144,39 @@ fn answer_script<V: View, N: Notes, W: Write, T: Threads + Wait + Sync, G: Gate>
         Ok(commands) => commands,
         Err(_) => return Err(SessionError::NoMemory),
     };
+    let all = count_runs(&commands);
     let mut runs = 0;
     for command in commands.iter() {
         runs = answer_written(runner, session, notes, runs, command, writer, failures)?;
+        gather_behind(runner.alloc, session, command, runs < all);
     }
     Ok(())
+}
+
+// How many runs there are among these commands.
+fn count_runs(commands: &[Command<'_>]) -> usize {
+    let mut runs = 0usize;
+    for command in commands {
+        if matches!(command, Command::Run) {
+            runs = runs.wrapping_add(1);
+        }
+    }
+    runs
+}
+
+/// Makes blocks of a run's new records behind that command, if it is a run, and if another one may come that asks for them.
+pub(crate) fn gather_behind<V: View>(
+    alloc: Global,
+    session: &mut Session<V>,
+    command: &Command<'_>,
+    are_asked: bool,
+)
+    ensures same { standing_of session.new ≡ standing_of session.old }
+    ensures free { length session.new.kits.kits ≡ length session.old.kits.kits }
+{
+    if are_asked && matches!(command, Command::Run) {
+        session.gather(alloc);
+    }
 }
 
 /// Writes the answer to a command, after so many runs, and gives the number of runs after it.

@@ -23,9 +23,10 @@ loop-command-init g c = record { free = refl; few = omega arith; unmarked = refl
 pub loop-command-preserved : goal.loop-command-preserved
 loop-command-preserved g c =
     let w = c.loop-command.invariant.written in
-    let next = one_more_answer (standing_of c.loop-command.session) (standing_of c.answer_written.new.session) c.loop-command.runs c.in_ok-runs.runs c.loop-command.command-index c.deref-command-items.result.now c.command-item.result w.0 _ c.loop-command-test.true c.command-item.is c.in_ok-runs.ensures.after c.in_ok-runs.ensures.runs w.2 in
+    let next = one_more_answer (standing_of c.loop-command.session) (standing_of c.gather_behind.new.session) c.loop-command.runs c.in_ok-runs.runs c.loop-command.command-index c.deref-command-items.result.now c.command-item.result w.0 _ c.loop-command-test.true c.command-item.is
+    (c.gather_behind.ensures.same ∙ c.in_ok-runs.ensures.after) c.in_ok-runs.ensures.runs w.2 in
     record {
-      free = c.in_ok-runs.ensures.free ∙ c.loop-command.invariant.free;
+      free = c.gather_behind.ensures.free ∙ c.in_ok-runs.ensures.free ∙ c.loop-command.invariant.free;
       few = runs_after-le _ _ _ _ c.in_ok-runs.ensures.runs c.loop-command.invariant.few;
       unmarked = c.in_ok-runs.ensures.unmarked (λ e. cc) ∙ c.loop-command.invariant.unmarked;
       noted = c.in_ok-runs.ensures.notes_stay (λ e. cc) ∙ c.loop-command.invariant.noted;

@@ -4,7 +4,7 @@
 use super::drawn::any_steps;
 use super::model::Model;
 use super::slow::{Needed, needs_of, scratch_text};
-use reuse_planner::{Session, run_session};
+use reuse_planner::{Blocks, Session, run_session};
 use session_kit::answers::answer_text;
 use session_kit::owners::in_session;
 use session_kit::scripts::played;
@@ -27,7 +27,10 @@ fn any_run<V: View>(
 ) -> RunAnswer {
     let workers = [1, 2, 3, 4, 5, 16][dice.below(6)];
     if dice.below(2) == 0 {
+        session.make_blocks(Blocks::Later);
         let (answer, _) = run_threads(rt, alloc, session, workers, &NoGate).expect(rt, "an answer");
+        session.gather(alloc);
+        session.make_blocks(Blocks::AtOnce);
         return answer;
     }
     let steps = any_steps(rt, alloc, session, dice, workers);
