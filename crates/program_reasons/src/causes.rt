@@ -1,5 +1,6 @@
 //! What is said of an edit or a line that is refused, and of a run's fault.
 
+use crate::missing_rows::first_missing;
 use explanations::edits::push_refused;
 use explanations::faults::push_fault;
 use explanations::lines::push_unknown;
@@ -7,7 +8,6 @@ use frames::answer::RunAnswer;
 use input_tables::Tables;
 use linked_program::checked::Checked;
 use meaning::FaultKind;
-use missing_rows::first_missing;
 use positions::phase::Fault;
 use session_edits::{Edit, EditError};
 use session_notes::explained::Cause;

@@ -3,6 +3,9 @@
 
 pub mod causes;
 mod failed;
+mod missing_cells;
+mod missing_rows;
+mod missing_values;
 mod reuse;
 pub mod script;
 

@@ -1,13 +1,13 @@
-//! Values on the way of a serial run, which ends at the first row that isn't there.
+// Values on the way of a serial run, which ends at the first row that isn't there.
 
 ghost use Rattle.std.specs.Prelude.{◌≡◌, ◌+◌, [], map, slice_set, IfOk, IfErr, OnOk, IsOk, Ok};
 ghost use Rattle.linked_program.specs.CodeView.{expression as plain, slots_of as slot_count};
 ghost use Rattle.evaluation.specs.Values.{value_at, values_at, bounds_at, entry_at};
 ghost use Rattle.evaluation.specs.declared.slot.Slot.TheVariants.{Has};
-ghost use Rattle.missing_rows.specs.Absent.{EndsAbsent, EndsMissing};
-ghost use Rattle.missing_rows.specs.declared.cells.Halt.TheVariants.{Unknown};
+ghost use Rattle.program_reasons.specs.Absent.{EndsAbsent, EndsMissing};
+ghost use Rattle.program_reasons.specs.declared.missing_cells.Halt.TheVariants.{Unknown};
 
-use crate::cells::{Halt, searched};
+use crate::missing_cells::{Halt, searched};
 use evaluation::entry::entry_slots;
 use evaluation::notes::Notes;
 use evaluation::ranges::{LoopRange, bounds};

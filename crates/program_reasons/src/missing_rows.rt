@@ -1,11 +1,11 @@
-//! The serial run of a program's code, as far as the first row that isn't there.
+// The serial run of a program's code, as far as the first row that isn't there.
 
 ghost use Rattle.std.specs.Prelude.{◌≡◌, IfErr, IfSome, option_copied, slice_get};
 ghost use Rattle.linked_program.specs.CodeView.{blocks_in};
-ghost use Rattle.missing_rows.specs.Absent.{EndsAbsent, IsAbsent, put_at};
+ghost use Rattle.program_reasons.specs.Absent.{EndsAbsent, IsAbsent, put_at};
 
-use crate::cells::{Halt, Missed};
-use crate::values::{Asked, Ground, ask_all, put, range_of, slots_of, value_of};
+use crate::missing_cells::{Halt, Missed};
+use crate::missing_values::{Asked, Ground, ask_all, put, range_of, slots_of, value_of};
 use evaluation::ranges::LoopRange;
 use evaluation::slot::Slot;
 use input_tables::Tables;

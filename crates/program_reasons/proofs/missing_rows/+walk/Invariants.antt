@@ -1,5 +1,5 @@
 use Rattle.std.proofs.Common.{◌+◌, ◌*◌}
-use Rattle.missing_rows.proofs.walk.+walk.Given as goal
+use Rattle.program_reasons.proofs.missing_rows.+walk.Given as goal
 
 abbrev pub decreases-entered : goal.decreases-entered
 decreases-entered l = l.depth * 100

@@ -8,9 +8,9 @@ use Rattle.evaluation.specs.Values.{NumberedOut, applied, ◌>>=◌}
 use Rattle.evaluation.specs.declared.slot.Slot.{Slot}
 use Rattle.evaluation.specs.declared.slot.Slot.TheVariants.{Has}
 use Rattle.input_tables.specs.Edited.{has_at}
-use Rattle.missing_rows.specs.declared.cells.Halt.{Halt}
-use Rattle.missing_rows.specs.declared.cells.Halt.TheVariants as halt
-use Rattle.missing_rows.specs.declared.cells.Missed.{Missed}
+use Rattle.program_reasons.specs.declared.missing_cells.Halt.{Halt}
+use Rattle.program_reasons.specs.declared.missing_cells.Halt.TheVariants as halt
+use Rattle.program_reasons.specs.declared.missing_cells.Missed.{Missed}
 
 -- the tables hold no such row
 abbrev pub IsAbsent : Tables → Missed → Type 0

@@ -2,7 +2,7 @@ use Rattle.std.proofs.Common.{◌≡◌, map, drop, Err}
 use Rattle.linked_program.specs.CodeView.{expression as plain}
 use Rattle.meaning.specs.declared.FaultKind.TheVariants.{MissingRow}
 use Rattle.evaluation.specs.Values.{values_at}
-use Rattle.missing_rows.proofs.values.Asked.halted.Given as goal
+use Rattle.program_reasons.proofs.missing_values.Asked.halted.Given as goal
 
 abbrev pub invariant-loop-expression : goal.invariant-loop-expression
 invariant-loop-expression l =

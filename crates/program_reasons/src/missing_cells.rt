@@ -1,11 +1,11 @@
-//! The cells of an expression that aren't there.
+// The cells of an expression that aren't there.
 
 ghost use Rattle.std.specs.Prelude.{◌≡◌, ℤ, IfErr, OnOk, IsOk};
 ghost use Rattle.linked_program.specs.CodeView.{expression as plain};
 ghost use Rattle.linked_program.specs.Linked.{cell_at};
 ghost use Rattle.evaluation.specs.Values.{value_at};
-ghost use Rattle.missing_rows.specs.declared.cells.Halt.TheVariants.{Unknown};
-ghost use Rattle.missing_rows.specs.Absent.{EndsAbsent, EndsMissing, with_right};
+ghost use Rattle.program_reasons.specs.declared.missing_cells.Halt.TheVariants.{Unknown};
+ghost use Rattle.program_reasons.specs.Absent.{EndsAbsent, EndsMissing, with_right};
 
 use evaluation::notes::Notes;
 use evaluation::slot::Slot;
