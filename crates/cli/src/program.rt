@@ -223,7 +223,7 @@ pub fn report_on<
     reported
 }
 
-// The same of a session that is only lent, so that who owns it does nothing else.
+// What a report does with its session, which is only lent, so that who owns it does nothing else.
 fn report_in<
     V: View,
     F: FileSource,

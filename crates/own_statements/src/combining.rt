@@ -47,7 +47,7 @@ pub fn combine_some<V: View>(
     combine_all(layer, setting, here, reducer, expressions, top, numbers)
 }
 
-/// The same for one expression, where the reducer takes one number.
+/// Combines the element that one expression's value names, where the reducer takes one number.
 #[inline(always)]
 fn combine_one<V: View>(
     layer: &mut Layer<V>,
@@ -83,7 +83,7 @@ fn combine_one<V: View>(
     }
 }
 
-/// The same for two expressions, where the reducer takes two numbers.
+/// Combines the element that the values of two expressions name, where the reducer takes two numbers.
 fn combine_two<V: View>(
     layer: &mut Layer<V>,
     setting: Setting<'_>,
@@ -119,7 +119,7 @@ fn combine_two<V: View>(
     }
 }
 
-/// The same for whatever expressions.
+/// Combines the element that the values of expressions name, however many there are.
 fn combine_all<V: View>(
     layer: &mut Layer<V>,
     setting: Setting<'_>,
@@ -175,7 +175,8 @@ fn combine<V: View>(
     }
 }
 
-/// The same where they are as many as the reducer takes.
+/// Combines the element that the numbers name, where they are as many as the reducer takes; false where memory is refused, and
+/// then nothing has changed.
 #[inline(always)]
 fn combine_fitting<V: View>(
     layer: &mut Layer<V>,

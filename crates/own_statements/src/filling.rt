@@ -33,7 +33,8 @@ fn fill<V: View>(
     child.fill_unnoted(size, arguments, top.slots(), tables)
 }
 
-/// The same, where a slot may hold something else meanwhile.
+/// Puts the slots of an instance in place as `fill` does, where one of the topmost instance's slots may hold something else
+/// meanwhile.
 #[inline(always)]
 #[tactic(auto, using(activations::proofs::Slots::put_back))]
 fn fill_over<V: View>(
@@ -60,7 +61,7 @@ fn fill_over<V: View>(
     }
 }
 
-/// The same: whether that was done, and else nothing is noted.
+/// Whether the slots of an instance were put in place so; where they weren't, nothing is noted.
 #[inline(always)]
 pub fn fills<V: View>(
     layer: &mut Layer<V>,

@@ -191,7 +191,7 @@ fn call_ahead<V: View>(machine: &mut Machine<V>, alloc: Global, setting: Setting
     }
 }
 
-/// The same of the statement at that place.
+/// Does the statement at that place, where it calls an instance of a procedure that isn't marked memo.
 fn enter_ahead<V: View>(
     machine: &mut Machine<V>,
     alloc: Global,

@@ -33,7 +33,7 @@ pub struct Counted<'p> {
     pub high: &'p Expr,
 }
 
-/// The same where their range is known.
+/// The numbers that a loop's variable has, where their range is known.
 #[derive(Clone, Copy)]
 pub struct Turns {
     pub x: usize,

@@ -286,7 +286,7 @@ impl<V: View> Machine<V> {
         outcome
     }
 
-    /// The same, by the arguments that are put into `numbers`.
+    /// Enters the next iteration by its arguments, which are put into `numbers`.
     fn iterate_memo_by<K: KitSource<Kit<V>>>(
         &mut self,
         alloc: Global,

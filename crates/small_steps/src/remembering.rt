@@ -75,7 +75,7 @@ impl<V: View> Machine<V> {
         outcome
     }
 
-    /// The same, by the arguments that are put into `numbers`.
+    /// Enters the memo instance by its arguments, which are put into `numbers`.
     fn enter_memo_by<K: KitSource<Kit<V>>>(
         &mut self,
         alloc: Global,

@@ -47,7 +47,7 @@ impl<V: View> Machine<V> {
         outcome
     }
 
-    /// The same, by the values that are put into `numbers`.
+    /// Updates the reducer by the values of the expressions, which are put into `numbers`.
     fn update_by(
         &mut self,
         setting: Setting<'_>,

@@ -93,7 +93,7 @@ impl Join<Knowledge> for Ends {
     ghost spent = { knowing false false 0 None [] [] };
 }
 
-/// The same where the deque is empty: the owner is bound to no spot.
+/// The two ends where the deque is empty: the owner is bound to no spot.
 pub struct Afresh;
 
 impl Split<Knowledge> for Afresh {

@@ -128,7 +128,7 @@ impl<J: Run, V: View> Book<J, V> {
         }
     }
 
-    /// The same of the strand that the victim holds.
+    /// A thief goes on with a part of the strand that the victim holds, from the new place on.
     pub fn split_held(
         &mut self,
         alloc: Global,
@@ -167,7 +167,7 @@ impl<J: Run, V: View> Book<J, V> {
         }
     }
 
-    /// The same, with a plain refusal.
+    /// A thief goes on with a part of the victim's strand, or a plain refusal says why not.
     fn try_split(
         &mut self,
         alloc: Global,
@@ -188,7 +188,7 @@ impl<J: Run, V: View> Book<J, V> {
         }
     }
 
-    /// The same of the line of that number.
+    /// A thief goes on with a part of the strand in the line of that number.
     fn split_at(
         &mut self,
         alloc: Global,
@@ -236,7 +236,7 @@ impl<J: Run, V: View> Book<J, V> {
         }
     }
 
-    /// The same, with a plain refusal.
+    /// The strand that a worker holds is laid down, or a plain refusal says why not.
     fn try_lay(&mut self, alloc: Global, piece: Piece<J, V>) -> Result<(), (BookError, Piece<J, V>)>
         ensures taken { OnOk result
             (Took self.old.chronicle (rest_step piece.rest (begins_at piece)) self.new.chronicle) }
@@ -252,7 +252,7 @@ impl<J: Run, V: View> Book<J, V> {
         }
     }
 
-    /// The same of a piece that begins behind that place.
+    /// The strand that a worker holds is laid down, which begins behind that place.
     fn lay_at(
         &mut self,
         alloc: Global,
@@ -321,7 +321,7 @@ impl<J: Run, V: View> Book<J, V> {
         }
     }
 
-    /// The same, with a plain refusal.
+    /// Two neighbours become one strand, or a plain refusal says why not.
     fn try_fold_pair(
         &mut self,
         alloc: Global,
@@ -352,7 +352,7 @@ impl<J: Run, V: View> Book<J, V> {
         self.fold_at(alloc, scene, left, right, worker)
     }
 
-    /// The same of neighbours that may be one strand, as far as what is kept of them says.
+    /// Two neighbours that may be one strand, as far as what is kept of them says, become one.
     fn fold_at(
         &mut self,
         alloc: Global,

@@ -46,7 +46,7 @@ fn may_be_one<J: Run, V: View>(left: &LaidOf<J, V>, right: &LaidOf<J, V>) -> boo
     }
 }
 
-/// The same of the first two; true where there are less.
+/// Whether the first two may be one strand, as far as what is kept of them says; true where there are less.
 pub(crate) fn may_touch<J: Run, V: View>(laid: &[LaidOf<J, V>]) -> bool
     ensures may { result ≡ may_touch laid.now }
 {
@@ -56,7 +56,7 @@ pub(crate) fn may_touch<J: Run, V: View>(laid: &[LaidOf<J, V>]) -> bool
     }
 }
 
-/// The same of those from that number on.
+/// Whether the first two from that number on may be one strand; true where there are less.
 pub(crate) fn may_touch_at<J: Run, V: View>(laid: &[LaidOf<J, V>], k: usize) -> bool
     requires within { k < length laid.now }
     ensures may { result ≡ may_touch (drop k laid.now) }

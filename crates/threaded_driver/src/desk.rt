@@ -171,7 +171,7 @@ impl<J: Run + Ledger + Stocked + Send, D: Deques, V: View> Desk<J, D, V> {
         self.end(alloc, scene)
     }
 
-    /// The same of a run that is over.
+    /// How a run that is over has ended, and the pool.
     fn end(
         self,
         alloc: Global,
@@ -243,7 +243,7 @@ impl<J: Run + Ledger + Stocked + Send, D: Deques, V: View> Desk<J, D, V> {
         }
     }
 
-    /// The same in a run that isn't over.
+    /// Lays a strand down in a run that isn't over.
     fn lay_down(&mut self, alloc: Global, piece: Piece<J, V>, share: Share<KitsOf<J>>, kits: usize)
         requires going_on { is_over self.old.table.book self.old.failure ≡ false }
         requires one { share.parts ≡ 1 }

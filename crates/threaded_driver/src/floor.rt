@@ -144,7 +144,7 @@ impl<J: Run + Ledger + Stocked + Send, D: Deques, V: View> Floor<'_, J, D, V> {
         found
     }
 
-    /// The same. A thief comes to its point while it holds the lock.
+    /// What there is for a worker without a strand. A thief comes to its point while it holds the lock.
     fn look<R: Wait, G: Gate>(
         &self,
         rt: &R,
@@ -288,7 +288,7 @@ impl<J: Run + Ledger + Stocked + Send, D: Deques, V: View> Floor<'_, J, D, V> {
         }
     }
 
-    /// The same of a strand that is at a spawn. It takes no lock.
+    /// Pushes the continuation of a strand that is at a spawn. It takes no lock.
     fn push<G: Gate>(
         &self,
         number: usize,

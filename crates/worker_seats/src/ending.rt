@@ -57,7 +57,7 @@ fn end_of<J: Run + Stocked, V: View>(
     }
 }
 
-/// The same of a table, and the pool, in which all kits are then.
+/// How a run has come to its end, as the list of a table says, and the pool, in which all kits are then.
 fn end_of_table<J: Run + Stocked, V: View>(
     alloc: Global,
     scene: &Scene<'_, J>,

@@ -29,7 +29,7 @@ pub fn outcome<V: View + Send, R: Abort + Threads + Wait + Sync, G: Gate>(
     answer_text(alloc, session.checked(), &answer).expect(rt, "memory")
 }
 
-/// The same by so many threads, 16 at most. Behind it all kits are home.
+/// Runs a session by so many threads, 16 at most, and gives what it came to. Behind it all kits are home.
 pub fn answer<V: View + Send, R: Abort + Threads + Wait + Sync, G: Gate>(
     rt: &R,
     alloc: Global,

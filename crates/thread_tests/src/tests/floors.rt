@@ -59,7 +59,7 @@ where
     }
 }
 
-/// The same by so many workers.
+/// How many kits are home, where the run by so many workers is given up at once; none where it isn't begun.
 fn by_workers<J>(
     rt: &impl Abort,
     alloc: Global,
@@ -87,7 +87,8 @@ where
     through::<J, Brand>(alloc, lent, pool, deques)
 }
 
-/// The same of a session's program on its tables with its kits; the session has no kits behind it.
+/// How many kits are home, where a run of a session's program on its tables with its kits is given up at once. The session has no
+/// kits behind it.
 fn given_up(
     rt: &impl Abort,
     alloc: Global,

@@ -81,7 +81,7 @@ fn one_is_done<V: View + Send, R: Abort + Threads + Wait + Sync>(
     session.kits().0
 }
 
-/// The same over lists: each that isn't home was dropped.
+/// Of two runs over lists one at most is refused, and each list that isn't home was dropped.
 fn lost_ones_are_dropped<V: View + Send, R: Abort + Threads + Wait + Sync>(
     rt: &R,
     alloc: Global,
@@ -93,7 +93,7 @@ fn lost_ones_are_dropped<V: View + Send, R: Abort + Threads + Wait + Sync>(
     assert_eq!(rt; drops.load(Ordering::SeqCst).wrapping_add(home), row.1);
 }
 
-/// The same in a session, behind which each list was dropped once.
+/// Two such runs in a session, behind which each list was dropped once.
 fn lists_are_dropped<R: Abort + Threads + Wait + Sync>(rt: &R, alloc: Global, row: Row) {
     let drops = Arc::new(alloc, AtomicUsize::new(0)).expect(rt, "memory");
     let done = in_session_of_lists(
@@ -116,7 +116,7 @@ fn lists_that_are_refused_memory(rt: HostRuntime) {
     }
 }
 
-/// The same over plain views.
+/// Two runs over plain views, of which one at most is refused.
 fn others_are_done<R: Abort + Threads + Wait + Sync>(rt: &R, alloc: Global, row: Row) {
     let done = in_session(
         alloc,
