@@ -14,7 +14,7 @@ use Rattle.procedure_parser.specs.Correct.{InDefinition, IsFaultLineIn}
 use Rattle.procedure_parser.proofs.Counts.{definition_line_is}
 use Rattle.procedure_parser.proofs.Whole.{only_definition, definition_found}
 use Rattle.program_edits.specs.Putting.{put_all}
-use Rattle.define_parser.specs.Defined.{IsDefined}
+use Rattle.procedure_parser.specs.Defined.{IsDefined}
 use Rattle.checked_defines.specs.Readers.{located, put_into, reads_text, ReadsGrammar}
 use Rattle.checked_defines.proofs.FirstFaults.{stopped_at, stops_at_fault}
 

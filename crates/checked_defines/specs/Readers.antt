@@ -13,7 +13,7 @@ use Rattle.procedure_parser.specs.Defining.{definition_at}
 use Rattle.token_readers.specs.Lines.{line_at}
 use Rattle.procedure_parser.specs.Correct.{InDefinition, IsFaultLineIn}
 use Rattle.program_edits.specs.Putting.{put_all}
-use Rattle.define_parser.specs.Defined.{IsDefined}
+use Rattle.procedure_parser.specs.Defined.{IsDefined}
 use Rattle.linked_program.specs.declared.violation.Violation.{Violation}
 use Rattle.linked_program.specs.TableNames.{columned_of}
 use Rattle.linked_program.specs.Violations.{number_of, first_of}

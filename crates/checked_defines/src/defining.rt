@@ -11,9 +11,9 @@ ghost use Rattle.checked_defines.specs.Standings.{standing, answer_to, HasPut, K
 ghost use Rattle.checked_defines.specs.Causes.{IsDefineCause};
 
 use crate::refusal::{DefineError, unchecked, unread};
-use define_parser::parse_define;
 use input_tables::Tables;
 use linked_program::checked::Checked;
+use procedure_parser::parse_define;
 use program_tree::Program;
 use spawn_checker::redefine;
 use std::alloc::Global;

@@ -13,7 +13,7 @@ use Rattle.procedure_parser.specs.Grammar.{ReducerForm, reduces, ProcedureForm, 
 use Rattle.token_readers.specs.Rooms.{Room, room_of, turns_of}
 use Rattle.procedure_parser.specs.Defining.{Procedures, no_procedure, one_procedure, no_room, behind_name}
 use Rattle.procedure_parser.specs.Correct.{IsSource, IsDefinition}
-use Rattle.define_parser.specs.Defined.{IsDefined}
+use Rattle.procedure_parser.specs.Defined.{IsDefined}
 use Rattle.procedure_parser.proofs.DefiningLaw.{less_room}
 use Rattle.program_printer.specs.Printing.{printed}
 use Rattle.printing_theory.specs.Again.{IsOfText, IsIn, IsOfSome, AllOfSome, IsOfTexts, PrintsAgain, reducer_count, procedure_count}

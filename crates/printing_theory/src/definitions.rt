@@ -3,7 +3,7 @@
 ghost use Rattle.std.specs.Prelude.{◌≤◌, ℕ, List, length};
 ghost use Rattle.program_tree.specs.Plain.{Tree};
 ghost use Rattle.program_tree.specs.View.{Lined};
-ghost use Rattle.define_parser.specs.Defined.{IsDefined};
+ghost use Rattle.procedure_parser.specs.Defined.{IsDefined};
 ghost use Rattle.program_printer.specs.Printing.{printed};
 ghost use Rattle.printing_theory.specs.Again.{IsOfText, IsOfTexts, PrintsAgain};
 ghost use Rattle.token_scanner.specs.Scanning.{longest_text};

@@ -4,3 +4,4 @@ pub mod Ranges
 pub mod Grammar
 pub mod Correct
 pub mod Defining
+pub mod Defined

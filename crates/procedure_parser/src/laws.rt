@@ -1,10 +1,11 @@
-//! A text has one meaning.
+//! A text has one meaning, and defines one program.
 
 ghost use Rattle.std.specs.Prelude.{◌≡◌, ℕ, List};
 ghost use Rattle.program_tree.specs.Plain.{Tree};
 ghost use Rattle.program_tree.specs.View.{Lined};
 ghost use Rattle.source_tree.specs.Source.{Source};
 ghost use Rattle.procedure_parser.specs.Correct.{IsSource, IsText};
+ghost use Rattle.procedure_parser.specs.Defined.{IsDefined};
 
 /// A text has at most one source tree, and so one tree of a program, with one list of lines.
 pub fn laws_of_texts()
@@ -13,4 +14,10 @@ pub fn laws_of_texts()
         → IsText text u m → t ≡ u }
     ensures lines { (text : List ℕ) (t u : Tree) (l m : List Lined) → IsText text t l
         → IsText text u m → l ≡ m }
+{}
+
+/// A text defines at most one program, with one list of lines, from another.
+pub fn laws_of_defined_programs()
+    ensures defined { (text : List ℕ) (before after other : Tree × List Lined)
+        → IsDefined before text after → IsDefined before text other → after ≡ other }
 {}

@@ -13,7 +13,7 @@ mod laws;
 mod statement;
 mod text;
 
-pub use defined::define_source;
-pub use laws::laws_of_texts;
+pub use defined::{define_source, parse_define};
+pub use laws::{laws_of_defined_programs, laws_of_texts};
 pub use text::parse;
 pub use token_readers::TextError;

@@ -1,8 +1,7 @@
 //! Procedures that are put into programs, which are printed then, and read again.
 
-use define_parser::parse_define;
 use printing_theory::{print, print_and_parse};
-use procedure_parser::{TextError, parse};
+use procedure_parser::{TextError, parse, parse_define};
 use program_tree::Program;
 use std::alloc::Global;
 

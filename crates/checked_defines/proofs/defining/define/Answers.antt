@@ -3,7 +3,7 @@ use Rattle.program_tree.specs.Plain.{Tree}
 use Rattle.program_tree.specs.View.{tree, lines, Lined}
 use Rattle.meaning.specs.Edits.{defined_as}
 use Rattle.procedure_parser.specs.Correct.{IsDefinitionFault}
-use Rattle.define_parser.specs.Defined.{IsDefined}
+use Rattle.procedure_parser.specs.Defined.{IsDefined}
 use Rattle.checked_defines.specs.Readers.{checks_rules}
 use Rattle.checked_defines.specs.Standings.{standing}
 use Rattle.checked_defines.specs.Causes.{IsDefineCause}

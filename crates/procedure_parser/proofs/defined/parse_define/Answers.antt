@@ -2,7 +2,7 @@ use Rattle.program_tree.specs.View.{tree}
 use Rattle.source_tree.specs.Source.{source}
 use Rattle.token_readers.specs.Rooms.{room_of}
 use Rattle.procedure_parser.proofs.Counts.{definition_bodies}
-use Rattle.define_parser.proofs.defined.parse_define.Goals as goal
+use Rattle.procedure_parser.proofs.defined.parse_define.Goals as goal
 use Rattle.token_scanner.specs.Scanning.{longest_text}
 
 pub with_procedures-requires : goal.with_procedures-requires

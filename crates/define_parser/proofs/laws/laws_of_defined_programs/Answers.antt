@@ -1,5 +1,0 @@
-use Rattle.define_parser.proofs.OneProgram.{one_defined}
-use Rattle.define_parser.proofs.laws.laws_of_defined_programs.Goals as goal
-
-pub returns : goal.returns
-returns c = record { defined = one_defined }
