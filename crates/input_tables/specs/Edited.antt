@@ -8,8 +8,10 @@ use Rattle.monoid_laws.specs.Kinds.{Fits}
 use Rattle.meaning.specs.Tables.{Tables, Listed, row_of, at_column, is_there, above_all, column_total, cell_of}
 use Rattle.meaning.specs.Edits.{row_put, row_gone, with_rows, table_changed, Standing, EditRefusal, UnknownTable, WrongColumns, RowRange, NoRow, Exhausted}
 use Rattle.input_tables.specs.Rows.{Row}
-use Rattle.input_tables.specs.declared.refusal.EditError.{EditError}
-use Rattle.input_tables.specs.declared.refusal.EditError.TheVariants as e
+use Rattle.input_tables.specs.declared.refusal.RowError.{RowError}
+use Rattle.input_tables.specs.declared.refusal.RowError.TheVariants as e
+use Rattle.input_tables.specs.declared.refusal.PutError.{PutError}
+use Rattle.input_tables.specs.declared.refusal.PutError.TheVariants.{NoMemory, Refused}
 
 -- tables, and how many of their edits were accepted
 pub record Edited : Type 0 where
@@ -62,19 +64,18 @@ row_out_of row t = with_rows t (row_gone row t.rows)
 abbrev pub edited : (Listed → Listed) → Edited → Name → Edited
 edited f now t = record { tables = table_changed f now.tables t; edits = suc now.edits }
 
--- the error is that of this answer; memory is refused only where the edit would be accepted
-abbrev pub IsEditCause : Result Standing EditRefusal → EditError → Type 0
-IsEditCause answer e.NoMemory = IsOk answer
-IsEditCause answer e.UnknownTable = answer ≡ Err UnknownTable
-IsEditCause answer e.Columns = answer ≡ Err WrongColumns
-IsEditCause answer e.RowRange = answer ≡ Err RowRange
-IsEditCause answer e.NoRow = answer ≡ Err NoRow
-IsEditCause answer e.Exhausted = answer ≡ Err Exhausted
+-- the definitions' refusal that the refusal of an edit of a row is
+abbrev pub row_refusal : RowError → EditRefusal
+row_refusal e.UnknownTable = UnknownTable
+row_refusal e.WrongColumns = WrongColumns
+row_refusal e.RowRange = RowRange
+row_refusal e.NoRow = NoRow
+row_refusal e.Exhausted = Exhausted
 
--- the same of an edit that takes no memory
-abbrev pub IsDeleteCause : Result Standing EditRefusal → EditError → Type 0
-IsDeleteCause answer e.NoMemory = ⊥
-IsDeleteCause answer error = IsEditCause answer error
+-- the error is that of this answer to a put; memory is refused only where it would be accepted
+abbrev pub IsPutCause : Result Standing EditRefusal → PutError → Type 0
+IsPutCause answer NoMemory = IsOk answer
+IsPutCause answer (Refused error) = answer ≡ Err (row_refusal error)
 
 -- each cell of the rows, and of the tables, is a number of 64 bits
 abbrev pub RowsFit : List Row → Type 0

@@ -14,5 +14,5 @@ mod sums;
 mod table;
 mod tables;
 
-pub use refusal::{AddError, EditError, TablesError};
+pub use refusal::{AddError, PutError, RowError, TablesError};
 pub use tables::Tables;

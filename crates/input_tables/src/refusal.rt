@@ -4,7 +4,7 @@ ghost use Rattle.std.specs.Prelude.{◌≡◌};
 ghost use Rattle.input_tables.specs.declared.refusal.Fault.TheVariants.{NoMemory};
 ghost use Rattle.input_tables.specs.declared.refusal.TablesError.TheVariants as tables;
 ghost use Rattle.input_tables.specs.declared.refusal.AddError.TheVariants as add;
-ghost use Rattle.input_tables.specs.declared.refusal.EditError.TheVariants as edit;
+ghost use Rattle.input_tables.specs.declared.refusal.PutError.TheVariants as put;
 
 use std::alloc::{AllocError, AllocFailed};
 use thiserror::Error;
@@ -45,17 +45,15 @@ pub enum AddError {
     ColumnTwice,
 }
 
-/// Why an edit of tables is refused.
+/// Why an edit of a row is refused.
 #[derive(Debug, Drop, Error)]
-pub enum EditError {
-    #[error("out of memory")]
-    NoMemory,
+pub enum RowError {
     /// There is no table of the name.
     #[error("refused E4")]
     UnknownTable,
     /// The row has another number of values than the table has columns.
     #[error("refused E5")]
-    Columns,
+    WrongColumns,
     /// The row's number isn't in 0 to 2147483647.
     #[error("refused E6")]
     RowRange,
@@ -65,6 +63,15 @@ pub enum EditError {
     /// As many edits were accepted as can be counted.
     #[error("refused E18")]
     Exhausted,
+}
+
+/// Why a row is not put.
+#[derive(Debug, Drop, Error)]
+pub enum PutError {
+    #[error("out of memory")]
+    NoMemory,
+    #[error("{0}")]
+    Refused(RowError),
 }
 
 /// Why a part of a table could not be read.
@@ -122,10 +129,10 @@ impl<T: Drop> From<AllocFailed<T>> for AddError {
     }
 }
 
-impl From<AllocError> for EditError {
-    ghost from_gives = { λ _ e. e ≡ edit.NoMemory };
+impl From<AllocError> for PutError {
+    ghost from_gives = { λ _ e. e ≡ put.NoMemory };
 
-    fn from(_e: AllocError) -> EditError {
-        EditError::NoMemory
+    fn from(_e: AllocError) -> PutError {
+        PutError::NoMemory
     }
 }

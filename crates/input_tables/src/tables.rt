@@ -1,6 +1,6 @@
 // Tables that are read from a document or added, and edited.
 
-ghost use Rattle.std.specs.Prelude.{◌≡◌, ℕ, suc, ℤ, List, true, ◌<◌, length, IfOk, IfErr, OnOk, OnErr, IfSome, IfNone, Some, None, Ok, []};
+ghost use Rattle.std.specs.Prelude.{◌≡◌, ℕ, suc, ℤ, List, true, ◌<◌, length, IfOk, IfErr, OnOk, OnErr, IfSome, IfNone, Some, None, Ok, Err, []};
 ghost use Rattle.std.specs.Prelude.{option_map, option_copied, slice_get, map, string_bytes};
 ghost use Rattle.program_tree.specs.Plain.{Name};
 ghost use Rattle.program_tree.specs.View.{Lined};
@@ -10,12 +10,12 @@ ghost use Rattle.input_tables.specs.Adding.{refusal, own_refusal, unless_refused
 ghost use Rattle.input_tables.specs.Shapes.{table_in};
 ghost use Rattle.meaning.specs.Records.{Revised};
 ghost use Rattle.meaning.specs.Edits.{after_put, after_delete, in_range, table_of};
-ghost use Rattle.input_tables.specs.Edited.{beside, IsEditCause, IsDeleteCause, edited, changed_at, row_into, row_out_of, names_of};
+ghost use Rattle.input_tables.specs.Edited.{beside, row_refusal, IsPutCause, edited, changed_at, row_into, row_out_of, names_of};
 ghost use Rattle.input_tables.specs.Edited.{columns_at, cell_at, has_at, limit_at, sum_at, CellsFit};
 
 use crate::adding;
 use crate::document::tables_in;
-use crate::refusal::{AddError, EditError, TablesError};
+use crate::refusal::{AddError, PutError, RowError, TablesError};
 use crate::shapes::is_row_number;
 use crate::table::{Table, find};
 use std::alloc::{AllocError, Global};
@@ -218,20 +218,22 @@ impl Tables {
         }
     }
 
-    /// Puts a row into a table, in the place of the one of its number. Refused by E4, E6, E5, E18, or for want of memory, in
-    /// this order; a refusal changes nothing.
+    /// Puts a row into a table, in the place of the one of its number, and answers the table's number. Refused by E4, E6, E5,
+    /// E18, or for want of memory, in this order; a refusal changes nothing.
     pub fn put(
         &mut self,
         alloc: Global,
         table: &str,
         row: i64,
         values: &[i64],
-    ) -> Result<(), EditError>
+    ) -> Result<usize, PutError>
+        ensures number { IfOk result (λ number. number
+            ≡ index_of (names_of self.old.tables) table.now) }
         ensures put { OnOk result ((program : Revised) (lines : List Lined)
             → after_put (beside program lines self.old) table.now row values.now
             ≡ Ok (beside program lines self.new)) }
         ensures refused { IfErr result (λ error. (program : Revised) (lines : List Lined)
-            → IsEditCause (after_put (beside program lines self.old) table.now row values.now)
+            → IsPutCause (after_put (beside program lines self.old) table.now row values.now)
             error) }
         ensures same { OnErr result (self.new ≡ self.old) }
     {
@@ -240,33 +242,36 @@ impl Tables {
                 // Pages take their memory where their table's rows do, so no list is made here.
                 let _ = alloc;
                 self.put_at(number, row, values)?;
-                Ok(())
+                Ok(number)
             }
-            Err(error) => Err(error),
+            Err(error) => Err(PutError::Refused(error)),
         }
     }
 
-    /// Takes a row out of a table. Refused by E4, E6, E7, E18, in this order; a refusal changes nothing. It takes no memory,
-    /// and is never refused for want of it.
-    pub fn delete(&mut self, table: &str, row: i64) -> Result<(), EditError>
+    /// Takes a row out of a table, and answers the table's number. Refused by E4, E6, E7, E18, in this order; a refusal changes
+    /// nothing. It takes no memory, and is never refused for want of it.
+    pub fn delete(&mut self, table: &str, row: i64) -> Result<usize, RowError>
+        ensures number { IfOk result (λ number. number
+            ≡ index_of (names_of self.old.tables) table.now) }
         ensures deleted { OnOk result ((program : Revised) (lines : List Lined)
             → after_delete (beside program lines self.old) table.now row
             ≡ Ok (beside program lines self.new)) }
         ensures refused { IfErr result (λ error. (program : Revised) (lines : List Lined)
-            → IsDeleteCause (after_delete (beside program lines self.old) table.now row) error) }
+            → after_delete (beside program lines self.old) table.now row
+            ≡ Err (row_refusal error)) }
         ensures same { OnErr result (self.new ≡ self.old) }
     {
         match self.table_to_delete(table, row) {
             Ok(number) => {
                 self.delete_at(number, row);
-                Ok(())
+                Ok(number)
             }
             Err(error) => Err(error),
         }
     }
 
     // The number of the table into which a row of so many values may be put, or why it may not.
-    fn table_to_put(&self, name: &str, row: i64, values: usize) -> Result<usize, EditError>
+    fn table_to_put(&self, name: &str, row: i64, values: usize) -> Result<usize, RowError>
         ensures found { IfOk result (λ number. number ≡ index_of (names_of self.now.tables) name.now) }
         ensures within { IfOk result (λ number. number < length self.now.tables) }
         ensures wide { IfOk result (λ number. values ≡ length (columns_at self.now.tables number)) }
@@ -275,19 +280,19 @@ impl Tables {
         ensures allowed { OnOk result ((program : Revised) (lines : List Lined) (vs : List ℤ) → length vs ≡ values
             → after_put (beside program lines self.now) name.now row vs ≡ Ok (beside program lines (edited (row_into row vs) self.now name.now))) }
         ensures refused { IfErr result (λ error. (program : Revised) (lines : List Lined) (vs : List ℤ) → length vs ≡ values
-            → IsEditCause (after_put (beside program lines self.now) name.now row vs) error) }
+            → after_put (beside program lines self.now) name.now row vs ≡ Err (row_refusal error)) }
     {
         match self.find(name) {
-            None => Err(EditError::UnknownTable),
+            None => Err(RowError::UnknownTable),
             Some((number, table)) => {
                 if !is_row_number(row) {
-                    return Err(EditError::RowRange);
+                    return Err(RowError::RowRange);
                 }
                 if table.column_count() != values {
-                    return Err(EditError::Columns);
+                    return Err(RowError::WrongColumns);
                 }
                 if self.edit_number() == u64::MAX {
-                    return Err(EditError::Exhausted);
+                    return Err(RowError::Exhausted);
                 }
                 Ok(number)
             }
@@ -295,7 +300,7 @@ impl Tables {
     }
 
     // The number of the table out of which a row may be taken, or why it may not.
-    fn table_to_delete(&self, name: &str, row: i64) -> Result<usize, EditError>
+    fn table_to_delete(&self, name: &str, row: i64) -> Result<usize, RowError>
         ensures found { IfOk result (λ number. number ≡ index_of (names_of self.now.tables) name.now) }
         ensures within { IfOk result (λ number. number < length self.now.tables) }
         ensures room { OnOk result (self.now.edits < 18446744073709551615) }
@@ -303,19 +308,20 @@ impl Tables {
             → after_delete (beside program lines self.now) name.now row
             ≡ Ok (beside program lines (edited (row_out_of row) self.now name.now))) }
         ensures refused { IfErr result (λ error. (program : Revised) (lines : List Lined)
-            → IsDeleteCause (after_delete (beside program lines self.now) name.now row) error) }
+            → after_delete (beside program lines self.now) name.now row
+            ≡ Err (row_refusal error)) }
     {
         match self.find(name) {
-            None => Err(EditError::UnknownTable),
+            None => Err(RowError::UnknownTable),
             Some((number, table)) => {
                 if !is_row_number(row) {
-                    return Err(EditError::RowRange);
+                    return Err(RowError::RowRange);
                 }
                 if !table.has(row) {
-                    return Err(EditError::NoRow);
+                    return Err(RowError::NoRow);
                 }
                 if self.edit_number() == u64::MAX {
-                    return Err(EditError::Exhausted);
+                    return Err(RowError::Exhausted);
                 }
                 Ok(number)
             }

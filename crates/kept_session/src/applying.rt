@@ -6,7 +6,7 @@ ghost use Rattle.rerun_records.specs.Record.{settled};
 ghost use Rattle.kept_session.specs.Sessions.{standing_of};
 ghost use Rattle.kept_session.specs.Applied.{IsApplyCause};
 
-use crate::refusal::{ApplyError, undefined, unput};
+use crate::refusal::{ApplyError, of_row, undefined, unput};
 use crate::session::Session;
 use std::alloc::Global;
 use view_pool::View;
@@ -29,11 +29,11 @@ impl<V: View> Session<V> {
             ≡ record self.old { tables = self.new.tables; records = self.new.records } }
         ensures records { map settled self.new.records ≡ map settled self.old.records }
     {
-        match self
-            .records
-            .put(alloc, &mut self.tables, table, row, values)
-        {
-            Ok(()) => Ok(()),
+        match self.tables.put(alloc, table, row, values) {
+            Ok(number) => {
+                self.records.row_changed(number, row);
+                Ok(())
+            }
             Err(error) => Err(unput(error)),
         }
     }
@@ -49,9 +49,12 @@ impl<V: View> Session<V> {
             ≡ record self.old { tables = self.new.tables; records = self.new.records } }
         ensures records { map settled self.new.records ≡ map settled self.old.records }
     {
-        match self.records.delete(&mut self.tables, table, row) {
-            Ok(()) => Ok(()),
-            Err(error) => Err(unput(error)),
+        match self.tables.delete(table, row) {
+            Ok(number) => {
+                self.records.row_changed(number, row);
+                Ok(())
+            }
+            Err(error) => Err(ApplyError::Refused(of_row(error))),
         }
     }
 

@@ -1,9 +1,9 @@
 // Why an edit of a session isn't accepted.
 ghost use Rattle.std.specs.Prelude.{◌≡◌};
-ghost use Rattle.kept_session.specs.Applied.{of_table, of_define};
+ghost use Rattle.kept_session.specs.Applied.{of_put, of_row, of_define};
 
 use checked_defines::DefineError;
-use input_tables::EditError as TableError;
+use input_tables::{PutError, RowError};
 use session_edits::EditError;
 use thiserror::Error;
 
@@ -17,17 +17,26 @@ pub enum ApplyError {
     Refused(EditError),
 }
 
-/// The refusal of an edit of a table.
-pub(crate) fn unput(error: TableError) -> ApplyError
-    ensures { result ≡ of_table error }
+/// The refusal of a row that is to be put.
+pub(crate) fn unput(error: PutError) -> ApplyError
+    ensures { result ≡ of_put error }
 {
     match error {
-        TableError::NoMemory => ApplyError::NoMemory,
-        TableError::UnknownTable => ApplyError::Refused(EditError::UnknownTable),
-        TableError::Columns => ApplyError::Refused(EditError::WrongColumns),
-        TableError::RowRange => ApplyError::Refused(EditError::RowRange),
-        TableError::NoRow => ApplyError::Refused(EditError::NoRow),
-        TableError::Exhausted => ApplyError::Refused(EditError::Exhausted),
+        PutError::NoMemory => ApplyError::NoMemory,
+        PutError::Refused(error) => ApplyError::Refused(of_row(error)),
+    }
+}
+
+/// The refusal of an edit of a row.
+pub(crate) fn of_row(error: RowError) -> EditError
+    ensures { result ≡ of_row error }
+{
+    match error {
+        RowError::UnknownTable => EditError::UnknownTable,
+        RowError::WrongColumns => EditError::WrongColumns,
+        RowError::RowRange => EditError::RowRange,
+        RowError::NoRow => EditError::NoRow,
+        RowError::Exhausted => EditError::Exhausted,
     }
 }
 

@@ -7,7 +7,6 @@ pub mod Standing
 pub mod Finding
 pub mod Marks
 pub mod Numbers
-pub mod SameBut
 pub mod Lookups
 pub mod Singles
 pub mod NodeNotes

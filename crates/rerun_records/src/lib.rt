@@ -6,7 +6,6 @@ pub mod block;
 pub mod blocks;
 mod changes;
 mod due;
-pub mod edits;
 mod hull;
 pub mod key;
 pub mod laws;
