@@ -2,7 +2,7 @@
 
 use crate::defines::{push_bad_define, push_broken};
 use crate::rules::push_line;
-use input_tables::Tables;
+use input_tables::{RowError, Tables};
 use program_tree::Program;
 use session_edits::{Edit, EditError};
 use std::alloc::{AllocError, Global};
@@ -22,19 +22,35 @@ pub fn push_refused(
     tables: &Tables,
 ) -> Result<(), AllocError> {
     match error {
-        EditError::UnknownTable => push_unknown_table(text, table_in(edit), tables),
-        EditError::WrongColumns => push_wrong_columns(text, edit, tables),
-        EditError::RowRange => push_row_range(text, edit),
-        EditError::NoRow => push_no_row(text, edit, tables),
+        EditError::Row(error) => push_row_refused(text, edit, error, tables),
         EditError::BadText { line } => push_bad_define(alloc, text, text_in(edit), *line),
         EditError::Broken { rule, holder, line } => {
             push_broken(alloc, text, text_in(edit), program, *rule, holder, *line)
         }
-        EditError::Exhausted => push_line(
-            text,
-            "No number is left to count it by. A session that is begun anew counts from 0.",
-        ),
+        EditError::Exhausted => push_exhausted(text),
     }
+}
+
+fn push_row_refused(
+    text: &mut String,
+    edit: &Edit<'_>,
+    error: &RowError,
+    tables: &Tables,
+) -> Result<(), AllocError> {
+    match error {
+        RowError::UnknownTable => push_unknown_table(text, table_in(edit), tables),
+        RowError::WrongColumns => push_wrong_columns(text, edit, tables),
+        RowError::RowRange => push_row_range(text, edit),
+        RowError::NoRow => push_no_row(text, edit, tables),
+        RowError::Exhausted => push_exhausted(text),
+    }
+}
+
+fn push_exhausted(text: &mut String) -> Result<(), AllocError> {
+    push_line(
+        text,
+        "No number is left to count it by. A session that is begun anew counts from 0.",
+    )
 }
 
 // The table that an edit speaks of.

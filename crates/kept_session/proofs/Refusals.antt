@@ -1,5 +1,5 @@
 -- Why edits of tables and of the program are refused, as a session answers them.
-use Rattle.std.proofs.Common.{◌≡◌, ℕ, ℤ, List, Result, Err, refl, sym, ap, ◌∙◌, subst}
+use Rattle.std.proofs.Common.{◌≡◌, ℕ, ℤ, List, Result, Err, subst}
 use Rattle.program_tree.specs.Plain.{Name}
 use Rattle.program_tree.specs.View.{Lined, lines}
 use Rattle.meaning.specs.Records.{Revised}
@@ -7,26 +7,17 @@ use Rattle.meaning.specs.Edits.{Standing, EditRefusal, Put, Delete, Define, afte
 use Rattle.linked_program.specs.Checked.{revised_of}
 use Rattle.input_tables.specs.Edited.{beside, row_refusal, IsPutCause}
 use Rattle.input_tables.specs.declared.refusal.RowError.{RowError}
-use Rattle.input_tables.specs.declared.refusal.RowError.TheVariants as cause
-use Rattle.session_edits.specs.Said.{refusal}
 use Rattle.input_tables.specs.declared.refusal.PutError.{PutError}
 use Rattle.input_tables.specs.declared.refusal.PutError.TheVariants as put
 use Rattle.checked_defines.specs.Causes.{IsDefineCause}
 use Rattle.checked_defines.specs.declared.refusal.DefineError.{DefineError}
 use Rattle.checked_defines.specs.declared.refusal.DefineError.TheVariants as define
 use Rattle.kept_session.specs.Sessions.{PlainSession, standing_of}
-use Rattle.kept_session.specs.Applied.{IsApplyCause, of_row, of_put, of_define}
-
-same_refusal : (error : RowError) → row_refusal error ≡ refusal (of_row error)
-same_refusal cause.UnknownTable = refl
-same_refusal cause.WrongColumns = refl
-same_refusal cause.RowRange = refl
-same_refusal cause.NoRow = refl
-same_refusal cause.Exhausted = refl
+use Rattle.kept_session.specs.Applied.{IsApplyCause, of_put, of_define}
 
 put_cause : (t : Name) (row : ℤ) (vs : List ℤ) (given : Result Standing EditRefusal) (error : PutError) → IsPutCause given error → IsApplyCause (Put t row vs) given (of_put error)
 put_cause t row vs given put.NoMemory h = h
-put_cause t row vs given (put.Refused error) h = h ∙ ap Err (same_refusal error)
+put_cause t row vs given (put.Refused error) h = h
 
 pub define_cause : (text : List ℕ) (given : Result Standing EditRefusal) (error : DefineError) → IsDefineCause given error → IsApplyCause (Define text) given (of_define error)
 define_cause text given define.NoMemory h = h
@@ -42,6 +33,6 @@ put_refused s t m row vs error same h =
     (put_cause t m vs (after_put (standing_of s) t m vs) error (h (revised_of s.checked) (lines s.checked.program)))
 
 pub delete_refused : (s : PlainSession) (t : Name) (m row : ℤ) (error : RowError) → m ≡ row
-    → ((program : Revised) (ls : List Lined) → after_delete (beside program ls s.tables) t m ≡ Err (row_refusal error)) → after_delete (standing_of s) t row ≡ Err (refusal (of_row error))
+    → ((program : Revised) (ls : List Lined) → after_delete (beside program ls s.tables) t m ≡ Err (row_refusal error)) → after_delete (standing_of s) t row ≡ Err (row_refusal error)
 delete_refused s t m row error same h =
-    subst (λ (n : ℤ). after_delete (standing_of s) t n ≡ Err (row_refusal error)) same (h (revised_of s.checked) (lines s.checked.program)) ∙ ap Err (same_refusal error)
+    subst (λ (n : ℤ). after_delete (standing_of s) t n ≡ Err (row_refusal error)) same (h (revised_of s.checked) (lines s.checked.program))

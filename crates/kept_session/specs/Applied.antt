@@ -3,10 +3,7 @@ use Rattle.std.specs.Prelude.{◌≡◌, map, Result, Ok, Err, IsOk, IfErr, OnOk
 use Rattle.meaning.specs.Edits.{Standing, Edit, EditRefusal, Put, Delete, Define, tried}
 use Rattle.checked_defines.specs.Readers.{reads_text, checks_rules}
 use Rattle.session_edits.specs.Said.{refusal}
-use Rattle.session_edits.specs.declared.refusal.EditError.{EditError}
 use Rattle.session_edits.specs.declared.refusal.EditError.TheVariants as edit
-use Rattle.input_tables.specs.declared.refusal.RowError.{RowError}
-use Rattle.input_tables.specs.declared.refusal.RowError.TheVariants as cause
 use Rattle.input_tables.specs.declared.refusal.PutError.{PutError}
 use Rattle.input_tables.specs.declared.refusal.PutError.TheVariants as put
 use Rattle.checked_defines.specs.declared.refusal.DefineError.{DefineError}
@@ -20,18 +17,10 @@ use Rattle.kept_session.specs.Sessions.{PlainSession, standing_of}
 abbrev pub edited : Standing → Edit → Result Standing EditRefusal
 edited = tried reads_text checks_rules
 
--- the refusal of an edit of a row
-abbrev pub of_row : RowError → EditError
-of_row cause.UnknownTable = edit.UnknownTable
-of_row cause.WrongColumns = edit.WrongColumns
-of_row cause.RowRange = edit.RowRange
-of_row cause.NoRow = edit.NoRow
-of_row cause.Exhausted = edit.Exhausted
-
 -- the error of a row that is to be put
 abbrev pub of_put : PutError → ApplyError
 of_put put.NoMemory = NoMemory
-of_put (put.Refused error) = Refused (of_row error)
+of_put (put.Refused error) = Refused (edit.Row error)
 
 -- the error of a definition of procedures
 abbrev pub of_define : DefineError → ApplyError

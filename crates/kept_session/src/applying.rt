@@ -6,8 +6,9 @@ ghost use Rattle.rerun_records.specs.Record.{settled};
 ghost use Rattle.kept_session.specs.Sessions.{standing_of};
 ghost use Rattle.kept_session.specs.Applied.{IsApplyCause};
 
-use crate::refusal::{ApplyError, of_row, undefined, unput};
+use crate::refusal::{ApplyError, undefined, unput};
 use crate::session::Session;
+use session_edits::EditError;
 use std::alloc::Global;
 use view_pool::View;
 
@@ -54,7 +55,7 @@ impl<V: View> Session<V> {
                 self.records.row_changed(number, row);
                 Ok(())
             }
-            Err(error) => Err(ApplyError::Refused(of_row(error))),
+            Err(error) => Err(ApplyError::Refused(EditError::Row(error))),
         }
     }
 

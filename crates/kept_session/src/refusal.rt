@@ -1,9 +1,9 @@
 // Why an edit of a session isn't accepted.
 ghost use Rattle.std.specs.Prelude.{◌≡◌};
-ghost use Rattle.kept_session.specs.Applied.{of_put, of_row, of_define};
+ghost use Rattle.kept_session.specs.Applied.{of_put, of_define};
 
 use checked_defines::DefineError;
-use input_tables::{PutError, RowError};
+use input_tables::PutError;
 use session_edits::EditError;
 use thiserror::Error;
 
@@ -23,20 +23,7 @@ pub(crate) fn unput(error: PutError) -> ApplyError
 {
     match error {
         PutError::NoMemory => ApplyError::NoMemory,
-        PutError::Refused(error) => ApplyError::Refused(of_row(error)),
-    }
-}
-
-/// The refusal of an edit of a row.
-pub(crate) fn of_row(error: RowError) -> EditError
-    ensures { result ≡ of_row error }
-{
-    match error {
-        RowError::UnknownTable => EditError::UnknownTable,
-        RowError::WrongColumns => EditError::WrongColumns,
-        RowError::RowRange => EditError::RowRange,
-        RowError::NoRow => EditError::NoRow,
-        RowError::Exhausted => EditError::Exhausted,
+        PutError::Refused(error) => ApplyError::Refused(EditError::Row(error)),
     }
 }
 

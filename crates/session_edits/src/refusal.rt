@@ -1,17 +1,12 @@
 // Why an edit is refused.
+use input_tables::RowError;
 use linked_program::violation::Rule;
 
 /// Why an edit is refused.
 #[derive(Debug, Drop)]
 pub enum EditError {
-    /// There is no table of the name.
-    UnknownTable,
-    /// The row has another number of values than the table has columns.
-    WrongColumns,
-    /// The row's number isn't in 0 to 2147483647.
-    RowRange,
-    /// There is no row of the number.
-    NoRow,
+    /// The row may not be put or deleted.
+    Row(RowError),
     /// The text isn't one of procedures: the line of its first fault.
     BadText {
         line: u32,
@@ -22,6 +17,6 @@ pub enum EditError {
         holder: String,
         line: u32,
     },
-    /// No number is left for the edit, or for a procedure that it changes.
+    /// No number is left for a definition, or for a procedure that it changes.
     Exhausted,
 }

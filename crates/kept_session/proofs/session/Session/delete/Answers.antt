@@ -2,13 +2,10 @@ use Rattle.std.proofs.Common.{[], Err, ◌≡◌, sym, subst, ◌∙◌, w64, to
 use Rattle.std.proofs.lemmas.Int.{to_z-of_z}
 use Rattle.meaning.specs.Edits.{after_delete}
 use Rattle.linked_program.specs.Checked.{nothing}
-use Rattle.input_tables.specs.Edited.{beside}
-use Rattle.session_edits.specs.Said.{refusal}
-use Rattle.session_edits.specs.declared.refusal.EditError.{EditError}
+use Rattle.input_tables.specs.Edited.{beside, row_refusal}
 use Rattle.rules_theory.proofs.EditedTables.{delete_keeps_columns}
 use Rattle.rerun_records.proofs.Puts.{same_values}
 use Rattle.kept_session.specs.Sessions.{PlainSession, standing_of}
-use Rattle.kept_session.specs.Applied.{of_row}
 use Rattle.kept_session.proofs.Doubts.{kept_so}
 use Rattle.kept_session.proofs.Refusals.{delete_refused}
 use Rattle.kept_session.proofs.SameBut.{delete_same_but}
@@ -32,6 +29,5 @@ returns-in-Err-clause-refused g c =
     let t = c.args.table.now in
     let s : PlainSession = record { checked = c.self.inside.checked; tables = c.self.inside.tables; kits = c.self.inside.kits; records = c.self.inside.records; inlined = c.self.inside.inlined } in
     let row = c.args.row in
-    subst (λ (e : EditError). after_delete (standing_of c.args.self.now) t row ≡ Err (refusal e)) (sym c.of_row.ensures)
-    (subst (λ (x : PlainSession). after_delete (standing_of x) t row ≡ Err (refusal (of_row c.in-Err.error))) c.self.view_is
-    (delete_refused s t _ row c.in-Err.error (to_z-of_z w64 _ c.ranges.row) c.in-Err.ensures.refused))
+    subst (λ (x : PlainSession). after_delete (standing_of x) t row ≡ Err (row_refusal c.in-Err.error)) c.self.view_is
+    (delete_refused s t _ row c.in-Err.error (to_z-of_z w64 _ c.ranges.row) c.in-Err.ensures.refused)
