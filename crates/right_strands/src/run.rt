@@ -1,24 +1,21 @@
 //! Which run strands are of: a type parameter stands for it.
-ghost use Rattle.std.specs.Prelude.{◌≡◌, List, [], All};
+ghost use Rattle.std.specs.Prelude.{◌≡◌, [], All};
 ghost use Rattle.monoid_laws.specs.Kinds.{IsMonoid};
-ghost use Rattle.meaning.specs.Records.{IsSound};
-ghost use Rattle.trail_theory.specs.Order.{Every};
 ghost use Rattle.trail_theory.specs.OpenLayers.{IsNumbered};
 ghost use Rattle.strand_theory.specs.Ready.{IsReady};
-ghost use Rattle.linked_program.specs.Checked.{IsChecked, revised_of};
+ghost use Rattle.linked_program.specs.Checked.{revised_of};
 ghost use Rattle.linked_program.specs.TableNames.{columned_of};
 ghost use Rattle.rerun_records.specs.Doubted.{IsInStep};
 ghost use Rattle.rerun_records.specs.Named.{HaveValues};
 ghost use Rattle.positions.specs.Setting.{setting_with};
-ghost use Rattle.meaning.specs.Records.{Kept};
 ghost use Rattle.meaning.specs.Schedules.{recording_from};
 ghost use Rattle.numbered_runs.specs.News.{AreSound};
 ghost use Rattle.right_strands.specs.Remembering.{Remembers};
 
 use input_tables::Tables;
 use linked_program::checked::Checked;
+use numbered_runs::ready::are_ready;
 use rerun_records::records::Records;
-use rules_theory::{checked_programs_are_numbered, checked_programs_keep_the_rules};
 use std::marker::{Brand, Model, PhantomData};
 
 /// Which program runs on which tables, with which records. Each call of a program picks it.
@@ -83,21 +80,4 @@ impl<'a, J: Run> Scene<'a, J> {
             of: PhantomData,
         }
     }
-}
-
-/// What the theory asks for of a checked program and its tables.
-fn are_ready(program: &Checked, tables: &Tables)
-    ensures ready { (kept : List Kept) → Every (IsSound (revised_of program.now)) kept
-        → IsReady (revised_of program.now) tables.now.tables (recording_from kept) }
-    ensures numbered { IsNumbered (revised_of program.now) }
-    ensures checked { IsChecked program.now }
-    ensures monoids { All IsMonoid program.now.kinds }
-{
-    program.clean();
-    program.linked();
-    program.revised();
-    program.fitting();
-    tables.cells_fit();
-    checked_programs_keep_the_rules();
-    checked_programs_are_numbered();
 }

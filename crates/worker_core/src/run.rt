@@ -1,18 +1,11 @@
 // A run by steps.
-ghost use Rattle.std.specs.Prelude.{◌≡◌, ◌⊎◌, true, false, List, All, Ok, IfOk, IfErr, OnOk, map, length};
+ghost use Rattle.std.specs.Prelude.{◌≡◌, ◌⊎◌, true, false, All, Ok, IfOk, IfErr, OnOk, map, length};
 ghost use Rattle.numbered_runs.specs.Named.{run_step, book_step, line};
 ghost use Rattle.stepped_runs.specs.Runs.{are_workers, line_of};
 ghost use Rattle.worker_core.specs.Moves.{RefusedAs};
 ghost use Rattle.worker_core.specs.Strands.{run_of, kits_in};
-ghost use Rattle.monoid_laws.specs.Kinds.{IsMonoid};
-ghost use Rattle.meaning.specs.Records.{Kept, IsSound};
-ghost use Rattle.meaning.specs.Schedules.{recording_from};
-ghost use Rattle.trail_theory.specs.Order.{Every};
-ghost use Rattle.trail_theory.specs.OpenLayers.{IsNumbered};
-ghost use Rattle.strand_theory.specs.Ready.{IsReady};
 ghost use Rattle.rerun_records.specs.Doubted.{IsInStep};
 ghost use Rattle.rerun_records.specs.Named.{HaveValues};
-ghost use Rattle.linked_program.specs.Checked.{IsChecked, revised_of};
 ghost use Rattle.linked_program.specs.TableNames.{columned_of};
 ghost use Rattle.worker_core.specs.Going.{GoesOn};
 ghost use Rattle.worker_core.specs.Leaving.{LeavesElision};
@@ -26,11 +19,11 @@ use activations::setting::Setting;
 use frames::answer::RunAnswer;
 use input_tables::Tables;
 use linked_program::checked::Checked;
+use numbered_runs::ready::are_ready;
 use numbered_runs::refusal::{Refusal, StartError};
 use numbered_runs::step::{BookStep, Step, StrandLine};
 use rerun_records::record::Record;
 use rerun_records::records::Records;
-use rules_theory::{checked_programs_are_numbered, checked_programs_keep_the_rules};
 use std::alloc::{AllocError, Global};
 use std::marker::Model;
 use view_pool::{Kit, Pool, View};
@@ -217,23 +210,6 @@ impl<'a, V: View> Core<'a, V> {
         } = self;
         strands.end(alloc, failed)
     }
-}
-
-/// What the theory asks for of a checked program and its tables.
-fn are_ready(program: &Checked, tables: &Tables)
-    ensures ready { (kept : List Kept) → Every (IsSound (revised_of program.now)) kept
-        → IsReady (revised_of program.now) tables.now.tables (recording_from kept) }
-    ensures numbered { IsNumbered (revised_of program.now) }
-    ensures checked { IsChecked program.now }
-    ensures monoids { All IsMonoid program.now.kinds }
-{
-    program.clean();
-    program.linked();
-    program.revised();
-    program.fitting();
-    tables.cells_fit();
-    checked_programs_keep_the_rules();
-    checked_programs_are_numbered();
 }
 
 /// Whether there are so many workers.

@@ -1,5 +1,5 @@
 use Rattle.linked_program.specs.Checked.{IsChecked}
-use Rattle.right_strands.proofs.run.are_ready.Goals as goal
+use Rattle.numbered_runs.proofs.ready.are_ready.Goals as goal
 
 pub returns-clause-ready : goal.returns-clause-ready
 returns-clause-ready c kept sound =
