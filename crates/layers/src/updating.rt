@@ -11,6 +11,7 @@ use std::alloc::AllocError;
 use view_pool::View;
 
 /// How many numbers an update takes.
+#[inline(always)]
 pub fn arity(kind: &Kind) -> usize
     ensures arity { result ≡ arity_of kind.now }
 {
@@ -47,6 +48,7 @@ impl<V: View> Layer<V> {
     }
 
     /// Combines the element that as many numbers as the kind takes name on the right of the value of a reducer of that kind.
+    #[inline(always)]
     pub fn update_fitting(
         &mut self,
         kind: &Kind,
