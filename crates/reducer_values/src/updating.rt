@@ -1,7 +1,8 @@
 //! Updates in place: a number behind a list, an amount at a key.
 ghost use Rattle.std.specs.Prelude.{◌≡◌, ℕ, ◌≤◌, OnOk, OnErr, IfErr, IsOk, ◌++◌, ◌∷◌, [], take, length, true, Some};
 ghost use Rattle.monoid_laws.specs.Worth.{items, amounts, best, the_amounts, the_best};
-ghost use Rattle.monoid_laws.specs.Kinds.{better, last_of, merge, meaning, operate, element_of, arity, names_element, refusal, IsWorth, IsAmounts, IsNumberKind};
+ghost use Rattle.monoid_laws.specs.Kinds.{last_of, merge, meaning, operate, element_of, arity, names_element, refusal, IsWorth, IsAmounts, IsNumberKind};
+ghost use Rattle.monoid_laws.specs.Kinds.{better};
 ghost use Rattle.reducer_values.specs.Forms.{kept, is_fixed, IsListKind};
 
 use crate::adding::add_amount;
