@@ -13,6 +13,7 @@ use rerun_records::key::Key;
 use rerun_records::readings::Readings;
 use rerun_records::record::Record;
 use rerun_records::records::Records;
+use rerun_records::short_list::ShortList;
 use std::alloc::Global;
 use std::process::Abort;
 
@@ -34,10 +35,10 @@ fn record(
     reads: &[Note],
     height: u32,
 ) -> Record {
-    let arguments = Vec::from_array(alloc, [argument]).expect(rt, "memory");
+    let arguments = ShortList::from_slice(alloc, &[argument]).expect(rt, "memory");
     let touched = Vec::from_array(alloc, [(0, Val::Int(value))]).expect(rt, "memory");
     let reads = reads_of(rt, alloc, reads, Vec::new(alloc));
-    let entered = Vec::from_array(alloc, [procedure]).expect(rt, "memory");
+    let entered = ShortList::from_slice(alloc, &[procedure]).expect(rt, "memory");
     Record::new(
         procedure.0,
         arguments,
@@ -52,7 +53,7 @@ fn record(
 /// What an instance has read that noted this, and that refers to what these parts have read.
 pub fn reads_of(rt: &impl Abort, alloc: Global, notes: &[Note], parts: Vec<Readings>) -> Readings {
     let own = readings(alloc, notes).expect(rt, "memory");
-    Readings::new(alloc, own, parts).expect(rt, "memory")
+    Readings::new(alloc, ShortList::new(own), parts).expect(rt, "memory")
 }
 
 /// The record of `line` at row 2, which holds 3 and 7.

@@ -6,6 +6,7 @@ use evaluation::note::Note;
 use evaluation::reading::{Reading, readings};
 use monoid_laws::Val;
 use rerun_records::record::Record;
+use rerun_records::short_list::ShortList;
 use std::alloc::Global;
 use std::mem::size_of;
 use std::process::Abort;
@@ -55,8 +56,16 @@ fn are_second_line(records: &[Record]) -> bool {
 /// Whether a record gives back the height and these procedures.
 fn gives_back(rt: &impl Abort, alloc: Global, entered: &[(usize, u64)]) -> bool {
     let reads = reads_of(rt, alloc, &[], Vec::new(alloc));
-    let listed = Vec::from_slice(alloc, entered).expect(rt, "memory");
-    let made = Record::new(0, Vec::new(alloc), 0, Vec::new(alloc), reads, listed, 3);
+    let listed = ShortList::from_slice(alloc, entered).expect(rt, "memory");
+    let made = Record::new(
+        0,
+        ShortList::new(Vec::new(alloc)),
+        0,
+        Vec::new(alloc),
+        reads,
+        listed,
+        3,
+    );
     made.height() == 3 && *made.entered() == *entered
 }
 
@@ -131,13 +140,13 @@ fn readings_past_their_bytes_are_refused(rt: HostRuntime) {
     assert!(&rt; are_kept(rt.alloc(), &cells));
 }
 
-/// A record of one argument, two readings, two reducers and one procedure asks for 272 bytes: 104 in the map, where the procedure
-/// lies too, its lists, and 48 for what the record of an instance above may refer to: a count, a list, and where the parts lie, if
-/// there are any.
+/// A record of one argument, two readings, two reducers and one procedure asks for 272 bytes: 128 in the map, where its argument
+/// and its procedure lie too, a list of what it gives to the reducers, and 64 for what the record of an instance above may refer
+/// to: a count, its readings, and where the parts lie, if there are any.
 #[test]
 fn a_record_is_small(rt: HostRuntime) {
-    let lists = 8 + 2 * size_of::<Reading>() + 2 * size_of::<(usize, Val)>();
-    let shared = 8 + size_of::<Vec<u64>>() + size_of::<Option<Box<u64>>>();
+    let given = 2 * size_of::<(usize, Val)>();
+    let shared = 8 + size_of::<ShortList<Reading>>() + size_of::<Option<Box<u64>>>();
     assert!(&rt; size_of::<Reading>() == 16 && size_of::<Note>() > 24);
-    assert!(&rt; size_of::<Record>() == 104 && size_of::<Record>() + lists + shared == 272);
+    assert!(&rt; size_of::<Record>() == 128 && size_of::<Record>() + given + shared == 272);
 }
