@@ -1,10 +1,14 @@
 //! Slots of an instance that is to be called, put in place over the topmost instance's.
-ghost use Rattle.std.specs.Prelude.{◌≡◌, true, false, map};
+ghost use Rattle.std.specs.Prelude.{◌≡◌, ◌∷◌, [], true, false, map};
+ghost use Rattle.meaning.specs.Tables.{Tables as TableList};
 ghost use Rattle.linked_program.specs.CodeView.{expression as plain};
+ghost use Rattle.linked_program.specs.Linked.{slot};
+ghost use Rattle.evaluation.specs.Slots.{slots_for};
+ghost use Rattle.positions.specs.Layers.{PlainLayer};
 ghost use Rattle.evaluation.specs.Values.{entry_at};
 ghost use Rattle.activations.specs.Slots.{laid_over};
 ghost use Rattle.layers.specs.Ends.{HasNoted};
-ghost use Rattle.own_statements.specs.Fills.{Fills};
+ghost use Rattle.own_statements.specs.Fills.{Fills, first_has};
 
 use activations::activation::Activation;
 use evaluation::slot::Slot;
@@ -61,6 +65,75 @@ fn fill_over<V: View>(
     }
 }
 
+/// The slot at a place of an instance that is entered with that number alone.
+#[inline(always)]
+fn first_has(place: usize, number: i64) -> Slot
+    ensures slot { result ≡ first_has place number }
+{
+    if place == 0 {
+        Slot::Has(number)
+    } else {
+        Slot::Unset
+    }
+}
+
+/// Puts the slots of an instance of `size` names that is entered with that number alone in place of as many others; whether there
+/// are as many.
+#[inline(always)]
+fn put_number(child: &mut Activation, size: usize, number: i64) -> bool
+    ensures put { result ≡ true → child.new.slots ≡ slots_for size (number ∷ []) }
+{
+    if size == 0 || child.slots().len() != size {
+        return false;
+    }
+    for place in 0..size {
+        child.bind(Some(place), first_has(place, number));
+    }
+    true
+}
+
+/// Whether the only argument is that slot.
+#[inline(always)]
+fn is_slot(arguments: &[Expression], variable: usize) -> bool
+    ensures is { result ≡ true → map plain arguments.now ≡ slot variable ∷ [] }
+{
+    if arguments.len() != 1 {
+        return false;
+    }
+    let first = &arguments[0];
+    match first {
+        Expression::Slot(number) => *number == variable,
+        _ => false,
+    }
+}
+
+/// Puts the slots of an instance in place where its only argument is the slot that holds a number meanwhile, and the child has as
+/// many slots already, as in all iterations of most loops but the first; whether that was done.
+#[inline(always)]
+fn fill_counted(
+    child: &mut Activation,
+    top: &Activation,
+    meanwhile: Option<(usize, Slot)>,
+    size: usize,
+    arguments: &[Expression],
+) -> bool
+    ensures filled { result ≡ true → (ts : TableList) (l : PlainLayer)
+        → Fills (entry_at ts (laid_over meanwhile top.now.slots) size (map plain arguments.now)) child.new.slots l l }
+{
+    match meanwhile {
+        None => false,
+        Some((variable, held)) => match held {
+            Slot::Has(number) => {
+                if !is_slot(arguments, variable) || top.slots().len() <= variable {
+                    return false;
+                }
+                put_number(child, size, number)
+            }
+            _ => false,
+        },
+    }
+}
+
 /// Whether the slots of an instance were put in place so; where they weren't, nothing is noted.
 #[inline(always)]
 pub fn fills<V: View>(
@@ -77,6 +150,9 @@ pub fn fills<V: View>(
     ensures unchanged { result ≡ false → layer.new ≡ layer.old }
     ensures top { top.new ≡ top.old }
 {
+    if fill_counted(child, top, meanwhile, size, arguments) {
+        return true;
+    }
     let before = layer.readings();
     match fill_over(layer, child, top, meanwhile, size, arguments, tables) {
         Ok(()) => true,
