@@ -20,12 +20,26 @@ use Rattle.right_strands.specs.Rightness.{Pushed, FitsHere, IsRightTask}
 use Rattle.stealing_deques.specs.declared.entry.Spot.{Spot}
 use Rattle.stealing_deques.specs.Order.{spot, GoesOn, IsBoundTo}
 use Rattle.worker_seats.specs.Spots.{numbers_of, lowest_name, spot_of, bottom_of, own_spot, child_spot, HasReturned}
+use Rattle.threaded_driver.specs.declared.found.Found.{Found}
+use Rattle.threaded_driver.specs.declared.found.Found.TheVariants.{Left, Nothing, Own, Folded, Stolen}
+use Rattle.threaded_driver.specs.Finds.{IsAt}
 use Rattle.threaded_driver.proofs.Names.{under, alone, goes_on}
 use Rattle.threaded_driver.proofs.Staying.{stays}
 
 -- bound to that spot
 pub bound_to : (here : Option Spot) (there x : Spot) → here ≡ Some there → x ≡ there → IsBoundTo here x
 bound_to here there x e h = subst (λ (o : Option Spot). IsBoundTo o x) (sym e) h
+
+-- an owner that is bound to nothing is at any spot
+pub unbound : (here : Option Spot) (x : Spot) → here ≡ None → IsBoundTo here x
+unbound here x e = subst (λ (o : Option Spot). IsBoundTo o x) (sym e) tt
+
+pub unbound_at : {J V : Type 0} (here : Option Spot) (f : Found J V) → here ≡ None → IsAt here f
+unbound_at here Left e = tt
+unbound_at here Nothing e = e
+unbound_at here (Own s) e = unbound here (spot_of s.strand) e
+unbound_at here (Folded s) e = unbound here (spot_of s.strand) e
+unbound_at here (Stolen s) e = unbound here (spot_of s.strand) e
 
 -- ---- a child that has returned
 

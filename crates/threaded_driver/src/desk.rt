@@ -273,6 +273,10 @@ impl<J: Run + Ledger + Stocked + Send, D: Deques, V: View> Desk<J, D, V> {
                 Found::Nothing
             };
         }
+        // A strand that is the only one has no neighbour.
+        if self.table.book.strands().len() < 2 {
+            return self.steal(alloc, scene, worker);
+        }
         match self.fold(alloc, scene, worker) {
             Some(found) => found,
             None => self.steal(alloc, scene, worker),
@@ -293,7 +297,9 @@ impl<J: Run + Ledger + Stocked + Send, D: Deques, V: View> Desk<J, D, V> {
         true
     }
 
-    /// Folds the first neighbours that may be folded, if there are any.
+    /// Folds the first neighbours that may be folded, if there are any. It is no part of who looks for a strand, mostly in vain: the room
+    /// for what it moves would be cleared at each look.
+    #[inline(never)]
     fn fold(&mut self, alloc: Global, scene: &Scene<'_, J>, worker: usize) -> Option<Found<J, V>>
         requires none_left { self.old.left ≡ 0 }
         requires going { self.old.failure ≡ None }

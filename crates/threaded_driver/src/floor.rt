@@ -15,7 +15,7 @@ ghost use Rattle.sync_fold.specs.Counts.{kits_of};
 ghost use Rattle.worker_seats.specs.Balances.{most};
 ghost use Rattle.worker_seats.specs.Histories.{HasHistory};
 ghost use Rattle.worker_seats.specs.Ends.{IsAlone, IsEnd};
-ghost use Rattle.threaded_driver.specs.Finds.{is_left};
+ghost use Rattle.threaded_driver.specs.Finds.{is_left, IsAt};
 ghost use Rattle.sync_fold.specs.Refusals.{WasRefused, is_apart};
 ghost use Rattle.worker_seats.specs.Over.{is_far, is_refusal, is_right};
 ghost use Rattle.worker_seats.specs.Spots.{spot_of, own_spot, child_spot, HasReturned};
@@ -56,21 +56,27 @@ use worker_seats::supply::Supply;
 /// How many times a worker goes ahead before it looks whether the run has given up.
 const STEPS: usize = 64;
 
+/// The same of the first worker while it is alone.
+const FEW: usize = 8;
+
 /// What contracts see of a floor: with how many kits its run began.
 pub struct PlainFloor {
     pub kits: usize,
 }
 
 /// What the workers of a run share. The run began with so many free kits. That it gave up stands beside the lock too, where workers look
-/// that go on without it: they stop earlier then, and nothing else rests on it. The bell is for those without a strand.
+/// that go on without it: they stop earlier then, and nothing else rests on it. So does whether the first worker is alone still. The
+/// bell is for those without a strand.
 #[derive(Drop)]
 pub struct Floor<'a, J: Run + Ledger + Stocked + Send, D: Deques, V: View> {
     alloc: Global,
     scene: Scene<'a, J>,
-    desk: CachePadded<Mutex<Desk<J, D, V>>>,
+    pub(crate) desk: CachePadded<Mutex<Desk<J, D, V>>>,
     gave_up: AtomicBool,
+    pub(crate) is_alone: AtomicBool,
     bell: CachePadded<Bell>,
     kits: usize,
+    pub(crate) has_records: bool,
 }
 
 impl<'a, J: Run + Ledger + Stocked + Send, D: Deques, V: View> Model for Floor<'a, J, D, V> {
@@ -84,49 +90,28 @@ impl<'a, J: Run + Ledger + Stocked + Send, D: Deques, V: View> Model for Floor<'
     ghost invariant = { λ f. f.kits ≡ J.begun };
 }
 
-/// One worker's life: it leaves where the run is over.
-pub fn work<J, D, V, R, G>(
-    rt: &R,
-    floor: &Floor<'_, J, D, V>,
-    seat: Seat<J, D>,
-    gate: &G,
-) -> Seat<J, D>
-where
-    J: Run + Ledger + Stocked + Send,
-    D: Deques,
-    V: View,
-    R: Wait,
-    G: Gate,
-    ensures left { 0 < result.left }
-{
-    let mut seat = seat;
-    let (number, first) = floor.desk.lock(rt).come(seat.deque());
-    floor.drain(rt, &mut seat);
-    if let Some(held) = first {
-        floor.go_on(rt, number, &mut seat, held, gate);
+impl<J: Run + Ledger + Stocked + Send, D: Deques, V: View> Floor<'_, J, D, V> {
+    /// What workers without a strand wait by.
+    pub(crate) fn bell(&self) -> &Bell {
+        &self.bell
     }
-    let listener = floor.bell.listener();
-    listener.listen();
-    for _ in rt.forever() {
-        match floor.find(rt, number, &mut seat, gate) {
-            Found::Left => {
-                floor.bell.end();
-                return seat;
-            }
-            Found::Nothing => listener.wait(rt),
-            Found::Folded(held) | Found::Stolen(held) => {
-                listener.leave();
-                floor.go_on(rt, number, &mut seat, held, gate);
-                listener.listen();
-            }
+
+    /// A worker comes, and empties its deque: its number, from 0 on, and the first strand for the first one.
+    #[tactic(auto, using(crate::proofs::Binding::unbound_at))]
+    pub(crate) fn come<R: Wait>(&self, rt: &R, seat: &mut Seat<J, D>) -> (usize, Found<J, V>)
+        ensures left { is_left result.1 ≡ false }
+        ensures here { IsAt seat.new.here result.1 }
+    {
+        let (number, first) = self.desk.lock(rt).come(seat.deque());
+        self.drain(rt, seat);
+        match first {
+            Some(held) => (number, Found::Own(held)),
+            None => (number, Found::Nothing),
         }
     }
-    unreachable!()
-}
 
-impl<J: Run + Ledger + Stocked + Send, D: Deques, V: View> Floor<'_, J, D, V> {
     /// What there is for a worker without a strand.
-    fn find<R: Wait, G: Gate>(
+    pub(crate) fn find<R: Wait, G: Gate>(
         &self,
         rt: &R,
         number: usize,
@@ -166,7 +151,7 @@ impl<J: Run + Ledger + Stocked + Send, D: Deques, V: View> Floor<'_, J, D, V> {
     }
 
     /// Goes on with a strand until there is nothing more to do with it, and lays it down.
-    fn go_on<R: Wait, G: Gate>(
+    pub(crate) fn go_on<R: Wait, G: Gate>(
         &self,
         rt: &R,
         number: usize,
@@ -174,7 +159,7 @@ impl<J: Run + Ledger + Stocked + Send, D: Deques, V: View> Floor<'_, J, D, V> {
         held: Held<J, V>,
         gate: &G,
     )
-        requires fresh { seat.old.here ≡ None }
+        requires bound { IsBoundTo seat.old.here (spot_of held.strand) }
         ensures fresh { seat.new.here ≡ None }
     {
         let (strand, share) = held.into_parts();
@@ -189,7 +174,7 @@ impl<J: Run + Ledger + Stocked + Send, D: Deques, V: View> Floor<'_, J, D, V> {
     }
 
     /// Small steps, and what there is to do where the strand pauses. Whether the strand goes on.
-    fn step<R: Wait, G: Gate>(
+    pub(crate) fn step<R: Wait, G: Gate>(
         &self,
         rt: &R,
         number: usize,
@@ -228,8 +213,10 @@ impl<J: Run + Ledger + Stocked + Send, D: Deques, V: View> Floor<'_, J, D, V> {
     {
         supply.begin();
         let is_watched = gate.watches_updates();
-        for _ in 0..STEPS {
-            self.go_ahead(number, is_watched, strand, gate)?;
+        let is_alone = self.is_alone.load(Ordering::Relaxed);
+        let steps = if is_alone { FEW } else { STEPS };
+        for _ in 0..steps {
+            self.go_ahead(number, is_watched, is_alone, strand, gate)?;
             match strand.advance(self.alloc, &self.scene, supply)? {
                 Paused::Working => {}
                 paused => return Ok(paused),
@@ -238,14 +225,27 @@ impl<J: Run + Ledger + Stocked + Send, D: Deques, V: View> Floor<'_, J, D, V> {
         Ok(Paused::Working)
     }
 
+    /// Small steps that need no kit, where others work too: they may take long.
+    #[inline(always)]
+    #[tactic(auto, using(crate::proofs::Staying::stays_along))]
+    fn run_ahead(&self, is_alone: bool, strand: &mut RightStrand<J, V>)
+        ensures spot { spot_of strand.new.strand ≡ spot_of strand.old.strand }
+        ensures lower { strand.new.strand.lower ≡ strand.old.strand.lower }
+    {
+        if !is_alone {
+            strand.run_ahead(self.alloc, &self.scene);
+        }
+    }
+
     /// Small steps that need no kit, and iterations that records answer; where updates are watched none, and the gate is told of an
     /// update that is next. Want of memory is the only error.
     #[inline(always)]
-    #[tactic(auto, using(crate::proofs::Staying::stays_along, crate::proofs::Staying::stays_way))]
+    #[tactic(auto, using(crate::proofs::Staying::stays_way))]
     fn go_ahead<G: Gate>(
         &self,
         number: usize,
         is_watched: bool,
+        is_alone: bool,
         strand: &mut RightStrand<J, V>,
         gate: &G,
     ) -> Result<(), AllocError>
@@ -258,7 +258,7 @@ impl<J: Run + Ledger + Stocked + Send, D: Deques, V: View> Floor<'_, J, D, V> {
             }
             return Ok(());
         }
-        strand.run_ahead(self.alloc, &self.scene);
+        self.run_ahead(is_alone, strand);
         let _ = strand.answer_ahead(self.alloc, &self.scene)?;
         Ok(())
     }
@@ -374,7 +374,7 @@ impl<J: Run + Ledger + Stocked + Send, D: Deques, V: View> Floor<'_, J, D, V> {
 
     /// Lays a strand down, once its worker's deque is empty; the kit that is kept for it goes home. Where it isn't at a point to lie at, for want of
     /// memory, the run gives up.
-    fn lay<R: Wait, G: Gate>(
+    pub(crate) fn lay<R: Wait, G: Gate>(
         &self,
         rt: &R,
         number: usize,
@@ -480,8 +480,10 @@ impl<'a, J: Run + Ledger + Stocked + Send, D: Deques, V: View> Floor<'a, J, D, V
                     scene,
                     desk: CachePadded::new(Mutex::new(desk)),
                     gave_up: AtomicBool::new(false),
+                    is_alone: AtomicBool::new(false),
                     bell: CachePadded::new(Bell::new()),
                     kits,
+                    has_records: !records.is_empty(),
                 };
                 Ok((floor, seats))
             }
@@ -497,8 +499,8 @@ impl<'a, J: Run + Ledger + Stocked + Send, D: Deques, V: View> Floor<'a, J, D, V
         self.desk.into_inner().into_inner().into_pool().into_pool()
     }
 
-    /// The answer of a run that all workers have left, the kits that are home, the new records of a run that has finished, and what
-    /// changed the list of strands. The error is that the list refused a worker.
+    /// The answer of a run that the workers on these seats have left, and which none borrows any more; the kits that are home, the
+    /// new records of a run that has finished, and what changed the list of strands. The error is that the list refused a worker.
     pub fn finish(
         self,
         seats: Vec<Seat<J, D>>,

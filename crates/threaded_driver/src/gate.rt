@@ -11,7 +11,8 @@ pub enum Point {
     Update,
 }
 
-/// Watches the workers, and may hold them. It changes nothing of the run.
+/// Watches the workers, and may hold them. It changes nothing of the run. One that isn't told of updates may not hold the first worker
+/// for another: that one may be alone at first, and the others are started later.
 pub trait Gate: Sync {
     /// The worker of that number has come to that point.
     fn at(&self, worker: usize, point: Point);

@@ -1,15 +1,18 @@
 //! Runs of a session's program by threads: one lock over the list of strands and the pool of kits, and deques outside of it.
 #![tactic(auto)]
 
+mod alone;
 mod bell;
 mod desk;
 mod floor;
 mod found;
 pub mod gate;
+mod life;
 pub mod run;
 
-pub use floor::{Floor, PlainFloor, work};
+pub use floor::{Floor, PlainFloor};
 pub use gate::{Gate, NoGate, Point};
+pub use life::work;
 pub use numbered_runs::refusal::StartError;
 pub use right_strands::run::Run;
 pub use run::run_threads;

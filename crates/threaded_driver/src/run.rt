@@ -13,12 +13,15 @@ ghost use Rattle.run_terms.specs.Come.{HasCome, HasEnded};
 ghost use Rattle.worker_seats.specs.Histories.{HasHistory};
 ghost use Rattle.worker_seats.specs.Ends.{IsEnd};
 ghost use Rattle.threaded_driver.specs.Ends.{IsEndFor};
+ghost use Rattle.threaded_driver.specs.Finds.{is_left, IsAt};
 ghost use Rattle.sync_fold.specs.Refusals.{WasRefused, is_apart};
 ghost use Rattle.worker_seats.specs.Over.{is_refusal};
 ghost use Rattle.strand_list.specs.declared.error.BookError.TheVariants as error;
 
-use crate::floor::{Floor, work};
+use crate::floor::Floor;
+use crate::found::Found;
 use crate::gate::Gate;
+use crate::life::{live, work};
 use frames::answer::RunAnswer;
 use input_tables::Tables;
 use kept_session::Session;
@@ -221,7 +224,7 @@ where
     }
 }
 
-/// A thread for each seat, until all have left.
+/// How a run has ended, and the pool: its first worker goes on by itself at first, and then a thread is started for each other seat.
 fn run_floor<J, D, V, R, G>(
     rt: &R,
     alloc: Global,
@@ -244,17 +247,90 @@ where
     ensures kinds { All (λ k. k ≡ J.setting.kinds) result.1.kits }
     ensures total { result.1.total ≡ J.total }
 {
-    let shared = &floor;
-    let life = |seat: Seat<J, D>| -> Seat<J, D>
-        ensures { 0 < result.left }
-    { work(rt, shared, seat, gate) };
-    match thread::map_vec(rt, seats, &life) {
-        Ok(seats) => finish(floor, seats),
-        Err(AllocError) => (Ok(Ended::without_memory(alloc)), floor.into_pool()),
+    let mut left = Vec::new(alloc);
+    if left.reserve(1).is_err() {
+        return (Ok(Ended::without_memory(alloc)), floor.into_pool());
+    }
+    let mut seats = seats;
+    match seats.pop() {
+        Some(seat) => left.push_reserved(lead(rt, &floor, seat, seats, gate)),
+        None => unreachable!(),
+    }
+    finish(floor, left)
+}
+
+/// The first worker's life on that seat. The others are started where the run isn't over after its first goes.
+fn lead<J, D, V, R, G>(
+    rt: &R,
+    floor: &Floor<'_, J, D, V>,
+    seat: Seat<J, D>,
+    others: Vec<Seat<J, D>>,
+    gate: &G,
+) -> Seat<J, D>
+where
+    J: Run + Ledger + Stocked + Send + Sync,
+    D: Deques + Send + Sync,
+    V: View + Send,
+    R: Threads + Wait + Sync,
+    G: Gate,
+    ensures left { 0 < result.left }
+{
+    if others.is_empty() {
+        return work(rt, floor, seat, gate);
+    }
+    let mut seat = seat;
+    let (number, found) = floor.begin(rt, &mut seat, gate);
+    match found {
+        Found::Left => seat,
+        found => live_beside(rt, floor, number, seat, found, others, gate),
     }
 }
 
-/// How a run has ended that all workers have left, and the pool.
+/// The same from what it has found on, beside the others.
+fn live_beside<J, D, V, R, G>(
+    rt: &R,
+    floor: &Floor<'_, J, D, V>,
+    number: usize,
+    seat: Seat<J, D>,
+    found: Found<J, V>,
+    others: Vec<Seat<J, D>>,
+    gate: &G,
+) -> Seat<J, D>
+where
+    J: Run + Ledger + Stocked + Send + Sync,
+    D: Deques + Send + Sync,
+    V: View + Send,
+    R: Threads + Wait + Sync,
+    G: Gate,
+    requires left { is_left found ≡ true → 0 < seat.left }
+    requires here { IsAt seat.here found }
+    ensures left { 0 < result.left }
+{
+    let (_, seat) = thread::join(
+        rt,
+        move || start(rt, floor, others, gate),
+        move || -> Seat<J, D>
+            requires { (is_left found ≡ true → 0 < seat.left) × IsAt seat.here found }
+            ensures { 0 < result.left }
+        { live(rt, floor, number, seat, found, gate) },
+    );
+    seat
+}
+
+/// A thread for each of the other seats, until all have left. Where memory is refused there are less of them.
+fn start<J, D, V, R, G>(rt: &R, floor: &Floor<'_, J, D, V>, seats: Vec<Seat<J, D>>, gate: &G)
+where
+    J: Run + Ledger + Stocked + Send + Sync,
+    D: Deques + Send + Sync,
+    V: View + Send,
+    R: Threads + Wait + Sync,
+    G: Gate,
+{
+    let life = |seat: Seat<J, D>| -> Seat<J, D> { work(rt, floor, seat, gate) };
+    let _ = thread::map_vec(rt, seats, &life);
+}
+
+/// How a run has ended that the workers on these seats have left, and the pool.
 fn finish<J: Run + Ledger + Stocked + Send, D: Deques, V: View>(
     floor: Floor<'_, J, D, V>,
     seats: Vec<Seat<J, D>>,
