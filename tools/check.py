@@ -7,7 +7,8 @@ usage: tools/check.py CRATE [FLAGS OF rattle check ..]   proves the crate: --onl
        tools/check.py CRATE --edits [EDIT ..]            tries its must-fail edits: each has to be refused
        tools/check.py CRATE --plant [FLAGS OF rt plant]  lists the wrong bodies that its contracts let through
        tools/check.py --type CRATE ..                    reads the crates and their tests from sources: types and borrows
-       tools/check.py --take FOLDER LOG                  keeps the libraries that `rt ci` has proved in that clone by now, by what it printed
+       tools/check.py --beside FOLDER LOG                stays beside `rt ci` in that clone until its log ends, and keeps what it proves: its
+                                                         libraries, and its modules, so that no crate's first check here begins from nothing
 
 Libraries below that aren't kept yet are proved first. They are kept in $HEARTSPLUM_LIBRARIES, or ~/.cache/heartsplum, by
 the sum of the sources that they are made of; rt's own checks know nothing of them. $HEARTSPLUM_JOBS says how many
@@ -16,6 +17,7 @@ itself stays in the crate's folder out/, so a check again takes seconds. None of
 It works by what this kit's rt is made of, and says so where that is otherwise.
 """
 import fcntl
+import glob
 import importlib.machinery
 import importlib.util
 import os
@@ -23,6 +25,7 @@ import re
 import shutil
 import sys
 import tempfile
+import time
 
 TOP = os.path.dirname(os.path.dirname(os.path.realpath(__file__)))
 KEPT_IN = os.environ.get("HEARTSPLUM_LIBRARIES", os.path.expanduser("~/.cache/heartsplum"))
@@ -73,6 +76,7 @@ def make(crate):
         if os.path.isdir(crate.rlib):
             return 0
         print(f"making the library {crate.name}", flush=True)
+        begin_with_kept(crate)
         made = tempfile.mkdtemp(dir=os.path.dirname(room))
         words = [*crate.words(JOBS, keeps=False), *rtlib.KEPT]
         status = crate.call(rtlib.RATTLE, "build", *words, "-o", f"{made}/{file}")
@@ -97,6 +101,52 @@ def take(folder, log):
             os.rename(f"{room}.new", room)
             print(f"took the library {name}", flush=True)
     return 0
+
+
+def keep_modules(folder, seen):
+    """Keeps the modules that checks in a clone have saved by now: rattle has them in a folder of its own, and drops it at its end."""
+    for its in glob.glob(f"{tempfile.gettempdir()}/rattle-logic-built-locked-*"):
+        process = its.split("-")[-2]
+        try:
+            with open(f"/proc/{process}/cmdline", encoding="utf-8", errors="replace") as file:
+                words = file.read().split("\0")
+            at = os.readlink(f"/proc/{process}/cwd")
+            if not at.startswith(f"{folder}/crates/") or "--crate-name" not in words:
+                continue
+            kept = f"{KEPT_IN}/{words[words.index('--crate-name') + 1]}/modules"
+            os.makedirs(kept, exist_ok=True)
+            for entry in os.scandir(its):
+                if entry.path not in seen and entry.name.endswith(".oantt"):
+                    if os.path.exists(f"{kept}/{entry.name}"):
+                        os.remove(f"{kept}/{entry.name}")
+                    os.link(entry.path, f"{kept}/{entry.name}")
+                    seen.add(entry.path)
+        except OSError:
+            continue
+
+
+def beside(folder, log):
+    """Keeps libraries and modules of `rt ci` in a clone until its log ends."""
+    seen = set()
+    while True:
+        for _ in range(60):
+            keep_modules(folder, seen)
+            time.sleep(0.5)
+        take(folder, log)
+        with open(log, "rb") as file:
+            if re.search(rb"^\d+ passed, \d+ failed", file.read().splitlines()[-1]):
+                return 0
+
+
+def begin_with_kept(crate):
+    """Has a check of the crate begin with the modules that are kept, where it hasn't its own."""
+    rooms = glob.glob(f"{TOP}/crates/*/{rtlib.KEPT[1]}/antt-checked-*")
+    if rooms and os.path.isdir(f"{KEPT_IN}/{crate.name}/modules"):
+        room = f"{crate.folder}/{rtlib.KEPT[1]}/{os.path.basename(rooms[0])}"
+        os.makedirs(room, exist_ok=True)
+        for entry in os.scandir(f"{KEPT_IN}/{crate.name}/modules"):
+            if not os.path.exists(f"{room}/{entry.name}"):
+                os.link(entry.path, f"{room}/{entry.name}")
 
 
 def typed(crate):
@@ -142,13 +192,14 @@ def main(words):
     keeps_libraries(rtlib.Crate)
     if words[0] == "--type":
         return max([typed(crate_of(name)) for name in words[1:]], default=0)
-    if words[0] == "--take":
+    if words[0] == "--beside":
         folder, log = map(os.path.realpath, words[1:3])
         os.chdir(folder)
-        return take(folder, log)
+        return beside(folder, log)
     crate, flags = crate_of(words[0]), words[1:]
     if any(make(below) for below in crate.below()):
         return 1
+    begin_with_kept(crate)
     verb, rest = (flags[0], flags[1:]) if flags else ("", [])
     if verb == "--edits":
         return edits(crate, rest)
