@@ -33,6 +33,7 @@ pub fn copy_of(alloc: Global, value: &Val) -> Result<Val, AllocError>
 }
 
 /// The same of a value of any form.
+#[inline(never)]
 fn copied(alloc: Global, value: &Val) -> Result<Val, AllocError>
     ensures { IfOk result (λ v. meaning v ≡ meaning value.now) }
 {

@@ -131,25 +131,36 @@ fn combine_lines(left: &Val, right: &Val) -> Val
     )
 }
 
+/// Puts a value in place of one of another form.
+#[inline(never)]
+pub(crate) fn put(value: &mut Val, new: Val)
+    ensures { meaning value.new ≡ meaning new }
+{
+    *value = new;
+}
+
 /// Combines a number on the right of a value of a kind of numbers, in its place.
 #[inline(always)]
-fn put_number(kind: &Kind, held: &mut Val, number: i64)
+pub(crate) fn put_number(kind: &Kind, held: &mut Val, number: i64)
     ensures { (y : Worth) → number ≡ the_number y → IsNumberKind kind.now → meaning held.new ≡ operate kind.now (meaning held.old) y }
 {
     match held {
         Val::Int(value) => *value = combine_numbers(kind, *value, number),
-        other => *other = Val::Int(combine_numbers(kind, number_of(other), number)),
+        other => put(
+            other,
+            Val::Int(combine_numbers(kind, number_of(other), number)),
+        ),
     }
 }
 
 /// Combines a pair on the right of a value, in its place: the better one stays.
 #[inline(always)]
-fn put_best(held: &mut Val, more: Option<(i64, i64)>)
+pub(crate) fn put_best(held: &mut Val, more: Option<(i64, i64)>)
     ensures { meaning held.new ≡ best (better (the_best (meaning held.old)) more) }
 {
     match held {
         Val::Arg(held) => *held = better(*held, more),
-        other => *other = Val::Arg(better(best_of(other), more)),
+        other => put(other, Val::Arg(better(best_of(other), more))),
     }
 }
 

@@ -7,7 +7,7 @@ ghost use Rattle.reducer_values.specs.Forms.{kept, is_fixed, IsListKind};
 
 use crate::adding::add_amount;
 use crate::elements::{one_amount, one_number};
-use crate::fixed::{combine_fixed, combine_numbers, number_of};
+use crate::fixed::{combine_fixed, combine_numbers, number_of, put};
 use crate::{InjectError, Kind, Val, combine, inject};
 use std::alloc::{AllocError, Global};
 
@@ -97,14 +97,6 @@ fn add_at_key(alloc: Global, value: &mut Val, key: i64, amount: i64) -> Result<(
             }
         }
     }
-}
-
-/// Puts a value in place of one of another form.
-#[inline(never)]
-fn put(value: &mut Val, new: Val)
-    ensures { meaning value.new ≡ meaning new }
-{
-    *value = new;
 }
 
 /// Combines a number on the right of a value of a kind of numbers.
