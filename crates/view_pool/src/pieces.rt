@@ -59,6 +59,7 @@ fn join_short(kind: &Kind, left: &mut Val, right: &Val) -> bool
 }
 
 /// Makes `left` the two combined, of a kind whose values may be kept in pieces.
+#[inline(never)]
 fn combine_long(alloc: Global, kind: &Kind, left: &mut Val, right: Val) -> Result<(), Val>
     requires left_value { IsWorth kind.now (meaning left.old) }
     requires right_value { IsWorth kind.now (meaning right) }
@@ -76,6 +77,7 @@ fn combine_long(alloc: Global, kind: &Kind, left: &mut Val, right: Val) -> Resul
 }
 
 /// Makes `left` the two combined, left then right; where memory is refused, hands `right` back. Pieces stay pieces.
+#[inline(always)]
 pub(crate) fn combine_in_pieces(
     alloc: Global,
     kind: &Kind,
@@ -124,8 +126,21 @@ pub(crate) fn add_in_pieces(
     }
 }
 
-/// A value worth the same, in the same pieces. Want of memory is the only error.
+/// A value worth the same, in the same pieces. Want of memory is the only error. Numbers and best pairs are quickest.
+#[inline(always)]
 pub(crate) fn copy_in_pieces(alloc: Global, value: &Val) -> Result<Val, AllocError>
+    ensures { IfOk result (λ v. meaning v ≡ meaning value.now) }
+{
+    match value {
+        Val::Int(number) => Ok(Val::Int(*number)),
+        Val::Arg(best) => Ok(Val::Arg(*best)),
+        other => copied_in_pieces(alloc, other),
+    }
+}
+
+/// The same of a value of any form.
+#[inline(never)]
+fn copied_in_pieces(alloc: Global, value: &Val) -> Result<Val, AllocError>
     ensures { IfOk result (λ v. meaning v ≡ meaning value.now) }
 {
     match value {
