@@ -1,7 +1,7 @@
 -- A layer of which one reducer after another is emptied.
-use Rattle.std.specs.Prelude.{◌≡◌, ◌≢◌, ℕ, zero, suc, ◌<◌, List, [], ◌∷◌, length, false, ◌||◌, nat_eq, refl, Some, None}
+use Rattle.std.specs.Prelude.{◌≡◌, ◌≢◌, ℕ, zero, suc, ◌<◌, ◌≤◌, ◌+◌, List, [], ◌∷◌, length, drop, All, Bool, true, false, ◌||◌, nat_eq, refl, Some}
 use Rattle.std.specs.List.{list_any, slice_get, remove}
-use Rattle.std.proofs.Common.{sym, ◌∙◌, ap, subst, arith, get_or, set}
+use Rattle.std.proofs.Common.{sym, ◌∙◌, ap, subst, arith, get_or, set, add-one}
 use Rattle.std.proofs.lemmas.List.{get_or-set_other, get_or-set_same}
 use Rattle.std.proofs.lemmas.List.Elements.{All-head, All-tail, All-nil}
 use Rattle.std.proofs.lemmas.Grind.{common_steps}
@@ -65,15 +65,54 @@ IsLayer-none (c ∷ cs) (w ∷ ws) l =
       below = All-nil _;
     }))
 
-pub none_used : (used : List ℕ) → slice_get used 0 ≡ None → used ≡ []
-none_used [] e = refl
-none_used (u ∷ us) e = cc
+-- the reducers that are left, with the first of them emptied
+emptied_suc : (cs : List Kind) (ws : List Worth) (used : List ℕ) (i r : ℕ) (c : Kind) → IsLayer cs ws (drop i used) → i < length used → r ≡ get_or used i r
+    → c ≡ get_or cs r c → IsLayer cs (set ws r (identity_of c)) (drop (suc i) used)
+emptied_suc cs ws [] i r c l h e f = absurd (omega arith)
+emptied_suc cs ws (u ∷ us) zero r c l h e f = IsLayer-emptied cs ws (u ∷ us) r c l (ap Some (sym e)) f
+emptied_suc cs ws (u ∷ us) (suc i) r c l h e f = emptied_suc cs ws us i r c l (omega arith) e f
+
+pub emptied_next : (cs : List Kind) (ws : List Worth) (used : List ℕ) (i r : ℕ) (c : Kind) → IsLayer cs ws (drop i used) → i < length used → r ≡ get_or used i r
+    → c ≡ get_or cs r c → IsLayer cs (set ws r (identity_of c)) (drop (i + 1) used)
+emptied_next cs ws used i r c l h e f = rw (add-one i) (emptied_suc cs ws used i r c l h e f)
+
+pub same_read : (xs : List ℕ) (i d e : ℕ) → i < length xs → get_or xs i d ≡ get_or xs i e
+same_read [] i d e h = absurd (omega arith)
+same_read (x ∷ xs) zero d e h = refl
+same_read (x ∷ xs) (suc i) d e h = same_read xs i d e (omega arith)
+
+pub next_within : (cs : List Kind) (ws : List Worth) (used : List ℕ) (i r : ℕ) → IsLayer cs ws (drop i used) → i < length used → r ≡ get_or used i r → r < length cs
+next_within cs ws [] i r l h e = absurd (omega arith)
+next_within cs ws (u ∷ us) zero r l h e = subst (λ n. n < length cs) (sym e) (All-head (λ n. n < length cs) u us l.below)
+next_within cs ws (u ∷ us) (suc i) r l h e = next_within cs ws us i r l (omega arith) e
+
+or_right : (a b : Bool) → (a || b) ≡ false → b ≡ false
+or_right true b h = cc
+or_right false b h = h
+
+none_dropped : (q : ℕ → Bool) (n : ℕ) (xs : List ℕ) → list_any q xs ≡ false → list_any q (drop n xs) ≡ false
+none_dropped q zero xs h = h
+none_dropped q (suc n) [] h = refl
+none_dropped q (suc n) (x ∷ xs) h = none_dropped q n xs (or_right (q x) (list_any q xs) h)
+
+-- where fewer are in use than noted
+pub IsLayer-more : (cs : List Kind) (ws : List Worth) (used : List ℕ) (n : ℕ) → IsLayer cs ws (drop n used) → All (λ i. i < length cs) used → IsLayer cs ws used
+IsLayer-more cs ws used n l below = record {
+  right = l.right;
+  shut = λ i c w h p q e. l.shut i c w h p q (none_dropped (nat_eq i) n used e);
+  below = below;
+}
+
+all_dropped : (n : ℕ) (used : List ℕ) → length used ≤ n → drop n used ≡ []
+all_dropped zero [] h = refl
+all_dropped (suc n) [] h = refl
+all_dropped zero (u ∷ us) h = absurd (omega arith)
+all_dropped (suc n) (u ∷ us) h = all_dropped n us (omega arith)
+
+pub IsLayer-over : (cs : List Kind) (ws : List Worth) (used : List ℕ) (n : ℕ) → IsLayer cs ws (drop n used) → length used ≤ n → IsLayer cs ws []
+IsLayer-over cs ws used n l h = subst (IsLayer cs ws) (all_dropped n used h) l
 
 pub exists_at : {X : Type 0} (xs : List X) (i : ℕ) → i < length xs → (x : X) × (x ≡ get_or xs i x)
 exists_at [] i h = absurd (omega arith)
 exists_at (y ∷ xs) zero h = (y, refl)
 exists_at (y ∷ xs) (suc i) h = exists_at xs i (omega arith)
-
-pub first_within : (cs : List Kind) (ws : List Worth) (used : List ℕ) (r : ℕ) → IsLayer cs ws used → slice_get used 0 ≡ Some r → r < length cs
-first_within cs ws [] r l e = cc
-first_within cs ws (u ∷ us) r l e = (let same : u ≡ r = cc in subst (λ n. n < length cs) same (All-head (λ n. n < length cs) u us l.below))

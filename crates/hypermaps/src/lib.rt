@@ -85,7 +85,7 @@ fn note_first(used: &mut Vec<usize>, reducer: usize) -> Result<bool, AllocError>
     ensures added { IfOk result (λ fresh. fresh ≡ not (list_any (nat_eq reducer) used.old.items)) }
     ensures same { OnErr result (used.new.items ≡ used.old.items) }
 {
-    if is_used(used, reducer) {
+    if is_in_order(used, reducer) || is_used(used, reducer) {
         return Ok(false);
     }
     match used.push(reducer) {
@@ -148,6 +148,31 @@ fn fold_at<V: View>(
     let l = &mut left[r];
     let q = &mut right[r];
     move_one(l, q, fresh)
+}
+
+/// Moves what the used reducers are worth on the right to the left.
+fn fold_used<V: View>(
+    left: &mut Vec<V>,
+    left_used: &mut Vec<usize>,
+    right: &mut Vec<V>,
+    used: &[usize],
+) -> Result<(), AllocError>
+    requires kinds { map V.kind_of left.old.items ≡ map V.kind_of right.old.items }
+    requires left_layer { IsLayer (map V.kind_of left.old.items) (map V.worth_of left.old.items) left_used.old.items }
+    requires right_layer { IsLayer (map V.kind_of right.old.items) (map V.worth_of right.old.items) used.now }
+    requires monoids { All IsMonoid (map V.kind_of left.old.items) }
+    ensures left_kinds { map V.kind_of left.new.items ≡ map V.kind_of left.old.items }
+    ensures right_kinds { map V.kind_of right.new.items ≡ map V.kind_of right.old.items }
+    ensures left_layer { IsLayer (map V.kind_of left.new.items) (map V.worth_of left.new.items) left_used.new.items }
+    ensures right_layer { IsLayer (map V.kind_of right.new.items) (map V.worth_of right.new.items) used.now }
+    ensures product { operate_all (map V.kind_of left.old.items) (map V.worth_of left.new.items) (map V.worth_of right.new.items)
+        ≡ operate_all (map V.kind_of left.old.items) (map V.worth_of left.old.items) (map V.worth_of right.old.items) }
+    ensures emptied { OnOk result (IsLayer (map V.kind_of right.new.items) (map V.worth_of right.new.items) []) }
+{
+    for place in 0..used.len() {
+        fold_at(left, left_used, right, used[place])?;
+    }
+    Ok(())
 }
 
 /// Combines a value on the right of what reducer `r` is worth, or hands it back.
@@ -304,7 +329,7 @@ impl<V: View> Hypermap<V> {
         ensures unused { IfOk result (λ v. IsNone v → (c : Kind) (w : Worth)
             → IsAt self.now.kinds reducer c → IsAt self.now.worths reducer w → w ≡ identity_of c) }
     {
-        if !is_used(&self.used, reducer) {
+        if !is_in_order(&self.used, reducer) && !is_used(&self.used, reducer) {
             return Ok(None);
         }
         Ok(Some(self.views[reducer].export()?))
@@ -345,10 +370,13 @@ impl<V: View> Hypermap<V> {
             ≡ operate_all self.old.kinds self.old.worths right.old.worths) }
         ensures emptied { OnOk result (right.new.worths ≡ identities self.old.kinds) }
     {
-        while let Some(r) = right.used.first().copied() {
-            fold_at(&mut self.views, &mut self.used, &mut right.views, r)?;
-            right.used.remove(0);
-        }
+        fold_used(
+            &mut self.views,
+            &mut self.used,
+            &mut right.views,
+            &right.used,
+        )?;
+        right.used.clear();
         Ok(())
     }
 }

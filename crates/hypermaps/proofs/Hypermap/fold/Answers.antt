@@ -1,40 +1,30 @@
-use Rattle.std.proofs.Common.{rules, ◌≡◌, sym, ◌∙◌, ap, subst, map, get_or, List}
-use Rattle.std.specs.Prelude.{Some, None, refl}
-use Rattle.std.specs.List.{slice_get}
+use Rattle.std.proofs.Common.{◌≡◌, sym, ◌∙◌, ap, subst, map, List}
 use Rattle.monoid_laws.specs.Worth.{Worth}
 use Rattle.monoid_laws.specs.declared.Kind.{Kind}
 use Rattle.monoid_laws.specs.Kinds.{operate_all, identities, AreWorths}
 use Rattle.monoid_laws.proofs.Rows.{operate_all_identities}
-use Rattle.hypermaps.specs.Layer.{IsLayer}
-use Rattle.hypermaps.proofs.Folds.{IsLayer-emptied, IsLayer-none, none_used, exists_at, first_within}
+use Rattle.hypermaps.specs.Layer.{Layer}
+use Rattle.hypermaps.proofs.Folds.{IsLayer-none}
 use Rattle.hypermaps.proofs.Hypermap.fold.Goals as goal
-
-pub loop-r-preserved : goal.loop-r-preserved
-loop-r-preserved g c =
-    let ks : List Kind = map g.V.View.kind_of c.loop-r.right-inside.views.items in
-    let ws : List Worth = map g.V.View.worth_of c.loop-r.right-inside.views.items in
-    let used = c.loop-r.right-inside.used.items in
-    let e : slice_get c.loop-r.right-inside.used.items 0 ≡ Some c.in-Some.r = search rules in
-    let k : (x : Kind) × (x ≡ get_or ks c.in-Some.r x) = exists_at ks c.in-Some.r (first_within ks ws used c.in-Some.r c.loop-r.invariant.right_layer e) in
-    record {
-      left_kinds = c.in_ok-fold_at.ensures.left_kinds ∙ c.loop-r.invariant.left_kinds;
-      right_kinds = c.in_ok-fold_at.ensures.right_kinds ∙ c.loop-r.invariant.right_kinds;
-      left_layer = c.in_ok-fold_at.ensures.left_layer;
-      right_layer = rw (c.remove.ensures.items, c.in_ok-fold_at.ensures.right_kinds, c.in_ok-fold_at.ensures.moved (k.0) (k.1))
-          (IsLayer-emptied ks ws used c.in-Some.r (k.0) c.loop-r.invariant.right_layer e (k.1));
-      product = rw (← c.loop-r.invariant.product, ← c.loop-r.invariant.left_kinds, ← c.in_ok-fold_at.ensures.product, c.in_ok-fold_at.ensures.left_kinds) refl;
-    }
 
 pub returns-clause-emptied : goal.returns-clause-emptied
 returns-clause-emptied g c =
-    let e : slice_get c.loop-r.right-inside.used.items 0 ≡ None = search rules in
-    IsLayer-none _ _ (subst (IsLayer _ _) (none_used _ e) c.loop-r.invariant.right_layer) ∙ ap identities (c.loop-r.invariant.right_kinds ∙ sym c.requires.kinds)
+    IsLayer-none _ _ c.in_ok-fold_used.ensures.emptied
+    ∙ ap identities (c.in_ok-fold_used.ensures.right_kinds ∙ ap (λ (l : Layer). l.kinds) c.right.view_is ∙ sym c.requires.kinds)
 
 pub returns-clause-folded : goal.returns-clause-folded
 returns-clause-folded g c =
-    let s : map g.V.View.worth_of c.loop-r.right-inside.views.items ≡ identities c.args.self.now.kinds = returns-clause-emptied g c in
-    let a : AreWorths c.args.self.now.kinds (map g.V.View.worth_of c.loop-r.self-inside.views.items) =
-    subst (λ ks. AreWorths ks (map g.V.View.worth_of c.loop-r.self-inside.views.items)) c.loop-r.invariant.left_kinds c.loop-r.invariant.left_layer.right in
-    sym (operate_all_identities c.args.self.now.kinds (map g.V.View.worth_of c.loop-r.self-inside.views.items) c.requires.monoids a)
-    ∙ ap (operate_all c.args.self.now.kinds (map g.V.View.worth_of c.loop-r.self-inside.views.items)) (sym s)
-    ∙ c.loop-r.invariant.product
+    let ks : List Kind = c.args.self.now.kinds in
+    let ls : List Worth = map g.V.View.worth_of c.fold_used.new.left.items in
+    let rs : List Worth = map g.V.View.worth_of c.fold_used.new.right.items in
+    let before : List Worth = map g.V.View.worth_of c.self.inside.views.items in
+    let behind : List Worth = map g.V.View.worth_of c.right.inside.views.items in
+    let same : map g.V.View.kind_of c.self.inside.views.items ≡ ks = ap (λ (l : Layer). l.kinds) c.self.view_is in
+    let are : AreWorths ks ls = subst (λ (cs : List Kind). AreWorths cs ls) (c.in_ok-fold_used.ensures.left_kinds ∙ same) c.in_ok-fold_used.ensures.left_layer.right in
+    sym (operate_all_identities ks ls c.requires.monoids are)
+    ∙ ap (operate_all ks ls) (sym (returns-clause-emptied g c))
+    ∙ ap (λ (cs : List Kind). operate_all cs ls rs) (sym same)
+    ∙ c.in_ok-fold_used.ensures.product
+    ∙ ap (λ (cs : List Kind). operate_all cs before behind) same
+    ∙ ap (λ (ws : List Worth). operate_all ks ws behind) (ap (λ (l : Layer). l.worths) c.self.view_is)
+    ∙ ap (operate_all ks c.args.self.now.worths) (ap (λ (l : Layer). l.worths) c.right.view_is)
