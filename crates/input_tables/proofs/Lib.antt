@@ -9,3 +9,4 @@ pub mod Orders
 pub mod PageEdits
 pub mod Paging
 pub mod Totals
+pub mod Guesses

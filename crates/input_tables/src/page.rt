@@ -1,6 +1,6 @@
 // The rows of one page.
 
-ghost use Rattle.std.specs.Prelude.{◌≡◌, ◌∷◌, ◌<◌, ◌≤◌, ℤ, [], IfOk, IfErr, OnOk, OnErr, Some, length, option_map, slice_get, slice_set};
+ghost use Rattle.std.specs.Prelude.{◌≡◌, ◌∷◌, ◌<◌, ◌≤◌, ℤ, [], IfOk, IfErr, IfSome, OnOk, OnErr, Some, length, option_map, slice_get, slice_set, true};
 ghost use Rattle.std.specs.List.{insert, remove};
 ghost use Rattle.meaning.specs.Tables.{row_of, is_there};
 ghost use Rattle.meaning.specs.Edits.{row_put, row_gone};
@@ -9,7 +9,7 @@ ghost use Rattle.input_tables.specs.Rows.{AreWide};
 ghost use Rattle.input_tables.specs.Sums.{added, without_row};
 
 use crate::cells::{cells_at, insert_row, remove_row, replace_row};
-use crate::places::{find, place_on_page};
+use crate::places::{find, place_on_page, stands_at};
 use crate::sums::{put_on, take_off};
 use std::alloc::{AllocError, Global};
 use std::marker::Model;
@@ -60,6 +60,19 @@ impl Page {
         match self.find(number) {
             Ok(place) => Some(self.values_at(place)),
             Err(_) => None,
+        }
+    }
+
+    /// The values of the row of this number, where it stands at that place.
+    #[inline(always)]
+    pub fn get_at(&self, place: usize, number: i64) -> Option<&[i64]>
+        requires { AreRising self.now }
+        ensures { IfSome result (λ values. row_of self.now number ≡ Some values.now) }
+    {
+        if self.is_at(place, number) {
+            Some(self.values_at(place))
+        } else {
+            None
         }
     }
 
@@ -134,6 +147,15 @@ impl Page {
         ensures absent { IfErr result (λ place. IsAbsent number (slice_get self.now place)) }
     {
         find(&self.numbers, number, place_on_page(number))
+    }
+
+    // Whether the row of this number stands at a place.
+    #[inline(always)]
+    fn is_at(&self, place: usize, number: i64) -> bool
+        ensures within { result ≡ true → place < length self.now }
+        ensures there { result ≡ true → IsOf number (slice_get self.now place) }
+    {
+        stands_at(&self.numbers, number, place)
     }
 
     // The values of the row at a place.

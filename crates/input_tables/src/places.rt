@@ -1,6 +1,6 @@
 // Where a number stands among entries by rising numbers, and which page covers a row.
 
-ghost use Rattle.std.specs.Prelude.{◌≡◌, ◌<◌, ◌≤◌, IfOk, IfErr, slice_get, length};
+ghost use Rattle.std.specs.Prelude.{◌≡◌, ◌<◌, ◌≤◌, IfOk, IfErr, slice_get, length, true};
 ghost use Rattle.input_tables.specs.Pages.{lower_count, page_of, AreRising, IsOf, IsAbsent};
 
 const PAGE_ROWS: i64 = 64;
@@ -25,6 +25,24 @@ pub fn place_on_page(row: i64) -> usize {
 #[inline(always)]
 pub fn place_among_pages(page: i64) -> usize {
     page.cast_unsigned() as usize
+}
+
+/// Where the page of a row stands, if those before it are all there. For a number below 0 no place is so far back.
+#[inline(always)]
+pub fn place_of_page(row: i64) -> usize {
+    row.cast_unsigned() as usize / PLACES
+}
+
+/// Whether the entry of this number stands at a place.
+#[inline(always)]
+pub fn stands_at<T>(entries: &[(i64, T)], number: i64, place: usize) -> bool
+    ensures within { result ≡ true → place < length entries.now }
+    ensures there { result ≡ true → IsOf number (slice_get entries.now place) }
+{
+    match entries.get(place) {
+        Some(entry) if entry.0 == number => true,
+        _ => false,
+    }
 }
 
 /// Where the entry of this number stands, or else where it is to be put. It is quick where the entry stands at `guess`.

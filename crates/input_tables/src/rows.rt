@@ -1,6 +1,6 @@
 // The rows of a table by their numbers.
 
-ghost use Rattle.std.specs.Prelude.{◌≡◌, pos, [], true, IfOk, OnOk, OnErr, length, option_map};
+ghost use Rattle.std.specs.Prelude.{◌≡◌, pos, [], true, IfOk, IfSome, OnOk, OnErr, Some, length, option_map};
 ghost use Rattle.meaning.specs.Tables.{row_of, above_all, is_there};
 ghost use Rattle.monoid_laws.specs.Kinds.{Fits};
 ghost use Rattle.meaning.specs.Edits.{row_put, row_gone, in_range};
@@ -10,7 +10,7 @@ ghost use Rattle.input_tables.specs.Edited.{RowsFit};
 ghost use Rattle.input_tables.specs.Sums.{added, without_row};
 
 use crate::page::Page;
-use crate::places::{find, page_of, place_among_pages};
+use crate::places::{find, page_of, place_among_pages, place_of_page, place_on_page};
 use crate::sums::put_on;
 use std::alloc::{AllocError, Global};
 use std::marker::Model;
@@ -70,6 +70,17 @@ impl Rows {
         match find(&self.pages, page, place_among_pages(page)) {
             Ok(place) => self.pages[place].1.get(number),
             Err(_) => None,
+        }
+    }
+
+    /// The values of the row of this number, where no row before it is missing; there may be such a row where none is found.
+    #[inline(always)]
+    pub fn get_at_once(&self, number: i64) -> Option<&[i64]>
+        ensures { IfSome result (λ values. row_of self.now number ≡ Some values.now) }
+    {
+        match self.pages.get(place_of_page(number)) {
+            Some(page) => page.1.get_at(place_on_page(number), number),
+            None => None,
         }
     }
 

@@ -101,6 +101,14 @@ impl Table {
         }
     }
 
+    /// The values of the row of this number, where no row before it is missing; there may be such a row where none is found.
+    #[inline(always)]
+    pub fn row_at_once(&self, row: i64) -> Option<&[i64]>
+        ensures { IfSome result (λ values. row_of self.now.rows row ≡ Some values.now) }
+    {
+        self.rows.get_at_once(row)
+    }
+
     /// The value of a row in the column of this number.
     #[inline(always)]
     pub fn cell(&self, row: i64, column: usize) -> Option<i64>

@@ -4,14 +4,14 @@ ghost use Rattle.std.specs.Prelude.{◌≡◌, ℕ, suc, ℤ, List, true, ◌<�
 ghost use Rattle.std.specs.Prelude.{option_map, option_copied, slice_get, map, string_bytes};
 ghost use Rattle.program_tree.specs.Plain.{Name};
 ghost use Rattle.program_tree.specs.View.{Lined};
-ghost use Rattle.meaning.specs.Tables.{index_of, columns_of, cell_of, has_row, limit_of, sum_of};
+ghost use Rattle.meaning.specs.Tables.{index_of, columns_of, cell_of, has_row, limit_of, sum_of, row_of};
 ghost use Rattle.input_tables.specs.Document.{reading, HasCause};
 ghost use Rattle.input_tables.specs.Adding.{refusal, own_refusal, unless_refused, IsAddCause, without_rows, with_table, rowless};
 ghost use Rattle.input_tables.specs.Shapes.{table_in};
 ghost use Rattle.meaning.specs.Records.{Revised};
 ghost use Rattle.meaning.specs.Edits.{after_put, after_delete, in_range, table_of};
 ghost use Rattle.input_tables.specs.Edited.{beside, row_refusal, IsPutCause, edited, changed_at, row_into, row_out_of, names_of};
-ghost use Rattle.input_tables.specs.Edited.{columns_at, cell_at, has_at, limit_at, sum_at, CellsFit};
+ghost use Rattle.input_tables.specs.Edited.{columns_at, rows_at, cell_at, has_at, limit_at, sum_at, CellsFit};
 
 use crate::adding;
 use crate::document::tables_in;
@@ -35,6 +35,14 @@ impl Model for Tables {
     ghost Value = { Edited };
 
     ghost view = { λ t. record { tables = t.listed.items; edits = t.edits } };
+}
+
+// The value of a row in a column.
+#[inline(always)]
+fn value_in(values: &[i64], column: usize) -> Option<i64>
+    ensures { result ≡ slice_get values.now column }
+{
+    values.get(column).copied()
 }
 
 impl Tables {
@@ -167,12 +175,36 @@ impl Tables {
         }
     }
 
+    /// Lends the values of a row, by the number of the table, where no row before it is missing: it takes a few instructions.
+    /// Where it finds none there may be such a row.
+    #[inline(always)]
+    pub fn row_at_once(&self, table: usize, row: i64) -> Option<&[i64]>
+        ensures row { IfSome result (λ values. row_of (rows_at self.now.tables table) row
+            ≡ Some values.now) }
+    {
+        match self.at(table) {
+            Some(table) => table.row_at_once(row),
+            None => None,
+        }
+    }
+
     /// The value of a row in a column, by the numbers of the table and the column.
     pub fn cell(&self, table: usize, row: i64, column: usize) -> Option<i64>
         ensures numbered { result ≡ cell_at self.now.tables table row column }
         ensures named { (t c : Name) → table ≡ index_of (names_of self.now.tables) t
             → column ≡ index_of (columns_of self.now.tables t) c
             → result ≡ cell_of self.now.tables t row c }
+    {
+        match self.row_at_once(table, row) {
+            Some(values) => value_in(values, column),
+            None => self.look_up(table, row, column),
+        }
+    }
+
+    // The value of a row in a column, wherever the row stands.
+    #[inline(never)]
+    fn look_up(&self, table: usize, row: i64, column: usize) -> Option<i64>
+        ensures { result ≡ cell_at self.now.tables table row column }
     {
         match self.at(table) {
             Some(table) => table.cell(row, column),

@@ -2,10 +2,12 @@
 use Rattle.std.specs.Prelude.{◌≡◌, ℕ, zero, suc, Bool, false, List, [], ◌∷◌, Option, Some, None, map, slice_get, length}
 use Rattle.program_tree.specs.Plain.{Body, Proc, Tree}
 use Rattle.program_tree.specs.declared.Block.{Block}
+use Rattle.program_tree.specs.declared.Operator.{Operator}
 use Rattle.program_tree.specs.View.{statements}
 use Rattle.linked_program.specs.TableNames.{Columned}
 use Rattle.linked_program.specs.declared.code.Expression.{Expression}
 use Rattle.linked_program.specs.declared.code.Expression.TheVariants as e
+use Rattle.linked_program.specs.declared.code.RowCells.{RowCells}
 use Rattle.linked_program.specs.declared.code.Operation.{Operation}
 use Rattle.linked_program.specs.declared.code.Operation.TheVariants as o
 use Rattle.linked_program.specs.declared.code.Instruction.{Instruction}
@@ -13,6 +15,10 @@ use Rattle.linked_program.specs.declared.code.CodeBlock.{CodeBlock}
 use Rattle.linked_program.specs.declared.code.Code.{Code}
 use Rattle.linked_program.specs.Linked.{Linked, constant, slot, cell_at, has_at, limit_at, sum_at, minus, joined, Act, binds, enters}
 use Rattle.linked_program.specs.Linked.{reads, syncs, updates, chooses, loops, gives, Acts, ends, steps, linked_body}
+
+-- an operator on two cells of one row
+abbrev pub on_row : Operator → RowCells → Linked
+on_row op c = joined op (cell_at c.table (slot c.slot) c.first) (cell_at c.table (slot c.slot) c.second)
 
 abbrev pub expression : Expression → Linked
 expression (e.Number n) = constant n
@@ -23,6 +29,11 @@ expression (e.Limit t) = limit_at t
 expression (e.Sum t c) = sum_at t c
 expression (e.Negate' p x) = minus (expression x)
 expression (e.Binary' op p x q y) = joined op (expression x) (expression y)
+expression (e.SlotCell t x c) = cell_at t (slot x) c
+expression (e.Slots op x y) = joined op (slot x) (slot y)
+expression (e.SlotAndNumber op x n) = joined op (slot x) (constant n)
+expression (e.NumberAndSlot op n x) = joined op (constant n) (slot x)
+expression (e.OnRow op cells) = on_row op cells
 
 -- what an operation does, where `inner` is the plain block of a number
 abbrev pub act : (ℕ → Acts) → Operation → Act

@@ -2,7 +2,17 @@
 
 use program_tree::{Operator, Way};
 
-/// An expression over an instance's slots.
+/// Two cells of one row: the number of its table, the slot in which the row's number stands, and the numbers of two columns.
+#[derive(Clone, Copy)]
+pub struct RowCells {
+    pub table: usize,
+    pub slot: usize,
+    pub first: usize,
+    pub second: usize,
+}
+
+/// An expression over an instance's slots. The last five are forms without boxes of those before them, and linking makes them
+/// wherever it can: a cell whose row stands in a slot, and an operator on slots and numbers or on two cells of one row.
 #[derive(Drop)]
 pub enum Expression {
     Number(i64),
@@ -13,6 +23,11 @@ pub enum Expression {
     Sum(usize, usize),
     Negate(Box<Expression>),
     Binary(Operator, Box<Expression>, Box<Expression>),
+    SlotCell(usize, usize, usize),
+    Slots(Operator, usize, usize),
+    SlotAndNumber(Operator, usize, i64),
+    NumberAndSlot(Operator, i64, usize),
+    OnRow(Operator, RowCells),
 }
 
 /// What a statement does.

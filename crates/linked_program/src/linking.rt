@@ -1,5 +1,5 @@
 //! Makes the code of a program: each name becomes the number of what it means.
-ghost use Rattle.std.specs.Prelude.{◌≡◌, ℕ, map, string_bytes, IfOk, Ok};
+ghost use Rattle.std.specs.Prelude.{◌≡◌, ℕ, map, string_bytes, IfOk, IfSome, Ok};
 ghost use Rattle.program_tree.specs.Plain.{Body};
 ghost use Rattle.program_tree.specs.View.{term, deed, statements as body_of, decl, proc};
 ghost use Rattle.meaning.specs.Statements.{reducers};
@@ -8,13 +8,13 @@ ghost use Rattle.linked_program.specs.TableNames.{columned};
 ghost use Rattle.linked_program.specs.Procedures.{procedures};
 ghost use Rattle.linked_program.specs.Linked.{procedure_number as number_of_procedure, reducer_number as number_of_reducer};
 ghost use Rattle.linked_program.specs.Linked.{table_number as number_of_table, column_number as number_of_column, linked_term, linked_deed};
-ghost use Rattle.linked_program.specs.Linked.{linked_body, Acts, loops, kinds_of};
+ghost use Rattle.linked_program.specs.Linked.{linked_body, Acts, loops, kinds_of, constant, slot as slot_of, cell_at, joined as joined_by};
 ghost use Rattle.linked_program.specs.CodeView.{expression as plain, act, acts, IsCodeOf, AreBlocksOf, AreCodesOf};
 
-use crate::code::{Code, CodeBlock, Expression, Instruction, Operation};
+use crate::code::{Code, CodeBlock, Expression, Instruction, Operation, RowCells};
 use crate::tables::TableNames;
 use monoid_laws::Kind;
-use program_tree::{Action, Block, Declaration, Expr, Procedure, Statement};
+use program_tree::{Action, Block, Declaration, Expr, Operator, Procedure, Statement};
 use std::alloc::{AllocError, Global};
 
 /// The number of the first procedure of a name among declarations' procedures; how many there are where there is no such procedure.
@@ -93,6 +93,115 @@ fn boxed(alloc: Global, made: Result<Expression, AllocError>) -> Result<Box<Expr
     Ok(Box::new(alloc, made?)?)
 }
 
+// The slot that an expression is.
+fn slot_in(expression: &Expression) -> Option<usize>
+    ensures { IfSome result (λ x. plain expression.now ≡ slot_of x) }
+{
+    match expression {
+        Expression::Slot(number) => Some(*number),
+        _ => None,
+    }
+}
+
+// A cell, without a box where its row stands in a slot.
+fn cell(
+    alloc: Global,
+    table: usize,
+    row: Expression,
+    column: usize,
+) -> Result<Expression, AllocError>
+    ensures { IfOk result (λ made. plain made ≡ cell_at table (plain row) column) }
+{
+    match slot_in(&row) {
+        Some(slot) => Ok(Expression::SlotCell(table, slot, column)),
+        None => Ok(Expression::Cell(table, Box::new(alloc, row)?, column)),
+    }
+}
+
+// An operator on a slot and what stands to its right, without boxes.
+fn beside_slot(operator: Operator, left: usize, right: &Expression) -> Option<Expression>
+    ensures { IfSome result (λ made. plain made ≡ joined_by operator (slot_of left) (plain right.now)) }
+{
+    match right {
+        Expression::Slot(right) => Some(Expression::Slots(operator, left, *right)),
+        Expression::Number(right) => Some(Expression::SlotAndNumber(operator, left, *right)),
+        _ => None,
+    }
+}
+
+// An operator on a number and what stands to its right, without boxes.
+fn beside_number(operator: Operator, left: i64, right: &Expression) -> Option<Expression>
+    ensures { IfSome result (λ made. plain made ≡ joined_by operator (constant left) (plain right.now)) }
+{
+    match right {
+        Expression::Slot(right) => Some(Expression::NumberAndSlot(operator, left, *right)),
+        _ => None,
+    }
+}
+
+// An operator on a cell whose row stands in a slot and what stands to its right, without boxes.
+fn beside_cell(
+    operator: Operator,
+    table: usize,
+    slot: usize,
+    first: usize,
+    right: &Expression,
+) -> Option<Expression>
+    ensures { IfSome result (λ made. plain made ≡ joined_by operator (cell_at table (slot_of slot) first) (plain right.now)) }
+{
+    match right {
+        Expression::SlotCell(other_table, other_slot, second) => {
+            if *other_table != table {
+                return None;
+            }
+            if *other_slot != slot {
+                return None;
+            }
+            let cells = RowCells {
+                table,
+                slot,
+                first,
+                second: *second,
+            };
+            Some(Expression::OnRow(operator, cells))
+        }
+        _ => None,
+    }
+}
+
+// An operator on two expressions in a form without boxes, where there is one.
+fn unboxed(operator: Operator, left: &Expression, right: &Expression) -> Option<Expression>
+    ensures { IfSome result (λ made. plain made ≡ joined_by operator (plain left.now) (plain right.now)) }
+{
+    match left {
+        Expression::Slot(slot) => beside_slot(operator, *slot, right),
+        Expression::Number(number) => beside_number(operator, *number, right),
+        Expression::SlotCell(table, slot, column) => {
+            beside_cell(operator, *table, *slot, *column, right)
+        }
+        _ => None,
+    }
+}
+
+// An operator on two expressions.
+fn joined(
+    alloc: Global,
+    operator: Operator,
+    left: Expression,
+    right: Expression,
+) -> Result<Expression, AllocError>
+    ensures { IfOk result (λ made. plain made ≡ joined_by operator (plain left) (plain right)) }
+{
+    match unboxed(operator, &left, &right) {
+        Some(made) => Ok(made),
+        None => {
+            let left = Box::new(alloc, left)?;
+            let right = Box::new(alloc, right)?;
+            Ok(Expression::Binary(operator, left, right))
+        }
+    }
+}
+
 // The code of an expression: variables stay slots, tables and columns become numbers.
 fn expression(alloc: Global, tables: &[TableNames], expr: &Expr) -> Result<Expression, AllocError>
     ensures { IfOk result (λ made. plain made ≡ linked_term (map columned tables.now) (term expr.now)) }
@@ -101,9 +210,9 @@ fn expression(alloc: Global, tables: &[TableNames], expr: &Expr) -> Result<Expre
         Expr::Number(number) => Ok(Expression::Number(*number)),
         Expr::Name(name) => Ok(Expression::Slot(*name)),
         Expr::Cell(table, row, column) => {
-            let row = boxed(alloc, expression(alloc, tables, row))?;
+            let row = expression(alloc, tables, row)?;
             let number = column_number(tables, table.as_str(), column.as_str());
-            Ok(Expression::Cell(table_number(tables, table.as_str()), row, number))
+            cell(alloc, table_number(tables, table.as_str()), row, number)
         }
         Expr::Has(table, row) => {
             let row = boxed(alloc, expression(alloc, tables, row))?;
@@ -119,9 +228,9 @@ fn expression(alloc: Global, tables: &[TableNames], expr: &Expr) -> Result<Expre
             Ok(Expression::Negate(inner))
         }
         Expr::Binary(op, left, right) => {
-            let left = boxed(alloc, expression(alloc, tables, left))?;
-            let right = boxed(alloc, expression(alloc, tables, right))?;
-            Ok(Expression::Binary(*op, left, right))
+            let left = expression(alloc, tables, left)?;
+            let right = expression(alloc, tables, right)?;
+            joined(alloc, *op, left, right)
         }
     }
 }

@@ -1,25 +1,19 @@
-use Rattle.std.proofs.Common.{◌≡◌, Some, None, refl, sym, w64}
+use Rattle.std.proofs.Common.{◌≡◌, Some, ap, sym, ◌∙◌, w64}
 use Rattle.std.proofs.lemmas.Int.{to_z-of_z}
-use Rattle.std.specs.Prelude.{slice_get}
-use Rattle.input_tables.proofs.Numbered.{rows_at-there, rows_at-absent, cell_at-named}
+use Rattle.meaning.specs.Tables.{row_of, at_column}
+use Rattle.input_tables.specs.Edited.{rows_at, cell_at}
+use Rattle.input_tables.proofs.Numbered.{cell_at-named}
 use Rattle.input_tables.proofs.tables.Tables.cell.Goals as goal
-
-pub returns-in-Some-clause-numbered : goal.returns-in-Some-clause-numbered
-returns-in-Some-clause-numbered c =
-    let there : slice_get c.args.self.now.tables c.args.table ≡ Some c.in-Some.table.now = sym (rw c.in-Some.is at c.at.ensures) in
-    rw (rows_at-there c.args.self.now.tables c.args.table c.in-Some.table.now there) (rw (to_z-of_z w64 _ c.ranges.row) at c.cell.ensures)
 
 pub returns-in-Some-clause-named : goal.returns-in-Some-clause-named
 returns-in-Some-clause-named c = λ t n e f.
-    let there : slice_get c.args.self.now.tables c.args.table ≡ Some c.in-Some.table.now = sym (rw c.in-Some.is at c.at.ensures) in
-    rw (← cell_at-named c.args.self.now.tables c.args.table c.args.row c.args.column t n e f, rows_at-there c.args.self.now.tables c.args.table c.in-Some.table.now there) (rw (to_z-of_z w64 _ c.ranges.row) at c.cell.ensures)
-
-pub returns-in-None-clause-numbered : goal.returns-in-None-clause-numbered
-returns-in-None-clause-numbered c =
-    let absent : slice_get c.args.self.now.tables c.args.table ≡ None = sym (rw c.in-None.is at c.at.ensures) in
-    rw (rows_at-absent c.args.self.now.tables c.args.table absent) refl
+    let ts = c.args.self.now.tables in
+    let row : row_of (rows_at ts c.args.table) c.args.row ≡ Some c.in-Some.values.now = rw (to_z-of_z w64 _ c.ranges.row) at c.in-Some.ensures.row in
+    let numbered : c.value_in.result ≡ cell_at ts c.args.table c.args.row c.args.column = c.value_in.ensures ∙ ap (λ o. at_column o c.args.column) (sym row) in
+    rw (← cell_at-named ts c.args.table c.args.row c.args.column t n e f) numbered
 
 pub returns-in-None-clause-named : goal.returns-in-None-clause-named
 returns-in-None-clause-named c = λ t n e f.
-    let absent : slice_get c.args.self.now.tables c.args.table ≡ None = sym (rw c.in-None.is at c.at.ensures) in
-    rw (← cell_at-named c.args.self.now.tables c.args.table c.args.row c.args.column t n e f, rows_at-absent c.args.self.now.tables c.args.table absent) refl
+    let ts = c.args.self.now.tables in
+    let numbered : c.look_up.result ≡ cell_at ts c.args.table c.args.row c.args.column = rw (to_z-of_z w64 _ c.ranges.row) at c.look_up.ensures in
+    rw (← cell_at-named ts c.args.table c.args.row c.args.column t n e f) numbered
