@@ -4,3 +4,4 @@ pub mod Readings
 pub mod Meant
 pub mod Slots
 pub mod Padded
+pub mod Rows

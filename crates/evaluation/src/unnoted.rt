@@ -1,7 +1,7 @@
 //! The values of expressions where nobody asks what they read.
 
-ghost use Rattle.std.specs.Prelude.{◌≡◌, ◌≤◌, ◌∷◌, [], length, map, slice_get};
-ghost use Rattle.linked_program.specs.CodeView.{expression as plain};
+ghost use Rattle.std.specs.Prelude.{◌≡◌, ◌≤◌, ◌∷◌, [], IfSome, Ok, length, map, slice_get};
+ghost use Rattle.linked_program.specs.CodeView.{expression as plain, on_row};
 ghost use Rattle.evaluation.specs.Ends.{Answers};
 ghost use Rattle.input_tables.specs.Edited as read;
 ghost use Rattle.evaluation.specs.Values.{value_at, values_at, entry_at, slot_by, looked, applied as applied_to};
@@ -9,15 +9,15 @@ ghost use Rattle.evaluation.specs.Values.{value_at, values_at, entry_at, slot_by
 use crate::operators::{apply, one_if};
 use crate::slot::Slot;
 use crate::stop::Stop;
-use crate::values::{at_once, number_in};
+use crate::values::{joined, number_in};
 use input_tables::Tables;
-use linked_program::code::Expression;
+use linked_program::code::{Expression, RowCells};
 use meaning::FaultKind;
 use program_tree::Operator;
 
-/// The value of an expression, or its fault; that of numbers, of slots, and of an operator on these or on cells whose rows are
-/// these, without a call of `evaluate`.
+/// The value of an expression, or its fault; that of a form without boxes without a call of `evaluate`.
 #[inline(always)]
+#[cycle(evaluate)]
 pub fn value(expression: &Expression, slots: &[Slot], tables: &Tables) -> Result<i64, Stop>
     ensures answer { Answers (λ v. v) (value_at tables.now.tables slots.now (plain expression.now))
         result }
@@ -25,13 +25,24 @@ pub fn value(expression: &Expression, slots: &[Slot], tables: &Tables) -> Result
     match expression {
         Expression::Number(number) => Ok(*number),
         Expression::Slot(number) => Ok(number_in(slots, *number)),
-        Expression::Binary(operator, left, right) => match operand(left, slots, tables) {
-            Ok(left) => match operand(right, slots, tables) {
-                Ok(right) => applied(*operator, left, right),
-                Err(stop) => Err(stop),
-            },
-            Err(stop) => Err(stop),
-        },
+        Expression::Slots(operator, left, right) => {
+            applied(*operator, number_in(slots, *left), number_in(slots, *right))
+        }
+        Expression::SlotAndNumber(operator, left, right) => {
+            applied(*operator, number_in(slots, *left), *right)
+        }
+        Expression::NumberAndSlot(operator, left, right) => {
+            applied(*operator, *left, number_in(slots, *right))
+        }
+        Expression::SlotCell(table, slot, column) => {
+            cell(tables, *table, number_in(slots, *slot), *column)
+        }
+        Expression::OnRow(operator, cells) => {
+            match cells_at_once(*operator, cells, slots, tables) {
+                Some(value) => Ok(value),
+                None => evaluate(expression, slots, tables),
+            }
+        }
         _ => evaluate(expression, slots, tables),
     }
 }
@@ -155,49 +166,80 @@ fn evaluate(expression: &Expression, slots: &[Slot], tables: &Tables) -> Result<
     match expression {
         Expression::Number(number) => Ok(*number),
         Expression::Slot(number) => Ok(number_in(slots, *number)),
-        Expression::Cell(table, row, column) => match operand(row, slots, tables) {
+        Expression::Cell(table, row, column) => match value(row, slots, tables) {
             Ok(row) => cell(tables, *table, row, *column),
             Err(stop) => Err(stop),
         },
-        Expression::Has(table, row) => match operand(row, slots, tables) {
+        Expression::Has(table, row) => match value(row, slots, tables) {
             Ok(row) => Ok(one_if(tables.has(*table, row))),
             Err(stop) => Err(stop),
         },
         Expression::Limit(table) => Ok(tables.limit(*table)),
         Expression::Sum(table, column) => Ok(tables.sum(*table, *column)),
-        Expression::Negate(inner) => match operand(inner, slots, tables) {
+        Expression::Negate(inner) => match value(inner, slots, tables) {
             Ok(number) => Ok(number.wrapping_neg()),
             Err(stop) => Err(stop),
         },
-        Expression::Binary(operator, left, right) => match operand(left, slots, tables) {
-            Ok(left) => match operand(right, slots, tables) {
+        Expression::Binary(operator, left, right) => match value(left, slots, tables) {
+            Ok(left) => match value(right, slots, tables) {
                 Ok(right) => applied(*operator, left, right),
                 Err(stop) => Err(stop),
             },
             Err(stop) => Err(stop),
         },
+        Expression::SlotCell(table, slot, column) => {
+            cell(tables, *table, number_in(slots, *slot), *column)
+        }
+        Expression::Slots(operator, left, right) => {
+            applied(*operator, number_in(slots, *left), number_in(slots, *right))
+        }
+        Expression::SlotAndNumber(operator, left, right) => {
+            applied(*operator, number_in(slots, *left), *right)
+        }
+        Expression::NumberAndSlot(operator, left, right) => {
+            applied(*operator, *left, number_in(slots, *right))
+        }
+        Expression::OnRow(operator, cells) => two_cells(*operator, cells, slots, tables),
     }
 }
 
-// The value of an operand, or its fault; that of a number or a slot, and of a cell whose row is one of these, without a call of
-// `evaluate`.
-#[inline(always)]
-#[cycle(evaluate)]
-fn operand(expression: &Expression, slots: &[Slot], tables: &Tables) -> Result<i64, Stop>
-    ensures answer { Answers (λ v. v) (value_at tables.now.tables slots.now (plain expression.now)) result }
+// The value of an operator on two cells of one row, where the row is found at once and the operator has a value.
+#[inline(never)]
+fn cells_at_once(
+    operator: Operator,
+    cells: &RowCells,
+    slots: &[Slot],
+    tables: &Tables,
+) -> Option<i64>
+    ensures value { IfSome result (λ v. (value_at tables.now.tables slots.now (on_row operator cells.now)).answer ≡ Ok v) }
 {
-    match expression {
-        Expression::Number(number) => Ok(*number),
-        Expression::Slot(number) => Ok(number_in(slots, *number)),
-        Expression::Cell(table, row, column) => match at_once(row, slots) {
-            Some(row) => cell(tables, *table, row, *column),
-            None => evaluate(expression, slots, tables),
+    let values = tables.row_at_once(cells.table, number_in(slots, cells.slot))?;
+    let left = values.get(cells.first)?;
+    let right = values.get(cells.second)?;
+    joined(operator, *left, *right)
+}
+
+// The value of an operator on two cells of one row, or its fault.
+fn two_cells(
+    operator: Operator,
+    cells: &RowCells,
+    slots: &[Slot],
+    tables: &Tables,
+) -> Result<i64, Stop>
+    ensures answer { Answers (λ v. v) (value_at tables.now.tables slots.now (on_row operator cells.now)) result }
+{
+    let row = number_in(slots, cells.slot);
+    match cell(tables, cells.table, row, cells.first) {
+        Ok(left) => match cell(tables, cells.table, row, cells.second) {
+            Ok(right) => applied(operator, left, right),
+            Err(stop) => Err(stop),
         },
-        _ => evaluate(expression, slots, tables),
+        Err(stop) => Err(stop),
     }
 }
 
 // The value of a cell, or that there is no such row.
+#[inline(always)]
 fn cell(tables: &Tables, table: usize, row: i64, column: usize) -> Result<i64, Stop>
     ensures answer { Answers (λ v. v) (looked table row column (read.cell_at tables.now.tables table row column)) result }
 {

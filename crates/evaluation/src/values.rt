@@ -1,7 +1,7 @@
 //! The values of expressions.
 
-ghost use Rattle.std.specs.Prelude.{◌≡◌, ◌++◌, ◌∷◌, [], OnOk, OnErr, IfErr, IfSome, map, slice_get};
-ghost use Rattle.linked_program.specs.CodeView.{expression as plain};
+ghost use Rattle.std.specs.Prelude.{◌≡◌, ◌∷◌, [], IfSome, map, slice_get};
+ghost use Rattle.linked_program.specs.CodeView.{expression as plain, on_row};
 ghost use Rattle.input_tables.specs.Edited as read;
 ghost use Rattle.meaning.specs.Values.{one_if as one_for};
 ghost use Rattle.evaluation.specs.Slots.{number_in as number_of};
@@ -15,7 +15,7 @@ use crate::operators::{apply, one_if};
 use crate::slot::Slot;
 use crate::stop::Stop;
 use input_tables::Tables;
-use linked_program::code::Expression;
+use linked_program::code::{Expression, RowCells};
 use meaning::FaultKind;
 use program_tree::Operator;
 
@@ -163,12 +163,9 @@ pub(crate) fn evaluate(
     match expression {
         Expression::Number(number) => Ok(*number),
         Expression::Slot(number) => Ok(number_in(slots, *number)),
-        Expression::Cell(table, row, column) => match at_once(row, slots) {
-            Some(row) => cell(tables, *table, row, *column, notes),
-            None => match evaluate(row, slots, tables, notes) {
-                Ok(row) => cell(tables, *table, row, *column, notes),
-                Err(stop) => Err(stop),
-            },
+        Expression::Cell(table, row, column) => match evaluate(row, slots, tables, notes) {
+            Ok(row) => cell(tables, *table, row, *column, notes),
+            Err(stop) => Err(stop),
         },
         Expression::Has(table, row) => match evaluate(row, slots, tables, notes) {
             Ok(row) => has(tables, *table, row, notes),
@@ -189,10 +186,23 @@ pub(crate) fn evaluate(
                 Err(stop) => Err(stop),
             }
         }
+        Expression::SlotCell(table, slot, column) => {
+            cell(tables, *table, number_in(slots, *slot), *column, notes)
+        }
+        Expression::Slots(operator, left, right) => {
+            applied(*operator, number_in(slots, *left), number_in(slots, *right))
+        }
+        Expression::SlotAndNumber(operator, left, right) => {
+            applied(*operator, number_in(slots, *left), *right)
+        }
+        Expression::NumberAndSlot(operator, left, right) => {
+            applied(*operator, *left, number_in(slots, *right))
+        }
+        Expression::OnRow(operator, cells) => two_cells(*operator, cells, slots, tables, notes),
     }
 }
 
-/// The value of an operand, or its fault; that of a number, of a slot, and of a cell whose row is one of these, without a call of
+/// The value of an operand, or its fault; that of a number, of a slot, and of a cell whose row is a slot's, without a call of
 /// `evaluate`.
 #[inline(always)]
 #[cycle(evaluate)]
@@ -207,10 +217,9 @@ fn operand(
     match expression {
         Expression::Number(number) => Ok(*number),
         Expression::Slot(number) => Ok(number_in(slots, *number)),
-        Expression::Cell(table, row, column) => match at_once(row, slots) {
-            Some(row) => cell(tables, *table, row, *column, notes),
-            None => evaluate(expression, slots, tables, notes),
-        },
+        Expression::SlotCell(table, slot, column) => {
+            cell(tables, *table, number_in(slots, *slot), *column, notes)
+        }
         _ => evaluate(expression, slots, tables, notes),
     }
 }
@@ -239,8 +248,14 @@ pub(crate) fn without_reading(expression: &Expression, slots: &[Slot]) -> Option
     match expression {
         Expression::Number(number) => Some(*number),
         Expression::Slot(number) => Some(number_in(slots, *number)),
-        Expression::Binary(operator, left, right) => {
-            joined(*operator, at_once(left, slots)?, at_once(right, slots)?)
+        Expression::Slots(operator, left, right) => {
+            joined(*operator, number_in(slots, *left), number_in(slots, *right))
+        }
+        Expression::SlotAndNumber(operator, left, right) => {
+            joined(*operator, number_in(slots, *left), *right)
+        }
+        Expression::NumberAndSlot(operator, left, right) => {
+            joined(*operator, *left, number_in(slots, *right))
         }
         _ => None,
     }
@@ -248,7 +263,7 @@ pub(crate) fn without_reading(expression: &Expression, slots: &[Slot]) -> Option
 
 // An operator's value, where it has one.
 #[inline(always)]
-fn joined(operator: Operator, left: i64, right: i64) -> Option<i64>
+pub(crate) fn joined(operator: Operator, left: i64, right: i64) -> Option<i64>
     ensures value { IfSome result (λ v. applied_to operator left right ≡ pure v) }
 {
     match apply(operator, left, right) {
@@ -257,20 +272,8 @@ fn joined(operator: Operator, left: i64, right: i64) -> Option<i64>
     }
 }
 
-// The value of a number or a slot, which reads nothing; none of any other expression.
-#[inline(always)]
-pub(crate) fn at_once(expression: &Expression, slots: &[Slot]) -> Option<i64>
-    ensures value { IfSome result (λ v. (all : TableList) → value_at all slots.now (plain expression.now) ≡ pure v) }
-{
-    match expression {
-        Expression::Number(number) => Some(*number),
-        Expression::Slot(number) => Some(number_in(slots, *number)),
-        _ => None,
-    }
-}
-
-// The number in a slot, and 0 where there is none.
-pub(crate) fn number_in(slots: &[Slot], number: usize) -> i64
+/// The number in a slot, and 0 where there is none.
+pub fn number_in(slots: &[Slot], number: usize) -> i64
     ensures { result ≡ number_of (slice_get slots.now number) }
 {
     match slots.get(number) {
@@ -280,6 +283,26 @@ pub(crate) fn number_in(slots: &[Slot], number: usize) -> i64
             Slot::Unset => 0,
             Slot::Waits(_) => 0,
         },
+    }
+}
+
+// The value of an operator on two cells of one row, or its fault.
+fn two_cells(
+    operator: Operator,
+    cells: &RowCells,
+    slots: &[Slot],
+    tables: &Tables,
+    notes: &mut Notes,
+) -> Result<i64, Stop>
+    ensures stops { Stops (λ v. v) (value_at tables.now.tables slots.now (on_row operator cells.now)) notes.old notes.new result }
+{
+    let row = number_in(slots, cells.slot);
+    match cell(tables, cells.table, row, cells.first, notes) {
+        Ok(left) => match cell(tables, cells.table, row, cells.second, notes) {
+            Ok(right) => applied(operator, left, right),
+            Err(stop) => Err(stop),
+        },
+        Err(stop) => Err(stop),
     }
 }
 

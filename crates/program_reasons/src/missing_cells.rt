@@ -3,13 +3,14 @@
 ghost use Rattle.std.specs.Prelude.{◌≡◌, ℤ, IfErr, OnOk, IsOk};
 ghost use Rattle.linked_program.specs.CodeView.{expression as plain};
 ghost use Rattle.linked_program.specs.Linked.{cell_at};
-ghost use Rattle.evaluation.specs.Values.{value_at};
+ghost use Rattle.evaluation.specs.Values.{value_at, looked};
+ghost use Rattle.input_tables.specs.Edited as read;
 ghost use Rattle.program_reasons.specs.declared.missing_cells.Halt.TheVariants.{Unknown};
 ghost use Rattle.program_reasons.specs.Absent.{EndsAbsent, EndsMissing, with_right};
 
 use evaluation::notes::Notes;
 use evaluation::slot::Slot;
-use evaluation::values::value;
+use evaluation::values::{number_in, value};
 use input_tables::Tables;
 use linked_program::code::Expression;
 use program_tree::Operator;
@@ -60,11 +61,38 @@ pub fn searched(
             searched(tables, slots, right, notes)?;
             searched_division(tables, slots, *operator, right, notes)
         }
+        Expression::SlotCell(table, slot, column) => {
+            searched_row(tables, *table, number_in(slots, *slot), *column)
+        }
+        Expression::Slots(_, _, _)
+        | Expression::SlotAndNumber(_, _, _)
+        | Expression::NumberAndSlot(_, _, _) => searched_value(tables, slots, expression, notes),
+        Expression::OnRow(_, cells) => {
+            let row = number_in(slots, cells.slot);
+            searched_row(tables, cells.table, row, cells.first)?;
+            searched_row(tables, cells.table, row, cells.second)?;
+            searched_value(tables, slots, expression, notes)
+        }
     }
 }
 
-// The row of a cell, where it isn't there. A cell has no value either where its table hasn't the column: no checked program has such a
-// cell, but nothing here says so, and so the row is asked for too.
+// Whether an expression has a value, whatever fault it has if not.
+fn searched_value(
+    tables: &Tables,
+    slots: &[Slot],
+    expression: &Expression,
+    notes: &mut Notes,
+) -> Result<(), Halt>
+    ensures value { OnOk result (IsOk (value_at tables.now.tables slots.now (plain expression.now)).answer) }
+    ensures unknown { IfErr result (λ halt. halt ≡ Unknown) }
+{
+    match value(expression, slots, tables, notes) {
+        Ok(_) => Ok(()),
+        Err(_) => Err(Halt::Unknown),
+    }
+}
+
+// The row of a cell, where it isn't there.
 fn searched_cell(
     tables: &Tables,
     slots: &[Slot],
@@ -80,6 +108,16 @@ fn searched_cell(
     let Ok(row) = value(row, slots, tables, notes) else {
         return Err(Halt::Unknown);
     };
+    searched_row(tables, table, row, column)
+}
+
+// The row of that number, where it isn't there. A cell has no value either where its table hasn't the column: no checked program has
+// such a cell, but nothing here says so, and so the row is asked for too.
+fn searched_row(tables: &Tables, table: usize, row: i64, column: usize) -> Result<(), Halt>
+    ensures value { OnOk result (IsOk (looked table row column (read.cell_at tables.now.tables table row column)).answer) }
+    ensures missing { IfErr result (EndsMissing (looked table row column (read.cell_at tables.now.tables table row column)).answer) }
+    ensures absent { IfErr result (EndsAbsent tables.now.tables) }
+{
     if tables.cell(table, row, column).is_some() {
         return Ok(());
     }
