@@ -1,3 +1,4 @@
+pub mod AtOnce
 pub mod Ones
 pub mod Paths
 pub mod Placed

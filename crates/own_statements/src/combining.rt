@@ -1,22 +1,126 @@
 //! Updates of reducers in the topmost layer.
-ghost use Rattle.std.specs.Prelude.{◌≡◌, ◌+◌, ◌<◌, ◌^◌, ◌∷◌, [], true, false, length, map, slice_get};
+ghost use Rattle.std.specs.Prelude.{◌≡◌, ◌+◌, ◌<◌, ◌^◌, ◌∷◌, [], true, false, if◌then◌else◌, Some, IfSome, OnSome, length, map, slice_get};
+ghost use Rattle.monoid_laws.specs.Kinds.{arity as arity_of};
+ghost use Rattle.meaning.specs.Tables.{Tables as TableList};
 ghost use Rattle.linked_program.specs.CodeView.{expression as plain};
-ghost use Rattle.evaluation.specs.Values.{values_at};
+ghost use Rattle.evaluation.specs.declared.slot.Slot.TheVariants.{Has};
+ghost use Rattle.evaluation.specs.Values.{pure, value_at, values_at};
 ghost use Rattle.positions.specs.Advance.{evaluated, combining};
 ghost use Rattle.own_statements.specs.Paths.{Does, OnNext, IsInBlock, Takes, Combines};
 
 use crate::statements::{Did, Here};
 use activations::activation::Activation;
 use activations::setting::Setting;
+use evaluation::slot::Slot;
 use layers::layer::Layer;
 use layers::updating::arity;
 use linked_program::checked::Checked;
 use linked_program::code::Expression;
+use monoid_laws::Kind;
 use view_pool::View;
 
-/// Combines what the expressions' values name with a reducer's value; one or two numbers need no list.
+/// Combines what the expressions' values name with a reducer's value. Numbers, and slots that have one, read nothing: where they
+/// are as many as the reducer takes, that is quickest.
 #[inline(always)]
 pub fn combine_some<V: View>(
+    layer: &mut Layer<V>,
+    setting: Setting<'_>,
+    here: Here,
+    reducer: usize,
+    expressions: &[Expression],
+    top: &mut Activation,
+    numbers: &mut Vec<i64>,
+) -> Did
+    requires room { here.place.index + 1 < 2 ^ 64 }
+    requires kinds { layer.old.kinds ≡ setting.program.now.kinds }
+    ensures done { Does here.passes_syncs here.place (λ kit. evaluated here.statement
+        (values_at setting.entry.tables.now.tables top.old.slots (map plain expressions.now))
+        (combining (slice_get setting.entry.program.now.kinds reducer) here.statement here.place reducer))
+        top.old layer.old result top.new layer.new }
+    ensures same_block { OnNext result (IsInBlock top.old top.new) }
+    ensures kinds { layer.new.kinds ≡ layer.old.kinds }
+{
+    match setting.program.kinds().get(reducer) {
+        None => combine_evaluated(layer, setting, here, reducer, expressions, top, numbers),
+        Some(kind) => match one_number(kind, expressions, top.slots()) {
+            Some(number) => next_if(layer.update_fitting(kind, reducer, &[number]).is_ok()),
+            None => match two_numbers(kind, expressions, top.slots()) {
+                Some(pair) => next_if(
+                    layer
+                        .update_fitting(kind, reducer, &[pair.0, pair.1])
+                        .is_ok(),
+                ),
+                None => {
+                    combine_evaluated(layer, setting, here, reducer, expressions, top, numbers)
+                }
+            },
+        },
+    }
+}
+
+/// All of a statement was done, or nothing.
+#[inline(always)]
+fn next_if(is_done: bool) -> Did
+    ensures next { result ≡ (if is_done then Did.Next else Did.Nothing) }
+{
+    if is_done { Did::Next } else { Did::Nothing }
+}
+
+/// The number of the only expression, if that has one at once, where the kind takes one.
+#[inline(always)]
+fn one_number(kind: &Kind, expressions: &[Expression], slots: &[Slot]) -> Option<i64>
+    ensures count { OnSome result (1 ≡ arity_of kind.now) }
+    ensures value { IfSome result (λ v. (all : TableList) → values_at all slots.now (map plain expressions.now) ≡ pure (v ∷ [])) }
+{
+    if expressions.len() != 1 || arity(kind) != 1 {
+        return None;
+    }
+    number_at_once(&expressions[0], slots)
+}
+
+/// The numbers of both expressions, if these have them at once, where the kind takes two.
+#[inline(always)]
+fn two_numbers(kind: &Kind, expressions: &[Expression], slots: &[Slot]) -> Option<(i64, i64)>
+    ensures count { OnSome result (2 ≡ arity_of kind.now) }
+    ensures value { IfSome result (λ p. (all : TableList) → values_at all slots.now (map plain expressions.now) ≡ pure (p.0 ∷ p.1 ∷ [])) }
+{
+    if expressions.len() != 2 || arity(kind) != 2 {
+        return None;
+    }
+    let first = number_at_once(&expressions[0], slots)?;
+    let second = number_at_once(&expressions[1], slots)?;
+    Some((first, second))
+}
+
+/// The value of a number, or of a slot that has one, which reads nothing; none of any other expression.
+#[inline(always)]
+fn number_at_once(expression: &Expression, slots: &[Slot]) -> Option<i64>
+    ensures value { IfSome result (λ v. (all : TableList) → value_at all slots.now (plain expression.now) ≡ pure v) }
+{
+    match expression {
+        Expression::Number(number) => Some(*number),
+        Expression::Slot(place) => number_there(slots, *place),
+        _ => None,
+    }
+}
+
+/// The number that a slot has, if it has one.
+#[inline(always)]
+fn number_there(slots: &[Slot], place: usize) -> Option<i64>
+    ensures has { IfSome result (λ v. slice_get slots.now place ≡ Some (Has v)) }
+{
+    match slots.get(place) {
+        None => None,
+        Some(slot) => match slot {
+            Slot::Has(number) => Some(*number),
+            _ => None,
+        },
+    }
+}
+
+/// Combines what the values of whatever expressions name; those of one or two that are as many as the reducer takes need no list.
+#[inline(never)]
+fn combine_evaluated<V: View>(
     layer: &mut Layer<V>,
     setting: Setting<'_>,
     here: Here,

@@ -1,16 +1,19 @@
 //! The statements that an instance does by itself: they enter no other instance.
-ghost use Rattle.std.specs.Prelude.{◌≡◌, ◌+◌, ◌<◌, ◌^◌, if◌then◌else◌};
+ghost use Rattle.std.specs.Prelude.{◌≡◌, ◌+◌, ◌<◌, ◌^◌, false, if◌then◌else◌};
 ghost use Rattle.linked_program.specs.CodeView.{expression as plain};
 ghost use Rattle.evaluation.specs.Values.{value_at};
 ghost use Rattle.positions.specs.Strands.{is_entry};
 ghost use Rattle.positions.specs.Advance.{evaluated, binding, choosing, giving, moved_on, performed};
 ghost use Rattle.activations.specs.Given.{lent};
+ghost use Rattle.layers.specs.Ends.{HasNoted};
 ghost use Rattle.own_statements.specs.Paths.{Does, OnNext, IsInBlock};
 
 use crate::combining::combine_some;
 use activations::activation::Activation;
 use activations::setting::Setting;
 use evaluation::slot::Slot;
+use evaluation::stop::Stop;
+use evaluation::unnoted;
 use input_tables::Tables;
 use layers::layer::Layer;
 use linked_program::code::{Expression, Instruction, Operation};
@@ -94,9 +97,53 @@ fn pass_sync<V: View>(
     }
 }
 
-/// Puts the value of an expression into a slot.
+/// The value of an expression over a layer that keeps no readings.
+#[inline(always)]
+#[tactic(auto, using(layers::proofs::Kept::unnoted_is))]
+fn unnoted_value<V: View>(
+    layer: &Layer<V>,
+    expression: &Expression,
+    slots: &[Slot],
+    tables: &Tables,
+) -> Result<i64, Stop>
+    requires keeps { layer.now.keeps ≡ false }
+    ensures notes { HasNoted (λ v. v) (value_at tables.now.tables slots.now (plain expression.now)) layer.now layer.now result }
+{
+    let _ = layer.readings();
+    unnoted::value(expression, slots, tables)
+}
+
+/// Puts the value of an expression into a slot. Where no readings are kept, there are none to forget.
 #[inline(always)]
 fn bind<V: View>(
+    layer: &mut Layer<V>,
+    tables: &Tables,
+    here: Here,
+    name: usize,
+    expression: &Expression,
+    top: &mut Activation,
+) -> Did
+    requires room { here.place.index + 1 < 2 ^ 64 }
+    ensures done { Does here.passes_syncs here.place (λ kit. evaluated here.statement (value_at tables.now.tables top.old.slots (plain expression.now))
+        (binding here.place name)) top.old layer.old result top.new layer.new }
+    ensures same_block { OnNext result (IsInBlock top.old top.new) }
+    ensures kinds { layer.new.kinds ≡ layer.old.kinds }
+{
+    if layer.keeps {
+        return bind_noted(layer, tables, here, name, expression, top);
+    }
+    match unnoted_value(layer, expression, top.slots(), tables) {
+        Ok(value) => {
+            top.bind(Some(name), Slot::Has(value));
+            Did::Next
+        }
+        Err(_) => Did::Nothing,
+    }
+}
+
+/// Puts the value of an expression into a slot, whether readings are kept or not.
+#[inline(always)]
+fn bind_noted<V: View>(
     layer: &mut Layer<V>,
     tables: &Tables,
     here: Here,
@@ -123,9 +170,41 @@ fn bind<V: View>(
     }
 }
 
-/// Goes into one of two blocks by a condition.
+/// Goes into one of two blocks by a condition. Where no readings are kept, there are none to forget.
 #[inline(always)]
 fn choose<V: View>(
+    layer: &mut Layer<V>,
+    tables: &Tables,
+    here: Here,
+    condition: &Expression,
+    first: usize,
+    second: usize,
+    top: &mut Activation,
+) -> Did
+    requires room { here.place.index + 1 < 2 ^ 64 }
+    ensures done { Does here.passes_syncs here.place (λ kit. evaluated here.statement (value_at tables.now.tables top.old.slots (plain condition.now))
+        (choosing here.place first second)) top.old layer.old result top.new layer.new }
+    ensures same_block { OnNext result (IsInBlock top.old top.new) }
+    ensures kinds { layer.new.kinds ≡ layer.old.kinds }
+{
+    if layer.keeps {
+        return choose_noted(layer, tables, here, condition, first, second, top);
+    }
+    match unnoted_value(layer, condition, top.slots(), tables) {
+        Ok(value) => {
+            let block = if value == 0 { second } else { first };
+            if top.go_inside(block, here.place).is_err() {
+                return Did::Nothing;
+            }
+            Did::Moved
+        }
+        Err(_) => Did::Nothing,
+    }
+}
+
+/// Goes into one of two blocks by a condition, whether readings are kept or not.
+#[inline(always)]
+fn choose_noted<V: View>(
     layer: &mut Layer<V>,
     tables: &Tables,
     here: Here,
@@ -157,9 +236,32 @@ fn choose<V: View>(
     }
 }
 
-/// Gives the value of an expression back.
+/// Gives the value of an expression back. Where no readings are kept, there are none to forget.
 #[inline(always)]
 fn give<V: View>(
+    layer: &mut Layer<V>,
+    tables: &Tables,
+    here: Here,
+    expression: &Expression,
+    top: &mut Activation,
+) -> Did
+    ensures done { Does here.passes_syncs here.place (λ kit. evaluated here.statement
+        (value_at tables.now.tables top.old.slots (plain expression.now)) giving) top.old layer.old result top.new layer.new }
+    ensures same_block { OnNext result (IsInBlock top.old top.new) }
+    ensures kinds { layer.new.kinds ≡ layer.old.kinds }
+{
+    if layer.keeps {
+        return give_noted(layer, tables, here, expression, top);
+    }
+    match unnoted_value(layer, expression, top.slots(), tables) {
+        Ok(value) => Did::Gave(value),
+        Err(_) => Did::Nothing,
+    }
+}
+
+/// Gives the value of an expression back, whether readings are kept or not.
+#[inline(always)]
+fn give_noted<V: View>(
     layer: &mut Layer<V>,
     tables: &Tables,
     here: Here,

@@ -1,0 +1,45 @@
+-- Updates by numbers that read nothing.
+use Rattle.std.proofs.Common.{◌≡◌, ◌∙◌, ℕ, ℤ, Bool, true, false, List, [], Option, Some, Result, Ok, Err, OnOk, OnErr, if◌then◌else◌, refl, sym, ap, subst}
+use Rattle.std.specs.Prelude.{is_ok}
+use Rattle.std.proofs.lemmas.List.{append-nil}
+use Rattle.monoid_laws.specs.declared.Kind.{Kind}
+use Rattle.monoid_laws.specs.Kinds.{names_element}
+use Rattle.evaluation.specs.declared.note.Note.{Note}
+use Rattle.evaluation.specs.Values.{NumberedOut, pure}
+use Rattle.positions.specs.declared.phase.Phase.TheVariants.{Running}
+use Rattle.positions.specs.declared.work.Position.{Position}
+use Rattle.positions.specs.declared.work.Work.TheVariants.{Block}
+use Rattle.positions.specs.Activations.{PlainActivation, at, next_of}
+use Rattle.positions.specs.Layers.{PlainLayer, kept_behind, noting, updating}
+use Rattle.positions.specs.Advance.{evaluated, combining, if_named, moved_on}
+use Rattle.own_statements.specs.declared.statements.Did.{Did}
+use Rattle.own_statements.specs.declared.statements.Did.TheVariants.{Nothing, Next}
+use Rattle.own_statements.specs.Paths.{Does, topped}
+
+none_noted : (b : Bool) (xs : List Note) → kept_behind b xs [] ≡ xs
+none_noted true xs = append-nil xs
+none_noted false xs = refl
+
+noting_none : (l : PlainLayer) → noting [] l ≡ l
+noting_none l = ap (λ (xs : List Note). record l { notes = xs }) (none_noted l.keeps l.notes)
+
+module _ (passes : Bool) (p : Position) (n r : ℕ) (kind : Kind) (vs : List ℤ) (a : PlainActivation) (l m : PlainLayer) where
+  combined : names_element kind vs ≡ true → m ≡ updating r kind vs l → Does passes p (λ kit. evaluated n (pure vs) (combining (Some kind) n p r)) a l Next a m
+  combined named e s may kit =
+      ap (λ (k : PlainLayer). topped Running (at (Block (next_of p)) a) k s) e
+      ∙ sym (ap (λ (b : Bool). if_named b n p r kind vs (topped Running (at (Block p) a) l s)) named)
+      ∙ sym (ap (λ (k : PlainLayer). if_named (names_element kind vs) n p r kind vs (topped Running (at (Block p) a) k s)) (noting_none l))
+
+  -- an update by numbers that read nothing, where it is done and where it is not
+  done_at_once : {E : Type 0} (res : Result (Unit {0}) E) → OnOk res (m ≡ updating r kind vs l) → OnOk res (names_element kind vs ≡ true) → OnErr res (m ≡ l)
+      → Does passes p (λ kit. evaluated n (pure vs) (combining (Some kind) n p r)) a l (if is_ok res then Next else Nothing) a m
+  done_at_once (Ok u) e named kept = combined named e
+  done_at_once (Err u) e named kept = (refl, kept)
+
+  pub does_at_once : {E : Type 0} (res : Result (Unit {0}) E) (did : Did) (o : NumberedOut (List ℤ)) (k : Option Kind) → k ≡ Some kind → o ≡ pure vs
+      → did ≡ (if is_ok res then Next else Nothing) → OnOk res (m ≡ updating r kind vs l) → OnOk res (names_element kind vs ≡ true) → OnErr res (m ≡ l)
+      → Does passes p (λ kit. evaluated n o (combining k n p r)) a l did a m
+  does_at_once res did o k is read d e named kept =
+      subst (λ (j : Option Kind). Does passes p (λ kit. evaluated n o (combining j n p r)) a l did a m) (sym is)
+      (subst (λ (q : NumberedOut (List ℤ)). Does passes p (λ kit. evaluated n q (combining (Some kind) n p r)) a l did a m) (sym read)
+      (subst (λ (x : Did). Does passes p (λ kit. evaluated n (pure vs) (combining (Some kind) n p r)) a l x a m) (sym d) (done_at_once res e named kept)))
