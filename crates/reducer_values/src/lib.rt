@@ -20,4 +20,4 @@ pub use fixed::sum_of;
 pub use monoid_laws::{InjectError, Kind, Table, TableAnswer, Val};
 pub use table_check::check_table;
 pub use table_rows::table_of;
-pub use updating::add_element;
+pub use updating::{add_at_once, add_element};

@@ -1,13 +1,14 @@
 //! Updates in place: a number behind a list, an amount at a key.
-ghost use Rattle.std.specs.Prelude.{◌≡◌, ℕ, ◌≤◌, OnOk, OnErr, IfErr, IsOk, ◌++◌, ◌∷◌, [], take, length, true, Some};
+ghost use Rattle.std.specs.Prelude.{◌≡◌, ℕ, ◌≤◌, OnOk, OnErr, IfErr, IsOk, ◌++◌, ◌∷◌, [], take, length, true, false, Some};
 ghost use Rattle.monoid_laws.specs.Worth.{items, amounts, best, the_amounts, the_best};
 ghost use Rattle.monoid_laws.specs.Kinds.{last_of, merge, meaning, operate, element_of, arity, names_element, refusal, IsWorth, IsAmounts, IsNumberKind};
 ghost use Rattle.monoid_laws.specs.Kinds.{better};
+ghost use Rattle.monoid_laws.specs.declared.Kind.TheVariants as kinds;
 ghost use Rattle.reducer_values.specs.Forms.{kept, is_fixed, IsListKind};
 
 use crate::adding::add_amount;
 use crate::elements::{one_amount, one_number};
-use crate::fixed::{combine_fixed, combine_numbers, number_of, put};
+use crate::fixed::{combine_fixed, combine_numbers, number_of, sum_of};
 use crate::{InjectError, Kind, Val, combine, inject};
 use std::alloc::{AllocError, Global};
 
@@ -63,6 +64,7 @@ fn push_kept(kind: &Kind, list: &mut Vec<i64>, number: i64) -> Result<(), AllocE
 }
 
 /// Puts a number behind a value that is a list; a whole one takes it in place.
+#[inline(never)]
 fn add_number(alloc: Global, kind: &Kind, value: &mut Val, number: i64) -> Result<(), AllocError>
     requires listed { IsListKind kind.now }
     requires of_kind { IsWorth kind.now (meaning value.old) }
@@ -82,6 +84,7 @@ fn add_number(alloc: Global, kind: &Kind, value: &mut Val, number: i64) -> Resul
 }
 
 /// Adds an amount at a key to a value that is amounts; a whole one takes it in place.
+#[inline(never)]
 fn add_at_key(alloc: Global, value: &mut Val, key: i64, amount: i64) -> Result<(), AllocError>
     requires { IsAmounts (meaning value.old) }
     ensures added { OnOk result (meaning value.new ≡ amounts (merge (the_amounts (meaning value.old)) ((key, amount) ∷ []))) }
@@ -99,6 +102,15 @@ fn add_at_key(alloc: Global, value: &mut Val, key: i64, amount: i64) -> Result<(
     }
 }
 
+/// Puts what a kind of numbers makes of a value of another form and a number in its place.
+#[inline(never)]
+fn set_number(kind: &Kind, value: &mut Val, number: i64)
+    requires { IsNumberKind kind.now }
+    ensures { meaning value.new ≡ operate kind.now (meaning value.old) (element_of kind.now (number ∷ [])) }
+{
+    *value = Val::Int(combine_numbers(kind, number_of(value), number));
+}
+
 /// Combines a number on the right of a value of a kind of numbers.
 #[inline(always)]
 fn add_to_number(kind: &Kind, value: &mut Val, number: i64)
@@ -107,14 +119,12 @@ fn add_to_number(kind: &Kind, value: &mut Val, number: i64)
 {
     match value {
         Val::Int(held) => *held = combine_numbers(kind, *held, number),
-        other => put(
-            other,
-            Val::Int(combine_numbers(kind, number_of(other), number)),
-        ),
+        other => set_number(kind, other, number),
     }
 }
 
 /// Combines an element that takes no memory on the right of a value.
+#[inline(never)]
 fn add_fixed(
     alloc: Global,
     kind: &Kind,
@@ -136,21 +146,66 @@ fn add_fixed(
     Ok(())
 }
 
-/// Puts a pair in place of the best one, where its first number is greater.
+/// Adds a number to a sum in its own form; whether that was done.
 #[inline(always)]
-fn add_best(value: &mut Val, measure: i64, row: i64)
-    ensures { meaning value.new ≡ best (better (the_best (meaning value.old)) (Some (measure, row))) }
+fn add_to_sum(value: &mut Val, number: i64) -> bool
+    ensures added { result ≡ true → meaning value.new ≡ operate kinds.Add (meaning value.old) (element_of kinds.Add (number ∷ [])) }
+    ensures kept { result ≡ false → value.new ≡ value.old }
 {
     match value {
-        Val::Arg(held) => match held {
-            Some(pair) => {
-                if pair.0 < measure {
-                    *pair = (measure, row);
-                }
+        Val::Int(held) => {
+            *held = sum_of(*held, number);
+            true
+        }
+        _ => false,
+    }
+}
+
+/// Puts a pair in place of the best one, where its first number is greater, in a best pair's own form; whether that was done.
+#[inline(always)]
+fn add_to_best(value: &mut Val, measure: i64, row: i64) -> bool
+    ensures added { result ≡ true → meaning value.new ≡ best (better (the_best (meaning value.old)) (Some (measure, row))) }
+    ensures kept { result ≡ false → value.new ≡ value.old }
+{
+    match value {
+        Val::Arg(held) => {
+            put_better(held, measure, row);
+            true
+        }
+        _ => false,
+    }
+}
+
+/// Puts a pair in place of the best one, where its first number is greater.
+#[inline(always)]
+fn put_better(held: &mut Option<(i64, i64)>, measure: i64, row: i64)
+    ensures { held.new ≡ better held.old (Some (measure, row)) }
+{
+    match held {
+        Some(pair) => {
+            if pair.0 < measure {
+                *pair = (measure, row);
             }
-            None => *held = Some((measure, row)),
-        },
-        other => put(other, Val::Arg(Some((measure, row)))),
+        }
+        None => *held = Some((measure, row)),
+    }
+}
+
+/// Combines the element that the numbers name on the right of a value where that is a matter of a few steps, as for sums and best
+/// pairs in their own form; whether that was done.
+#[inline(always)]
+pub fn add_at_once(kind: &Kind, value: &mut Val, numbers: &[i64]) -> bool
+    requires count { length numbers.now ≡ arity kind.now }
+    ensures combined { result ≡ true → meaning value.new
+        ≡ operate kind.now (meaning value.old) (element_of kind.now numbers.now) }
+    ensures element { result ≡ true → IsWorth kind.now (element_of kind.now numbers.now) }
+    ensures named { result ≡ true → names_element kind.now numbers.now ≡ true }
+    ensures kept { result ≡ false → value.new ≡ value.old }
+{
+    match kind {
+        Kind::Add => add_to_sum(value, numbers[0]),
+        Kind::Argmax => add_to_best(value, numbers[0], numbers[1]),
+        _ => false,
     }
 }
 
@@ -211,15 +266,8 @@ pub fn add_element(
     ensures fixed { is_fixed kind.now ≡ true → names_element kind.now numbers.now ≡ true
         → IsOk result }
 {
-    match kind {
-        Kind::Add => {
-            add_to_number(kind, value, numbers[0]);
-            Ok(())
-        }
-        Kind::Argmax => {
-            add_best(value, numbers[0], numbers[1]);
-            Ok(())
-        }
-        _ => add_by_kind(alloc, kind, value, numbers),
+    if add_at_once(kind, value, numbers) {
+        return Ok(());
     }
+    add_by_kind(alloc, kind, value, numbers)
 }

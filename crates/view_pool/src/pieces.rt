@@ -5,7 +5,7 @@ ghost use Rattle.monoid_laws.specs.Kinds.{meaning, operate, identity_of, element
 use crate::amounts::{add_at_key, split_amounts};
 use crate::lists::{add_number, copied, extend_last, split_list};
 use monoid_laws::{InjectError, Kind, Val};
-use reducer_values::{add_element, combine, copy_of};
+use reducer_values::{add_at_once, add_element, combine, copy_of};
 use std::alloc::{AllocError, Global};
 
 /// How many numbers or keys fill a piece.
@@ -98,9 +98,36 @@ pub(crate) fn combine_in_pieces(
     }
 }
 
-/// Combines the element that the numbers name on the right of a value; refused as by `add_element`.
+/// Combines the element that the numbers name on the right of a value; refused as by `add_element`. Sums and best pairs are
+/// quickest.
 #[inline(always)]
 pub(crate) fn add_in_pieces(
+    alloc: Global,
+    kind: &Kind,
+    value: &mut Val,
+    numbers: &[i64],
+) -> Result<(), InjectError>
+    requires count { length numbers.now ≡ arity kind.now }
+    requires of_kind { IsWorth kind.now (meaning value.old) }
+    ensures combined { OnOk result (meaning value.new
+        ≡ operate kind.now (meaning value.old) (element_of kind.now numbers.now)) }
+    ensures element { OnOk result (IsWorth kind.now (element_of kind.now numbers.now)) }
+    ensures named { OnOk result (names_element kind.now numbers.now ≡ true) }
+    ensures refused { OnErr result (meaning value.new ≡ meaning value.old) }
+    ensures cause { IfErr result (λ e. e ≡ refusal kind.now numbers.now) }
+{
+    if add_at_once(kind, value, numbers) {
+        return Ok(());
+    }
+    match kind {
+        Kind::List | Kind::Hist => add_by_kind(alloc, kind, value, numbers),
+        _ => add_element(alloc, kind, value, numbers),
+    }
+}
+
+/// Combines the element that the numbers name on the right of a value of whatever kind.
+#[inline(never)]
+fn add_by_kind(
     alloc: Global,
     kind: &Kind,
     value: &mut Val,
