@@ -29,7 +29,7 @@ pub struct Record {
     procedure: usize,
     arguments: ShortList<i64>,
     value: i64,
-    contribution: Vec<(usize, Val)>,
+    contribution: ShortList<(usize, Val)>,
     reads: Readings,
     entered: ShortList<(usize, u64)>,
     height: u32,
@@ -46,7 +46,7 @@ impl Model for Record {
       procedure = r.procedure;
       arguments = items_in r.arguments;
       value = r.value;
-      contribution = map touched r.contribution.items;
+      contribution = map touched (items_in r.contribution);
       reads = r.reads;
       entered = items_in r.entered;
       height = r.height;
@@ -60,15 +60,40 @@ impl Record {
     /// it at most, itself counted. Reducers and procedures go by their numbers. It takes no memory, and keeps no spare room.
     pub fn new(
         procedure: usize,
-        mut arguments: ShortList<i64>,
+        arguments: ShortList<i64>,
         value: i64,
-        mut contribution: Vec<(usize, Val)>,
+        contribution: Vec<(usize, Val)>,
         reads: Readings,
-        mut entered: ShortList<(usize, u64)>,
+        entered: ShortList<(usize, u64)>,
         height: u32,
     ) -> Record
         ensures made { result ≡ made_of procedure (items_in arguments) value contribution.items reads
             (items_in entered) height }
+    {
+        Record::of_values(
+            procedure,
+            arguments,
+            value,
+            ShortList::new(contribution),
+            reads,
+            entered,
+            height,
+        )
+    }
+
+    /// The same, where one or two values lie by themselves.
+    #[inline(always)]
+    pub fn of_values(
+        procedure: usize,
+        mut arguments: ShortList<i64>,
+        value: i64,
+        mut contribution: ShortList<(usize, Val)>,
+        reads: Readings,
+        mut entered: ShortList<(usize, u64)>,
+        height: u32,
+    ) -> Record
+        ensures made { result ≡ made_of procedure (items_in arguments) value (items_in contribution)
+            reads (items_in entered) height }
     {
         arguments.shrink_to_fit();
         contribution.shrink_to_fit();
@@ -116,7 +141,7 @@ impl Record {
     pub fn contribution(&self) -> &[(usize, Val)]
         ensures contribution { map touched result.now ≡ self.now.contribution }
     {
-        &self.contribution
+        self.contribution.as_slice()
     }
 
     /// Lends what was read.

@@ -168,6 +168,42 @@ impl Records {
         }
     }
 
+    // The same record and its place, looked for at another place first.
+    fn place_near(
+        &self,
+        near: usize,
+        procedure: usize,
+        arguments: &[i64],
+    ) -> Option<(usize, &Record)>
+        ensures there { IfSome result (λ found.
+            slice_get (map settled self.now) found.0 ≡ Some found.1.now) }
+        ensures procedure { IfSome result (λ found. found.1.now.procedure ≡ procedure) }
+        ensures arguments { IfSome result (λ found. found.1.now.arguments ≡ arguments.now) }
+    {
+        match self.found_at(near, procedure, arguments) {
+            Some(record) => Some((near, record)),
+            None => self.place_of(procedure, arguments),
+        }
+    }
+
+    // The record at that place, where it is that of the procedure of that number with these arguments.
+    fn found_at(&self, place: usize, procedure: usize, arguments: &[i64]) -> Option<&Record>
+        ensures there { IfSome result (λ r.
+            slice_get (map settled self.now) place ≡ Some r.now) }
+        ensures procedure { IfSome result (λ r. r.now.procedure ≡ procedure) }
+        ensures arguments { IfSome result (λ r. r.now.arguments ≡ arguments.now) }
+    {
+        match self.by_instance.get_index(place) {
+            Some(record) => {
+                if !is_of(record, procedure, arguments) {
+                    return None;
+                }
+                Some(record)
+            }
+            None => None,
+        }
+    }
+
     // The record at that place, where it is valid now for an instance at that depth.
     fn valid_in<'a>(
         &self,
@@ -208,7 +244,7 @@ impl Records {
         ensures batch { IfSome result (λ b. IsBatch program.now tables.now.tables series.depth self.now
             procedure arguments.now series.counted series.most b.count b.sum.now) }
     {
-        match self.place_of(procedure, arguments) {
+        match self.place_near(series.near, procedure, arguments) {
             Some((place, record)) => self.batch_at(place, record, series, tables, program),
             None => None,
         }
@@ -233,7 +269,7 @@ impl Records {
             record.now.procedure record.now.arguments series.counted series.most b.count b.sum.now) }
     {
         match self.blocks.widest(place, series, program) {
-            Some(block) => Some(Batch::whole(block)),
+            Some(block) => Some(Batch::whole(block, place)),
             None => self.batch_of_one(place, record, series, tables, program),
         }
     }
@@ -257,7 +293,7 @@ impl Records {
             record.now.procedure record.now.arguments series.counted series.most b.count b.sum.now) }
     {
         match self.valid_in(place, record, series.depth, tables, program) {
-            Some(record) => Some(Batch::one(record)),
+            Some(record) => Some(Batch::one(record, place)),
             None => None,
         }
     }
@@ -434,6 +470,17 @@ impl Records {
         self.changes.clear();
         compare_all(self.by_instance.as_slice(), &mut self.moments, tables);
     }
+}
+
+// Whether the record is that of the procedure of that number with these arguments.
+fn is_of(record: &Record, procedure: usize, arguments: &[i64]) -> bool
+    ensures of { result ≡ is_of procedure arguments.now record.now }
+{
+    Asked {
+        procedure,
+        arguments,
+    }
+    .equivalent(record)
 }
 
 // Room for so many records, and for those of some runs behind: else the first put after a large run would move all of them.

@@ -1,0 +1,22 @@
+use Rattle.std.proofs.Common.{◌≡◌, List, map, ap, sym, ◌∙◌, true}
+use Rattle.std.specs.Prelude.{slice_get}
+use Rattle.rerun_records.specs.Record.{PlainRecord, is_of, settled}
+use Rattle.rerun_records.proofs.Standing.{standing_settled}
+use Rattle.rerun_records.proofs.Wholes.{of_procedure, of_arguments}
+use Rattle.rerun_records.proofs.records.Records.found_at.Goals as goal
+
+pub returns-else-not-is_of-clause-there : goal.returns-else-not-is_of-clause-there
+returns-else-not-is_of-clause-there c =
+    ap (λ (xs : List PlainRecord). slice_get xs c.args.place)
+    (sym (ap (map settled) c.self.view_is) ∙ standing_settled c.self.inside.changes.items c.self.inside.moments.items c.self.inside.by_instance.keys ∙ c.self.invariant.0.settled_are)
+    ∙ sym c.in-Some.ensures.key
+
+pub returns-else-not-is_of-clause-procedure : goal.returns-else-not-is_of-clause-procedure
+returns-else-not-is_of-clause-procedure c =
+    let same : is_of c.args.procedure c.args.arguments.now c.in-Some.record.now ≡ true = sym c.is_of.ensures.of ∙ c.if-not-is_of.false in
+    of_procedure c.args.procedure c.args.arguments.now c.in-Some.record.now same
+
+pub returns-else-not-is_of-clause-arguments : goal.returns-else-not-is_of-clause-arguments
+returns-else-not-is_of-clause-arguments c =
+    let same : is_of c.args.procedure c.args.arguments.now c.in-Some.record.now ≡ true = sym c.is_of.ensures.of ∙ c.if-not-is_of.false in
+    of_arguments c.args.procedure c.args.arguments.now c.in-Some.record.now same
