@@ -83,6 +83,7 @@ impl<V: View> Layer<V> {
     }
 
     /// A layer that has noted nothing, in those empty lists: the last one is for the reducers that will be used.
+    #[inline(always)]
     pub fn open_in(
         alloc: Global,
         kit: Kit<V>,

@@ -1,5 +1,5 @@
 //! What is kept of a memo instance whose layer is open, and what a record keeps of the layer once it is over.
-ghost use Rattle.std.specs.Prelude.{true, ◌≡◌, ◌<◌, ◌++◌, IfOk, OnOk, length, map, slice_get};
+ghost use Rattle.std.specs.Prelude.{true, ◌≡◌, ◌<◌, ◌++◌, ◌∷◌, [], IfOk, OnOk, length, map, slice_get};
 ghost use Rattle.std.specs.List.{list_any};
 ghost use Rattle.monoid_laws.specs.Worth.{Worth};
 ghost use Rattle.monoid_laws.specs.Kinds.{meaning};
@@ -27,6 +27,7 @@ use rerun_records::record::Record;
 use rerun_records::short_list::ShortList;
 use std::alloc::{AllocError, Global};
 use std::marker::Model;
+use std::mem;
 use view_pool::View;
 
 /// A memo instance with a layer of its own: its procedure, its arguments, how many levels there are below it, and how long its
@@ -80,7 +81,7 @@ impl Opened {
 /// nested at most, main counted.
 #[derive(Drop)]
 pub(crate) struct Recording {
-    contribution: Vec<(usize, Val)>,
+    contribution: ShortList<(usize, Val)>,
     reads: Readings,
     entered: ShortList<(usize, u64)>,
     levels: u32,
@@ -94,7 +95,7 @@ impl Model for Recording {
 
     ghost Value = { PlainRecording };
 
-    ghost view = { λ r. record { contribution = map touched r.contribution.items; reads = r.reads; entered = items_in r.entered; levels = r.levels } };
+    ghost view = { λ r. record { contribution = map touched (items_in r.contribution); reads = r.reads; entered = items_in r.entered; levels = r.levels } };
 }
 
 impl Recording {
@@ -122,7 +123,7 @@ impl Recording {
             levels,
         } = self;
         let height = levels.saturating_sub(DEEPEST.saturating_sub(left));
-        Record::new(
+        Record::of_values(
             procedure,
             arguments,
             value,
@@ -165,60 +166,116 @@ fn contribution<V: View>(
     alloc: Global,
     hypermap: &Hypermap<V>,
     kinds: &[Kind],
-) -> Result<Vec<(usize, Val)>, AllocError>
+) -> Result<ShortList<(usize, Val)>, AllocError>
     requires kinds { hypermap.now.kinds ≡ kinds.now }
     ensures touched { IfOk result (λ c.
-        map touched c.items ≡ touched_from 0 hypermap.now.kinds hypermap.now.worths) }
+        map touched (items_in c) ≡ touched_from 0 hypermap.now.kinds hypermap.now.worths) }
     ensures values { IfOk result (λ c.
-        AreValuesFrom 0 hypermap.now.kinds (map touched c.items)) }
+        AreValuesFrom 0 hypermap.now.kinds (map touched (items_in c))) }
 {
     let _ = hypermap.len();
-    let mut values = Vec::new(alloc);
-    let room = hypermap.used_count();
+    let mut values = ShortList::new(Vec::new(alloc));
     for reducer in 0..kinds.len() {
-        push_touched(&mut values, hypermap, reducer, &kinds[reducer], room)?;
+        push_touched(alloc, &mut values, hypermap, reducer, &kinds[reducer])?;
     }
     Ok(values)
 }
 
-/// Puts a copy of a reducer's value behind the others, unless it is the identity; the first makes room for so many.
+/// Puts a copy of a reducer's value behind the others, unless it is the identity.
 fn push_touched<V: View>(
-    values: &mut Vec<(usize, Val)>,
+    alloc: Global,
+    values: &mut ShortList<(usize, Val)>,
     hypermap: &Hypermap<V>,
     reducer: usize,
     kind: &Kind,
-    room: usize,
 ) -> Result<(), AllocError>
     requires there { reducer < length hypermap.now.kinds }
     requires kind { IsAt hypermap.now.kinds reducer kind.now }
     ensures pushed { (w : Worth) → IsAt hypermap.now.worths reducer w → OnOk result
-        (map touched values.new.items ≡ map touched values.old.items ++ touched_at reducer kind.now w) }
+        (map touched (items_in values.new)
+        ≡ map touched (items_in values.old) ++ touched_at reducer kind.now w) }
 {
     let _ = hypermap.len();
     match hypermap.used_value(reducer)? {
-        Some(value) => push_value(values, reducer, kind, value, room),
+        Some(value) => push_value(alloc, values, reducer, kind, value, hypermap.used_count()),
         None => Ok(()),
     }
 }
 
-/// Puts a value behind the others, unless it is the identity; the first makes room for so many.
+/// Puts a value behind the others, which are so many at most, unless it is the identity.
 fn push_value(
-    values: &mut Vec<(usize, Val)>,
+    alloc: Global,
+    values: &mut ShortList<(usize, Val)>,
     reducer: usize,
     kind: &Kind,
     value: Val,
-    room: usize,
+    most: usize,
 ) -> Result<(), AllocError>
-    ensures pushed { OnOk result (map touched values.new.items
-        ≡ map touched values.old.items ++ touched_at reducer kind.now (meaning value)) }
+    ensures pushed { OnOk result (map touched (items_in values.new)
+        ≡ map touched (items_in values.old) ++ touched_at reducer kind.now (meaning value)) }
 {
-    if !is_identity(kind, &value) {
-        if values.is_empty() {
-            values.reserve_exact(room)?;
-        }
-        values.push((reducer, value))?;
+    if is_identity(kind, &value) {
+        return Ok(());
     }
-    Ok(())
+    put_behind(alloc, values, (reducer, value), most)
+}
+
+/// Puts a value with its reducer's number behind the others, which are so many at most. Two lie by themselves.
+fn put_behind(
+    alloc: Global,
+    values: &mut ShortList<(usize, Val)>,
+    value: (usize, Val),
+    most: usize,
+) -> Result<(), AllocError>
+    ensures put { OnOk result (items_in values.new ≡ items_in values.old ++ value ∷ []) }
+{
+    match mem::replace(values, ShortList::Several(Vec::new(alloc))) {
+        ShortList::One(first) => {
+            *values = ShortList::Two([first, value]);
+            Ok(())
+        }
+        ShortList::Two(pair) => {
+            *values = three(alloc, pair, value, most)?;
+            Ok(())
+        }
+        ShortList::Several(items) => {
+            *values = one_more(items, value)?;
+            Ok(())
+        }
+    }
+}
+
+/// Three values, with room for so many.
+#[inline(never)]
+fn three(
+    alloc: Global,
+    pair: [(usize, Val); 2],
+    value: (usize, Val),
+    most: usize,
+) -> Result<ShortList<(usize, Val)>, AllocError>
+    ensures three { IfOk result (λ list. items_in list ≡ pair ++ value ∷ []) }
+{
+    let [first, second] = pair;
+    let mut items = Vec::new(alloc);
+    items.reserve_exact(most)?;
+    items.push(first)?;
+    items.push(second)?;
+    items.push(value)?;
+    Ok(ShortList::Several(items))
+}
+
+/// One more value behind others, or it alone.
+fn one_more(
+    mut items: Vec<(usize, Val)>,
+    value: (usize, Val),
+) -> Result<ShortList<(usize, Val)>, AllocError>
+    ensures more { IfOk result (λ list. items_in list ≡ items.items ++ value ∷ []) }
+{
+    if items.is_empty() {
+        return Ok(ShortList::One(value));
+    }
+    items.push(value)?;
+    Ok(ShortList::Several(items))
 }
 
 /// A layer's own readings, each once, and then those that it shares. Those of one instance alone are handed on as they are.

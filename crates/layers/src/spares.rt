@@ -4,67 +4,39 @@ ghost use Rattle.std.specs.Prelude.{◌≡◌, []};
 use evaluation::notes::Notes;
 use std::alloc::Global;
 
-/// Lists of notes, of flags and of used reducers for layers to come. What they held doesn't matter.
+/// Lists for layers to come: each of notes, of flags and of used reducers. What they held doesn't matter.
 #[derive(Drop)]
 pub struct SpareLists {
-    notes: Vec<Notes>,
-    flags: Vec<Vec<bool>>,
-    used: Vec<Vec<usize>>,
+    lists: Vec<(Notes, Vec<bool>, Vec<usize>)>,
 }
 
 impl SpareLists {
     /// None yet.
     pub fn new(alloc: Global) -> SpareLists {
         SpareLists {
-            notes: Vec::new(alloc),
-            flags: Vec::new(alloc),
-            used: Vec::new(alloc),
+            lists: Vec::new(alloc),
         }
     }
 
-    /// An empty list of notes.
-    pub fn notes(&mut self, alloc: Global) -> Notes
-        ensures empty { result ≡ [] }
+    /// Empty lists of notes, of flags and of used reducers.
+    pub fn take(&mut self, alloc: Global) -> (Notes, Vec<bool>, Vec<usize>)
+        ensures no_notes { result.0 ≡ [] }
+        ensures no_flags { result.1.items ≡ [] }
+        ensures none_used { result.2.items ≡ [] }
     {
-        match self.notes.pop() {
-            Some(mut notes) => {
+        match self.lists.pop() {
+            Some((mut notes, mut flags, mut used)) => {
                 notes.clear();
-                notes
-            }
-            None => Notes::new(alloc),
-        }
-    }
-
-    /// An empty list of flags.
-    pub fn flags(&mut self, alloc: Global) -> Vec<bool>
-        ensures empty { result.items ≡ [] }
-    {
-        match self.flags.pop() {
-            Some(mut flags) => {
                 flags.clear();
-                flags
-            }
-            None => Vec::new(alloc),
-        }
-    }
-
-    /// An empty list of used reducers.
-    pub fn used(&mut self, alloc: Global) -> Vec<usize>
-        ensures empty { result.items ≡ [] }
-    {
-        match self.used.pop() {
-            Some(mut used) => {
                 used.clear();
-                used
+                (notes, flags, used)
             }
-            None => Vec::new(alloc),
+            None => (Notes::new(alloc), Vec::new(alloc), Vec::new(alloc)),
         }
     }
 
     /// Keeps the lists of a layer that is closed. Where memory is refused for that they are let go.
     pub fn keep_layer(&mut self, notes: Notes, flags: Vec<bool>, used: Vec<usize>) {
-        let _ = self.notes.push(notes);
-        let _ = self.flags.push(flags);
-        let _ = self.used.push(used);
+        let _ = self.lists.push((notes, flags, used));
     }
 }

@@ -53,6 +53,7 @@ impl<V: View> Machine<V> {
     }
 
     /// Answers the topmost instance, one of a memo procedure, by a record, or begins it.
+    #[inline(always)]
     pub(crate) fn recall<K: KitSource<Kit<V>>>(
         &mut self,
         alloc: Global,
@@ -161,9 +162,7 @@ impl<V: View> Machine<V> {
             Ok(opened) => opened,
             Err(error) => return Err((error, kit)),
         };
-        let notes = self.lists.notes(alloc);
-        let flags = self.lists.flags(alloc);
-        let used = self.lists.used(alloc);
+        let (notes, flags, used) = self.lists.take(alloc);
         let count = program.codes().len();
         let layer = match Layer::open_in(alloc, kit, true, count, notes, flags, used) {
             Ok(layer) => layer,
