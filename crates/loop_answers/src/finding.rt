@@ -62,13 +62,15 @@ struct Search {
     tried: Option<i64>,
 }
 
-/// Iterations of a loop: the number of the first, how many at most, their depth, and which argument is the number.
+/// Iterations of a loop: the number of the first, how many at most, their depth, which argument is the number, and the place at which
+/// the record of the first may lie.
 #[derive(Clone, Copy)]
 struct Ahead {
     number: i64,
     most: u32,
     depth: u32,
     counted: Option<usize>,
+    near: usize,
 }
 
 /// Batches that answer a loop's iterations, those from the first on, one after another as far as there are such, at most so many
@@ -154,6 +156,7 @@ fn answers_by<'a, V: View>(
         most: search.wanted.most,
         depth,
         counted,
+        near: 0,
     };
     if is_stale(machine, alloc, setting, code, search, first, numbers) {
         return None;
@@ -162,6 +165,7 @@ fn answers_by<'a, V: View>(
     let _ = batches.reserve(FIRST_ROOM);
     let mut count = 0;
     let mut singles = 0;
+    let mut near = 0;
     for _ in 0..BATCHES {
         if count == search.wanted.most {
             return Some(Found { batches, count });
@@ -171,6 +175,7 @@ fn answers_by<'a, V: View>(
             most: search.wanted.most - count,
             depth,
             counted,
+            near,
         };
         match batch_from(machine, alloc, setting, code, ahead, numbers) {
             Some(batch) => {
@@ -182,6 +187,7 @@ fn answers_by<'a, V: View>(
                     return Some(Found { batches, count });
                 }
                 count += batch.count;
+                near = batch.next;
             }
             None => return Some(Found { batches, count }),
         }
@@ -240,6 +246,7 @@ fn is_stale<V: View>(
                 most,
                 depth: first.depth,
                 counted: first.counted,
+                near: 0,
             };
             match batch_from(machine, alloc, setting, code, ahead, numbers) {
                 Some(batch) => is_in_vain(search.wanted, ahead, batch, 1),
@@ -289,6 +296,7 @@ fn is_in_vain(wanted: Wanted, ahead: Ahead, batch: Batch<'_>, singles: u32) -> b
 
 /// The batch that answers a loop's iterations from that number on; `numbers` are the arguments of another iteration, where one of
 /// them counts up.
+#[inline(always)]
 fn batch_from<'a, V: View>(
     machine: &mut Machine<V>,
     alloc: Global,
@@ -317,6 +325,7 @@ fn batch_from<'a, V: View>(
                 counted: place,
                 most: ahead.most,
                 depth: ahead.depth,
+                near: ahead.near,
             };
             setting.records.batch(
                 code.callee,
@@ -339,6 +348,7 @@ fn put_number(numbers: &mut Vec<i64>, place: usize, number: i64)
 }
 
 /// The record that answers a loop's iteration of that number.
+#[inline(never)]
 fn single_at<'a, V: View>(
     machine: &mut Machine<V>,
     alloc: Global,
@@ -373,7 +383,11 @@ fn single<'a>(
         arguments.now ≡ Some b.sum.now)) }
 {
     match setting.records.valid(procedure, arguments, depth, setting.tables, setting.program) {
-        Some(sum) => Some(Batch { sum, count: 1 }),
+        Some(sum) => Some(Batch {
+            sum,
+            count: 1,
+            next: 0,
+        }),
         None => None,
     }
 }
