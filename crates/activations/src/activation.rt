@@ -1,13 +1,15 @@
 //! An instance of a procedure or of a loop, by numbers.
-ghost use Rattle.std.specs.Prelude.{◌≡◌, ◌+◌, ◌-◌, ◌<◌, ◌^◌, length, OnErr, OnOk, None, IfOk, map, [], slice_get, slice_set};
+ghost use Rattle.std.specs.Prelude.{◌≡◌, ◌+◌, ◌-◌, ◌<◌, ◌^◌, length, OnErr, OnOk, None, IfOk, map, [], false, slice_get, slice_set};
 ghost use Rattle.evaluation.specs.declared.slot.Slot.TheVariants.{Has, Waits};
 ghost use Rattle.linked_program.specs.CodeView.{expression as plain};
 ghost use Rattle.evaluation.specs.Ends.{Answers, Ends};
 ghost use Rattle.evaluation.specs.Values.{entry_at};
-ghost use Rattle.positions.specs.Activations.{WorkFits, bound, at, waiting, made, first_of, inside, outside, next_of};
+ghost use Rattle.positions.specs.Activations.{WorkFits, ShareFits, bound, at, waiting, made, inside, outside, next_of};
+ghost use Rattle.positions.specs.Advance.{rest_of as later_of};
 ghost use Rattle.activations.specs.Slots.{restored_slots};
 ghost use Rattle.positions.specs.Moves.{settled, settled_slot};
 
+use crate::shares::rest_of;
 use evaluation::entry::fill_slots;
 use evaluation::notes::Notes;
 use evaluation::slot::Slot;
@@ -15,7 +17,7 @@ use evaluation::stop::Stop;
 use evaluation::unnoted;
 use input_tables::Tables;
 use linked_program::code::Expression;
-use positions::work::{Position, Work};
+use positions::work::{Loop, Position, Share, Work};
 use std::alloc::{AllocError, Global};
 use std::marker::Model;
 
@@ -119,16 +121,15 @@ impl Activation {
         unnoted::fill_slots(&mut self.slots, size, arguments, slots, tables)
     }
 
-    /// Begins as an instance of that procedure, with the slots that it has.
+    /// Begins as an instance of that procedure, with the slots that it has; what it has left stays.
     #[inline(always)]
     pub fn begin(&mut self, procedure: usize, left: u32)
-        ensures begun { self.new ≡ made procedure self.old.slots (Work.Block (first_of 0)) left }
+        ensures begun { self.new ≡ made procedure self.old.slots self.old.work left }
     {
         self.left = left;
         self.children = 0;
         self.procedure = procedure;
         self.outer.clear();
-        self.work = Work::Block(FIRST);
         self.spawned = false;
         self.into = None;
     }
@@ -254,6 +255,40 @@ impl Activation {
         self.work = work;
     }
 
+    /// Stands at that place.
+    #[inline(always)]
+    pub fn stand(&mut self, place: Position)
+        ensures stands { self.new ≡ at (Work.Block place) self.old }
+    {
+        put_place(&mut self.work, place);
+    }
+
+    /// Has called one more instance, for whose value that slot is, and stands at that place.
+    #[inline(always)]
+    pub fn wait_at(&mut self, into: Option<usize>, place: Position)
+        requires room { self.old.children + 1 < 2 ^ 64 }
+        ensures waiting { self.new ≡ waiting false into (Work.Block place) self.old }
+    {
+        self.children += 1;
+        self.spawned = false;
+        self.into = into;
+        put_place(&mut self.work, place);
+    }
+
+    /// Has called the next iteration of its loop, and has those behind it left.
+    #[inline(always)]
+    pub fn turn(&mut self, site: Loop, share: Share)
+        requires room { self.old.children + 1 < 2 ^ 64 }
+        requires fits { ShareFits site share }
+        requires more { 0 < share.count }
+        ensures waiting { self.new ≡ waiting false None (Work.Turns site (later_of share)) self.old }
+    {
+        self.children += 1;
+        self.spawned = false;
+        self.into = None;
+        put_turns(&mut self.work, site, rest_of(site, share));
+    }
+
     /// Has entered one more instance, for whose value that slot is, and has that left.
     pub fn wait(&mut self, spawned: bool, into: Option<usize>, work: Work)
         requires room { self.old.children + 1 < 2 ^ 64 }
@@ -298,7 +333,7 @@ impl Activation {
         ensures unchanged { OnErr result (self.new ≡ self.old) }
     {
         self.outer.push(next_of(place))?;
-        self.work = Work::Block(Position { block, index: 0 });
+        put_place(&mut self.work, Position { block, index: 0 });
         Ok(())
     }
 
@@ -306,10 +341,10 @@ impl Activation {
     pub fn go_outside(&mut self)
         ensures outside { self.new ≡ outside self.old }
     {
-        self.work = match self.outer.pop() {
-            None => Work::Over,
-            Some(place) => Work::Block(place),
-        };
+        match self.outer.pop() {
+            None => self.work = Work::Over,
+            Some(place) => put_place(&mut self.work, place),
+        }
     }
 
     /// Gives that value to the slots that wait for the child of that number; a loop's slots wait for none.
@@ -320,6 +355,31 @@ impl Activation {
             Work::Block(_) | Work::Over => settle_all(&mut self.slots, child, value),
             _ => {}
         }
+    }
+}
+
+/// Puts a place in place of what is left: where that is a place already, nothing else is written.
+#[inline(always)]
+fn put_place(work: &mut Work, place: Position)
+    ensures place { work.new ≡ Work.Block place }
+{
+    match work {
+        Work::Block(held) => *held = place,
+        other => *other = Work::Block(place),
+    }
+}
+
+/// Puts iterations in place of what is left.
+#[inline(always)]
+fn put_turns(work: &mut Work, site: Loop, share: Share)
+    ensures turns { work.new ≡ Work.Turns site share }
+{
+    match work {
+        Work::Turns(held_site, held) => {
+            *held_site = site;
+            *held = share;
+        }
+        other => *other = Work::Turns(site, share),
     }
 }
 

@@ -29,11 +29,15 @@ impl Spares {
         }
     }
 
-    /// An instance in place of the one that is kept, with lists that are kept.
+    /// An instance in place of the one that is kept, with lists that are kept. Its slots hold what they held: most instances have
+    /// as many as those before them, and those are written over at once.
     pub fn blank(&mut self, alloc: Global) -> Activation
         ensures child { self.new.child ≡ self.old.child }
     {
-        let slots = self.slots(alloc);
+        let slots = match self.slots.pop() {
+            Some(slots) => slots,
+            None => Vec::new(alloc),
+        };
         let places = self.places(alloc);
         Activation::new(0, slots, places, Work::Over, 0)
     }
