@@ -1,11 +1,12 @@
 -- Many small steps: one behind another.
-use Rattle.std.proofs.Common.{◌≡◌, ℕ, ℤ, pos, Bool, List, [], ◌∷◌, length, take, Option, Some, None, Ok, Err, refl, sym, ap, ◌∙◌, subst}
+use Rattle.std.proofs.Common.{◌≡◌, ℕ, ℤ, pos, Bool, List, [], ◌∷◌, length, take, Option, Some, None, Ok, Err, refl, sym, ap, ◌∙◌, subst, slice_get}
 use Rattle.evaluation.specs.declared.slot.Slot.{Slot}
 use Rattle.evaluation.specs.declared.note.Note.{Note}
 use Rattle.evaluation.specs.declared.stop.Stop.{Stop}
 use Rattle.evaluation.specs.declared.stop.Stop.TheVariants.{NoMemory, Fault}
 use Rattle.evaluation.specs.Values.{NumberedOut}
 use Rattle.linked_program.specs.declared.code.Instruction.{Instruction}
+use Rattle.linked_program.specs.declared.code.Code.{Code}
 use Rattle.positions.specs.declared.work.Position.{Position}
 use Rattle.positions.specs.declared.work.Work.{Work}
 use Rattle.positions.specs.declared.work.Work.TheVariants.{Block, Over}
@@ -20,6 +21,10 @@ use Rattle.layers.specs.Ends.{HasNoted}
 use Rattle.layers.proofs.Kept.{first_kept, take_all}
 use Rattle.own_statements.specs.declared.statements.Did.{Did}
 use Rattle.own_statements.specs.declared.statements.Did.TheVariants.{Nothing, Next, Moved, Gave}
+use Rattle.own_statements.specs.declared.ran.Ran.{Ran}
+use Rattle.own_statements.specs.declared.ran.Ran.TheVariants.{On, Stopped}
+use Rattle.own_statements.specs.declared.ran.Ran.TheVariants as r
+use Rattle.own_statements.specs.Runs.{RunsTo, IsBlock}
 use Rattle.own_statements.specs.Paths.{IsPath, here, on, topped, ComesTo, Does}
 
 -- readings that are forgotten again
@@ -29,6 +34,17 @@ forget_noted ns l m e = ap (λ (k : PlainLayer). record k { notes = take (length
 pub forget_stopped : {A B : Type 0} (view : B → A) (o : NumberedOut A) (l m : PlainLayer) (e : Stop) → HasNoted view o l m (Err e) → record m { notes = take (length l.notes) m.notes } ≡ l
 forget_stopped view o l m (Fault k) h = forget_noted o.notes l m h.1
 forget_stopped view o l m NoMemory h = ap (λ (k : PlainLayer). record k { notes = take (length l.notes) k.notes }) h ∙ ap (λ xs. record l { notes = xs }) (take_all l.notes)
+
+-- what stands at a place, for two instances with the same procedure and the same blocks around
+pub found_as : (codes : List Code) (a b : PlainActivation) (p : Position) → b.procedure ≡ a.procedure → b.outer ≡ a.outer
+    → instruction_inside codes a.procedure (length a.outer) p ≡ instruction_inside codes b.procedure (length b.outer) p
+found_as codes a b p procedure outer =
+    ap (λ f. instruction_inside codes f (length a.outer) p) (sym procedure) ∙ ap (λ (ps : List Position). instruction_inside codes b.procedure (length ps) p) (sym outer)
+
+pub block_found : (codes : List Code) (a : PlainActivation) (block f depth : ℕ) (xs : List Instruction) → f ≡ a.procedure → depth ≡ length a.outer
+    → ((index : ℕ) → slice_get xs index ≡ instruction_inside codes f depth (record { block = block; index = index })) → IsBlock codes a block xs
+block_found codes a block f depth xs procedure around found index =
+    found index ∙ ap (λ g. instruction_inside codes g depth (record { block = block; index = index })) procedure ∙ ap (λ d. instruction_inside codes a.procedure d (record { block = block; index = index })) around
 
 module _ (setting : Setting) where
   -- one path behind another
@@ -57,6 +73,12 @@ module _ (setting : Setting) where
     -- one stretch behind another
     pub come_join : (b : PlainActivation) (m : PlainLayer) (given : Option ℤ) (c : PlainActivation) (n : PlainLayer) → ComesTo setting passes a l None b m → ComesTo setting passes b m given c n → ComesTo setting passes a l given c n
     come_join b m given c n h k s may = path_join (topped Running a l s) (topped Running b m s) _ (h s may) (k s may)
+
+    -- and what came of the last one
+    pub run_join : (b : PlainActivation) (m : PlainLayer) (ran : Ran) (c : PlainActivation) (n : PlainLayer) → ComesTo setting passes a l None b m → RunsTo setting passes b m ran c n → RunsTo setting passes a l ran c n
+    run_join b m (On p xs) c n h k = (come_join b m None (at (Block p) c) n h k.0, k.1)
+    run_join b m (r.Gave v) c n h k = come_join b m (Some v) c n h k
+    run_join b m Stopped c n h k = come_join b m None c n h k
 
     pub come_over : (b : PlainActivation) (m : PlainLayer) → ComesTo setting passes a l None b m → b.work ≡ Over → ComesTo setting passes a l (Some (pos 0)) b m
     come_over b m come over s may = on (topped Running b m s) (topped (Returning (pos 0)) b m s) (come s may) (λ kit. sym (ap (λ w. worked setting kit w (topped Running b m s)) over))

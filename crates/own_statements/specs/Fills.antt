@@ -1,5 +1,6 @@
 -- An instance's slots that are put in place.
-use Rattle.std.specs.Prelude.{◌≡◌, ℕ, zero, suc, ℤ, Ok}
+use Rattle.std.specs.Prelude.{◌≡◌, ◌<◌, ℕ, zero, suc, ℤ, List, [], ◌∷◌, length, Ok}
+use Rattle.linked_program.specs.Linked.{Linked, slot}
 use Rattle.evaluation.specs.declared.slot.Slot.{Slot}
 use Rattle.evaluation.specs.declared.slot.Slot.TheVariants.{Unset, Has}
 use Rattle.evaluation.specs.Values.{NumberedOut}
@@ -13,3 +14,7 @@ Fills o a old new = (o.answer ≡ Ok a) × (new ≡ noting o.notes old)
 abbrev pub first_has : ℕ → ℤ → Slot
 first_has zero v = Has v
 first_has (suc i) v = Unset
+
+-- the arguments of an iteration are the loop's variable alone, which has a slot
+abbrev pub IsCounted : List Slot → ℕ → List Linked → Type 0
+IsCounted slots x es = (x < length slots) × (es ≡ slot x ∷ [])

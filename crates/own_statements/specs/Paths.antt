@@ -42,13 +42,6 @@ MayPass passes s = passes ≡ true → is_entry s ≡ false
 abbrev pub ComesTo : Setting → Bool → PlainActivation → PlainLayer → Option ℤ → PlainActivation → PlainLayer → Type 0
 ComesTo setting passes a l given b m = (s : PlainStrand) → MayPass passes s → IsPath setting (topped Running a l s) (topped (phase_by given) b m s)
 
--- the value that it gave back, if it did
-abbrev pub value_by : Did → Option ℤ
-value_by Nothing = None
-value_by Next = None
-value_by Moved = None
-value_by (Gave v) = Some v
-
 -- the same procedure, and as many blocks around
 abbrev pub IsInBlock : PlainActivation → PlainActivation → Type 0
 IsInBlock a b = (b.procedure ≡ a.procedure) × (b.outer ≡ a.outer)

@@ -1,14 +1,12 @@
 //! Slots of an instance that is to be called, put in place over the topmost instance's.
-ghost use Rattle.std.specs.Prelude.{◌≡◌, ◌∷◌, [], true, false, map};
-ghost use Rattle.meaning.specs.Tables.{Tables as TableList};
+ghost use Rattle.std.specs.Prelude.{◌≡◌, ◌∷◌, [], true, false, map, slice_set};
 ghost use Rattle.linked_program.specs.CodeView.{expression as plain};
 ghost use Rattle.linked_program.specs.Linked.{slot};
 ghost use Rattle.evaluation.specs.Slots.{slots_for};
-ghost use Rattle.positions.specs.Layers.{PlainLayer};
 ghost use Rattle.evaluation.specs.Values.{entry_at};
 ghost use Rattle.activations.specs.Slots.{laid_over};
 ghost use Rattle.layers.specs.Ends.{HasNoted};
-ghost use Rattle.own_statements.specs.Fills.{Fills, first_has};
+ghost use Rattle.own_statements.specs.Fills.{Fills, IsCounted, first_has};
 
 use activations::activation::Activation;
 use evaluation::slot::Slot;
@@ -107,31 +105,43 @@ fn is_slot(arguments: &[Expression], variable: usize) -> bool
     }
 }
 
-/// Puts the slots of an instance in place where its only argument is the slot that holds a number meanwhile, and the child has as
-/// many slots already, as in all iterations of most loops but the first; whether that was done.
+/// Whether the only argument of a loop's iterations is the loop's variable, so that `fills_turn` needs to evaluate nothing.
+pub fn is_counted(top: &Activation, variable: usize, arguments: &[Expression]) -> bool
+    ensures counted { result ≡ true → IsCounted top.now.slots variable (map plain arguments.now) }
+{
+    if !is_slot(arguments, variable) {
+        return false;
+    }
+    variable < top.slots().len()
+}
+
+/// Puts the slots of a loop's iteration in place, where it is known whether that is `counted` and the loop's variable holds that
+/// number meanwhile; whether that was done. Where it wasn't, nothing is noted.
 #[inline(always)]
-fn fill_counted(
+pub fn fills_turn<V: View>(
+    layer: &mut Layer<V>,
     child: &mut Activation,
-    top: &Activation,
-    meanwhile: Option<(usize, Slot)>,
+    top: &mut Activation,
+    counted: bool,
+    variable: usize,
+    number: i64,
     size: usize,
     arguments: &[Expression],
+    tables: &Tables,
 ) -> bool
-    ensures filled { result ≡ true → (ts : TableList) (l : PlainLayer)
-        → Fills (entry_at ts (laid_over meanwhile top.now.slots) size (map plain arguments.now)) child.new.slots l l }
+    requires counted { counted ≡ true → IsCounted top.old.slots variable (map plain arguments.now) }
+    ensures filled { result ≡ true → Fills (entry_at tables.now.tables (slice_set top.old.slots variable (Slot.Has number)) size (map plain arguments.now))
+        child.new.slots layer.old layer.new }
+    ensures unchanged { result ≡ false → layer.new ≡ layer.old }
+    ensures top { top.new ≡ top.old }
 {
-    match meanwhile {
-        None => false,
-        Some((variable, held)) => match held {
-            Slot::Has(number) => {
-                if !is_slot(arguments, variable) || top.slots().len() <= variable {
-                    return false;
-                }
-                put_number(child, size, number)
-            }
-            _ => false,
-        },
+    if counted {
+        if put_number(child, size, number) {
+            return true;
+        }
     }
+    let meanwhile = Some((variable, Slot::Has(number)));
+    fills(layer, child, top, meanwhile, size, arguments, tables)
 }
 
 /// Whether the slots of an instance were put in place so; where they weren't, nothing is noted.
@@ -150,9 +160,6 @@ pub fn fills<V: View>(
     ensures unchanged { result ≡ false → layer.new ≡ layer.old }
     ensures top { top.new ≡ top.old }
 {
-    if fill_counted(child, top, meanwhile, size, arguments) {
-        return true;
-    }
     let before = layer.readings();
     match fill_over(layer, child, top, meanwhile, size, arguments, tables) {
         Ok(()) => true,

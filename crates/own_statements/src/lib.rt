@@ -3,5 +3,6 @@
 
 mod combining;
 pub mod filling;
+pub mod ran;
 pub mod runs;
 pub mod statements;

@@ -1,16 +1,19 @@
 //! Runs of an instance over the topmost layer alone, as far as it enters no other instance.
-ghost use Rattle.std.specs.Prelude.{◌≡◌, ◌-◌, true};
+ghost use Rattle.std.specs.Prelude.{◌≡◌, ◌-◌, true, Bool};
 ghost use Rattle.meaning.specs.Elision.{depth_limit};
-ghost use Rattle.positions.specs.Activations.{made, first_of};
-ghost use Rattle.positions.specs.Layers.{entering};
+ghost use Rattle.positions.specs.Activations.{made, first_of, at};
+ghost use Rattle.positions.specs.Layers.{PlainLayer, entering};
 ghost use Rattle.activations.specs.Given.{lent};
-ghost use Rattle.own_statements.specs.Paths.{ComesTo, value_by};
+ghost use Rattle.own_statements.specs.Paths.{ComesTo};
+ghost use Rattle.own_statements.specs.Runs.{RunsTo, IsBlock, IsBody};
 
+use crate::ran::Ran;
 use crate::statements::{Did, perform};
-use activations::activation::Activation;
+use activations::activation::{Activation, FIRST};
 use activations::code::instructions;
 use activations::setting::Setting;
 use layers::layer::{DEEPEST, Layer};
+use linked_program::code::Instruction;
 use positions::work::{Position, Work};
 use view_pool::View;
 
@@ -30,34 +33,36 @@ pub fn run<V: View>(
     ensures ahead { ComesTo (lent setting.entry) passes_syncs top.old layer.old result top.new layer.new }
     ensures kinds { layer.new.kinds ≡ layer.old.kinds }
 {
-    for _ in 0..STRETCHES {
-        match top.work() {
-            Work::Over => return Some(0),
-            Work::Block(place) => {
-                match run_block(layer, setting, passes_syncs, place, top, numbers) {
-                    Did::Nothing => return None,
-                    Did::Next => {}
-                    Did::Moved => {}
-                    Did::Gave(value) => return Some(value),
-                }
-            }
-            _ => return None,
+    match standing(setting, top) {
+        Ran::On(place, statements) => {
+            run_from(
+                layer,
+                setting,
+                passes_syncs,
+                place,
+                statements,
+                top,
+                numbers,
+            )
         }
+        Ran::Gave(value) => Some(value),
+        Ran::Stopped => None,
     }
-    None
 }
 
-/// Enters an instance of that procedure, with the slots that it has and so many levels below it, and does the statements that
-/// it does by itself; the value that it gives back, if it does.
+/// Enters an instance of that procedure, whose body those statements are, with the slots that it has and so many levels below it,
+/// and does the statements that it does by itself; the value that it gives back, if it does.
 #[inline(always)]
 pub fn call<V: View>(
     layer: &mut Layer<V>,
     setting: Setting<'_>,
+    body: &[Instruction],
     callee: usize,
     left: u32,
     child: &mut Activation,
     numbers: &mut Vec<i64>,
 ) -> Option<i64>
+    requires body { IsBody setting.program.now.codes callee body.now }
     requires kinds { layer.old.kinds ≡ setting.program.now.kinds }
     ensures ahead { ComesTo (lent setting.entry) true (made callee child.old.slots (Work.Block (first_of 0)) left)
         (entering callee (depth_limit - left) layer.old) result child.new layer.new }
@@ -65,26 +70,75 @@ pub fn call<V: View>(
 {
     child.begin(callee, left);
     layer.enter(callee, DEEPEST.saturating_sub(left));
-    run(layer, setting, true, child, numbers)
+    run_from(layer, setting, true, FIRST, body, child, numbers)
 }
 
-/// The statements from that place on, as far as the block's end or to one that leads elsewhere.
+/// Does the statements from that place on, as `run` does; the block there has those statements. What the instance has left isn't
+/// looked at.
 #[inline(always)]
-fn run_block<V: View>(
+fn run_from<V: View>(
     layer: &mut Layer<V>,
     setting: Setting<'_>,
     passes_syncs: bool,
     place: Position,
+    statements: &[Instruction],
     top: &mut Activation,
     numbers: &mut Vec<i64>,
-) -> Did
-    requires there { top.old.work ≡ Work.Block place }
+) -> Option<i64>
+    requires block { IsBlock setting.program.now.codes top.old place.block statements.now }
     requires kinds { layer.old.kinds ≡ setting.program.now.kinds }
-    ensures ahead { ComesTo (lent setting.entry) passes_syncs top.old layer.old (value_by result) top.new layer.new }
+    ensures ahead { ComesTo (lent setting.entry) passes_syncs (at (Work.Block place) top.old) layer.old result top.new layer.new }
+    ensures kinds { layer.new.kinds ≡ layer.old.kinds }
+{
+    let (mut place, mut statements) = first(place, statements);
+    for _ in 0..STRETCHES {
+        match run_block(
+            layer,
+            setting,
+            passes_syncs,
+            place,
+            statements,
+            top,
+            numbers,
+        ) {
+            Ran::On(next, others) => {
+                place = next;
+                statements = others;
+            }
+            Ran::Gave(value) => return Some(value),
+            Ran::Stopped => return None,
+        }
+    }
+    top.stand(place);
+    None
+}
+
+// The block that is first.
+#[inline(always)]
+fn first(place: Position, statements: &[Instruction]) -> (Position, &[Instruction])
+    ensures place { result.0 ≡ place }
+    ensures statements { result.1.now ≡ statements.now }
+{
+    (place, statements)
+}
+
+/// The statements from that place on, as far as the block's end or to one that leads elsewhere.
+#[inline(always)]
+fn run_block<'a, V: View>(
+    layer: &mut Layer<V>,
+    setting: Setting<'a>,
+    passes_syncs: bool,
+    place: Position,
+    statements: &'a [Instruction],
+    top: &mut Activation,
+    numbers: &mut Vec<i64>,
+) -> Ran<'a>
+    requires block { IsBlock setting.program.now.codes top.old place.block statements.now }
+    requires kinds { layer.old.kinds ≡ setting.program.now.kinds }
+    ensures ran { RunsTo (lent setting.entry) passes_syncs (at (Work.Block place) top.old) layer.old result top.new layer.new }
     ensures kinds { layer.new.kinds ≡ layer.old.kinds }
 {
     let block = place.block;
-    let statements = instructions(setting.program, top.procedure(), top.depth(), block);
     let mut index = place.index;
     while index < statements.len() {
         let place = Position { block, index };
@@ -98,17 +152,37 @@ fn run_block<V: View>(
             numbers,
         ) {
             Did::Next => index += 1,
-            Did::Moved => return Did::Moved,
+            Did::Moved => return standing(setting, top),
             Did::Nothing => {
-                top.set_work(Work::Block(place));
-                return Did::Nothing;
+                top.stand(place);
+                return Ran::Stopped;
             }
             Did::Gave(value) => {
-                top.set_work(Work::Block(place));
-                return Did::Gave(value);
+                top.stand(place);
+                return Ran::Gave(value);
             }
         }
     }
     top.go_outside();
-    Did::Moved
+    standing(setting, top)
+}
+
+/// Where an instance goes on; one that has nothing left gives 0 back.
+#[inline(always)]
+fn standing<'a>(setting: Setting<'a>, top: &Activation) -> Ran<'a>
+    ensures stands { (passes : Bool) (l : PlainLayer) → RunsTo (lent setting.entry) passes top.now l result top.now l }
+{
+    match top.work() {
+        Work::Over => Ran::Gave(0),
+        Work::Block(place) => {
+            let statements = instructions(
+                setting.program,
+                top.procedure(),
+                top.depth(),
+                place.block,
+            );
+            Ran::On(place, statements)
+        }
+        _ => Ran::Stopped,
+    }
 }

@@ -1,0 +1,26 @@
+-- Runs of an instance from block to block.
+use Rattle.std.specs.Prelude.{◌≡◌, ℕ, Bool, List, Some, None, slice_get, length}
+use Rattle.linked_program.specs.declared.code.Instruction.{Instruction}
+use Rattle.linked_program.specs.declared.code.Code.{Code}
+use Rattle.positions.specs.declared.work.Work.TheVariants.{Block}
+use Rattle.positions.specs.Activations.{PlainActivation, at}
+use Rattle.positions.specs.Code.{instruction_inside}
+use Rattle.positions.specs.Layers.{PlainLayer}
+use Rattle.positions.specs.Setting.{Setting}
+use Rattle.own_statements.specs.Paths.{ComesTo}
+use Rattle.own_statements.specs.declared.ran.Ran.{Ran}
+use Rattle.own_statements.specs.declared.ran.Ran.TheVariants.{On, Gave, Stopped}
+
+-- the statements of a block of that number, for an instance with its procedure and the blocks around it
+abbrev pub IsBlock : List Code → PlainActivation → ℕ → List Instruction → Type 0
+IsBlock codes a block xs = (index : ℕ) → slice_get xs index ≡ instruction_inside codes a.procedure (length a.outer) (record { block = block; index = index })
+
+-- the statements of a procedure's body
+abbrev pub IsBody : List Code → ℕ → List Instruction → Type 0
+IsBody codes p body = (index : ℕ) → slice_get body index ≡ instruction_inside codes p 0 (record { block = 0; index = index })
+
+-- an instance comes so far in any strand, where syncs may be passed: to that place, to that value, or as far as it could
+abbrev pub RunsTo : Setting → Bool → PlainActivation → PlainLayer → Ran → PlainActivation → PlainLayer → Type 0
+RunsTo setting passes a l (On p xs) b m = ComesTo setting passes a l None (at (Block p) b) m × IsBlock setting.codes b p.block xs.now
+RunsTo setting passes a l (Gave v) b m = ComesTo setting passes a l (Some v) b m
+RunsTo setting passes a l Stopped b m = ComesTo setting passes a l None b m
