@@ -25,9 +25,7 @@ use Rattle.own_statements.specs.Paths.{IsNext, IsPath, here, on, MayPass, topped
 use Rattle.own_statements.proofs.Paths.{path_join}
 use Rattle.small_steps.specs.Steps.{nested_plain, entered_plain}
 use Rattle.small_steps.proofs.Refusals.{path_back}
-use Rattle.running_ahead.specs.declared.ahead.Came.{Came}
-use Rattle.running_ahead.specs.declared.ahead.Came.TheVariants.{Nowhere, Back, Stays}
-use Rattle.running_ahead.specs.Ahead.{IsAhead, CameBy}
+use Rattle.running_ahead.specs.Ahead.{IsAhead}
 
 -- two strands whose parts are the same
 pub same_parts : (s : PlainStrand) (l : PlainLayer) (p q : List ℕ) (a b : PlainActivation) (u v : List PlainActivation) (f g : Phase) → p ≡ q → a ≡ b → u ≡ v → f ≡ g
@@ -35,12 +33,6 @@ pub same_parts : (s : PlainStrand) (l : PlainLayer) (p q : List ℕ) (a b : Plai
 same_parts s l p q a b u v f g path top below phase =
     ap (λ xs. record s { layer = l; path = xs; top = a; below = u; phase = f }) path ∙ ap (λ (x : PlainActivation). record s { layer = l; path = q; top = x; below = u; phase = f }) top
     ∙ ap (λ xs. record s { layer = l; path = q; top = b; below = xs; phase = f }) below ∙ ap (λ x. record s { layer = l; path = q; top = b; below = v; phase = x }) phase
-
--- what is known of the one is known of the other
-pub came_as : (r : Came) (P A B : Type 0) → (A → B) → CameBy r P A → CameBy r P B
-came_as Nowhere P A B f h = h
-came_as Back P A B f h = f h
-came_as Stays P A B f h = f h
 
 module _ (setting : Setting) where
   pub ahead_here : (s : PlainStrand) → IsAhead setting s s

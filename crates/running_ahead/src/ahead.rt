@@ -1,25 +1,25 @@
 //! Many small steps in one go: those for which no kit is needed, and which spawn nothing.
-ghost use Rattle.std.specs.Prelude.{◌≡◌, ◌+◌, ◌<◌, ◌^◌, ◌++◌, ◌∷◌, [], ℕ, true, false, length, map, None, vec_len, vec_capacity};
+ghost use Rattle.std.specs.Prelude.{◌≡◌, ◌+◌, ◌<◌, ◌^◌, ◌++◌, ◌∷◌, [], ℕ, true, false, length, map, vec_len, vec_capacity};
 ghost use Rattle.program_tree.specs.declared.Way.TheVariants.{Call};
 ghost use Rattle.linked_program.specs.CodeView.{expression as plain, slots_of};
 ghost use Rattle.evaluation.specs.Values.{entry_at};
-ghost use Rattle.positions.specs.Activations.{ShareFits, WorkFits, waiting};
+ghost use Rattle.positions.specs.Activations.{ShareFits};
 ghost use Rattle.positions.specs.Setting.{Setting as PlainSetting};
 ghost use Rattle.positions.specs.Strands.{entry_by};
 ghost use Rattle.positions.specs.Tallies.{is_own};
-ghost use Rattle.positions.specs.Advance.{called, evaluated, performed, turn_slots, rest_of as later_of};
-ghost use Rattle.activations.specs.Given.{lent, loop_of};
-ghost use Rattle.activations.specs.Slots.{laid_over};
+ghost use Rattle.positions.specs.Advance.{called, evaluated, performed};
+ghost use Rattle.activations.specs.Given.{lent};
 ghost use Rattle.own_statements.specs.Paths.{phase_by};
 ghost use Rattle.small_steps.specs.Steps.{nested_plain};
-ghost use Rattle.running_ahead.specs.Ahead.{IsAhead, GoesAhead, GoesAheadBy, CameBy, OnBack, IsBackWith};
+ghost use Rattle.running_ahead.specs.Ahead.{IsAhead, GoesAhead, GoesAheadBy, CameBy};
 
+use crate::came::Came;
+use crate::turns::turns;
 use activations::activation::{Activation, next_of};
-use activations::code::{LoopCode, instruction, loop_code};
+use activations::code::{instruction, instructions};
 use activations::setting::Setting;
-use activations::shares::{number_of, rest_of};
 use activations::spares::Spares;
-use evaluation::slot::Slot;
+use layers::layer::DEEPEST;
 use linked_program::code::{Expression, Instruction, Operation};
 use own_statements::filling::fills;
 use own_statements::runs::{call, run};
@@ -32,28 +32,17 @@ use std::alloc::Global;
 use std::mem;
 use view_pool::View;
 
-// How many stretches of small steps, and how many iterations of a loop, are done in one go.
+// How many stretches of small steps are done in one go.
 const STRETCHES: u32 = 1024;
 
-const ITERATIONS: u32 = 1024;
-
-/// An instance that is to be called: of that procedure, with those arguments; its value goes into that slot, and that is left
-/// behind it.
+/// An instance that is to be called: of that procedure, with those arguments; its value goes into that slot, and the one that calls
+/// it stands at that place then.
 #[derive(Clone, Copy)]
 struct Callee<'a> {
     procedure: usize,
     arguments: &'a [Expression],
     into: Option<usize>,
-    work: Work,
-}
-
-/// What came of an instance that was to be called: nothing was done; it is over, and its value went to the one that called it; or
-/// it stands on the strand and has more to do.
-#[derive(Clone, Copy)]
-pub enum Came {
-    Nowhere,
-    Back,
-    Stays,
+    next: Position,
 }
 
 /// Does small steps of its instances.
@@ -78,8 +67,7 @@ fn go_ahead<V: View>(machine: &mut Machine<V>, alloc: Global, setting: Setting<'
     match machine.phase {
         Phase::Entering => enter_alone(machine, setting),
         Phase::Running => match machine.top.work() {
-            Work::Block(_) => block_ahead(machine, alloc, setting),
-            Work::Over => block_ahead(machine, alloc, setting),
+            Work::Block(_) | Work::Over => block_ahead(machine, alloc, setting),
             Work::Turns(site, share) => turns_ahead(machine, alloc, setting, site, share),
             _ => false,
         },
@@ -112,6 +100,7 @@ fn enter_alone<V: View>(machine: &mut Machine<V>, setting: Setting<'_>) -> bool
 }
 
 /// What is left of the topmost instance's blocks.
+#[inline(always)]
 #[tactic(auto, using(crate::proofs::Paths::ahead_here, crate::proofs::Paths::ahead_join))]
 fn block_ahead<V: View>(machine: &mut Machine<V>, alloc: Global, setting: Setting<'_>) -> bool
     requires running { machine.old.phase ≡ Phase.Running }
@@ -120,7 +109,7 @@ fn block_ahead<V: View>(machine: &mut Machine<V>, alloc: Global, setting: Settin
 {
     match statements_ahead(machine, setting) {
         Some(value) => sync_ahead(machine, value),
-        None => call_ahead(machine, alloc, setting),
+        None => calls_ahead(machine, alloc, setting),
     }
 }
 
@@ -171,11 +160,31 @@ fn leave_ahead<V: View>(machine: &mut Machine<V>, value: i64) -> bool
     true
 }
 
-/// The topmost instance's next statement, where that calls an instance of a procedure that isn't marked memo.
-fn call_ahead<V: View>(machine: &mut Machine<V>, alloc: Global, setting: Setting<'_>) -> bool
+/// Calls the instance that the topmost one's next statement calls; where that has more to do, the one that its next statement
+/// calls, and so on.
+#[tactic(auto, using(crate::proofs::Paths::ahead_here, crate::proofs::Paths::ahead_join))]
+fn calls_ahead<V: View>(machine: &mut Machine<V>, alloc: Global, setting: Setting<'_>) -> bool
     requires running { machine.old.phase ≡ Phase.Running }
     requires kinds { machine.old.layer.kinds ≡ setting.program.now.kinds }
     ensures ahead { IsAhead (lent setting.entry) machine.old machine.new }
+{
+    for _ in 0..DEEPEST {
+        match call_ahead(machine, alloc, setting) {
+            Came::Nowhere => return false,
+            Came::Back => return true,
+            Came::Stays => {}
+        }
+    }
+    true
+}
+
+/// The topmost instance's next statement, where that calls an instance of a procedure that isn't marked memo.
+#[inline(always)]
+fn call_ahead<V: View>(machine: &mut Machine<V>, alloc: Global, setting: Setting<'_>) -> Came
+    requires running { machine.old.phase ≡ Phase.Running }
+    requires kinds { machine.old.layer.kinds ≡ setting.program.now.kinds }
+    ensures ahead { IsAhead (lent setting.entry) machine.old machine.new }
+    ensures running { machine.new.phase ≡ Phase.Running }
 {
     match machine.top.work() {
         Work::Block(place) => match instruction(
@@ -185,25 +194,27 @@ fn call_ahead<V: View>(machine: &mut Machine<V>, alloc: Global, setting: Setting
             place,
         ) {
             Some(instruction) => enter_ahead(machine, alloc, setting, place, instruction),
-            None => false,
+            None => Came::Nowhere,
         },
-        _ => false,
+        _ => Came::Nowhere,
     }
 }
 
 /// Does the statement at that place, where it calls an instance of a procedure that isn't marked memo.
+#[inline(always)]
 fn enter_ahead<V: View>(
     machine: &mut Machine<V>,
     alloc: Global,
     setting: Setting<'_>,
     place: Position,
     instruction: &Instruction,
-) -> bool
+) -> Came
     requires room { place.index + 1 < 2 ^ 64 }
     requires kinds { machine.old.layer.kinds ≡ setting.program.now.kinds }
     requires running { machine.old.phase ≡ Phase.Running }
     ensures ahead { GoesAheadBy (lent setting.entry)
         (λ kit. performed (lent setting.entry) kit place instruction.now.number instruction.now.operation) machine.old machine.new }
+    ensures running { machine.new.phase ≡ Phase.Running }
 {
     match &instruction.operation {
         Operation::Enter(into, way, callee, arguments) => {
@@ -212,15 +223,16 @@ fn enter_ahead<V: View>(
                 procedure: *callee,
                 arguments,
                 into: *into,
-                work: Work::Block(next_of(place)),
+                next: next_of(place),
             };
             enter_by(machine, alloc, setting, instruction.number, *way, callee)
         }
-        _ => false,
+        _ => Came::Nowhere,
     }
 }
 
 /// Calls an instance, where its procedure isn't marked memo, and does its statements.
+#[inline(always)]
 fn enter_by<V: View>(
     machine: &mut Machine<V>,
     alloc: Global,
@@ -228,52 +240,122 @@ fn enter_by<V: View>(
     statement: u32,
     way: Way,
     callee: Callee<'_>,
-) -> bool
-    requires fits { WorkFits callee.work }
+) -> Came
     requires kinds { machine.old.layer.kinds ≡ setting.program.now.kinds }
     requires running { machine.old.phase ≡ Phase.Running }
     ensures ahead { GoesAheadBy (lent setting.entry)
-        (λ kit. called (lent setting.entry) kit statement way callee.entry.into callee.entry.work callee.entry.procedure
+        (λ kit. called (lent setting.entry) kit statement way callee.entry.into (Work.Block callee.entry.next) callee.entry.procedure
         (map plain callee.entry.arguments.now) machine.old.top.slots) machine.old machine.new }
+    ensures running { machine.new.phase ≡ Phase.Running }
 {
     match way {
         Way::Call => {
             if setting.program.is_memo(callee.procedure) {
-                false
+                Came::Nowhere
             } else {
                 enter_plain_ahead(machine, alloc, setting, statement, callee)
             }
         }
-        Way::Spawn => false,
+        Way::Spawn => Came::Nowhere,
     }
 }
 
 /// Calls an instance of a procedure that isn't marked memo, and does its statements.
+#[inline(always)]
 fn enter_plain_ahead<V: View>(
     machine: &mut Machine<V>,
     alloc: Global,
     setting: Setting<'_>,
     statement: u32,
     callee: Callee<'_>,
-) -> bool
-    requires fits { WorkFits callee.work }
+) -> Came
     requires kinds { machine.old.layer.kinds ≡ setting.program.now.kinds }
     requires running { machine.old.phase ≡ Phase.Running }
     ensures ahead { GoesAhead (lent setting.entry)
         (evaluated statement (entry_at setting.entry.tables.now.tables machine.old.top.slots
         (slots_of setting.entry.program.now.codes callee.entry.procedure) (map plain callee.entry.arguments.now))
-        (nested_plain statement Call callee.entry.into callee.entry.work callee.entry.procedure)) machine.old machine.new }
+        (nested_plain statement Call callee.entry.into (Work.Block callee.entry.next) callee.entry.procedure)) machine.old machine.new }
+    ensures running { machine.new.phase ≡ Phase.Running }
 {
-    match child_ahead(machine, alloc, setting, callee, None) {
-        Came::Nowhere => false,
-        Came::Back => true,
-        Came::Stays => true,
+    match child_ahead(machine, alloc, setting, callee) {
+        Came::Nowhere => Came::Nowhere,
+        Came::Back => Came::Back,
+        Came::Stays => Came::Stays,
     }
 }
 
-/// Enters the iterations of a loop that has so many left, one after another, where their procedure isn't marked memo, and does
-/// their statements; or ends the loop. False where nothing is left that could be done so.
+/// Calls that instance, whose procedure isn't marked memo, and does the statements that it does by itself. It stands on the strand
+/// only where it has more to do.
+#[inline(always)]
+fn child_ahead<V: View>(
+    machine: &mut Machine<V>,
+    alloc: Global,
+    setting: Setting<'_>,
+    callee: Callee<'_>,
+) -> Came
+    requires kinds { machine.old.layer.kinds ≡ setting.program.now.kinds }
+    requires running { machine.old.phase ≡ Phase.Running }
+    ensures came { CameBy result (machine.new ≡ machine.old)
+        ((statement : ℕ) → GoesAhead (lent setting.entry)
+        (evaluated statement (entry_at setting.entry.tables.now.tables machine.old.top.slots
+        (slots_of setting.entry.program.now.codes callee.entry.procedure) (map plain callee.entry.arguments.now))
+        (nested_plain statement Call callee.entry.into (Work.Block callee.entry.next) callee.entry.procedure)) machine.old machine.new) }
+    ensures running { machine.new.phase ≡ Phase.Running }
+{
+    let left = machine.top.left();
+    if left == 0 || ends_otherwise(machine) {
+        return Came::Nowhere;
+    }
+    let Some(_) = machine.top.children().checked_add(1) else {
+        return Came::Nowhere;
+    };
+    if machine.path.reserve(1).is_err() || machine.below.reserve(1).is_err() {
+        return Came::Nowhere;
+    }
+    let size = setting.program.slots(callee.procedure);
+    if !fills(
+        &mut machine.layer,
+        &mut machine.spares.child,
+        &mut machine.top,
+        None,
+        size,
+        callee.arguments,
+        setting.tables,
+    ) {
+        return Came::Nowhere;
+    }
+    machine.top.wait_at(callee.into, callee.next);
+    let body = instructions(setting.program, callee.procedure, 0, 0);
+    match call(
+        &mut machine.layer,
+        setting,
+        body,
+        callee.procedure,
+        left - 1,
+        &mut machine.spares.child,
+        &mut machine.numbers,
+    ) {
+        Some(value) => {
+            machine.top.receive(value);
+            Came::Back
+        }
+        None => {
+            put_on_top(
+                &mut machine.path,
+                &mut machine.below,
+                &mut machine.top,
+                &mut machine.spares,
+                alloc,
+            );
+            Came::Stays
+        }
+    }
+}
+
+/// Does the iterations that a loop has left, where their procedure isn't marked memo and each goes back by itself; or ends the
+/// loop. False where nothing is left that could be done so.
 #[inline(never)]
+#[tactic(auto, using(crate::proofs::Paths::ahead_here))]
 fn turns_ahead<V: View>(
     machine: &mut Machine<V>,
     alloc: Global,
@@ -287,135 +369,41 @@ fn turns_ahead<V: View>(
     requires running { machine.old.phase ≡ Phase.Running }
     ensures ahead { IsAhead (lent setting.entry) machine.old machine.new }
 {
-    let code = loop_code(setting.program, machine.top.procedure(), site);
-    let is_memo = setting.program.is_memo(code.callee);
-    let mut share = share;
-    for _ in 0..ITERATIONS {
-        if share.count == 0 {
-            machine.phase = Phase::Returning(0);
-            return true;
-        }
-        if is_memo {
-            return false;
-        }
-        match turn_ahead(machine, alloc, setting, code, site, share) {
-            Came::Back => share = rest_of(site, share),
-            Came::Stays => return true,
-            Came::Nowhere => return false,
-        }
+    if share.count == 0 {
+        machine.phase = Phase::Returning(0);
+        return true;
     }
-    true
-}
-
-/// Enters the next iteration of a loop that has more, of a procedure that isn't marked memo.
-#[inline(always)]
-fn turn_ahead<V: View>(
-    machine: &mut Machine<V>,
-    alloc: Global,
-    setting: Setting<'_>,
-    code: LoopCode,
-    site: Loop,
-    share: Share,
-) -> Came
-    requires fits { ShareFits site share }
-    requires more { 0 < share.count }
-    requires kinds { machine.old.layer.kinds ≡ setting.program.now.kinds }
-    requires running { machine.old.phase ≡ Phase.Running }
-    ensures came { CameBy result (machine.new ≡ machine.old)
-        (GoesAhead (lent setting.entry) (evaluated code.entry.number
-        (entry_at setting.entry.tables.now.tables (turn_slots (loop_of code.entry) site share machine.old)
-        (slots_of setting.entry.program.now.codes code.entry.callee) (map plain code.entry.arguments.now))
-        (nested_plain code.entry.number Call None (Work.Turns site (later_of share)) code.entry.callee)) machine.old machine.new) }
-    ensures back { OnBack result (IsBackWith (Work.Turns site (later_of share)) machine.old machine.new) }
-{
-    let callee = Callee {
-        procedure: code.callee,
-        arguments: code.arguments,
-        into: None,
-        work: Work::Turns(site, rest_of(site, share)),
-    };
-    let number = Slot::Has(number_of(site, share));
-    child_ahead(
-        machine,
-        alloc,
-        setting,
-        callee,
-        Some((code.variable, number)),
-    )
-}
-
-/// Calls that instance, whose procedure isn't marked memo, over the topmost instance's slots, of which one may hold something else
-/// meanwhile; and does the statements that it does by itself. It stands on the strand only where it has more to do.
-#[inline(always)]
-fn child_ahead<V: View>(
-    machine: &mut Machine<V>,
-    alloc: Global,
-    setting: Setting<'_>,
-    callee: Callee<'_>,
-    meanwhile: Option<(usize, Slot)>,
-) -> Came
-    requires fits { WorkFits callee.work }
-    requires kinds { machine.old.layer.kinds ≡ setting.program.now.kinds }
-    requires running { machine.old.phase ≡ Phase.Running }
-    ensures came { CameBy result (machine.new ≡ machine.old)
-        ((statement : ℕ) → GoesAhead (lent setting.entry)
-        (evaluated statement (entry_at setting.entry.tables.now.tables (laid_over meanwhile machine.old.top.slots)
-        (slots_of setting.entry.program.now.codes callee.entry.procedure) (map plain callee.entry.arguments.now))
-        (nested_plain statement Call callee.entry.into callee.entry.work callee.entry.procedure)) machine.old machine.new) }
-    ensures back { OnBack result (IsBackWith callee.entry.work machine.old machine.new) }
-{
-    let left = machine.top.left();
-    if left == 0 || ends_otherwise(machine) {
-        return Came::Nowhere;
+    if ends_otherwise(machine) {
+        return false;
     }
-    let Some(number) = machine.top.children().checked_add(1) else {
-        return Came::Nowhere;
-    };
     if machine.path.reserve(1).is_err() || machine.below.reserve(1).is_err() {
-        return Came::Nowhere;
+        return false;
     }
-    let size = setting.program.slots(callee.procedure);
-    if !fills(
-        &mut machine.layer,
-        &mut machine.spares.child,
-        &mut machine.top,
-        meanwhile,
-        size,
-        callee.arguments,
-        setting.tables,
-    ) {
-        return Came::Nowhere;
-    }
-    match call(
+    match turns(
         &mut machine.layer,
         setting,
-        callee.procedure,
-        left - 1,
+        site,
+        share,
+        &mut machine.top,
         &mut machine.spares.child,
         &mut machine.numbers,
     ) {
-        Some(value) => {
-            machine.top.wait(false, callee.into, callee.work);
-            machine.top.receive(value);
-            Came::Back
-        }
-        None => {
+        Came::Nowhere => false,
+        Came::Back => true,
+        Came::Stays => {
             put_on_top(
                 &mut machine.path,
                 &mut machine.below,
                 &mut machine.top,
                 &mut machine.spares,
                 alloc,
-                number,
-                callee,
             );
-            Came::Stays
+            true
         }
     }
 }
 
-/// Puts the instance that was begun on top of the one that has called it, which waits for it and is its child of that number. There
-/// is room for both.
+/// Puts the instance that was begun on top of the one that has called it and waits for it. There is room for both.
 #[inline(never)]
 fn put_on_top(
     path: &mut Vec<usize>,
@@ -423,23 +411,17 @@ fn put_on_top(
     top: &mut Activation,
     spares: &mut Spares,
     alloc: Global,
-    number: usize,
-    callee: Callee<'_>,
 )
-    requires fits { WorkFits callee.work }
-    requires children { top.old.children + 1 < 2 ^ 64 }
     requires path_room { vec_len path.old < vec_capacity path.old }
     requires below_room { vec_len below.old < vec_capacity below.old }
-    ensures path { path.new.items ≡ path.old.items ++ number ∷ [] }
+    ensures path { path.new.items ≡ path.old.items ++ top.old.children ∷ [] }
     ensures top { top.new ≡ spares.old.child }
-    ensures below { below.new.items ≡ below.old.items ++ waiting false callee.entry.into callee.entry.work top.old ∷ [] }
+    ensures below { below.new.items ≡ below.old.items ++ top.old ∷ [] }
 {
+    path.push_reserved(top.children());
     let blank = spares.blank(alloc);
-    let child = mem::replace(&mut spares.child, blank);
-    path.push_reserved(number);
-    let mut parent = mem::replace(top, child);
-    parent.wait(false, callee.into, callee.work);
-    below.push_reserved(parent);
+    mem::swap(top, &mut spares.child);
+    below.push_reserved(mem::replace(&mut spares.child, blank));
 }
 
 /// Whether a called child of the topmost instance would end otherwise than by going back to it: it is where the strand begins,

@@ -2,3 +2,5 @@
 #![tactic(auto)]
 
 pub mod ahead;
+pub mod came;
+pub mod turns;

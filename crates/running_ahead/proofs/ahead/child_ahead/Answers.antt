@@ -13,7 +13,6 @@ use Rattle.positions.specs.Strands.{PlainStrand, entry_by, is_entry}
 use Rattle.positions.specs.Tallies.{is_own}
 use Rattle.positions.specs.Advance.{evaluated, child_of, owns_top, noted}
 use Rattle.activations.specs.Given.{lent}
-use Rattle.activations.specs.Slots.{laid_over}
 use Rattle.own_statements.specs.Fills.{Fills}
 use Rattle.small_steps.specs.Steps.{nested_plain}
 use Rattle.running_ahead.specs.Ahead.{GoesAhead}
@@ -26,16 +25,16 @@ returns-in-Some-call-clause-came g c n e =
     let S = lent c.args.setting in
     let s : PlainStrand = record { start = c.machine.inside.start; layer = c.machine.inside.layer; lower = reverse c.machine.inside.lower.items; path = c.machine.inside.path.items; top = c.machine.inside.top; below = reverse c.machine.inside.below.items; phase = c.machine.inside.phase; arguments = c.machine.inside.arguments.items; tally = c.machine.inside.tally } in
     let into = c.args.callee.into in
-    let w = c.args.callee.work in
+    let w = Block c.args.callee.next in
     let f = c.args.callee.procedure in
     let slots = c.fills.new.child.slots in
-    let o = entry_at S.tables (laid_over c.args.meanwhile s.top.slots) (slots_of S.codes f) (map expression c.args.callee.arguments.now) in
+    let o = entry_at S.tables s.top.slots (slots_of S.codes f) (map expression c.args.callee.arguments.now) in
     let x : PlainStrand = record s { layer = c.fills.new.layer } in
     let is_filled : c.fills.result ≡ true = search rules in
-    let filled : Fills o slots s.layer c.fills.new.layer = subst (λ (k : ℕ). Fills (entry_at S.tables (laid_over c.args.meanwhile s.top.slots) k (map expression c.args.callee.arguments.now)) slots s.layer c.fills.new.layer) c.slots-size.ensures.slots (c.fills.ensures.filled is_filled) in
+    let filled : Fills o slots s.layer c.fills.new.layer = subst (λ (k : ℕ). Fills (entry_at S.tables s.top.slots k (map expression c.args.callee.arguments.now)) slots s.layer c.fills.new.layer) c.slots-size.ensures.slots (c.fills.ensures.filled is_filled) in
     let layer : c.fills.new.layer ≡ noting o.notes s.layer = filled.1 in
     let is : x ≡ noted o.notes s = ap (λ (l : PlainLayer). record s { layer = l }) layer in
-    let goes = λ (t z : PlainStrand). GoesAhead S (evaluated n (entry_at S.tables (laid_over c.args.meanwhile z.top.slots) (slots_of S.codes f) (map expression c.args.callee.arguments.now)) (nested_plain n Call into w f)) z t in
+    let goes = λ (t z : PlainStrand). GoesAhead S (evaluated n (entry_at S.tables z.top.slots (slots_of S.codes f) (map expression c.args.callee.arguments.now)) (nested_plain n Call into w f)) z t in
     let phase : s.phase ≡ Running = ap (λ (z : PlainStrand). z.phase) c.machine.view_is ∙ c.requires.running in
     let deep : (x.top.left == 0) ≡ false = search rules in
     let count : c.left-left.result ≡ x.top.left = search rules in
@@ -56,16 +55,16 @@ returns-in-None-clause-came g c n e =
     let S = lent c.args.setting in
     let s : PlainStrand = record { start = c.machine.inside.start; layer = c.machine.inside.layer; lower = reverse c.machine.inside.lower.items; path = c.machine.inside.path.items; top = c.machine.inside.top; below = reverse c.machine.inside.below.items; phase = c.machine.inside.phase; arguments = c.machine.inside.arguments.items; tally = c.machine.inside.tally } in
     let into = c.args.callee.into in
-    let w = c.args.callee.work in
+    let w = Block c.args.callee.next in
     let f = c.args.callee.procedure in
     let slots = c.fills.new.child.slots in
-    let o = entry_at S.tables (laid_over c.args.meanwhile s.top.slots) (slots_of S.codes f) (map expression c.args.callee.arguments.now) in
+    let o = entry_at S.tables s.top.slots (slots_of S.codes f) (map expression c.args.callee.arguments.now) in
     let x : PlainStrand = record s { layer = c.fills.new.layer } in
     let is_filled : c.fills.result ≡ true = search rules in
-    let filled : Fills o slots s.layer c.fills.new.layer = subst (λ (k : ℕ). Fills (entry_at S.tables (laid_over c.args.meanwhile s.top.slots) k (map expression c.args.callee.arguments.now)) slots s.layer c.fills.new.layer) c.slots-size.ensures.slots (c.fills.ensures.filled is_filled) in
+    let filled : Fills o slots s.layer c.fills.new.layer = subst (λ (k : ℕ). Fills (entry_at S.tables s.top.slots k (map expression c.args.callee.arguments.now)) slots s.layer c.fills.new.layer) c.slots-size.ensures.slots (c.fills.ensures.filled is_filled) in
     let layer : c.fills.new.layer ≡ noting o.notes s.layer = filled.1 in
     let is : x ≡ noted o.notes s = ap (λ (l : PlainLayer). record s { layer = l }) layer in
-    let goes = λ (t z : PlainStrand). GoesAhead S (evaluated n (entry_at S.tables (laid_over c.args.meanwhile z.top.slots) (slots_of S.codes f) (map expression c.args.callee.arguments.now)) (nested_plain n Call into w f)) z t in
+    let goes = λ (t z : PlainStrand). GoesAhead S (evaluated n (entry_at S.tables z.top.slots (slots_of S.codes f) (map expression c.args.callee.arguments.now)) (nested_plain n Call into w f)) z t in
     let phase : s.phase ≡ Running = ap (λ (z : PlainStrand). z.phase) c.machine.view_is ∙ c.requires.running in
     let deep : (x.top.left == 0) ≡ false = search rules in
     let count : c.left-left.result ≡ x.top.left = search rules in

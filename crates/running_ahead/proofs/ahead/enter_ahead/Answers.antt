@@ -9,17 +9,15 @@ use Rattle.activations.specs.Given.{lent}
 use Rattle.running_ahead.proofs.Paths.{ahead_here}
 use Rattle.running_ahead.proofs.ahead.enter_ahead.Goals as goal
 
-pub returns-in-Enter : goal.returns-in-Enter
-returns-in-Enter g c =
+pub returns-in-Enter-clause-ahead : goal.returns-in-Enter-clause-ahead
+returns-in-Enter-clause-ahead g c e =
     let S = lent c.args.setting in
     let s = c.args.machine.now in
     let n = c.args.instruction.now.number in
     let by = λ (kit : Bool) (p : Position) (es : List Expression). called S kit n c.in-Enter.way c.in-Enter.into (Block p) c.in-Enter.callee (map plain es) s.top.slots s in
-    record {
-      ahead = λ e. c.enter_by.ensures.ahead
-          (λ kit. ap (by kit c.next_of.result) c.as_slice-arguments.ensures.value ∙ ap (λ (p : Position). by kit p c.in-Enter.arguments.items) c.next_of.ensures.next
-          ∙ sym (ap (λ (o : Operation). performed S kit c.args.place n o s) c.in-Enter.is) ∙ e kit);
-    }
+    c.enter_by.ensures.ahead
+    (λ kit. ap (by kit c.next_of.result) c.as_slice-arguments.ensures.value ∙ ap (λ (p : Position). by kit p c.in-Enter.arguments.items) c.next_of.ensures.next
+    ∙ sym (ap (λ (o : Operation). performed S kit c.args.place n o s) c.in-Enter.is) ∙ e kit)
 
-pub returns-in_default : goal.returns-in_default
-returns-in_default g c = record { ahead = λ e. ahead_here (lent c.args.setting) c.args.machine.now }
+pub returns-in_default-clause-ahead : goal.returns-in_default-clause-ahead
+returns-in_default-clause-ahead g c e = ahead_here (lent c.args.setting) c.args.machine.now

@@ -1,0 +1,67 @@
+-- Iterations of a loop: one of them as small steps of the strand.
+use Rattle.std.proofs.Common.{◌≡◌, ◌-◌, ◌==◌, ℤ, pos, ◌+ℤ◌, ◌+◌, Bool, true, false, List, Some, None, map, slice_set, refl, ap, ◌∙◌}
+use Rattle.meaning.specs.Elision.{depth_limit}
+use Rattle.linked_program.specs.CodeView.{expression, memo_of, slots_of}
+use Rattle.evaluation.specs.declared.slot.Slot.{Slot}
+use Rattle.evaluation.specs.declared.slot.Slot.TheVariants.{Has}
+use Rattle.evaluation.specs.Values.{NumberedOut, entry_at}
+use Rattle.positions.specs.declared.phase.Phase.TheVariants.{Running}
+use Rattle.positions.specs.declared.work.Loop.{Loop}
+use Rattle.positions.specs.declared.work.Share.{Share}
+use Rattle.positions.specs.declared.work.Work.TheVariants.{Block, Turns}
+use Rattle.positions.specs.Activations.{PlainActivation, waiting, made, first_of}
+use Rattle.positions.specs.Code.{PlainLoop, loop_at}
+use Rattle.positions.specs.Layers.{PlainLayer, entering}
+use Rattle.positions.specs.Setting.{Setting}
+use Rattle.positions.specs.Strands.{PlainStrand}
+use Rattle.positions.specs.Advance.{advanced, evaluated, turn_slots, rest_of}
+use Rattle.own_statements.specs.Fills.{Fills}
+use Rattle.own_statements.specs.Paths.{topped, ComesTo}
+use Rattle.small_steps.specs.Steps.{nested_plain}
+use Rattle.small_steps.proofs.Nesting.{turned_more}
+use Rattle.program_tree.specs.declared.Way.TheVariants.{Call}
+use Rattle.running_ahead.specs.Ahead.{IsAhead, ComeBack, TurnsOn, topped_child}
+use Rattle.running_ahead.proofs.Paths.{called_plain, turned_next, enter_ahead, child_returns, child_stays}
+
+module _ (setting : Setting) (site : Loop) (h : Share) (j : PlainLoop) (a : PlainActivation) (l : PlainLayer) where
+  -- the instance that has called the next iteration
+  abbrev pub on_turn : PlainActivation
+  on_turn = waiting false None (Turns site (rest_of h)) a
+
+  -- the slots that the iteration is entered with, and what was read for them
+  abbrev pub turn_entry : NumberedOut (List Slot)
+  turn_entry = entry_at setting.tables (slice_set a.slots j.variable (Has (site.low +ℤ pos h.first))) (slots_of setting.codes j.callee) (map expression j.arguments)
+
+  module _ (there : a.work ≡ Turns site h) (more : (h.count == 0) ≡ false) (found : j ≡ loop_at setting.codes a.procedure site) (memo : memo_of setting.codes j.callee ≡ false) (deep : (a.left == 0) ≡ false)
+      (slots : List Slot) (m n : PlainLayer) (b : PlainActivation) (filled : Fills turn_entry slots l m) (kinds : n.kinds ≡ m.kinds) where
+    abbrev pub iteration : PlainActivation
+    iteration = made j.callee slots (Block (first_of 0)) (a.left - 1)
+
+    abbrev pub layer_then : PlainLayer
+    layer_then = entering j.callee (depth_limit - (a.left - 1)) m
+
+    next : (s : PlainStrand) (kit : Bool) → evaluated j.number turn_entry (nested_plain j.number Call None (Turns site (rest_of h)) j.callee) (topped Running a l s) ≡ advanced setting kit (topped Running a l s)
+    next s kit =
+        let x = topped Running a l s in
+        called_plain setting kit j.number None (Turns site (rest_of h)) j.callee (map expression j.arguments) (turn_slots j site h x) x memo
+        ∙ turned_more setting kit site h x j more found ∙ turned_next setting kit site h x refl there
+
+    pub turn_back : (v : ℤ) → ComesTo setting true iteration layer_then (Some v) b n → TurnsOn setting a l on_turn n
+    turn_back v come s home =
+        let x = topped Running a l s in
+        let y = record x { layer = m } in
+        let w = Turns site (rest_of h) in
+        let t = topped Running on_turn n s in
+        enter_ahead setting j.number turn_entry None w j.callee slots x y t filled.0 (ap (λ (k : PlainLayer). record x { layer = k }) filled.1)
+        (child_returns setting None w j.callee slots y j.number deep b n kinds v (home.entry (a.children + 1)) (home.own (a.children + 1)) t come refl)
+        (next s)
+
+    pub turn_stays : ComesTo setting true iteration layer_then None b n → (s : PlainStrand) → ComeBack s → IsAhead setting (topped Running a l s) (topped_child b on_turn n s)
+    turn_stays come s home =
+        let x = topped Running a l s in
+        let y = record x { layer = m } in
+        let w = Turns site (rest_of h) in
+        let t = topped_child b on_turn n s in
+        enter_ahead setting j.number turn_entry None w j.callee slots x y t filled.0 (ap (λ (k : PlainLayer). record x { layer = k }) filled.1)
+        (child_stays setting None w j.callee slots y j.number deep b n kinds t (λ u. home.entry (a.children + 1)) come refl)
+        (next s)

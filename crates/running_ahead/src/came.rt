@@ -1,0 +1,10 @@
+// What came of a called instance.
+
+/// What came of an instance that was to be called: nothing was done; it is over, and its value went to the one that called it; or
+/// it stands on the strand and has more to do.
+#[derive(Clone, Copy)]
+pub enum Came {
+    Nowhere,
+    Back,
+    Stays,
+}
