@@ -11,11 +11,13 @@ ghost use Rattle.worker_seats.specs.Over.{is_far, is_over, is_right, is_refusal,
 ghost use Rattle.worker_seats.specs.declared.failure.Failure.TheVariants as reason;
 
 use crate::found::Found;
+use numbered_runs::step::StrandLine;
 use right_strands::laid::Piece;
 use right_strands::run::{Run, Scene};
 use std::alloc::{AllocError, Global};
 use std::sync::ledger::{Blank, Book as Count, Ledger, Share};
 use stealing_deques::{Deques, ThiefEnd, all_ends};
+use strand_list::lines::{is_done, is_waiting};
 use sync_fold::Book;
 use view_pool::{Kit, View};
 use worker_seats::beginning::{Blanks, NewDeques};
@@ -91,6 +93,18 @@ impl<J: Run + Ledger + Stocked + Send, D: Deques, V: View> Parts<J, D, V> {
         };
         Ok((parts, seats, kits))
     }
+}
+
+/// Whether neighbours may be folded, as far as their states say.
+fn may_fold(lines: &[StrandLine]) -> bool {
+    let mut is_behind_done = false;
+    for line in lines {
+        if is_behind_done && is_waiting(line.state) {
+            return true;
+        }
+        is_behind_done = is_done(line.state);
+    }
+    false
 }
 
 /// Notes why a run gives up; the first reason stays.
@@ -273,8 +287,8 @@ impl<J: Run + Ledger + Stocked + Send, D: Deques, V: View> Desk<J, D, V> {
                 Found::Nothing
             };
         }
-        // A strand that is the only one has no neighbour.
-        if self.table.book.strands().len() < 2 {
+        // Most looks end here, or find nothing to steal.
+        if !may_fold(self.table.book.strands()) {
             return self.steal(alloc, scene, worker);
         }
         match self.fold(alloc, scene, worker) {

@@ -179,7 +179,9 @@ impl<J: Run + Stocked + Send, V: View> Table<J, V> {
         let _ = self.depot.put(kit);
     }
 
-    /// The worker goes on from a continuation that was taken from the victim, as a strand with that kit.
+    /// The worker goes on from a continuation that was taken from the victim, as a strand with that kit. It is no part of who looks for
+    /// one, mostly in vain: the room for what it moves would be cleared at each look.
+    #[inline(never)]
     fn rob(
         &mut self,
         alloc: Global,
