@@ -6,10 +6,10 @@ use std::sync::atomic::{AtomicBool, AtomicU64, Ordering};
 use std::time::Duration;
 
 /// How often a worker listens for the bell between two looks for a strand.
-const LISTENS: u32 = 128;
+const LISTENS: u32 = 64;
 
 /// After how many looks in vain a worker naps between them. Before that a nap could take longer than the run.
-const PATIENCE: u64 = 16;
+const PATIENCE: u64 = 32;
 
 /// How many microseconds its first nap takes, and by how many each further one is longer.
 const NAP: u64 = 100;
