@@ -317,7 +317,7 @@ where
     seat
 }
 
-/// A thread for each of the other seats, until all have left. Where memory is refused there are less of them.
+/// A thread for each of the other seats, until all have left. Where memory is refused there are fewer of them.
 fn start<J, D, V, R, G>(rt: &R, floor: &Floor<'_, J, D, V>, seats: Vec<Seat<J, D>>, gate: &G)
 where
     J: Run + Ledger + Stocked + Send + Sync,
