@@ -67,7 +67,7 @@ impl<V: View> Strand<V> {
             tables,
             records,
         };
-        self.machine.go_on(alloc, setting, kits)?;
+        self.machine.step_by_phase(alloc, setting, kits)?;
         Ok(paused)
     }
 

@@ -8,7 +8,7 @@ ghost use Rattle.own_statements.specs.Paths.{ComesTo};
 ghost use Rattle.own_statements.specs.Runs.{RunsTo, IsBlock, IsBody};
 
 use crate::ran::Ran;
-use crate::statements::{Did, perform};
+use crate::statements::{Did, perform_alone};
 use activations::activation::{Activation, FIRST};
 use activations::code::instructions;
 use activations::setting::Setting;
@@ -142,7 +142,7 @@ fn run_block<'a, V: View>(
     let mut index = place.index;
     while index < statements.len() {
         let place = Position { block, index };
-        match perform(
+        match perform_alone(
             layer,
             setting,
             passes_syncs,

@@ -40,7 +40,7 @@ pub struct Here {
 
 /// One statement. Where the next one of the block is next, what the instance has left is not noted.
 #[inline(always)]
-pub fn perform<V: View>(
+pub fn perform_alone<V: View>(
     layer: &mut Layer<V>,
     setting: Setting<'_>,
     passes_syncs: bool,

@@ -86,7 +86,7 @@ impl<V: View> Machine<V> {
 
     /// The small step that the phase asks for.
     #[inline(always)]
-    pub fn go_on<K: KitSource<Kit<V>>>(
+    pub fn step_by_phase<K: KitSource<Kit<V>>>(
         &mut self,
         alloc: Global,
         setting: Setting<'_>,

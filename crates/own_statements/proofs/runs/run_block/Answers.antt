@@ -28,7 +28,7 @@ loop-index-preserved g c =
     record {
       kinds = c.in-Next.ensures.kinds ∙ c.loop-index.invariant.kinds;
       same = (c.in-Next.ensures.same_block.0 ∙ c.loop-index.invariant.same.0, c.in-Next.ensures.same_block.1 ∙ c.loop-index.invariant.same.1);
-      come = come_next S c.args.passes_syncs a c.args.layer.now p b c.loop-index.layer c.loop-index.invariant.come i found c.perform.new.top c.perform.new.layer c.in-Next.ensures.done;
+      come = come_next S c.args.passes_syncs a c.args.layer.now p b c.loop-index.layer c.loop-index.invariant.come i found c.perform_alone.new.top c.perform_alone.new.layer c.in-Next.ensures.done;
     }
 
 pub returns-in-Moved-clause-ran : goal.returns-in-Moved-clause-ran
@@ -44,9 +44,9 @@ returns-in-Moved-clause-ran g c =
     let found : Some i ≡ instruction_inside S.codes b.procedure (length b.outer) p =
     sym (slice_get_read xs (length xs) index i refl there c.index-statements-index.is) ∙ c.requires.block index
     ∙ found_as S.codes c.args.top.now b p c.loop-index.invariant.same.0 c.loop-index.invariant.same.1 in
-    run_join S c.args.passes_syncs a c.args.layer.now c.perform.new.top c.perform.new.layer c.standing.result c.perform.new.top c.perform.new.layer
-    (come_moved S c.args.passes_syncs a c.args.layer.now p b c.loop-index.layer c.loop-index.invariant.come i found c.perform.new.top c.perform.new.layer c.in-Moved.ensures.done)
-    (c.standing.ensures.stands c.args.passes_syncs c.perform.new.layer)
+    run_join S c.args.passes_syncs a c.args.layer.now c.perform_alone.new.top c.perform_alone.new.layer c.standing.result c.perform_alone.new.top c.perform_alone.new.layer
+    (come_moved S c.args.passes_syncs a c.args.layer.now p b c.loop-index.layer c.loop-index.invariant.come i found c.perform_alone.new.top c.perform_alone.new.layer c.in-Moved.ensures.done)
+    (c.standing.ensures.stands c.args.passes_syncs c.perform_alone.new.layer)
 
 pub returns-in-Nothing-clause-ran : goal.returns-in-Nothing-clause-ran
 returns-in-Nothing-clause-ran g c =
@@ -61,8 +61,8 @@ returns-in-Nothing-clause-ran g c =
     let found : Some i ≡ instruction_inside S.codes b.procedure (length b.outer) p =
     sym (slice_get_read xs (length xs) index i refl there c.index-statements-index.is) ∙ c.requires.block index
     ∙ found_as S.codes c.args.top.now b p c.loop-index.invariant.same.0 c.loop-index.invariant.same.1 in
-    subst (λ (y : PlainActivation). ComesTo S c.args.passes_syncs a c.args.layer.now None y c.perform.new.layer) (sym c.stand.ensures.stands)
-    (come_none S c.args.passes_syncs a c.args.layer.now p b c.loop-index.layer c.loop-index.invariant.come i found c.perform.new.top c.perform.new.layer c.in-Nothing.ensures.done)
+    subst (λ (y : PlainActivation). ComesTo S c.args.passes_syncs a c.args.layer.now None y c.perform_alone.new.layer) (sym c.stand.ensures.stands)
+    (come_none S c.args.passes_syncs a c.args.layer.now p b c.loop-index.layer c.loop-index.invariant.come i found c.perform_alone.new.top c.perform_alone.new.layer c.in-Nothing.ensures.done)
 
 pub returns-in-Gave-clause-ran : goal.returns-in-Gave-clause-ran
 returns-in-Gave-clause-ran g c =
@@ -78,9 +78,9 @@ returns-in-Gave-clause-ran g c =
     sym (slice_get_read xs (length xs) index i refl there c.index-statements-index.is) ∙ c.requires.block index
     ∙ found_as S.codes c.args.top.now b p c.loop-index.invariant.same.0 c.loop-index.invariant.same.1 in
     let same : c.in-Gave.value ≡ to_z w64 (of_z w64 c.in-Gave.value) = search rules in
-    subst (λ (v : ℤ). ComesTo S c.args.passes_syncs a c.args.layer.now (Some v) c.stand-in-Gave.new.self c.perform.new.layer) same
-    (subst (λ (y : PlainActivation). ComesTo S c.args.passes_syncs a c.args.layer.now (Some c.in-Gave.value) y c.perform.new.layer) (sym c.stand-in-Gave.ensures.stands)
-    (come_gave S c.args.passes_syncs a c.args.layer.now p b c.loop-index.layer c.loop-index.invariant.come i found c.perform.new.top c.perform.new.layer c.in-Gave.value c.in-Gave.ensures.done))
+    subst (λ (v : ℤ). ComesTo S c.args.passes_syncs a c.args.layer.now (Some v) c.stand-in-Gave.new.self c.perform_alone.new.layer) same
+    (subst (λ (y : PlainActivation). ComesTo S c.args.passes_syncs a c.args.layer.now (Some c.in-Gave.value) y c.perform_alone.new.layer) (sym c.stand-in-Gave.ensures.stands)
+    (come_gave S c.args.passes_syncs a c.args.layer.now p b c.loop-index.layer c.loop-index.invariant.come i found c.perform_alone.new.top c.perform_alone.new.layer c.in-Gave.value c.in-Gave.ensures.done))
 
 pub returns-clause-ran : goal.returns-clause-ran
 returns-clause-ran g c =

@@ -19,18 +19,18 @@ use Rattle.small_steps.proofs.Keeping.{kinds_kept}
 use Rattle.frames.proofs.strand.Strand.advance.Goals as goal
 
 pub invariant_of-self : goal.invariant_of-self
-invariant_of-self g c = valued_whole c.self.inside.machine c.go_on.new.self c.in_err-go_on.ensures.refused c.self.invariant
+invariant_of-self g c = valued_whole c.self.inside.machine c.step_by_phase.new.self c.in_err-step_by_phase.ensures.refused c.self.invariant
 
 pub invariant_of-self-2 : goal.invariant_of-self-2
 invariant_of-self-2 g c =
-    let step = c.in_ok-go_on.ensures.advanced in
+    let step = c.in_ok-step_by_phase.ensures.advanced in
     let kinds : c.self.inside.machine.layer.kinds ≡ c.args.program.now.kinds = ap (λ (s : PlainStrand). s.layer.kinds) c.self.view_is ∙ c.requires.kinds in
-    advanced_whole (given c.args.program.now c.args.tables.now c.args.records.now) step.kit c.self.inside.machine c.go_on.new.self kinds step.done (c.go_on.ensures.made c.self.invariant.made) c.self.invariant
+    advanced_whole (given c.args.program.now c.args.tables.now c.args.records.now) step.kit c.self.inside.machine c.step_by_phase.new.self kinds step.done (c.step_by_phase.ensures.made c.self.invariant.made) c.self.invariant
 
 pub returns-clause-advanced : goal.returns-clause-advanced
 returns-clause-advanced g c =
-    subst (λ (s : PlainStrand). HoldsBy (g.K.KitSource.lacks c.args.kits.now) (GivesNone g.K.KitSource.gives c.args.kits.now) (λ kit. c.go_on.new.self ≡ advanced (given c.args.program.now c.args.tables.now c.args.records.now) kit s))
-    c.self.view_is c.in_ok-go_on.ensures.advanced
+    subst (λ (s : PlainStrand). HoldsBy (g.K.KitSource.lacks c.args.kits.now) (GivesNone g.K.KitSource.gives c.args.kits.now) (λ kit. c.step_by_phase.new.self ≡ advanced (given c.args.program.now c.args.tables.now c.args.records.now) kit s))
+    c.self.view_is c.in_ok-step_by_phase.ensures.advanced
 
 pub returns-clause-small_step : goal.returns-clause-small_step
 returns-clause-small_step g c =
@@ -38,7 +38,7 @@ returns-clause-small_step g c =
     let tables = c.args.tables.now in
     let records = c.args.records.now in
     let s = c.args.self.now in
-    let new = c.go_on.new.self in
+    let new = c.step_by_phase.new.self in
     holds_as (g.K.KitSource.lacks c.args.kits.now) (GivesNone g.K.KitSource.gives c.args.kits.now)
     (λ kit. new ≡ advanced (given p tables records) kit s)
     (λ kit. (kept : List Kept) → AreKept p kept records → HasItsTables (setting_with p tables.tables kept records) → IsStepOf (setting_with p tables.tables kept records) kit s new)
@@ -65,7 +65,7 @@ returns-clause-goes_on g c working kept =
 
 pub returns-clause-kinds : goal.returns-clause-kinds
 returns-clause-kinds g c =
-    let step = c.in_ok-go_on.ensures.advanced in
+    let step = c.in_ok-step_by_phase.ensures.advanced in
     let machine = c.self.inside.machine in
     let kinds : machine.layer.kinds ≡ c.args.program.now.kinds = ap (λ (s : PlainStrand). s.layer.kinds) c.self.view_is ∙ c.requires.kinds in
     let below : All (λ (l : PlainLayer). l.kinds ≡ c.args.program.now.kinds) machine.lower = subst (λ ks. All (λ (l : PlainLayer). l.kinds ≡ ks) machine.lower) kinds c.self.invariant.kinds in

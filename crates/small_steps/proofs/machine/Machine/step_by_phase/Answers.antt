@@ -5,7 +5,7 @@ use Rattle.activations.specs.Given.{lent}
 use Rattle.small_steps.specs.Steps.{GivesNone}
 use Rattle.small_steps.proofs.Nesting.{worked_made}
 use Rattle.small_steps.proofs.Supplies.{holds_on}
-use Rattle.small_steps.proofs.machine.Machine.go_on.Goals as goal
+use Rattle.small_steps.proofs.machine.Machine.step_by_phase.Goals as goal
 
 pub returns-in-Running-clause-advanced : goal.returns-in-Running-clause-advanced
 returns-in-Running-clause-advanced g c =

@@ -11,7 +11,7 @@ use Rattle.activations.specs.Given.{lent}
 use Rattle.positions.specs.declared.phase.Phase.TheVariants.{Running}
 use Rattle.own_statements.specs.Paths.{Does, topped}
 use Rattle.own_statements.proofs.Paths.{does_as}
-use Rattle.own_statements.proofs.statements.perform.Goals as goal
+use Rattle.own_statements.proofs.statements.perform_alone.Goals as goal
 
 pub returns-in-Bind-clause-done : goal.returns-in-Bind-clause-done
 returns-in-Bind-clause-done g c =
