@@ -151,7 +151,7 @@ impl<J: Run + Ledger + Stocked + Send, D: Deques, V: View> Floor<'_, J, D, V> {
     }
 
     /// Goes on with a strand until there is nothing more to do with it, and lays it down.
-    pub(crate) fn go_on<R: Wait, G: Gate>(
+    pub(crate) fn run_strand<R: Wait, G: Gate>(
         &self,
         rt: &R,
         number: usize,
@@ -188,7 +188,7 @@ impl<J: Run + Ledger + Stocked + Send, D: Deques, V: View> Floor<'_, J, D, V> {
         ensures bound { result ≡ true → IsBoundTo seat.new.here (spot_of strand.new.strand) }
         ensures kits { kits_of strand.new.strand + supply.new.free ≡ most }
     {
-        match self.advance(number, strand, supply, gate) {
+        match self.take_steps(number, strand, supply, gate) {
             Ok(Paused::Working) => !self.has_given_up(),
             Ok(Paused::AtSpawn) => self.spawn(number, seat, strand, gate),
             Ok(Paused::Returned) => self.resume(rt, number, seat, strand, gate),
@@ -198,7 +198,7 @@ impl<J: Run + Ledger + Stocked + Send, D: Deques, V: View> Floor<'_, J, D, V> {
 
     /// Small steps until the strand pauses, or as many as are done in one go, which leave its lowest instance as it is. Want of memory
     /// is the only error.
-    fn advance<R: Wait, G: Gate>(
+    fn take_steps<R: Wait, G: Gate>(
         &self,
         number: usize,
         strand: &mut RightStrand<J, V>,
@@ -216,7 +216,7 @@ impl<J: Run + Ledger + Stocked + Send, D: Deques, V: View> Floor<'_, J, D, V> {
         let is_alone = self.is_alone.load(Ordering::Relaxed);
         let steps = if is_alone { FEW } else { STEPS };
         for _ in 0..steps {
-            self.go_ahead(number, is_watched, is_alone, strand, gate)?;
+            self.steps_ahead(number, is_watched, is_alone, strand, gate)?;
             match strand.advance(self.alloc, &self.scene, supply)? {
                 Paused::Working => {}
                 paused => return Ok(paused),
@@ -241,7 +241,7 @@ impl<J: Run + Ledger + Stocked + Send, D: Deques, V: View> Floor<'_, J, D, V> {
     /// update that is next. Want of memory is the only error.
     #[inline(always)]
     #[tactic(auto, using(crate::proofs::Staying::stays_way))]
-    fn go_ahead<G: Gate>(
+    fn steps_ahead<G: Gate>(
         &self,
         number: usize,
         is_watched: bool,

@@ -58,7 +58,7 @@ where
         Found::Left => return seat,
         Found::Nothing => {}
         Found::Own(held) | Found::Folded(held) | Found::Stolen(held) => {
-            floor.go_on(rt, number, &mut seat, held, gate);
+            floor.run_strand(rt, number, &mut seat, held, gate);
         }
     }
     seek(rt, floor, number, seat, gate)
@@ -93,7 +93,7 @@ where
             Found::Nothing => listener.wait(rt),
             Found::Own(held) | Found::Folded(held) | Found::Stolen(held) => {
                 listener.leave();
-                floor.go_on(rt, number, &mut seat, held, gate);
+                floor.run_strand(rt, number, &mut seat, held, gate);
                 listener.listen();
             }
         }

@@ -90,7 +90,7 @@ pub fn run_threads<V: View + Send, R: Threads + Wait + Sync, G: Gate>(
         tables: session.tables(),
         records: session.records(),
     };
-    let (ran, pool) = run_on::<Brand, V, R, G>(
+    let (ran, pool) = run_lent::<Brand, V, R, G>(
         rt,
         alloc,
         lent,
@@ -100,7 +100,7 @@ pub fn run_threads<V: View + Send, R: Threads + Wait + Sync, G: Gate>(
         gate,
     );
     match ran {
-        Ok(ended) => Ok(settle(alloc, session, pool, ended)),
+        Ok(ended) => Ok(give_back(alloc, session, pool, ended)),
         Err(mismatch) => {
             session.put_back(pool);
             Err(mismatch)
@@ -110,7 +110,7 @@ pub fn run_threads<V: View + Send, R: Threads + Wait + Sync, G: Gate>(
 
 /// Gives a session its pool back, and the new records of a run that has ended so; where memory is refused for these, the records
 /// are as before.
-fn settle<V: View>(
+fn give_back<V: View>(
     alloc: Global,
     session: &mut Session<V>,
     pool: Pool<Kit<V>>,
@@ -140,7 +140,7 @@ fn settle<V: View>(
 }
 
 /// How a run of what is lent has ended, and the pool.
-fn run_on<J, V, R, G>(
+fn run_lent<J, V, R, G>(
     rt: &R,
     alloc: Global,
     lent: Lent<'_>,

@@ -5,4 +5,4 @@ use Rattle.threaded_driver.proofs.run.run_threads.Goals as goal
 
 pub returns-in-Ok-clause-recorded : goal.returns-in-Ok-clause-recorded
 returns-in-Ok-clause-recorded g c =
-    leaves_whatever_kits c.args.session.now c.take_pool-pool.new.self (stock_of []) c.settle.result.0 c.settle.new.session.records c.take_pool-pool.ensures.left c.settle.ensures.recorded
+    leaves_whatever_kits c.args.session.now c.take_pool-pool.new.self (stock_of []) c.give_back.result.0 c.give_back.new.session.records c.take_pool-pool.ensures.left c.give_back.ensures.recorded

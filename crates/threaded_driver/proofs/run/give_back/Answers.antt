@@ -1,7 +1,7 @@
 use Rattle.session_runs.proofs.Outcomes.{news_of}
 use Rattle.session_runs.proofs.Outcomes.{leaves_records}
 use Rattle.threaded_driver.proofs.Settling.{recorded_by, quiet_whatever_kits}
-use Rattle.threaded_driver.proofs.run.settle.Goals as goal
+use Rattle.threaded_driver.proofs.run.give_back.Goals as goal
 
 pub settle-requires-clause-new : goal.settle-requires-clause-new
 settle-requires-clause-new g c κs within =
