@@ -6,6 +6,8 @@ import unittest
 
 TOP = os.path.dirname(os.path.dirname(os.path.realpath(__file__)))
 WIDEST, MOST = 160, 7
+# What takes more parameters, as docs/DECISIONS.md says, until it gets a struct.
+MORE = {"own_statements/src/filling.rt: fills_turn": 9}
 OPEN, CLOSE = "([{<", ")]}>"
 
 
@@ -62,7 +64,7 @@ class House(unittest.TestCase):
     def test_functions_take_few_parameters(self):
         for path, text in sources("src/**/*.rt"):
             for name, count in functions(text):
-                self.assertLessEqual(count, MOST, f"{path}: {name}")
+                self.assertLessEqual(count, MORE.get(f"{path}: {name}", MOST), f"{path}: {name}")
 
     def test_changing_names_files_that_are_there(self):
         with open(f"{TOP}/docs/CHANGING.md", encoding="utf-8") as file:
