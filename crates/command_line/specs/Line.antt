@@ -2,7 +2,7 @@
 use Rattle.std.specs.Prelude.{◌≡◌, ◌≢◌, ◌≤◌, ℕ, Bool, List, [], ◌∷◌, Option, Some, None, ⊤, true, false, cond, codes, option_map}
 use Rattle.std.specs.Option.{option_map_or}
 use Rattle.std.specs.Str.{bytes_eq}
-use Rattle.std.specs.Str.Parse.{IsNumeral, digits_value, without_leading_plus}
+use Rattle.asked_counts.specs.Counts.{AsksFor}
 use Rattle.clap.specs.Words.{App, Rule, fault_of, first_of, matches_of, new_app, new_rule, with_rule}
 use Rattle.clap.specs.declared.builder.action.ArgAction.TheVariants.{Set, SetTrue}
 use Rattle.clap.specs.declared.error.kind.ErrorKind.{ErrorKind}
@@ -61,11 +61,6 @@ WantsHelp words = fault_of line_form words ≡ DisplayHelp ∷ []
 
 unfoldable pub WantsVersion : List (List ℕ) → Type 0
 WantsVersion words = fault_of line_form words ≡ DisplayVersion ∷ []
-
--- n is asked for: the first number where nothing is said, else one of 1 to the second
-abbrev pub AsksFor : ℕ → ℕ → Option (List ℕ) → ℕ → Type 0
-AsksFor unsaid most None n = n ≡ unsaid
-AsksFor unsaid most (Some text) n = IsNumeral 10 (without_leading_plus text) × (digits_value 10 (without_leading_plus text) ≡ n) × (1 ≤ n) × (n ≤ most)
 
 -- the sort of views of that name
 abbrev pub views_named : List ℕ → Option Views

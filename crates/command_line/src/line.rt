@@ -2,7 +2,8 @@
 ghost use Rattle.std.specs.Prelude.{◌≡◌, ◌≤◌, ℕ, List, IfOk, IfErr, IfSome, IfNone, OnOk, false, map, option_map};
 ghost use Rattle.clap.specs.Words.{app_of, found_of, first_value, kind_of, rule_of};
 ghost use Rattle.command_line.specs.Line.{line_form, values_form, print_form, given, is_set, flag_rule, option_rule, path_rule, HasForm};
-ghost use Rattle.command_line.specs.Line.{AsksFor, IsAsked, IsLineOf, IsNoLine, IsNothing, IsPrintLine, IsNoPrintLine, IsRefusedFor};
+ghost use Rattle.asked_counts.specs.Counts.{AsksFor};
+ghost use Rattle.command_line.specs.Line.{IsAsked, IsLineOf, IsNoLine, IsNothing, IsPrintLine, IsNoPrintLine, IsRefusedFor};
 ghost use Rattle.command_line.specs.Line.{IsRefusalOf, IsWithin, AsksForViews, views_named};
 ghost use Rattle.command_line.specs.declared.options.OptionsError.TheVariants as refusal;
 ghost use Rattle.command_line.specs.declared.options.Views.{Views as TheViews};
@@ -186,16 +187,10 @@ fn asked(text: Option<&str>, unsaid: usize, most: usize) -> Result<usize, Option
     ensures refused { IfErr result (λ error. (error ≡ refusal.Usage)
         × ((n : ℕ) → AsksFor unsaid most (option_map (λ t. t.now) text.entry) n → ⊥)) }
 {
-    let Some(text) = text else {
-        return Ok(unsaid);
-    };
-    let Ok(number) = text.parse::<usize>() else {
-        return Err(OptionsError::Usage);
-    };
-    if 1 <= number && number <= most {
-        return Ok(number);
+    match asked_counts::asked(text, unsaid, most) {
+        Some(number) => Ok(number),
+        None => Err(OptionsError::Usage),
     }
-    Err(OptionsError::Usage)
 }
 
 // The sort of views that a text asks for; the plain ones where there is no text.

@@ -2,7 +2,7 @@
 use thiserror::Error;
 
 /// What the program's line asks for.
-#[derive(Clone, Copy, Debug)]
+#[derive(Clone, Copy)]
 pub struct Options<'a> {
     pub program: &'a str,
     pub tables: &'a str,
@@ -23,7 +23,7 @@ pub struct Options<'a> {
 
 /// How the views of a run's kits keep lists and amounts: in pieces, whole, or the one in the first, third .. kit and the other in the
 /// rest.
-#[derive(Clone, Copy, Debug, PartialEq, Eq)]
+#[derive(Clone, Copy)]
 pub enum Views {
     Plain,
     Flat,

@@ -23,7 +23,9 @@ pub fn held_words(
         Err(_) => return Err(OptionsError::Usage),
     };
     for word in args {
-        words.push(word).map_err(|_| OptionsError::NoMemory)?;
+        if words.push(word).is_err() {
+            return Err(OptionsError::NoMemory);
+        }
     }
     Ok(words)
 }
@@ -36,9 +38,9 @@ pub fn lent(alloc: Global, held: &[String]) -> Result<Vec<&str>, OptionsError>
 {
     let mut words = Vec::new(alloc);
     for word in held {
-        words
-            .push(word.as_str())
-            .map_err(|_| OptionsError::NoMemory)?;
+        if words.push(word.as_str()).is_err() {
+            return Err(OptionsError::NoMemory);
+        }
     }
     Ok(words)
 }

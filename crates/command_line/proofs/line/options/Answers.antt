@@ -1,5 +1,6 @@
 use Rattle.std.proofs.Common.{rules, ◌∙◌, refl, subst, sym}
-use Rattle.command_line.specs.Line.{AsksFor, AsksForViews}
+use Rattle.asked_counts.specs.Counts.{AsksFor}
+use Rattle.command_line.specs.Line.{AsksForViews}
 use Rattle.command_line.specs.declared.options.OptionsError.TheVariants as refusal
 use Rattle.command_line.proofs.Lines.{as_usage, handed_on}
 use Rattle.command_line.proofs.line.options.Goals as goal
