@@ -1,5 +1,5 @@
 //! Records in a row are gathered into blocks, so that what they have together answers them all.
-ghost use Rattle.std.specs.Prelude.{◌≡◌, ◌+ℤ◌, ℕ, ℤ, pos, true, List, IfOk, OnOk, OnErr, OnSome, IfSome, All, map};
+ghost use Rattle.std.specs.Prelude.{◌≡◌, ◌+ℤ◌, ℕ, ℤ, pos, true, List, IfOk, OnOk, OnErr, OnSome, IfSome, Some, All, map, slice_get};
 ghost use Rattle.monoid_laws.specs.declared.Kind.{Kind as PlainKind};
 ghost use Rattle.monoid_laws.specs.Kinds.{IsMonoid};
 ghost use Rattle.rerun_records.specs.Record.{settled};
@@ -9,7 +9,9 @@ ghost use Rattle.rerun_records.specs.Named.{HaveValues, CommitsNamed};
 ghost use Rattle.rerun_records.specs.Blocks.{stands_at};
 ghost use Rattle.gathered_records.specs.Gathering.{moved_to, IsThere, AreInRow};
 
+use crate::bounds::{PARTS, bounds_at, part_above};
 use crate::row::Row;
+use crate::stretch::{Bounds, Stretches};
 use crate::sums::sum_at;
 use crate::tried::Tried;
 use crate::widening::widen_at;
@@ -21,10 +23,6 @@ use rerun_records::blocks::Width;
 use rerun_records::record::Record;
 use rerun_records::records::Records;
 use std::alloc::{AllocError, Global};
-
-/// A block begins at a multiple of its width or behind it, and ends before the next: so blocks of one width never lie across
-/// each other.
-pub(crate) const FINE: u64 = 16;
 
 /// Vast blocks are made of so many records at least: an edit has one made again, which takes more than it saves among fewer.
 const MANY: usize = 250_000;
@@ -127,13 +125,21 @@ fn gather_these(
     ensures in_step { IsInStep tables.now.tables records.new }
     ensures same { map settled records.new ≡ map settled records.old }
 {
-    make_fine(records, alloc, places, tables, program)?;
-    make_wider(records, alloc, Width::Middle, places, program)?;
-    make_wider(records, alloc, Width::Wide, places, program)?;
+    let mut stretches = Stretches::new(alloc);
+    make_fine(records, alloc, places, &mut stretches, tables, program)?;
+    make_wider(
+        records,
+        alloc,
+        Width::Middle,
+        places,
+        &mut stretches,
+        program,
+    )?;
+    make_wider(records, alloc, Width::Wide, places, &mut stretches, program)?;
     if records.len() < MANY {
         return Ok(());
     }
-    make_wider(records, alloc, Width::Vast, places, program)
+    make_wider(records, alloc, Width::Vast, places, &mut stretches, program)
 }
 
 // Makes fine blocks that have the records at these places as part.
@@ -142,6 +148,7 @@ fn make_fine(
     records: &mut Records,
     alloc: Global,
     places: &[u32],
+    stretches: &mut Stretches,
     tables: &Tables,
     program: &Checked,
 ) -> Result<(), AllocError>
@@ -153,7 +160,15 @@ fn make_fine(
 {
     let mut tried = Tried::new(alloc, records.len(), places.len())?;
     for place in places {
-        gather_at(records, alloc, *place as usize, &mut tried, tables, program);
+        gather_at(
+            records,
+            alloc,
+            *place as usize,
+            &mut tried,
+            stretches,
+            tables,
+            program,
+        );
     }
     Ok(())
 }
@@ -164,6 +179,7 @@ fn make_wider(
     alloc: Global,
     width: Width,
     places: &[u32],
+    stretches: &mut Stretches,
     program: &Checked,
 ) -> Result<(), AllocError>
     requires monoids { All IsMonoid program.now.kinds }
@@ -171,7 +187,15 @@ fn make_wider(
 {
     let mut tried = Tried::new(alloc, records.len(), places.len())?;
     for place in places {
-        widen_at(records, alloc, width, *place as usize, &mut tried, program);
+        widen_at(
+            records,
+            alloc,
+            width,
+            *place as usize,
+            &mut tried,
+            stretches,
+            program,
+        );
     }
     Ok(())
 }
@@ -183,6 +207,7 @@ fn gather_at(
     alloc: Global,
     place: usize,
     tried: &mut Tried,
+    stretches: &mut Stretches,
     tables: &Tables,
     program: &Checked,
 )
@@ -198,18 +223,55 @@ fn gather_at(
     tried.put(place);
     match row_at(records, alloc, place) {
         Ok(Some(mut row)) => {
-            let _ = gather_row(records, alloc, &mut row, tried, tables, program);
+            gather_on(records, alloc, &mut row, tried, stretches, tables, program)
         }
         _ => {}
     }
 }
 
-// Makes a fine block of the records in that row.
+// Makes fine blocks of the records in a row from where it is on, as far as they have none and one is made.
+#[tactic(auto, using(rerun_records::proofs::Puts::same_values))]
+fn gather_on(
+    records: &mut Records,
+    alloc: Global,
+    row: &mut Row,
+    tried: &mut Tried,
+    stretches: &mut Stretches,
+    tables: &Tables,
+    program: &Checked,
+)
+    requires in_step { IsInStep tables.now.tables records.old }
+    requires monoids { All IsMonoid program.now.kinds }
+    requires values { HaveValues program.now.kinds records.old }
+    ensures in_step { IsInStep tables.now.tables records.new }
+    ensures same { map settled records.new ≡ map settled records.old }
+{
+    for _ in 0..PARTS {
+        let bounds = bounds_at(
+            records,
+            alloc,
+            Width::Fine,
+            row,
+            stretches,
+            tried.are_many(),
+            program.kinds(),
+        );
+        if gather_row(records, alloc, row, bounds, tried, tables, program).is_err() {
+            return;
+        }
+        if part_above(records, Width::Fine, row, bounds.last, program.kinds()).is_none() {
+            return;
+        }
+    }
+}
+
+// Makes a fine block of the records in that row between these numbers.
 #[tactic(auto, using(rerun_records::proofs::Puts::same_values))]
 fn gather_row(
     records: &mut Records,
     alloc: Global,
     row: &mut Row,
+    bounds: Bounds,
     tried: &mut Tried,
     tables: &Tables,
     program: &Checked,
@@ -220,8 +282,8 @@ fn gather_row(
     ensures in_step { IsInStep tables.now.tables records.new }
     ensures same { map settled records.new ≡ map settled records.old }
 {
-    let first = lowest(records, row);
-    let places = stand_in_row(records, alloc, row, first, tables)?;
+    let first = lowest(records, row, bounds);
+    let places = stand_in_row(records, alloc, row, first, bounds, tables)?;
     tried.put_all(&places);
     if places.len() < 2 {
         return Ok(());
@@ -231,13 +293,14 @@ fn gather_row(
     records.add_block(alloc, Width::Fine, program.kinds(), block)
 }
 
-// The least number from which on there are records in the row up to where it is, within a fine block's bounds.
-fn lowest(records: &Records, row: &mut Row) -> i64 {
+// The least of these numbers from which on there are records in the row up to where it is.
+fn lowest(records: &Records, row: &mut Row, bounds: Bounds) -> i64 {
     let mut first = row.number();
-    for _ in 0..first.cast_unsigned() % FINE {
-        let Some(lower) = first.checked_sub(1) else {
+    for _ in 0..PARTS {
+        if first <= bounds.first {
             return first;
-        };
+        }
+        let lower = first.wrapping_sub(1);
         row.go_to(lower);
         if find_row(records, row).is_none() {
             return first;
@@ -247,12 +310,13 @@ fn lowest(records: &Records, row: &mut Row) -> i64 {
     first
 }
 
-// The places of the records in a row from that number on that stand, within a fine block's bounds.
+// The places of the records in a row from that number on that stand, as far as to the last of these numbers.
 fn stand_in_row(
     records: &mut Records,
     alloc: Global,
     row: &mut Row,
     first: i64,
+    bounds: Bounds,
     tables: &Tables,
 ) -> Result<Vec<u32>, AllocError>
     requires in_step { IsInStep tables.now.tables records.old }
@@ -261,7 +325,7 @@ fn stand_in_row(
     ensures row { IfOk result (λ places. AreInRow records.new row.new first places.items) }
 {
     let mut places = Vec::new(alloc);
-    for _ in (first.cast_unsigned() % FINE)..FINE {
+    for _ in 0..bounds.count_from(first) {
         match stand_next(records, row, first, places.len(), tables) {
             Some(place) => places.push(place)?,
             None => return Ok(places),
@@ -359,27 +423,49 @@ pub(crate) fn go_on(row: &mut Row, first: i64, step: usize) -> bool
     }
 }
 
-/// Whether the record at that place is part of a block. Records in a row mostly have places in a row: there it is looked for first.
+/// Whether the record at that place is part of a block.
 pub(crate) fn is_part(block: &Block, place: usize) -> bool {
-    let places = block.places();
-    if is_in_row(places, place) {
-        return true;
-    }
-    for other in places {
-        if *other as usize == place {
-            return true;
-        }
-    }
-    false
+    index_in(block, place).is_some()
 }
 
-// Whether that place stands where it would if these went up by one.
-fn is_in_row(places: &[u32], place: usize) -> bool {
-    match places.first() {
-        Some(first) => match places.get(place.wrapping_sub(*first as usize)) {
-            Some(other) => *other as usize == place,
-            None => false,
-        },
+/// Where that place stands among a block's, counted from 0. Records in a row mostly have places in a row: there it is looked for
+/// first.
+pub(crate) fn index_in(block: &Block, place: usize) -> Option<usize> {
+    let places = block.places();
+    match index_in_row(places, place) {
+        Some(index) => Some(index),
+        None => index_among(places, place),
+    }
+}
+
+// Where that place stands, if it stands where it would if these went up by one.
+fn index_in_row(places: &[u32], place: usize) -> Option<usize> {
+    let first = places.first()?;
+    let index = place.wrapping_sub(*first as usize);
+    let other = places.get(index)?;
+    if *other as usize == place {
+        Some(index)
+    } else {
+        None
+    }
+}
+
+// Where that place stands.
+fn index_among(places: &[u32], place: usize) -> Option<usize> {
+    for index in 0..places.len() {
+        if places[index] as usize == place {
+            return Some(index);
+        }
+    }
+    None
+}
+
+/// Whether a block's first record has that place.
+pub(crate) fn begins_at(block: &Block, place: u32) -> bool
+    ensures begins { result ≡ true → slice_get block.now.places 0 ≡ Some place }
+{
+    match block.places().first() {
+        Some(first) => *first == place,
         None => false,
     }
 }

@@ -1,8 +1,10 @@
 //! Records in a row, which are gathered into blocks behind a run.
 #![tactic(auto)]
 
+mod bounds;
 pub mod gathering;
 mod row;
+mod stretch;
 mod sums;
 mod tried;
 mod widening;

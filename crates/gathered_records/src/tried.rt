@@ -34,6 +34,11 @@ impl Tried {
         Ok(Tried { pages, notes })
     }
 
+    /// Whether many places are asked.
+    pub(crate) fn are_many(&self) -> bool {
+        self.notes
+    }
+
     /// Whether that place was tried.
     pub(crate) fn has(&self, place: usize) -> bool {
         match self.pages.get(place / PAGE) {

@@ -6,8 +6,10 @@ ghost use Rattle.rerun_records.specs.Named.{AreValuesFrom};
 ghost use Rattle.gathered_records.specs.Summing.{at_places, nothing_summed, added, HasSummed};
 ghost use Rattle.gathered_records.specs.Gathering.{moved_to, AreInRow, IsPart};
 
-use crate::gathering::{FINE, find_row, go_on, has_block, is_part, row_of};
+use crate::bounds::{PARTS, bounds_at, end_around, part_above, part_below, part_of};
+use crate::gathering::{begins_at, find_row, go_on, has_block, is_part, row_of};
 use crate::row::Row;
+use crate::stretch::{Bounds, Stretches};
 use crate::sums::Sum;
 use crate::tried::Tried;
 use linked_program::checked::Checked;
@@ -17,23 +19,12 @@ use rerun_records::blocks::Width;
 use rerun_records::records::Records;
 use std::alloc::{AllocError, Global};
 
-/// A middle block is made of fine ones between multiples of its width.
-const MIDDLE: u64 = 128;
-
-/// A wide one of middle ones.
-const WIDE: u64 = 1024;
-
-/// And a vast one of wide ones.
-const VAST: u64 = 8192;
-
-/// So many at most.
-const PARTS: u64 = 8;
-
-/// The places of the records of blocks that are joined, and what these records have together.
+/// The places of the records of blocks that are joined, what these records have together, and behind how many none begins.
 #[derive(Drop)]
 struct Joined {
     places: Vec<u32>,
     sum: Sum,
+    most: usize,
 }
 
 /// Makes a block of that width of narrower ones in a row with that of the record at that place, where it has such a one, none of
@@ -44,6 +35,7 @@ pub(crate) fn widen_at(
     width: Width,
     place: usize,
     tried: &mut Tried,
+    stretches: &mut Stretches,
     program: &Checked,
 )
     requires monoids { All IsMonoid program.now.kinds }
@@ -54,9 +46,43 @@ pub(crate) fn widen_at(
     }
     match part_row(records, alloc, width, place, tried, program.kinds()) {
         Ok(Some(mut row)) => {
-            let _ = widen_row(records, alloc, width, &mut row, tried, program.kinds());
+            widen_on(
+                records,
+                alloc,
+                width,
+                &mut row,
+                tried,
+                stretches,
+                program.kinds(),
+            )
         }
         _ => {}
+    }
+}
+
+// Makes blocks of that width of the narrower ones in a row from where it is on, as far as they are part of none and one is made.
+fn widen_on(
+    records: &mut Records,
+    alloc: Global,
+    width: Width,
+    row: &mut Row,
+    tried: &mut Tried,
+    stretches: &mut Stretches,
+    kinds: &[Kind],
+)
+    requires monoids { All IsMonoid kinds.now }
+    ensures same { records.new ≡ records.old }
+{
+    for _ in 0..PARTS {
+        let are_many = tried.are_many();
+        let bounds = bounds_at(records, alloc, width, row, stretches, are_many, kinds);
+        let last = end_around(records, width, row, bounds.last, kinds);
+        if widen_row(records, alloc, width, row, bounds, tried, kinds).is_err() {
+            return;
+        }
+        if part_above(records, width, row, last, kinds).is_none() {
+            return;
+        }
     }
 }
 
@@ -90,26 +116,28 @@ fn first_row(records: &Records, alloc: Global, block: &Block) -> Result<Option<R
     }
 }
 
-// Makes a block of that width of the narrower ones in that row.
+// Makes a block of that width of the narrower ones in that row between these numbers.
 fn widen_row(
     records: &mut Records,
     alloc: Global,
     width: Width,
     row: &mut Row,
+    bounds: Bounds,
     tried: &mut Tried,
     kinds: &[Kind],
 ) -> Result<(), AllocError>
     requires monoids { All IsMonoid kinds.now }
     ensures same { records.new ≡ records.old }
 {
-    let first = lowest_part(records, width, row, kinds);
+    let first = lowest_part(records, width, row, bounds, kinds);
     let mut joined = Joined {
         places: Vec::new(alloc),
         sum: Sum::new(alloc, kinds)?,
+        most: bounds.count_from(first),
     };
     join_parts(records, alloc, width, row, first, kinds, &mut joined)?;
     tried.put_all(&joined.places);
-    if joined.places.len() <= longest_part(width) {
+    if joined.places.len() <= first_part(records, width, &joined.places, kinds) {
         return Ok(());
     }
     add_wide(records, alloc, width, row, first, joined, kinds)
@@ -131,45 +159,42 @@ fn add_wide(
     ensures same { records.new ≡ records.old }
 {
     let counted = row.counted();
-    let Joined { places, sum } = joined;
+    let Joined { places, sum, .. } = joined;
     let block = Block::new(places, counted, sum.finish(alloc)?);
     records.add_block(alloc, width, kinds, block)
 }
 
-// The least number from which on there are narrower blocks in a row up to where it is, within the bounds of one of that width.
-fn lowest_part(records: &Records, width: Width, row: &mut Row, kinds: &[Kind]) -> i64 {
+// How many records the narrower block has that has the first of these places; 0 where none has it.
+fn first_part(records: &Records, width: Width, places: &[u32], kinds: &[Kind]) -> usize {
+    match places.first() {
+        Some(first) => match records.block_at(part_of(width), *first as usize, kinds) {
+            Some(block) => block.places().len(),
+            None => 0,
+        },
+        None => 0,
+    }
+}
+
+// The least of these numbers from which on there are narrower blocks in a row up to where it is.
+fn lowest_part(
+    records: &Records,
+    width: Width,
+    row: &mut Row,
+    bounds: Bounds,
+    kinds: &[Kind],
+) -> i64 {
     let mut first = row.number();
-    for _ in 0..parts_before(width, first) {
-        match part_before(records, width, row, first, kinds) {
-            Some(lower) => first = lower,
-            None => return first,
+    for _ in 0..PARTS {
+        match part_below(records, width, row, first, kinds, false) {
+            Some(lower) if bounds.first <= lower => first = lower,
+            _ => return first,
         }
     }
     first
 }
 
-// The number of the first record of the block that ends before that number.
-fn part_before(
-    records: &Records,
-    width: Width,
-    row: &mut Row,
-    first: i64,
-    kinds: &[Kind],
-) -> Option<i64> {
-    row.go_to(first.checked_sub(1)?);
-    let place = find_row(records, row)?;
-    let block = records.block_at(part_of(width), place as usize, kinds)?;
-    if block.counted() == row.counted() && ends_at(block, place) {
-        i64::try_from(block.places().len())
-            .ok()
-            .and_then(|count| first.checked_sub(count))
-    } else {
-        None
-    }
-}
-
-// Puts the places of the narrower blocks in a row from that number on behind one another, and adds what they have together;
-// within the bounds of one of that width.
+// Puts the places of the narrower blocks in a row from that number on behind one another, as many as may be, and adds what they have
+// together.
 fn join_parts(
     records: &Records,
     alloc: Global,
@@ -186,8 +211,16 @@ fn join_parts(
     ensures summed { OnOk result (
         HasSummed kinds.now (at_places (map settled records.now) joined.new.places.items) joined.new.sum) }
 {
-    for _ in parts_before(width, first)..PARTS {
-        match part_next(records, width, row, first, joined.places.len(), kinds) {
+    for _ in 0..PARTS {
+        match part_next(
+            records,
+            width,
+            row,
+            first,
+            joined.places.len(),
+            joined.most,
+            kinds,
+        ) {
             Some(block) => put_part(alloc, block, kinds, joined)?,
             None => return Ok(()),
         }
@@ -195,7 +228,7 @@ fn join_parts(
     Ok(())
 }
 
-// The narrower block that begins so many instances on in the row, where there is one.
+// The narrower block that begins so many instances on in the row, where there is one and that is fewer than so many.
 #[tactic(auto, using(crate::proofs::Rows::part_is))]
 fn part_next<'a>(
     records: &'a Records,
@@ -203,6 +236,7 @@ fn part_next<'a>(
     row: &mut Row,
     first: i64,
     step: usize,
+    most: usize,
     kinds: &[Kind],
 ) -> Option<&'a Block>
     ensures row { (z : ℤ) → moved_to row.new z ≡ moved_to row.old z }
@@ -210,6 +244,9 @@ fn part_next<'a>(
     ensures part { IfSome result (λ block. IsPart kinds.now records.now row.new block.now) }
     ensures moved { OnSome result (row.new ≡ moved_to row.old (first +ℤ pos step)) }
 {
+    if step >= most {
+        return None;
+    }
     if !go_on(row, first, step) {
         return None;
     }
@@ -219,33 +256,6 @@ fn part_next<'a>(
         Some(block)
     } else {
         None
-    }
-}
-
-// The width of the blocks that one of that width is made of.
-fn part_of(width: Width) -> Width {
-    match width {
-        Width::Vast => Width::Wide,
-        Width::Wide => Width::Middle,
-        _ => Width::Fine,
-    }
-}
-
-// How many records these have at most.
-fn longest_part(width: Width) -> usize {
-    match width {
-        Width::Vast => WIDE as usize,
-        Width::Wide => MIDDLE as usize,
-        _ => FINE as usize,
-    }
-}
-
-// How many of these there may be before the one with that number, within the bounds of a block of that width.
-fn parts_before(width: Width, number: i64) -> u64 {
-    match width {
-        Width::Vast => number.cast_unsigned() % VAST / WIDE,
-        Width::Wide => number.cast_unsigned() % WIDE / MIDDLE,
-        _ => number.cast_unsigned() % MIDDLE / FINE,
     }
 }
 
@@ -272,22 +282,4 @@ fn begins_in(block: &Block, counted: usize, place: u32) -> bool
     ensures begins { result ≡ true → slice_get block.now.places 0 ≡ Some place }
 {
     block.counted() == counted && begins_at(block, place)
-}
-
-// Whether a block's first record has that place.
-fn begins_at(block: &Block, place: u32) -> bool
-    ensures begins { result ≡ true → slice_get block.now.places 0 ≡ Some place }
-{
-    match block.places().first() {
-        Some(first) => *first == place,
-        None => false,
-    }
-}
-
-// Whether a block's last record has that place.
-fn ends_at(block: &Block, place: u32) -> bool {
-    match block.places().last() {
-        Some(last) => *last == place,
-        None => false,
-    }
 }
