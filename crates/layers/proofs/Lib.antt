@@ -8,3 +8,4 @@ pub mod Empties
 pub mod Marks
 pub mod Touches
 pub mod Homes
+pub mod Gatherings

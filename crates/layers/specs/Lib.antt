@@ -3,3 +3,4 @@ pub mod Updates
 pub mod Recordings
 pub mod Identities
 pub mod Folds
+pub mod Gatherings

@@ -12,6 +12,7 @@ use std::mem;
 use view_pool::{Kit, KitSource, View};
 
 /// Sends a kit home.
+#[inline(always)]
 pub fn send_home<V: View, K: KitSource<Kit<V>>>(kits: &mut K, kit: Kit<V>)
     requires fits { K.fits kit kits.old }
     ensures fitting { (k : List Kind) → K.fits k kits.old → K.fits k kits.new }

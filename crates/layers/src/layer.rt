@@ -28,16 +28,17 @@ use view_pool::{Kit, View};
 /// The greatest depth of an instance.
 pub const DEEPEST: u32 = meaning::DEPTH_LIMIT;
 
-/// Whether readings are kept, the reducers' views, what was read, what the instances have read that were recorded or answered
-/// meanwhile, for each procedure whether it was entered, and the greatest depth of an instance.
+/// Whether readings are kept, the greatest depth of an instance, the reducers' views, what was read, what the instances have read
+/// that were recorded or answered meanwhile, and for each procedure whether it was entered. The two small ones stand together: it
+/// is then moved without a call.
 #[derive(Drop)]
 pub struct Layer<V: View = Box<dyn View>> {
     pub keeps: bool,
+    pub(crate) deepest: u32,
     pub(crate) hypermap: Hypermap<V>,
     pub notes: Notes,
     pub(crate) shared: Vec<Readings>,
     pub(crate) entered: Vec<bool>,
-    pub(crate) deepest: u32,
 }
 
 impl<V: View> Model for Layer<V> {
@@ -104,11 +105,11 @@ impl<V: View> Layer<V> {
         }
         Ok(Layer {
             keeps,
+            deepest: 0,
             hypermap: Hypermap::open_in(kit, used),
             notes,
             shared: Vec::new(alloc),
             entered,
-            deepest: 0,
         })
     }
 

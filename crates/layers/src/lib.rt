@@ -3,6 +3,7 @@
 
 mod absorbing;
 pub mod closing;
+mod gathered;
 mod identities;
 mod joining;
 pub mod layer;

@@ -1,5 +1,5 @@
 //! What is kept of a memo instance whose layer is open, and what a record keeps of the layer once it is over.
-ghost use Rattle.std.specs.Prelude.{true, ◌≡◌, ◌<◌, ◌++◌, ◌∷◌, [], IfOk, OnOk, length, map, slice_get};
+ghost use Rattle.std.specs.Prelude.{true, false, ◌≡◌, ◌<◌, ◌++◌, IfOk, OnOk, length, map, slice_get};
 ghost use Rattle.std.specs.List.{list_any};
 ghost use Rattle.monoid_laws.specs.Worth.{Worth};
 ghost use Rattle.monoid_laws.specs.Kinds.{meaning};
@@ -11,8 +11,10 @@ ghost use Rattle.rerun_records.specs.Readings.{all_of};
 ghost use Rattle.rerun_records.specs.ShortLists.{items_in};
 ghost use Rattle.positions.specs.Values.{same_note, once, put_note};
 ghost use Rattle.positions.specs.Tallies.{touched_from, entries_from};
+ghost use Rattle.layers.specs.Gatherings.{gathered_in};
 ghost use Rattle.layers.specs.Recordings.{recording_of, recorded, touched_at, entry_of};
 
+use crate::gathered::Gathered;
 use crate::identities::is_identity;
 use crate::layer::{DEEPEST, Layer};
 use evaluation::note::Note;
@@ -27,7 +29,6 @@ use rerun_records::record::Record;
 use rerun_records::short_list::ShortList;
 use std::alloc::{AllocError, Global};
 use std::marker::Model;
-use std::mem;
 use view_pool::View;
 
 /// A memo instance with a layer of its own: its procedure, its arguments, how many levels there are below it, and how long its
@@ -174,17 +175,17 @@ fn contribution<V: View>(
         AreValuesFrom 0 hypermap.now.kinds (map touched (items_in c))) }
 {
     let _ = hypermap.len();
-    let mut values = ShortList::new(Vec::new(alloc));
+    let mut values = Gathered::new(alloc);
     for reducer in 0..kinds.len() {
         push_touched(alloc, &mut values, hypermap, reducer, &kinds[reducer])?;
     }
-    Ok(values)
+    Ok(values.into_list())
 }
 
 /// Puts a copy of a reducer's value behind the others, unless it is the identity.
 fn push_touched<V: View>(
     alloc: Global,
-    values: &mut ShortList<(usize, Val)>,
+    values: &mut Gathered,
     hypermap: &Hypermap<V>,
     reducer: usize,
     kind: &Kind,
@@ -192,8 +193,8 @@ fn push_touched<V: View>(
     requires there { reducer < length hypermap.now.kinds }
     requires kind { IsAt hypermap.now.kinds reducer kind.now }
     ensures pushed { (w : Worth) → IsAt hypermap.now.worths reducer w → OnOk result
-        (map touched (items_in values.new)
-        ≡ map touched (items_in values.old) ++ touched_at reducer kind.now w) }
+        (map touched (gathered_in values.new)
+        ≡ map touched (gathered_in values.old) ++ touched_at reducer kind.now w) }
 {
     let _ = hypermap.len();
     match hypermap.used_value(reducer)? {
@@ -205,81 +206,48 @@ fn push_touched<V: View>(
 /// Puts a value behind the others, which are so many at most, unless it is the identity.
 fn push_value(
     alloc: Global,
-    values: &mut ShortList<(usize, Val)>,
+    values: &mut Gathered,
     reducer: usize,
     kind: &Kind,
     value: Val,
     most: usize,
 ) -> Result<(), AllocError>
-    ensures pushed { OnOk result (map touched (items_in values.new)
-        ≡ map touched (items_in values.old) ++ touched_at reducer kind.now (meaning value)) }
+    ensures pushed { OnOk result (map touched (gathered_in values.new)
+        ≡ map touched (gathered_in values.old) ++ touched_at reducer kind.now (meaning value)) }
 {
     if is_identity(kind, &value) {
         return Ok(());
     }
-    put_behind(alloc, values, (reducer, value), most)
+    values.put(alloc, (reducer, value), most)
 }
 
-/// Puts a value with its reducer's number behind the others, which are so many at most. Two lie by themselves.
-fn put_behind(
-    alloc: Global,
-    values: &mut ShortList<(usize, Val)>,
-    value: (usize, Val),
-    most: usize,
-) -> Result<(), AllocError>
-    ensures put { OnOk result (items_in values.new ≡ items_in values.old ++ value ∷ []) }
-{
-    match mem::replace(values, ShortList::Several(Vec::new(alloc))) {
-        ShortList::One(first) => {
-            *values = ShortList::Two([first, value]);
-            Ok(())
-        }
-        ShortList::Two(pair) => {
-            *values = three(alloc, pair, value, most)?;
-            Ok(())
-        }
-        ShortList::Several(items) => {
-            *values = one_more(items, value)?;
-            Ok(())
-        }
-    }
-}
-
-/// Three values, with room for so many.
-#[inline(never)]
-fn three(
-    alloc: Global,
-    pair: [(usize, Val); 2],
-    value: (usize, Val),
-    most: usize,
-) -> Result<ShortList<(usize, Val)>, AllocError>
-    ensures three { IfOk result (λ list. items_in list ≡ pair ++ value ∷ []) }
-{
-    let [first, second] = pair;
-    let mut items = Vec::new(alloc);
-    items.reserve_exact(most)?;
-    items.push(first)?;
-    items.push(second)?;
-    items.push(value)?;
-    Ok(ShortList::Several(items))
-}
-
-/// One more value behind others, or it alone.
-fn one_more(
-    mut items: Vec<(usize, Val)>,
-    value: (usize, Val),
-) -> Result<ShortList<(usize, Val)>, AllocError>
-    ensures more { IfOk result (λ list. items_in list ≡ items.items ++ value ∷ []) }
-{
-    if items.is_empty() {
-        return Ok(ShortList::One(value));
-    }
-    items.push(value)?;
-    Ok(ShortList::Several(items))
-}
-
-/// A layer's own readings, each once, and then those that it shares. Those of one instance alone are handed on as they are.
+/// A layer's own readings, each once, and then those that it shares. Those of an instance that multiplies two cells are looked
+/// through at once.
+#[inline(always)]
+#[tactic(auto, using(crate::proofs::Marks::two_kept))]
 fn kept_reads(alloc: Global, notes: &Notes, shared: &[Readings]) -> Result<Readings, AllocError>
+    ensures kept { IfOk result (λ r. r ≡ once notes.now ++ all_of shared.now) }
+{
+    let found = notes.readings();
+    if shared.is_empty() && are_of_two_columns(found) {
+        return two_reads(alloc, found);
+    }
+    all_reads(alloc, notes, shared)
+}
+
+/// Two readings.
+#[inline(always)]
+fn two_reads(alloc: Global, found: &[Reading]) -> Result<Readings, AllocError>
+    requires two { length found.now ≡ 2 }
+    ensures same { IfOk result (λ r. r ≡ map note_of found.now) }
+{
+    let own = ShortList::Two([found[0], found[1]]);
+    Readings::new(alloc, own, Vec::new(alloc))
+}
+
+/// The same of any readings. Those of one instance alone are handed on as they are.
+#[inline(never)]
+fn all_reads(alloc: Global, notes: &Notes, shared: &[Readings]) -> Result<Readings, AllocError>
     ensures kept { IfOk result (λ r. r ≡ once notes.now ++ all_of shared.now) }
 {
     if notes.is_empty() && shared.len() == 1 {
@@ -327,6 +295,38 @@ fn are_distinct(found: &[Reading]) -> bool
         }
     }
     true
+}
+
+/// Whether these are readings of two cells in different columns.
+#[inline(always)]
+fn are_of_two_columns(found: &[Reading]) -> bool
+    ensures two { result ≡ true → length found.now ≡ 2 }
+    ensures distinct { result ≡ true → once (map note_of found.now) ≡ map note_of found.now }
+{
+    if found.len() != 2 {
+        return false;
+    }
+    let first = &found[0];
+    let second = &found[1];
+    are_apart(second, first)
+}
+
+/// Whether these are readings of cells in different columns.
+#[inline(always)]
+#[tactic(auto, using(crate::proofs::Marks::apart_cells))]
+fn are_apart(left: &Reading, right: &Reading) -> bool
+    ensures apart { result ≡ true → same_note (note_of left.now) (note_of right.now) ≡ false }
+{
+    match left {
+        Reading::Cell { column, .. } => match right {
+            Reading::Cell {
+                column: other_column,
+                ..
+            } => *column != *other_column,
+            _ => false,
+        },
+        _ => false,
+    }
 }
 
 /// The readings, each once; by looking through those before it.

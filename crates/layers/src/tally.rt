@@ -1,5 +1,5 @@
 //! What a strand has counted and recorded of memo instances.
-ghost use Rattle.std.specs.Prelude.{◌≡◌, suc, ◌+◌, IfOk, OnErr, OnOk, All};
+ghost use Rattle.std.specs.Prelude.{◌≡◌, ◌<◌, suc, ◌+◌, IfOk, OnErr, OnOk, All, vec_len, vec_capacity};
 ghost use Rattle.monoid_laws.specs.Kinds.{IsMonoid};
 ghost use Rattle.rerun_records.specs.Named.{AreValuesFrom, HaveValues};
 ghost use Rattle.positions.specs.Layers.{multiplied, covered, absorbing};
@@ -49,6 +49,29 @@ fn sum(left: u64, right: u64) -> Result<u64, AllocError>
         Some(count) => Ok(count),
         None => Err(AllocError),
     }
+}
+
+/// Makes room for one more record. A list that is full grows fourfold, since all that it holds is copied then.
+#[inline(always)]
+fn make_room(made: &mut Vec<Record>) -> Result<(), AllocError>
+    ensures items { made.new.items ≡ made.old.items }
+    ensures room { OnOk result (vec_len made.new < vec_capacity made.new) }
+{
+    if made.len() < made.capacity() {
+        return Ok(());
+    }
+    grow(made)
+}
+
+/// Makes room for three times as many records as there are, or for one more where so much memory is refused.
+#[inline(never)]
+fn grow(made: &mut Vec<Record>) -> Result<(), AllocError>
+    ensures items { made.new.items ≡ made.old.items }
+    ensures room { OnOk result (vec_len made.new < vec_capacity made.new) }
+{
+    let count = made.len();
+    let _ = made.reserve(count.saturating_mul(3));
+    made.reserve(1)
 }
 
 impl Tally {
@@ -169,7 +192,7 @@ impl Tally {
         ensures below_kept { OnErr result (IsSameButWorths below.old below.new) }
         ensures product { OnErr result (HasSameProduct below.old top.old below.new top.new) }
     {
-        self.made.reserve(1)?;
+        make_room(&mut self.made)?;
         let recording = top.recording(alloc, program)?;
         below.cover(top, recording.reads())?;
         if let Some(opened) = self.opened.pop() {

@@ -23,6 +23,7 @@ use layers::layer::DEEPEST;
 use linked_program::code::Expression;
 use positions::work::{Loop, Share};
 use rerun_records::batch::Batch;
+use rerun_records::blocks::Width;
 use rerun_records::series::Series;
 use small_steps::machine::Machine;
 use std::alloc::Global;
@@ -35,7 +36,7 @@ const BATCHES: u32 = 2048;
 
 const SINGLES: u32 = 64;
 
-/// Records that go together begin at a multiple of this.
+/// So many records go together where they can.
 const WIDTH: u32 = 16;
 
 /// There is room for so many batches at first.
@@ -180,7 +181,7 @@ fn answers_by<'a, V: View>(
         match batch_from(machine, alloc, setting, code, ahead, numbers) {
             Some(batch) => {
                 singles = singles_with(singles, batch);
-                if is_in_vain(search.wanted, ahead, batch, singles) {
+                if is_in_vain(setting, search.wanted, ahead, batch, singles) {
                     return Some(Found { batches, count });
                 }
                 if batches.push(batch).is_err() {
@@ -249,7 +250,7 @@ fn is_stale<V: View>(
                 near: 0,
             };
             match batch_from(machine, alloc, setting, code, ahead, numbers) {
-                Some(batch) => is_in_vain(search.wanted, ahead, batch, 1),
+                Some(batch) => is_in_vain(setting, search.wanted, ahead, batch, 1),
                 None => true,
             }
         }
@@ -282,16 +283,35 @@ fn singles_with(singles: u32, batch: Batch<'_>) -> u32 {
 }
 
 /// Whether it is of no use to look further: too many single records were found, or many iterations are all asked for, and a record
-/// stands alone where a wide batch is to begin, so that one behind it isn't valid any more, or no argument counts up.
-fn is_in_vain(wanted: Wanted, ahead: Ahead, batch: Batch<'_>, singles: u32) -> bool {
+/// is part of no block where many are left, so that one beside it isn't valid any more, or no argument counts up.
+fn is_in_vain(
+    setting: Setting<'_>,
+    wanted: Wanted,
+    ahead: Ahead,
+    batch: Batch<'_>,
+    singles: u32,
+) -> bool {
     if singles > SINGLES {
         return true;
     }
     if !wanted.all || wanted.most <= SINGLES || batch.count > 1 {
         return false;
     }
-    let is_begin = ahead.number % i64::from(WIDTH) == 0 && ahead.most >= WIDTH;
-    is_begin || ahead.counted.is_none()
+    ahead.counted.is_none() || ahead.most >= WIDTH && is_alone(setting, batch)
+}
+
+/// Whether the record of one instance is part of no block, nor is the one behind it.
+fn is_alone(setting: Setting<'_>, batch: Batch<'_>) -> bool {
+    !has_block(setting, batch.next.wrapping_sub(1)) && !has_block(setting, batch.next)
+}
+
+/// Whether the record at that place may be part of a block.
+fn has_block(setting: Setting<'_>, place: usize) -> bool {
+    let kinds = setting.program.kinds();
+    setting
+        .records
+        .block_at(Width::Fine, place, kinds)
+        .is_some()
 }
 
 /// The batch that answers a loop's iterations from that number on; `numbers` are the arguments of another iteration, where one of

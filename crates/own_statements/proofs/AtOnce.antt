@@ -1,19 +1,27 @@
--- Updates by numbers that read nothing.
-use Rattle.std.proofs.Common.{◌≡◌, ◌∙◌, ℕ, ℤ, Bool, true, false, List, [], Option, Some, Result, Ok, Err, OnOk, OnErr, if◌then◌else◌, refl, sym, ap, subst}
-use Rattle.std.specs.Prelude.{is_ok}
+-- Values that are found at once, and updates by numbers that read nothing.
+use Rattle.std.proofs.Common.{◌≡◌, ◌∙◌, ℕ, ℤ, Bool, true, false, List, [], Option, Some, None, Result, Ok, Err, OnOk, OnErr, if◌then◌else◌, refl, sym, ap, subst}
+use Rattle.std.specs.Prelude.{is_ok, IfSome}
 use Rattle.std.proofs.lemmas.List.{append-nil}
 use Rattle.monoid_laws.specs.declared.Kind.{Kind}
 use Rattle.monoid_laws.specs.Kinds.{names_element}
+use Rattle.program_tree.specs.declared.Operator.{Operator}
+use Rattle.meaning.specs.declared.FaultKind.{FaultKind}
+use Rattle.meaning.specs.Tables.{Tables}
+use Rattle.linked_program.specs.declared.code.Expression.{Expression}
+use Rattle.linked_program.specs.declared.code.Expression.TheVariants as e
+use Rattle.linked_program.specs.CodeView.{expression}
 use Rattle.evaluation.specs.declared.note.Note.{Note}
-use Rattle.evaluation.specs.Values.{NumberedOut, pure}
+use Rattle.evaluation.specs.declared.slot.Slot.{Slot}
+use Rattle.evaluation.specs.Values.{NumberedOut, pure, value_at}
 use Rattle.positions.specs.declared.phase.Phase.TheVariants.{Running}
 use Rattle.positions.specs.declared.work.Position.{Position}
 use Rattle.positions.specs.declared.work.Work.TheVariants.{Block}
 use Rattle.positions.specs.Activations.{PlainActivation, at, next_of}
 use Rattle.positions.specs.Layers.{PlainLayer, kept_behind, noting, updating}
-use Rattle.positions.specs.Advance.{evaluated, combining, if_named, moved_on}
+use Rattle.positions.specs.Advance.{evaluated, combining, if_named}
 use Rattle.own_statements.specs.declared.statements.Did.{Did}
 use Rattle.own_statements.specs.declared.statements.Did.TheVariants.{Nothing, Next}
+use Rattle.own_statements.specs.Fills.{Fills}
 use Rattle.own_statements.specs.Paths.{Does, topped}
 
 none_noted : (b : Bool) (xs : List Note) → kept_behind b xs [] ≡ xs
@@ -22,6 +30,45 @@ none_noted false xs = refl
 
 noting_none : (l : PlainLayer) → noting [] l ≡ l
 noting_none l = ap (λ (xs : List Note). record l { notes = xs }) (none_noted l.keeps l.notes)
+
+not_kept : (b : Bool) (xs ys : List Note) → b ≡ false → xs ≡ kept_behind b xs ys
+not_kept true xs ys e = absurd cc
+not_kept false xs ys e = refl
+
+-- the value of an expression that reads nothing, over whatever layer
+pub pure_fills : (o : NumberedOut ℤ) (v : ℤ) (l : PlainLayer) → o ≡ pure v → Fills o v l l
+pure_fills o v l e = (ap (λ (q : NumberedOut ℤ). q.answer) e, sym (ap (λ (q : NumberedOut ℤ). noting q.notes l) e ∙ noting_none l))
+
+-- the value of any expression, over a layer that keeps no readings
+pub unkept_fills : (o : NumberedOut ℤ) (res : Option ℤ) (l : PlainLayer) → IfSome res (λ v. o.answer ≡ Ok v) → l.keeps ≡ false → IfSome res (λ v. Fills o v l l)
+unkept_fills o None l h e = tt
+unkept_fills o (Some v) l h e = (h, ap (λ (xs : List Note). record l { notes = xs }) (not_kept l.keeps l.notes o.notes e))
+
+-- an operator on slots and numbers reads nothing
+module _ (ts : Tables) (slots : List Slot) (op : Operator) (x : Expression) where
+  abbrev pub HasAnswer : Option ℤ → Type 0
+  HasAnswer res = IfSome res (λ v. (value_at ts slots (expression x)).answer ≡ Ok v)
+
+  abbrev pub IsPure : Option ℤ → Type 0
+  IsPure res = IfSome res (λ v. (all : Tables) → value_at all slots (expression x) ≡ pure v)
+
+  abbrev with_answer : Result ℤ FaultKind → NumberedOut ℤ
+  with_answer r = record { notes = []; answer = r }
+
+  pub of_slots : (i j : ℕ) (res : Option ℤ) → x ≡ e.Slots op i j → HasAnswer res → IsPure res
+  of_slots i j None is h = tt
+  of_slots i j (Some v) is h = λ all.
+      ap (λ (y : Expression). value_at all slots (expression y)) is ∙ ap (λ (r : Result ℤ FaultKind). with_answer r) (ap (λ (y : Expression). (value_at ts slots (expression y)).answer) (sym is) ∙ h)
+
+  pub of_slot_and_number : (i : ℕ) (n : ℤ) (res : Option ℤ) → x ≡ e.SlotAndNumber op i n → HasAnswer res → IsPure res
+  of_slot_and_number i n None is h = tt
+  of_slot_and_number i n (Some v) is h = λ all.
+      ap (λ (y : Expression). value_at all slots (expression y)) is ∙ ap (λ (r : Result ℤ FaultKind). with_answer r) (ap (λ (y : Expression). (value_at ts slots (expression y)).answer) (sym is) ∙ h)
+
+  pub of_number_and_slot : (n : ℤ) (i : ℕ) (res : Option ℤ) → x ≡ e.NumberAndSlot op n i → HasAnswer res → IsPure res
+  of_number_and_slot n i None is h = tt
+  of_number_and_slot n i (Some v) is h = λ all.
+      ap (λ (y : Expression). value_at all slots (expression y)) is ∙ ap (λ (r : Result ℤ FaultKind). with_answer r) (ap (λ (y : Expression). (value_at ts slots (expression y)).answer) (sym is) ∙ h)
 
 module _ (passes : Bool) (p : Position) (n r : ℕ) (kind : Kind) (vs : List ℤ) (a : PlainActivation) (l m : PlainLayer) where
   combined : names_element kind vs ≡ true → m ≡ updating r kind vs l → Does passes p (λ kit. evaluated n (pure vs) (combining (Some kind) n p r)) a l Next a m

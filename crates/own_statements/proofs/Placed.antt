@@ -1,5 +1,5 @@
 -- Slots that are put in place one after another.
-use Rattle.std.proofs.Common.{◌≡◌, ◌∙◌, ℕ, zero, suc, ◌+◌, ◌-◌, ◌<◌, ◌≤◌, ℤ, Bool, true, false, List, [], ◌∷◌, ◌++◌, take, drop, length, map, replicate, refl, sym, ap, subst, arith, Ok, Some}
+use Rattle.std.proofs.Common.{◌≡◌, ◌∙◌, ℕ, zero, suc, ◌+◌, ◌-◌, ◌<◌, ℤ, Bool, true, false, List, [], ◌∷◌, ◌++◌, take, drop, length, replicate, refl, sym, ap, subst, arith, Ok, Some}
 use Rattle.std.proofs.lemmas.List.{append-nil, drop_all}
 use Rattle.std.proofs.Math.Seq.{take-length}
 use Rattle.std.specs.Prelude.{slice_get, slice_set}
@@ -9,8 +9,8 @@ use Rattle.evaluation.specs.declared.note.Note.{Note}
 use Rattle.evaluation.specs.declared.slot.Slot.{Slot}
 use Rattle.evaluation.specs.declared.slot.Slot.TheVariants.{Unset, Has}
 use Rattle.evaluation.specs.Slots.{slots_for, number_in}
-use Rattle.evaluation.specs.Values.{NumberedOut, entry_at}
-use Rattle.positions.specs.Layers.{PlainLayer, kept_behind, noting}
+use Rattle.evaluation.specs.Values.{entry_at}
+use Rattle.positions.specs.Layers.{PlainLayer, kept_behind}
 use Rattle.own_statements.specs.Fills.{Fills, first_has}
 
 -- the slot at a place

@@ -1,13 +1,13 @@
 //! Updates of reducers in the topmost layer.
-ghost use Rattle.std.specs.Prelude.{◌≡◌, ◌+◌, ◌<◌, ◌^◌, ◌∷◌, [], true, false, if◌then◌else◌, Some, IfSome, OnSome, length, map, slice_get};
+ghost use Rattle.std.specs.Prelude.{◌≡◌, ◌+◌, ◌<◌, ◌^◌, ◌∷◌, [], true, false, if◌then◌else◌, IfSome, OnSome, length, map, slice_get};
 ghost use Rattle.monoid_laws.specs.Kinds.{arity as arity_of};
 ghost use Rattle.meaning.specs.Tables.{Tables as TableList};
 ghost use Rattle.linked_program.specs.CodeView.{expression as plain};
-ghost use Rattle.evaluation.specs.declared.slot.Slot.TheVariants.{Has};
 ghost use Rattle.evaluation.specs.Values.{pure, value_at, values_at};
 ghost use Rattle.positions.specs.Advance.{evaluated, combining};
 ghost use Rattle.own_statements.specs.Paths.{Does, OnNext, IsInBlock, Takes, Combines};
 
+use crate::found::number_at_once;
 use crate::statements::{Did, Here};
 use activations::activation::Activation;
 use activations::setting::Setting;
@@ -90,32 +90,6 @@ fn two_numbers(kind: &Kind, expressions: &[Expression], slots: &[Slot]) -> Optio
     let first = number_at_once(&expressions[0], slots)?;
     let second = number_at_once(&expressions[1], slots)?;
     Some((first, second))
-}
-
-/// The value of a number, or of a slot that has one, which reads nothing; none of any other expression.
-#[inline(always)]
-fn number_at_once(expression: &Expression, slots: &[Slot]) -> Option<i64>
-    ensures value { IfSome result (λ v. (all : TableList) → value_at all slots.now (plain expression.now) ≡ pure v) }
-{
-    match expression {
-        Expression::Number(number) => Some(*number),
-        Expression::Slot(place) => number_there(slots, *place),
-        _ => None,
-    }
-}
-
-/// The number that a slot has, if it has one.
-#[inline(always)]
-fn number_there(slots: &[Slot], place: usize) -> Option<i64>
-    ensures has { IfSome result (λ v. slice_get slots.now place ≡ Some (Has v)) }
-{
-    match slots.get(place) {
-        None => None,
-        Some(slot) => match slot {
-            Slot::Has(number) => Some(*number),
-            _ => None,
-        },
-    }
 }
 
 /// Combines what the values of whatever expressions name; those of one or two that are as many as the reducer takes need no list.

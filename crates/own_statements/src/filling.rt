@@ -1,5 +1,5 @@
 //! Slots of an instance that is to be called, put in place over the topmost instance's.
-ghost use Rattle.std.specs.Prelude.{◌≡◌, ◌∷◌, [], true, false, map, slice_set};
+ghost use Rattle.std.specs.Prelude.{◌≡◌, ◌∷◌, [], true, false, Some, map, slice_set};
 ghost use Rattle.linked_program.specs.CodeView.{expression as plain};
 ghost use Rattle.linked_program.specs.Linked.{slot};
 ghost use Rattle.evaluation.specs.Slots.{slots_for};
@@ -33,34 +33,6 @@ fn fill<V: View>(
         return child.fill(size, arguments, top.slots(), tables, &mut layer.notes);
     }
     child.fill_unnoted(size, arguments, top.slots(), tables)
-}
-
-/// Puts the slots of an instance in place as `fill` does, where one of the topmost instance's slots may hold something else
-/// meanwhile.
-#[inline(always)]
-#[tactic(auto, using(activations::proofs::Slots::put_back))]
-fn fill_over<V: View>(
-    layer: &mut Layer<V>,
-    child: &mut Activation,
-    top: &mut Activation,
-    meanwhile: Option<(usize, Slot)>,
-    size: usize,
-    arguments: &[Expression],
-    tables: &Tables,
-) -> Result<(), Stop>
-    ensures notes { HasNoted (λ u. child.new.slots)
-        (entry_at tables.now.tables (laid_over meanwhile top.old.slots) size (map plain arguments.now)) layer.old layer.new result }
-    ensures top { top.new ≡ top.old }
-{
-    match meanwhile {
-        None => fill(layer, child, top, size, arguments, tables),
-        Some((variable, number)) => {
-            let held = top.exchange(variable, number);
-            let outcome = fill(layer, child, top, size, arguments, tables);
-            top.restore(variable, held);
-            outcome
-        }
-    }
 }
 
 /// The slot at a place of an instance that is entered with that number alone.
@@ -115,53 +87,87 @@ pub fn is_counted(top: &Activation, variable: usize, arguments: &[Expression]) -
     variable < top.slots().len()
 }
 
-/// Puts the slots of a loop's iteration in place, where it is known whether that is `counted` and the loop's variable holds that
-/// number meanwhile; whether that was done. Where it wasn't, nothing is noted.
+/// How a loop's iterations are entered: with so many names, and those arguments over the tables, while the loop's variable holds the
+/// iteration's number; and whether that is `counted`.
+#[derive(Clone, Copy)]
+pub struct Iterations<'a> {
+    pub size: usize,
+    pub arguments: &'a [Expression],
+    pub tables: &'a Tables,
+    pub variable: usize,
+    pub counted: bool,
+}
+
+/// Puts the slots of a loop's iteration of that number in place; whether that was done. Where it wasn't, nothing is noted.
 #[inline(always)]
 pub fn fills_turn<V: View>(
     layer: &mut Layer<V>,
     child: &mut Activation,
     top: &mut Activation,
-    counted: bool,
-    variable: usize,
+    iterations: Iterations<'_>,
     number: i64,
-    size: usize,
-    arguments: &[Expression],
-    tables: &Tables,
 ) -> bool
-    requires counted { counted ≡ true → IsCounted top.old.slots variable (map plain arguments.now) }
-    ensures filled { result ≡ true → Fills (entry_at tables.now.tables (slice_set top.old.slots variable (Slot.Has number)) size (map plain arguments.now))
-        child.new.slots layer.old layer.new }
+    requires counted { iterations.counted ≡ true → IsCounted top.old.slots iterations.variable (map plain iterations.arguments.now) }
+    ensures filled { result ≡ true → Fills
+        (entry_at iterations.entry.tables.now.tables (slice_set top.old.slots iterations.entry.variable (Slot.Has number)) iterations.entry.size
+        (map plain iterations.entry.arguments.now)) child.new.slots layer.old layer.new }
     ensures unchanged { result ≡ false → layer.new ≡ layer.old }
     ensures top { top.new ≡ top.old }
 {
-    if counted {
-        if put_number(child, size, number) {
+    if iterations.counted {
+        if put_number(child, iterations.size, number) {
             return true;
         }
     }
-    let meanwhile = Some((variable, Slot::Has(number)));
-    fills(layer, child, top, meanwhile, size, arguments, tables)
+    fills_meanwhile(layer, child, top, iterations, number)
 }
 
-/// Whether the slots of an instance were put in place so; where they weren't, nothing is noted.
+/// Puts the slots of a loop's iteration in place so, whatever its arguments are.
+#[inline(always)]
+#[tactic(auto, using(activations::proofs::Slots::put_back))]
+fn fills_meanwhile<V: View>(
+    layer: &mut Layer<V>,
+    child: &mut Activation,
+    top: &mut Activation,
+    iterations: Iterations<'_>,
+    number: i64,
+) -> bool
+    ensures filled { result ≡ true → Fills
+        (entry_at iterations.entry.tables.now.tables (laid_over (Some (iterations.entry.variable, Slot.Has number)) top.old.slots) iterations.entry.size
+        (map plain iterations.entry.arguments.now)) child.new.slots layer.old layer.new }
+    ensures unchanged { result ≡ false → layer.new ≡ layer.old }
+    ensures top { top.new ≡ top.old }
+{
+    let size = iterations.size;
+    let held = top.exchange(iterations.variable, Slot::Has(number));
+    let filled = fills(
+        layer,
+        child,
+        top,
+        size,
+        iterations.arguments,
+        iterations.tables,
+    );
+    top.restore(iterations.variable, held);
+    filled
+}
+
+/// Whether the slots of an instance that is entered with these arguments were put in place, over the topmost instance's slots; where
+/// they weren't, nothing is noted.
 #[inline(always)]
 pub fn fills<V: View>(
     layer: &mut Layer<V>,
     child: &mut Activation,
-    top: &mut Activation,
-    meanwhile: Option<(usize, Slot)>,
+    top: &Activation,
     size: usize,
     arguments: &[Expression],
     tables: &Tables,
 ) -> bool
-    ensures filled { result ≡ true → Fills (entry_at tables.now.tables (laid_over meanwhile top.old.slots) size (map plain arguments.now))
-        child.new.slots layer.old layer.new }
+    ensures filled { result ≡ true → Fills (entry_at tables.now.tables top.now.slots size (map plain arguments.now)) child.new.slots layer.old layer.new }
     ensures unchanged { result ≡ false → layer.new ≡ layer.old }
-    ensures top { top.new ≡ top.old }
 {
     let before = layer.readings();
-    match fill_over(layer, child, top, meanwhile, size, arguments, tables) {
+    match fill(layer, child, top, size, arguments, tables) {
         Ok(()) => true,
         Err(_) => {
             layer.forget(before);

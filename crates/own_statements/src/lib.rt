@@ -3,6 +3,7 @@
 
 mod combining;
 pub mod filling;
+mod found;
 pub mod ran;
 pub mod runs;
 pub mod statements;

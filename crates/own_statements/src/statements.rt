@@ -1,19 +1,17 @@
 //! The statements that an instance does by itself: they enter no other instance.
-ghost use Rattle.std.specs.Prelude.{◌≡◌, ◌+◌, ◌<◌, ◌^◌, false, if◌then◌else◌};
+ghost use Rattle.std.specs.Prelude.{◌≡◌, ◌+◌, ◌<◌, ◌^◌, if◌then◌else◌};
 ghost use Rattle.linked_program.specs.CodeView.{expression as plain};
 ghost use Rattle.evaluation.specs.Values.{value_at};
 ghost use Rattle.positions.specs.Strands.{is_entry};
 ghost use Rattle.positions.specs.Advance.{evaluated, binding, choosing, giving, moved_on, performed};
 ghost use Rattle.activations.specs.Given.{lent};
-ghost use Rattle.layers.specs.Ends.{HasNoted};
 ghost use Rattle.own_statements.specs.Paths.{Does, OnNext, IsInBlock};
 
 use crate::combining::combine_some;
+use crate::found::{given_at_once, value_at_once};
 use activations::activation::Activation;
 use activations::setting::Setting;
 use evaluation::slot::Slot;
-use evaluation::stop::Stop;
-use evaluation::unnoted;
 use input_tables::Tables;
 use layers::layer::Layer;
 use linked_program::code::{Expression, Instruction, Operation};
@@ -97,23 +95,8 @@ fn pass_sync<V: View>(
     }
 }
 
-/// The value of an expression over a layer that keeps no readings.
-#[inline(always)]
-#[tactic(auto, using(layers::proofs::Kept::unnoted_is))]
-fn unnoted_value<V: View>(
-    layer: &Layer<V>,
-    expression: &Expression,
-    slots: &[Slot],
-    tables: &Tables,
-) -> Result<i64, Stop>
-    requires keeps { layer.now.keeps ≡ false }
-    ensures notes { HasNoted (λ v. v) (value_at tables.now.tables slots.now (plain expression.now)) layer.now layer.now result }
-{
-    let _ = layer.readings();
-    unnoted::value(expression, slots, tables)
-}
-
-/// Puts the value of an expression into a slot. Where no readings are kept, there are none to forget.
+/// Puts the value of an expression into a slot. Where it isn't found at once, that is done by a function which is compiled by itself:
+/// so is each statement's, and what is left is short enough for the loop over statements.
 #[inline(always)]
 fn bind<V: View>(
     layer: &mut Layer<V>,
@@ -129,21 +112,18 @@ fn bind<V: View>(
     ensures same_block { OnNext result (IsInBlock top.old top.new) }
     ensures kinds { layer.new.kinds ≡ layer.old.kinds }
 {
-    if layer.keeps {
-        return bind_noted(layer, tables, here, name, expression, top);
-    }
-    match unnoted_value(layer, expression, top.slots(), tables) {
-        Ok(value) => {
+    match value_at_once(layer, expression, top.slots(), tables) {
+        Some(value) => {
             top.bind(Some(name), Slot::Has(value));
             Did::Next
         }
-        Err(_) => Did::Nothing,
+        None => bind_evaluated(layer, tables, here, name, expression, top),
     }
 }
 
-/// Puts the value of an expression into a slot, whether readings are kept or not.
-#[inline(always)]
-fn bind_noted<V: View>(
+/// Puts the value of whatever expression into a slot.
+#[inline(never)]
+fn bind_evaluated<V: View>(
     layer: &mut Layer<V>,
     tables: &Tables,
     here: Here,
@@ -170,7 +150,7 @@ fn bind_noted<V: View>(
     }
 }
 
-/// Goes into one of two blocks by a condition. Where no readings are kept, there are none to forget.
+/// Goes into one of two blocks by a condition.
 #[inline(always)]
 fn choose<V: View>(
     layer: &mut Layer<V>,
@@ -187,24 +167,21 @@ fn choose<V: View>(
     ensures same_block { OnNext result (IsInBlock top.old top.new) }
     ensures kinds { layer.new.kinds ≡ layer.old.kinds }
 {
-    if layer.keeps {
-        return choose_noted(layer, tables, here, condition, first, second, top);
-    }
-    match unnoted_value(layer, condition, top.slots(), tables) {
-        Ok(value) => {
+    match value_at_once(layer, condition, top.slots(), tables) {
+        Some(value) => {
             let block = if value == 0 { second } else { first };
             if top.go_inside(block, here.place).is_err() {
                 return Did::Nothing;
             }
             Did::Moved
         }
-        Err(_) => Did::Nothing,
+        None => choose_evaluated(layer, tables, here, condition, first, second, top),
     }
 }
 
-/// Goes into one of two blocks by a condition, whether readings are kept or not.
-#[inline(always)]
-fn choose_noted<V: View>(
+/// Goes into one of two blocks by whatever condition.
+#[inline(never)]
+fn choose_evaluated<V: View>(
     layer: &mut Layer<V>,
     tables: &Tables,
     here: Here,
@@ -236,7 +213,7 @@ fn choose_noted<V: View>(
     }
 }
 
-/// Gives the value of an expression back. Where no readings are kept, there are none to forget.
+/// Gives the value of an expression back.
 #[inline(always)]
 fn give<V: View>(
     layer: &mut Layer<V>,
@@ -250,18 +227,15 @@ fn give<V: View>(
     ensures same_block { OnNext result (IsInBlock top.old top.new) }
     ensures kinds { layer.new.kinds ≡ layer.old.kinds }
 {
-    if layer.keeps {
-        return give_noted(layer, tables, here, expression, top);
-    }
-    match unnoted_value(layer, expression, top.slots(), tables) {
-        Ok(value) => Did::Gave(value),
-        Err(_) => Did::Nothing,
+    match given_at_once(layer, expression, top.slots(), tables) {
+        Some(value) => Did::Gave(value),
+        None => give_evaluated(layer, tables, here, expression, top),
     }
 }
 
-/// Gives the value of an expression back, whether readings are kept or not.
-#[inline(always)]
-fn give_noted<V: View>(
+/// Gives the value of whatever expression back.
+#[inline(never)]
+fn give_evaluated<V: View>(
     layer: &mut Layer<V>,
     tables: &Tables,
     here: Here,

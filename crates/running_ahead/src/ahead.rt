@@ -316,8 +316,7 @@ fn child_ahead<V: View>(
     if !fills(
         &mut machine.layer,
         &mut machine.spares.child,
-        &mut machine.top,
-        None,
+        &machine.top,
         size,
         callee.arguments,
         setting.tables,
@@ -420,8 +419,8 @@ fn put_on_top(
 {
     path.push_reserved(top.children());
     let blank = spares.blank(alloc);
-    mem::swap(top, &mut spares.child);
-    below.push_reserved(mem::replace(&mut spares.child, blank));
+    let child = mem::replace(&mut spares.child, blank);
+    below.push_reserved(mem::replace(top, child));
 }
 
 /// Whether a called child of the topmost instance would end otherwise than by going back to it: it is where the strand begins,

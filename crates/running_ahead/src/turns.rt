@@ -10,7 +10,7 @@ use activations::code::{instructions, loop_code};
 use activations::setting::Setting;
 use activations::shares::{number_of, rest_of};
 use layers::layer::Layer;
-use own_statements::filling::{fills_turn, is_counted};
+use own_statements::filling::{Iterations, fills_turn, is_counted};
 use own_statements::runs::call;
 use positions::work::{Loop, Share, Work};
 use view_pool::View;
@@ -44,6 +44,13 @@ pub fn turns<V: View>(
     let size = setting.program.slots(code.callee);
     let body = instructions(setting.program, code.callee, 0, 0);
     let counted = is_counted(top, code.variable, code.arguments);
+    let iterations = Iterations {
+        size,
+        arguments: code.arguments,
+        tables: setting.tables,
+        variable: code.variable,
+        counted,
+    };
     let mut share = share;
     for _ in 0..ITERATIONS {
         if share.count == 0 {
@@ -52,17 +59,7 @@ pub fn turns<V: View>(
         let Some(_) = top.children().checked_add(1) else {
             return Came::Nowhere;
         };
-        if !fills_turn(
-            layer,
-            child,
-            top,
-            counted,
-            code.variable,
-            number_of(site, share),
-            size,
-            code.arguments,
-            setting.tables,
-        ) {
+        if !fills_turn(layer, child, top, iterations, number_of(site, share)) {
             return Came::Nowhere;
         }
         top.turn(site, share);

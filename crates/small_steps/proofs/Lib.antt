@@ -6,3 +6,4 @@ pub mod Refusals
 pub mod Memos
 pub mod Nesting
 pub mod Leaving
+pub mod Turns

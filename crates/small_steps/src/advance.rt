@@ -228,13 +228,14 @@ impl<V: View> Machine<V> {
     }
 
     /// The topmost instance's value goes to the one below it, where there is one.
+    #[inline(always)]
     pub fn leave(&mut self, value: i64)
         requires leaving { self.old.phase ≡ Phase.Leaving value }
         ensures left { self.new ≡ left_to self.old.below value self.old }
     {
-        if let Some(mut parent) = self.below.pop() {
-            parent.receive(value);
+        if let Some(parent) = self.below.pop() {
             let over = mem::replace(&mut self.top, parent);
+            self.top.receive(value);
             self.spares.keep(over);
             let _ = self.path.pop();
             self.phase = Phase::Running;

@@ -6,7 +6,7 @@ ghost use Rattle.evaluation.specs.declared.slot.Slot.TheVariants.{Has};
 ghost use Rattle.positions.specs.Activations.{ShareFits};
 ghost use Rattle.positions.specs.Advance.{evaluated, looping, split, halved, second_half, nested_memo, turned, turn_by, turn_slots, rest_of as later_of};
 ghost use Rattle.activations.specs.Given.{lent, loop_of};
-ghost use Rattle.small_steps.specs.Ends.{Evaluates};
+ghost use Rattle.small_steps.specs.Ends.{Evaluates, TakesNumber};
 ghost use Rattle.layers.specs.Ends.{HasNoted};
 ghost use Rattle.small_steps.specs.Steps.{GivesNone, HoldsBy, IsSupplied, IsValued, KeepsKits, nested_plain};
 
@@ -31,6 +31,20 @@ use view_pool::{Kit, KitSource, View};
 
 /// How many times a loop may be halved.
 const HALVINGS: u32 = meaning::HALVINGS;
+
+/// Whether the only argument of a loop's iterations is their number, which is in that slot.
+#[inline(always)]
+fn takes_number(arguments: &[Expression], variable: usize, slots: &[Slot]) -> bool
+    ensures takes { result ≡ true → TakesNumber (map plain arguments.now) variable slots.now }
+{
+    if arguments.len() != 1 || variable >= slots.len() {
+        return false;
+    }
+    match &arguments[0] {
+        Expression::Slot(name) => *name == variable,
+        _ => false,
+    }
+}
 
 impl<V: View> Machine<V> {
     /// Enters a loop's instance over the numbers between two values.
@@ -332,8 +346,33 @@ impl<V: View> Machine<V> {
         }
     }
 
-    /// The arguments of the next iteration, in place of what `numbers` held; none where the strand is faulted by one.
+    /// The arguments of the next iteration, in place of what `numbers` held; none where the strand is faulted by one. Where the
+    /// iteration's number is the only one, nothing is evaluated.
+    #[inline(always)]
     fn turn_values(
+        &mut self,
+        tables: &Tables,
+        code: LoopCode,
+        turns: Turns,
+        numbers: &mut Vec<i64>,
+    ) -> Result<Option<()>, AllocError>
+        requires fits { ShareFits turns.site turns.share }
+        ensures evaluated { IfOk result (Evaluates (λ u. numbers.new.items) code.entry.number
+            (values_at tables.now.tables (turn_slots (loop_of code.entry) turns.site turns.share self.old)
+            (map plain code.entry.arguments.now)) self.old self.new) }
+        ensures unchanged { OnErr result (self.new ≡ self.old) }
+    {
+        if takes_number(code.arguments, code.variable, self.top.slots()) {
+            numbers.clear();
+            numbers.push(number_of(turns.site, turns.share))?;
+            return Ok(Some(()));
+        }
+        self.turn_values_by(tables, code, turns, numbers)
+    }
+
+    /// The same by the values of the expressions.
+    #[inline(never)]
+    fn turn_values_by(
         &mut self,
         tables: &Tables,
         code: LoopCode,

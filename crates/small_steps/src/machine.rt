@@ -140,6 +140,7 @@ impl<V: View> Machine<V> {
 
     /// Puts a spawned child on top, and its name ready for the continuation; the topmost instance waits with that left. Refused
     /// for want of memory, or where there are no more numbers for children.
+    #[inline(always)]
     pub(crate) fn push_spawned(
         &mut self,
         child: Activation,

@@ -105,6 +105,7 @@ impl<V: View> Machine<V> {
     }
 
     /// Begins the topmost instance, which no record answers: in a layer of its own where a kit is free.
+    #[inline(always)]
     fn begin_anew<K: KitSource<Kit<V>>>(
         &mut self,
         alloc: Global,

@@ -112,6 +112,7 @@ impl<V: View> Machine<V> {
     }
 
     /// Enters an instance of a memo procedure with those arguments; or too deep.
+    #[inline(always)]
     pub(crate) fn nest_memo<K: KitSource<Kit<V>>>(
         &mut self,
         alloc: Global,

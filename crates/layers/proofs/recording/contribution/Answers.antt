@@ -1,8 +1,8 @@
-use Rattle.std.proofs.Common.{◌≡◌, ◌<◌, ◌≤◌, List, length, map, get_or, subst, sym}
+use Rattle.std.proofs.Common.{◌≡◌, ◌<◌, ◌≤◌, List, length, map, get_or, subst, sym, ap, ◌∙◌}
 use Rattle.monoid_laws.specs.declared.Kind.{Kind}
 use Rattle.monoid_laws.specs.Worth.{Worth}
 use Rattle.rerun_records.specs.Record.{touched}
-use Rattle.rerun_records.specs.ShortLists.{items_in}
+use Rattle.layers.specs.Gatherings.{gathered_in}
 use Rattle.rerun_records.specs.Named.{AreValuesFrom}
 use Rattle.rerun_records.proofs.Absorbed.{each, there}
 use Rattle.layers.proofs.Touches.{touched_next, touched_all, touched_values}
@@ -18,12 +18,21 @@ loop-reducer-preserved g c =
     let at : c.index-kinds-reducer.result ≡ get_or c.args.hypermap.now.kinds c.loop-reducer.reducer c.index-kinds-reducer.result =
     subst (λ (cs : List Kind). c.index-kinds-reducer.result ≡ get_or cs c.loop-reducer.reducer c.index-kinds-reducer.result) (sym c.requires.kinds) c.index-kinds-reducer.is in
     let w : (x : Worth) × (x ≡ get_or ws i x) = there ws i (subst (λ n. c.loop-reducer.reducer < n) (each ks ws c.len.ensures.worths) less) in
-    touched_next (map touched (items_in c.loop-reducer.values)) (map touched (items_in c.push_touched.new.values)) i ks ws c.index-kinds-reducer.result w.0 c.len.ensures.worths less at w.1
+    touched_next (map touched (gathered_in c.loop-reducer.values)) (map touched (gathered_in c.push_touched.new.values)) i ks ws c.index-kinds-reducer.result w.0 c.len.ensures.worths less at w.1
     c.loop-reducer.invariant (c.in_ok-push_touched.ensures.pushed w.0 w.1)
+
+pub returns-clause-touched : goal.returns-clause-touched
+returns-clause-touched g c =
+    let ks : List Kind = c.args.hypermap.now.kinds in
+    let ws : List Worth = c.args.hypermap.now.worths in
+    let over : length c.args.hypermap.now.kinds ≤ c.loop-reducer.reducer = subst (λ (cs : List Kind). length cs ≤ c.loop-reducer.reducer) (sym c.requires.kinds) c.loop-reducer-test.false in
+    ap (λ vs. map touched vs) c.into_list.ensures.same ∙ touched_all (map touched (gathered_in c.loop-reducer.values)) c.loop-reducer.reducer ks ws over c.loop-reducer.invariant
 
 pub returns-clause-values : goal.returns-clause-values
 returns-clause-values g c =
     let ks : List Kind = c.args.hypermap.now.kinds in
     let ws : List Worth = c.args.hypermap.now.worths in
     let over : length c.args.hypermap.now.kinds ≤ c.loop-reducer.reducer = subst (λ (cs : List Kind). length cs ≤ c.loop-reducer.reducer) (sym c.requires.kinds) c.loop-reducer-test.false in
-    subst (AreValuesFrom 0 ks) (sym (touched_all (map touched (items_in c.loop-reducer.values)) c.loop-reducer.reducer ks ws over c.loop-reducer.invariant)) (touched_values ks ws c.len.ensures.worths)
+    subst (AreValuesFrom 0 ks)
+    (sym (ap (λ vs. map touched vs) c.into_list.ensures.same ∙ touched_all (map touched (gathered_in c.loop-reducer.values)) c.loop-reducer.reducer ks ws over c.loop-reducer.invariant))
+    (touched_values ks ws c.len.ensures.worths)

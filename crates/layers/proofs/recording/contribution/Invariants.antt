@@ -1,9 +1,9 @@
 use Rattle.std.proofs.Common.{◌≡◌, ◌++◌, drop, map}
 use Rattle.rerun_records.specs.Record.{touched}
-use Rattle.rerun_records.specs.ShortLists.{items_in}
+use Rattle.layers.specs.Gatherings.{gathered_in}
 use Rattle.positions.specs.Tallies.{touched_from}
 use Rattle.layers.proofs.recording.contribution.Given as goal
 
 abbrev pub invariant-loop-reducer : goal.invariant-loop-reducer
 invariant-loop-reducer g l =
-    map touched (items_in l.values) ++ touched_from l.reducer (drop l.reducer l.hypermap.kinds) (drop l.reducer l.hypermap.worths) ≡ touched_from 0 l.hypermap.kinds l.hypermap.worths
+    map touched (gathered_in l.values) ++ touched_from l.reducer (drop l.reducer l.hypermap.kinds) (drop l.reducer l.hypermap.worths) ≡ touched_from 0 l.hypermap.kinds l.hypermap.worths

@@ -4,7 +4,7 @@ use Rattle.monoid_laws.specs.Worth.{Worth}
 use Rattle.monoid_laws.specs.Kinds.{meaning}
 use Rattle.hypermaps.specs.Layer.{IsAt}
 use Rattle.rerun_records.specs.Record.{touched}
-use Rattle.rerun_records.specs.ShortLists.{items_in}
+use Rattle.layers.specs.Gatherings.{gathered_in}
 use Rattle.layers.specs.Recordings.{touched_at}
 use Rattle.rerun_records.proofs.Absorbed.{each, same_at}
 use Rattle.layers.proofs.Touches.{some_is, identity_untouched}
@@ -18,13 +18,13 @@ returns-in-Some g c = record {
       let held : IsAt c.args.hypermap.now.worths c.args.reducer (meaning c.in-Some.value) =
       some_is (λ v. IsAt c.args.hypermap.now.worths c.args.reducer (meaning v)) c.in_ok-value.field-0 c.in-Some.value c.in-Some.is c.in_ok-value.ensures.used in
       let same : meaning c.in-Some.value ≡ w = same_at ws c.args.reducer (meaning c.in-Some.value) w less held at in
-      subst (λ v. OnOk c.push_value.result (map touched (items_in c.push_value.new.values) ≡ map touched (items_in c.args.values.now) ++ touched_at c.args.reducer c.args.kind.now v)) same c.push_value.ensures.pushed;
+      subst (λ v. OnOk c.push_value.result (map touched (gathered_in c.push_value.new.values) ≡ map touched (gathered_in c.args.values.now) ++ touched_at c.args.reducer c.args.kind.now v)) same c.push_value.ensures.pushed;
 }
 
 pub returns-in-None : goal.returns-in-None
 returns-in-None g c = record {
   pushed = λ w at.
-      sym (append-nil (map touched (items_in c.args.values.now)))
-      ∙ ap (λ xs. map touched (items_in c.args.values.now) ++ xs)
+      sym (append-nil (map touched (gathered_in c.args.values.now)))
+      ∙ ap (λ xs. map touched (gathered_in c.args.values.now) ++ xs)
       (sym (identity_untouched c.args.reducer c.args.kind.now w (c.in_ok-value.ensures.unused (search rules) c.args.kind.now w c.requires.kind at)));
 }

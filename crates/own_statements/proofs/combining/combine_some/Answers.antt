@@ -1,4 +1,4 @@
-use Rattle.std.proofs.Common.{rules, ◌≡◌, ◌∙◌, ◌∷◌, [], Bool, true, List, OnOk, OnErr, Some, if◌then◌else◌, length, map, slice_get, refl, sym, ap}
+use Rattle.std.proofs.Common.{rules, ◌≡◌, ◌∙◌, ◌∷◌, [], Bool, true, List, OnOk, Some, if◌then◌else◌, length, map, slice_get, refl, sym, ap}
 use Rattle.std.proofs.lemmas.Option.{slice_get_read}
 use Rattle.monoid_laws.specs.declared.Kind.{Kind}
 use Rattle.monoid_laws.specs.Kinds.{names_element}

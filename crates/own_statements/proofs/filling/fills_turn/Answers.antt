@@ -8,7 +8,7 @@ pub returns-then-put_number-clause-filled : goal.returns-then-put_number-clause-
 returns-then-put_number-clause-filled g c done =
     let v = to_z w64 (of_z w64 c.args.number) in
     let same : c.args.number ≡ v = search rules in
-    let counted = c.requires.counted c.if-counted.true in
-    let put : c.put_number.new.child.slots ≡ slots_for c.args.size (v ∷ []) = search rules in
-    is_entered c.args.tables.now.tables c.args.top.now.slots c.args.size c.args.variable c.args.number (map plain c.args.arguments.now) c.put_number.new.child.slots c.args.layer.now counted.0 counted.1
-    (put ∙ ap (λ (u : ℤ). slots_for c.args.size (u ∷ [])) (sym same))
+    let counted = c.requires.counted c.if-iterations.true in
+    let put : c.put_number.new.child.slots ≡ slots_for c.args.iterations.size (v ∷ []) = search rules in
+    is_entered c.args.iterations.tables.now.tables c.args.top.now.slots c.args.iterations.size c.args.iterations.variable c.args.number (map plain c.args.iterations.arguments.now) c.put_number.new.child.slots c.args.layer.now counted.0 counted.1
+    (put ∙ ap (λ (u : ℤ). slots_for c.args.iterations.size (u ∷ [])) (sym same))

@@ -1,4 +1,4 @@
-use Rattle.std.proofs.Common.{rules, ◌≡◌, ◌∙◌, ◌<◌, ℤ, List, [], ◌∷◌, length, Some, sym, ap, w64, to_z, of_z, arith}
+use Rattle.std.proofs.Common.{rules, ◌≡◌, ◌∙◌, ◌<◌, List, [], ◌∷◌, length, Some, sym, ap, w64, to_z, of_z, arith}
 use Rattle.std.specs.Prelude.{slice_set}
 use Rattle.evaluation.specs.declared.slot.Slot.{Slot}
 use Rattle.evaluation.specs.Slots.{slots_for}

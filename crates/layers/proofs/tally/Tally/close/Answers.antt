@@ -15,5 +15,5 @@ returns-in-Some-clause-values g c = λ h.
 pub returns-in_err-cover-clause-values : goal.returns-in_err-cover-clause-values
 returns-in_err-cover-clause-values g c = λ h.
     let before : HaveValues c.args.top.now.kinds c.self.inside.made.items = subst (λ (t : PlainTally). HaveValues c.args.top.now.kinds t.made) (sym c.self.view_is) h in
-    let same : c.reserve.new.self.items ≡ c.self.inside.made.items = search rules in
+    let same : c.make_room.new.made.items ≡ c.self.inside.made.items = search rules in
     subst (HaveValues c.args.top.now.kinds) (sym same) before

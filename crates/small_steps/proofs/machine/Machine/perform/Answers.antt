@@ -4,7 +4,6 @@ use Rattle.linked_program.specs.declared.code.Expression.{Expression}
 use Rattle.linked_program.specs.declared.code.Operation.{Operation}
 use Rattle.positions.specs.declared.work.Work.TheVariants.{Block}
 use Rattle.positions.specs.declared.work.Position.{Position}
-use Rattle.positions.specs.Activations.{next_of}
 use Rattle.positions.specs.Advance.{called, performed}
 use Rattle.activations.specs.Given.{lent}
 use Rattle.small_steps.specs.Steps.{GivesNone}

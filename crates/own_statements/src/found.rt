@@ -1,0 +1,121 @@
+//! Values of expressions that are found at once, with nothing to note for them.
+ghost use Rattle.std.specs.Prelude.{◌≡◌, IfSome, Ok, Some, slice_get};
+ghost use Rattle.meaning.specs.Tables.{Tables as TableList};
+ghost use Rattle.linked_program.specs.CodeView.{expression as plain};
+ghost use Rattle.evaluation.specs.declared.slot.Slot.TheVariants.{Has};
+ghost use Rattle.evaluation.specs.Values.{pure, value_at};
+ghost use Rattle.own_statements.specs.Fills.{Fills};
+
+use evaluation::slot::Slot;
+use evaluation::unnoted;
+use evaluation::values::number_in;
+use input_tables::Tables;
+use layers::layer::Layer;
+use linked_program::code::Expression;
+use view_pool::View;
+
+/// The value of a number, or of a slot that has one, which reads nothing; none of any other expression.
+#[inline(always)]
+pub fn number_at_once(expression: &Expression, slots: &[Slot]) -> Option<i64>
+    ensures value { IfSome result (λ v. (all : TableList) → value_at all slots.now (plain expression.now) ≡ pure v) }
+{
+    match expression {
+        Expression::Number(number) => Some(*number),
+        Expression::Slot(place) => number_there(slots, *place),
+        _ => None,
+    }
+}
+
+/// The number that a slot has, if it has one.
+#[inline(always)]
+fn number_there(slots: &[Slot], place: usize) -> Option<i64>
+    ensures has { IfSome result (λ v. slice_get slots.now place ≡ Some (Has v)) }
+{
+    match slots.get(place) {
+        None => None,
+        Some(slot) => match slot {
+            Slot::Has(number) => Some(*number),
+            _ => None,
+        },
+    }
+}
+
+/// The value of an expression that reads nothing, or of any over a layer that keeps no readings; none where it isn't found so. It is
+/// compiled by itself, since it has many cases.
+#[inline(never)]
+#[tactic(auto, using(crate::proofs::AtOnce::pure_fills))]
+pub fn value_at_once<V: View>(
+    layer: &Layer<V>,
+    expression: &Expression,
+    slots: &[Slot],
+    tables: &Tables,
+) -> Option<i64>
+    ensures value { IfSome result (λ v. Fills (value_at tables.now.tables slots.now (plain expression.now)) v layer.now layer.now) }
+{
+    match computed(expression, slots, tables) {
+        Some(value) => Some(value),
+        None => found(layer, expression, slots, tables),
+    }
+}
+
+/// The same value; that of a number, or of a slot that has one, without a call.
+#[inline(always)]
+#[tactic(auto, using(crate::proofs::AtOnce::pure_fills))]
+pub fn given_at_once<V: View>(
+    layer: &Layer<V>,
+    expression: &Expression,
+    slots: &[Slot],
+    tables: &Tables,
+) -> Option<i64>
+    ensures value { IfSome result (λ v. Fills (value_at tables.now.tables slots.now (plain expression.now)) v layer.now layer.now) }
+{
+    match number_at_once(expression, slots) {
+        Some(value) => Some(value),
+        None => value_at_once(layer, expression, slots, tables),
+    }
+}
+
+/// The value of a number, of a slot, or of an operator on two of them, where it has one; none of any other expression. Each form
+/// has an arm of its own, so that what finds the value of any expression comes down to that form there.
+#[inline(always)]
+#[tactic(auto, using(crate::proofs::AtOnce::of_slots, crate::proofs::AtOnce::of_slot_and_number, crate::proofs::AtOnce::of_number_and_slot))]
+fn computed(expression: &Expression, slots: &[Slot], tables: &Tables) -> Option<i64>
+    ensures value { IfSome result (λ v. (all : TableList) → value_at all slots.now (plain expression.now) ≡ pure v) }
+{
+    match expression {
+        Expression::Number(number) => Some(*number),
+        Expression::Slot(number) => Some(number_in(slots, *number)),
+        Expression::Slots(_, _, _) => unnoted_value(expression, slots, tables),
+        Expression::SlotAndNumber(_, _, _) => unnoted_value(expression, slots, tables),
+        Expression::NumberAndSlot(_, _, _) => unnoted_value(expression, slots, tables),
+        _ => None,
+    }
+}
+
+/// The value of an expression over a layer that keeps no readings, if it has one. It calls others, so it is compiled by itself too.
+#[inline(never)]
+#[tactic(auto, using(crate::proofs::AtOnce::unkept_fills))]
+fn found<V: View>(
+    layer: &Layer<V>,
+    expression: &Expression,
+    slots: &[Slot],
+    tables: &Tables,
+) -> Option<i64>
+    ensures value { IfSome result (λ v. Fills (value_at tables.now.tables slots.now (plain expression.now)) v layer.now layer.now) }
+{
+    if layer.keeps {
+        return None;
+    }
+    unnoted_value(expression, slots, tables)
+}
+
+/// The value of an expression, if it has one.
+#[inline(always)]
+fn unnoted_value(expression: &Expression, slots: &[Slot], tables: &Tables) -> Option<i64>
+    ensures answer { IfSome result (λ v. (value_at tables.now.tables slots.now (plain expression.now)).answer ≡ Ok v) }
+{
+    match unnoted::value(expression, slots, tables) {
+        Ok(value) => Some(value),
+        Err(_) => None,
+    }
+}
