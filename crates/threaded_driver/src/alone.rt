@@ -67,13 +67,13 @@ impl<J: Run + Ledger + Stocked + Send, D: Deques, V: View> Floor<'_, J, D, V> {
         let mut strand = strand;
         let mut supply = Supply::new(rt, &self.desk, share, strand.kits());
         self.is_alone.store(true, Ordering::Relaxed);
-        let goes_on = self.go_far(rt, number, seat, &mut strand, &mut supply, gate);
+        let goes_on = self.go_far(rt, number, seat, &mut *strand, &mut supply, gate);
         self.is_alone.store(false, Ordering::Relaxed);
         if goes_on {
             let (share, _) = supply.end();
             return Found::Own(Held::new(strand, share));
         }
-        self.lay(rt, number, seat, strand, supply, gate);
+        self.lay(rt, number, seat, Box::into_inner(strand), supply, gate);
         self.find(rt, number, seat, gate)
     }
 

@@ -26,10 +26,12 @@ pub(crate) struct Bell {
     is_over: AtomicU64,
 }
 
-/// A worker that comes to the bell, and how many looks were in vain since it had a strand.
+/// A worker that comes to the bell, how it idles, and how many looks were in vain since it had a strand. It spins at first, and then
+/// yields until it has a strand again.
 #[derive(Drop)]
 pub(crate) struct Listener<'a> {
     bell: &'a Bell,
+    idle: Backoff,
     looks: Cell<u64>,
 }
 
@@ -47,6 +49,7 @@ impl Bell {
     pub(crate) fn listener(&self) -> Listener<'_> {
         Listener {
             bell: self,
+            idle: Backoff::new(),
             looks: Cell::new(0),
         }
     }
@@ -86,6 +89,7 @@ impl Listener<'_> {
     /// Listens no longer, since it has found a strand. Where that was there may be more.
     pub(crate) fn leave(&self) {
         self.looks.set(0);
+        self.idle.reset();
         self.bell.listeners.fetch_sub(1, Ordering::SeqCst);
         self.bell.ring();
     }
@@ -103,12 +107,11 @@ impl Listener<'_> {
 
     /// Waits for the bell or the run's end, for a short while.
     fn hear(&self) {
-        let idle = Backoff::new();
         for _ in 0..LISTENS {
             if self.bell.has_ended() || self.bell.is_heard() {
                 return;
             }
-            idle.snooze();
+            self.idle.snooze();
         }
     }
 

@@ -6,7 +6,9 @@ ghost use Rattle.sync_fold.specs.Counts.{held_among, kits_laid, kits_of};
 ghost use Rattle.run_terms.specs.Come.{HasEnded};
 ghost use Rattle.worker_seats.specs.Balances.{Balances, most};
 ghost use Rattle.worker_seats.specs.Ends.{IsEnd};
+ghost use Rattle.strand_list.specs.Pages.{shown};
 ghost use Rattle.threaded_driver.specs.Finds.{is_left};
+ghost use Rattle.threaded_driver.specs.Folds.{has_pair};
 ghost use Rattle.worker_seats.specs.Over.{is_far, is_over, is_right, is_refusal, is_noted, notes_far, has_failed};
 ghost use Rattle.worker_seats.specs.declared.failure.Failure.TheVariants as reason;
 
@@ -95,8 +97,10 @@ impl<J: Run + Ledger + Stocked + Send, D: Deques, V: View> Parts<J, D, V> {
     }
 }
 
-/// Whether neighbours may be folded, as far as their states say.
-fn may_fold(lines: &[StrandLine]) -> bool {
+/// Whether there are neighbours to fold, as far as their states say.
+fn has_pair(lines: &[StrandLine]) -> bool
+    ensures pair { result ≡ has_pair (shown lines.now) }
+{
     let mut is_behind_done = false;
     for line in lines {
         if is_behind_done && is_waiting(line.state) {
@@ -288,7 +292,7 @@ impl<J: Run + Ledger + Stocked + Send, D: Deques, V: View> Desk<J, D, V> {
             };
         }
         // Most looks end here, or find nothing to steal.
-        if !may_fold(self.table.book.strands()) {
+        if !has_pair(self.table.book.strands()) {
             return self.steal(alloc, scene, worker);
         }
         match self.fold(alloc, scene, worker) {

@@ -163,7 +163,7 @@ impl<J: Run + Ledger + Stocked + Send, D: Deques, V: View> Floor<'_, J, D, V> {
         ensures fresh { seat.new.here ≡ None }
     {
         let (strand, share) = held.into_parts();
-        let mut strand = strand;
+        let mut strand = Box::into_inner(strand);
         let mut supply = Supply::new(rt, &self.desk, share, strand.kits());
         for _ in rt.forever() {
             if !self.step(rt, number, seat, &mut strand, &mut supply, gate) {
@@ -305,7 +305,7 @@ impl<J: Run + Ledger + Stocked + Send, D: Deques, V: View> Floor<'_, J, D, V> {
         self.scene.kept();
         let task = strand.detach(self.alloc);
         task.kept();
-        match seat.push(task) {
+        match seat.push(self.alloc, task) {
             Ok(()) => {
                 self.bell.ring();
                 gate.at(number, Point::Pushed);
@@ -334,7 +334,7 @@ impl<J: Run + Ledger + Stocked + Send, D: Deques, V: View> Floor<'_, J, D, V> {
         }
         match self.take(rt, seat) {
             Some(task) => {
-                strand.resume(task);
+                strand.resume(Box::into_inner(task));
                 gate.at(number, Point::Popped);
                 true
             }
@@ -344,9 +344,9 @@ impl<J: Run + Ledger + Stocked + Send, D: Deques, V: View> Floor<'_, J, D, V> {
 
     /// The newest continuation in the worker's deque, which waits for the child at its spot; none once all that was pushed was
     /// taken. The lock is taken only where a pop has missed, to count.
-    fn take<R: Wait>(&self, rt: &R, seat: &mut Seat<J, D>) -> Option<RightTask<J>>
-        ensures waits { IfSome result (λ t. seat.old.here ≡ Some (child_spot t)) }
-        ensures popped { IfSome result (λ t. seat.new.here ≡ Some (own_spot t)) }
+    fn take<R: Wait>(&self, rt: &R, seat: &mut Seat<J, D>) -> Option<Box<RightTask<J>>>
+        ensures waits { IfSome result (λ t. seat.old.here ≡ Some (child_spot t.value)) }
+        ensures popped { IfSome result (λ t. seat.new.here ≡ Some (own_spot t.value)) }
         ensures drained { IfNone result (seat.new.here ≡ None) }
     {
         for _ in rt.forever() {

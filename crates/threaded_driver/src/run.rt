@@ -286,7 +286,8 @@ where
     }
 }
 
-/// The same from what it has found on, beside the others.
+/// The same from what it has found on, beside the others. It starts a thread for each half of them itself: a new thread may take long
+/// to begin, and starts others only then.
 fn live_beside<J, D, V, R, G>(
     rt: &R,
     floor: &Floor<'_, J, D, V>,
@@ -306,6 +307,46 @@ where
     requires here { IsAt seat.here found }
     ensures left { 0 < result.left }
 {
+    let mut others = others;
+    match others.split_off(others.len() / 2) {
+        Ok(half) => {
+            let (_, seat) = thread::join(
+                rt,
+                move || start(rt, floor, half, gate),
+                move || -> Seat<J, D>
+                    requires { (is_left found ≡ true → 0 < seat.left) × IsAt seat.here found }
+                    ensures { 0 < result.left }
+                { live_beside_half(rt, floor, number, seat, found, others, gate) },
+            );
+            seat
+        }
+        Err(_) => live_beside_half(rt, floor, number, seat, found, others, gate),
+    }
+}
+
+/// The same beside the second half of the others, if there are any.
+fn live_beside_half<J, D, V, R, G>(
+    rt: &R,
+    floor: &Floor<'_, J, D, V>,
+    number: usize,
+    seat: Seat<J, D>,
+    found: Found<J, V>,
+    others: Vec<Seat<J, D>>,
+    gate: &G,
+) -> Seat<J, D>
+where
+    J: Run + Ledger + Stocked + Send + Sync,
+    D: Deques + Send + Sync,
+    V: View + Send,
+    R: Threads + Wait + Sync,
+    G: Gate,
+    requires left { is_left found ≡ true → 0 < seat.left }
+    requires here { IsAt seat.here found }
+    ensures left { 0 < result.left }
+{
+    if others.is_empty() {
+        return live(rt, floor, number, seat, found, gate);
+    }
     let (_, seat) = thread::join(
         rt,
         move || start(rt, floor, others, gate),

@@ -72,18 +72,38 @@ pub fn deques_of<J: Run + Ledger + Stocked + Send>(
     Ok(NewDeques { deques, blanks })
 }
 
+/// The strand of a run's beginning, with that kit, which is handed back with a refusal. Want of memory is the only error.
+fn first_strand<J: Run, V: View>(
+    alloc: Global,
+    scene: &Scene<'_, J>,
+    kit: Kit<V>,
+) -> Result<Box<RightStrand<J, V>>, Kit<V>>
+    requires kind { kit ≡ J.setting.kinds }
+    ensures one_layer { IfOk result (λ s. s.value.strand.lower ≡ []) }
+    ensures handed_back { IfErr result (λ k. k ≡ kit) }
+{
+    let strand = match RightStrand::first(alloc, scene, kit) {
+        Ok(strand) => strand,
+        Err((_, kit)) => return Err(kit),
+    };
+    match Box::new(alloc, strand) {
+        Ok(strand) => Ok(strand),
+        Err(refused) => Err(refused.value.into_strand().close()),
+    }
+}
+
 /// The run's first strand, with a kit of the pool. Refused where no kit is free, or for want of memory; the pool is handed back.
 pub fn first_of<J: Run, V: View>(
     alloc: Global,
     scene: &Scene<'_, J>,
     pool: Pool<Kit<V>>,
-) -> Result<(RightStrand<J, V>, Pool<Kit<V>>), (StartError, Pool<Kit<V>>)>
+) -> Result<(Box<RightStrand<J, V>>, Pool<Kit<V>>), (StartError, Pool<Kit<V>>)>
     requires kits { All (λ k. k ≡ J.setting.kinds) pool.kits }
     ensures kits { IfOk result (λ r. All (λ k. k ≡ J.setting.kinds) r.1.kits) }
     ensures total { IfOk result (λ r. r.1.total ≡ pool.total) }
     ensures some { IfOk result (λ r. 0 < length pool.kits) }
     ensures taken { IfOk result (λ r. suc (length r.1.kits) ≡ length pool.kits) }
-    ensures one_layer { IfOk result (λ r. r.0.strand.lower ≡ []) }
+    ensures one_layer { IfOk result (λ r. r.0.value.strand.lower ≡ []) }
     ensures room { IfOk result (λ r. length pool.kits ≤ pool.total) }
     ensures refused { IfErr result (λ e. CannotStart pool e.0) }
     ensures handed_back { IfErr result (λ e. e.1 ≡ pool) }
@@ -92,9 +112,9 @@ pub fn first_of<J: Run, V: View>(
     let Some(kit) = pool.take() else {
         return Err((StartError::NoKit, pool));
     };
-    match RightStrand::first(alloc, scene, kit) {
+    match first_strand(alloc, scene, kit) {
         Ok(strand) => Ok((strand, pool)),
-        Err((_, kit)) => {
+        Err(kit) => {
             let _ = pool.give(kit);
             Err((StartError::NoMemory, pool))
         }

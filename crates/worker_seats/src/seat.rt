@@ -51,23 +51,27 @@ impl<J: Run + Ledger + Send, D: Deques> Seat<J, D> {
     }
 
     /// Puts a continuation at the new end of the deque, or hands it back where there is no room.
-    pub fn push(&mut self, task: RightTask<J>) -> Result<(), RightTask<J>>
+    pub fn push(&mut self, alloc: Global, task: RightTask<J>) -> Result<(), RightTask<J>>
         requires goes_on { GoesOn (bottom_of task.task) task.task.place }
         requires bound { IsBoundTo self.old.here (own_spot task) }
         ensures pushed { OnOk result (self.new.here ≡ Some (child_spot task)) }
         ensures back { IfErr result (λ t. t ≡ task) }
         ensures same { OnErr result (self.new ≡ self.old) }
     {
+        let task = match Box::new(alloc, task) {
+            Ok(task) => task,
+            Err(refused) => return Err(refused.value),
+        };
         match self.owner.push(Waiting { task }) {
             Ok(()) => Ok(()),
-            Err(waiting) => Err(waiting.task),
+            Err(waiting) => Err(Box::into_inner(waiting.task)),
         }
     }
 
     /// Takes the newest continuation: the one that waits for the child at the spot. A miss says nothing.
-    pub fn pop(&mut self) -> Option<RightTask<J>>
-        ensures waits { IfSome result (λ t. self.old.here ≡ Some (child_spot t)) }
-        ensures popped { IfSome result (λ t. self.new.here ≡ Some (own_spot t)) }
+    pub fn pop(&mut self) -> Option<Box<RightTask<J>>>
+        ensures waits { IfSome result (λ t. self.old.here ≡ Some (child_spot t.value)) }
+        ensures popped { IfSome result (λ t. self.new.here ≡ Some (own_spot t.value)) }
         ensures same { IfNone result (self.new ≡ self.old) }
     {
         match self.owner.pop() {

@@ -31,7 +31,7 @@ fn oldest_of<J: Run + Send, D: Deques>(
     deques: &mut [ThiefEnd<Waiting<J>, D>],
     came: &[usize],
     victim: usize,
-) -> Option<RightTask<J>> {
+) -> Option<Box<RightTask<J>>> {
     let deque = came.get(victim)?;
     let waiting = deques.get_mut(*deque)?.steal()?;
     Some(waiting.task)
@@ -43,7 +43,7 @@ fn oldest_among<J: Run + Send, D: Deques>(
     came: &[usize],
     from: usize,
     to: usize,
-) -> Option<(usize, RightTask<J>)> {
+) -> Option<(usize, Box<RightTask<J>>)> {
     for victim in from..to {
         if let Some(task) = oldest_of(deques, came, victim) {
             return Some((victim, task));
@@ -57,7 +57,7 @@ fn take_oldest<J: Run + Send, D: Deques>(
     deques: &mut [ThiefEnd<Waiting<J>, D>],
     came: &[usize],
     worker: usize,
-) -> Option<(usize, RightTask<J>)> {
+) -> Option<(usize, Box<RightTask<J>>)> {
     match oldest_among(deques, came, worker.saturating_add(1), came.len()) {
         Some(found) => Some(found),
         None => oldest_among(deques, came, 0, worker),
@@ -115,32 +115,43 @@ impl<J: Run + Stocked + Send, V: View> Table<J, V> {
         ensures near { IfSome result (λ r. IfErr r (λ f. is_far f ≡ false)) }
     {
         match self.book.fold_any(alloc, scene, worker) {
-            Some(Ok((strand, kit))) => Some(Ok(self.take_up(strand, kit))),
+            Some(Ok((strand, kit))) => Some(self.take_up(alloc, strand, kit)),
             Some(Err(refusal)) => Some(Err(failure_of(refusal))),
             None => None,
         }
     }
 
     /// A worker holds a strand that two have become, and the kit of the right one is free.
-    fn take_up(&mut self, strand: RightStrand<J, V>, kit: Kit<V>) -> Held<J, V>
+    fn take_up(
+        &mut self,
+        alloc: Global,
+        strand: RightStrand<J, V>,
+        kit: Kit<V>,
+    ) -> Result<Held<J, V>, Failure>
         requires kind { kit ≡ J.setting.kinds }
         requires lacks { Lacks strand.strand (record self.old.depot { free = suc self.old.depot.free }) self.old.book.laid }
-        ensures balanced { Balances self.new.depot self.new.book.laid }
+        ensures balanced { OnOk result (Balances self.new.depot self.new.book.laid) }
+        ensures right { IfErr result (λ f. is_right f ≡ true) }
+        ensures near { IfErr result (λ f. is_far f ≡ false) }
     {
         // There is room for each kit of the run.
         let _ = self.depot.put(kit);
-        self.hold(strand)
+        self.hold(alloc, strand)
     }
 
-    /// A worker holds a strand, as the list says already.
-    fn hold(&mut self, strand: RightStrand<J, V>) -> Held<J, V>
+    /// A worker holds a strand, as the list says already. Want of memory is the only error.
+    fn hold(&mut self, alloc: Global, strand: RightStrand<J, V>) -> Result<Held<J, V>, Failure>
         requires lacks { Lacks strand.strand self.old.depot self.old.book.laid }
-        ensures balanced { Balances self.new.depot self.new.book.laid }
+        ensures balanced { OnOk result (Balances self.new.depot self.new.book.laid) }
+        ensures right { IfErr result (λ f. is_right f ≡ true) }
+        ensures near { IfErr result (λ f. is_far f ≡ false) }
     {
         self.book.counted();
         let kits = strand.kits();
-        let share = self.depot.begin(kits);
-        Held::new(strand, share)
+        match Box::new(alloc, strand) {
+            Ok(strand) => Ok(Held::new(strand, self.depot.begin(kits))),
+            Err(_) => Err(Failure::NoMemory),
+        }
     }
 
     /// Takes a kit, and then the oldest continuation of a worker that has one, from which another goes on.
@@ -188,7 +199,7 @@ impl<J: Run + Stocked + Send, V: View> Table<J, V> {
         scene: &Scene<'_, J>,
         worker: usize,
         victim: usize,
-        task: RightTask<J>,
+        task: Box<RightTask<J>>,
         kit: Kit<V>,
     ) -> Result<Option<Held<J, V>>, Failure>
         requires kind { kit ≡ J.setting.kinds }
@@ -198,7 +209,7 @@ impl<J: Run + Stocked + Send, V: View> Table<J, V> {
         ensures near { IfErr result (λ f. is_far f ≡ false) }
     {
         match self.book.split_held(alloc, victim, task.place(), worker) {
-            Ok(()) => self.begin_stolen(alloc, scene, task, kit),
+            Ok(()) => self.begin_stolen(alloc, scene, Box::into_inner(task), kit),
             Err(refusal) => {
                 let _ = self.depot.put(kit);
                 Err(failure_of(refusal))
@@ -221,7 +232,10 @@ impl<J: Run + Stocked + Send, V: View> Table<J, V> {
         ensures near { IfErr result (λ f. is_far f ≡ false) }
     {
         match RightStrand::stolen(alloc, scene, task, kit) {
-            Ok(strand) => Ok(Some(self.hold(strand))),
+            Ok(strand) => match self.hold(alloc, strand) {
+                Ok(held) => Ok(Some(held)),
+                Err(failure) => Err(failure),
+            },
             Err((_, _, kit)) => {
                 let _ = self.depot.put(kit);
                 Err(Failure::NoMemory)

@@ -1,9 +1,5 @@
 use Rattle.run_terms.proofs.Kits.{left_kits}
-use Rattle.worker_seats.proofs.Beginnings.{one_layer}
 use Rattle.worker_seats.proofs.beginning.first_of.Goals as goal
 
 pub returns-in-Ok-clause-kits : goal.returns-in-Ok-clause-kits
 returns-in-Ok-clause-kits g c = left_kits g.J.Run.setting.kinds c.args.pool.kits c.take.new.self.kits c.in-Some.kit c.in-Some.ensures.one c.requires.kits
-
-pub returns-in-Ok-clause-one_layer : goal.returns-in-Ok-clause-one_layer
-returns-in-Ok-clause-one_layer g c = one_layer g.J.Run.setting c.in-Ok.strand.strand c.in-Ok.ensures.first
