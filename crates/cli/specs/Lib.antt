@@ -1,2 +1,3 @@
 pub mod Begun
+pub mod Headline
 pub mod Reports

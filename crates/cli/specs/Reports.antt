@@ -1,6 +1,6 @@
--- What a session over two files, a script and a writer comes to, and why it is not begun.
+-- What a session over two files, a script and a writer comes to where it ends early, and why it is not begun.
 use Rattle.std.specs.Prelude.{◌≡◌, ◌⊎◌, ℕ, List, Option, Some, None, option_map, string_bytes, IsUtf8}
-use Rattle.std.specs.Io.KnownBytes.{Appends, Keeps}
+use Rattle.std.specs.Io.KnownBytes.{Keeps}
 use Rattle.meaning.specs.Tables.{Tables}
 use Rattle.linked_program.specs.Checked.{PlainChecked}
 use Rattle.command_line.specs.declared.options.Options.{Options}
@@ -56,26 +56,14 @@ IsLate path (Prepare e) = ⊥
 IsLate path (Session e) = Unit {0}
 IsLate path (Trace name) = path ≡ Some (string_bytes name)
 
--- the tables' bytes are text, and the answers of some program that the texts give, and to this script, were written
-abbrev pub IsReported : List ℕ → List ℕ → List ℕ → Option (List ℕ) → Option (List ℕ) → Type 0
-IsReported program tables_text script old new =
-    IsUtf8 tables_text × (checked : PlainChecked) × (tables : Tables) × IsPrepared program tables_text checked tables
-    × Appends old new (first_answers checked tables script)
-
--- nothing, or a beginning of such answers, was written
+-- nothing was written, or a beginning of the answers to this script, of some program and tables that the texts give
 abbrev pub IsBegun : List ℕ → List ℕ → List ℕ → Option (List ℕ) → Option (List ℕ) → Type 0
 IsBegun program tables_text script old new =
     Keeps old new
     ⊎ ((checked : PlainChecked) × (tables : Tables) × IsPrepared program tables_text checked tables
     × HasBeginning old new (first_answers checked tables script))
 
--- as much was written over the files that the options name, where their bytes and the script are known
-
-abbrev pub IsReportedOver : (List ℕ → Option (List ℕ)) → Options → Option (List ℕ) → Option (List ℕ) → Option (List ℕ) → Type 0
-IsReportedOver held options known old new =
-    (program tables script : List ℕ) → held options.program.now ≡ Some program → held options.tables.now ≡ Some tables
-    → known ≡ Some script → IsReported program tables script old new
-
+-- the same over the files that the options name, where their bytes and the script are known
 abbrev pub IsBegunOver : (List ℕ → Option (List ℕ)) → Options → Option (List ℕ) → Option (List ℕ) → Option (List ℕ) → Type 0
 IsBegunOver held options known old new =
     (program tables script : List ℕ) → held options.program.now ≡ Some program → held options.tables.now ≡ Some tables

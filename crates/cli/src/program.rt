@@ -5,9 +5,9 @@ ghost use Rattle.std.specs.Process.{exit_status};
 ghost use Rattle.program_endings.specs.Endings.{CarriesRefusal};
 ghost use Rattle.program_endings.specs.Statuses.{status_of};
 ghost use Rattle.program_endings.specs.Written.{WritesAll, WritesBeginning, WritesRead};
-ghost use Rattle.script_session.specs.Answers.{answers_of};
-ghost use Rattle.script_session.specs.Coming.{session_so_far};
-ghost use Rattle.cli.specs.Reports.{IsOpened, IsUnopened, IsUnmade, IsLate, IsReportedOver, IsBegunOver, IsReadOver, ReadsNothing};
+ghost use Rattle.script_session.specs.Sessions.{answers_of, session_so_far};
+ghost use Rattle.cli.specs.Headline.{IsReportedOver};
+ghost use Rattle.cli.specs.Reports.{IsOpened, IsUnopened, IsUnmade, IsLate, IsBegunOver, IsReadOver, ReadsNothing};
 ghost use Rattle.cli.specs.Reports.{ReportsRefusal, WritesNothing};
 
 use crate::asking::Asking;

@@ -2,7 +2,7 @@
 use session_edits::Edit;
 
 /// A command of a script.
-#[derive(Debug, Drop)]
+#[derive(Drop)]
 pub enum Command<'a> {
     Run,
     Change(Edit<'a>),

@@ -8,7 +8,8 @@ use Rattle.script_reader.specs.declared.command.Command.{Command}
 use Rattle.script_reader.specs.Said.{said}
 use Rattle.kept_session.specs.Sessions.{PlainSession}
 use Rattle.checked_defines.specs.Standings.{standing}
-use Rattle.script_session.specs.Answers.{answer_text, answers_from, answers_text, answers_of, first_answers, standing_after}
+use Rattle.script_session.specs.Answers.{answer_text, answers_from, answers_text, first_answers, standing_after}
+use Rattle.script_session.specs.Sessions.{answers_of}
 
 -- the answers from a command on: its own first
 pub answers_from-drop : (s : Standing) (runs k : ℕ) (items : List Command) (d : Command) → k < length items

@@ -12,7 +12,8 @@ use Rattle.script_reader.proofs.Beginnings.{alone, at_the_end, commands_of_all, 
 use Rattle.script_session.specs.Answers.{answer_text, answers_from, answers_text}
 use Rattle.kept_session.specs.Sessions.{PlainSession}
 use Rattle.checked_defines.specs.Standings.{standing}
-use Rattle.script_session.specs.Coming.{HasAnswered, answer_to, answers_so_far, first_so_far, runs_behind, session_so_far, standing_behind}
+use Rattle.script_session.specs.Coming.{HasAnswered, answer_to, answers_so_far, first_so_far, runs_behind, standing_behind}
+use Rattle.script_session.specs.Sessions.{session_so_far}
 
 -- what was read in two parts
 pub Consumes-nothing : (a : Option (List ℕ)) → Consumes a a []

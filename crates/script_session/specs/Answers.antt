@@ -11,7 +11,6 @@ use Rattle.linked_program.specs.Checked.{PlainChecked}
 use Rattle.input_tables.specs.Edited.{Edited}
 use Rattle.checked_defines.specs.Readers.{reads_text, checks_rules}
 use Rattle.checked_defines.specs.Standings.{standing}
-use Rattle.kept_session.specs.Sessions.{PlainSession, standing_of}
 
 -- the answer to a command, after so many runs
 abbrev pub answer_text : Standing → ℕ → Command → List ℕ
@@ -36,10 +35,6 @@ answers_from = text.answers_from reads_text checks_rules
 -- the answers to a script
 abbrev pub answers_text : Standing → List ℕ → List ℕ
 answers_text = text.answers_text reads_text checks_rules
-
--- the answers to a session's script
-abbrev pub answers_of : PlainSession → List ℕ → List ℕ
-answers_of s = answers_text (standing_of s)
 
 -- tables that nothing was edited of
 abbrev pub unedited : Tables → Edited

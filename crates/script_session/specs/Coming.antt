@@ -8,7 +8,6 @@ use Rattle.meaning.specs.Text.{runs_after}
 use Rattle.linked_program.specs.Checked.{PlainChecked}
 use Rattle.checked_defines.specs.Standings.{standing}
 use Rattle.script_reader.specs.Beginnings.{PlainOpen, IsCome, commands_by, nothing_come, whole_commands}
-use Rattle.kept_session.specs.Sessions.{PlainSession, standing_of}
 use Rattle.script_session.specs.Answers.{answer_text, answers_from, standing_after, unedited}
 
 -- the answer to a command after so many runs, if there is one; what it leaves, and how many runs there were then
@@ -27,9 +26,6 @@ runs_behind runs (Some command) = runs_after runs command
 -- the answers to the commands that are whole in a beginning of a script
 abbrev pub answers_so_far : Standing → List ℕ → List ℕ
 answers_so_far s script = answers_from s 0 (whole_commands script)
-
-abbrev pub session_so_far : PlainSession → List ℕ → List ℕ
-session_so_far s = answers_so_far (standing_of s)
 
 abbrev pub first_so_far : PlainChecked → Tables → List ℕ → List ℕ
 first_so_far checked tables = answers_so_far (standing checked (unedited tables))

@@ -1,2 +1,3 @@
 pub mod Answers
 pub mod Coming
+pub mod Sessions

@@ -5,8 +5,9 @@ ghost use Rattle.meaning.specs.Text.{runs_after};
 ghost use Rattle.script_reader.specs.Beginnings.{command_by, command_left, with_line};
 ghost use Rattle.script_reader.specs.Said.{said};
 ghost use Rattle.kept_session.specs.Sessions.{standing_of};
-ghost use Rattle.script_session.specs.Answers.{answer_text, answers_of, standing_after};
-ghost use Rattle.script_session.specs.Coming.{answer_to, runs_behind, session_so_far, standing_behind};
+ghost use Rattle.script_session.specs.Answers.{answer_text, standing_after};
+ghost use Rattle.script_session.specs.Coming.{answer_to, runs_behind, standing_behind};
+ghost use Rattle.script_session.specs.Sessions.{answers_of, session_so_far};
 ghost use Rattle.program_endings.specs.Endings.{CarriesRefusal};
 ghost use Rattle.program_endings.specs.Written.{HasBeginning, WritesAll, WritesBeginning, WritesRead};
 

@@ -4,6 +4,7 @@ use Rattle.std.specs.Io.KnownBytes.{Appends}
 use Rattle.program_endings.specs.Written.{HasBeginning}
 use Rattle.script_session.proofs.Answering.{first_written}
 use Rattle.script_session.proofs.Coming.{first_read}
+use Rattle.cli.proofs.Headline.{reported}
 use Rattle.cli.proofs.Opening.{unmade_unopened, late_unopened, late_read}
 use Rattle.cli.proofs.program.report_in.Goals as goal
 
@@ -14,13 +15,11 @@ pub returns-in-Ok-clause-answered : goal.returns-in-Ok-clause-answered
 returns-in-Ok-clause-answered g c program tables script p t s =
     let session = c.args.session.now in
     let opened = c.requires.opened program tables p t in
-    let wrote = of_some _ (g.R.Read.remaining c.args.reader.now) script s c.in-Ok.ensures.answered in (
-      opened.0,
-      session.checked,
-      session.tables.tables,
-      opened.1,
-      first_written session c.requires.unedited (Appends (g.W.Write.contents c.args.writer.now) (g.W.Write.contents c.answered.new.writer)) script wrote,
-    )
+    let old = g.W.Write.contents c.args.writer.now in
+    let new = g.W.Write.contents c.answered.new.writer in
+    let wrote = of_some _ (g.R.Read.remaining c.args.reader.now) script s c.in-Ok.ensures.answered in
+    reported program tables script old new session.checked session.tables.tables opened.0 opened.1
+    (first_written session c.requires.unedited (Appends old new) script wrote)
 
 pub returns-in-Ok-clause-beginning : goal.returns-in-Ok-clause-beginning
 returns-in-Ok-clause-beginning g c program tables script p t s =

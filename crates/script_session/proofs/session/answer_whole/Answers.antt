@@ -1,4 +1,4 @@
-use Rattle.script_session.specs.Answers.{answers_of}
+use Rattle.script_session.specs.Sessions.{answers_of}
 use Rattle.program_endings.proofs.Written.{nothing_written}
 use Rattle.script_session.proofs.session.answer_whole.Goals as goal
 
