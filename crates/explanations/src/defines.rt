@@ -50,7 +50,7 @@ fn wrong_for_a_define(
             "A `define` holds one procedure or more, between its line and that of `end`.",
         ));
     }
-    if tokens.iter().any(|placed| is_reducer_on(*placed, line)) {
+    if has_reducer_on(&tokens, line) {
         return Ok(Some("A `define` holds procedures alone: a session keeps the reducers it has."));
     }
     if parse(alloc, define).is_ok() {
@@ -60,8 +60,13 @@ fn wrong_for_a_define(
 }
 
 // Whether a token is the word `reducer` on that line.
-fn is_reducer_on(placed: Placed<'_>, line: u32) -> bool {
-    matches!(placed.token, Token::Sign(Mark::Reducer)) && placed.line == line
+fn has_reducer_on(tokens: &[Placed], line: u32) -> bool {
+    for placed in tokens {
+        if matches!(placed.token, Token::Sign(Mark::Reducer)) && placed.line == line {
+            return true;
+        }
+    }
+    false
 }
 
 /// Puts the line by which a define would break a rule, what the rule asks for and how to mend it at the end of the text. It is a line of
@@ -87,15 +92,21 @@ fn defines(alloc: Global, define: &[u8], name: &str) -> Result<bool, AllocError>
     if define.len() > LONGEST_TEXT {
         return Ok(false);
     }
+    let tokens = tokens(alloc, define)?;
+    Ok(defines_in(&tokens, name))
+}
+
+// Whether that name stands behind `proc` among these tokens.
+fn defines_in(tokens: &[Placed], name: &str) -> bool {
     let mut is_next = false;
-    for placed in tokens(alloc, define)?.iter() {
+    for placed in tokens {
         match placed.token {
-            Token::Name(found) if is_next && found == name => return Ok(true),
+            Token::Name(found) if is_next && found == name => return true,
             Token::Sign(Mark::Proc) => is_next = true,
             _ => is_next = false,
         }
     }
-    Ok(false)
+    false
 }
 
 // Puts the statement on that line of a procedure which the program has already.

@@ -116,20 +116,35 @@ fn is_odd_word(word: &[u8]) -> bool {
     match word.first() {
         None => false,
         Some(first) if first.is_ascii_digit() => is_odd_number(word),
-        Some(first) => *first == b'_'
-            || word.len() > LONGEST_NAME
-            || word.iter().any(|byte| byte.is_ascii_uppercase()),
+        Some(first) => *first == b'_' || word.len() > LONGEST_NAME || has_upper_case(word),
     }
+}
+
+fn has_upper_case(word: &[u8]) -> bool {
+    for byte in word {
+        if byte.is_ascii_uppercase() {
+            return true;
+        }
+    }
+    false
+}
+
+fn are_digits(word: &[u8]) -> bool {
+    for byte in word {
+        if !byte.is_ascii_digit() {
+            return false;
+        }
+    }
+    true
 }
 
 // Whether a stretch that begins with a digit is a number out of its range, or has upper case.
 fn is_odd_number(word: &[u8]) -> bool {
-    if word.iter().any(|byte| byte.is_ascii_uppercase()) {
+    if has_upper_case(word) {
         return true;
     }
     match str::from_utf8(word) {
-        Ok(digits) => word.iter().all(|byte| byte.is_ascii_digit())
-            && digits.parse::<i64>().is_err(),
+        Ok(digits) => are_digits(word) && digits.parse::<i64>().is_err(),
         Err(_) => false,
     }
 }
@@ -160,16 +175,21 @@ pub fn binds_itself(alloc: Global, line: &[u8]) -> Result<bool, AllocError> {
         return Ok(false);
     }
     let tokens = tokens(alloc, line)?;
+    Ok(binds_itself_in(&tokens))
+}
+
+// The same of a line's tokens.
+fn binds_itself_in(tokens: &[Placed]) -> bool {
     let mut bound = "";
     let mut is_behind = false;
-    for placed in tokens.iter() {
+    for placed in tokens {
         match placed.token {
-            Token::Name(name) if is_behind && name == bound => return Ok(true),
+            Token::Name(name) if is_behind && name == bound => return true,
             Token::Name(name) if !is_behind => bound = name,
             Token::Sign(Mark::Assign) => is_behind = true,
             Token::Sign(Mark::Semicolon) => is_behind = false,
             _ => {}
         }
     }
-    Ok(false)
+    false
 }

@@ -57,13 +57,25 @@ pub fn push_broken_line(
 
 // What is said of a line with a byte that no text may have.
 pub(crate) fn wrong_byte(words: &[u8]) -> Option<&'static str> {
-    if words.iter().any(|byte| *byte == 13) {
+    if has_byte(words, 13) {
         return Some("The line ends with a carriage return: lines end with a line feed alone.");
     }
-    if words.iter().any(|byte| !is_of_a_text(*byte)) {
-        return Some("The line has a byte that is neither a tab nor one from space to `~`.");
+    for byte in words {
+        if !is_of_a_text(*byte) {
+            return Some("The line has a byte that is neither a tab nor one from space to `~`.");
+        }
     }
     None
+}
+
+// Whether a line has that byte.
+pub(crate) fn has_byte(words: &[u8], wanted: u8) -> bool {
+    for byte in words {
+        if *byte == wanted {
+            return true;
+        }
+    }
+    false
 }
 
 // Whether a text may have that byte within a line.
@@ -74,14 +86,21 @@ fn is_of_a_text(byte: u8) -> bool {
 // The line of that number, counted from 1, without its end; nothing where there is no such line.
 pub(crate) fn line_at(program: &[u8], line: u32) -> &[u8] {
     let mut number = 1;
-    for words in program.split(|byte| *byte == 10) {
-        if number == line {
-            return words;
+    let mut begin = 0;
+    for (at, byte) in program.iter().enumerate() {
+        if *byte == b'\n' {
+            if number == line {
+                return program.get(begin..at).unwrap_or(&[]);
+            }
+            if number == u32::MAX {
+                return &[];
+            }
+            number += 1;
+            begin = at.saturating_add(1);
         }
-        if number == u32::MAX {
-            break;
-        }
-        number += 1;
+    }
+    if number == line {
+        return program.get(begin..).unwrap_or(&[]);
     }
     &[]
 }

@@ -1,6 +1,6 @@
 //! What is wrong with a tables' text.
 
-use crate::programs::{line_at, push_shown};
+use crate::programs::{has_byte, line_at, push_shown};
 use crate::rules::push_line;
 use std::alloc::{AllocError, Global};
 use std::collections::BTreeSet;
@@ -53,8 +53,10 @@ fn line_of(bytes: &[u8], place: usize) -> u32 {
 
 // Whether a line is of words with marks between them, as the first of a CSV file is, and could be none of a file of tables.
 fn is_of_commas(line: &[u8]) -> bool {
-    line.iter().any(|byte| matches!(*byte, b',' | b';' | b'\t'))
-        && !line.iter().any(|byte| matches!(*byte, b'=' | b'[' | b'#'))
+    (has_byte(line, b',') || has_byte(line, b';') || has_byte(line, b'\t'))
+        && !has_byte(line, b'=')
+        && !has_byte(line, b'[')
+        && !has_byte(line, b'#')
 }
 
 /// Whether a text is TOML that has a table. Want of memory is the only error.
@@ -63,10 +65,19 @@ pub(crate) fn is_of_tables(alloc: Global, text: &[u8]) -> Result<bool, AllocErro
         return Ok(false);
     };
     match toml::table_from_str(alloc, words) {
-        Ok(document) => Ok(document.values().any(|value| value.as_table().is_some())),
+        Ok(document) => Ok(has_table(&document)),
         Err(error) if error.is_memory() => Err(AllocError),
         Err(_) => Ok(false),
     }
+}
+
+fn has_table(document: &Members) -> bool {
+    for value in document.values() {
+        if value.as_table().is_some() {
+            return true;
+        }
+    }
+    false
 }
 
 /// Puts what is wrong with the table of that name, and with which column or row of it, at the end of the text. Want of memory is the only
@@ -123,7 +134,10 @@ fn push_wrong(
 
 // The array at a key.
 fn array_at<'a>(members: &'a Members, key: &str) -> Option<&'a Vec<Value>> {
-    members.get(key)?.as_array()
+    match members.get(key) {
+        Some(value) => value.as_array(),
+        None => None,
+    }
 }
 
 // Puts the first that is wrong with the columns, and answers whether there is such.
@@ -156,14 +170,20 @@ fn wrong_with_column(columns: &[Value], at: usize, column: &Value) -> Option<&'s
             "a column's name is a lower-case letter and then lower-case letters, digits and `_`, at most 32 bytes, and no keyword.",
         );
     }
-    if columns
-        .iter()
-        .take(at)
-        .any(|earlier| earlier.as_str() == Some(name))
-    {
+    if is_among(columns, at, name) {
         return Some("an earlier column has that name.");
     }
     None
+}
+
+// Whether one of so many first columns has that name.
+fn is_among(columns: &[Value], count: usize, name: &str) -> bool {
+    for column in columns.iter().take(count) {
+        if column.as_str() == Some(name) {
+            return true;
+        }
+    }
+    false
 }
 
 // Puts the first that is wrong with the rows.
@@ -289,14 +309,32 @@ fn push_cell(text: &mut String, columns: &[Value], place: usize) -> Result<(), A
 // Whether a text has the form of a name.
 fn is_name(text: &str) -> bool {
     let bytes = text.as_bytes();
+    begins_name(bytes) && bytes.len() <= LONGEST_NAME && are_name_bytes(bytes) && !is_keyword(text)
+}
+
+fn begins_name(bytes: &[u8]) -> bool {
     match bytes.first() {
-        Some(first) if first.is_ascii_lowercase() => {
-            bytes.len() <= LONGEST_NAME
-                && bytes.iter().all(|byte| is_name_byte(*byte))
-                && !KEYWORDS.iter().any(|word| *word == text)
-        }
-        _ => false,
+        Some(first) => first.is_ascii_lowercase(),
+        None => false,
     }
+}
+
+fn are_name_bytes(bytes: &[u8]) -> bool {
+    for byte in bytes {
+        if !is_name_byte(*byte) {
+            return false;
+        }
+    }
+    true
+}
+
+fn is_keyword(text: &str) -> bool {
+    for word in &KEYWORDS {
+        if *word == text {
+            return true;
+        }
+    }
+    false
 }
 
 fn is_name_byte(byte: u8) -> bool {

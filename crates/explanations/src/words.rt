@@ -67,11 +67,7 @@ fn push_bad_option<'a>(
         write!(text, "  There is no option `{name}`.\n")?;
         return Ok("");
     }
-    if words
-        .iter()
-        .take(at)
-        .any(|earlier| name_of(earlier) == name)
-    {
+    if is_among(words, at, name) {
         write!(text, "  `{name}` stands twice.\n")?;
         return Ok("");
     }
@@ -82,6 +78,16 @@ fn push_bad_option<'a>(
         (false, Some((_, value))) => push_bad_value(text, form, value)?,
     }
     Ok("")
+}
+
+// Whether one of so many first words is the option of that name.
+fn is_among(words: &[&str], count: usize, name: &str) -> bool {
+    for word in words.iter().take(count) {
+        if name_of(word) == name {
+            return true;
+        }
+    }
+    false
 }
 
 // The name of an option, without the value behind it.
@@ -126,9 +132,19 @@ fn takes(form: &str, value: &str) -> bool {
         return is_between(least, most, value);
     }
     if form.contains('|') {
-        return form.split('|').any(|word| word == value);
+        return is_one_of(form, value);
     }
     !value.starts_with('-')
+}
+
+// Whether a value is one of some words with `|` between two.
+fn is_one_of(words: &str, value: &str) -> bool {
+    for word in words.split('|') {
+        if word == value {
+            return true;
+        }
+    }
+    false
 }
 
 fn is_between(least: &str, most: &str, value: &str) -> bool {

@@ -112,10 +112,22 @@ fn numbers_behind(
     answers_to_both(rt, alloc, &old, first, second)
 }
 
+/// Compares the numbers behind two texts that are put into the program of a text.
+fn are_behind(
+    rt: &impl Abort,
+    alloc: Global,
+    program: &str,
+    first: &str,
+    second: &str,
+    wanted: &str,
+) {
+    let found = numbers_behind(rt, alloc, program, first, second);
+    assert_eq!(rt; found.as_str(), wanted);
+}
+
 #[test]
 fn numbers_behind_texts(rt: HostRuntime) {
     for (program, first, second, wanted) in TWICE {
-        let found = numbers_behind(&rt, rt.alloc(), program, first, second);
-        assert_eq!(&rt; found.as_str(), wanted);
+        are_behind(&rt, rt.alloc(), program, first, second, wanted);
     }
 }

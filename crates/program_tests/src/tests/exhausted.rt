@@ -114,10 +114,14 @@ fn answers_before(rt: &impl Abort, alloc: Global, counter: u64, text: &str) -> S
     answers(rt, alloc, &old, text)
 }
 
+fn are_answered(rt: &impl Abort, alloc: Global, counter: u64, text: &str, wanted: &str) {
+    let found = answers_before(rt, alloc, counter, text);
+    assert_eq!(rt; found.as_str(), wanted);
+}
+
 #[test]
 fn numbers_up_to_the_last(rt: HostRuntime) {
     for (counter, text, wanted) in ANSWERS {
-        let found = answers_before(&rt, rt.alloc(), counter, text);
-        assert_eq!(&rt; found.as_str(), wanted);
+        are_answered(&rt, rt.alloc(), counter, text, wanted);
     }
 }

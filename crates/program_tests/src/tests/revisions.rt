@@ -83,10 +83,14 @@ const ANSWERS: [(&str, &str); 3] = [
     ("", "refused E9 C7 main 0"),
 ];
 
+fn is_answered(rt: &impl Abort, alloc: Global, before: &Checked, text: &str, wanted: &str) {
+    assert_eq!(rt; answer_to(rt, alloc, before, text).as_str(), wanted);
+}
+
 /// Compares the answers to texts in the place of `THREE`.
 fn are_answered(rt: &impl Abort, alloc: Global, before: &Checked) {
     for (text, wanted) in ANSWERS {
-        assert_eq!(rt; answer_to(rt, alloc, before, text).as_str(), wanted);
+        is_answered(rt, alloc, before, text, wanted);
     }
 }
 

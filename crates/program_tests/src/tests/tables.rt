@@ -23,8 +23,11 @@ const ADDED: [Look; 10] = [
     Sum(1, 1, 5),
 ];
 
+/// A table's name, its columns, and why it isn't added.
+type Wrong = (&'static str, &'static [&'static str], &'static str);
+
 /// Tables that aren't added behind the example's, and why.
-const NOT_ADDED: [(&str, &[&str], &str); 6] = [
+const NOT_ADDED: [Wrong; 6] = [
     ("sales", &COLUMNS, "there is a table of that name"),
     ("Parts", &COLUMNS, "the table's name is no name"),
     ("memo", &COLUMNS, "the table's name is no name"),
@@ -41,11 +44,16 @@ fn is_not_added(rt: &impl Abort, alloc: Global, added: Result<(), AddError>, wan
     }
 }
 
+/// Compares how a table is refused.
+fn is_refused(rt: &impl Abort, alloc: Global, tables: &mut Tables, row: Wrong) {
+    let added = tables.add(alloc, row.0, row.1);
+    assert!(rt; is_not_added(rt, alloc, added, row.2));
+}
+
 /// Asks for tables that are refused, adds one, and puts a row into it.
 fn add(rt: &impl Abort, alloc: Global, tables: &mut Tables) {
-    for (table, columns, wanted) in NOT_ADDED {
-        let added = tables.add(alloc, table, columns);
-        assert!(rt; is_not_added(rt, alloc, added, wanted));
+    for row in NOT_ADDED {
+        is_refused(rt, alloc, tables, row);
     }
     tables.add(alloc, "parts", &COLUMNS).expect(rt, "a table");
     tables.put(alloc, "parts", 7, &[3, 5]).expect(rt, "a row");

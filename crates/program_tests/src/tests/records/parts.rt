@@ -1,11 +1,15 @@
 //! What a record gives back.
+ghost use Rattle.rerun_records.specs.Doubted.{IsInStep};
 
 use super::super::beginnings::{checked_on, sales};
 use super::making::{LINES, cell, committed, reads_of, second_line};
 use evaluation::note::Note;
 use evaluation::reading::{Reading, readings};
+use input_tables::Tables;
+use linked_program::checked::Checked;
 use monoid_laws::Val;
 use rerun_records::record::Record;
+use rerun_records::records::Records;
 use rerun_records::short_list::ShortList;
 use std::alloc::Global;
 use std::mem::size_of;
@@ -34,11 +38,10 @@ fn reads_second_line(alloc: Global, record: &Record) -> bool {
 }
 
 /// Whether the record of `line` at row 2 is found, by the procedure's number, as it was committed.
-fn comes_back(rt: &impl Abort, alloc: Global) -> bool {
-    let tables = sales(rt, alloc);
-    let program = checked_on(rt, alloc, LINES, &tables);
-    let records = committed(rt, alloc, second_line(rt, alloc), &tables, &program);
-    match records.valid(0, &[2], 256, &tables, &program) {
+fn finds_second_line(alloc: Global, records: &Records, tables: &Tables, program: &Checked) -> bool
+    requires in_step { IsInStep tables.now.tables records.now }
+{
+    match records.valid(0, &[2], 256, tables, program) {
         Some(record) => {
             is_second_line(record)
                 && reads_second_line(alloc, record)
@@ -46,6 +49,14 @@ fn comes_back(rt: &impl Abort, alloc: Global) -> bool {
         }
         None => false,
     }
+}
+
+/// Whether a record comes back.
+fn comes_back(rt: &impl Abort, alloc: Global) -> bool {
+    let tables = sales(rt, alloc);
+    let program = checked_on(rt, alloc, LINES, &tables);
+    let records = committed(rt, alloc, second_line(rt, alloc), &tables, &program);
+    finds_second_line(alloc, &records, &tables, &program)
 }
 
 /// Whether the record of `line` at row 2 is the only one.
