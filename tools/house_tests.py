@@ -1,4 +1,5 @@
-"""Tests of the house: how wide clauses are, how many parameters a function takes, and that docs/CHANGING.md names files that are there."""
+"""Tests of the house: how wide clauses are, how many parameters a function takes, that docs/CHANGING.md names files that are there, and
+that docs/GUARANTEES.md says how many the headline reaches."""
 import glob
 import os
 import re
@@ -6,8 +7,6 @@ import unittest
 
 TOP = os.path.dirname(os.path.dirname(os.path.realpath(__file__)))
 WIDEST, MOST = 160, 7
-# What takes more parameters, as docs/DECISIONS.md says, until it gets a struct.
-MORE = {"own_statements/src/filling.rt: fills_turn": 9}
 OPEN, CLOSE = "([{<", ")]}>"
 
 
@@ -54,6 +53,20 @@ def functions(text):
         yield found[1], parameters(text, begin)
 
 
+def reached(first):
+    """The files of `specs` to which `use` lines lead from that one, by their paths below the crates, itself among them."""
+    found, left = set(), [first]
+    while left:
+        path = left.pop()
+        if path in found or not os.path.isfile(f"{TOP}/crates/{path}"):
+            continue
+        found.add(path)
+        with open(f"{TOP}/crates/{path}", encoding="utf-8") as file:
+            used = re.findall(r"^use Rattle\.(\w+)\.specs\.(\w+(?:\.\w+)*)", file.read(), re.MULTILINE)
+        left += [f"{crate}/specs/{module.replace('.', '/')}.antt" for crate, module in used]
+    return found
+
+
 class House(unittest.TestCase):
     def test_clauses_and_definitions_are_narrow(self):
         for pattern in ("src/**/*.rt", "specs/**/*.antt"):
@@ -64,7 +77,7 @@ class House(unittest.TestCase):
     def test_functions_take_few_parameters(self):
         for path, text in sources("src/**/*.rt"):
             for name, count in functions(text):
-                self.assertLessEqual(count, MORE.get(f"{path}: {name}", MOST), f"{path}: {name}")
+                self.assertLessEqual(count, MOST, f"{path}: {name}")
 
     def test_changing_names_files_that_are_there(self):
         with open(f"{TOP}/docs/CHANGING.md", encoding="utf-8") as file:
@@ -77,6 +90,11 @@ class House(unittest.TestCase):
                 crates = [name for name in re.findall(r"`(\w+)`", before) if os.path.isdir(f"{TOP}/crates/{name}")]
                 if crates and re.match(r" *(src|specs|proofs)/", cell):
                     self.look_for(crates, cell)
+
+    def test_the_headline_reaches_as_many_files_as_is_said(self):
+        with open(f"{TOP}/docs/GUARANTEES.md", encoding="utf-8") as file:
+            said = re.search(r"Headline\.antt reaches (\d+) files", file.read())
+        self.assertEqual(len(reached("cli/specs/Headline.antt")), int(said[1]))
 
     def look_for(self, crates, cell):
         """Each file of the cell is one of these crates; a folder's name stands once, before its first file."""
