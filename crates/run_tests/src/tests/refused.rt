@@ -115,7 +115,12 @@ fn is_play_refused<V: View>(
     let Ok(answers) = play_session(alloc, session, commands) else {
         return true;
     };
-    answers.iter().any(|answer| is_refused(answer))
+    for answer in &answers {
+        if is_refused(answer) {
+            return true;
+        }
+    }
+    false
 }
 
 /// Does commands by the calls that they name, or has them played: whether memory was refused.

@@ -57,15 +57,18 @@ const BAD: [(&str, &str); 28] = [
     ("Sr11 S122 L2 E1 F120", "step 4 is not allowed"),
 ];
 
+fn comes_to(rt: &impl Abort, alloc: Global, history: &str, wanted: &str) {
+    let found = replayed(rt, alloc, history);
+    assert_eq!(rt; found.as_str(), wanted, "{history}");
+}
+
 #[test]
 fn histories_are_replayed(rt: HostRuntime) {
     for (history, left) in LEGAL {
-        let found = replayed(&rt, rt.alloc(), history);
-        assert_eq!(&rt; found.as_str(), left, "{history}");
+        comes_to(&rt, rt.alloc(), history, left);
     }
     for (history, refusal) in BAD {
-        let found = replayed(&rt, rt.alloc(), history);
-        assert_eq!(&rt; found.as_str(), refusal, "{history}");
+        comes_to(&rt, rt.alloc(), history, refusal);
     }
 }
 
@@ -77,13 +80,14 @@ const SAID: [(BookError, &str); 5] = [
     (BookError::NotThere, "refused E16"),
 ];
 
-fn said(rt: &impl Abort, alloc: Global, error: BookError) -> String {
-    format!(in alloc; "{error}").expect(rt, "memory")
+fn says(rt: &impl Abort, alloc: Global, error: BookError, wanted: &str) {
+    let said = format!(in alloc; "{error}").expect(rt, "memory");
+    assert_eq!(rt; said.as_str(), wanted);
 }
 
 #[test]
 fn what_a_book_says(rt: HostRuntime) {
     for (error, wanted) in SAID {
-        assert_eq!(&rt; said(&rt, rt.alloc(), error).as_str(), wanted);
+        says(&rt, rt.alloc(), error, wanted);
     }
 }

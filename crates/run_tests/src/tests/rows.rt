@@ -1,6 +1,8 @@
 //! Programs, lines of steps, and where these lead.
 
 use super::playing::play;
+use std::alloc::Global;
+use std::process::Abort;
 use test_kit::texts::{
     AFFINE, FIRST, FIRST_LIST, FIRST_TWO, LAST_TWO, LOOP, LOOP_FAULT, TABLE, TWO_FAULTS, WRAPPING,
 };
@@ -210,12 +212,17 @@ const ROWS: [Row; 18] = [
     ),
 ];
 
+fn leads_so(rt: &impl Abort, alloc: Global, row: Row) {
+    let (text, workers, count, line, refused, answer, history) = row;
+    let played = play(rt, alloc, text, workers, count, line);
+    assert!(rt; played.leads_to(refused, answer), "after {line}");
+    assert_eq!(rt; played.history.as_str(), history);
+}
+
 #[test]
 fn answers_and_histories(rt: HostRuntime) {
-    for (text, workers, count, line, refused, answer, history) in ROWS {
-        let played = play(&rt, rt.alloc(), text, workers, count, line);
-        assert!(rt; played.leads_to(refused, answer), "after {line}");
-        assert_eq!(rt; played.history.as_str(), history);
+    for row in ROWS {
+        leads_so(&rt, rt.alloc(), row);
     }
 }
 
@@ -232,11 +239,15 @@ const STANDING: [(&str, &str, &str); 5] = [
     (LOOP, "W0* P0 S10", "[] Held(0);[1, 1] Held(1);"),
 ];
 
+fn stands_so(rt: &impl Abort, alloc: Global, text: &str, line: &str, strands: &str) {
+    let played = play(rt, alloc, text, 3, 3, line);
+    assert_eq!(rt; played.strands.as_str(), strands, "after {line}");
+}
+
 #[test]
 fn strands_where_a_run_stands(rt: HostRuntime) {
     for (text, line, strands) in STANDING {
-        let played = play(&rt, rt.alloc(), text, 3, 3, line);
-        assert_eq!(rt; played.strands.as_str(), strands, "after {line}");
+        stands_so(&rt, rt.alloc(), text, line, strands);
     }
 }
 
@@ -283,10 +294,21 @@ const REFUSED: [(usize, usize, &str, &str); 8] = [
     (2, 1, "S10 W0* P0 S10", "S10 refused E14;S10 refused E15;"),
 ];
 
+fn is_refused_so(
+    rt: &impl Abort,
+    alloc: Global,
+    workers: usize,
+    count: usize,
+    line: &str,
+    refused: &str,
+) {
+    let played = play(rt, alloc, FIRST_LIST, workers, count, line);
+    assert_eq!(rt; played.refused.as_str(), refused, "after {line}");
+}
+
 #[test]
 fn step_refusals(rt: HostRuntime) {
     for (workers, count, line, refused) in REFUSED {
-        let played = play(&rt, rt.alloc(), FIRST_LIST, workers, count, line);
-        assert_eq!(rt; played.refused.as_str(), refused, "after {line}");
+        is_refused_so(&rt, rt.alloc(), workers, count, line, refused);
     }
 }

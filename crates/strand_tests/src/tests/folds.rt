@@ -115,7 +115,8 @@ fn takes_record<V: View>(alloc: Global, views: Vec<V>, second: &[i64]) -> Option
     let mut hypermap = holding(alloc, views, 1)?;
     let refused = is_refused(alloc, &mut hypermap)?;
     let held = hold(&hypermap, &[1, 2], second);
-    Some((refused, held && is_empty_again(alloc, hypermap)))
+    let empty = is_empty_again(alloc, hypermap);
+    Some((refused, held && empty))
 }
 
 /// Whether a record of 2s behind 1s is refused by boxes, and what is there then.

@@ -147,15 +147,31 @@ fn go_unrecorded(
     let mut strand = begin(rt, alloc, program, kit);
     go_on(rt, alloc, program, tables, &mut strand, &mut kits);
     let (answer, made) = strand.end(alloc, &mut kits);
-    let text = answer_text(rt, alloc, program.program(), &answer);
-    assert_eq!(rt; text.as_str(), "131 [Int(131)]", "{refused}");
-    assert_eq!(rt; counts(&answer), (4, unrecorded), "{refused}");
-    assert_eq!(rt;
-        (made.len() as u64).wrapping_add(unrecorded),
-        4,
-        "{refused}"
+    is_answered(
+        rt,
+        alloc,
+        program,
+        &answer,
+        made.len(),
+        (refused, unrecorded),
     );
     assert_eq!(rt; (kits.refused, kits.pool.free()), (0, 3));
+}
+
+/// The answer to a run that is given no kit at these calls is the program's, with so many records and so many instances that have none.
+fn is_answered(
+    rt: &impl Abort,
+    alloc: Global,
+    program: &Checked,
+    answer: &RunAnswer,
+    records: usize,
+    calls: (usize, u64),
+) {
+    let (refused, unrecorded) = calls;
+    let text = answer_text(rt, alloc, program.program(), answer);
+    assert_eq!(rt; text.as_str(), "131 [Int(131)]", "{refused}");
+    assert_eq!(rt; counts(answer), (4, unrecorded), "{refused}");
+    assert_eq!(rt; (records as u64).wrapping_add(unrecorded), 4, "{refused}");
 }
 
 /// The calls of each run as bits, and how many of them are set.

@@ -213,7 +213,15 @@ pub fn run(
 pub type Row = (&'static str, usize, &'static str);
 
 /// A run with so many thefts gives the answer of the row, and all kits are home then.
-fn agrees(rt: &impl Abort, ran: &Ran, row: &Row, thefts: usize) {
+fn agrees(
+    rt: &impl Abort,
+    alloc: Global,
+    input: Input<'_>,
+    row: &Row,
+    thefts: usize,
+    child: Child,
+) {
+    let ran = run(rt, alloc, input.program, input.tables, thefts, child);
     assert_eq!(rt; ran.answer.as_str(), row.2, "{thefts} thefts: {}", row.0);
     assert!(rt; ran.kits == KITS);
 }
@@ -221,21 +229,31 @@ fn agrees(rt: &impl Abort, ran: &Ran, row: &Row, thefts: usize) {
 /// The program of a row gives the answer with each number of thefts, whichever way the other children go, as the plain slow program
 /// does. All kits are home then.
 fn all_answer(rt: &impl Abort, alloc: Global, program: &Checked, tables: &Tables, row: &Row) {
+    agrees_slowly(rt, alloc, program, row);
+    let input = Input { program, tables };
+    for thefts in 0..row.1 {
+        agrees(rt, alloc, input, row, thefts, Child::Called);
+        agrees(rt, alloc, input, row, thefts, Child::PutBack);
+        agrees(rt, alloc, input, row, thefts, Child::Alone);
+        agrees(rt, alloc, input, row, thefts, Child::Ahead);
+    }
+}
+
+/// The plain slow program gives the answer of the row.
+fn agrees_slowly(rt: &impl Abort, alloc: Global, program: &Checked, row: &Row) {
     let slow = slow_text(rt, alloc, program.program());
     assert_eq!(rt; slow.as_str(), row.2, "{}", row.0);
-    for thefts in 0..row.1 {
-        for child in [Child::Called, Child::PutBack, Child::Alone, Child::Ahead] {
-            let ran = run(rt, alloc, program, tables, thefts, child);
-            agrees(rt, &ran, row, thefts);
-        }
-    }
 }
 
 /// The programs of the rows give their answers.
 pub fn rows_answer(rt: &impl Abort, alloc: Global, rows: &[Row]) {
     let tables = tables(alloc, SALES).expect(rt, "tables");
     for row in rows {
-        let program = checked(alloc, row.0, &tables).expect(rt, "a program");
-        all_answer(rt, alloc, &program, &tables, row);
+        row_answers(rt, alloc, &tables, row);
     }
+}
+
+fn row_answers(rt: &impl Abort, alloc: Global, tables: &Tables, row: &Row) {
+    let program = checked(alloc, row.0, tables).expect(rt, "a program");
+    all_answer(rt, alloc, &program, tables, row);
 }

@@ -150,9 +150,13 @@ impl Model {
         model
     }
 
+    fn drop_row(&mut self, number: i64) {
+        self.rows.retain(|row| row.number != number);
+    }
+
     fn put_row(&mut self, rt: &impl Abort, alloc: Global, number: i64, qty: i64, price: i64) {
         let values = vec![in alloc; qty, price].expect(rt, "memory");
-        self.rows.retain(|row| row.number != number);
+        self.drop_row(number);
         self.rows.push(Row { number, values }).expect(rt, "memory");
     }
 
@@ -173,7 +177,7 @@ impl Model {
     fn delete(&mut self, rt: &impl Abort, alloc: Global, dice: &mut Dice) -> DrawnEdit {
         let number = dice.below(6) as i64;
         let before = self.rows.len();
-        self.rows.retain(|row| row.number != number);
+        self.drop_row(number);
         let answer = if self.rows.len() < before {
             "ok\n"
         } else {
