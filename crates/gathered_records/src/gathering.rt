@@ -363,7 +363,7 @@ fn stand_next(
     }
 }
 
-// The place of the record of the row's instance.
+/// The place of the record of the row's instance.
 pub(crate) fn find_row(records: &Records, row: &Row) -> Option<u32>
     ensures there { IfSome result (λ place. IsThere records.now row.now place) }
 {

@@ -64,7 +64,7 @@ fn note_use(used: &mut Vec<usize>, reducer: usize) -> Result<(), AllocError>
     note_anew(used, reducer)
 }
 
-/// The same by a look at all that are used.
+/// Notes that a reducer is used, by a look at all that are.
 #[inline(never)]
 fn note_anew(used: &mut Vec<usize>, reducer: usize) -> Result<(), AllocError>
     ensures keys { OnOk result (used.new.items ≡ used_also used.old.items reducer) }

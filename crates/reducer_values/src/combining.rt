@@ -99,7 +99,7 @@ pub fn combine(alloc: Global, kind: &Kind, left: &mut Val, right: Val) -> Result
     }
 }
 
-/// The same by the kind alone.
+/// Makes `left` the two combined as their kind says, whatever form they have; where memory is refused, hands `right` back.
 #[inline(never)]
 fn combine_by_kind(alloc: Global, kind: &Kind, left: &mut Val, right: Val) -> Result<(), Val>
     requires left_value { IsWorth kind.now (meaning left.old) }

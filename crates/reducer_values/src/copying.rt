@@ -32,7 +32,7 @@ pub fn copy_of(alloc: Global, value: &Val) -> Result<Val, AllocError>
     }
 }
 
-/// The same of a value of any form.
+/// A value worth as much, whatever its form. Want of memory is the only error.
 #[inline(never)]
 fn copied(alloc: Global, value: &Val) -> Result<Val, AllocError>
     ensures { IfOk result (λ v. meaning v ≡ meaning value.now) }

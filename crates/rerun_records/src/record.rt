@@ -81,7 +81,7 @@ impl Record {
         )
     }
 
-    /// The same, where one or two values lie by themselves.
+    /// The record of its parts as `new` makes it, where one or two values lie by themselves.
     #[inline(always)]
     pub fn of_values(
         procedure: usize,

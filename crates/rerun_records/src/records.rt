@@ -168,7 +168,7 @@ impl Records {
         }
     }
 
-    // The same record and its place, looked for at another place first.
+    // The record of a procedure and arguments, and its place, looked for near another place first.
     fn place_near(
         &self,
         near: usize,

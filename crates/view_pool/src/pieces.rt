@@ -165,7 +165,7 @@ pub(crate) fn copy_in_pieces(alloc: Global, value: &Val) -> Result<Val, AllocErr
     }
 }
 
-/// The same of a value of any form.
+/// A value worth as much, in the same pieces, whatever its form. Want of memory is the only error.
 #[inline(never)]
 fn copied_in_pieces(alloc: Global, value: &Val) -> Result<Val, AllocError>
     ensures { IfOk result (λ v. meaning v ≡ meaning value.now) }
