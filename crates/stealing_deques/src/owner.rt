@@ -99,9 +99,9 @@ impl<T: Continuation, D: Deques> OwnerEnd<T, D> {
         self.worker.len_as::<Seen>()
     }
 
-    /// Whether all that was pushed was taken, as the thieves' end of the same deque counts. Then the owner may go on anywhere, and
-    /// each number of a push was popped or stolen, once.
-    pub fn is_drained(&mut self, thief: &mut ThiefEnd<T, D>) -> bool
+    /// Unbinds the owner from where it has come to, where all that was pushed was taken, as the thieves' end of the same deque counts:
+    /// whether it was. Then the owner may go on anywhere, and each number of a push was popped or stolen, once.
+    pub fn unbind_if_drained(&mut self, thief: &mut ThiefEnd<T, D>) -> bool
         ensures afresh { result ≡ true → self.new ≡ record self.old { here = None } }
         ensures once { result ≡ true → WereTakenOnce self.old thief.old }
         ensures same { result ≡ false → self.new ≡ self.old }

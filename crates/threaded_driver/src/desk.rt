@@ -230,13 +230,13 @@ impl<J: Run + Ledger + Stocked + Send, D: Deques, V: View> Desk<J, D, V> {
         self.failure.is_some()
     }
 
-    /// Whether all that a worker has pushed was popped or stolen.
-    pub(crate) fn is_drained(&mut self, seat: &mut Seat<J, D>) -> bool
+    /// Unbinds a worker's seat, where all that the worker has pushed was popped or stolen: whether it was.
+    pub(crate) fn unbind_if_drained(&mut self, seat: &mut Seat<J, D>) -> bool
         ensures drained { result ≡ true → seat.new.here ≡ None }
         ensures same { result ≡ false → seat.new ≡ seat.old }
     {
         match self.deques.get_mut(seat.deque()) {
-            Some(thief) => seat.is_drained(thief),
+            Some(thief) => seat.unbind_if_drained(thief),
             None => false,
         }
     }

@@ -56,7 +56,7 @@ use worker_seats::supply::Supply;
 /// How many times a worker goes ahead before it looks whether the run has given up.
 const STEPS: usize = 64;
 
-/// The same of the first worker while it is alone.
+/// How many times the first worker goes ahead before it looks so, while it is alone.
 const FEW: usize = 8;
 
 /// What contracts see of a floor: with how many kits its run began.
@@ -353,7 +353,7 @@ impl<J: Run + Ledger + Stocked + Send, D: Deques, V: View> Floor<'_, J, D, V> {
             if let Some(task) = seat.pop() {
                 return Some(task);
             }
-            if self.desk.lock(rt).is_drained(seat) {
+            if self.desk.lock(rt).unbind_if_drained(seat) {
                 return None;
             }
         }

@@ -286,8 +286,8 @@ where
     }
 }
 
-/// The same from what it has found on, beside the others. It starts a thread for each half of them itself: a new thread may take long
-/// to begin, and starts others only then.
+/// The first worker's life from what it has found on, beside the others. It starts a thread for each half of them itself: a new
+/// thread may take long to begin, and starts others only then.
 fn live_beside<J, D, V, R, G>(
     rt: &R,
     floor: &Floor<'_, J, D, V>,

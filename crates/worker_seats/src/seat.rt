@@ -80,12 +80,13 @@ impl<J: Run + Ledger + Send, D: Deques> Seat<J, D> {
         }
     }
 
-    /// Whether all that was pushed was taken, as the thieves' end of the deque counts.
-    pub fn is_drained(&mut self, thief: &mut ThiefEnd<Waiting<J>, D>) -> bool
+    /// Unbinds the seat from where its worker has come to, where all that was pushed was taken, as the thieves' end of the deque counts:
+    /// whether it was.
+    pub fn unbind_if_drained(&mut self, thief: &mut ThiefEnd<Waiting<J>, D>) -> bool
         ensures drained { result ≡ true → self.new.here ≡ None }
         ensures same { result ≡ false → self.new ≡ self.old }
     {
-        self.owner.is_drained(thief)
+        self.owner.unbind_if_drained(thief)
     }
 
     /// Counts its worker among those that have left.

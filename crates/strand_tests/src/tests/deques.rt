@@ -120,7 +120,7 @@ fn round<R: Abort + Threads + Sync, D: Deques + Send>(
     );
     assert!(rt; pops && steals);
     assert_eq!(rt; (pushed, popped.wrapping_add(stolen)), (LINKS, LINKS));
-    assert!(rt; owner.is_drained(&mut thief));
+    assert!(rt; owner.unbind_if_drained(&mut thief));
     (owner, thief)
 }
 
@@ -168,10 +168,10 @@ fn drained_in_time<D: Deques>(rt: &impl Abort, first: NewDeque<Link>, second: Ne
     let (mut owner, mut thief) = ends_of::<Link, D>(0, first).expect(rt, "memory");
     let (_other, mut stranger) = ends_of::<Link, D>(1, second).expect(rt, "memory");
     assert!(rt; push_at(&mut owner, 0));
-    assert!(rt; !owner.is_drained(&mut thief));
+    assert!(rt; !owner.unbind_if_drained(&mut thief));
     assert!(rt; thief.steal().is_some());
-    assert!(rt; !owner.is_drained(&mut stranger));
-    assert!(rt; owner.is_drained(&mut thief));
+    assert!(rt; !owner.unbind_if_drained(&mut stranger));
+    assert!(rt; owner.unbind_if_drained(&mut thief));
 }
 
 #[test]

@@ -4,7 +4,7 @@ use Rattle.stealing_deques.specs.declared.entry.Knowledge.{Knowledge}
 use Rattle.stealing_deques.specs.declared.entry.PlainEntry.{PlainEntry}
 use Rattle.stealing_deques.specs.Order.{knowing}
 use Rattle.stealing_deques.proofs.Shown.{admits, merges, forks_anew}
-use Rattle.stealing_deques.proofs.owner.OwnerEnd.is_drained.Goals as goal
+use Rattle.stealing_deques.proofs.owner.OwnerEnd.unbind_if_drained.Goals as goal
 
 pub pass-guest-requires : goal.pass-guest-requires
 pass-guest-requires g c = admits _
