@@ -3,7 +3,6 @@ use Rattle.std.specs.Prelude.{◌≡◌, ℕ, ◌<◌, cond, List, [], ◌∷◌
 use Rattle.std.specs.Global.{Global}
 use Rattle.std.specs.Str.{bytes_eq}
 use Rattle.std.specs.declared.string.String.{String}
-use Rattle.indexmap.specs.IndexMap.{IndexMap}
 use Rattle.monoid_laws.specs.declared.Kind.{Kind}
 use Rattle.program_tree.specs.Plain.{Name}
 use Rattle.program_tree.specs.declared.Program.{Program}
@@ -35,9 +34,9 @@ pub record PlainChecked : Type 0 where
 abbrev pub numbered_name : String Global × ℕ → Name × ℕ
 numbered_name e = (string_bytes e.0, e.1)
 
--- the names that a map has, each with its number, in the map's order
-abbrev pub numbers_in : {S : Type 0} → IndexMap (String Global) ℕ S → List (Name × ℕ)
-numbers_in m = map numbered_name m.entries
+-- names, each with its number, in their order
+abbrev pub numbers_in : List (String Global × ℕ) → List (Name × ℕ)
+numbers_in es = map numbered_name es
 
 abbrev pub names_in : List (Name × ℕ) → List Name
 names_in numbers = map (λ e. e.0) numbers

@@ -16,12 +16,23 @@ ghost use Rattle.linked_program.specs.Checked.{IsChecked, numbers_in, names_in, 
 use crate::code::{Code, Instruction};
 use crate::fitting::numbers_fit;
 use crate::initial::Initial;
-use crate::linking::procedure_number;
+use crate::linking::{procedure_number, procedure_place};
 use crate::tables::TableNames;
-use indexmap::IndexMap;
 use monoid_laws::Kind;
 use program_tree::Program;
 use std::marker::Model;
+
+// The number that stands beside a name in a list.
+fn number_of(numbers: &[(String, u64)], name: &str) -> Option<u64>
+    ensures { result ≡ number_in (numbers_in numbers.now) name.now }
+{
+    for entry in numbers {
+        if name == entry.0.as_str() {
+            return Some(entry.1);
+        }
+    }
+    None
+}
 
 /// A program in which no rule is broken and whose numbers fit 64 bits, the names of the tables that it was checked against, its
 /// code, and its procedures in their order, each name with its revision number.
@@ -33,7 +44,7 @@ pub struct Checked {
     kinds: Vec<Kind>,
     initials: Vec<Initial>,
     main: usize,
-    revisions: IndexMap<String, u64>,
+    revisions: Vec<(String, u64)>,
     counter: u64,
 }
 
@@ -62,7 +73,7 @@ impl Model for Checked {
       kinds = c.kinds.items;
       initials = map plain_initial c.initials.items;
       main = c.main;
-      revisions = numbers_in c.revisions;
+      revisions = numbers_in c.revisions.items;
       counter = c.counter;
     } };
 
@@ -74,7 +85,7 @@ impl Model for Checked {
       initials = map plain_initial c.initials.items;
       main =
           c.main;
-      revisions = numbers_in c.revisions;
+      revisions = numbers_in c.revisions.items;
       counter = c.counter;
     }) × ProgramFits (tree c.program) };
 }
@@ -89,7 +100,7 @@ impl Checked {
         codes: Vec<Code>,
         kinds: Vec<Kind>,
         initials: Vec<Initial>,
-        revisions: IndexMap<String, u64>,
+        revisions: Vec<(String, u64)>,
         counter: u64,
     ) -> Checked
         requires checked { IsChecked (record {
@@ -99,7 +110,7 @@ impl Checked {
           kinds = kinds.items;
           initials = map plain_initial initials.items;
           main = main_number (tree program);
-          revisions = numbers_in revisions;
+          revisions = numbers_in revisions.items;
           counter = counter;
         }) }
         ensures checked { result ≡ record {
@@ -109,7 +120,7 @@ impl Checked {
           kinds = kinds.items;
           initials = map plain_initial initials.items;
           main = main_number (tree program);
-          revisions = numbers_in revisions;
+          revisions = numbers_in revisions.items;
           counter = counter;
         } }
     {
@@ -209,7 +220,7 @@ impl Checked {
             (procedures (tree self.now.program)) name.now) }
         ensures known { is_some result ≡ is_there (procedure_of (tree self.now.program) name.now) }
     {
-        self.revisions.get_index_of(name)
+        procedure_place(&self.program.declarations, name)
     }
 
     /// The revision number of the procedure of a name; none where there is no such procedure.
@@ -217,15 +228,15 @@ impl Checked {
         ensures number { result ≡ number_in self.now.revisions name.now }
         ensures revision { IfSome result (λ n. n ≡ revision_of self.now.revisions name.now) }
     {
-        self.revisions.get(name).copied()
+        number_of(&self.revisions, name)
     }
 
     /// The revision number of the procedure of a number; none where there is no such procedure.
     pub fn revision_at(&self, procedure: usize) -> Option<u64>
         ensures revision { result ≡ option_map (λ e. e.1) (slice_get self.now.revisions procedure) }
     {
-        match self.revisions.get_index(procedure) {
-            Some((_, revision)) => Some(*revision),
+        match self.revisions.get(procedure) {
+            Some(entry) => Some(entry.1),
             None => None,
         }
     }

@@ -1,14 +1,14 @@
 //! What is known of a procedure's variables at a statement.
 
 /// A statement by where it stands: how deep its block lies, counted from 0, and which of the block's statements it is, counted from 1.
-#[derive(Clone, Copy, Debug, PartialEq, Eq)]
+#[derive(Clone, Copy)]
 pub struct Moment {
     pub depth: usize,
     pub place: usize,
 }
 
 /// What is known of a variable.
-#[derive(Clone, Copy, Debug, PartialEq, Eq)]
+#[derive(Clone, Copy)]
 pub enum Knowledge {
     /// Bound by no statement before.
     Unbound,

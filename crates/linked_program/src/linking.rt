@@ -1,9 +1,9 @@
 //! Makes the code of a program: each name becomes the number of what it means.
-ghost use Rattle.std.specs.Prelude.{◌≡◌, ℕ, map, string_bytes, IfOk, IfSome, Ok};
+ghost use Rattle.std.specs.Prelude.{◌≡◌, ℕ, map, string_bytes, is_some, IfOk, IfSome, Ok};
 ghost use Rattle.program_tree.specs.Plain.{Body};
 ghost use Rattle.program_tree.specs.View.{term, deed, statements as body_of, decl, proc};
-ghost use Rattle.meaning.specs.Statements.{reducers};
-ghost use Rattle.meaning.specs.Tables.{index_of as index_in};
+ghost use Rattle.meaning.specs.Statements.{reducers, procedure_of};
+ghost use Rattle.meaning.specs.Tables.{index_of as index_in, is_there};
 ghost use Rattle.linked_program.specs.TableNames.{columned};
 ghost use Rattle.linked_program.specs.Procedures.{procedures};
 ghost use Rattle.linked_program.specs.Linked.{procedure_number as number_of_procedure, reducer_number as number_of_reducer};
@@ -31,6 +31,23 @@ pub fn procedure_number(declarations: &[Declaration], name: &str) -> usize
         }
     }
     number
+}
+
+/// The number of the first procedure of a name among declarations' procedures; none where there is no such procedure.
+pub fn procedure_place(declarations: &[Declaration], name: &str) -> Option<usize>
+    ensures number { IfSome result (λ n. n ≡ number_of_procedure (procedures (map decl declarations.now)) name.now) }
+    ensures known { is_some result ≡ is_there (procedure_of (map decl declarations.now) name.now) }
+{
+    let mut number = 0;
+    for declaration in declarations {
+        if let Declaration::Procedure(procedure) = declaration {
+            if procedure.name.as_str() == name {
+                return Some(number);
+            }
+            number += 1;
+        }
+    }
+    None
 }
 
 fn reducer_number(declarations: &[Declaration], name: &str) -> usize

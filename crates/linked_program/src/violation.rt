@@ -61,7 +61,7 @@ impl fmt::Display for Rule {
 }
 
 /// A rule broken at a line of a declaration. Declarations are counted from 1; 0 is the whole program.
-#[derive(Clone, Copy, Debug, PartialEq, Eq)]
+#[derive(Clone, Copy)]
 pub struct Violation {
     pub declaration: usize,
     pub line: u32,

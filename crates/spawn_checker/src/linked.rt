@@ -6,7 +6,6 @@ ghost use Rattle.linked_program.specs.Declarations.{IsClean};
 ghost use Rattle.linked_program.specs.Procedures.{procedures};
 ghost use Rattle.linked_program.specs.Checked.{numbers_in, names_in};
 
-use indexmap::IndexMap;
 use linked_program::checked::Checked;
 use linked_program::initial::initials;
 use linked_program::linking::{codes, kinds};
@@ -19,16 +18,16 @@ pub fn linked(
     alloc: Global,
     program: Program,
     tables: Vec<TableNames>,
-    revisions: IndexMap<String, u64>,
+    revisions: Vec<(String, u64)>,
     counter: u64,
 ) -> Result<Checked, AllocError>
     requires clean { IsClean (map columned tables.items) program }
-    requires each { names_in (numbers_in revisions)
+    requires each { names_in (numbers_in revisions.items)
         ≡ map (λ p. p.called) (procedures (tree program)) }
-    requires below { All (λ e. e.1 < counter) (numbers_in revisions) }
+    requires below { All (λ e. e.1 < counter) (numbers_in revisions.items) }
     ensures program { IfOk result (λ checked. checked.program ≡ program) }
     ensures tables { IfOk result (λ checked. checked.tables ≡ map columned tables.items) }
-    ensures revisions { IfOk result (λ checked. checked.revisions ≡ numbers_in revisions) }
+    ensures revisions { IfOk result (λ checked. checked.revisions ≡ numbers_in revisions.items) }
     ensures counter { IfOk result (λ checked. checked.counter ≡ counter) }
 {
     let codes = codes(alloc, &program.declarations, &tables)?;

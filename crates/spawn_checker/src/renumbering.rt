@@ -1,12 +1,10 @@
 //! The revision numbers of a program that takes the place of another.
-ghost use Rattle.std.specs.Prelude.{◌≡◌, ◌<◌, [], map, IfOk, IfSome, IfNone};
+ghost use Rattle.std.specs.Prelude.{◌≡◌, ◌<◌, map, IfOk, IfSome, IfNone};
 ghost use Rattle.program_tree.specs.View.{decl};
 ghost use Rattle.meaning.specs.Edits.{most, revised};
 ghost use Rattle.linked_program.specs.Checked.{revised_of, numbers_in};
-ghost use Rattle.spawn_checker.specs.Renumbered.{AreNew};
 
 use crate::revisions::{Numbers, put_revision};
-use indexmap::IndexMap;
 use linked_program::checked::Checked;
 use program_tree::{Declaration, Procedure};
 use single_rules::keeping::{is_last_number, kept_revision};
@@ -18,14 +16,13 @@ pub fn next_revisions(
     old: &Checked,
     declarations: &[Declaration],
 ) -> Result<Option<Numbers>, AllocError>
-    requires new { AreNew [] (map decl declarations.now) }
     ensures numbers { IfOk result (λ found. IfSome found
-        (λ made. (numbers_in made.revisions, made.counter)
+        (λ made. (numbers_in made.revisions.items, made.counter)
         ≡ revised (revised_of old.now) (map decl declarations.now) old.now.counter)) }
     ensures exhausted { IfOk result (λ found. IfNone found
         (most < (revised (revised_of old.now) (map decl declarations.now) old.now.counter).1)) }
 {
-    let mut revisions = IndexMap::new(alloc);
+    let mut revisions = Vec::new(alloc);
     let mut counter = old.counter();
     for declaration in declarations {
         if let Declaration::Procedure(procedure) = declaration {

@@ -8,7 +8,6 @@ ghost use Rattle.linked_program.specs.Linked.{main_number};
 ghost use Rattle.linked_program.specs.Checked.{numbers_in};
 
 use super::{defines, revisions};
-use indexmap::IndexMap;
 use linked_program::checked::Checked;
 use linked_program::initial::initials;
 use linked_program::linking::{codes, kinds};
@@ -43,14 +42,10 @@ fn main_alone(rt: &impl Abort, alloc: Global) -> Program
     Program { declarations }
 }
 
-fn number_of_main(rt: &impl Abort, alloc: Global) -> IndexMap<String, u64>
-    ensures { numbers_in result ≡ (main, 0) ∷ [] }
+fn number_of_main(rt: &impl Abort, alloc: Global) -> Vec<(String, u64)>
+    ensures { numbers_in result.items ≡ (main, 0) ∷ [] }
 {
-    let mut revisions = IndexMap::new(alloc);
-    let Ok(_) = revisions.insert(main_name(rt, alloc), 0) else {
-        panic!(rt; "memory");
-    };
-    revisions
+    vec![in alloc; (main_name(rt, alloc), 0)].expect(rt, "memory")
 }
 
 /// That program, checked, whose `main` has the revision number 0, and this as the least that was never used.

@@ -3,21 +3,17 @@ use Rattle.program_tree.specs.View.{tree}
 use Rattle.meaning.specs.Edits.{revised}
 use Rattle.linked_program.specs.TableNames.{columned}
 use Rattle.linked_program.specs.Checked.{numbers_in, names_in, nothing}
-use Rattle.spawn_checker.proofs.NewNames.{names_are_new}
 use Rattle.spawn_checker.proofs.NewNumbers.{Numbered, revised_names, revised_below}
 use Rattle.spawn_checker.proofs.checking.first_checked.Goals as goal
-
-pub first_revisions-requires : goal.first_revisions-requires
-first_revisions-requires c = record { new = rw c.deref.ensures.value (names_are_new (map columned c.args.tables.items) c.args.program c.requires) }
 
 pub linked-requires-clause-each : goal.linked-requires-clause-each
 linked-requires-clause-each c =
     let t = tree c.args.program in
-    let made : (numbers_in c.in_ok-numbers.numbers.revisions, c.in_ok-numbers.numbers.counter) ≡ revised nothing t 0 = rw c.deref.ensures.value at c.in_ok-numbers.ensures.numbers in
+    let made : (numbers_in c.in_ok-numbers.numbers.revisions.items, c.in_ok-numbers.numbers.counter) ≡ revised nothing t 0 = rw c.deref.ensures.value at c.in_ok-numbers.ensures.numbers in
     ap (λ (m : Numbered). names_in m.0) made ∙ revised_names nothing t 0
 
 pub linked-requires-clause-below : goal.linked-requires-clause-below
 linked-requires-clause-below c =
     let t = tree c.args.program in
-    let made : (numbers_in c.in_ok-numbers.numbers.revisions, c.in_ok-numbers.numbers.counter) ≡ revised nothing t 0 = rw c.deref.ensures.value at c.in_ok-numbers.ensures.numbers in
-    revised_below nothing refl (λ k d lt. absurd (omega (arith, lt))) t (numbers_in c.in_ok-numbers.numbers.revisions) c.in_ok-numbers.numbers.counter made
+    let made : (numbers_in c.in_ok-numbers.numbers.revisions.items, c.in_ok-numbers.numbers.counter) ≡ revised nothing t 0 = rw c.deref.ensures.value at c.in_ok-numbers.ensures.numbers in
+    revised_below nothing refl (λ k d lt. absurd (omega (arith, lt))) t (numbers_in c.in_ok-numbers.numbers.revisions.items) c.in_ok-numbers.numbers.counter made

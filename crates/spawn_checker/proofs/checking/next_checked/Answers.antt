@@ -3,26 +3,22 @@ use Rattle.program_tree.specs.View.{tree}
 use Rattle.meaning.specs.Edits.{most, revised}
 use Rattle.linked_program.specs.TableNames.{columned}
 use Rattle.linked_program.specs.Checked.{revised_of, numbers_in, names_in}
-use Rattle.spawn_checker.proofs.NewNames.{names_are_new}
 use Rattle.spawn_checker.proofs.NewNumbers.{Numbered, revised_names, revised_below, too_many}
 use Rattle.spawn_checker.proofs.checking.next_checked.Goals as goal
-
-pub next_revisions-requires : goal.next_revisions-requires
-next_revisions-requires c = record { new = rw c.deref.ensures.value (names_are_new (map columned c.args.tables.items) c.args.program c.requires) }
 
 pub linked-requires-clause-each : goal.linked-requires-clause-each
 linked-requires-clause-each c =
     let old = revised_of c.args.old.now in
     let t = tree c.args.program in
-    let made : (numbers_in c.in-Some.numbers.revisions, c.in-Some.numbers.counter) ≡ revised old t old.counter = rw (c.in-Some.is, c.deref.ensures.value) at c.in_ok-next_revisions.ensures.numbers in
+    let made : (numbers_in c.in-Some.numbers.revisions.items, c.in-Some.numbers.counter) ≡ revised old t old.counter = rw (c.in-Some.is, c.deref.ensures.value) at c.in_ok-next_revisions.ensures.numbers in
     ap (λ (m : Numbered). names_in m.0) made ∙ revised_names old t old.counter
 
 pub linked-requires-clause-below : goal.linked-requires-clause-below
 linked-requires-clause-below c =
     let old = revised_of c.args.old.now in
     let t = tree c.args.program in
-    let made : (numbers_in c.in-Some.numbers.revisions, c.in-Some.numbers.counter) ≡ revised old t old.counter = rw (c.in-Some.is, c.deref.ensures.value) at c.in_ok-next_revisions.ensures.numbers in
-    revised_below old c.revised.ensures.each c.revised.ensures.below t (numbers_in c.in-Some.numbers.revisions) c.in-Some.numbers.counter made
+    let made : (numbers_in c.in-Some.numbers.revisions.items, c.in-Some.numbers.counter) ≡ revised old t old.counter = rw (c.in-Some.is, c.deref.ensures.value) at c.in_ok-next_revisions.ensures.numbers in
+    revised_below old c.revised.ensures.each c.revised.ensures.below t (numbers_in c.in-Some.numbers.revisions.items) c.in-Some.numbers.counter made
 
 pub returns-in-None-clause-refused : goal.returns-in-None-clause-refused
 returns-in-None-clause-refused c =

@@ -1,12 +1,10 @@
 use Rattle.std.proofs.Common.{◌≡◌, map, drop}
 use Rattle.program_tree.specs.View.{decl}
 use Rattle.meaning.specs.Edits.{revised}
-use Rattle.linked_program.specs.Checked.{revised_of, numbers_in, names_in}
-use Rattle.spawn_checker.specs.Renumbered.{AreNew, behind}
+use Rattle.linked_program.specs.Checked.{revised_of, numbers_in}
+use Rattle.spawn_checker.specs.Renumbered.{behind}
 use Rattle.spawn_checker.proofs.renumbering.next_revisions.Given as goal
 
 abbrev pub invariant-loop-declaration : goal.invariant-loop-declaration
-invariant-loop-declaration l = record {
-  numbers : revised (revised_of l.old) (map decl l.declarations) l.old.counter ≡ behind (numbers_in l.revisions) (revised (revised_of l.old) (map decl (drop l.declaration-index l.declarations)) l.counter);
-  new : AreNew (names_in (numbers_in l.revisions)) (map decl (drop l.declaration-index l.declarations));
-}
+invariant-loop-declaration l =
+    revised (revised_of l.old) (map decl l.declarations) l.old.counter ≡ behind (numbers_in l.revisions.items) (revised (revised_of l.old) (map decl (drop l.declaration-index l.declarations)) l.counter)

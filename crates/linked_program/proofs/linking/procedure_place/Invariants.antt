@@ -1,0 +1,13 @@
+use Rattle.std.proofs.Common.{◌≡◌, ◌+◌, ◌≤◌, map, drop}
+use Rattle.program_tree.specs.View.{decl}
+use Rattle.meaning.specs.Statements.{procedure_of}
+use Rattle.linked_program.specs.Procedures.{procedures}
+use Rattle.linked_program.specs.Linked.{procedure_number}
+use Rattle.linked_program.proofs.linking.procedure_place.Given as goal
+
+abbrev pub invariant-loop-declaration : goal.invariant-loop-declaration
+invariant-loop-declaration l = record {
+  same : procedure_number (procedures (map decl l.declarations)) l.name ≡ l.number + procedure_number (procedures (map decl (drop l.declaration-index l.declarations))) l.name;
+  known : procedure_of (map decl l.declarations) l.name ≡ procedure_of (map decl (drop l.declaration-index l.declarations)) l.name;
+  few : l.number ≤ l.declaration-index;
+}
