@@ -1,8 +1,7 @@
 -- Records may go from thread to thread, and be shared by threads.
 use denote.Param.Send.{IsSend, IsSync, sendable}
 use Rattle.std.proofs.Crossing.{crosses, Vec-send, Vec-sync}
-use Rattle.indexmap.proofs.set.IndexSet.TheSendSync as sets
-use Rattle.std.proofs.hash.FoldHasher.TheSendSync as folds
+use Rattle.place_chains.proofs.places.Places.TheSendSync as places
 use Rattle.monoid_laws.proofs.Val.TheSendSync as vals
 use Rattle.monoid_laws.proofs.Kind.TheSendSync as kinds
 use Rattle.evaluation.proofs.reading.Reading.TheSendSync as reading
@@ -74,7 +73,7 @@ blocks_sync : IsSync (Blocks.the_field).row
 blocks_sync = let y = level_sync in search (sendable, crosses, kinds.the_sync) depth 20
 
 pub records_send : IsSend (Records.the_field).row
-records_send = let s = record_send in let b = blocks_send in search (sendable, crosses, sets.the_send, folds.the_send) depth 20
+records_send = let s = record_send in let b = blocks_send in search (sendable, crosses, places.the_send) depth 20
 
 pub records_sync : IsSync (Records.the_field).row
-records_sync = let y = record_sync in let b = blocks_sync in search (sendable, crosses, sets.the_sync, folds.the_sync) depth 20
+records_sync = let y = record_sync in let b = blocks_sync in search (sendable, crosses, places.the_sync) depth 20

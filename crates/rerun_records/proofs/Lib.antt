@@ -15,4 +15,5 @@ pub mod Touched
 pub mod Hulls
 pub mod Leaves
 pub mod Wholes
+pub mod Instances
 pub mod Crosses

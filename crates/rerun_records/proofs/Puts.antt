@@ -1,35 +1,15 @@
--- A record that takes the place of another in a set.
-use Rattle.std.proofs.Common.{◌≡◌, All, ℕ, suc, ◌+◌, ◌≤◌, ◌<◌, Bool, true, false, cond, ◌||◌, List, [], ◌∷◌, ◌++◌, length, map, if◌then◌else◌, refl, sym, ap, ◌∙◌, arith}
+-- A record that takes the place of another.
+use Rattle.std.proofs.Common.{◌≡◌, All, ℕ, suc, ◌+◌, ◌≤◌, ◌<◌, true, false, cond, List, [], ◌∷◌, length, map, refl, sym, ap, ◌∙◌, arith}
 use Rattle.std.proofs.lemmas.List.Elements.{All-cons, All-head, All-tail}
-use Rattle.std.specs.List.{list_any}
-use Rattle.indexmap.specs.IndexSet.{replace_key, swap_key}
 use Rattle.rerun_records.specs.Record.{PlainRecord, same_instance, settled}
 use Rattle.rerun_records.specs.Named.{HasValuesIfAnswers, HaveValues}
 use Rattle.monoid_laws.specs.declared.Kind.{Kind}
 use Rattle.rerun_records.specs.Commits.{put_record, put_records}
 
-behind_both : {A : Type 0} (b : Bool) (x : A) (xs ys : List A) → (if b then x ∷ xs else x ∷ ys) ≡ x ∷ (if b then xs else ys)
-behind_both true x xs ys = refl
-behind_both false x xs ys = refl
-
-pub replaced_is_put : (rs : List PlainRecord) (r : PlainRecord) → replace_key same_instance rs r ≡ put_record rs r
-replaced_is_put [] r = refl
-replaced_is_put (s ∷ ss) r =
-    elim (same_instance r s) as (λ b. (if b || list_any (same_instance r) ss then cond b (r ∷ ss) (s ∷ swap_key (same_instance r) ss r) else s ∷ (ss ++ r ∷ [])) ≡ cond b (r ∷ ss) (s ∷ put_record ss r)) [
-      | true ↦ refl
-      | false ↦ behind_both (list_any (same_instance r) ss) s (swap_key (same_instance r) ss r) (ss ++ r ∷ []) ∙ ap (λ xs. s ∷ xs) (replaced_is_put ss r)
-    ]
-
 -- one more record was put in
 pub still_put : (before now rest all whole : List PlainRecord) (r : PlainRecord)
     → put_records before all ≡ whole → all ≡ r ∷ rest → now ≡ put_record before r → put_records now rest ≡ whole
 still_put before now rest all whole r e s n = ap (λ rs. put_records rs rest) n ∙ ap (put_records before) (sym s) ∙ e
-
-pub room_before : (rest all : List PlainRecord) (r : PlainRecord) (spare : ℕ) → length all ≤ spare → all ≡ r ∷ rest → 0 < spare
-room_before rest all r spare l s = let e : length all ≡ suc (length rest) = ap length s in omega (arith, l, e)
-
-pub room_after : (rest all : List PlainRecord) (r : PlainRecord) (spare less : ℕ) → length all ≤ spare → all ≡ r ∷ rest → spare ≤ less + 1 → length rest ≤ less
-room_after rest all r spare less l s m = let e : length all ≡ suc (length rest) = ap length s in omega (arith, l, e, m)
 
 -- what is true of records that are there and of one that is put in, is true of them together
 all_put : (P : PlainRecord → Type 0) (rs : List PlainRecord) (r : PlainRecord) → All P rs → P r → All P (put_record rs r)
@@ -53,10 +33,8 @@ settled_put (s ∷ ss) r =
       | false ↦ ap (λ xs. settled s ∷ xs) (settled_put ss r)
     ]
 
-pub still_settled : (before now : List PlainRecord) (r : PlainRecord) → map settled before ≡ before → now ≡ replace_key same_instance before r → settled r ≡ r → map settled now ≡ now
-still_settled before now r b n s =
-    let put : now ≡ put_record before r = n ∙ replaced_is_put before r in
-    ap (map settled) put ∙ settled_put before r ∙ ap (λ xs. put_record xs (settled r)) b ∙ ap (put_record before) s ∙ sym put
+pub still_settled : (before now : List PlainRecord) (r : PlainRecord) → map settled before ≡ before → now ≡ put_record before r → settled r ≡ r → map settled now ≡ now
+still_settled before now r b n s = ap (map settled) n ∙ settled_put before r ∙ ap (λ xs. put_record xs (settled r)) b ∙ ap (put_record before) s ∙ sym n
 
 pub place_before : (rest all : List PlainRecord) (r : PlainRecord) (places capacity : ℕ) → places + length all ≤ capacity → all ≡ r ∷ rest → places < capacity
 place_before rest all r places capacity l s = let e : length all ≡ suc (length rest) = ap length s in omega (arith, l, e)

@@ -5,13 +5,12 @@ use Rattle.std.specs.List.{find, position_or_len, AllByRecursion, IsDistinct}
 use Rattle.std.proofs.lemmas.Bool.{le-leb}
 use Rattle.std.proofs.lemmas.List.{length-set}
 use Rattle.std.proofs.Math.Seq.{drop-length}
-use Rattle.indexmap.specs.IndexSet.{replace_key}
 use Rattle.meaning.specs.Every.{every}
 use Rattle.rerun_records.specs.Record.{PlainRecord, everything, rows, same_instance, is_of, settled}
 use Rattle.rerun_records.specs.Moments.{doubts_since, doubts_at, doubted_by, standing, stamped, is_moment, AreStanding}
 use Rattle.rerun_records.specs.Commits.{put_record, put_records, AreSingle}
 use Rattle.rerun_records.proofs.Members.{left_is, right_is, both}
-use Rattle.rerun_records.proofs.Puts.{replaced_is_put, still_settled}
+use Rattle.rerun_records.proofs.Puts.{still_settled}
 
 one_more : (n : ℕ) → 1 + n ≡ suc n
 one_more n = omega arith
@@ -151,7 +150,7 @@ module _ (changes : List (ℕ × ℤ)) where
     few = h.few;
   }
 
-  module _ (ns ms : List ℕ) (rs now : List PlainRecord) (r : PlainRecord) (place : ℕ) (keys : now ≡ replace_key same_instance rs r) (made : settled r ≡ r) (found : place ≡ at r rs)
+  module _ (ns ms : List ℕ) (rs now : List PlainRecord) (r : PlainRecord) (place : ℕ) (keys : now ≡ put_record rs r) (made : settled r ≡ r) (found : place ≡ at r rs)
       (stamps : ms ≡ stamped ns place (length changes)) (h : AreStanding changes ns rs) where
     -- with a record put in, all stand
     pub still_stand : AreSingle now → AreStanding changes ms now
@@ -160,7 +159,7 @@ module _ (changes : List (ℕ × ℤ)) where
         (record {
           single = single;
           settled_are = still_settled rs now r h.settled_are keys made;
-          places = stamped_length ns rs r h.places ∙ sym (ap length (keys ∙ replaced_is_put rs r));
+          places = stamped_length ns rs r h.places ∙ sym (ap length keys);
           moments_are = stamped_moments ns (at r rs) h.moments_are;
           few = h.few;
         })
@@ -168,7 +167,7 @@ module _ (changes : List (ℕ × ℤ)) where
     pub put_stands : standing changes ms now ≡ put_record (standing changes ns rs) r
     put_stands =
         ap (λ xs. standing changes xs now) (stamps ∙ ap (λ i. stamped ns i (length changes)) found)
-        ∙ ap (standing changes (stamped ns (at r rs) (length changes))) (keys ∙ replaced_is_put rs r) ∙ stamped_put ns rs r made h.places
+        ∙ ap (standing changes (stamped ns (at r rs) (length changes))) keys ∙ stamped_put ns rs r made h.places
 
     pub place_there : place ≤ length ns
     place_there = rw (found, h.places) (place_within r rs)
@@ -211,3 +210,8 @@ pub settled_put_into : (changes same : List (ℕ × ℤ)) (ns ms news : List ℕ
 settled_put_into changes same ns ms news rs ss keys now made c n r v p =
     ap (λ cs. map settled (standing cs news keys)) (sym c) ∙ p ∙ ap (λ cs. put_records (map settled (standing cs ms ss)) made) c ∙ ap (λ xs. put_records (map settled (standing changes xs ss)) made) n
     ∙ ap (λ xs. put_records (map settled (standing changes ns xs)) made) r ∙ ap (λ xs. put_records (map settled xs) made) v
+
+-- no records
+pub none_stand : (changes : List (ℕ × ℤ)) (ns : List ℕ) (rs : List PlainRecord) → changes ≡ [] → ns ≡ [] → rs ≡ [] → AreStanding changes ns rs
+unfolding IsDistinct
+none_stand changes ns rs c n r = rw (c, n, r) (record { single = tt; settled_are = refl; places = refl; moments_are = refl; few = omega arith })

@@ -1,11 +1,12 @@
 -- Records as plain values: everything in them goes by number.
-use Rattle.std.specs.Prelude.{ℕ, nat_eq, ℤ, Bool, ◌&&◌, List, [], map}
+use Rattle.std.specs.Prelude.{◌≡◌, ◌≤◌, ℕ, nat_eq, ℤ, Bool, false, ◌&&◌, List, [], map, Some, slice_get}
 use Rattle.std.specs.Cmp.Lexicographic.{pointwise}
 use Rattle.std.specs.Ordering.{int_eq}
 use Rattle.monoid_laws.specs.Worth.{Worth}
 use Rattle.monoid_laws.specs.declared.Val.{Val}
 use Rattle.monoid_laws.specs.Kinds.{meaning}
 use Rattle.evaluation.specs.declared.note.Note.{Note}
+use Rattle.place_chains.specs.Mixing.{number_of}
 
 -- which readings of a record may no longer agree with the tables: any, or those of rows that were changed, each with its table's number
 pub data Doubts : Type 0 where
@@ -36,6 +37,14 @@ is_of procedure arguments r = nat_eq procedure r.procedure && pointwise int_eq a
 -- two records are of one procedure with the same arguments
 abbrev pub same_instance : PlainRecord → PlainRecord → Bool
 same_instance r s = is_of r.procedure r.arguments s
+
+-- the number of its procedure and arguments, by which it is found
+abbrev pub instance_number : PlainRecord → ℕ
+instance_number r = number_of r.procedure r.arguments
+
+-- no record from that place on is that of a procedure and arguments
+abbrev pub NoneFrom : ℕ → List ℤ → List PlainRecord → ℕ → Type 0
+NoneFrom procedure arguments rs place = (i : ℕ) (r : PlainRecord) → place ≤ i → slice_get rs i ≡ Some r → is_of procedure arguments r ≡ false
 
 -- the record of these parts
 abbrev pub made_of : ℕ → List ℤ → ℤ → List (ℕ × Val) → List Note → List (ℕ × ℕ) → ℕ → PlainRecord

@@ -1,11 +1,9 @@
 //! The records of a session.
 ghost use Rattle.std.specs.Prelude.{◌≡◌, ◌↔◌, IsTrue, ℕ, List, [], length, ◌<◌, ◌≤◌, ◌+◌, Some, None, OnOk, OnErr, IfSome, IfNone};
 ghost use Rattle.std.specs.Prelude.{option_copied, map, true, slice_get, vec_capacity};
-ghost use Rattle.std.specs.List.{find};
-ghost use Rattle.std.specs.Cmp.Rules.{comparing, hashing};
-ghost use Rattle.indexmap.specs.IndexSet.{spare};
-ghost use Rattle.std.proofs.Common.{rules};
-ghost use Rattle.rerun_records.specs.Record.{is_of, settled, everything};
+ghost use Rattle.std.specs.List.{find, position_or_len};
+ghost use Rattle.place_chains.specs.Mixing.{number_of as mixed_number};
+ghost use Rattle.rerun_records.specs.Record.{is_of, same_instance, instance_number, settled, everything};
 ghost use Rattle.rerun_records.specs.Validity.{valid_at};
 ghost use Rattle.rerun_records.specs.Doubted.{IsInStep, ReadNow, IsSameBut};
 ghost use Rattle.rerun_records.specs.Moments.{standing, AreStanding, first_moment, doubted_by};
@@ -23,12 +21,12 @@ use crate::changes::{NEVER, changes_since, is_stamped, list_change, stamp, stand
 use crate::key::Key;
 use crate::record::Record;
 use crate::series::Series;
-use indexmap::{Equivalent, IndexSet};
 use input_tables::Tables;
 use linked_program::checked::Checked;
 use monoid_laws::Kind;
+use place_chains::mixing::number_of;
+use place_chains::places::Places;
 use std::alloc::{AllocError, Global};
-use std::hash::{Hash, Hasher};
 use std::marker::Model;
 
 /// So many changes of rows are listed at least before the records are compared anew and the changes forgotten.
@@ -44,7 +42,9 @@ const RECORDS_A_SPARE: usize = 64;
 /// is listed, and of a record those readings are in doubt that rest on rows listed since it stands: they alone are compared.
 #[derive(Drop)]
 pub struct Records {
-    by_instance: IndexSet<Record>,
+    list: Vec<Record>,
+    // Each record's place under the number of its procedure and arguments, by which it is found.
+    places: Places,
     // For each record how many changes there were when it was put in, or last compared.
     moments: Vec<u32>,
     // The rows that were changed, by their tables' numbers.
@@ -54,36 +54,18 @@ pub struct Records {
 }
 
 impl Model for Records {
-    ghost use Rattle.std.specs.Prelude.{List};
-    ghost use Rattle.rerun_records.specs.Record.{PlainRecord};
+    ghost use Rattle.std.specs.Prelude.{◌≡◌, List, map};
+    ghost use Rattle.rerun_records.specs.Record.{PlainRecord, instance_number};
     ghost use Rattle.rerun_records.specs.Moments.{standing, AreStanding};
     ghost use Rattle.rerun_records.specs.Blocks.{BlocksFit};
 
     ghost Value = { List PlainRecord };
 
-    ghost view = { λ r. standing r.changes.items r.moments.items r.by_instance.keys };
+    ghost view = { λ r. standing r.changes.items r.moments.items r.list.items };
 
-    ghost invariant = { λ r. AreStanding r.changes.items r.moments.items r.by_instance.keys
-        × BlocksFit (standing r.changes.items r.moments.items r.by_instance.keys) r.blocks };
-}
-
-// An instance that a record is looked up for.
-#[derive(Clone, Copy, PartialEq, Eq, Hash)]
-struct Asked<'a> {
-    procedure: usize,
-    arguments: &'a [i64],
-}
-
-impl<'a> Equivalent<Record> for Asked<'a> {
-    ghost equivalent = { λ q. is_of q.procedure q.arguments.now };
-
-    ghost respects_hash = { Prim.search (hashing, rules) };
-
-    ghost respects_eq = { Prim.search (comparing, rules) };
-
-    fn equivalent(&self, record: &Record) -> bool {
-        self.procedure == record.procedure() && *self.arguments == *record.arguments()
-    }
+    ghost invariant = { λ r. AreStanding r.changes.items r.moments.items r.list.items
+        × BlocksFit (standing r.changes.items r.moments.items r.list.items) r.blocks
+        × (r.places.numbers ≡ map instance_number r.list.items) };
 }
 
 impl Records {
@@ -92,7 +74,8 @@ impl Records {
         ensures none { result ≡ [] }
     {
         Records {
-            by_instance: IndexSet::new(alloc),
+            list: Vec::new(alloc),
+            places: Places::new(alloc),
             moments: Vec::new(alloc),
             changes: Vec::new(alloc),
             blocks: Blocks::new(alloc),
@@ -103,28 +86,28 @@ impl Records {
     pub fn len(&self) -> usize
         ensures count { result ≡ length self.now }
     {
-        self.by_instance.len()
+        self.list.len()
     }
 
     /// Whether there are no records.
     pub fn is_empty(&self) -> bool
         ensures empty { IsTrue result ↔ (length self.now ≡ 0) }
     {
-        self.by_instance.is_empty()
+        self.list.is_empty()
     }
 
     /// Lends the records.
     pub fn as_slice(&self) -> &[Record]
         ensures records { result.now ≡ map settled self.now }
     {
-        self.by_instance.as_slice()
+        &self.list
     }
 
     /// What the type keeps: no procedure and arguments have two records.
     pub fn single(&self)
         ensures single { AreSingle self.now }
     {
-        let _ = &self.by_instance;
+        let _ = &self.list;
     }
 
     /// The record of the procedure of that number with these arguments, where it is valid now for an instance at that depth. It
@@ -159,10 +142,8 @@ impl Records {
         ensures arguments { IfSome result (λ found. found.1.now.arguments ≡ arguments.now) }
         ensures none { IfNone result (find (is_of procedure arguments.now) self.now ≡ None) }
     {
-        match self.by_instance.get_full(Asked {
-            procedure,
-            arguments,
-        }) {
+        let number = number_of(procedure, arguments);
+        match found_in(&self.list, &self.places, number, procedure, arguments) {
             Some((place, record)) => Some((place, record)),
             None => None,
         }
@@ -193,7 +174,7 @@ impl Records {
         ensures procedure { IfSome result (λ r. r.now.procedure ≡ procedure) }
         ensures arguments { IfSome result (λ r. r.now.arguments ≡ arguments.now) }
     {
-        match self.by_instance.get_index(place) {
+        match record_at(&self.list, place) {
             Some(record) => {
                 if !is_of(record, procedure, arguments) {
                     return None;
@@ -324,7 +305,7 @@ impl Records {
         ensures kept { (p : ℕ) → stands_at self.old p ≡ true → stands_at self.new p ≡ true }
         ensures stands { result ≡ true → stands_at self.new place ≡ true }
     {
-        match self.by_instance.get_index(place) {
+        match record_at(&self.list, place) {
             Some(record) => {
                 if !record.agrees(tables) {
                     return false;
@@ -412,10 +393,12 @@ impl Records {
         ensures same { OnErr result (self.new ≡ self.old) }
     {
         let room = with_spare(records.len());
-        self.by_instance.reserve(room)?;
+        self.list.reserve(room)?;
+        self.places.reserve(room)?;
         self.moments.reserve(room)?;
         put_all(
-            &mut self.by_instance,
+            &mut self.list,
+            &mut self.places,
             &mut self.moments,
             &mut self.blocks,
             &self.changes,
@@ -456,7 +439,7 @@ impl Records {
         ensures in_step { IsInStep tables.now.tables self.new }
         ensures same { map settled self.new ≡ map settled self.old }
     {
-        if is_due(self.changes.len(), self.by_instance.len()) {
+        if is_due(self.changes.len(), self.list.len()) {
             self.compare(tables);
         }
     }
@@ -468,19 +451,22 @@ impl Records {
     {
         self.blocks.clear();
         self.changes.clear();
-        compare_all(self.by_instance.as_slice(), &mut self.moments, tables);
+        compare_all(&self.list, &mut self.moments, tables);
     }
+}
+
+// The record at that place.
+fn record_at(list: &[Record], place: usize) -> Option<&Record>
+    ensures at { option_copied result ≡ slice_get list.now place }
+{
+    list.get(place)
 }
 
 // Whether the record is that of the procedure of that number with these arguments.
 fn is_of(record: &Record, procedure: usize, arguments: &[i64]) -> bool
     ensures of { result ≡ is_of procedure arguments.now record.now }
 {
-    Asked {
-        procedure,
-        arguments,
-    }
-    .equivalent(record)
+    procedure == record.procedure() && *arguments == *record.arguments()
 }
 
 // Room for so many records, and for those of some runs behind: else the first put after a large run would move all of them.
@@ -514,54 +500,126 @@ fn first_moment(record: &Record, tables: &Tables) -> u32
     if record.agrees(tables) { 0 } else { NEVER }
 }
 
+// The record of the procedure of that number with these arguments, to which that number is given, and its place.
+fn found_in<'a>(
+    list: &'a [Record],
+    places: &Places,
+    number: u32,
+    procedure: usize,
+    arguments: &[i64],
+) -> Option<(usize, &'a Record)>
+    requires numbered { places.now.numbers ≡ map instance_number list.now }
+    requires number { number ≡ mixed_number procedure arguments.now }
+    ensures there { IfSome result (λ found. slice_get list.now found.0 ≡ Some found.1.now) }
+    ensures of { IfSome result (λ found. is_of procedure arguments.now found.1.now ≡ true) }
+    ensures none { IfNone result (find (is_of procedure arguments.now) list.now ≡ None) }
+{
+    let mut end = places.newest(number);
+    while end > 0 {
+        let place = end - 1;
+        let record = &list[place];
+        if is_of(record, procedure, arguments) {
+            return Some((place, record));
+        }
+        end = places.before(place);
+    }
+    None
+}
+
 // Puts records in, for which there is room.
 fn put_all(
-    by_instance: &mut IndexSet<Record>,
+    list: &mut Vec<Record>,
+    places: &mut Places,
     moments: &mut Vec<u32>,
     blocks: &mut Blocks,
     changes: &[(usize, i64)],
     records: Vec<Record>,
 )
-    requires room { length records.items ≤ spare by_instance.old }
+    requires room { length list.old.items + length records.items ≤ vec_capacity list.old }
+    requires room_below { length list.old.items + length records.items ≤ places.old.room }
     requires places { length moments.old.items + length records.items ≤ vec_capacity moments.old }
-    requires standing { AreStanding changes.now moments.old.items by_instance.old.keys }
-    requires fit { BlocksFit (standing changes.now moments.old.items by_instance.old.keys) blocks.old }
-    ensures put { standing changes.now moments.new.items by_instance.new.keys
-        ≡ put_records (standing changes.now moments.old.items by_instance.old.keys) records.items }
-    ensures standing { AreStanding changes.now moments.new.items by_instance.new.keys }
-    ensures fit { BlocksFit (standing changes.now moments.new.items by_instance.new.keys) blocks.new }
-    ensures settled { map settled (standing changes.now moments.new.items by_instance.new.keys)
-        ≡ put_records (map settled (standing changes.now moments.old.items by_instance.old.keys))
+    requires numbered { places.old.numbers ≡ map instance_number list.old.items }
+    requires standing { AreStanding changes.now moments.old.items list.old.items }
+    requires fit { BlocksFit (standing changes.now moments.old.items list.old.items) blocks.old }
+    ensures put { standing changes.now moments.new.items list.new.items
+        ≡ put_records (standing changes.now moments.old.items list.old.items) records.items }
+    ensures numbered { places.new.numbers ≡ map instance_number list.new.items }
+    ensures standing { AreStanding changes.now moments.new.items list.new.items }
+    ensures fit { BlocksFit (standing changes.now moments.new.items list.new.items) blocks.new }
+    ensures settled { map settled (standing changes.now moments.new.items list.new.items)
+        ≡ put_records (map settled (standing changes.now moments.old.items list.old.items))
         records.items }
 {
     for record in records {
-        put(by_instance, moments, blocks, changes, record);
+        put(list, places, moments, blocks, changes, record);
     }
 }
 
 // Puts a record in, for which there is room.
 fn put(
-    by_instance: &mut IndexSet<Record>,
+    list: &mut Vec<Record>,
+    places: &mut Places,
     moments: &mut Vec<u32>,
     blocks: &mut Blocks,
     changes: &[(usize, i64)],
     made: Record,
 )
-    requires room { 0 < spare by_instance.old }
+    requires room { length list.old.items < vec_capacity list.old }
+    requires room_below { length list.old.items < places.old.room }
     requires place { length moments.old.items < vec_capacity moments.old }
-    requires standing { AreStanding changes.now moments.old.items by_instance.old.keys }
-    requires fit { BlocksFit (standing changes.now moments.old.items by_instance.old.keys) blocks.old }
-    ensures put { standing changes.now moments.new.items by_instance.new.keys
-        ≡ put_record (standing changes.now moments.old.items by_instance.old.keys) made }
-    ensures room { spare by_instance.old ≤ spare by_instance.new + 1 }
+    requires numbered { places.old.numbers ≡ map instance_number list.old.items }
+    requires standing { AreStanding changes.now moments.old.items list.old.items }
+    requires fit { BlocksFit (standing changes.now moments.old.items list.old.items) blocks.old }
+    ensures put { standing changes.now moments.new.items list.new.items
+        ≡ put_record (standing changes.now moments.old.items list.old.items) made }
+    ensures count { length list.new.items ≤ length list.old.items + 1 }
+    ensures room { vec_capacity list.new ≡ vec_capacity list.old }
+    ensures room_below { places.new.room ≡ places.old.room }
     ensures places { length moments.new.items ≤ length moments.old.items + 1 }
     ensures capacity { vec_capacity moments.new ≡ vec_capacity moments.old }
+    ensures numbered { places.new.numbers ≡ map instance_number list.new.items }
     ensures made { settled made ≡ made }
-    ensures standing { AreStanding changes.now moments.new.items by_instance.new.keys }
-    ensures fit { BlocksFit (standing changes.now moments.new.items by_instance.new.keys) blocks.new }
+    ensures standing { AreStanding changes.now moments.new.items list.new.items }
+    ensures fit { BlocksFit (standing changes.now moments.new.items list.new.items) blocks.new }
 {
     made.settled();
-    let (place, _) = by_instance.replace_full(made).unwrap();
+    let number = number_of(made.procedure(), made.arguments());
+    let place = place_for(list, places, number, &made);
+    put_at(list, places, number, place, made);
     blocks.put_in(place);
     stand(moments, place, changes.len());
+}
+
+// The place of the record of the same procedure and arguments, or the one behind the others.
+fn place_for(list: &[Record], places: &Places, number: u32, made: &Record) -> usize
+    requires numbered { places.now.numbers ≡ map instance_number list.now }
+    requires number { number ≡ instance_number made.now }
+    requires settled { map settled list.now ≡ list.now }
+    requires single { AreSingle list.now }
+    ensures place { result ≡ position_or_len (same_instance made.now) list.now }
+{
+    match found_in(list, places, number, made.procedure(), made.arguments()) {
+        Some((place, _)) => place,
+        None => list.len(),
+    }
+}
+
+// Puts a record at its place, or behind the others, for which there is room.
+fn put_at(list: &mut Vec<Record>, places: &mut Places, number: u32, place: usize, made: Record)
+    requires room { length list.old.items < vec_capacity list.old }
+    requires room_below { length list.old.items < places.old.room }
+    requires numbered { places.old.numbers ≡ map instance_number list.old.items }
+    requires number { number ≡ instance_number made }
+    requires place { place ≡ position_or_len (same_instance made) list.old.items }
+    ensures put { list.new.items ≡ put_record list.old.items made }
+    ensures numbered { places.new.numbers ≡ map instance_number list.new.items }
+    ensures room { vec_capacity list.new ≡ vec_capacity list.old }
+    ensures room_below { places.new.room ≡ places.old.room }
+{
+    if place < list.len() {
+        list[place] = made;
+    } else {
+        list.push_reserved(made);
+        places.push(number);
+    }
 }

@@ -1,10 +1,12 @@
-use Rattle.rerun_records.proofs.Puts.{still_put, room_before, room_after, place_before, places_after, still_put_settled}
+use Rattle.rerun_records.proofs.Puts.{still_put, place_before, places_after, still_put_settled}
 use Rattle.rerun_records.proofs.records.put_all.Goals as goal
 
 pub put-requires : goal.put-requires
 put-requires c = record {
-  room = room_before _ _ _ _ c.loop-record.invariant.room c.in-Some.ensures.steps.0;
+  room = place_before _ _ _ _ _ c.loop-record.invariant.room c.in-Some.ensures.steps.0;
+  room_below = place_before _ _ _ _ _ c.loop-record.invariant.room_below c.in-Some.ensures.steps.0;
   place = place_before _ _ _ _ _ c.loop-record.invariant.places c.in-Some.ensures.steps.0;
+  numbered = c.loop-record.invariant.numbered;
   standing = c.loop-record.invariant.standing_are;
   fit = c.loop-record.invariant.fit;
 }
@@ -15,8 +17,10 @@ loop-record-preserved c =
     record {
       can_next = tt;
       is_finite = tt;
-      room = room_after _ _ _ _ _ c.loop-record.invariant.room s c.put.ensures.room;
+      room = places_after _ _ _ _ _ _ _ c.loop-record.invariant.room s c.put.ensures.count c.put.ensures.room;
+      room_below = places_after _ _ _ _ _ _ _ c.loop-record.invariant.room_below s c.put.ensures.count c.put.ensures.room_below;
       places = places_after _ _ _ _ _ _ _ c.loop-record.invariant.places s c.put.ensures.places c.put.ensures.capacity;
+      numbered = c.put.ensures.numbered;
       standing_are = c.put.ensures.standing;
       fit = c.put.ensures.fit;
       put = still_put _ _ _ _ _ _ c.loop-record.invariant.put s c.put.ensures.put;

@@ -1,7 +1,6 @@
 use Rattle.std.proofs.Common.{◌≡◌, ◌≤◌, ◌+◌, length, map, vec_capacity}
 use Rattle.std.specs.Vec.Iter.{into_iter_items}
-use Rattle.indexmap.specs.IndexSet.{spare}
-use Rattle.rerun_records.specs.Record.{settled}
+use Rattle.rerun_records.specs.Record.{settled, instance_number}
 use Rattle.rerun_records.specs.Commits.{put_records}
 use Rattle.rerun_records.specs.Moments.{standing, AreStanding}
 use Rattle.rerun_records.specs.Blocks.{BlocksFit}
@@ -11,12 +10,14 @@ abbrev pub invariant-loop-record : goal.invariant-loop-record
 invariant-loop-record l = record {
   can_next : (goal.iterator-loop-record).can_next l.record-iterator;
   is_finite : (goal.iterator-loop-record).is_finite l.record-iterator;
-  room : length (into_iter_items l.record-iterator) ≤ spare l.by_instance;
+  room : length l.list.items + length (into_iter_items l.record-iterator) ≤ vec_capacity l.list;
+  room_below : length l.list.items + length (into_iter_items l.record-iterator) ≤ l.places.room;
   places : length l.moments.items + length (into_iter_items l.record-iterator) ≤ vec_capacity l.moments;
-  standing_are : AreStanding l.changes l.moments.items l.by_instance.keys;
-  fit : BlocksFit (standing l.changes l.moments.items l.by_instance.keys) l.blocks;
-  put : put_records (standing l.changes l.moments.items l.by_instance.keys) (into_iter_items l.record-iterator)
-      ≡ put_records (standing l.changes l.fn.moments.items l.fn.by_instance.keys) l.fn.records.items;
-  settled_are : put_records (map settled (standing l.changes l.moments.items l.by_instance.keys)) (into_iter_items l.record-iterator)
-      ≡ put_records (map settled (standing l.changes l.fn.moments.items l.fn.by_instance.keys)) l.fn.records.items;
+  numbered : l.places.numbers ≡ map instance_number l.list.items;
+  standing_are : AreStanding l.changes l.moments.items l.list.items;
+  fit : BlocksFit (standing l.changes l.moments.items l.list.items) l.blocks;
+  put : put_records (standing l.changes l.moments.items l.list.items) (into_iter_items l.record-iterator)
+      ≡ put_records (standing l.changes l.fn.moments.items l.fn.list.items) l.fn.records.items;
+  settled_are : put_records (map settled (standing l.changes l.moments.items l.list.items)) (into_iter_items l.record-iterator)
+      ≡ put_records (map settled (standing l.changes l.fn.moments.items l.fn.list.items)) l.fn.records.items;
 }

@@ -5,6 +5,6 @@ use Rattle.rerun_records.proofs.records.Records.as_slice.Goals as goal
 
 pub returns : goal.returns
 returns c = record {
-  records = c.as_slice.ensures.keys ∙ sym c.self.invariant.0.settled_are ∙ sym (standing_settled c.self.inside.changes.items c.self.inside.moments.items c.self.inside.by_instance.keys)
+  records = c.deref.ensures.value ∙ sym c.self.invariant.0.settled_are ∙ sym (standing_settled c.self.inside.changes.items c.self.inside.moments.items c.self.inside.list.items)
       ∙ ap (map settled) c.self.view_is;
 }

@@ -11,7 +11,7 @@ returns-in-Some c =
     let P = c.args.program.now in
     let T = c.args.tables.now.tables in
     let records = c.args.self.now in
-    let single = subst AreSingle c.self.view_is (standing_single c.self.inside.changes.items c.self.inside.moments.items c.self.inside.by_instance.keys c.self.invariant.0.single) in
+    let single = subst AreSingle c.self.view_is (standing_single c.self.inside.changes.items c.self.inside.moments.items c.self.inside.list.items c.self.invariant.0.single) in
     let fits = found_fits P.kinds records c.self.inside.blocks c.in-Some.block.now (subst (λ rs. BlocksFit rs c.self.inside.blocks) c.self.view_is c.self.invariant.1) c.in-Some.ensures.block in
     record {
       batch =

@@ -1,6 +1,6 @@
-use Rattle.std.proofs.Common.{rules, ◌≡◌, ◌∙◌, ap, sym, subst, length, map, true}
-use Rattle.std.specs.Prelude.{slice_set}
-use Rattle.rerun_records.specs.Record.{settled}
+use Rattle.std.proofs.Common.{rules, List, ◌≡◌, ◌∙◌, ap, sym, subst, length, map, true}
+use Rattle.std.specs.Prelude.{slice_get, slice_set}
+use Rattle.rerun_records.specs.Record.{PlainRecord, settled}
 use Rattle.rerun_records.specs.Doubted.{IsInStep}
 use Rattle.rerun_records.specs.Moments.{standing}
 use Rattle.rerun_records.specs.Blocks.{stands_at}
@@ -12,33 +12,34 @@ pub invariant_of-self : goal.invariant_of-self
 invariant_of-self c =
     let changes = c.self.inside.changes.items in
     let moments = c.self.inside.moments.items in
-    let keys = c.self.inside.by_instance.keys in
+    let keys = c.self.inside.list.items in
     let long : c.len.result ≡ length changes = search rules in
     let stamped : c.stamp.new.moments.items ≡ slice_set moments c.args.place (length changes) = c.stamp.ensures.stamped ∙ ap (slice_set moments c.args.place) long in (
       set_stand changes moments c.stamp.new.moments.items keys c.args.place stamped c.self.invariant.0,
       stamped_fits changes moments c.stamp.new.moments.items keys c.args.place c.self.inside.blocks stamped c.self.invariant.1,
+      c.self.invariant.2,
     )
 
 pub returns-else-not-agrees-clause-in_step : goal.returns-else-not-agrees-clause-in_step
 returns-else-not-agrees-clause-in_step c =
     let changes = c.self.inside.changes.items in
     let moments = c.self.inside.moments.items in
-    let keys = c.self.inside.by_instance.keys in
+    let keys = c.self.inside.list.items in
     let T = c.args.tables.now.tables in
     let long : c.len.result ≡ length changes = search rules in
     let stamped : c.stamp.new.moments.items ≡ slice_set moments c.args.place (length changes) = c.stamp.ensures.stamped ∙ ap (slice_set moments c.args.place) long in
     subst (λ ms. IsInStep T (standing changes ms keys)) (sym stamped)
-    (stamped_step changes T moments keys c.args.place c.in-Some.record.now (sym c.in-Some.ensures.key) (sym c.agrees.ensures.agree ∙ c.if-not-agrees.false) (subst (IsInStep T) (sym c.self.view_is) c.requires.in_step))
+    (stamped_step changes T moments keys c.args.place c.in-Some.record.now (ap (λ (xs : List PlainRecord). slice_get xs c.args.place) (sym c.deref.ensures.value) ∙ sym c.in-Some.ensures.at) (sym c.agrees.ensures.agree ∙ c.if-not-agrees.false) (subst (IsInStep T) (sym c.self.view_is) c.requires.in_step))
 
 pub returns-else-not-agrees-clause-same : goal.returns-else-not-agrees-clause-same
 returns-else-not-agrees-clause-same c =
-    stamped_settled c.self.inside.changes.items c.self.inside.moments.items c.stamp.new.moments.items c.self.inside.by_instance.keys ∙ ap (map settled) c.self.view_is
+    stamped_settled c.self.inside.changes.items c.self.inside.moments.items c.stamp.new.moments.items c.self.inside.list.items ∙ ap (map settled) c.self.view_is
 
 pub returns-else-not-agrees-clause-kept : goal.returns-else-not-agrees-clause-kept
 returns-else-not-agrees-clause-kept c = λ p s.
     let changes = c.self.inside.changes.items in
     let moments = c.self.inside.moments.items in
-    let keys = c.self.inside.by_instance.keys in
+    let keys = c.self.inside.list.items in
     let long : c.len.result ≡ length changes = search rules in
     let stamped : c.stamp.new.moments.items ≡ slice_set moments c.args.place (length changes) = c.stamp.ensures.stamped ∙ ap (slice_set moments c.args.place) long in
     subst (λ ms. stands_at (standing changes ms keys) p ≡ true) (sym stamped) (stamped_kept changes moments keys c.args.place p (subst (λ rs. stands_at rs p ≡ true) (sym c.self.view_is) s))
@@ -47,8 +48,8 @@ pub returns-else-not-agrees-clause-stands : goal.returns-else-not-agrees-clause-
 returns-else-not-agrees-clause-stands c = λ e.
     let changes = c.self.inside.changes.items in
     let moments = c.self.inside.moments.items in
-    let keys = c.self.inside.by_instance.keys in
+    let keys = c.self.inside.list.items in
     let long : c.len.result ≡ length changes = search rules in
     let stamped : c.stamp.new.moments.items ≡ slice_set moments c.args.place (length changes) = c.stamp.ensures.stamped ∙ ap (slice_set moments c.args.place) long in
     subst (λ ms. stands_at (standing changes ms keys) c.args.place ≡ true) (sym stamped)
-    (stamped_stands changes moments keys c.args.place c.self.invariant.0.places (get_within keys moments c.args.place c.in-Some.record.now c.self.invariant.0.places (sym c.in-Some.ensures.key)))
+    (stamped_stands changes moments keys c.args.place c.self.invariant.0.places (get_within keys moments c.args.place c.in-Some.record.now c.self.invariant.0.places (ap (λ (xs : List PlainRecord). slice_get xs c.args.place) (sym c.deref.ensures.value) ∙ sym c.in-Some.ensures.at)))

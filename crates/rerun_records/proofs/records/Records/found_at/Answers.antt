@@ -8,8 +8,8 @@ use Rattle.rerun_records.proofs.records.Records.found_at.Goals as goal
 pub returns-else-not-is_of-clause-there : goal.returns-else-not-is_of-clause-there
 returns-else-not-is_of-clause-there c =
     ap (λ (xs : List PlainRecord). slice_get xs c.args.place)
-    (sym (ap (map settled) c.self.view_is) ∙ standing_settled c.self.inside.changes.items c.self.inside.moments.items c.self.inside.by_instance.keys ∙ c.self.invariant.0.settled_are)
-    ∙ sym c.in-Some.ensures.key
+    (sym (ap (map settled) c.self.view_is) ∙ standing_settled c.self.inside.changes.items c.self.inside.moments.items c.self.inside.list.items ∙ c.self.invariant.0.settled_are ∙ sym c.deref.ensures.value)
+    ∙ sym c.in-Some.ensures.at
 
 pub returns-else-not-is_of-clause-procedure : goal.returns-else-not-is_of-clause-procedure
 returns-else-not-is_of-clause-procedure c =

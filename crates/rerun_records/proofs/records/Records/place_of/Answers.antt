@@ -3,24 +3,24 @@ use Rattle.std.specs.Prelude.{slice_get}
 use Rattle.std.specs.List.{find}
 use Rattle.rerun_records.specs.Record.{PlainRecord, is_of, settled}
 use Rattle.rerun_records.proofs.Standing.{standing_settled, none_stands}
-use Rattle.rerun_records.proofs.Wholes.{found_of, of_procedure, of_arguments}
+use Rattle.rerun_records.proofs.Wholes.{of_procedure, of_arguments}
 use Rattle.rerun_records.proofs.records.Records.place_of.Goals as goal
 
 pub returns-in-Some-clause-there : goal.returns-in-Some-clause-there
 returns-in-Some-clause-there c =
     ap (λ (xs : List PlainRecord). slice_get xs c.in-Some.place)
-    (sym (ap (map settled) c.self.view_is) ∙ standing_settled c.self.inside.changes.items c.self.inside.moments.items c.self.inside.by_instance.keys ∙ c.self.invariant.0.settled_are)
-    ∙ c.in-Some.ensures.stored
+    (sym (ap (map settled) c.self.view_is) ∙ standing_settled c.self.inside.changes.items c.self.inside.moments.items c.self.inside.list.items ∙ c.self.invariant.0.settled_are ∙ sym c.deref.ensures.value)
+    ∙ c.in-Some.ensures.there
 
 pub returns-in-Some-clause-procedure : goal.returns-in-Some-clause-procedure
 returns-in-Some-clause-procedure c =
-    of_procedure c.args.procedure c.args.arguments.now c.in-Some.record.now (found_of c.args.procedure c.args.arguments.now c.self.inside.by_instance.keys c.in-Some.record.now (sym c.in-Some.ensures.key))
+    of_procedure c.args.procedure c.args.arguments.now c.in-Some.record.now c.in-Some.ensures.of
 
 pub returns-in-Some-clause-arguments : goal.returns-in-Some-clause-arguments
 returns-in-Some-clause-arguments c =
-    of_arguments c.args.procedure c.args.arguments.now c.in-Some.record.now (found_of c.args.procedure c.args.arguments.now c.self.inside.by_instance.keys c.in-Some.record.now (sym c.in-Some.ensures.key))
+    of_arguments c.args.procedure c.args.arguments.now c.in-Some.record.now c.in-Some.ensures.of
 
 pub returns-in-None-clause-none : goal.returns-in-None-clause-none
 returns-in-None-clause-none c =
     subst (λ (xs : List PlainRecord). find (is_of c.args.procedure c.args.arguments.now) xs ≡ None) c.self.view_is
-    (none_stands c.self.inside.changes.items c.args.procedure c.args.arguments.now c.self.inside.moments.items c.self.inside.by_instance.keys (sym c.in-None.ensures.key))
+    (none_stands c.self.inside.changes.items c.args.procedure c.args.arguments.now c.self.inside.moments.items c.self.inside.list.items (ap (find (is_of c.args.procedure c.args.arguments.now)) (sym c.deref.ensures.value) ∙ c.in-None.ensures.none))

@@ -5,5 +5,5 @@ use Rattle.rerun_records.proofs.records.Records.single.Goals as goal
 
 pub returns : goal.returns
 returns c = record {
-  single = subst AreSingle c.self.view_is (standing_single c.self.inside.changes.items c.self.inside.moments.items c.self.inside.by_instance.keys c.self.invariant.0.single);
+  single = subst AreSingle c.self.view_is (standing_single c.self.inside.changes.items c.self.inside.moments.items c.self.inside.list.items c.self.invariant.0.single);
 }

@@ -11,5 +11,5 @@ returns c = record {
       let moments = c.self.inside.moments.items in
       let long : c.len.result ≡ length changes = search rules in
       let stamped : slice_get moments c.args.place ≡ Some (length changes) = ap (λ (ms : List ℕ). slice_get ms c.args.place) (sym c.deref.ensures.value) ∙ c.is_stamped.ensures.stamped e ∙ ap Some long in
-      subst (λ rs. stands_at rs c.args.place ≡ true) c.self.view_is (current_stands changes moments c.self.inside.by_instance.keys c.args.place c.self.invariant.0.places stamped);
+      subst (λ rs. stands_at rs c.args.place ≡ true) c.self.view_is (current_stands changes moments c.self.inside.list.items c.args.place c.self.invariant.0.places stamped);
 }

@@ -10,7 +10,7 @@ pub stays_valid-requires : goal.stays_valid-requires
 stays_valid-requires c =
     let changes = c.self.inside.changes.items in
     let moments = c.self.inside.moments.items in
-    let keys = c.self.inside.by_instance.keys in
+    let keys = c.self.inside.list.items in
     let k = c.args.record.now in
     let there : slice_get keys c.args.place ≡ Some k =
     ap (λ (xs : List PlainRecord). slice_get xs c.args.place) (sym c.self.invariant.0.settled_are ∙ sym (standing_settled changes moments keys) ∙ ap (map settled) c.self.view_is) ∙ c.requires.there in
@@ -24,7 +24,7 @@ pub returns-then-not-stays_valid : goal.returns-then-not-stays_valid
 returns-then-not-stays_valid c =
     let changes = c.self.inside.changes.items in
     let moments = c.self.inside.moments.items in
-    let keys = c.self.inside.by_instance.keys in
+    let keys = c.self.inside.list.items in
     let k = c.args.record.now in
     let there : slice_get keys c.args.place ≡ Some k =
     ap (λ (xs : List PlainRecord). slice_get xs c.args.place) (sym c.self.invariant.0.settled_are ∙ sym (standing_settled changes moments keys) ∙ ap (map settled) c.self.view_is) ∙ c.requires.there in
@@ -38,7 +38,7 @@ pub returns : goal.returns
 returns c =
     let changes = c.self.inside.changes.items in
     let moments = c.self.inside.moments.items in
-    let keys = c.self.inside.by_instance.keys in
+    let keys = c.self.inside.list.items in
     let k = c.args.record.now in
     let there : slice_get keys c.args.place ≡ Some k =
     ap (λ (xs : List PlainRecord). slice_get xs c.args.place) (sym c.self.invariant.0.settled_are ∙ sym (standing_settled changes moments keys) ∙ ap (map settled) c.self.view_is) ∙ c.requires.there in
