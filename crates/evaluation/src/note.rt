@@ -1,7 +1,7 @@
 //! What was read of the tables.
 
 /// A reading, by the numbers of the table and the column, with what it held.
-#[derive(Clone, Copy, Debug, PartialEq, Eq, Hash)]
+#[derive(Clone, Copy, PartialEq, Eq, Hash)]
 pub enum Note {
     Cell {
         table: usize,

@@ -16,7 +16,7 @@ use linked_program::code::Expression;
 use meaning::{FaultKind, MOST_ITERATIONS};
 
 /// A loop's first number, and how many iterations it has.
-#[derive(Clone, Copy, Debug, PartialEq, Eq)]
+#[derive(Clone, Copy)]
 pub struct LoopRange {
     pub low: i64,
     pub count: u32,

@@ -3,7 +3,7 @@
 use meaning::FaultKind;
 
 /// No memory, or a fault of the program.
-#[derive(Clone, Copy, Debug, PartialEq, Eq)]
+#[derive(Clone, Copy)]
 pub enum Stop {
     NoMemory,
     Fault(FaultKind),

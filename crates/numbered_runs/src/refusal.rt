@@ -2,7 +2,7 @@
 use thiserror::Error;
 
 /// Why a step was not taken.
-#[derive(Clone, Copy, Debug, PartialEq, Eq, Error)]
+#[derive(Clone, Copy, Debug, Error)]
 pub enum Refusal {
     /// A growth was refused.
     #[error("out of memory")]
@@ -22,7 +22,7 @@ pub enum Refusal {
 }
 
 /// Why a run was not begun.
-#[derive(Clone, Copy, Debug, PartialEq, Eq, Error)]
+#[derive(Clone, Copy, Debug, Error)]
 pub enum StartError {
     /// A growth was refused.
     #[error("out of memory")]

@@ -5,7 +5,7 @@
 pub type Place = Vec<usize>;
 
 /// A step of a run, by a worker.
-#[derive(Drop, Debug)]
+#[derive(Drop)]
 pub enum Step {
     Work(usize),
     Push(usize),
@@ -19,7 +19,7 @@ pub enum Step {
 }
 
 /// Who holds a strand, or as what it was laid down.
-#[derive(Clone, Copy, Debug, PartialEq, Eq)]
+#[derive(Clone, Copy, Debug)]
 pub enum State {
     Held(usize),
     Ended,
@@ -29,7 +29,7 @@ pub enum State {
 }
 
 /// What changed the list of strands.
-#[derive(Drop, Debug)]
+#[derive(Drop)]
 pub enum BookStep {
     /// The victim's place, the new strand's place, and the thief.
     Split(Place, Place, usize),
@@ -42,7 +42,7 @@ pub enum BookStep {
 }
 
 /// A strand in the list: its place, and its state.
-#[derive(Drop, Debug)]
+#[derive(Drop)]
 pub struct StrandLine {
     pub place: Place,
     pub state: State,

@@ -2,7 +2,7 @@
 use meaning::FaultKind;
 
 /// What stopped a run, and the statement where it did: its procedure's number, and its own number in it.
-#[derive(Clone, Copy, Debug, PartialEq, Eq)]
+#[derive(Clone, Copy)]
 pub struct Fault {
     pub kind: FaultKind,
     pub procedure: usize,
@@ -11,7 +11,7 @@ pub struct Fault {
 
 /// What a strand's topmost instance does next: it is entered, does what it has left, has spawned a child, does its implicit
 /// sync, leaves, or does nothing after a fault.
-#[derive(Clone, Copy, Debug, PartialEq, Eq)]
+#[derive(Clone, Copy)]
 pub enum Phase {
     Entering,
     Running,
@@ -22,7 +22,7 @@ pub enum Phase {
 }
 
 /// What an advance came to: a small step, or the point at which there is none.
-#[derive(Clone, Copy, Debug, PartialEq, Eq)]
+#[derive(Clone, Copy)]
 pub enum Paused {
     Working,
     AtSpawn,

@@ -4,7 +4,7 @@ ghost use Rattle.positions.specs.Strands.{entry_by};
 
 /// A strand begins at the run's beginning, or behind the child of that number of the instance whose name is the first `depth`
 /// numbers of the topmost instance's name.
-#[derive(Clone, Copy, Debug, PartialEq, Eq)]
+#[derive(Clone, Copy, PartialEq, Eq)]
 pub enum Start {
     Root,
     Behind { depth: usize, child: usize },

@@ -4,7 +4,7 @@ use session_edits::Edit;
 use worker_core::{RunAnswer, Step};
 
 /// A command of a session.
-#[derive(Debug, Drop)]
+#[derive(Drop)]
 pub enum Command<'a> {
     Edit(Edit<'a>),
     /// A run by so many workers that take these steps.

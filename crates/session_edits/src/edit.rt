@@ -1,7 +1,7 @@
 // What an edit changes.
 
 /// An edit of the tables or of the program.
-#[derive(Debug, Drop)]
+#[derive(Drop)]
 pub enum Edit<'a> {
     /// A row is put into a table, in the place of the one of its number.
     Put {

@@ -203,7 +203,7 @@ pub fn to_pause(
 {
     let mut pool = no_kits(rt, alloc);
     for _ in 0..STEPS {
-        if strand.pause(program) != Paused::Working {
+        if !matches!(strand.pause(program), Paused::Working) {
             break;
         }
         advance(rt, alloc, program, tables, strand, &mut pool);

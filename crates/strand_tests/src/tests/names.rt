@@ -29,7 +29,7 @@ fn is_unfinished(alloc: Global, strand: &Strand<PlainView>) -> bool {
 fn is_first(rt: &impl Abort, alloc: Global, program: &Checked, strand: &Strand<PlainView>) {
     assert!(rt; begins_first(alloc, strand) && is_unfinished(alloc, strand));
     assert!(rt; strand.name().is_empty() && strand.is_behind(&[]) && !strand.is_behind(&[1]));
-    assert!(rt; strand.phase() == Phase::Entering && strand.returned().is_none());
+    assert!(rt; matches!(strand.phase(), Phase::Entering) && strand.returned().is_none());
     assert!(rt; !strand.at_update(program));
 }
 
