@@ -1,6 +1,5 @@
--- What the commands of the code say, and words as bytes.
-use Rattle.std.specs.Prelude.{ℕ, List, Option, Some, None, map, option_map}
-use Rattle.std.specs.Borrow.{Bor}
+-- What the commands of the code say.
+use Rattle.std.specs.Prelude.{ℕ, List, Option, Some, None, option_map}
 use Rattle.meaning.specs.Edits as e
 use Rattle.meaning.specs.Edits.{Define}
 use Rattle.meaning.specs.Script as s
@@ -24,9 +23,6 @@ maybe_said found = option_map said found
 -- what an edit says, if there is one
 abbrev pub said_edit : Option Edit → Option e.Edit
 said_edit found = option_map edits.said found
-
-abbrev pub bytes_of : List (Bor (List ℕ)) → List (List ℕ)
-bytes_of words = map (λ word. word.now) words
 
 -- the command that a line brings, if it brings one
 abbrev pub said_found : Found → Option s.Command

@@ -2,10 +2,11 @@
 ghost use Rattle.std.specs.Prelude.{◌≡◌, true, IfOk, IsUtf8};
 ghost use Rattle.meaning.specs.Every.{every};
 ghost use Rattle.meaning.specs.Script.{is_shown, number_of, numbers_of, put_of, delete_of, edit_of};
-ghost use Rattle.script_reader.specs.Said.{said_edit, bytes_of};
+ghost use Rattle.script_lines.specs.Words.{bytes_of};
+ghost use Rattle.script_reader.specs.Said.{said_edit};
 
 use crate::numbers::{number, numbers};
-use crate::words::text_of;
+use script_lines::words::text_of;
 use session_edits::Edit;
 use std::alloc::{AllocError, Global};
 

@@ -3,8 +3,6 @@
 
 pub mod command;
 mod edits;
-mod lines;
 mod numbers;
 pub mod open_script;
 pub mod script;
-mod words;

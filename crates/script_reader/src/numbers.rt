@@ -1,8 +1,8 @@
 // Numbers of a script: an optional `-` and decimal digits, of 64 bits.
 ghost use Rattle.std.specs.Prelude.{◌≡◌, ◌≤◌, IfOk, option_map, neg_ℤ, pos};
 ghost use Rattle.meaning.specs.Script.{is_digit, digits_up_to, number_of, numbers_of};
+ghost use Rattle.script_lines.specs.Words.{bytes_of};
 ghost use Rattle.script_reader.specs.Digits.{with_digit};
-ghost use Rattle.script_reader.specs.Said.{bytes_of};
 
 use std::alloc::{AllocError, Global};
 

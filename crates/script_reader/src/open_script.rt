@@ -7,7 +7,7 @@ ghost use Rattle.script_reader.specs.Said.{begun_of, maybe_said, said_found};
 
 use crate::command::Command;
 use crate::script::line_command;
-use crate::words::{are_only, words};
+use script_lines::words::{are_only, words};
 use std::alloc::{AllocError, Global};
 use std::marker::Model;
 

@@ -1,16 +1,18 @@
 // The commands of a script, line by line.
-ghost use Rattle.std.specs.Prelude.{◌≡◌, ◌<◌, ◌≤◌, ℕ, Some, [], ◌∷◌, ◌++◌, true, IfOk, IfSome, OnOk, map, codes};
+ghost use Rattle.std.specs.Prelude.{◌≡◌, ◌<◌, Some, ◌∷◌, ◌++◌, true, IfOk, IfSome, OnOk, map, codes};
 ghost use Rattle.std.specs.Option.{option_to_list};
 ghost use Rattle.meaning.specs.Every.{every};
-ghost use Rattle.meaning.specs.Script.{is_shown, are_only, words as words_of, command_of, line_command as command_in, define_from, commands as commands_of};
-ghost use Rattle.script_reader.specs.Said.{said, maybe_said, bytes_of};
-ghost use Rattle.script_reader.specs.Lines.{IsLine, text_of, lines_at};
-ghost use Rattle.script_reader.specs.Commands.{commands_at, defined_at};
+ghost use Rattle.meaning.specs.Script.{is_shown, are_only, words as words_of, command_of, line_command as command_in, commands as commands_of};
+ghost use Rattle.script_lines.specs.Words.{bytes_of};
+ghost use Rattle.script_lines.specs.Lines.{IsLine, text_of};
+ghost use Rattle.script_reader.specs.Said.{said, maybe_said};
+ghost use Rattle.script_reader.specs.Commands.{commands_at};
 
 use crate::command::Command;
 use crate::edits::edit;
-use crate::lines::{Line, first_line, next_line};
-use crate::words::{are_only, is_all_shown, is_comment, words};
+use script_lines::defines::end_of_define;
+use script_lines::lines::{Line, first_line, next_line};
+use script_lines::words::{are_only, is_all_shown, is_comment, words};
 use session_edits::Edit;
 use std::alloc::{AllocError, Global};
 
@@ -54,26 +56,6 @@ pub(crate) fn line_command<'a>(
         return Ok(Some(Command::Unknown(number, line)));
     }
     words_command(alloc, number, line, words)
-}
-
-// The line with the `end` of a define whose text begins at this line, if there is one.
-fn end_of_define(alloc: Global, script: &[u8], first: Line) -> Result<Option<Line>, AllocError>
-    requires { IsLine script.now first }
-    ensures line { IfOk result (λ end. IfSome end (IsLine script.now)) }
-    ensures further { IfOk result (λ end. IfSome end (λ line. first.begin ≤ line.begin)) }
-    ensures found { IfOk result (λ end. (begun : ℕ)
-        → define_from begun [] first.number (lines_at script.now (Some first))
-        ≡ defined_at script.now first.begin begun end) }
-{
-    let mut next = Some(first);
-    while let Some(line) = next {
-        let words = words(alloc, &script[line.begin..line.end])?;
-        if are_only(b"end", &words) {
-            return Ok(Some(line));
-        }
-        next = next_line(script, line);
-    }
-    Ok(None)
 }
 
 // The define that begins at this line, and the line behind it. Without an `end` its line is no command,

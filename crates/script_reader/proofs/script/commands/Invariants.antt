@@ -1,7 +1,7 @@
-use Rattle.std.proofs.Common.{◌≡◌, ◌++◌, true, IfSome, map}
+use Rattle.std.proofs.Common.{◌≡◌, ◌++◌, IfSome, map}
 use Rattle.meaning.specs.Script.{commands}
 use Rattle.script_reader.specs.Said.{said}
-use Rattle.script_reader.specs.Lines.{IsLine, left_from}
+use Rattle.script_lines.specs.Lines.{IsLine, left_from}
 use Rattle.script_reader.specs.Commands.{commands_at}
 use Rattle.script_reader.proofs.script.commands.Given as goal
 

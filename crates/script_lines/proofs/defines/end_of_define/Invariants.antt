@@ -1,8 +1,8 @@
-use Rattle.std.proofs.Common.{◌≡◌, ◌≤◌, ℕ, [], true, IfSome, drop}
+use Rattle.std.proofs.Common.{◌≡◌, ◌≤◌, ℕ, [], IfSome, drop}
 use Rattle.meaning.specs.Script.{lines, define_from}
-use Rattle.script_reader.specs.Lines.{IsLine, left_from}
-use Rattle.script_reader.specs.Commands.{define_going}
-use Rattle.script_reader.proofs.script.end_of_define.Given as goal
+use Rattle.script_lines.specs.Lines.{IsLine, left_from}
+use Rattle.script_lines.specs.Defines.{define_going}
+use Rattle.script_lines.proofs.defines.end_of_define.Given as goal
 
 abbrev pub invariant-loop-next : goal.invariant-loop-next
 invariant-loop-next l = record {

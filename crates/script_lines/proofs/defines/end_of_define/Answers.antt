@@ -1,9 +1,9 @@
 use Rattle.std.proofs.Common.{◌≡◌, ◌≤◌, ◌∙◌, ap, sym, false, true, codes}
 use Rattle.meaning.specs.Script.{are_only, words}
-use Rattle.script_reader.specs.Lines.{IsLine, text_of}
-use Rattle.script_reader.specs.Commands.{define_going}
-use Rattle.script_reader.proofs.Defines.{going_on, further_on, weaker, at_end}
-use Rattle.script_reader.proofs.script.end_of_define.Goals as goal
+use Rattle.script_lines.specs.Lines.{IsLine, text_of}
+use Rattle.script_lines.specs.Defines.{define_going}
+use Rattle.script_lines.proofs.DefineLines.{going_on, further_on, weaker, at_end}
+use Rattle.script_lines.proofs.defines.end_of_define.Goals as goal
 
 pub returns-then-are_only-clause-found : goal.returns-then-are_only-clause-found
 returns-then-are_only-clause-found c begun =

@@ -2,7 +2,7 @@
 ghost use Rattle.std.specs.Prelude.{◌≡◌, true, IfOk, IsUtf8};
 ghost use Rattle.meaning.specs.Every.{every};
 ghost use Rattle.meaning.specs.Script.{is_shown, is_comment, are_only, words as words_of};
-ghost use Rattle.script_reader.specs.Said.{bytes_of};
+ghost use Rattle.script_lines.specs.Words.{bytes_of};
 
 use std::alloc::{AllocError, Global};
 
@@ -13,7 +13,7 @@ fn is_shown(byte: u8) -> bool
 }
 
 /// Whether each byte of a line is a tab or one that is shown.
-pub(crate) fn is_all_shown(line: &[u8]) -> bool
+pub fn is_all_shown(line: &[u8]) -> bool
     ensures { result ≡ every is_shown line.now }
 {
     for byte in line {
@@ -25,14 +25,14 @@ pub(crate) fn is_all_shown(line: &[u8]) -> bool
 }
 
 /// Whether a line is a comment.
-pub(crate) fn is_comment(line: &[u8]) -> bool
+pub fn is_comment(line: &[u8]) -> bool
     ensures { result ≡ is_comment line.now }
 {
     line.first() == Some(&b'#')
 }
 
 /// The words of a line. Want of memory is the only error.
-pub(crate) fn words(alloc: Global, line: &[u8]) -> Result<Vec<&[u8]>, AllocError>
+pub fn words(alloc: Global, line: &[u8]) -> Result<Vec<&[u8]>, AllocError>
     ensures { IfOk result (λ found. bytes_of found.items ≡ words_of line.now) }
 {
     line.split(|byte| *byte == b' ' || *byte == b'\t')
@@ -41,14 +41,14 @@ pub(crate) fn words(alloc: Global, line: &[u8]) -> Result<Vec<&[u8]>, AllocError
 }
 
 /// Whether these words are this one and no other.
-pub(crate) fn are_only(word: &[u8], words: &[&[u8]]) -> bool
+pub fn are_only(word: &[u8], words: &[&[u8]]) -> bool
     ensures { result ≡ are_only word.now (bytes_of words.now) }
 {
     words.len() == 1 && words[0] == word
 }
 
 /// A word as text.
-pub(crate) fn text_of(word: &[u8]) -> &str
+pub fn text_of(word: &[u8]) -> &str
     requires { IsUtf8 word.now }
     ensures { result.now ≡ word.now }
 {

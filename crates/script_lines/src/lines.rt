@@ -1,10 +1,10 @@
 // The lines of a script, one after another.
 ghost use Rattle.std.specs.Prelude.{◌≡◌, ◌≤◌, ◌+◌, ◌-◌, ◌++◌, ◌∷◌, [], Some, IfSome, length, take, drop};
-ghost use Rattle.script_reader.specs.Lines.{end_from, IsLine, text_of, lines_at};
+ghost use Rattle.script_lines.specs.Lines.{end_from, IsLine, text_of, lines_at};
 
 /// A line of a script: its number, counted from 1, where it begins and where it ends.
 #[derive(Clone, Copy)]
-pub(crate) struct Line {
+pub struct Line {
     pub number: usize,
     pub begin: usize,
     pub end: usize,
@@ -41,7 +41,7 @@ fn line_at(script: &[u8], number: usize, begin: usize) -> Line
 }
 
 /// The first line of a script.
-pub(crate) fn first_line(script: &[u8]) -> Line
+pub fn first_line(script: &[u8]) -> Line
     ensures number { result.number ≡ 1 }
     ensures begin { result.begin ≡ 0 }
     ensures line { IsLine script.now result }
@@ -50,7 +50,7 @@ pub(crate) fn first_line(script: &[u8]) -> Line
 }
 
 /// The line behind a line, if there is one.
-pub(crate) fn next_line(script: &[u8], line: Line) -> Option<Line>
+pub fn next_line(script: &[u8], line: Line) -> Option<Line>
     requires { IsLine script.now line }
     ensures rest { lines_at script.now (Some line)
         ≡ text_of script.now line ∷ lines_at script.now result }

@@ -8,8 +8,8 @@ use Rattle.std.proofs.lemmas.List.{drop-drop, drop-take, take-take, take_more}
 use Rattle.std.proofs.lemmas.List.Splits.{slice_split_first, slice_split_none}
 use Rattle.std.proofs.lemmas.List.Sums.{fails_before_first, passes_at_first, prefix_len-le-length}
 use Rattle.meaning.specs.Script.{is_line_end, lines}
-use Rattle.script_reader.specs.declared.lines.Line.{Line}
-use Rattle.script_reader.specs.Lines.{end_from, IsLine, text_of}
+use Rattle.script_lines.specs.declared.lines.Line.{Line}
+use Rattle.script_lines.specs.Lines.{end_from, IsLine, text_of}
 
 -- two neighbouring stretches are one
 pub stretches : (xs : List ℕ) (a b c : ℕ) → a ≤ b → b ≤ c → take (b - a) (drop a xs) ++ take (c - b) (drop b xs) ≡ take (c - a) (drop a xs)

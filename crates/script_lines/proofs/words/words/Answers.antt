@@ -3,7 +3,7 @@ use Rattle.std.specs.Slice.Iter.{split_rest, split_done, split_callee}
 use Rattle.std.proofs.lemmas.Iterator.Consumers.{map_from_collect, YieldsList-from_filter}
 use Rattle.std.proofs.lemmas.Iterator.Splits.{YieldsList-from_slice_split}
 use Rattle.meaning.specs.Script.{is_filled}
-use Rattle.script_reader.proofs.words.words.Goals as goal
+use Rattle.script_lines.proofs.words.words.Goals as goal
 
 pub returns : goal.returns
 returns c =

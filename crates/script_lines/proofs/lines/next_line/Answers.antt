@@ -1,6 +1,6 @@
 use Rattle.std.proofs.Common.{arith}
-use Rattle.script_reader.proofs.Places.{begins_within, last_line, a_line, a_line_end}
-use Rattle.script_reader.proofs.lines.next_line.Goals as goal
+use Rattle.script_lines.proofs.Places.{begins_within, last_line, a_line, a_line_end}
+use Rattle.script_lines.proofs.lines.next_line.Goals as goal
 
 pub returns-then-line-script-clause-rest : goal.returns-then-line-script-clause-rest
 returns-then-line-script-clause-rest c =

@@ -2,7 +2,7 @@
 use Rattle.std.specs.Prelude.{ℕ, suc, ◌+◌, ◌-◌, ◌≡◌, ◌≤◌, List, [], Option, Some, None, length, take, drop}
 use Rattle.std.specs.List.{position_or_len}
 use Rattle.meaning.specs.Script.{is_line_end, lines}
-use Rattle.script_reader.specs.declared.lines.Line.{Line}
+use Rattle.script_lines.specs.declared.lines.Line.{Line}
 
 -- where the line ends that begins here
 abbrev pub end_from : List ℕ → ℕ → ℕ

@@ -1,5 +1,5 @@
-use Rattle.script_reader.proofs.Places.{before_length}
-use Rattle.script_reader.proofs.lines.line_at.Goals as goal
+use Rattle.script_lines.proofs.Places.{before_length}
+use Rattle.script_lines.proofs.lines.line_at.Goals as goal
 
 pub returns-clause-line : goal.returns-clause-line
 returns-clause-line c = record {

@@ -1,10 +1,10 @@
 -- The lines of a define, one after another.
 use Rattle.std.proofs.Common.{◌≡◌, ℕ, ◌+◌, ◌-◌, ◌≤◌, ◌<◌, true, false, List, [], ◌∷◌, ◌++◌, take, drop, refl, ap, ◌∙◌, arith, codes, Option, Some, None, IfSome, append_assoc}
 use Rattle.meaning.specs.Script.{lines, words, are_only, define_from}
-use Rattle.script_reader.specs.declared.lines.Line.{Line}
-use Rattle.script_reader.specs.Lines.{IsLine, text_of, lines_at}
-use Rattle.script_reader.specs.Commands.{defined_at, define_going}
-use Rattle.script_reader.proofs.Places.{stretches, line_split}
+use Rattle.script_lines.specs.declared.lines.Line.{Line}
+use Rattle.script_lines.specs.Lines.{IsLine, text_of, lines_at}
+use Rattle.script_lines.specs.Defines.{defined_at, define_going}
+use Rattle.script_lines.proofs.Places.{stretches, line_split}
 
 -- a line of the text, and not the last one
 pub going_on : (script : List ℕ) (begin begun : ℕ) (line : Line) (next : Option Line) → IsLine script line → begin ≤ line.begin

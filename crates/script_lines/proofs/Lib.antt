@@ -1,0 +1,2 @@
+pub mod DefineLines
+pub mod Places

@@ -1,0 +1,3 @@
+pub mod Defines
+pub mod Lines
+pub mod Words
