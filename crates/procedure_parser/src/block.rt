@@ -7,6 +7,7 @@ ghost use Rattle.token_readers.specs.Reading.{Gives};
 ghost use Rattle.procedure_parser.specs.Reading.{many_at, goes_on, else_at, if_at, keyword_at, statement_at, end_at, body_at, block_at};
 
 use crate::arguments::whole;
+use crate::expression::without;
 use crate::statement::{bind, entry, looping, return_value, update};
 use source_tree::{Expr, Statement};
 use std::alloc::Global;
@@ -26,8 +27,10 @@ fn otherwise<'a, 'b>(
     ensures { Gives (λ x. (stmt x.0, words x.1.now)) result (else_at (block_at nested) line (phrase condition) (stmts first.items) (words tokens.now)) }
 {
     if starts(tokens, Mark::Else) {
-        let (second, rest) = block(alloc, nested, rest_of(tokens))?;
-        return Ok((Statement::If(line, condition, first, second), rest));
+        return match block(alloc, nested, rest_of(tokens)) {
+            Err(stop) => Err(without(condition, stop)),
+            Ok((second, rest)) => Ok((Statement::If(line, condition, first, second), rest)),
+        };
     }
     let none = Vec::new(alloc);
     Ok((Statement::If(line, condition, first, none), tokens))
@@ -44,8 +47,10 @@ fn choice<'a, 'b>(
     ensures { Gives (λ x. (stmt x.0, words x.1.now)) result (if_at (block_at nested) line (words tokens.now)) }
 {
     let (condition, rest) = whole(alloc, tokens)?;
-    let (first, rest) = block(alloc, nested, rest)?;
-    otherwise(alloc, nested, line, condition, first, rest)
+    match block(alloc, nested, rest) {
+        Err(stop) => Err(without(condition, stop)),
+        Ok((first, rest)) => otherwise(alloc, nested, line, condition, first, rest),
+    }
 }
 
 #[cycle(blocks)]
@@ -103,8 +108,8 @@ fn block_end<'a, 'b>(
 {
     if starts(tokens, Mark::Return) {
         let (last, rest) = return_value(alloc, line_of(tokens), rest_of(tokens))?;
-        let rest = mark(rest, Mark::CloseBrace)?;
         statements.push(last)?;
+        let rest = mark(rest, Mark::CloseBrace)?;
         return Ok((statements, rest));
     }
     let rest = mark(tokens, Mark::CloseBrace)?;

@@ -74,11 +74,11 @@ pub fn parameters<'a, 'b>(
     ensures { Gives (λ x. (texts x.0.items, words x.1.now)) result (params_at (words tokens.now)) }
 {
     let rest = mark(tokens, Mark::OpenParen)?;
-    let mut all = Vec::new(alloc);
     if starts(rest, Mark::CloseParen) {
-        return Ok((all, rest_of(rest)));
+        return Ok((Vec::new(alloc), rest_of(rest)));
     }
     let (first, rest) = name(alloc, rest)?;
+    let mut all = Vec::new(alloc);
     all.push(first)?;
     let (all, rest) = more_parameters(alloc, MOST_PARAMETERS - 1, all, rest)?;
     let rest = mark(rest, Mark::CloseParen)?;

@@ -7,6 +7,7 @@ ghost use Rattle.token_readers.specs.Limits.{most_open, most_levels};
 ghost use Rattle.token_readers.specs.Reading.{Gives};
 ghost use Rattle.procedure_parser.specs.Reading.{limit_at, column_sum_at, after_name_at, row_at, has_at, plain_atom_at, atom_at, unary_at};
 ghost use Rattle.procedure_parser.specs.Reading.{term_at, sum_at, against_at, inside_at, expr_at};
+ghost use Rattle.procedure_parser.specs.Pieces.{column_at};
 
 use program_tree::Operator;
 use source_tree::{Expr, Measured};
@@ -43,6 +44,13 @@ fn is_full(more: usize) -> bool
     more == 0
 }
 
+/// Why reading stopped, behind what was read and is dropped: a call is proved in less time than a drop.
+pub(crate) fn without<T: Drop>(_read: T, stop: ParseError) -> ParseError
+    ensures { result ≡ stop }
+{
+    stop
+}
+
 /// An expression within the limits.
 #[cycle(reading)]
 #[tactic(auto, unfolding(crate::specs::Reading::expr_at, crate::specs::Reading::expr_with))]
@@ -76,10 +84,12 @@ fn against<'a, 'b>(
         return Ok((left, tokens));
     };
     if left.levels >= limits.room {
-        return Err(ParseError::Stuck(tokens.len()));
+        return Err(without(left, ParseError::Stuck(tokens.len())));
     }
-    let (right, rest) = sum(alloc, limits.lower(), rest_of(tokens))?;
-    Ok((joined(alloc, operation, left, right)?, rest))
+    match sum(alloc, limits.lower(), rest_of(tokens)) {
+        Err(stop) => Err(without(left, stop)),
+        Ok((right, rest)) => Ok((joined(alloc, operation, left, right)?, rest)),
+    }
 }
 
 #[cycle(reading)]
@@ -99,13 +109,16 @@ fn sum<'a, 'b>(
             return Ok((left, rest));
         };
         if left.levels >= limits.room {
-            return Err(ParseError::Stuck(rest.len()));
+            return Err(without(left, ParseError::Stuck(rest.len())));
         }
-        let (right, after) = term(alloc, limits.lower(), rest_of(rest))?;
+        let (right, after) = match term(alloc, limits.lower(), rest_of(rest)) {
+            Err(stop) => return Err(without(left, stop)),
+            Ok(read) => read,
+        };
         left = joined(alloc, operation, left, right)?;
         rest = after;
     }
-    Err(ParseError::Stuck(rest.len()))
+    Err(without(left, ParseError::Stuck(rest.len())))
 }
 
 #[cycle(reading)]
@@ -125,13 +138,16 @@ fn term<'a, 'b>(
             return Ok((left, rest));
         };
         if left.levels >= limits.room {
-            return Err(ParseError::Stuck(rest.len()));
+            return Err(without(left, ParseError::Stuck(rest.len())));
         }
-        let (right, after) = unary(alloc, limits.lower(), rest_of(rest))?;
+        let (right, after) = match unary(alloc, limits.lower(), rest_of(rest)) {
+            Err(stop) => return Err(without(left, stop)),
+            Ok(read) => read,
+        };
         left = joined(alloc, operation, left, right)?;
         rest = after;
     }
-    Err(ParseError::Stuck(rest.len()))
+    Err(without(left, ParseError::Stuck(rest.len())))
 }
 
 #[cycle(reading)]
@@ -170,8 +186,10 @@ fn atom<'a, 'b>(
 {
     if starts(tokens, Mark::OpenParen) {
         let (inner, rest) = inside(alloc, limits, tokens)?;
-        let rest = mark(rest, Mark::CloseParen)?;
-        return Ok((inner, rest));
+        return match mark(rest, Mark::CloseParen) {
+            Err(stop) => Err(without(inner, stop)),
+            Ok(rest) => Ok((inner, rest)),
+        };
     }
     plain_atom(alloc, limits, tokens)
 }
@@ -204,6 +222,18 @@ fn plain_atom<'a, 'b>(
     after_name(alloc, limits, x, rest)
 }
 
+/// A cell's column, behind the row.
+fn column<'a, 'b>(
+    alloc: Global,
+    tokens: &'b [Placed<'a>],
+) -> Result<(String, &'b [Placed<'a>]), ParseError>
+    ensures { Gives (λ x. (string_bytes x.0, words x.1.now)) result (column_at (words tokens.now)) }
+{
+    let rest = mark(tokens, Mark::CloseBracket)?;
+    let rest = mark(rest, Mark::Dot)?;
+    name(alloc, rest)
+}
+
 #[cycle(reading)]
 #[tactic(auto, unfolding(crate::specs::Reading::after_name_at))]
 fn after_name<'a, 'b>(
@@ -224,10 +254,10 @@ fn after_name<'a, 'b>(
         return Err(ParseError::Stuck(tokens.len()));
     }
     let (row, rest) = inside(alloc, limits.lower(), tokens)?;
-    let rest = mark(mark(rest, Mark::CloseBracket)?, Mark::Dot)?;
-    let (column, rest) = name(alloc, rest)?;
     let levels = row.levels + 1;
-    let expr = Expr::Cell(x, Box::new(alloc, row.expr)?, column);
+    let row = Box::new(alloc, row.expr)?;
+    let (column, rest) = column(alloc, rest)?;
+    let expr = Expr::Cell(x, row, column);
     Ok((Measured { expr, levels }, rest))
 }
 
@@ -299,9 +329,10 @@ fn row<'a, 'b>(
         return Err(ParseError::Stuck(tokens.len()));
     }
     let (row, rest) = inside(alloc, limits.lower(), tokens)?;
-    let rest = mark(rest, Mark::CloseBracket)?;
     let levels = row.levels + 1;
-    let expr = Expr::Has(x, Box::new(alloc, row.expr)?);
+    let row = Box::new(alloc, row.expr)?;
+    let rest = mark(rest, Mark::CloseBracket)?;
+    let expr = Expr::Has(x, row);
     Ok((Measured { expr, levels }, rest))
 }
 

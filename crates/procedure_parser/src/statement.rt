@@ -1,14 +1,16 @@
 //! Reads statements that hold no block.
 
-ghost use Rattle.std.specs.Prelude.{string_bytes, ◌≡◌, ◌≤◌, option_map, Option, Some, None, IfOk};
+ghost use Rattle.std.specs.Prelude.{string_bytes, ◌≡◌, ◌≤◌, ℕ, List, option_map, Option, Some, None, IfOk};
 ghost use Rattle.token_scanner.specs.Words.{words, rest, line_of, starts};
-ghost use Rattle.source_tree.specs.Source.{phrase, stmt};
+ghost use Rattle.source_tree.specs.Source.{Phrase, phrase, phrases, stmt, Loops};
 ghost use Rattle.procedure_parser.specs.Ranges.{ends};
+ghost use Rattle.procedure_parser.specs.Pieces.{high_at};
 ghost use Rattle.token_readers.specs.Reading.{Gives};
 ghost use Rattle.procedure_parser.specs.Reading.{entry_at, value_at, read_at, bound_at, bind_at, update_at, return_at, grain_at, range_at};
 ghost use Rattle.procedure_parser.specs.Reading.{iteration_at, loop_at};
 
 use crate::arguments::{arguments, expressions, whole};
+use crate::expression::without;
 use program_tree::Way;
 use source_tree::{Expr, Statement};
 use std::alloc::Global;
@@ -44,8 +46,10 @@ fn value<'a, 'b>(
     ensures { Gives (λ x. (stmt x.0, words x.1.now)) result (value_at line (string_bytes x) (words tokens.now)) }
 {
     let (value, rest) = whole(alloc, tokens)?;
-    let rest = mark(rest, Mark::Semicolon)?;
-    Ok((Statement::Bind(line, x, value), rest))
+    match mark(rest, Mark::Semicolon) {
+        Err(stop) => Err(without(value, stop)),
+        Ok(rest) => Ok((Statement::Bind(line, x, value), rest)),
+    }
 }
 
 #[tactic(auto, unfolding(crate::specs::Reading::read_at))]
@@ -120,8 +124,10 @@ pub fn return_value<'a, 'b>(
     ensures { Gives (λ x. (stmt x.0, words x.1.now)) result (return_at line (words tokens.now)) }
 {
     let (value, rest) = whole(alloc, tokens)?;
-    let rest = mark(rest, Mark::Semicolon)?;
-    Ok((Statement::Return(line, value), rest))
+    match mark(rest, Mark::Semicolon) {
+        Err(stop) => Err(without(value, stop)),
+        Ok(rest) => Ok((Statement::Return(line, value), rest)),
+    }
 }
 
 #[tactic(auto, unfolding(crate::specs::Reading::grain_at))]
@@ -129,11 +135,10 @@ fn grain<'a, 'b>(tokens: &'b [Placed<'a>]) -> Result<(u64, &'b [Placed<'a>]), Pa
     ensures exact { Gives (λ x. (x.0, words x.1.now)) result (grain_at (words tokens.now)) }
     ensures small { IfOk result (λ x. x.0 ≤ 65536) }
 {
-    if starts(tokens, Mark::Grain) {
-        within(1, 65536, rest_of(tokens))
-    } else {
-        Ok((1, tokens))
+    if !starts(tokens, Mark::Grain) {
+        return Ok((1, tokens));
     }
+    within(1, 65536, rest_of(tokens))
 }
 
 /// The two ends of a range.
@@ -141,6 +146,16 @@ fn grain<'a, 'b>(tokens: &'b [Placed<'a>]) -> Result<(u64, &'b [Placed<'a>]), Pa
 struct Ends {
     low: Expr,
     high: Expr,
+}
+
+fn high_end<'a, 'b>(
+    alloc: Global,
+    tokens: &'b [Placed<'a>],
+) -> Result<(Expr, &'b [Placed<'a>]), ParseError>
+    ensures { Gives (λ x. (phrase x.0, words x.1.now)) result (high_at (words tokens.now)) }
+{
+    let rest = mark(tokens, Mark::Range)?;
+    whole(alloc, rest)
 }
 
 #[tactic(auto, unfolding(crate::specs::Reading::range_at))]
@@ -151,29 +166,28 @@ fn range<'a, 'b>(
     ensures { Gives (λ x. (ends x.0, words x.1.now)) result (range_at (words tokens.now)) }
 {
     let (low, rest) = whole(alloc, tokens)?;
-    let rest = mark(rest, Mark::Range)?;
-    let (high, rest) = whole(alloc, rest)?;
-    Ok((Ends { low, high }, rest))
+    match high_end(alloc, rest) {
+        Err(stop) => Err(without(low, stop)),
+        Ok((high, rest)) => Ok((Ends { low, high }, rest)),
+    }
 }
 
+/// Behind a range: the grain, the procedure and the arguments.
 #[tactic(auto, unfolding(crate::specs::Reading::iteration_at))]
-fn iteration<'a, 'b>(
+fn turns<'a, 'b>(
     alloc: Global,
-    line: u32,
-    x: String,
-    range: Ends,
     tokens: &'b [Placed<'a>],
-) -> Result<(Statement, &'b [Placed<'a>]), ParseError>
-    ensures { Gives (λ x. (stmt x.0, words x.1.now)) result (iteration_at line (string_bytes x) (ends range) (words tokens.now)) }
+) -> Result<((u32, String, Vec<Expr>), &'b [Placed<'a>]), ParseError>
+    ensures { (line : ℕ) (x : List ℕ) (range : Phrase × Phrase)
+        → Gives (λ t. (Loops line x range.0 range.1 t.0.0 (string_bytes t.0.1) (phrases t.0.2.items), words t.1.now)) result
+        (iteration_at line x range (words tokens.now)) }
 {
     let (grain, rest) = grain(tokens)?;
     let rest = mark(rest, Mark::Colon)?;
     let (callee, rest) = name(alloc, rest)?;
     let (arguments, rest) = arguments(alloc, rest)?;
     let rest = mark(rest, Mark::Semicolon)?;
-    let (low, high) = (range.low, range.high);
-    let statement = Statement::Loop(line, x, low, high, grain as u32, callee, arguments);
-    Ok((statement, rest))
+    Ok(((grain as u32, callee, arguments), rest))
 }
 
 /// Behind `cilk_for`.
@@ -188,5 +202,13 @@ pub fn looping<'a, 'b>(
     let (x, rest) = name(alloc, tokens)?;
     let rest = mark(rest, Mark::In)?;
     let (range, rest) = range(alloc, rest)?;
-    iteration(alloc, line, x, range, rest)
+    match turns(alloc, rest) {
+        Err(stop) => Err(without(range, stop)),
+        Ok((turns, rest)) => {
+            let (grain, callee, arguments) = turns;
+            let (low, high) = (range.low, range.high);
+            let statement = Statement::Loop(line, x, low, high, grain, callee, arguments);
+            Ok((statement, rest))
+        }
+    }
 }
