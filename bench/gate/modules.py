@@ -23,8 +23,8 @@ def saved(crate):
     found = []
     for folder, _, names in os.walk(f"{TOP}/crates/{crate}/out/incremental"):
         for name in names:
-            if name.endswith(".decls.oantt"):
-                found.append((os.stat(f"{folder}/{name}").st_mtime, name.removesuffix(".decls.oantt")))
+            if name.endswith(".oantt"):
+                found.append((os.stat(f"{folder}/{name}").st_mtime, name.removesuffix(".oantt").removesuffix(".decls")))
     return sorted(found)
 
 
