@@ -5,10 +5,10 @@ mod book;
 mod folds;
 mod kept;
 mod laid;
-mod refusal;
+pub mod refusal;
 
 pub use book::Book;
-pub use refusal::Refusal;
+pub use refusal::{Mismatch, Refusal};
 pub use strand_list::error::{BookError, ReplayError};
 pub use strand_list::history::replay;
 pub use strand_list::rest::Rest;

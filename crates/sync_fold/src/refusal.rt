@@ -58,3 +58,9 @@ impl Refusal {
         self.error
     }
 }
+
+/// The list of strands refused a worker, as the refusal that it gave shows.
+#[derive(Clone, Copy, Debug, PartialEq, Eq)]
+pub struct Mismatch {
+    pub refusal: Refusal,
+}

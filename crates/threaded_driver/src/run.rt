@@ -36,10 +36,10 @@ use std::sync::ledger::Ledger;
 use std::thread;
 use std::thread::Threads;
 use stealing_deques::Deques;
+use sync_fold::Mismatch;
 use view_pool::{Kit, Pool, View};
 use worker_seats::beginning::{Blanks, NewDeques, deques_of};
 use worker_seats::ended::Ended;
-use worker_seats::failure::Mismatch;
 use worker_seats::kits::Stocked;
 use worker_seats::seat::Seat;
 

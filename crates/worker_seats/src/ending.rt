@@ -12,12 +12,12 @@ ghost use Rattle.worker_seats.specs.Over.{is_far, is_over, is_noted, is_refusal,
 ghost use Rattle.worker_seats.specs.declared.failure.Failure.TheVariants as reason;
 
 use crate::ended::{Ended, kept_of};
-use crate::failure::{Failure, Mismatch, mismatch_of};
+use crate::failure::{Failure, mismatch_of};
 use crate::kits::{KitsOf, RightPool, Stocked};
 use crate::table::Table;
 use right_strands::run::{Run, Scene};
 use std::alloc::Global;
-use sync_fold::Book;
+use sync_fold::{Book, Mismatch};
 use view_pool::{Kit, View};
 
 /// How a run has ended that gave up for that reason.

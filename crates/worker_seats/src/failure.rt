@@ -4,19 +4,13 @@ ghost use Rattle.sync_fold.specs.Refusals.{WasRefused, is_apart};
 ghost use Rattle.worker_seats.specs.Over.{has_failed, is_far, is_refusal, is_right};
 ghost use Rattle.worker_seats.specs.declared.failure.Failure.TheVariants as reason;
 
-use sync_fold::{BookError, Refusal};
+use sync_fold::{BookError, Mismatch, Refusal};
 
 /// Why a run gives up: a growth was refused, or the list of strands refused a worker for another reason.
 #[derive(Clone, Copy)]
 pub enum Failure {
     NoMemory,
     Refused(Refusal),
-}
-
-/// The list of strands refused a worker, as the refusal that it gave shows.
-#[derive(Clone, Copy, Debug, PartialEq, Eq)]
-pub struct Mismatch {
-    pub refusal: Refusal,
 }
 
 /// Why a run gives up that was refused a step so.
