@@ -207,7 +207,7 @@ def main(words):
         return plants(crate, rest)
     if verb == "--run":
         crate.held = []
-        return crate.run(JOBS, rest[:1], tests=crate.has_tests() and not crate.is_program)
+        return crate.run(JOBS, rest[:1], tests=crate.has_tests())
     if verb == "--lib":
         return make(crate)
     return crate.check(flags if "--jobs" in flags else [*flags, *JOBS])
