@@ -1,3 +1,4 @@
 pub mod Begun
+pub mod Formatted
 pub mod Headline
 pub mod Reports

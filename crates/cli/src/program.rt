@@ -12,6 +12,7 @@ ghost use Rattle.cli.specs.Reports.{ReportsRefusal, WritesNothing};
 
 use crate::asking::Asking;
 use crate::beginning::{BeginError, begin};
+use crate::formatting::format_file;
 use crate::sorts::Sort;
 use command_line::line::asked_by;
 use command_line::options::{Asked, Options};
@@ -19,12 +20,12 @@ use command_line::words::{held_words, lent};
 use kept_session::{Blocks, Session};
 use monoid_laws::Kind;
 use program_endings::failing::{failed, failed_file, no_memory};
-use program_endings::files::{FileSource, StandardError};
 use program_endings::program_error::{ProgramError, status};
 use program_endings::session_error::SessionError;
 use program_endings::streams::Failures;
-use program_formatter::formatting::format_file;
 use report_files::ReportFiles;
+use report_files::files::{FileSource, StandardError};
+use script_session::NoGate;
 use script_session::live::answer_lines;
 use script_session::runner::Runner;
 use script_session::session::answer_whole;
@@ -39,7 +40,6 @@ use std::process::ExitCode;
 use std::rt::Runtime;
 use std::sync::Wait;
 use std::thread::Threads;
-use threaded_driver::NoGate;
 use view_pool::View;
 
 /// What a report goes by: the runtime, where memory is from, and the options of its line.

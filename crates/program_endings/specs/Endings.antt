@@ -1,7 +1,7 @@
 -- By which errors the parts of a session may end.
 use Rattle.std.specs.Prelude.{◌≡◌, ◌⊎◌}
 use Rattle.strand_list.specs.declared.error.BookError.TheVariants as refusal
-use Rattle.worker_seats.specs.declared.failure.Mismatch as declared
+use Rattle.sync_fold.specs.declared.refusal.Mismatch as declared
 use Rattle.program_endings.specs.declared.session_error.SessionError.{SessionError}
 use Rattle.program_endings.specs.declared.session_error.SessionError.TheVariants.{NoMemory, NoKit, Mismatch, Read, Write, Notes}
 

@@ -1,8 +1,7 @@
-//! Why a session and the program end early, with which status; the files of the program, and the streams of a session, with which of them failed.
+//! Why a session and the program end early, with which status; the streams of a session, with which of them failed.
 #![tactic(auto)]
 
 pub mod failing;
-pub mod files;
 pub mod program_error;
 pub mod session_error;
 pub mod streams;

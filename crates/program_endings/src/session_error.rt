@@ -4,8 +4,8 @@ ghost use Rattle.program_endings.specs.declared.session_error.SessionError.TheVa
 ghost use Rattle.program_endings.specs.declared.session_error.SessionError.TheVariants as ended;
 
 use std::alloc::AllocError;
+use sync_fold::Mismatch;
 use thiserror::Error;
-use worker_seats::failure::Mismatch;
 
 /// Why a session ended before its script did.
 #[derive(Debug, Drop, Error)]

@@ -1,7 +1,9 @@
 //! The files of a report: what is read of them, and which of them may be emptied.
 #![tactic(auto)]
 
-use program_endings::files::{FileSource, SystemFiles};
+pub mod files;
+
+use crate::files::{FileSource, SystemFiles};
 use std::alloc::Global;
 use std::fs::Files;
 use std::io::{ErrorKind, Read};

@@ -4,3 +4,5 @@
 pub mod live;
 pub mod runner;
 pub mod session;
+
+pub use threaded_driver::NoGate;

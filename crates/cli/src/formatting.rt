@@ -3,16 +3,16 @@ ghost use Rattle.std.specs.Prelude.{◌≡◌, Err, true, IfErr, OnOk};
 ghost use Rattle.std.specs.Io.KnownBytes.{Appends, Keeps};
 ghost use Rattle.program_endings.specs.Endings.{IsWriterError};
 ghost use Rattle.program_endings.specs.Written.{HasBeginning};
-ghost use Rattle.program_formatter.specs.Formatted.{IsFormattedOver, IsBegunOver, IsUnformatted, IsFormatError, IsEarly, IsRefusal};
+ghost use Rattle.cli.specs.Formatted.{IsFormattedOver, IsBegunOver, IsUnformatted, IsFormatError, IsEarly, IsRefusal};
 
 use prepared_program::prepare::PrepareError;
 use printing_theory::normal_form;
 use procedure_parser::TextError;
 use program_endings::failing::{failed, no_memory};
-use program_endings::files::FileSource;
 use program_endings::program_error::ProgramError;
 use program_endings::session_error::SessionError;
 use program_endings::streams::{Failures, flush, write_whole};
+use report_files::files::FileSource;
 use std::alloc::Global;
 use std::io;
 use std::io::{BufWriter, Write};
