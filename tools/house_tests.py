@@ -1,5 +1,5 @@
-"""Tests of the house: how wide clauses are, how many parameters a function takes, that docs/CHANGING.md names files that are there, and
-that docs/GUARANTEES.md says how many the headline reaches."""
+"""Tests of the house: how wide clauses are, how many parameters a function takes, how many ways lead down from crate to crate, that
+docs/CHANGING.md names files that are there, and that docs/GUARANTEES.md says how many the headline reaches."""
 import glob
 import os
 import re
@@ -7,6 +7,8 @@ import unittest
 
 TOP = os.path.dirname(os.path.dirname(os.path.realpath(__file__)))
 WIDEST, MOST = 160, 7
+# Libraries that lead down to others along more ways than this, all together, are too dear to sum for one build of the kit.
+WAYS = 1_000_000
 OPEN, CLOSE = "([{<", ")]}>"
 
 
@@ -67,7 +69,25 @@ def reached(first):
     return found
 
 
+def ways():
+    """How many ways lead down from each crate, itself counted as one, along the lines of crates.txt."""
+    with open(f"{TOP}/crates.txt", encoding="utf-8") as file:
+        below = {name: names.split() for name, names in re.findall(r"^(\w+):(.*)$", file.read(), re.MULTILINE)}
+    found = {}
+
+    def count(crate):
+        if crate not in found:
+            found[crate] = 1 + sum(count(name) for name in below[crate] if name in below)
+        return found[crate]
+
+    return {crate: count(crate) for crate in below}
+
+
 class House(unittest.TestCase):
+    def test_few_ways_lead_down(self):
+        libraries = [crate for crate in ways() if os.path.isfile(f"{TOP}/crates/{crate}/src/lib.rt")]
+        self.assertLess(sum(ways()[crate] for crate in libraries), WAYS)
+
     def test_clauses_and_definitions_are_narrow(self):
         for pattern in ("src/**/*.rt", "specs/**/*.antt"):
             for path, text in sources(pattern):
