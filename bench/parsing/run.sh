@@ -3,5 +3,5 @@
 # folder, as LLVM builds it, in a copy of the crates that it stands on. The copy is thrown away.
 set -eu
 source "$(dirname "$0")/../in_a_copy.sh"
-in_a_copy parsing 'procedure_parser program_printer program_tree'
+in_a_copy parsing 'procedure_parser program_printer meaning'
 "${RT:-rt}" run

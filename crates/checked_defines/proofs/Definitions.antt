@@ -2,9 +2,9 @@
 use Rattle.std.proofs.Common.{◌≡◌, ℕ, ◌≤◌, nat_lt, Bool, false, List, [], Option, Some, None, map, Result, Ok, Err, option_map, sym, ap, subst, ◌∙◌}
 use Rattle.std.proofs.lemmas.Bool.{le-ltb}
 use Rattle.std.specs.Prelude.{string_bytes}
-use Rattle.program_tree.specs.Plain.{Name, Red, Tree}
-use Rattle.program_tree.specs.declared.Program.{Program}
-use Rattle.program_tree.specs.View.{tree, lines, Lined}
+use Rattle.meaning.specs.Tree.{Name, Red, Tree}
+use Rattle.meaning.specs.declared.tree.Program.{Program}
+use Rattle.meaning.specs.TreeView.{tree, lines, Lined}
 use Rattle.meaning.specs.Records.{Revised}
 use Rattle.meaning.specs.Statements.{reducers}
 use Rattle.meaning.specs.Edits.{most, revised, unless, with_program, checked_as, defined_as, Exhausted, after_define}

@@ -1,7 +1,7 @@
 -- Procedures that stand where they stood have the numbers that they had.
 use Rattle.std.proofs.Common.{◌≡◌, ℕ, suc, true, false, nat_eq, cond, ◌||◌, List, [], ◌∷◌, ◌++◌, Some, map, refl, sym, ap, ◌∙◌}
 use Rattle.std.specs.Str.{bytes_eq}
-use Rattle.program_tree.specs.Plain.{Name, Proc, reducer, procedure, Tree}
+use Rattle.meaning.specs.Tree.{Name, Proc, reducer, procedure, Tree}
 use Rattle.meaning.specs.Statements.{procedure_of}
 use Rattle.meaning.specs.Tables.{is_there}
 use Rattle.linked_program.specs.TableNames.{has_name}
@@ -9,7 +9,7 @@ use Rattle.linked_program.specs.Procedures.{procedures}
 use Rattle.linked_program.specs.Checked.{PlainChecked, IsChecked, names_in}
 use Rattle.linked_program.specs.Linked.{procedure_number}
 use Rattle.meaning.specs.Records.{is_current}
-use Rattle.program_tree.specs.View.{tree}
+use Rattle.meaning.specs.TreeView.{tree}
 use Rattle.checked_defines.specs.Standings.{called_in, KeepsPlaces, KeepsNumbers, CurrentAreThere}
 
 name_number : List Name → Name → ℕ

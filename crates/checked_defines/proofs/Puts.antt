@@ -4,8 +4,8 @@ use Rattle.std.specs.Prelude.{insert, slice_set}
 use Rattle.std.proofs.lemmas.List.{append-nil}
 use Rattle.std.proofs.lemmas.Slice.Eq.{bytes_eq-Decides}
 use Rattle.std.specs.Str.{bytes_eq}
-use Rattle.program_tree.specs.Plain.{Name, Proc, Red, Decl, reducer, procedure, Tree}
-use Rattle.program_tree.specs.View.{Lined}
+use Rattle.meaning.specs.Tree.{Name, Proc, Red, Decl, reducer, procedure, Tree}
+use Rattle.meaning.specs.TreeView.{Lined}
 use Rattle.meaning.specs.Statements.{reducers}
 use Rattle.source_tree.specs.Source.{Reduces, Defines, Source, stmts_of}
 use Rattle.source_tree.specs.Lowering.{lower_proc, body_lines}

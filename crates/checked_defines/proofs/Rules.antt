@@ -1,7 +1,7 @@
 -- The checker finds what the rules say.
 use Rattle.std.proofs.Common.{◌≡◌, List, [], Option, Some, None, option_map, refl, sym, ap}
-use Rattle.program_tree.specs.Plain.{Tree}
-use Rattle.program_tree.specs.View.{Lined}
+use Rattle.meaning.specs.Tree.{Tree}
+use Rattle.meaning.specs.TreeView.{Lined}
 use Rattle.meaning.specs.Tables.{Tables}
 use Rattle.meaning.specs.Edits as edits
 use Rattle.linked_program.specs.declared.violation.Violation.{Violation}

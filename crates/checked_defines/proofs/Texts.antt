@@ -1,8 +1,8 @@
 -- The reader of texts that define procedures gives what the grammar says.
 use Rattle.std.proofs.Common.{◌≡◌, ℕ, nat_lt, Bool, true, false, cond, List, [], length, inl, inr, Result, Ok, Err, refl, sym, ap, ◌∙◌}
 use Rattle.std.proofs.lemmas.Bool.{ltb-true, ltb-false, lt-ltb, le-ltb}
-use Rattle.program_tree.specs.View.{Lined}
-use Rattle.program_tree.specs.Plain.{Tree}
+use Rattle.meaning.specs.TreeView.{Lined}
+use Rattle.meaning.specs.Tree.{Tree}
 use Rattle.token_scanner.specs.Words.{Words}
 use Rattle.token_scanner.specs.Scanning.{tokens_of, longest_text}
 use Rattle.source_tree.specs.Source.{Source}

@@ -1,7 +1,7 @@
 -- How a text's procedures are put into a program, and how a program is checked: the two that the definitions of edits leave open.
 use Rattle.std.specs.Prelude.{◌≡◌, ◌↔◌, ℕ, nat_lt, cond, List, [], Some, None, Result, Ok, Err, length, option_map}
-use Rattle.program_tree.specs.Plain.{Tree}
-use Rattle.program_tree.specs.View.{Lined}
+use Rattle.meaning.specs.Tree.{Tree}
+use Rattle.meaning.specs.TreeView.{Lined}
 use Rattle.meaning.specs.Tables.{Tables}
 use Rattle.meaning.specs.Edits.{TextReader, Checker}
 use Rattle.meaning.specs.Edits as edits

@@ -1,8 +1,8 @@
 -- What a checked program and its tables stand for, and what procedures that are put in leave as it was.
 use Rattle.std.specs.Prelude.{◌≡◌, ℕ, true, List, [], ◌++◌, map, Result, Ok}
-use Rattle.program_tree.specs.Plain.{Name, Tree}
-use Rattle.program_tree.specs.declared.Program.{Program}
-use Rattle.program_tree.specs.View.{Lined, lines, tree}
+use Rattle.meaning.specs.Tree.{Name, Tree}
+use Rattle.meaning.specs.declared.tree.Program.{Program}
+use Rattle.meaning.specs.TreeView.{Lined, lines, tree}
 use Rattle.meaning.specs.Edits.{Standing, EditRefusal, defined_as}
 use Rattle.meaning.specs.Records.{is_current}
 use Rattle.meaning.specs.Statements.{procedure_of}

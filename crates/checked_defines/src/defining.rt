@@ -1,7 +1,7 @@
 //! Defines procedures of a checked program.
 ghost use Rattle.std.specs.Prelude.{◌≡◌, Ok, IfOk, IfErr};
 ghost use Rattle.meaning.specs.Edits.{after_define};
-ghost use Rattle.program_tree.specs.View.{tree, lines};
+ghost use Rattle.meaning.specs.TreeView.{tree, lines};
 ghost use Rattle.linked_program.specs.TableNames.{columned_of};
 ghost use Rattle.linked_program.specs.Checked.{revised_of};
 ghost use Rattle.trail_theory.specs.KeptRecords.{RecordsStaySound};
@@ -14,7 +14,7 @@ use crate::refusal::{DefineError, unchecked, unread};
 use input_tables::Tables;
 use linked_program::checked::Checked;
 use procedure_parser::parse_define;
-use program_tree::Program;
+use meaning::tree::Program;
 use spawn_checker::redefine;
 use std::alloc::Global;
 

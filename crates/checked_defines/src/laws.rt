@@ -1,8 +1,8 @@
 //! What the reader and the checker of the definitions' edits are, each as the contract of a function that does nothing.
 ghost use Rattle.std.specs.Prelude.{◌≡◌, List, []};
-ghost use Rattle.program_tree.specs.View.{Lined};
+ghost use Rattle.meaning.specs.TreeView.{Lined};
 ghost use Rattle.meaning.specs.Statements.{reducers};
-ghost use Rattle.program_tree.specs.Plain.{Tree};
+ghost use Rattle.meaning.specs.Tree.{Tree};
 ghost use Rattle.source_tree.specs.Source.{Source};
 ghost use Rattle.program_edits.specs.Putting.{put_all};
 ghost use Rattle.linked_program.specs.Checked.{PlainChecked, IsChecked};

@@ -1,7 +1,7 @@
 -- The headline: what `report_on` promises where it answers Ok, from the bytes of two files and of a script to the bytes that were written.
 use Rattle.std.specs.Prelude.{◌≡◌, ℕ, ◌+◌, List, [], ◌∷◌, ◌++◌, Option, Some, IsUtf8}
 use Rattle.std.specs.Io.KnownBytes.{Appends}
-use Rattle.program_tree.specs.View.{lines}
+use Rattle.meaning.specs.TreeView.{lines}
 use Rattle.meaning.specs.Tables.{Tables}
 use Rattle.meaning.specs.Statements.{reducers}
 use Rattle.meaning.specs.Elision.{from_scratch}

@@ -2,7 +2,7 @@
 #![tactic(auto)]
 
 use anyhow::{Context, Result, bail};
-use frames::answer::RunAnswer;
+use positions::answer::RunAnswer;
 use input_tables::Tables;
 use kept_session::Session;
 use monoid_laws::{Kind, Val};

@@ -2,7 +2,7 @@
 use Rattle.std.proofs.Common.{◌≡◌, ℤ, List, [], ◌++◌, Option, Some, None, Result, Ok, Err, IfSome, ap, sym, ◌∙◌, append-nil}
 use Rattle.std.proofs.Math.Seq.{take-length}
 use Rattle.std.specs.Prelude.{slice_get}
-use Rattle.program_tree.specs.declared.Operator.{Operator}
+use Rattle.meaning.specs.declared.tree.Operator.{Operator}
 use Rattle.meaning.specs.Tables.{Tables, row_of, at_column}
 use Rattle.input_tables.specs.Edited.{rows_at, cell_at}
 use Rattle.linked_program.specs.declared.code.RowCells.{RowCells}

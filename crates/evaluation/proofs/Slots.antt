@@ -1,7 +1,7 @@
 -- Slots and the names' values that they mean.
 use Rattle.std.proofs.Common.{◌≡◌, ℕ, zero, suc, ◌-◌, ℤ, List, [], ◌∷◌, ◌++◌, map, replicate, take, length, refl, sym, ◌∙◌, ap, arith}
 use Rattle.std.specs.Prelude.{slice_get, slice_set}
-use Rattle.program_tree.specs.Plain.{Name}
+use Rattle.meaning.specs.Tree.{Name}
 use Rattle.meaning.specs.SmallStep.{slot, set_into}
 use Rattle.meaning.specs.SmallStep as definitions
 use Rattle.meaning.specs.Statements.{fresh}

@@ -1,6 +1,6 @@
 -- Names and numbers: an evaluation of the definitions as one by numbers.
 use Rattle.std.specs.Prelude.{◌≡◌, ℕ, ℤ, List, [], ◌∷◌, map, length, slice_set}
-use Rattle.program_tree.specs.Plain.{Name, Term}
+use Rattle.meaning.specs.Tree.{Name, Term}
 use Rattle.meaning.specs.declared.FaultKind.{FaultKind}
 use Rattle.meaning.specs.Tables.{Tables}
 use Rattle.meaning.specs.Outcome.{Log, Out, Reads, Reading, CellHeld, HasHeld, LimitHeld, SumHeld}

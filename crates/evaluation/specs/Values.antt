@@ -1,7 +1,7 @@
 -- The values of expressions whose names are numbers, with what was read on the way.
 use Rattle.std.specs.Prelude.{ℕ, nat_le, ℤ, cond, List, [], ◌∷◌, ◌++◌, Option, Some, None, Result, Ok, Err, slice_get}
 use Rattle.std.specs.Int.{w64, int_wrapping_neg}
-use Rattle.program_tree.specs.declared.Operator.{Operator}
+use Rattle.meaning.specs.declared.tree.Operator.{Operator}
 use Rattle.meaning.specs.declared.FaultKind.{FaultKind}
 use Rattle.meaning.specs.declared.FaultKind.TheVariants.{MissingRow, RangeTooLong}
 use Rattle.meaning.specs.Tables.{Tables}

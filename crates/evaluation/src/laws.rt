@@ -1,6 +1,6 @@
 //! What follows from the definitions alone, each as the contract of a function that does nothing.
 ghost use Rattle.std.specs.Prelude.{ℕ, ℤ, List};
-ghost use Rattle.program_tree.specs.Plain.{Name, Term};
+ghost use Rattle.meaning.specs.Tree.{Name, Term};
 ghost use Rattle.meaning.specs.Outcome.{Out};
 ghost use Rattle.meaning.specs.Statements.{Job, bounds, turn_values};
 ghost use Rattle.meaning.specs.Tables.{Tables};

@@ -4,7 +4,7 @@ ghost use Rattle.std.specs.Prelude.{◌≡◌};
 ghost use Rattle.meaning.specs.Values.{apply, one_if};
 
 use meaning::FaultKind;
-use program_tree::Operator;
+use meaning::tree::Operator;
 
 /// 1 for true, 0 for false.
 pub(crate) fn one_if(holds: bool) -> i64

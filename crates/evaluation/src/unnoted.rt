@@ -13,7 +13,7 @@ use crate::values::{joined, number_in};
 use input_tables::Tables;
 use linked_program::code::{Expression, RowCells};
 use meaning::FaultKind;
-use program_tree::Operator;
+use meaning::tree::Operator;
 
 /// The value of an expression, or its fault; that of a form without boxes without a call of `evaluate`.
 #[inline(always)]

@@ -17,7 +17,7 @@ use crate::stop::Stop;
 use input_tables::Tables;
 use linked_program::code::{Expression, RowCells};
 use meaning::FaultKind;
-use program_tree::Operator;
+use meaning::tree::Operator;
 
 /// The value of an expression, or its fault; what it reads is noted. Where memory is refused the notes are as they were.
 #[inline(always)]

@@ -6,7 +6,7 @@ use crate::rules::{push_line, push_rule};
 use crate::statements::{procedure_called, push_statement, statement_on};
 use linked_program::violation::Rule;
 use procedure_parser::parse;
-use program_tree::Program;
+use meaning::tree::Program;
 use std::alloc::{AllocError, Global};
 use std::fmt::Write;
 use token_scanner::{LONGEST_TEXT, Mark, Placed, Token, tokens};

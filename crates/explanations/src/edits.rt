@@ -3,7 +3,7 @@
 use crate::defines::{push_bad_define, push_broken};
 use crate::rules::push_line;
 use input_tables::{RowError, Tables};
-use program_tree::Program;
+use meaning::tree::Program;
 use session_edits::{Edit, EditError};
 use std::alloc::{AllocError, Global};
 use std::fmt::Write;

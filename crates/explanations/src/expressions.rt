@@ -1,6 +1,6 @@
 //! Expressions, as a text might have them.
 
-use program_tree::{Expr, Operator, Procedure};
+use meaning::tree::{Expr, Operator, Procedure};
 use std::alloc::AllocError;
 use std::fmt::Write;
 

@@ -4,7 +4,7 @@ use crate::rules::push_line;
 use crate::statements::{procedure_at, push_statement, statement_at};
 use meaning::FaultKind;
 use monoid_laws::Kind;
-use program_tree::{Action, Declaration, Program, Statement};
+use meaning::tree::{Action, Declaration, Program, Statement};
 use std::alloc::AllocError;
 use std::fmt::Write;
 

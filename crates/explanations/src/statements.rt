@@ -1,7 +1,7 @@
 //! Statements, as a text might have them.
 
 use crate::expressions::{push_expression, variable};
-use program_tree::{Action, Declaration, Expr, Procedure, Program, Statement, Way};
+use meaning::tree::{Action, Declaration, Expr, Procedure, Program, Statement, Way};
 use std::alloc::AllocError;
 use std::fmt::Write;
 

@@ -16,8 +16,8 @@ use Rattle.positions.specs.Tallies.{PlainTally}
 use Rattle.positions.specs.Strands.{PlainStrand}
 use Rattle.positions.specs.Stands.{AreNotes, IsTally, AreParents, StandsAt, named_fault}
 use Rattle.strand_moves.specs.Ends.{left_by}
-use Rattle.frames.specs.declared.answer.RunAnswer.{RunAnswer}
-use Rattle.frames.specs.declared.answer.RunAnswer.TheVariants as answer
+use Rattle.positions.specs.declared.answer.RunAnswer.{RunAnswer}
+use Rattle.positions.specs.declared.answer.RunAnswer.TheVariants as answer
 use Rattle.frames.specs.Answers.{Ending, over, stopped, underway, ending_at, ending_of, IsAnswer, HasLeft, Answers, IsAnswerOf}
 
 module _ (setting : Setting) where

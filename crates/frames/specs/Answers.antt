@@ -15,8 +15,8 @@ use Rattle.positions.specs.Activations.{PlainActivation}
 use Rattle.positions.specs.Tallies.{PlainTally}
 use Rattle.positions.specs.Strands.{PlainStrand}
 use Rattle.positions.specs.Stands.{StandsFor, named_fault}
-use Rattle.frames.specs.declared.answer.RunAnswer.{RunAnswer}
-use Rattle.frames.specs.declared.answer.RunAnswer.TheVariants as answer
+use Rattle.positions.specs.declared.answer.RunAnswer.{RunAnswer}
+use Rattle.positions.specs.declared.answer.RunAnswer.TheVariants as answer
 
 -- how a run ends: with a result, by a fault, or not yet
 pub data Ending : Type 0 where

@@ -8,7 +8,7 @@ ghost use Rattle.positions.specs.Simulation.{IsAlone};
 ghost use Rattle.strand_moves.specs.Joins.{HasFault};
 ghost use Rattle.frames.specs.Answers.{ending_of, over, IsAnswer, IsAnswerOf};
 
-use crate::answer::RunAnswer;
+use positions::answer::RunAnswer;
 use crate::strand::Strand;
 use positions::phase::Phase;
 use rerun_records::record::Record;

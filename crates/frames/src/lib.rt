@@ -3,7 +3,6 @@
 
 mod advance;
 mod ahead;
-pub mod answer;
 mod answering;
 mod ending;
 mod joining;

@@ -1,6 +1,6 @@
 -- What an accepted edit leaves.
 use Rattle.std.proofs.Common.{◌≡◌, ℕ, suc, ap, sym, ◌∙◌, refl}
-use Rattle.program_tree.specs.Plain.{Name}
+use Rattle.meaning.specs.Tree.{Name}
 use Rattle.meaning.specs.Tables.{Listed, index_of}
 use Rattle.input_tables.specs.Edited.{Edited, edited, changed_at, names_of}
 use Rattle.input_tables.proofs.Numbered.{changed_at-place}

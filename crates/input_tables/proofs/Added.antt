@@ -1,7 +1,7 @@
 -- What a table that is added is in a document.
 use Rattle.std.proofs.Common.{◌≡◌, suc, List, [], ◌∷◌, ◌++◌, Bool, true, false, not, Option, Some, None, length, refl, ap, sym, ◌∙◌, nat_eq, nat_le, ◌&&◌, cond}
 use Rattle.std.proofs.lemmas.List.{append-nil, append_assoc}
-use Rattle.program_tree.specs.Plain.{Name}
+use Rattle.meaning.specs.Tree.{Name}
 use Rattle.meaning.specs.Tables.{index_of}
 use Rattle.input_tables.specs.Names.{is_name}
 use Rattle.input_tables.specs.Shapes.{given, passing, item_count, columns_from, columns_in, table_in}

@@ -1,6 +1,6 @@
 -- A table in a document whose members and columns are known.
 use Rattle.std.proofs.Common.{◌≡◌, List, length, Some, String, Global, refl, codes}
-use Rattle.program_tree.specs.Plain.{Name}
+use Rattle.meaning.specs.Tree.{Name}
 use Rattle.toml.specs.Data.{Items}
 use Rattle.toml.specs.View.{members_view}
 use Rattle.toml.specs.declared.value.Value.{Value}

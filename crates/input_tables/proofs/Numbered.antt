@@ -2,7 +2,7 @@
 use Rattle.std.proofs.Common.{◌≡◌, ℕ, zero, suc, ℤ, List, [], ◌∷◌, length, Option, Some, None, Bool, true, false, cond, refl, ap, sym, ◌∙◌, subst, ◌≤◌, drop, arith}
 use Rattle.std.specs.Prelude.{slice_get, slice_set}
 use Rattle.std.specs.Str.{bytes_eq}
-use Rattle.program_tree.specs.Plain.{Name}
+use Rattle.meaning.specs.Tree.{Name}
 use Rattle.meaning.specs.Tables.{Tables, Listed, rows_of, columns_of, index_of, cell_of, has_row, limit_of, sum_of}
 use Rattle.meaning.specs.Edits.{table_of, table_changed}
 use Rattle.input_tables.specs.Rows.{Row}

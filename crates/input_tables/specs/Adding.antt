@@ -1,7 +1,7 @@
 -- Tables that are added one by one, under the rules of a document's tables, and the document's table that each one is.
 use Rattle.std.specs.Prelude.{◌≡◌, List, [], ◌∷◌, ◌++◌, length, Bool, true, false, not, ◌&&◌, nat_eq, nat_le, Option, Some, None, codes}
 use Rattle.toml.specs.Data.{Data, string, array, table, Items, no_items, item, no_members, member}
-use Rattle.program_tree.specs.Plain.{Name}
+use Rattle.meaning.specs.Tree.{Name}
 use Rattle.meaning.specs.Tables.{Tables, Listed, index_of, is_there}
 use Rattle.meaning.specs.Edits.{table_of}
 use Rattle.input_tables.specs.Names.{is_name}

@@ -7,7 +7,7 @@ use Rattle.toml.specs.Data.{Data, Members, no_members, member}
 use Rattle.toml.specs.Parse.{parse_document}
 use Rattle.toml.specs.View.{view}
 use Rattle.toml.specs.declared.value.Value.{Value}
-use Rattle.program_tree.specs.Plain.{Name}
+use Rattle.meaning.specs.Tree.{Name}
 use Rattle.meaning.specs.Tables.{Tables, Listed}
 use Rattle.input_tables.specs.Shapes.{table_in}
 use Rattle.input_tables.specs.declared.refusal.TablesError.{TablesError}

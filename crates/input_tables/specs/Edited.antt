@@ -1,8 +1,8 @@
 -- Tables that are edited, and what is read of them by number.
 use Rattle.std.specs.Prelude.{◌≡◌, ℕ, zero, suc, ℤ, pos, Bool, List, [], ◌∷◌, Option, Some, Result, Err, IsOk, map}
 use Rattle.std.specs.Int.{w64, int_wrap}
-use Rattle.program_tree.specs.Plain.{Name}
-use Rattle.program_tree.specs.View.{Lined}
+use Rattle.meaning.specs.Tree.{Name}
+use Rattle.meaning.specs.TreeView.{Lined}
 use Rattle.meaning.specs.Records.{Revised}
 use Rattle.monoid_laws.specs.Kinds.{Fits}
 use Rattle.meaning.specs.Tables.{Tables, Listed, row_of, at_column, is_there, above_all, column_total, cell_of}

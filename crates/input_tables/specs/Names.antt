@@ -1,6 +1,6 @@
 -- The names that tables and columns may have, and the place of a name.
 use Rattle.std.specs.Prelude.{ℕ, List, [], ◌∷◌, length, Bool, true, false, cond, not, ◌==◌, ◌||◌, ◌&&◌, nat_le, bytes_eq, codes}
-use Rattle.program_tree.specs.Plain.{Name}
+use Rattle.meaning.specs.Tree.{Name}
 
 abbrev pub is_lower : ℕ → Bool
 is_lower b = nat_le 97 b && nat_le b 122

@@ -1,7 +1,7 @@
 -- The shape of a table in a document: exactly its columns, as names, and its rows, as arrays of integers.
 use Rattle.std.specs.Prelude.{ℕ, suc, ℤ, List, [], ◌∷◌, ◌++◌, length, Bool, true, false, cond, not, ◌&&◌, nat_eq, nat_le, Option, Some, None, codes}
 use Rattle.toml.specs.Data.{Data, Items, no_items, item, Members, no_members, member, get_member, as_str, as_integer, as_array, as_table}
-use Rattle.program_tree.specs.Plain.{Name}
+use Rattle.meaning.specs.Tree.{Name}
 use Rattle.meaning.specs.Tables.{Listed, row_of, is_there, index_of}
 use Rattle.meaning.specs.Edits.{in_range, row_put}
 use Rattle.input_tables.specs.Names.{is_name}

@@ -1,7 +1,7 @@
 // The tables of a document, or the first faulty one.
 
 ghost use Rattle.std.specs.Prelude.{◌≡◌, IfOk, IfErr, Some, Ok, Err, [], List, Result, ℕ, string_bytes, option_map, slice_get};
-ghost use Rattle.program_tree.specs.Plain.{Name};
+ghost use Rattle.meaning.specs.Tree.{Name};
 ghost use Rattle.toml.specs.View.{view, table_view};
 ghost use Rattle.meaning.specs.Tables.{Listed, Tables as TableModel};
 ghost use Rattle.input_tables.specs.Shapes.{table_in};

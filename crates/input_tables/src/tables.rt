@@ -2,8 +2,8 @@
 
 ghost use Rattle.std.specs.Prelude.{◌≡◌, ℕ, suc, ℤ, List, true, ◌<◌, length, IfOk, IfErr, OnOk, OnErr, IfSome, IfNone, Some, None, Ok, Err, []};
 ghost use Rattle.std.specs.Prelude.{option_map, option_copied, slice_get, map, string_bytes};
-ghost use Rattle.program_tree.specs.Plain.{Name};
-ghost use Rattle.program_tree.specs.View.{Lined};
+ghost use Rattle.meaning.specs.Tree.{Name};
+ghost use Rattle.meaning.specs.TreeView.{Lined};
 ghost use Rattle.meaning.specs.Tables.{index_of, columns_of, cell_of, has_row, limit_of, sum_of, row_of};
 ghost use Rattle.input_tables.specs.Document.{reading, HasCause};
 ghost use Rattle.input_tables.specs.Adding.{refusal, own_refusal, unless_refused, IsAddCause, without_rows, with_table, rowless};

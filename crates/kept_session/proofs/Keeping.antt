@@ -2,8 +2,8 @@
 use Rattle.std.proofs.Common.{◌≡◌, ℕ, true, false, Bool, ◌&&◌, cond, List, [], ◌∷◌, map, All, Result, Ok, Err, OnOk, OnErr, refl, sym, ap, subst, ◌∙◌}
 use Rattle.std.proofs.lemmas.List.Elements.{All-nil, All-cons, All-head, All-tail, All-weaker}
 use Rattle.monoid_laws.specs.declared.Kind.{Kind}
-use Rattle.program_tree.specs.Plain.{Name, Tree}
-use Rattle.program_tree.specs.View.{tree}
+use Rattle.meaning.specs.Tree.{Name, Tree}
+use Rattle.meaning.specs.TreeView.{tree}
 use Rattle.meaning.specs.Every.{every}
 use Rattle.meaning.specs.Tables.{is_there}
 use Rattle.meaning.specs.Statements.{procedure_of}

@@ -1,7 +1,7 @@
 -- Why edits of tables and of the program are refused, as a session answers them.
 use Rattle.std.proofs.Common.{◌≡◌, ℕ, ℤ, List, Result, Err, subst}
-use Rattle.program_tree.specs.Plain.{Name}
-use Rattle.program_tree.specs.View.{Lined, lines}
+use Rattle.meaning.specs.Tree.{Name}
+use Rattle.meaning.specs.TreeView.{Lined, lines}
 use Rattle.meaning.specs.Records.{Revised}
 use Rattle.meaning.specs.Edits.{Standing, EditRefusal, Put, Delete, Define, after_put, after_delete}
 use Rattle.linked_program.specs.Checked.{revised_of}

@@ -4,8 +4,8 @@ use Rattle.std.specs.Prelude.{◌&&◌, nat_eq, not, length, int_lt}
 use Rattle.std.specs.Int.{w64, int_wrap}
 use Rattle.std.specs.Ordering.{int_eq}
 use Rattle.std.proofs.lemmas.Bool.Decides.{Decides-eqb, Decides-int_eq}
-use Rattle.program_tree.specs.Plain.{Name}
-use Rattle.program_tree.specs.View.{Lined}
+use Rattle.meaning.specs.Tree.{Name}
+use Rattle.meaning.specs.TreeView.{Lined}
 use Rattle.meaning.specs.Records.{Revised}
 use Rattle.meaning.specs.Tables.{Tables, Listed, row_of, at_column, is_there, above_all, column_total, index_of}
 use Rattle.meaning.specs.Edits.{Standing, EditRefusal, RowRange, WrongColumns, NoRow, Exhausted, most, in_range, unless, table_of, table_changed, row_put, row_gone, with_rows, with_tables, put_in, after_put, delete_in, after_delete}

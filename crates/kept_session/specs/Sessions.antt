@@ -2,8 +2,8 @@
 use Rattle.std.specs.Prelude.{◌≡◌, ℕ, true, List, [], length, All}
 use Rattle.monoid_laws.specs.declared.Kind.{Kind}
 use Rattle.view_pool.specs.Stock.{Stock}
-use Rattle.program_tree.specs.Plain.{Tree}
-use Rattle.program_tree.specs.View.{tree}
+use Rattle.meaning.specs.Tree.{Tree}
+use Rattle.meaning.specs.TreeView.{tree}
 use Rattle.meaning.specs.Tables.{Tables, is_there}
 use Rattle.meaning.specs.Statements.{procedure_of}
 use Rattle.meaning.specs.Records.{Revised, Kept, IsSound, holds_now}

@@ -41,7 +41,7 @@ pub struct Session<V: View = Box<dyn View>> {
 impl<V: View> Model for Session<V> {
     ghost use Rattle.kept_session.specs.Sessions.{PlainSession, KeepsSession};
     ghost use Rattle.linked_program.specs.contracts.code.Expression as e;
-    ghost use Rattle.program_tree.specs.contracts.Expr as t;
+    ghost use Rattle.meaning.specs.contracts.tree.Expr as t;
     ghost use Rattle.std.specs.Coded.{codes};
 
     ghost Value = { PlainSession };

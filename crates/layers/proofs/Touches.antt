@@ -4,7 +4,7 @@ use Rattle.std.proofs.lemmas.List.{append_assoc, append-nil, drop_all, drop_more
 use Rattle.std.specs.Prelude.{IfSome}
 use Rattle.std.proofs.lemmas.List.Elements.{All-push}
 use Rattle.std.proofs.lemmas.Grind.{common_steps}
-use Rattle.program_tree.specs.Plain.{Name}
+use Rattle.meaning.specs.Tree.{Name}
 use Rattle.monoid_laws.specs.declared.Kind.TheVariants as k
 use Rattle.rerun_records.specs.Record.{PlainRecord}
 use Rattle.monoid_laws.specs.declared.Kind.{Kind}

@@ -1,6 +1,6 @@
 -- What a record keeps of a layer, before it is known which instance's record it is.
 use Rattle.std.specs.Prelude.{ℕ, suc, ◌-◌, ℤ, cond, List, [], ◌∷◌, Option, Some, None}
-use Rattle.program_tree.specs.Plain.{Name}
+use Rattle.meaning.specs.Tree.{Name}
 use Rattle.monoid_laws.specs.Worth.{Worth}
 use Rattle.monoid_laws.specs.declared.Kind.{Kind}
 use Rattle.monoid_laws.specs.Kinds.{identity_of}

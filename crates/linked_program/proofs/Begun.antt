@@ -8,11 +8,11 @@ use Rattle.monoid_laws.specs.declared.Kind.{Kind}
 use Rattle.monoid_laws.specs.declared.Kind.TheVariants as k
 use Rattle.monoid_laws.specs.declared.Table.{Table}
 use Rattle.monoid_laws.specs.Kinds.{arity, names_element, element_of}
-use Rattle.program_tree.specs.declared.Declaration.{Declaration}
-use Rattle.program_tree.specs.declared.Declaration.TheVariants as d
-use Rattle.program_tree.specs.declared.Program.{Program}
-use Rattle.program_tree.specs.Plain.{Red, Tree}
-use Rattle.program_tree.specs.View.{decl, lined, tree, proc, red, block_lines}
+use Rattle.meaning.specs.declared.tree.Declaration.{Declaration}
+use Rattle.meaning.specs.declared.tree.Declaration.TheVariants as d
+use Rattle.meaning.specs.declared.tree.Program.{Program}
+use Rattle.meaning.specs.Tree.{Red, Tree}
+use Rattle.meaning.specs.TreeView.{decl, lined, tree, proc, red, block_lines}
 use Rattle.meaning.specs.Outcome.{Log, Updates}
 use Rattle.meaning.specs.Tables.{is_there}
 use Rattle.meaning.specs.Statements.{reducers, in_pairs, in_groups, updates_by, initial_updates, beginning}

@@ -1,11 +1,11 @@
 -- The numbers of a tree fit where those of its parts do.
 use Rattle.std.proofs.Common.{ℕ, zero, suc, ◌≤◌, true, false, cond, List, [], ◌∷◌, Some, map, drop, length, slice_get, arith}
 use Rattle.std.specs.Str.{bytes_eq}
-use Rattle.program_tree.specs.declared.Block.{Block}
-use Rattle.program_tree.specs.declared.Declaration.{Declaration}
-use Rattle.program_tree.specs.declared.Declaration.TheVariants as d
-use Rattle.program_tree.specs.Plain.{Name, Body}
-use Rattle.program_tree.specs.View.{statements_of, block, proc, decl}
+use Rattle.meaning.specs.declared.tree.Block.{Block}
+use Rattle.meaning.specs.declared.tree.Declaration.{Declaration}
+use Rattle.meaning.specs.declared.tree.Declaration.TheVariants as d
+use Rattle.meaning.specs.Tree.{Name, Body}
+use Rattle.meaning.specs.TreeView.{statements_of, block, proc, decl}
 use Rattle.monoid_laws.specs.Kinds.{Fits}
 use Rattle.meaning.specs.Statements.{reducers, procedure_of, found, proc_of}
 use Rattle.std.specs.List.{AllByRecursion}

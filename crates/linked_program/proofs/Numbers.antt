@@ -3,7 +3,7 @@ use Rattle.std.proofs.Common.{◌≡◌, ℕ, zero, suc, ◌+◌, ◌<◌, Bool,
 use Rattle.std.specs.List.{slice_index_or}
 use Rattle.std.specs.Str.{bytes_eq}
 use Rattle.std.proofs.lemmas.Slice.Eq.{bytes_eq-Decides}
-use Rattle.program_tree.specs.Plain.{Name, Red, procedure, reducer, Tree}
+use Rattle.meaning.specs.Tree.{Name, Red, procedure, reducer, Tree}
 use Rattle.meaning.specs.Statements.{reducers, procedure_of, numbered}
 use Rattle.meaning.specs.Tables.{Tables, columns_of, index_of}
 use Rattle.meaning.specs.Edits.{table_of}

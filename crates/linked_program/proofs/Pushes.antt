@@ -1,12 +1,12 @@
 -- Code made element by element.
 use Rattle.std.proofs.Common.{◌≡◌, ℕ, zero, suc, ◌+◌, ◌<◌, List, [], ◌∷◌, ◌++◌, take, length, slice_get, map, get_or, refl, ap, sym, ◌∙◌}
 use Rattle.std.proofs.lemmas.List.{take_more}
-use Rattle.program_tree.specs.declared.Statement.{Statement}
-use Rattle.program_tree.specs.declared.Block.{Block}
-use Rattle.program_tree.specs.declared.Declaration.{Declaration}
-use Rattle.program_tree.specs.declared.Declaration.TheVariants as d
-use Rattle.program_tree.specs.Plain.{Body, Proc, Tree}
-use Rattle.program_tree.specs.View.{deed, statements, statements_of, block, decl, proc}
+use Rattle.meaning.specs.declared.tree.Statement.{Statement}
+use Rattle.meaning.specs.declared.tree.Block.{Block}
+use Rattle.meaning.specs.declared.tree.Declaration.{Declaration}
+use Rattle.meaning.specs.declared.tree.Declaration.TheVariants as d
+use Rattle.meaning.specs.Tree.{Body, Proc, Tree}
+use Rattle.meaning.specs.TreeView.{deed, statements, statements_of, block, decl, proc}
 use Rattle.linked_program.specs.TableNames.{Columned}
 use Rattle.linked_program.specs.Procedures.{procedures}
 use Rattle.linked_program.specs.declared.code.Operation.{Operation}

@@ -1,6 +1,6 @@
 -- Where a body breaks the rules.
 use Rattle.std.specs.Prelude.{ℕ, ◌+◌, cond, ◌==◌, List, [], ◌∷◌, ◌++◌}
-use Rattle.program_tree.specs.Plain.{Deed, choose, Body, end, step}
+use Rattle.meaning.specs.Tree.{Deed, choose, Body, end, step}
 use Rattle.linked_program.specs.declared.knowledge.Moment.{Moment}
 use Rattle.linked_program.specs.declared.violation.Violation.{Violation}
 use Rattle.linked_program.specs.Violations.{at}

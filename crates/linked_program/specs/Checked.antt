@@ -4,9 +4,9 @@ use Rattle.std.specs.Global.{Global}
 use Rattle.std.specs.Str.{bytes_eq}
 use Rattle.std.specs.declared.string.String.{String}
 use Rattle.monoid_laws.specs.declared.Kind.{Kind}
-use Rattle.program_tree.specs.Plain.{Name}
-use Rattle.program_tree.specs.declared.Program.{Program}
-use Rattle.program_tree.specs.View.{tree}
+use Rattle.meaning.specs.Tree.{Name}
+use Rattle.meaning.specs.declared.tree.Program.{Program}
+use Rattle.meaning.specs.TreeView.{tree}
 use Rattle.meaning.specs.Records.{Revised}
 use Rattle.linked_program.specs.TableNames.{Columned}
 use Rattle.linked_program.specs.Declarations.{IsClean}

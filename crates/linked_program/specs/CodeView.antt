@@ -1,9 +1,9 @@
 -- The plain form of code, and that it is the linked form of a program.
 use Rattle.std.specs.Prelude.{◌≡◌, ℕ, zero, suc, Bool, false, List, [], ◌∷◌, Option, Some, None, map, slice_get, length}
-use Rattle.program_tree.specs.Plain.{Body, Proc, Tree}
-use Rattle.program_tree.specs.declared.Block.{Block}
-use Rattle.program_tree.specs.declared.Operator.{Operator}
-use Rattle.program_tree.specs.View.{statements}
+use Rattle.meaning.specs.Tree.{Body, Proc, Tree}
+use Rattle.meaning.specs.declared.tree.Block.{Block}
+use Rattle.meaning.specs.declared.tree.Operator.{Operator}
+use Rattle.meaning.specs.TreeView.{statements}
 use Rattle.linked_program.specs.TableNames.{Columned}
 use Rattle.linked_program.specs.declared.code.Expression.{Expression}
 use Rattle.linked_program.specs.declared.code.Expression.TheVariants as e

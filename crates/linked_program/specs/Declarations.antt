@@ -2,9 +2,9 @@
 use Rattle.std.specs.Prelude.{◌≡◌, ℕ, ◌+◌, ◌-◌, Bool, false, cond, not, ◌==◌, ◌&&◌, ◌||◌, nat_lt, List, [], ◌∷◌, ◌++◌, Option, Some, None}
 use Rattle.std.specs.Prelude.{take, length, slice_get, option_map}
 use Rattle.std.specs.Str.{bytes_eq}
-use Rattle.program_tree.specs.Plain.{Name, Proc, Red, Decl, reducer, procedure, Tree}
-use Rattle.program_tree.specs.declared.Program.{Program}
-use Rattle.program_tree.specs.View.{Lined, tree, lines}
+use Rattle.meaning.specs.Tree.{Name, Proc, Red, Decl, reducer, procedure, Tree}
+use Rattle.meaning.specs.declared.tree.Program.{Program}
+use Rattle.meaning.specs.TreeView.{Lined, tree, lines}
 use Rattle.meaning.specs.Tables.{is_there}
 use Rattle.meaning.specs.Statements.{reducers, procedure_of}
 use Rattle.meaning.specs.Elision.{main}

@@ -2,11 +2,11 @@
 use Rattle.std.specs.Prelude.{ℕ}
 use Rattle.std.specs.List.{AllByRecursion}
 use Rattle.monoid_laws.specs.Kinds.{Fits}
-use Rattle.program_tree.specs.declared.Block.{Block}
-use Rattle.program_tree.specs.declared.Declaration.{Declaration}
-use Rattle.program_tree.specs.declared.Declaration.TheVariants as d
-use Rattle.program_tree.specs.Plain.{Body}
-use Rattle.program_tree.specs.View.{statements, proc}
+use Rattle.meaning.specs.declared.tree.Block.{Block}
+use Rattle.meaning.specs.declared.tree.Declaration.{Declaration}
+use Rattle.meaning.specs.declared.tree.Declaration.TheVariants as d
+use Rattle.meaning.specs.Tree.{Body}
+use Rattle.meaning.specs.TreeView.{statements, proc}
 use Rattle.meaning.specs.Fitting.{FitsBody}
 
 -- whatever blocks stand inside, where their numbers fit

@@ -4,7 +4,7 @@ use Rattle.monoid_laws.specs.declared.Kind.{Kind}
 use Rattle.monoid_laws.specs.declared.Kind.TheVariants as k
 use Rattle.monoid_laws.specs.declared.Table.{Table}
 use Rattle.monoid_laws.specs.Kinds.{arity, names_element, element_of}
-use Rattle.program_tree.specs.Plain.{Red, Tree}
+use Rattle.meaning.specs.Tree.{Red, Tree}
 use Rattle.meaning.specs.Outcome.{Event, Log, Updates}
 use Rattle.meaning.specs.Statements.{reducers, in_groups}
 use Rattle.linked_program.specs.declared.initial.Initial.{Initial}

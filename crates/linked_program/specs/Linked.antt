@@ -1,10 +1,10 @@
 -- Programs whose names are numbers: what a tree becomes when it is linked.
 use Rattle.std.specs.Prelude.{ℕ, suc, ℤ, cond, List, [], ◌∷◌, Option, Some, None, map}
 use Rattle.std.specs.Str.{bytes_eq}
-use Rattle.program_tree.specs.declared.Operator.{Operator}
-use Rattle.program_tree.specs.declared.Way.{Way}
-use Rattle.program_tree.specs.Plain.{Name, Term, number, name, cell, has, limit, sum, negate, binary, Deed, bind, enter, read, sync}
-use Rattle.program_tree.specs.Plain.{update, choose, loop, give, Body, end, step, Proc, Red, Tree}
+use Rattle.meaning.specs.declared.tree.Operator.{Operator}
+use Rattle.meaning.specs.declared.tree.Way.{Way}
+use Rattle.meaning.specs.Tree.{Name, Term, number, name, cell, has, limit, sum, negate, binary, Deed, bind, enter, read, sync}
+use Rattle.meaning.specs.Tree.{update, choose, loop, give, Body, end, step, Proc, Red, Tree}
 use Rattle.monoid_laws.specs.declared.Kind.{Kind}
 use Rattle.meaning.specs.Statements.{reducers}
 use Rattle.meaning.specs.Elision.{main}

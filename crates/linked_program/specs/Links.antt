@@ -1,6 +1,6 @@
 -- Each number leads to what its name means.
 use Rattle.std.specs.Prelude.{◌≡◌, ℕ, Option, Some, None, slice_get, Contains}
-use Rattle.program_tree.specs.Plain.{Name, Red, Tree}
+use Rattle.meaning.specs.Tree.{Name, Red, Tree}
 use Rattle.meaning.specs.Statements.{reducers, procedure_of, numbered}
 use Rattle.meaning.specs.Tables.{Tables, columns_of, index_of}
 use Rattle.meaning.specs.Edits.{table_of}

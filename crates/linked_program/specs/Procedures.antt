@@ -1,6 +1,6 @@
 -- The procedures of a program.
 use Rattle.std.specs.Prelude.{List, [], ◌∷◌}
-use Rattle.program_tree.specs.Plain.{Proc, reducer, procedure, Tree}
+use Rattle.meaning.specs.Tree.{Proc, reducer, procedure, Tree}
 
 -- the procedures in the order of the program
 abbrev pub procedures : Tree → List Proc

@@ -3,8 +3,8 @@ use Rattle.std.specs.Prelude.{ℕ, Bool, true, false, not, cond, ◌==◌, ◌&&
 use Rattle.std.specs.Str.{bytes_eq}
 use Rattle.monoid_laws.specs.declared.Kind.{Kind}
 use Rattle.monoid_laws.specs.Kinds.{arity}
-use Rattle.program_tree.specs.Plain.{Name, Term, number, name, cell, has, limit, sum, negate, binary, Deed, bind, enter, read, sync}
-use Rattle.program_tree.specs.Plain.{update, choose, loop, give, Body, end, step, Red, Tree}
+use Rattle.meaning.specs.Tree.{Name, Term, number, name, cell, has, limit, sum, negate, binary, Deed, bind, enter, read, sync}
+use Rattle.meaning.specs.Tree.{update, choose, loop, give, Body, end, step, Red, Tree}
 use Rattle.meaning.specs.Statements.{reducers, procedure_of}
 use Rattle.meaning.specs.Elision.{main}
 use Rattle.linked_program.specs.declared.violation.Rule.{Rule}

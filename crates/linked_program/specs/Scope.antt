@@ -1,9 +1,9 @@
 -- What is known of a procedure's variables at a statement, and what a statement changes of it.
 use Rattle.std.specs.Prelude.{ℕ, ◌+◌, ◌-◌, Bool, true, false, cond, ◌==◌, ◌&&◌, ◌||◌, nat_lt, min, List, ◌++◌, Option, Some, None}
 use Rattle.std.specs.Prelude.{replicate, slice_get, slice_set}
-use Rattle.program_tree.specs.declared.Way.{Way}
-use Rattle.program_tree.specs.declared.Way.TheVariants.{Call, Spawn}
-use Rattle.program_tree.specs.Plain.{Deed, bind, enter, read, sync, update, choose, loop, give, Body, end, step}
+use Rattle.meaning.specs.declared.tree.Way.{Way}
+use Rattle.meaning.specs.declared.tree.Way.TheVariants.{Call, Spawn}
+use Rattle.meaning.specs.Tree.{Deed, bind, enter, read, sync, update, choose, loop, give, Body, end, step}
 use Rattle.linked_program.specs.declared.knowledge.Moment.{Moment}
 use Rattle.linked_program.specs.declared.knowledge.Knowledge.{Knowledge}
 use Rattle.linked_program.specs.declared.knowledge.Knowledge.TheVariants.{Unbound, Ended, Known}

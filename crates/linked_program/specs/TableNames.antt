@@ -1,7 +1,7 @@
 -- The names of tables and of their columns.
 use Rattle.std.specs.Prelude.{Bool, false, cond, ◌||◌, List, [], ◌∷◌, Option, Some, None, map, string_bytes}
 use Rattle.std.specs.Str.{bytes_eq}
-use Rattle.program_tree.specs.Plain.{Name}
+use Rattle.meaning.specs.Tree.{Name}
 use Rattle.meaning.specs.Tables.{Tables}
 use Rattle.linked_program.specs.declared.tables.TableNames.{TableNames}
 

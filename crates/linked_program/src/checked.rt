@@ -4,7 +4,7 @@ ghost use Rattle.meaning.specs.Edits.{revision_of};
 ghost use Rattle.meaning.specs.Fitting.{ProgramFits};
 ghost use Rattle.meaning.specs.Statements.{procedure_of, beginning};
 ghost use Rattle.meaning.specs.Tables.{is_there};
-ghost use Rattle.program_tree.specs.View.{tree, lines};
+ghost use Rattle.meaning.specs.TreeView.{tree, lines};
 ghost use Rattle.linked_program.specs.TableNames.{columned};
 ghost use Rattle.linked_program.specs.Declarations.{violations};
 ghost use Rattle.linked_program.specs.Procedures.{procedures};
@@ -19,7 +19,7 @@ use crate::initial::Initial;
 use crate::linking::{procedure_number, procedure_place};
 use crate::tables::TableNames;
 use monoid_laws::Kind;
-use program_tree::Program;
+use meaning::tree::Program;
 use std::marker::Model;
 
 // The number that stands beside a name in a list.
@@ -54,14 +54,14 @@ impl Model for Checked {
     ghost Value = { PlainChecked };
 
     ghost use Rattle.linked_program.specs.contracts.code.Expression as e;
-    ghost use Rattle.program_tree.specs.contracts.Expr as t;
+    ghost use Rattle.meaning.specs.contracts.tree.Expr as t;
     ghost use Rattle.std.specs.Coded.{codes as coded_rules};
 
     ghost coded = { Prim.hlevel (coded_rules, e.the_row.coded, t.the_row.coded) };
 
     ghost use Rattle.std.specs.Prelude.{map};
     ghost use Rattle.meaning.specs.Fitting.{ProgramFits};
-    ghost use Rattle.program_tree.specs.View.{tree};
+    ghost use Rattle.meaning.specs.TreeView.{tree};
     ghost use Rattle.linked_program.specs.TableNames.{columned};
     ghost use Rattle.linked_program.specs.Initials.{plain_initial};
     ghost use Rattle.linked_program.specs.Checked.{IsChecked, numbers_in};

@@ -1,6 +1,6 @@
 //! The code of procedures: variables are slots; procedures, reducers, tables and columns are numbers; blocks are those of the tree.
 
-use program_tree::{Operator, Way};
+use meaning::tree::{Operator, Way};
 
 /// Two cells of one row: the number of its table, the slot in which the row's number stands, and the numbers of two columns.
 #[derive(Clone, Copy)]

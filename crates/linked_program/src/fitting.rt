@@ -1,13 +1,13 @@
 //! The numbers of a program fit 64 bits: walks over its tree that only look at them.
 ghost use Rattle.std.specs.Prelude.{ℕ, map};
 ghost use Rattle.monoid_laws.specs.Kinds.{Fits};
-ghost use Rattle.program_tree.specs.Plain.{Body};
-ghost use Rattle.program_tree.specs.View.{term, deed, statements as body_of, block, proc, tree};
+ghost use Rattle.meaning.specs.Tree.{Body};
+ghost use Rattle.meaning.specs.TreeView.{term, deed, statements as body_of, block, proc, tree};
 ghost use Rattle.std.specs.List.{AllByRecursion};
 ghost use Rattle.meaning.specs.Fitting.{FitsTerm, FitsDeed, FitsBody, ProgramFits};
 ghost use Rattle.linked_program.specs.Fitting.{DeclarationFits};
 
-use program_tree::{Action, Block, Declaration, Expr, Program, Statement};
+use meaning::tree::{Action, Block, Declaration, Expr, Program, Statement};
 
 fn number_fits(number: i64)
     ensures { Fits number }

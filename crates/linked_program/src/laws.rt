@@ -3,7 +3,7 @@ ghost use Rattle.std.specs.Prelude.{◌≡◌, List, true, ◌↔◌};
 ghost use Rattle.monoid_laws.specs.Kinds.{IsMonoidTable};
 ghost use Rattle.linked_program.specs.Monoids.{is_monoid_table};
 ghost use Rattle.linked_program.specs.declared.violation.Violation.{Violation};
-ghost use Rattle.program_tree.specs.Plain.{Name, Tree};
+ghost use Rattle.meaning.specs.Tree.{Name, Tree};
 ghost use Rattle.linked_program.specs.First.{FirstIsLeast};
 ghost use Rattle.meaning.specs.Tables.{Tables};
 ghost use Rattle.linked_program.specs.Links.{ProcedureIs, ReducerIs, TableIs, ColumnIs};

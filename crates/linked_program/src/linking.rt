@@ -1,7 +1,7 @@
 //! Makes the code of a program: each name becomes the number of what it means.
 ghost use Rattle.std.specs.Prelude.{◌≡◌, ℕ, map, string_bytes, is_some, IfOk, IfSome, Ok};
-ghost use Rattle.program_tree.specs.Plain.{Body};
-ghost use Rattle.program_tree.specs.View.{term, deed, statements as body_of, decl, proc};
+ghost use Rattle.meaning.specs.Tree.{Body};
+ghost use Rattle.meaning.specs.TreeView.{term, deed, statements as body_of, decl, proc};
 ghost use Rattle.meaning.specs.Statements.{reducers, procedure_of};
 ghost use Rattle.meaning.specs.Tables.{index_of as index_in, is_there};
 ghost use Rattle.linked_program.specs.TableNames.{columned};
@@ -14,7 +14,7 @@ ghost use Rattle.linked_program.specs.CodeView.{expression as plain, act, acts, 
 use crate::code::{Code, CodeBlock, Expression, Instruction, Operation, RowCells};
 use crate::tables::TableNames;
 use monoid_laws::Kind;
-use program_tree::{Action, Block, Declaration, Expr, Operator, Procedure, Statement};
+use meaning::tree::{Action, Block, Declaration, Expr, Operator, Procedure, Statement};
 use std::alloc::{AllocError, Global};
 
 /// The number of the first procedure of a name among declarations' procedures; how many there are where there is no such procedure.

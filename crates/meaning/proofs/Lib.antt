@@ -1,3 +1,4 @@
+pub mod Crosses
 pub mod Samples
 pub mod Edits
 pub mod Runs

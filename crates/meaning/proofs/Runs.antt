@@ -4,8 +4,8 @@ use Rattle.std.proofs.Common.{refl}
 use Rattle.std.specs.Int.{int_wrap}
 use Rattle.monoid_laws.specs.declared.Kind.TheVariants as k
 use Rattle.monoid_laws.specs.Worth as w
-use Rattle.program_tree.specs.declared.Way.TheVariants.{Spawn}
-use Rattle.program_tree.specs.Plain.{Tree, name, enter, sync, update, loop, give, end, step}
+use Rattle.meaning.specs.declared.tree.Way.TheVariants.{Spawn}
+use Rattle.meaning.specs.Tree.{Tree, name, enter, sync, update, loop, give, end, step}
 use Rattle.meaning.specs.declared.FaultKind.TheVariants.{DivideByZero}
 use Rattle.meaning.specs.Tables.{Tables}
 use Rattle.meaning.specs.Elision.{Finished, Faulted}

@@ -2,11 +2,11 @@
 use Rattle.std.specs.Prelude.{◌≡◌, ℕ, ◌+◌, ◌*◌, ℤ, pos, negsuc, Bool, true, false, List, [], ◌∷◌, Some, None, Ok, Err}
 use Rattle.std.proofs.Common.{refl}
 use Rattle.std.specs.Int.{int_wrap}
-use Rattle.program_tree.specs.declared.Operator.TheVariants as o
-use Rattle.program_tree.specs.declared.Way.TheVariants.{Call, Spawn}
+use Rattle.meaning.specs.declared.tree.Operator.TheVariants as o
+use Rattle.meaning.specs.declared.tree.Way.TheVariants.{Call, Spawn}
 use Rattle.monoid_laws.specs.declared.Kind.{Kind}
 use Rattle.monoid_laws.specs.declared.Kind.TheVariants as k
-use Rattle.program_tree.specs.Plain.{Name, Term, number, name, cell, has, limit, sum, binary, bind, enter, read, sync, update, choose, loop, give, Body, end, step, Decl, reducer, procedure, Tree}
+use Rattle.meaning.specs.Tree.{Name, Term, number, name, cell, has, limit, sum, binary, bind, enter, read, sync, update, choose, loop, give, Body, end, step, Decl, reducer, procedure, Tree}
 use Rattle.meaning.specs.declared.FaultKind.TheVariants.{DivideByZero, MissingRow, RangeTooLong, TooDeep}
 use Rattle.meaning.specs.Tables.{Tables}
 use Rattle.monoid_laws.specs.Worth as w

@@ -4,8 +4,8 @@ use Rattle.std.proofs.Common.{refl}
 use Rattle.std.specs.Fmt.{digits}
 use Rattle.std.specs.Int.{int_wrap}
 use Rattle.std.specs.Str.{bytes_eq}
-use Rattle.program_tree.specs.Plain.{sync, end, step, Tree}
-use Rattle.program_tree.specs.View.{Lined}
+use Rattle.meaning.specs.Tree.{sync, end, step, Tree}
+use Rattle.meaning.specs.TreeView.{Lined}
 use Rattle.meaning.specs.Tables.{Tables}
 use Rattle.meaning.specs.Elision.{all_turns, elide, from_scratch}
 use Rattle.meaning.specs.Records.{Revised, needing}

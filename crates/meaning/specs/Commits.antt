@@ -1,7 +1,7 @@
 -- What a run leaves behind: the records of the memo instances that it executed, and the records of a session with them put in.
 use Rattle.std.specs.Prelude.{ℕ, ℤ, pos, Bool, cond, ◌&&◌, List, [], ◌∷◌, map, Result, Ok, Err}
 use Rattle.std.specs.Str.{bytes_eq}
-use Rattle.program_tree.specs.Plain.{Name}
+use Rattle.meaning.specs.Tree.{Name}
 use Rattle.meaning.specs.Tables.{Tables}
 use Rattle.meaning.specs.Outcome.{Out, Fault, after}
 use Rattle.meaning.specs.Statements.{identities}

@@ -3,13 +3,13 @@ use Rattle.std.specs.Prelude.{ℕ, suc, nat_eq, nat_lt, nat_le, ℤ, pos, negsuc
 use Rattle.std.specs.Prelude.{Option, Some, None, Result, Ok, Err, length}
 use Rattle.std.specs.Ordering.{int_eq}
 use Rattle.std.specs.Str.{bytes_eq}
-use Rattle.program_tree.specs.declared.Operator.{Operator}
-use Rattle.program_tree.specs.declared.Operator.TheVariants as o
-use Rattle.program_tree.specs.declared.Way.{Way}
-use Rattle.program_tree.specs.declared.Way.TheVariants.{Call, Spawn}
-use Rattle.program_tree.specs.View.{Lined}
-use Rattle.program_tree.specs.Plain.{Name, Term, number, name, cell, has, limit, sum, negate, binary, Deed, bind, enter, read, sync}
-use Rattle.program_tree.specs.Plain.{update, choose, loop, give, Body, end, step, Proc, reducer, procedure, Tree}
+use Rattle.meaning.specs.declared.tree.Operator.{Operator}
+use Rattle.meaning.specs.declared.tree.Operator.TheVariants as o
+use Rattle.meaning.specs.declared.tree.Way.{Way}
+use Rattle.meaning.specs.declared.tree.Way.TheVariants.{Call, Spawn}
+use Rattle.meaning.specs.TreeView.{Lined}
+use Rattle.meaning.specs.Tree.{Name, Term, number, name, cell, has, limit, sum, negate, binary, Deed, bind, enter, read, sync}
+use Rattle.meaning.specs.Tree.{update, choose, loop, give, Body, end, step, Proc, reducer, procedure, Tree}
 use Rattle.meaning.specs.Tables.{Tables, Listed, is_there, row_of}
 use Rattle.meaning.specs.Statements.{procedure_of}
 use Rattle.meaning.specs.Records.{Revised}

@@ -1,7 +1,7 @@
 -- The serial elision.
 use Rattle.std.specs.Prelude.{ℕ, zero, suc, ◌-◌, max, ℤ, pos, cond, List, [], ◌∷◌, Ok, Err}
 use Rattle.std.specs.Ordering.{int_eq}
-use Rattle.program_tree.specs.Plain.{Name, Deed, bind, enter, read, sync, update, choose, loop, give, Body, end, step, Proc, Tree}
+use Rattle.meaning.specs.Tree.{Name, Deed, bind, enter, read, sync, update, choose, loop, give, Body, end, step, Proc, Tree}
 use Rattle.meaning.specs.declared.FaultKind.TheVariants.{TooDeep}
 use Rattle.meaning.specs.Tables.{Tables}
 use Rattle.meaning.specs.Outcome.{Out, Log, Accumulators, Site, Fault, Reads, Enters, Reading, after}

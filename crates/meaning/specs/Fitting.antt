@@ -1,8 +1,8 @@
 -- The programs whose numbers fit 64 bits.
 use Rattle.std.specs.List.{AllByRecursion}
 use Rattle.monoid_laws.specs.Kinds.{Fits}
-use Rattle.program_tree.specs.Plain.{Name, Term, number, name, cell, has as has_row, limit, sum, negate, binary, Deed, bind, enter, read}
-use Rattle.program_tree.specs.Plain.{sync, update, choose, loop, give, Body, end, step, Tree}
+use Rattle.meaning.specs.Tree.{Name, Term, number, name, cell, has as has_row, limit, sum, negate, binary, Deed, bind, enter, read}
+use Rattle.meaning.specs.Tree.{sync, update, choose, loop, give, Body, end, step, Tree}
 use Rattle.meaning.specs.Statements.{reducers, proc_of}
 
 -- the numbers of an expression fit

@@ -1,6 +1,6 @@
 -- Strands with layers, and their steps: small steps, push, inline, pop, steal and join.
 use Rattle.std.specs.Prelude.{ℕ, ◌-◌, Bool, true, ℤ, List, [], ◌∷◌, map, Option, Ok, cond}
-use Rattle.program_tree.specs.Plain.{Tree}
+use Rattle.meaning.specs.Tree.{Tree}
 use Rattle.meaning.specs.Tables.{Tables}
 use Rattle.meaning.specs.Outcome.{Accumulators, Place, Leaves}
 use Rattle.meaning.specs.Trail.{child_of}

@@ -1,7 +1,7 @@
 -- The layers of a strand: what each has noted of the trail, and the product of two.
 use Rattle.std.specs.Prelude.{◌≡◌, ◌↔◌, ℕ, ◌+◌, ◌-◌, List, [], ◌∷◌, ◌++◌, map, max, slice_get}
 use Rattle.std.specs.List.{Contains}
-use Rattle.program_tree.specs.Plain.{Name, Tree}
+use Rattle.meaning.specs.Tree.{Name, Tree}
 use Rattle.meaning.specs.Outcome.{Log, Accumulators, Event, Reads, Enters, Updates, Begins, Reading, updated, combined}
 use Rattle.meaning.specs.Statements.{reducers, identities}
 use Rattle.meaning.specs.Records.{Kept, with_kinds}

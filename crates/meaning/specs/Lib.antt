@@ -1,3 +1,5 @@
+pub mod Tree
+pub mod TreeView
 pub mod Every
 pub mod Tables
 pub mod Outcome

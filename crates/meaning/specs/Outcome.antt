@@ -1,7 +1,7 @@
 -- What a piece of a serial run gives: a number or another answer, or the fault that ended it, and the events on the way.
 use Rattle.std.specs.Prelude.{ℕ, ℤ, Bool, List, [], ◌∷◌, ◌++◌, Option, Some, None, Result, Ok, Err, slice_get, slice_set}
 use Rattle.monoid_laws.specs.declared.Kind.{Kind}
-use Rattle.program_tree.specs.Plain.{Name}
+use Rattle.meaning.specs.Tree.{Name}
 use Rattle.meaning.specs.declared.FaultKind.{FaultKind}
 use Rattle.monoid_laws.specs.Worth.{Worth}
 use Rattle.monoid_laws.specs.Kinds.{operate}

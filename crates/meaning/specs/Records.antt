@@ -6,7 +6,7 @@ use Rattle.std.specs.Str.{bytes_eq}
 use Rattle.std.specs.List.{Contains, find}
 use Rattle.meaning.specs.Every.{every}
 use Rattle.monoid_laws.specs.declared.Kind.{Kind}
-use Rattle.program_tree.specs.Plain.{Name, Proc, Red, Tree}
+use Rattle.meaning.specs.Tree.{Name, Proc, Red, Tree}
 use Rattle.meaning.specs.declared.FaultKind.TheVariants.{TooDeep}
 use Rattle.meaning.specs.Tables.{Tables, cell_of, has_row, limit_of, sum_of}
 use Rattle.monoid_laws.specs.Worth.{Worth}

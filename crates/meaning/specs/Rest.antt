@@ -1,6 +1,6 @@
 -- What is left to do of an instance, of those that wait below it, and of the continuations behind it, done serially.
 use Rattle.std.specs.Prelude.{ℕ, ℤ, pos, List, [], ◌∷◌, ◌++◌, map, Result, Ok, Err}
-use Rattle.program_tree.specs.Plain.{Name, Body, Tree}
+use Rattle.meaning.specs.Tree.{Name, Body, Tree}
 use Rattle.meaning.specs.Tables.{Tables}
 use Rattle.meaning.specs.Outcome.{Accumulators, Fault, after}
 use Rattle.meaning.specs.Run.{Run}

@@ -1,6 +1,6 @@
 -- What is left to do of a whole run, done serially: its strands from left to right, each with its layers' values, its task and its continuations.
 use Rattle.std.specs.Prelude.{ℤ, pos, List, [], ◌∷◌, ◌++◌, Ok}
-use Rattle.program_tree.specs.Plain.{Tree}
+use Rattle.meaning.specs.Tree.{Tree}
 use Rattle.meaning.specs.Tables.{Tables}
 use Rattle.meaning.specs.Outcome.{Accumulators, Place, combined}
 use Rattle.meaning.specs.Statements.{reducers, identities}

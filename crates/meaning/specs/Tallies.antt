@@ -1,7 +1,7 @@
 -- What a strand has counted and recorded of memo instances: those whose layers are open, its new records, how many it executed,
 -- had answered by a record, and left without a layer.
 use Rattle.std.specs.Prelude.{ℕ, zero, suc, ◌+◌, ◌-◌, ℤ, false, List, [], ◌∷◌, ◌++◌, map, None}
-use Rattle.program_tree.specs.Plain.{Name}
+use Rattle.meaning.specs.Tree.{Name}
 use Rattle.meaning.specs.Tables.{Tables}
 use Rattle.meaning.specs.Outcome.{Log, Marks, Place}
 use Rattle.meaning.specs.Elision.{depth_limit}

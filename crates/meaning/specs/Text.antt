@@ -1,7 +1,7 @@
 -- The text of the answers to a script.
 use Rattle.std.specs.Prelude.{ℕ, ◌+◌, ℤ, Bool, List, [], ◌∷◌, ◌++◌, flat_map, Option, Some, None, Result, Ok, Err, codes}
 use Rattle.std.specs.Fmt.{decimal, signed_decimal}
-use Rattle.program_tree.specs.Plain.{Red}
+use Rattle.meaning.specs.Tree.{Red}
 use Rattle.monoid_laws.specs.Worth.{Worth, number, items, best, line, amounts, element}
 use Rattle.meaning.specs.declared.FaultKind.{FaultKind}
 use Rattle.meaning.specs.declared.FaultKind.TheVariants as k

@@ -1,5 +1,7 @@
-//! The meaning of programs: definitions over plain values, and the small types that name what they speak of.
+//! Programs as trees and what they mean: definitions over plain values, and the small types that name what they speak of.
 #![tactic(auto)]
+
+pub mod tree;
 
 ghost use Rattle.std.specs.Prelude.{◌≡◌};
 ghost use Rattle.meaning.specs.Elision.{depth_limit};

@@ -1,7 +1,7 @@
 -- An instance of a procedure is entered, by numbers and by names: a record answers it, or it is executed, with a layer of its own or without.
 use Rattle.std.proofs.Common.{◌≡◌, ℕ, suc, ◌-◌, Bool, true, false, ◌&&◌, List, [], ◌∷◌, ◌++◌, length, Option, None, Some, refl, sym, ◌∙◌, ap, subst, arith}
 use Rattle.std.specs.Prelude.{ℤ}
-use Rattle.program_tree.specs.Plain.{Name, Tree, Body, Proc}
+use Rattle.meaning.specs.Tree.{Name, Tree, Body, Proc}
 use Rattle.meaning.specs.Tables.{Tables, is_there}
 use Rattle.meaning.specs.Elision.{depth_limit}
 use Rattle.meaning.specs.Outcome.{Place, Accumulators, Enters, Begins, Marks}

@@ -4,7 +4,7 @@ use Rattle.std.specs.Prelude.{nat_eq, slice_get, slice_set}
 use Rattle.std.specs.Str.{bytes_eq}
 use Rattle.std.proofs.lemmas.List.{length-map, length-replicate, length-set}
 use Rattle.std.proofs.lemmas.Option.{slice_get_within}
-use Rattle.program_tree.specs.Plain.{Name, Proc, Tree}
+use Rattle.meaning.specs.Tree.{Name, Proc, Tree}
 use Rattle.meaning.specs.Commits.{revision_of}
 use Rattle.meaning.specs.Every.{every}
 use Rattle.meaning.specs.Records.{is_current}

@@ -5,7 +5,7 @@ use Rattle.std.proofs.lemmas.List.{map-append, length-map, length-set}
 use Rattle.monoid_laws.specs.declared.Kind.{Kind}
 use Rattle.monoid_laws.specs.Worth.{Worth}
 use Rattle.monoid_laws.specs.Kinds.{operate, element_of, identities, identity_of}
-use Rattle.program_tree.specs.Plain.{Name, Proc, Red}
+use Rattle.meaning.specs.Tree.{Name, Proc, Red}
 use Rattle.meaning.specs.Outcome.{Log, Reads, Enters, Updates, Reading, Accumulators, updated}
 use Rattle.meaning.specs.Statements.{reducers}
 use Rattle.meaning.specs.Layers as definitions

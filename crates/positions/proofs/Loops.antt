@@ -2,7 +2,7 @@
 use Rattle.std.proofs.Common.{◌≡◌, ℕ, zero, suc, ◌+◌, ◌-◌, ◌/◌, ◌==◌, Bool, true, false, ◌||◌, if◌then◌else◌, cond, List, [], ◌∷◌, map, None, refl, sym, ◌∙◌, ap, subst, arith}
 use Rattle.std.specs.Prelude.{ℤ, pos, ◌+ℤ◌, slice_set, nat_le}
 use Rattle.std.proofs.Math.Dec.{eqb-suc-zero}
-use Rattle.program_tree.specs.declared.Way.TheVariants.{Call}
+use Rattle.meaning.specs.declared.tree.Way.TheVariants.{Call}
 use Rattle.meaning.specs.Outcome.{Place}
 use Rattle.meaning.specs.Values.{put, values}
 use Rattle.meaning.specs.Statements.{Job, turn_values}

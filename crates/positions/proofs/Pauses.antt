@@ -1,6 +1,6 @@
 -- Where a strand of numbers has no step, the one that it stands for has none.
 use Rattle.std.proofs.Common.{◌≡◌, ℕ, suc, Bool, true, false, ◌&&◌, List, [], ◌∷◌, length, Option, Some, None, refl, sym, ◌∙◌, ap}
-use Rattle.program_tree.specs.Plain.{Deed, bind, enter, read, sync, update, choose, loop, give, Body, step}
+use Rattle.meaning.specs.Tree.{Deed, bind, enter, read, sync, update, choose, loop, give, Body, step}
 use Rattle.meaning.specs.Outcome.{Place}
 use Rattle.meaning.specs.SmallStep.{Todo, blocks, halves, second, turns, Phase as NamedPhase, running, leaving, Parent, Pause, at_spawn, at_sync, returned, faulted, Step, paused as paused_step, unless, is_entry, micro, todo_step}
 use Rattle.meaning.specs.Layers.{bottom}

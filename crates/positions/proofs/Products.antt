@@ -5,7 +5,7 @@ use Rattle.std.proofs.lemmas.List.{map-append, length-set, length-map, length-re
 use Rattle.monoid_laws.specs.declared.Kind.{Kind}
 use Rattle.monoid_laws.specs.Worth.{Worth}
 use Rattle.monoid_laws.specs.Kinds.{operate, operate_all, identities, identity_of}
-use Rattle.program_tree.specs.Plain.{Name, Red}
+use Rattle.meaning.specs.Tree.{Name, Red}
 use Rattle.meaning.specs.Records.{Kept, with_kinds}
 use Rattle.meaning.specs.Outcome.{combined, Reading}
 use Rattle.meaning.specs.Statements.{reducers}

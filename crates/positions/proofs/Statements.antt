@@ -4,9 +4,9 @@ use Rattle.std.specs.Prelude.{Vec, ℤ, pos, slice_get, slice_set}
 use Rattle.std.specs.Ordering.{int_eq}
 use Rattle.std.specs.declared.alloc.Global.{Global}
 use Rattle.std.proofs.lemmas.List.{length-map}
-use Rattle.program_tree.specs.Plain.{Name, Term, Deed, bind, enter, read, sync, update, choose, loop, give, Body, step, Red}
-use Rattle.program_tree.specs.declared.Way.{Way}
-use Rattle.program_tree.specs.declared.Way.TheVariants.{Call, Spawn}
+use Rattle.meaning.specs.Tree.{Name, Term, Deed, bind, enter, read, sync, update, choose, loop, give, Body, step, Red}
+use Rattle.meaning.specs.declared.tree.Way.{Way}
+use Rattle.meaning.specs.declared.tree.Way.TheVariants.{Call, Spawn}
 use Rattle.monoid_laws.specs.declared.Kind.{Kind}
 use Rattle.monoid_laws.specs.Worth.{Worth}
 use Rattle.monoid_laws.specs.Kinds.{names_element, element_of}

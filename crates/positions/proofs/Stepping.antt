@@ -3,7 +3,7 @@ use Rattle.std.proofs.Common.{◌≡◌, ℕ, suc, ◌-◌, ◌≤◌, Bool, tru
 use Rattle.std.specs.Prelude.{ℤ, pos, nat_lt}
 use Rattle.std.proofs.lemmas.List.{take-take, length-take-le}
 use Rattle.std.proofs.lemmas.Bool.{eqb-false}
-use Rattle.program_tree.specs.Plain.{Body, end, step}
+use Rattle.meaning.specs.Tree.{Body, end, step}
 use Rattle.meaning.specs.Elision.{depth_limit}
 use Rattle.meaning.specs.Outcome.{Place, Syncs, Leaves}
 use Rattle.std.specs.Prelude.{Ok}

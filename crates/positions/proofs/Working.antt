@@ -1,7 +1,7 @@
 -- Where a strand of numbers is said to go on, the one that it stands for has a small step.
 use Rattle.std.proofs.Common.{◌≡◌, ℕ, suc, Bool, true, false, ◌&&◌, List, [], ◌∷◌, length, Option, Some, None, refl, sym, ◌∙◌, ap, subst}
 use Rattle.std.specs.Prelude.{ℤ}
-use Rattle.program_tree.specs.Plain.{sync, Body, step}
+use Rattle.meaning.specs.Tree.{sync, Body, step}
 use Rattle.meaning.specs.Outcome.{Syncs}
 use Rattle.meaning.specs.SmallStep.{leaving_layer, with_layer, Frame, blocks, Phase as NamedPhase, leaving, Parent, Step, moved, taken, paused as paused_step, unless, is_entry, micro}
 use Rattle.meaning.specs.Layers.{bottom}

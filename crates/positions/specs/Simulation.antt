@@ -1,6 +1,6 @@
 -- What the steps on strands of numbers are for the strands of the definitions that they stand for.
 use Rattle.std.specs.Prelude.{◌≡◌, ℕ, ℤ, Bool, true, false, List, [], ◌∷◌, Option, Some, None, take}
-use Rattle.program_tree.specs.Plain.{Body, update, step}
+use Rattle.meaning.specs.Tree.{Body, update, step}
 use Rattle.meaning.specs.Trail.{child_of}
 use Rattle.meaning.specs.SmallStep.{Child, Todo, blocks, Phase as NamedPhase, running, spawning, leaving, Pause, at_spawn, at_sync}
 use Rattle.meaning.specs.SmallStep.{returned, faulted, Step, moved, taken, paused as paused_step, micro, Continuation}

@@ -1,6 +1,6 @@
 -- What a strand of numbers stands for: a strand of the definitions, whose instances and procedures go by name.
 use Rattle.std.specs.Prelude.{◌≡◌, ℕ, zero, suc, ◌-◌, ◌<◌, ◌≤◌, ℤ, true, false, List, [], ◌∷◌, ◌++◌, map, length, replicate, take, Option, None, slice_get}
-use Rattle.program_tree.specs.Plain.{Body, Proc, Tree}
+use Rattle.meaning.specs.Tree.{Body, Proc, Tree}
 use Rattle.meaning.specs.Outcome.{Place, Fault as NamedFault}
 use Rattle.meaning.specs.Trail.{child_of}
 use Rattle.meaning.specs.Statements.{reducers, found, proc_of, fresh, Job}

@@ -1,7 +1,7 @@
 -- What a program and its tables are to two texts, and why the texts are refused: the program's first, then the tables', then the check.
 use Rattle.std.specs.Prelude.{◌≡◌, ℕ, List, [], Ok, Err, string_bytes}
-use Rattle.program_tree.specs.Plain.{Tree}
-use Rattle.program_tree.specs.View.{tree, lines, Lined}
+use Rattle.meaning.specs.Tree.{Tree}
+use Rattle.meaning.specs.TreeView.{tree, lines, Lined}
 use Rattle.source_tree.specs.Source.{Source}
 use Rattle.source_tree.specs.Lowering.{settled, lowered, lines_of}
 use Rattle.procedure_parser.specs.Correct.{IsText, IsSource, IsFaultLineIn, InGrammar}

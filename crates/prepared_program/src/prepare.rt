@@ -1,7 +1,7 @@
 // What is done before a session: the program's text is read, then its tables, then it is checked.
 ghost use Rattle.std.specs.Prelude.{◌≡◌, ◌≢◌, ℕ, List, IfOk, IfErr};
-ghost use Rattle.program_tree.specs.Plain.{Tree};
-ghost use Rattle.program_tree.specs.View.{Lined};
+ghost use Rattle.meaning.specs.Tree.{Tree};
+ghost use Rattle.meaning.specs.TreeView.{Lined};
 ghost use Rattle.source_tree.specs.Source.{Source};
 ghost use Rattle.meaning.specs.Tables.{Tables as TableModel};
 ghost use Rattle.input_tables.specs.Document.{reading, HasCause};

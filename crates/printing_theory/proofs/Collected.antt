@@ -3,7 +3,7 @@ use Rattle.std.proofs.Common.{◌≡◌, ℕ, zero, suc, ◌≤◌, Bool, List, 
 use Rattle.token_scanner.specs.declared.token.Mark.TheVariants as mark
 use Rattle.token_scanner.specs.Words.{Word, Words, Sign}
 use Rattle.token_scanner.specs.Scanning.{tokens_of}
-use Rattle.program_tree.specs.Plain.{Tree}
+use Rattle.meaning.specs.Tree.{Tree}
 use Rattle.source_tree.specs.Source.{Decl, Reduces, Defines, Source}
 use Rattle.source_tree.specs.Lowering.{lowered, settled}
 use Rattle.procedure_parser.specs.Grammar.{Form, ReducerForm, reduces, ProcedureForm, defines, Declarations, no_declaration, a_reducer, a_procedure, reducer_over, procedure_over}

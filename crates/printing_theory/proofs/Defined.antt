@@ -1,8 +1,8 @@
 -- A program of texts, with a text's procedures put in, is one of texts.
 use Rattle.std.proofs.Common.{◌≡◌, ℕ, zero, suc, ◌≤◌, Bool, List, [], ◌∷◌, ◌++◌, length, None, refl, sym, subst, ap, arith, inl, inr}
-use Rattle.program_tree.specs.Plain.{Name, Tree}
-use Rattle.program_tree.specs.Plain as plain
-use Rattle.program_tree.specs.View.{Lined}
+use Rattle.meaning.specs.Tree.{Name, Tree}
+use Rattle.meaning.specs.Tree as plain
+use Rattle.meaning.specs.TreeView.{Lined}
 use Rattle.token_scanner.specs.Words.{Over, Words}
 use Rattle.token_scanner.specs.Words as word
 use Rattle.token_scanner.specs.Scanning.{tokens_of, longest_text}

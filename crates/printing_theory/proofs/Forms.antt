@@ -1,7 +1,7 @@
 -- The normal form of a text.
 use Rattle.std.proofs.Common.{◌≡◌, ℕ, ◌≤◌, List, length, Err, sym, subst, ◌∙◌, ap}
-use Rattle.program_tree.specs.Plain.{Tree}
-use Rattle.program_tree.specs.View.{Lined, tree}
+use Rattle.meaning.specs.Tree.{Tree}
+use Rattle.meaning.specs.TreeView.{Lined, tree}
 use Rattle.source_tree.specs.Source.{Source}
 use Rattle.token_scanner.specs.Scanning.{longest_text}
 use Rattle.token_readers.specs.declared.fault.TextError.{TextError}

@@ -4,7 +4,7 @@ use Rattle.std.specs.Prelude.{remove, bytes_eq}
 use Rattle.std.specs.Option.{option_map}
 use Rattle.std.proofs.lemmas.Bool.{ltb-true}
 use Rattle.std.proofs.lemmas.Slice.Eq.{bytes_eq-Decides}
-use Rattle.program_tree.specs.Plain.{Name, Proc, reducer, procedure, Tree}
+use Rattle.meaning.specs.Tree.{Name, Proc, reducer, procedure, Tree}
 use Rattle.token_scanner.specs.Words.{for_some}
 use Rattle.source_tree.specs.Lowering.{found_index, settled}
 use Rattle.program_edits.specs.Putting.{is_in, last_place, spot_of}

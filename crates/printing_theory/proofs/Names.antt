@@ -7,8 +7,8 @@ use Rattle.std.proofs.lemmas.Slice.Eq.{bytes_eq-Decides}
 use Rattle.token_scanner.specs.declared.token.Mark.TheVariants as mark
 use Rattle.token_scanner.specs.Words.{Word, Sign, Number, for_some}
 use Rattle.token_scanner.specs.Words as word
-use Rattle.program_tree.specs.Plain.{Name, Term, number, name, cell, has, limit, sum, negate, binary, Deed, bind, enter, read, sync, update, choose, loop, give, Body, end, step, Proc, Tree}
-use Rattle.program_tree.specs.Plain as plain
+use Rattle.meaning.specs.Tree.{Name, Term, number, name, cell, has, limit, sum, negate, binary, Deed, bind, enter, read, sync, update, choose, loop, give, Body, end, step, Proc, Tree}
+use Rattle.meaning.specs.Tree as plain
 use Rattle.monoid_laws.specs.declared.Kind.{Kind}
 use Rattle.monoid_laws.specs.declared.Kind.TheVariants as k
 use Rattle.source_tree.specs.Kinds.{WrittenKind, written}

@@ -2,7 +2,7 @@
 use Rattle.std.proofs.Common.{◌≡◌, ℕ, List, [], ◌∷◌, Option}
 use Rattle.token_scanner.specs.declared.token.Mark.TheVariants as mark
 use Rattle.token_scanner.specs.Words.{Word, Words, Name, Sign}
-use Rattle.program_tree.specs.declared.Way.{Way}
+use Rattle.meaning.specs.declared.tree.Way.{Way}
 use Rattle.source_tree.specs.Source.{Phrase, Enters}
 use Rattle.procedure_parser.specs.Grammar.{Form, Many, nil, cons, Whole, CommaExpr, comma_expr, Exprs, exprs, Args, no_args, args, Entry, entry}
 use Rattle.program_printer.specs.Tokens.{IsName, AllTokens, bare}

@@ -4,8 +4,8 @@ use Rattle.std.specs.Prelude.{nat_eq}
 use Rattle.token_scanner.specs.declared.token.Mark.{Mark}
 use Rattle.token_scanner.specs.declared.token.Mark.TheVariants as mark
 use Rattle.token_scanner.specs.Words.{Word, Words, Name, Number, Sign}
-use Rattle.program_tree.specs.declared.Operator.{Operator}
-use Rattle.program_tree.specs.declared.Operator.TheVariants as op
+use Rattle.meaning.specs.declared.tree.Operator.{Operator}
+use Rattle.meaning.specs.declared.tree.Operator.TheVariants as op
 use Rattle.source_tree.specs.Source.{Phrase, Num, Var, Cell, Has, Limit, Neg, Bin, depth}
 use Rattle.source_tree.specs.Source as source
 use Rattle.procedure_parser.specs.Grammar.{Form, Atom, number, variable, cell, has, has_over, limit, column_sum, paren, Unary, atom, negative, Chain, over, goes_on, Multiplicative, times, divides, remains, Additive, adds, subtracts, Comparison, equal, unequal, less, at_most, greater, at_least, Term, Sum, Compared, alone, against, Inside, Whole}

@@ -2,7 +2,7 @@
 use Rattle.std.proofs.Common.{◌≡◌, ℕ, zero, suc, ◌+◌, ◌≤◌, Bool, true, false, cond, [], ◌∷◌, ◌++◌, Option, Some, None, refl, sym, ap, subst, ◌∙◌, arith, inl, inr, ◌⊎◌}
 use Rattle.std.specs.Prelude.{insert, slice_set, bytes_eq}
 use Rattle.std.proofs.lemmas.Slice.Eq.{bytes_eq-Decides}
-use Rattle.program_tree.specs.Plain.{Name, Proc, Decl, reducer, procedure, Tree}
+use Rattle.meaning.specs.Tree.{Name, Proc, Decl, reducer, procedure, Tree}
 use Rattle.source_tree.specs.Lowering.{settled}
 use Rattle.program_edits.specs.Putting.{is_procedure, last_place, Spot, Last, Over, Behind, spot_of, put_at}
 use Rattle.printing_theory.specs.Again.{IsOfSome, AllOfSome, reducer_count, procedure_count}

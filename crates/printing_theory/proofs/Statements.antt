@@ -3,8 +3,8 @@ use Rattle.std.proofs.Common.{◌≡◌, ℕ, zero, suc, ◌+◌, ◌≤◌, Lis
 use Rattle.std.proofs.lemmas.List.{append-nil}
 use Rattle.token_scanner.specs.declared.token.Mark.TheVariants as mark
 use Rattle.token_scanner.specs.Words.{Word, Words, Name, Number, Sign, Over}
-use Rattle.program_tree.specs.declared.Way.{Way}
-use Rattle.program_tree.specs.declared.Way.TheVariants as way
+use Rattle.meaning.specs.declared.tree.Way.{Way}
+use Rattle.meaning.specs.declared.tree.Way.TheVariants as way
 use Rattle.source_tree.specs.Source.{Phrase, Stmt, Binds, Enters, Reads, Syncs, Updates, Tests, Loops, Returns, Stmts, none, stmts_of}
 use Rattle.source_tree.specs.Lowering.{Walk, lower_deed, lower_body, lower_term}
 use Rattle.procedure_parser.specs.Grammar.{Form, Many, nil, cons, Whole, Exprs, Args, EnterWord, calls, spawns, Entry, entry, Within, within, Grained, no_grain, grained, Ranged, ranged, Statement, binds, binds_entry, binds_read, enters, syncs, updates, tests, tests_else, loops, Block}

@@ -1,9 +1,9 @@
 -- What is printed is read again.
 use Rattle.std.specs.Prelude.{◌≡◌, ℕ, suc, ◌≤◌, List, [], ◌∷◌, ◌⊎◌, Result, Ok, Err}
-use Rattle.program_tree.specs.Plain.{Tree}
-use Rattle.program_tree.specs.Plain as plain
-use Rattle.program_tree.specs.View.{tree, Lined}
-use Rattle.program_tree.specs.declared.Program.{Program}
+use Rattle.meaning.specs.Tree.{Tree}
+use Rattle.meaning.specs.Tree as plain
+use Rattle.meaning.specs.TreeView.{tree, Lined}
+use Rattle.meaning.specs.declared.tree.Program.{Program}
 use Rattle.source_tree.specs.Source.{Decl, Source}
 use Rattle.source_tree.specs.Lowering.{Lowered, reducer, procedure, lowered_decl, lower_decl, settled}
 use Rattle.token_readers.specs.declared.fault.TextError.{TextError}

@@ -1,7 +1,7 @@
 -- A text's normal form: its program, printed.
 use Rattle.std.specs.Prelude.{◌≡◌, ℕ, ◌≤◌, List, length}
-use Rattle.program_tree.specs.Plain.{Tree}
-use Rattle.program_tree.specs.View.{Lined}
+use Rattle.meaning.specs.Tree.{Tree}
+use Rattle.meaning.specs.TreeView.{Lined}
 use Rattle.source_tree.specs.Source.{Source}
 use Rattle.token_scanner.specs.Scanning.{longest_text}
 use Rattle.token_readers.specs.declared.fault.TextError.{TextError}

@@ -1,14 +1,14 @@
 //! A program printed, and read again.
 
 ghost use Rattle.std.specs.Prelude.{◌≡◌, ◌<◌, ◌≤◌, length};
-ghost use Rattle.program_tree.specs.View.{tree};
+ghost use Rattle.meaning.specs.TreeView.{tree};
 ghost use Rattle.program_printer.specs.Printing.{printed};
 ghost use Rattle.printing_theory.specs.Again.{IsOfText, IsOfTexts, IsAgain, IsTooLong};
 ghost use Rattle.token_scanner.specs.Scanning.{longest_text};
 
 use crate::printing::print;
 use procedure_parser::{TextError, parse};
-use program_tree::Program;
+use meaning::tree::Program;
 use std::alloc::Global;
 
 /// The program that the printed text of a program is read as. An error is NoMemory, or line 0 where the printed text is too

@@ -1,8 +1,8 @@
 //! Definitions: a program of texts, with a text's procedures put in, is one of texts, so what is printed of it is read again.
 
 ghost use Rattle.std.specs.Prelude.{◌≤◌, ℕ, List, length};
-ghost use Rattle.program_tree.specs.Plain.{Tree};
-ghost use Rattle.program_tree.specs.View.{Lined};
+ghost use Rattle.meaning.specs.Tree.{Tree};
+ghost use Rattle.meaning.specs.TreeView.{Lined};
 ghost use Rattle.procedure_parser.specs.Defined.{IsDefined};
 ghost use Rattle.program_printer.specs.Printing.{printed};
 ghost use Rattle.printing_theory.specs.Again.{IsOfText, IsOfTexts, PrintsAgain};

@@ -1,12 +1,12 @@
 //! A program as a text that it is read from again.
 
 ghost use Rattle.std.specs.Prelude.{◌≡◌, ◌≤◌, length, IfOk};
-ghost use Rattle.program_tree.specs.View.{tree};
+ghost use Rattle.meaning.specs.TreeView.{tree};
 ghost use Rattle.program_printer.specs.Printing.{printed};
 ghost use Rattle.printing_theory.specs.Again.{IsOfTexts, HasTree};
 ghost use Rattle.token_scanner.specs.Scanning.{longest_text};
 
-use program_tree::Program;
+use meaning::tree::Program;
 use std::alloc::{AllocError, Global};
 
 /// A program as text, in its one printed form; an error is a want of memory.

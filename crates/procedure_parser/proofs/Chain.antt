@@ -1,7 +1,7 @@
 -- A chain of operations, as a loop reads it.
 use Rattle.std.proofs.Common.{◌≡◌, ℕ, suc, ◌+◌, ◌-◌, ◌<◌, ◌≤◌, true, false, ltb, Option, Some, None, Result, Ok, Err, refl, sym, subst, ◌∙◌, arith}
 use Rattle.std.proofs.lemmas.Bool.{lt-ltb, le-ltb}
-use Rattle.program_tree.specs.declared.Operator.{Operator}
+use Rattle.meaning.specs.declared.tree.Operator.{Operator}
 use Rattle.token_readers.specs.declared.fault.ParseError.{ParseError}
 use Rattle.token_readers.specs.declared.fault.ParseError.TheVariants as errors
 use Rattle.token_scanner.specs.Words.{Words, rest}

@@ -5,8 +5,8 @@ use Rattle.std.proofs.lemmas.Bool.{ltb-true, eqb-true}
 use Rattle.token_scanner.specs.declared.token.Mark.{Mark}
 use Rattle.token_scanner.specs.declared.token.Mark.TheVariants as mark
 use Rattle.token_scanner.specs.declared.token.Mark.TheVariants.{OpenParen, CloseParen, OpenBracket, CloseBracket, Dot, Plus, Minus, Star, Slash, Percent, Has, Limit}
-use Rattle.program_tree.specs.declared.Operator.{Operator}
-use Rattle.program_tree.specs.declared.Operator.TheVariants as op
+use Rattle.meaning.specs.declared.tree.Operator.{Operator}
+use Rattle.meaning.specs.declared.tree.Operator.TheVariants as op
 use Rattle.token_scanner.specs.Words.{Word, Name, Number, Sign, Over, Words, for_some, starts, rest, front_number}
 use Rattle.source_tree.specs.Source.{Phrase, Num, Var, Cell, Neg, Bin, depth}
 use Rattle.source_tree.specs.Source as source

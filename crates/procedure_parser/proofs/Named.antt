@@ -1,6 +1,6 @@
 -- Procedures with room for them, read one in each turn.
 use Rattle.std.proofs.Common.{◌≡◌, ℕ, Bool, ◌∷◌, [], ◌++◌, Some, Ok, sym}
-use Rattle.program_tree.specs.Plain.{Name}
+use Rattle.meaning.specs.Tree.{Name}
 use Rattle.token_scanner.specs.Words.{Words, rest, front_name}
 use Rattle.source_tree.specs.Source.{Decl, Source}
 use Rattle.token_readers.specs.Reading.{Read}

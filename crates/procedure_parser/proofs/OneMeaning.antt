@@ -1,7 +1,7 @@
 -- A text has one source tree, and so one program; and it defines one program.
 use Rattle.std.proofs.Common.{◌≡◌, ℕ, List, [], Result, Ok, sym, ap, ◌∙◌}
-use Rattle.program_tree.specs.Plain.{Tree}
-use Rattle.program_tree.specs.View.{Lined}
+use Rattle.meaning.specs.Tree.{Tree}
+use Rattle.meaning.specs.TreeView.{Lined}
 use Rattle.token_scanner.specs.Words.{Words}
 use Rattle.token_scanner.specs.Scanning.{tokens_of}
 use Rattle.source_tree.specs.Source.{Source}

@@ -1,6 +1,6 @@
 -- What is in the grammar of defining texts is read.
 use Rattle.std.proofs.Common.{◌≡◌, ℕ, zero, suc, ◌<◌, Bool, false, [], Ok, refl, arith}
-use Rattle.program_tree.specs.Plain.{Name}
+use Rattle.meaning.specs.Tree.{Name}
 use Rattle.token_scanner.specs.Words.{Words}
 use Rattle.source_tree.specs.Source.{Decl, Source}
 use Rattle.procedure_parser.specs.Reading.{over_as, starts_procedure}

@@ -4,7 +4,7 @@ use Rattle.std.specs.Prelude.{nat_eq}
 use Rattle.std.proofs.lemmas.Bool.{lt-ltb, eq-eqb}
 use Rattle.token_scanner.specs.declared.token.Mark.{Mark}
 use Rattle.token_scanner.specs.declared.token.Mark.TheVariants.{OpenParen, CloseParen, OpenBracket, CloseBracket, Minus}
-use Rattle.program_tree.specs.declared.Operator.{Operator}
+use Rattle.meaning.specs.declared.tree.Operator.{Operator}
 use Rattle.token_scanner.specs.Words.{Word, Sign, Words, starts, rest}
 use Rattle.source_tree.specs.Source.{Phrase, Bin, depth}
 use Rattle.token_readers.specs.Reading.{mark_at, name_at, comparison, additive, multiplicative}

@@ -1,6 +1,6 @@
 -- What is in the grammar of statements is read.
 use Rattle.std.proofs.Common.{◌≡◌, ℕ, zero, suc, true, false, List, [], ◌∷◌, Option, Some, None, Ok, Err, refl, sym, subst, inl, inr}
-use Rattle.program_tree.specs.declared.Way.{Way}
+use Rattle.meaning.specs.declared.tree.Way.{Way}
 use Rattle.token_scanner.specs.declared.token.Mark.{Mark}
 use Rattle.token_scanner.specs.declared.token.Mark.TheVariants as mark
 use Rattle.token_scanner.specs.declared.token.Mark.TheVariants.{OpenBracket, CloseParen, OpenBrace, CloseBrace, Semicolon, Comma, Colon, Range, Grain, Assign, Return, Else}

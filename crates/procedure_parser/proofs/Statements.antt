@@ -2,8 +2,8 @@
 use Rattle.std.proofs.Common.{◌≡◌, ℕ, zero, suc, cond, List, [], ◌∷◌, ◌++◌, length, Option, Some, None, Ok, Err, refl, sym, subst, arith, inl, inr}
 use Rattle.token_scanner.specs.declared.token.Mark.TheVariants as mark
 use Rattle.token_scanner.specs.declared.token.Mark.TheVariants.{OpenParen, CloseParen, OpenBrace, CloseBrace, Semicolon, Comma, Colon, Assign, Call, Spawn, Sync, Update, If, Else, CilkFor, In, Range, Grain, Return}
-use Rattle.program_tree.specs.declared.Way.{Way}
-use Rattle.program_tree.specs.declared.Way.TheVariants as way
+use Rattle.meaning.specs.declared.tree.Way.{Way}
+use Rattle.meaning.specs.declared.tree.Way.TheVariants as way
 use Rattle.token_scanner.specs.Words.{Word, Name, Number, Sign, Over, Words, for_some, starts, rest, front_name, line_of}
 use Rattle.source_tree.specs.Source.{Phrase, Num, Stmt, none, stmts_of, Binds, Enters, Reads, Syncs, Updates, Tests, Loops, Returns}
 use Rattle.token_readers.specs.Reading.{◌>>=◌, Read, mark_at, name_at, way_of, within_at}

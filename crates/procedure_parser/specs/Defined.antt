@@ -1,8 +1,8 @@
 -- Programs with the procedures of a text put in.
 use Rattle.std.specs.Prelude.{◌≡◌, ℕ, List, [], Result, Ok, Err}
-use Rattle.program_tree.specs.declared.Program.{Program}
-use Rattle.program_tree.specs.Plain.{Tree}
-use Rattle.program_tree.specs.View.{tree, lines, Lined}
+use Rattle.meaning.specs.declared.tree.Program.{Program}
+use Rattle.meaning.specs.Tree.{Tree}
+use Rattle.meaning.specs.TreeView.{tree, lines, Lined}
 use Rattle.source_tree.specs.Source.{Source}
 use Rattle.program_edits.specs.Putting.{put_all}
 use Rattle.token_readers.specs.declared.fault.TextError.{TextError}

@@ -1,6 +1,6 @@
 -- Texts that define procedures of a program: the grammar, and reading by it.
 use Rattle.std.specs.Prelude.{◌≡◌, ℕ, zero, suc, List, [], ◌∷◌, Some, Result, Ok, Err, Bool, true, nat_lt, if◌then◌else◌}
-use Rattle.program_tree.specs.Plain.{Name}
+use Rattle.meaning.specs.Tree.{Name}
 use Rattle.token_scanner.specs.Words.{Word, Over, Words, for_some, rest, front_name, line_of, ended}
 use Rattle.token_scanner.specs.Words as word
 use Rattle.source_tree.specs.Source.{Stmt, Decl, Defines, Source}

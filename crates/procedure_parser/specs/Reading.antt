@@ -1,8 +1,8 @@
 -- Reading tokens from left to right: a tree and the tokens after it, or the tokens from the first on that can't follow.
 use Rattle.std.specs.Prelude.{ℕ, zero, suc, ◌-◌, ◌*◌, ℤ, pos, neg_ℤ, List, [], ◌∷◌, length, Option, Some, None, Result, Ok, Err, nat_lt}
 use Rattle.std.specs.Prelude.{nat_eq, if◌then◌else◌, Bool, true, false, not, ◌&&◌, ◌||◌, ◌++◌, codes}
-use Rattle.program_tree.specs.declared.Operator.{Operator}
-use Rattle.program_tree.specs.declared.Way.{Way}
+use Rattle.meaning.specs.declared.tree.Operator.{Operator}
+use Rattle.meaning.specs.declared.tree.Way.{Way}
 use Rattle.token_scanner.specs.declared.token.Mark.TheVariants as mark
 use Rattle.token_scanner.specs.declared.token.Mark.TheVariants.{OpenParen, CloseParen, OpenBracket, CloseBracket, Colon, Plus, Minus, Star}
 use Rattle.token_scanner.specs.declared.token.Mark.TheVariants.{Slash, Percent, OpenBrace, CloseBrace, Semicolon, Comma, Dot, Range}

@@ -1,14 +1,14 @@
 //! From a text that defines procedures to their source trees, and to the program with them put in.
 
 ghost use Rattle.std.specs.Prelude.{◌≡◌, IfOk, IfErr};
-ghost use Rattle.program_tree.specs.View.{tree, lines};
+ghost use Rattle.meaning.specs.TreeView.{tree, lines};
 ghost use Rattle.source_tree.specs.Source.{Source, source};
 ghost use Rattle.procedure_parser.specs.Correct.{IsDefinition, AnswersSource, IsDefinitionFault};
 ghost use Rattle.procedure_parser.specs.Defined.{AnswersDefinition, IsDefined};
 
 use crate::define::definition;
 use program_edits::with_procedures;
-use program_tree::Program;
+use meaning::tree::Program;
 use source_tree::Declaration;
 use std::alloc::Global;
 use token_readers::{ParseError, TextError, fault_line, room_of};

@@ -9,7 +9,7 @@ ghost use Rattle.procedure_parser.specs.Reading.{limit_at, column_sum_at, after_
 ghost use Rattle.procedure_parser.specs.Reading.{term_at, sum_at, against_at, inside_at, expr_at};
 ghost use Rattle.procedure_parser.specs.Pieces.{column_at};
 
-use program_tree::Operator;
+use meaning::tree::Operator;
 use source_tree::{Expr, Measured};
 use std::alloc::{AllocError, Global};
 use token_readers::{

@@ -1,8 +1,8 @@
 //! A text has one meaning, and defines one program.
 
 ghost use Rattle.std.specs.Prelude.{◌≡◌, ℕ, List};
-ghost use Rattle.program_tree.specs.Plain.{Tree};
-ghost use Rattle.program_tree.specs.View.{Lined};
+ghost use Rattle.meaning.specs.Tree.{Tree};
+ghost use Rattle.meaning.specs.TreeView.{Lined};
 ghost use Rattle.source_tree.specs.Source.{Source};
 ghost use Rattle.procedure_parser.specs.Correct.{IsSource, IsText};
 ghost use Rattle.procedure_parser.specs.Defined.{IsDefined};

@@ -11,7 +11,7 @@ ghost use Rattle.procedure_parser.specs.Reading.{iteration_at, loop_at};
 
 use crate::arguments::{arguments, expressions, whole};
 use crate::expression::without;
-use program_tree::Way;
+use meaning::tree::Way;
 use source_tree::{Expr, Statement};
 use std::alloc::Global;
 use token_readers::{ParseError, mark, name, rest_of, starts, way_of, within};

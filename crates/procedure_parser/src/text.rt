@@ -1,12 +1,12 @@
 //! From the bytes of a text to its source tree, or to the line of its fault.
 
 ghost use Rattle.std.specs.Prelude.{IfOk, IfErr};
-ghost use Rattle.program_tree.specs.View.{tree, lines};
+ghost use Rattle.meaning.specs.TreeView.{tree, lines};
 ghost use Rattle.source_tree.specs.Source.{Source, source};
 ghost use Rattle.procedure_parser.specs.Correct.{IsText, IsSource, AnswersSource, Answers, IsFault};
 
 use crate::declaration;
-use program_tree::Program;
+use meaning::tree::Program;
 use source_tree::{Declaration, lower};
 use std::alloc::Global;
 use token_readers::{ParseError, TextError, fault_line};

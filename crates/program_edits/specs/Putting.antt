@@ -1,8 +1,8 @@
 -- Procedures put into a program, one after another: each stands in the place of the one of its name, a new name goes last, and
 -- a second one of a name stands behind the first.
 use Rattle.std.specs.Prelude.{ℕ, suc, ◌+◌, List, [], ◌∷◌, ◌++◌, Option, Some, None, Bool, true, false, bytes_eq, ◌||◌, if◌then◌else◌, insert, slice_set}
-use Rattle.program_tree.specs.Plain.{Name, Proc, Decl, reducer, procedure, Tree}
-use Rattle.program_tree.specs.View.{Lined}
+use Rattle.meaning.specs.Tree.{Name, Proc, Decl, reducer, procedure, Tree}
+use Rattle.meaning.specs.TreeView.{Lined}
 use Rattle.source_tree.specs.Source.{Reduces, Defines, Source, stmts_of}
 use Rattle.source_tree.specs.Lowering.{lower_proc, body_lines}
 

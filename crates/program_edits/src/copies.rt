@@ -1,12 +1,12 @@
 //! Copies of what a program is made of.
 
 ghost use Rattle.std.specs.Prelude.{◌≡◌, IfOk, map, string_bytes};
-ghost use Rattle.program_tree.specs.Plain.{cell, has, sum, negate, binary};
-ghost use Rattle.program_tree.specs.View.{term, proc, decl, lined, block_lines};
+ghost use Rattle.meaning.specs.Tree.{cell, has, sum, negate, binary};
+ghost use Rattle.meaning.specs.TreeView.{term, proc, decl, lined, block_lines};
 ghost use Rattle.source_tree.specs.Source.{texts};
 ghost use Rattle.source_tree.specs.Layout.{flat_deed, entries, flats, Loop, Enter, Update};
 
-use program_tree::{
+use meaning::tree::{
     Action, Block, Declaration, Expr, Operator, Procedure, Reducer, Statement, Way,
 };
 use std::alloc::{AllocError, Global};

@@ -1,15 +1,15 @@
 //! Puts procedures into a program.
 
 ghost use Rattle.std.specs.Prelude.{◌≡◌, ◌<◌, IfOk, IfSome, None, [], map, length, string_bytes};
-ghost use Rattle.program_tree.specs.View.{proc, decl, tree, lined, lines, block_lines};
-ghost use Rattle.program_tree.specs.Plain as plain;
-ghost use Rattle.program_tree.specs.declared.Declaration.TheVariants as variant;
+ghost use Rattle.meaning.specs.TreeView.{proc, decl, tree, lined, lines, block_lines};
+ghost use Rattle.meaning.specs.Tree as plain;
+ghost use Rattle.meaning.specs.declared.tree.Declaration.TheVariants as variant;
 ghost use Rattle.source_tree.specs.Source as written;
 ghost use Rattle.source_tree.specs.Lowering.{BodiesWithin, most_statements};
 ghost use Rattle.program_edits.specs.Putting.{is_in, is_procedure, last_place, spot_of, put_at, put_all};
 
 use crate::copies::copy_declarations;
-use program_tree::{Declaration, Procedure, Program};
+use meaning::tree::{Declaration, Procedure, Program};
 use source_tree::lower_procedure;
 use std::alloc::{AllocError, Global};
 

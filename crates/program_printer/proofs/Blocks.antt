@@ -1,12 +1,12 @@
 -- What begins with `else`: no statement does.
 use Rattle.std.proofs.Common.{◌≡◌, List, [], ◌∷◌, ◌++◌, map, length, drop, slice_index_or, slice_get, ◌<◌, ◌+◌, ◌-◌, zero, suc, add-one, drop-cons, length-drop, ◌≤◌, arith, Some, None, true, false, eqb, ℕ, ◌∙◌, refl, sym, ap}
 use Rattle.std.proofs.lemmas.List.{append-nil, nil_from_length}
-use Rattle.program_tree.specs.declared.Declaration.{Declaration}
-use Rattle.program_tree.specs.declared.Way.TheVariants as way
-use Rattle.program_tree.specs.declared.Statement.{Statement}
-use Rattle.program_tree.specs.declared.Block.{Block}
-use Rattle.program_tree.specs.View.{deed, statements, statements_of, block, decl}
-use Rattle.program_tree.specs.Plain.{Name, Deed, bind, enter, read, sync, update, choose, loop, give, Body, end, step, Decl, reducer, procedure, Tree}
+use Rattle.meaning.specs.declared.tree.Declaration.{Declaration}
+use Rattle.meaning.specs.declared.tree.Way.TheVariants as way
+use Rattle.meaning.specs.declared.tree.Statement.{Statement}
+use Rattle.meaning.specs.declared.tree.Block.{Block}
+use Rattle.meaning.specs.TreeView.{deed, statements, statements_of, block, decl}
+use Rattle.meaning.specs.Tree.{Name, Deed, bind, enter, read, sync, update, choose, loop, give, Body, end, step, Decl, reducer, procedure, Tree}
 use Rattle.token_scanner.specs.declared.token.Mark.TheVariants as mark
 use Rattle.token_scanner.specs.Words.{Word, Sign}
 use Rattle.token_spelling.specs.Spelling.{written, starts_else, PutsBlock}

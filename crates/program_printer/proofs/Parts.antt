@@ -1,6 +1,6 @@
 -- Parts that are written one behind the other.
 use Rattle.std.proofs.Common.{◌≡◌, ◌≤◌, List, [], ◌∷◌, map, length, drop, take, ◌-◌, zero, suc, refl, ap, slice_index_or, string_bytes, ℤ, pos, negsuc, true, false, min, sym, Result, Ok, Err, OnOk, ℕ, ◌∙◌, arith}
-use Rattle.program_tree.specs.Plain.{Name}
+use Rattle.meaning.specs.Tree.{Name}
 use Rattle.std.specs.Prelude.{codes, int_lt, unsigned_abs}
 use Rattle.std.proofs.lemmas.Bool.{ltb-true}
 use Rattle.token_scanner.specs.declared.token.Mark.TheVariants as mark
@@ -9,8 +9,8 @@ use Rattle.token_scanner.specs.Words as word
 use Rattle.std.specs.declared.string.String.{String}
 use Rattle.std.specs.Global.{Global}
 use Rattle.token_spelling.specs.Spelling.{Puts}
-use Rattle.program_tree.specs.declared.Expr.{Expr}
-use Rattle.program_tree.specs.View.{term}
+use Rattle.meaning.specs.declared.tree.Expr.{Expr}
+use Rattle.meaning.specs.TreeView.{term}
 use Rattle.program_printer.specs.Printing.{term_words, more_terms, terms_words, more_numbers, numbers_words, signed_words, more_signed_words, initial_words, more_names, names_words}
 
 pub on_ok : {T E : Type 0} (r : Result T E) (P Q : Type 0) → (P → Q) → OnOk r P → OnOk r Q

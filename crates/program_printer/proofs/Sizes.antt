@@ -1,6 +1,6 @@
 -- How many expressions are in one.
 use Rattle.std.proofs.Common.{ℕ, ◌+◌}
-use Rattle.program_tree.specs.Plain.{Term, number, name, cell, has, limit, sum, negate, binary}
+use Rattle.meaning.specs.Tree.{Term, number, name, cell, has, limit, sum, negate, binary}
 
 abbrev pub size : Term → ℕ
 size (number n) = 1

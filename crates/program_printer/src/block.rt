@@ -1,8 +1,8 @@
 //! Prints blocks, whose statements may lead to further blocks.
 
 ghost use Rattle.std.specs.Prelude.{◌≡◌, ◌++◌, ◌∷◌, ℕ, slice_get, OnOk, map, string_bytes};
-ghost use Rattle.program_tree.specs.Plain.{Body, choose};
-ghost use Rattle.program_tree.specs.View.{term, deed, statements, statements_of, block};
+ghost use Rattle.meaning.specs.Tree.{Body, choose};
+ghost use Rattle.meaning.specs.TreeView.{term, deed, statements, statements_of, block};
 ghost use Rattle.token_scanner.specs.Words.{Word, Sign};
 ghost use Rattle.token_scanner.specs.declared.token.Mark.TheVariants as mark;
 ghost use Rattle.token_spelling.specs.Spelling.{Puts, Grows, GrowsByBlock};
@@ -12,7 +12,7 @@ use crate::expression::put_expression;
 use crate::statement::{
     put_bind, put_enter, put_entry, put_loop_head, put_read, put_return, put_sync, put_update,
 };
-use program_tree::{Action, Expr, Procedure, Statement};
+use meaning::tree::{Action, Expr, Procedure, Statement};
 use std::alloc::AllocError;
 
 /// The statements of a block; none where no block has the number.

@@ -2,8 +2,8 @@
 
 ghost use Rattle.std.specs.Prelude.{◌≡◌, ◌++◌, ◌∷◌, ◌*◌, OnOk, map, take, string_bytes, pos, codes};
 ghost use Rattle.monoid_laws.specs.declared.Table.{Table};
-ghost use Rattle.program_tree.specs.View.{proc, red, decl};
-ghost use Rattle.program_tree.specs.Plain as plain;
+ghost use Rattle.meaning.specs.TreeView.{proc, red, decl};
+ghost use Rattle.meaning.specs.Tree as plain;
 ghost use Rattle.token_scanner.specs.Words.{Word, Sign, Number};
 ghost use Rattle.token_scanner.specs.Words as word;
 ghost use Rattle.token_scanner.specs.declared.token.Mark.TheVariants as mark;
@@ -13,7 +13,7 @@ ghost use Rattle.program_printer.specs.Printing.{initial_words, more_names, name
 
 use crate::block::{put_block, put_close};
 use monoid_laws::{Kind, Table};
-use program_tree::{Declaration, Procedure, Reducer};
+use meaning::tree::{Declaration, Procedure, Reducer};
 use std::alloc::AllocError;
 use std::fmt::Write;
 

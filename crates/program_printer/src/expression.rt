@@ -1,14 +1,14 @@
 //! Prints expressions.
 
 ghost use Rattle.std.specs.Prelude.{◌≡◌, ◌++◌, ◌∷◌, OnOk, map, string_bytes};
-ghost use Rattle.program_tree.specs.Plain.{cell, binary};
-ghost use Rattle.program_tree.specs.View.{term};
+ghost use Rattle.meaning.specs.Tree.{cell, binary};
+ghost use Rattle.meaning.specs.TreeView.{term};
 ghost use Rattle.token_scanner.specs.Words.{Word, Sign};
 ghost use Rattle.token_scanner.specs.declared.token.Mark.TheVariants as mark;
 ghost use Rattle.token_spelling.specs.Spelling.{Puts, Grows};
 ghost use Rattle.program_printer.specs.Printing.{variable, term_words, operator_mark, names_of};
 
-use program_tree::{Expr, Operator, Procedure};
+use meaning::tree::{Expr, Operator, Procedure};
 use std::alloc::AllocError;
 use std::fmt::Write;
 use token_spelling::{put_close, put_open};

@@ -1,7 +1,7 @@
 //! What holds of printed texts.
 
 ghost use Rattle.std.specs.Prelude.{◌≡◌};
-ghost use Rattle.program_tree.specs.Plain.{Tree};
+ghost use Rattle.meaning.specs.Tree.{Tree};
 ghost use Rattle.token_scanner.specs.Scanning.{tokens_of};
 ghost use Rattle.program_printer.specs.Printing.{printed_words, printed};
 ghost use Rattle.program_printer.specs.Tokens.{AllTokens, bare};

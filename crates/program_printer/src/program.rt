@@ -1,11 +1,11 @@
 //! Prints programs.
 
 ghost use Rattle.std.specs.Prelude.{◌≡◌, IfOk};
-ghost use Rattle.program_tree.specs.View.{tree};
+ghost use Rattle.meaning.specs.TreeView.{tree};
 ghost use Rattle.program_printer.specs.Printing.{printed};
 
 use crate::declaration::put_declaration;
-use program_tree::Program;
+use meaning::tree::Program;
 use std::alloc::{AllocError, Global};
 
 /// A program as text, in its one printed form; an error is a want of memory.

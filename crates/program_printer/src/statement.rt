@@ -1,8 +1,8 @@
 //! Prints statements.
 
 ghost use Rattle.std.specs.Prelude.{◌≡◌, ◌++◌, ◌∷◌, OnOk, map, string_bytes, pos};
-ghost use Rattle.program_tree.specs.Plain.{bind, enter, read, update, give};
-ghost use Rattle.program_tree.specs.View.{term};
+ghost use Rattle.meaning.specs.Tree.{bind, enter, read, update, give};
+ghost use Rattle.meaning.specs.TreeView.{term};
 ghost use Rattle.token_scanner.specs.Words.{Word, Sign, Number};
 ghost use Rattle.token_scanner.specs.Words as word;
 ghost use Rattle.token_scanner.specs.declared.token.Mark.TheVariants as mark;
@@ -11,7 +11,7 @@ ghost use Rattle.program_printer.specs.Printing.{variable, term_words, terms_wor
 ghost use Rattle.program_printer.specs.Printing.{deed_words, names_of, range_words, loop_words};
 
 use crate::expression::{put_expression, variable};
-use program_tree::{Expr, Procedure, Way};
+use meaning::tree::{Expr, Procedure, Way};
 use std::alloc::AllocError;
 use std::fmt::Write;
 use token_spelling::put_end;

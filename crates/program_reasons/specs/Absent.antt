@@ -1,6 +1,6 @@
 -- Rows that aren't there, and slots that are given a value.
 use Rattle.std.specs.Prelude.{◌≡◌, ℕ, ℤ, List, false, Option, Some, None, Result, Err, slice_set}
-use Rattle.program_tree.specs.declared.Operator.{Operator}
+use Rattle.meaning.specs.declared.tree.Operator.{Operator}
 use Rattle.meaning.specs.declared.FaultKind.{FaultKind}
 use Rattle.meaning.specs.declared.FaultKind.TheVariants.{MissingRow}
 use Rattle.meaning.specs.Tables.{Tables}

@@ -4,7 +4,7 @@ use crate::missing_rows::first_missing;
 use explanations::edits::push_refused;
 use explanations::faults::push_fault;
 use explanations::lines::push_unknown;
-use frames::answer::RunAnswer;
+use positions::answer::RunAnswer;
 use input_tables::Tables;
 use linked_program::checked::Checked;
 use meaning::FaultKind;

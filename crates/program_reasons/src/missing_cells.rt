@@ -13,7 +13,7 @@ use evaluation::slot::Slot;
 use evaluation::values::{number_in, value};
 use input_tables::Tables;
 use linked_program::code::Expression;
-use program_tree::Operator;
+use meaning::tree::Operator;
 
 /// A row that isn't there: the number of its table, and its own.
 #[derive(Clone, Copy, Debug, PartialEq, Eq)]

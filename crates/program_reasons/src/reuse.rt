@@ -1,7 +1,7 @@
 // What is said of the memo instances of a run.
 ghost use Rattle.rerun_records.specs.Doubted.{IsInStep};
 
-use frames::answer::RunAnswer;
+use positions::answer::RunAnswer;
 use input_tables::Tables;
 use linked_program::checked::Checked;
 use rerun_reasons::{push_reasons, reasons};

@@ -4,7 +4,7 @@ ghost use Rattle.rerun_records.specs.Doubted.{IsInStep};
 
 use crate::causes::explanation;
 use crate::reuse::{outcome_text, reuse_text};
-use frames::answer::RunAnswer;
+use positions::answer::RunAnswer;
 use input_tables::Tables;
 use linked_program::checked::Checked;
 use program_endings::streams::{Failures, flush, write_whole};

@@ -1,7 +1,7 @@
 -- What a session over given tables is to its program's text, and why it isn't opened.
 use Rattle.std.specs.Prelude.{◌≡◌, ◌⊎◌, ℕ, List, []}
-use Rattle.program_tree.specs.Plain.{Tree}
-use Rattle.program_tree.specs.View.{tree, lines, Lined}
+use Rattle.meaning.specs.Tree.{Tree}
+use Rattle.meaning.specs.TreeView.{tree, lines, Lined}
 use Rattle.source_tree.specs.Source.{Source}
 use Rattle.source_tree.specs.Lowering.{settled, lowered, lines_of}
 use Rattle.procedure_parser.specs.Correct.{IsText, IsSource}

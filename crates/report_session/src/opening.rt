@@ -1,7 +1,7 @@
 // A session of a program's text over tables that the caller has made.
 ghost use Rattle.std.specs.Prelude.{◌≡◌, ◌≢◌, ℕ, List, Err, IfOk, IfErr, [], length};
-ghost use Rattle.program_tree.specs.Plain.{Tree};
-ghost use Rattle.program_tree.specs.View.{Lined};
+ghost use Rattle.meaning.specs.Tree.{Tree};
+ghost use Rattle.meaning.specs.TreeView.{Lined};
 ghost use Rattle.source_tree.specs.Source.{Source};
 ghost use Rattle.meaning.specs.Tables.{Tables as TableModel};
 ghost use Rattle.procedure_parser.specs.Correct.{IsText, IsSource, IsFault, Answers};

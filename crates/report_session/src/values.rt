@@ -1,12 +1,12 @@
 // The values that a run's reducers came to, by their names.
 ghost use Rattle.std.specs.Prelude.{◌≡◌, map, slice_get, option_copied};
-ghost use Rattle.program_tree.specs.View.{tree, decl};
+ghost use Rattle.meaning.specs.TreeView.{tree, decl};
 ghost use Rattle.meaning.specs.Statements.{reducers};
 ghost use Rattle.linked_program.specs.Linked.{reducer_number as number_of_reducer};
 
 use linked_program::checked::Checked;
 use monoid_laws::Val;
-use program_tree::Declaration;
+use meaning::tree::Declaration;
 
 /// The value of the reducer of a name, of those that a run of the program came to, which are in the order of its text; none
 /// where the program has no such reducer.

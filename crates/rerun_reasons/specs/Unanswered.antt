@@ -1,7 +1,7 @@
 -- Instances that no record answers.
 use Rattle.std.specs.Prelude.{◌≡◌, ℕ, suc, ◌+◌, nat_le, true, false, List, Option, Some, None, All}
 use Rattle.std.specs.List.{find}
-use Rattle.program_tree.specs.Plain.{Name}
+use Rattle.meaning.specs.Tree.{Name}
 use Rattle.meaning.specs.Elision.{depth_limit}
 use Rattle.meaning.specs.Tables.{Tables}
 use Rattle.rerun_records.specs.Record.{PlainRecord, is_of}

@@ -2,7 +2,7 @@
 
 use crate::reason::{Count, Ending, Explained, Reason, Reasons};
 use linked_program::checked::Checked;
-use program_tree::Declaration;
+use meaning::tree::Declaration;
 use std::alloc::AllocError;
 use std::fmt::Write;
 

@@ -7,7 +7,7 @@ use Rattle.std.specs.Str.{bytes_eq}
 use Rattle.std.proofs.lemmas.Bool.Decides.{Decides-eqb}
 use Rattle.std.proofs.lemmas.Cmp.{int_eq_equiv}
 use Rattle.std.proofs.lemmas.Slice.Eq.{bytes_eq-Decides}
-use Rattle.program_tree.specs.Plain.{Name, Proc, reducer, procedure, Tree}
+use Rattle.meaning.specs.Tree.{Name, Proc, reducer, procedure, Tree}
 use Rattle.meaning.specs.Outcome.{Reading, CellHeld, HasHeld, LimitHeld, SumHeld}
 use Rattle.meaning.specs.Records.{agrees, is_current, same_number, same_bool, same_args}
 use Rattle.meaning.specs.Statements.{procedure_of}

@@ -1,7 +1,7 @@
 -- Which records of the definitions, in which everything goes by name, the records by number stand for.
 use Rattle.std.specs.Prelude.{◌≡◌, ℕ, suc, ◌<◌, ◌≤◌, ℤ, true, cond, List, [], ◌∷◌, map, length, Option, Some, None, Contains, ◌↔◌, slice_get, slice_set, All}
-use Rattle.program_tree.specs.Plain.{Name, Tree}
-use Rattle.program_tree.specs.View.{tree}
+use Rattle.meaning.specs.Tree.{Name, Tree}
+use Rattle.meaning.specs.TreeView.{tree}
 use Rattle.monoid_laws.specs.Worth.{Worth}
 use Rattle.monoid_laws.specs.declared.Kind.{Kind}
 use Rattle.monoid_laws.specs.Kinds.{identities, IsWorth}

@@ -2,7 +2,7 @@
 use Rattle.std.specs.Prelude.{ℕ, suc, ◌+◌, nat_le, nat_eq, ℤ, Bool, false, cond, ◌&&◌, List, Option, Some, None, slice_get}
 use Rattle.std.specs.List.{find}
 use Rattle.std.specs.Ordering.{int_eq}
-use Rattle.program_tree.specs.Plain.{Name}
+use Rattle.meaning.specs.Tree.{Name}
 use Rattle.meaning.specs.Every.{every}
 use Rattle.meaning.specs.Tables.{Tables}
 use Rattle.meaning.specs.Elision.{depth_limit}

@@ -1,6 +1,6 @@
 //! What follows from the definitions alone, each as the contract of a function that does nothing.
 ghost use Rattle.std.specs.Prelude.{◌≡◌, ℕ, ℤ, List};
-ghost use Rattle.program_tree.specs.Plain.{Name};
+ghost use Rattle.meaning.specs.Tree.{Name};
 ghost use Rattle.monoid_laws.specs.declared.Kind.{Kind};
 ghost use Rattle.meaning.specs.Tables.{Tables};
 ghost use Rattle.meaning.specs.Records.{Revised};

@@ -5,13 +5,13 @@ use Rattle.linked_program.specs.Checked.{PlainChecked}
 use Rattle.input_tables.specs.Edited.{Edited}
 use Rattle.rerun_records.specs.Record.{PlainRecord, settled}
 use Rattle.rerun_records.specs.Commits.{put_records}
-use Rattle.frames.specs.declared.answer.RunAnswer.{RunAnswer}
-use Rattle.frames.specs.declared.answer.RunAnswer.TheVariants as answer
+use Rattle.positions.specs.declared.answer.RunAnswer.{RunAnswer}
+use Rattle.positions.specs.declared.answer.RunAnswer.TheVariants as answer
 use Rattle.numbered_runs.specs.declared.step.Step.{Step}
 use Rattle.view_pool.specs.Stock.{Stock}
 use Rattle.checked_defines.specs.Standings.{standing}
 use Rattle.numbered_runs.specs.Sound.{AreSoundFor}
-use Rattle.run_terms.specs.Recorded.{HasRecordedBy}
+use Rattle.numbered_runs.specs.Recorded.{HasRecordedBy}
 use Rattle.kept_session.specs.Sessions.{PlainSession, AreNewFor, standing_of, stock_of}
 use Rattle.session_runs.specs.Runs.{IsFromScratch, LeavesRecords, IsQuietAfter}
 use Rattle.session_runs.proofs.Outcomes.{news_of}

@@ -1,8 +1,8 @@
 -- What the steps that a run is given make of it.
 use Rattle.std.specs.Prelude.{◌≡◌, ◌≤◌, ℕ, Bool, false, length, List, [], ◌∷◌, map, Option, Some}
 use Rattle.meaning.specs.Schedules.{RunState, RunStep, or_same, path, end_of}
-use Rattle.frames.specs.declared.answer.RunAnswer.{RunAnswer}
-use Rattle.frames.specs.declared.answer.RunAnswer.TheVariants as answer
+use Rattle.positions.specs.declared.answer.RunAnswer.{RunAnswer}
+use Rattle.positions.specs.declared.answer.RunAnswer.TheVariants as answer
 use Rattle.linked_program.specs.Checked.{PlainChecked}
 use Rattle.input_tables.specs.Edited.{Edited}
 use Rattle.rerun_records.specs.Record.{PlainRecord}

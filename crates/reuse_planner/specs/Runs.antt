@@ -2,8 +2,8 @@
 use Rattle.std.specs.Prelude.{◌≡◌, ◌↔◌, ◌≤◌, ℕ, Bool, List, [], map, length}
 use Rattle.meaning.specs.Schedules.{RunState, RunStep, first_state, path, end_of}
 use Rattle.positions.specs.Setting.{Setting}
-use Rattle.frames.specs.declared.answer.RunAnswer.{RunAnswer}
-use Rattle.frames.specs.declared.answer.RunAnswer.TheVariants as answer
+use Rattle.positions.specs.declared.answer.RunAnswer.{RunAnswer}
+use Rattle.positions.specs.declared.answer.RunAnswer.TheVariants as answer
 use Rattle.numbered_runs.specs.Named.{run_step}
 use Rattle.numbered_runs.specs.declared.step.Step.{Step}
 use Rattle.numbered_runs.specs.Sound.{AreSoundFor, setting_by}

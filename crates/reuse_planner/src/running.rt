@@ -7,7 +7,7 @@ ghost use Rattle.worker_core.specs.Strands.{kits_in};
 ghost use Rattle.worker_core.specs.Cores.{is_no_memory};
 ghost use Rattle.numbered_runs.specs.Sound.{AreSoundFor};
 ghost use Rattle.worker_core.specs.Keeps.{AnswersElision, HasRecorded};
-ghost use Rattle.run_terms.specs.Recorded.{HasRecordedBy};
+ghost use Rattle.numbered_runs.specs.Recorded.{HasRecordedBy};
 ghost use Rattle.kept_session.specs.Sessions.{standing_of};
 ghost use Rattle.reuse_planner.specs.Driven.{lent, IsSameRun, IsTaken, AreTaken, EndsBy};
 ghost use Rattle.session_runs.specs.Runs.{IsFromScratch};

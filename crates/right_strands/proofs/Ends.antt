@@ -43,8 +43,8 @@ use Rattle.positions.specs.Strands.{PlainStrand}
 use Rattle.positions.specs.Simulation.{place_of}
 use Rattle.positions.specs.Stands.{AreNotes, AreParents, StandsAt, IsStart, IsAt, named_fault}
 use Rattle.frames.specs.Answers.{IsAnswer, Ending, over, stopped, ending_of, ending_at}
-use Rattle.frames.specs.declared.answer.RunAnswer.{RunAnswer}
-use Rattle.frames.specs.declared.answer.RunAnswer.TheVariants as answer
+use Rattle.positions.specs.declared.answer.RunAnswer.{RunAnswer}
+use Rattle.positions.specs.declared.answer.RunAnswer.TheVariants as answer
 use Rattle.right_strands.specs.Remembering.{Remembers, recalling}
 use Rattle.right_strands.specs.Rightness.{sight, lookup, IsSound, IsRightBy, IsRightStrand}
 use Rattle.strand_list.specs.declared.rest.Rest.{Rest}

@@ -1,6 +1,6 @@
 -- A small step of a strand without flags, told of that strand alone.
 use Rattle.std.proofs.Common.{◌≡◌, ℕ, ℤ, Bool, true, List, [], ◌∷◌, Option, refl, sym, ap, ◌∙◌, subst}
-use Rattle.program_tree.specs.Plain.{Tree}
+use Rattle.meaning.specs.Tree.{Tree}
 use Rattle.meaning.specs.Outcome.{Accumulators}
 use Rattle.meaning.specs.Records.{Kept, holds_now}
 use Rattle.meaning.specs.SmallStep.{Start, Frame, Phase, entering, running, spawning, returning, leaving, broken, Child, Todo, Parent, Continuation, place_of_continuation, Step, moved, taken, paused, micro}

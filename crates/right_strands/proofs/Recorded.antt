@@ -10,7 +10,7 @@ use Rattle.meaning.specs.SmallStep.{Start, root, behind, look_of, Child, Todo, s
 use Rattle.meaning.specs.Layers.{Notes, total}
 use Rattle.meaning.specs.Tallies.{Tally, no_tally, executions, tallied, tallies_joined}
 use Rattle.meaning.specs.LayeredStrand.{LayeredStrand, advanced, first_layered, inlined, detached, resumed, stolen, joined}
-use Rattle.program_tree.specs.Plain.{Tree}
+use Rattle.meaning.specs.Tree.{Tree}
 use Rattle.trail_theory.specs.Counts.{IsCounted}
 use Rattle.trail_theory.specs.Order.{LeavesInOrder}
 use Rattle.trail_theory.specs.OpenLayers.{IsNumbered}

@@ -15,8 +15,8 @@ use Rattle.positions.specs.Stands.{named_fault}
 use Rattle.positions.specs.Moves.{lowest_alone}
 use Rattle.positions.specs.Tallies.{PlainTally}
 use Rattle.numbered_runs.specs.News.{HasCounted, HaveNews}
-use Rattle.frames.specs.declared.answer.RunAnswer.{RunAnswer}
-use Rattle.frames.specs.declared.answer.RunAnswer.TheVariants as answer
+use Rattle.positions.specs.declared.answer.RunAnswer.{RunAnswer}
+use Rattle.positions.specs.declared.answer.RunAnswer.TheVariants as answer
 use Rattle.right_strands.specs.Remembering.{Remembers, recalling}
 use Rattle.strand_list.specs.declared.rest.Rest.{Rest}
 use Rattle.strand_list.specs.declared.rest.Rest.TheVariants as rest

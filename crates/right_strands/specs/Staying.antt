@@ -30,7 +30,7 @@ use Rattle.answered_loops.specs.Ways.{IsWayOf}
 use Rattle.strand_moves.specs.Joins.{HasFault}
 use Rattle.frames.specs.Answers.{ending_of, IsAnswer}
 use Rattle.frames.specs.Paths.{IsPathOf}
-use Rattle.frames.specs.declared.answer.RunAnswer.{RunAnswer}
+use Rattle.positions.specs.declared.answer.RunAnswer.{RunAnswer}
 use Rattle.numbered_runs.specs.News.{StandForKept}
 use Rattle.strand_list.specs.declared.rest.Rest.{Rest}
 use Rattle.right_strands.specs.Rightness.{sight, lookup, Pushed, FitsHere, IsSound, IsRightBy, IsRightTaskBy}

@@ -11,7 +11,7 @@ ghost use Rattle.right_strands.specs.Laid.{IsAtRest, laid_as, AnswersElision, Is
 
 use crate::run::{Run, Scene};
 use crate::strand::RightStrand;
-use frames::answer::RunAnswer;
+use positions::answer::RunAnswer;
 use frames::strand::Strand;
 use positions::phase::Paused;
 use positions::start::Start;

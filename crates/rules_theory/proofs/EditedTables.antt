@@ -2,7 +2,7 @@
 use Rattle.std.proofs.Common.{◌≡◌, ℕ, ℤ, Bool, true, false, cond, List, [], ◌∷◌, Option, Some, None, Result, Ok, Err, refl, sym, ap, ◌∙◌}
 use Rattle.std.specs.Prelude.{nat_eq, not, length}
 use Rattle.std.specs.Str.{bytes_eq}
-use Rattle.program_tree.specs.Plain.{Name}
+use Rattle.meaning.specs.Tree.{Name}
 use Rattle.meaning.specs.Tables.{Tables, Listed, is_there, row_of}
 use Rattle.meaning.specs.Edits.{Standing, EditRefusal, RowRange, WrongColumns, NoRow, Exhausted, most, in_range, unless, table_of, table_changed, row_put, row_gone, with_rows, with_tables, put_in, after_put, delete_in, after_delete}
 use Rattle.linked_program.specs.TableNames.{columned_of}

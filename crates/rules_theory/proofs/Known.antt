@@ -1,8 +1,8 @@
 -- What is known of one variable, from statement to statement.
 use Rattle.std.proofs.Common.{◌≡◌, ℕ, zero, suc, ◌+◌, ◌≤◌, Bool, true, false, cond, ◌||◌, ◌==◌, List, [], ◌∷◌, Option, Some, None, slice_get, slice_set, refl, ap, sym, ◌∙◌, subst, inl, inr, ◌⊎◌, arith}
 use Rattle.std.proofs.lemmas.Bool.{eqb-true, eqb-false, ne_eqb, eq-eqb}
-use Rattle.program_tree.specs.declared.Way.TheVariants.{Call, Spawn}
-use Rattle.program_tree.specs.Plain.{Deed, bind, enter, read, sync, update, choose, loop, give, Body, end, step}
+use Rattle.meaning.specs.declared.tree.Way.TheVariants.{Call, Spawn}
+use Rattle.meaning.specs.Tree.{Deed, bind, enter, read, sync, update, choose, loop, give, Body, end, step}
 use Rattle.linked_program.specs.declared.knowledge.Moment.{Moment}
 use Rattle.linked_program.specs.declared.knowledge.Knowledge.{Knowledge}
 use Rattle.linked_program.specs.declared.knowledge.Knowledge.TheVariants.{Unbound, Ended, Known}

@@ -6,11 +6,11 @@ use Rattle.monoid_laws.specs.declared.Kind.{Kind}
 use Rattle.monoid_laws.specs.declared.Kind.TheVariants as k
 use Rattle.monoid_laws.specs.Kinds.{IsMonoid, IsTableMonoid}
 use Rattle.monoid_laws.proofs.Laws.{IsMonoid-kind}
-use Rattle.program_tree.specs.declared.Declaration.{Declaration}
-use Rattle.program_tree.specs.declared.Declaration.TheVariants as d
-use Rattle.program_tree.specs.declared.Program.{Program}
-use Rattle.program_tree.specs.Plain.{Tree}
-use Rattle.program_tree.specs.View.{decl, lined, tree, proc, red, block_lines}
+use Rattle.meaning.specs.declared.tree.Declaration.{Declaration}
+use Rattle.meaning.specs.declared.tree.Declaration.TheVariants as d
+use Rattle.meaning.specs.declared.tree.Program.{Program}
+use Rattle.meaning.specs.Tree.{Tree}
+use Rattle.meaning.specs.TreeView.{decl, lined, tree, proc, red, block_lines}
 use Rattle.meaning.specs.Tables.{is_there}
 use Rattle.meaning.specs.Statements.{reducers}
 use Rattle.linked_program.specs.declared.violation.Rule.TheVariants.{Monoid, Twice, Initial}

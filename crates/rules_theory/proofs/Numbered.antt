@@ -3,9 +3,9 @@ use Rattle.std.proofs.Common.{◌≡◌, ℕ, ◌+◌, ◌<◌, Bool, true, fals
 use Rattle.std.specs.Prelude.{All}
 use Rattle.std.specs.Str.{bytes_eq}
 use Rattle.std.proofs.lemmas.List.Elements.{All-head, All-tail}
-use Rattle.program_tree.specs.declared.Program.{Program}
-use Rattle.program_tree.specs.Plain.{Name, Proc, reducer, procedure, Tree}
-use Rattle.program_tree.specs.View.{decl, lined, tree}
+use Rattle.meaning.specs.declared.tree.Program.{Program}
+use Rattle.meaning.specs.Tree.{Name, Proc, reducer, procedure, Tree}
+use Rattle.meaning.specs.TreeView.{decl, lined, tree}
 use Rattle.meaning.specs.Statements.{procedure_of, proc_of}
 use Rattle.meaning.specs.Tables.{is_there}
 use Rattle.meaning.specs.Elision.{main}

@@ -2,10 +2,10 @@
 use Rattle.std.proofs.Common.{◌≡◌, ℕ, ◌+◌, Bool, true, false, cond, not, ◌&&◌, ◌||◌, ◌==◌, nat_lt, List, [], ◌++◌, Option, Some, None, map, take, length, slice_get, option_map, refl, sym, ◌∙◌, add-one, lt-ltb, arith}
 use Rattle.std.proofs.Math.Dec.{eqb-suc-zero}
 use Rattle.std.specs.Str.{bytes_eq}
-use Rattle.program_tree.specs.declared.Program.{Program}
-use Rattle.program_tree.specs.declared.Way.TheVariants.{Call, Spawn}
-use Rattle.program_tree.specs.Plain.{Name, Deed, bind, enter, read, sync, update, choose, loop, give, Body, end, step, Proc, Tree}
-use Rattle.program_tree.specs.View.{decl, lined, tree}
+use Rattle.meaning.specs.declared.tree.Program.{Program}
+use Rattle.meaning.specs.declared.tree.Way.TheVariants.{Call, Spawn}
+use Rattle.meaning.specs.Tree.{Name, Deed, bind, enter, read, sync, update, choose, loop, give, Body, end, step, Proc, Tree}
+use Rattle.meaning.specs.TreeView.{decl, lined, tree}
 use Rattle.meaning.specs.Statements.{procedure_of, found}
 use Rattle.meaning.specs.Tables.{is_there}
 use Rattle.meaning.specs.Elision.{main}

@@ -1,9 +1,9 @@
 -- The rule on waiting names: no statement uses a name that waits for a spawned child.
 use Rattle.std.proofs.Common.{◌≡◌, ℕ, zero, suc, ◌+◌, ◌≤◌, ◌-◌, Bool, true, false, cond, ◌&&◌, ◌==◌, List, [], ◌∷◌, ◌++◌, Option, Some, None, map, length, min, replicate, slice_get, refl, ap, sym, ◌∙◌, subst, inl, inr, ◌⊎◌, arith}
-use Rattle.program_tree.specs.declared.Program.{Program}
-use Rattle.program_tree.specs.declared.Way.TheVariants.{Call, Spawn}
-use Rattle.program_tree.specs.Plain.{Name, Term, number, name, cell, has, limit, sum, negate, binary, Deed, bind, enter, read, sync, update, choose, loop, give, Body, end, step}
-use Rattle.program_tree.specs.View.{decl, lined, tree}
+use Rattle.meaning.specs.declared.tree.Program.{Program}
+use Rattle.meaning.specs.declared.tree.Way.TheVariants.{Call, Spawn}
+use Rattle.meaning.specs.Tree.{Name, Term, number, name, cell, has, limit, sum, negate, binary, Deed, bind, enter, read, sync, update, choose, loop, give, Body, end, step}
+use Rattle.meaning.specs.TreeView.{decl, lined, tree}
 use Rattle.meaning.specs.Statements.{procedure_of}
 use Rattle.linked_program.specs.declared.knowledge.Moment.{Moment}
 use Rattle.linked_program.specs.declared.knowledge.Knowledge.{Knowledge}

@@ -3,10 +3,10 @@
 
 ghost use Rattle.std.specs.Prelude.{◌≡◌, ℤ, List, All, Ok};
 ghost use Rattle.monoid_laws.specs.Kinds.{IsMonoid};
-ghost use Rattle.program_tree.specs.Plain.{Name};
-ghost use Rattle.program_tree.specs.declared.Program.{Program};
+ghost use Rattle.meaning.specs.Tree.{Name};
+ghost use Rattle.meaning.specs.declared.tree.Program.{Program};
 ghost use Rattle.meaning.specs.Edits.{Standing, after_put, after_delete};
-ghost use Rattle.program_tree.specs.View.{tree};
+ghost use Rattle.meaning.specs.TreeView.{tree};
 ghost use Rattle.linked_program.specs.TableNames.{Columned, columned_of};
 ghost use Rattle.linked_program.specs.Declarations.{IsClean};
 ghost use Rattle.linked_program.specs.Checked.{PlainChecked, IsChecked, revised_of};

@@ -1,6 +1,6 @@
 -- What the pieces of a run come to, one after another.
 use Rattle.std.proofs.Common.{◌≡◌, ℕ, List, [], ◌∷◌, ℤ, Some, None, Result, Ok, Err, refl, ap, ◌∙◌, map}
-use Rattle.program_tree.specs.Plain.{Name, Proc, Tree}
+use Rattle.meaning.specs.Tree.{Name, Proc, Tree}
 use Rattle.meaning.specs.Tables.{Tables}
 use Rattle.meaning.specs.Outcome.{Log, Enters, Accumulators, after, Fault}
 use Rattle.meaning.specs.Outcome as outcome

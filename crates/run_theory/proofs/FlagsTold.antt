@@ -1,6 +1,6 @@
 -- After any steps, what an instance's flag says is what the top layer's name says, and a strand that stands at a read has one layer.
 use Rattle.std.proofs.Common.{ℕ, List, [], ◌∷◌, ◌≡◌, inl, inr, refl, sym, ap, ◌∙◌, subst, true, false, Bool}
-use Rattle.program_tree.specs.Plain.{read, step, Tree}
+use Rattle.meaning.specs.Tree.{read, step, Tree}
 use Rattle.meaning.specs.Tables.{Tables}
 use Rattle.meaning.specs.Outcome.{Fault, Place}
 use Rattle.meaning.specs.Records.{Revised}

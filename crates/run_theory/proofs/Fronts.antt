@@ -1,6 +1,6 @@
 -- What is left to do of a run whose first strand is at work, where all others are over.
 use Rattle.std.proofs.Common.{Bool, true, false, ◌-◌, Some, List, [], ◌∷◌, ◌++◌, append_assoc, ℤ, pos, Ok, Err, ◌≡◌, inl, inr, refl, sym, ap, ◌∙◌, subst}
-use Rattle.program_tree.specs.Plain.{Tree}
+use Rattle.meaning.specs.Tree.{Tree}
 use Rattle.meaning.specs.Tables.{Tables}
 use Rattle.meaning.specs.Outcome.{Log, Event, Accumulators, Fault, Outcome, Place, Leaves, after}
 use Rattle.meaning.specs.Statements.{identities, initial_values, put_into}

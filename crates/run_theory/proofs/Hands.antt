@@ -1,6 +1,6 @@
 -- Values in hand, in the names that wait for them.
 use Rattle.std.proofs.Common.{ℕ, suc, ℤ, List, [], ◌∷◌, ◌++◌, map, Option, Some, None, Ok, Err, ◌≡◌, ◌⊎◌, inl, inr, refl, sym, ap, ap₂, ◌∙◌, subst, true, false, Bool, cond}
-use Rattle.program_tree.specs.Plain.{Tree}
+use Rattle.meaning.specs.Tree.{Tree}
 use Rattle.meaning.specs.Outcome.{Log, Fault, Place, Leaves}
 use Rattle.meaning.specs.Values.{Env}
 use Rattle.meaning.specs.Trail.{child_of}

@@ -1,8 +1,8 @@
 -- A worker that holds a strand can always go on with it.
 use Rattle.std.proofs.Common.{◌&&◌, ◌++◌, append_assoc, ◌≤◌, ◌⊎◌, inl, inr, ℕ, zero, suc, ℤ, List, [], ◌∷◌, map, length, Option, Some, None, Result, Ok, Err, ◌≡◌, refl, sym, ap, ◌∙◌, subst, true, false, Bool, cond, not, arith, nat_lt}
 use Rattle.std.specs.Prelude.{◌-◌, nat_le}
-use Rattle.program_tree.specs.Plain.{Name, bind, enter, read, sync, update, choose, loop, give, end, step, Tree}
-use Rattle.program_tree.specs.declared.Way.TheVariants.{Call, Spawn}
+use Rattle.meaning.specs.Tree.{Name, bind, enter, read, sync, update, choose, loop, give, end, step, Tree}
+use Rattle.meaning.specs.declared.tree.Way.TheVariants.{Call, Spawn}
 use Rattle.meaning.specs.declared.FaultKind.{FaultKind}
 use Rattle.meaning.specs.Tables.{Tables}
 use Rattle.meaning.specs.Outcome.{Out, Log, Accumulators, Site, Place}

@@ -1,6 +1,6 @@
 -- The layers of a strand are those of the instances that it entered.
 use Rattle.std.proofs.Common.{◌+◌, ◌≤◌, ◌<◌, ℕ, suc, List, [], ◌∷◌, ◌++◌, length, length-append, ◌≡◌, refl, sym, ap, ◌∙◌, subst, arith, true, false, Bool}
-use Rattle.program_tree.specs.Plain.{Tree}
+use Rattle.meaning.specs.Tree.{Tree}
 use Rattle.meaning.specs.Outcome.{Log, Accumulators, Place}
 use Rattle.meaning.specs.Tables.{Tables}
 use Rattle.meaning.specs.SmallStep.{Start, Layers, noting, opening_one, closing_one, Lookup, Continuation}

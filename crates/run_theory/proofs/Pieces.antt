@@ -1,6 +1,6 @@
 -- A step changes one piece, or two neighbours, and leaves the others as they are.
 use Rattle.std.proofs.Common.{ℕ, List, [], ◌∷◌, ◌++◌, length, append_assoc, Option, Some, None, ◌≡◌, refl, sym, ap, subst, true, false, Bool, cond}
-use Rattle.program_tree.specs.Plain.{Tree}
+use Rattle.meaning.specs.Tree.{Tree}
 use Rattle.meaning.specs.Tables.{Tables}
 use Rattle.meaning.specs.Outcome.{Accumulators}
 use Rattle.meaning.specs.SmallStep.{Lookup, Continuation}

@@ -1,6 +1,6 @@
 -- What is left to do of a run before its first step, and at its end.
 use Rattle.std.proofs.Common.{Bool, true, ◌-◌, ℕ, suc, List, [], ◌∷◌, ◌++◌, ℤ, Result, Ok, Err, ◌≡◌, inl, inr, refl, sym, ap, ◌∙◌, subst}
-use Rattle.program_tree.specs.Plain.{Tree}
+use Rattle.meaning.specs.Tree.{Tree}
 use Rattle.meaning.specs.Tables.{Tables}
 use Rattle.meaning.specs.Outcome.{Log, Accumulators, Fault, Place, after, combined}
 use Rattle.meaning.specs.Statements.{proc_of, fresh, reducers, identities, beginning, initial_values}

@@ -1,7 +1,7 @@
 -- A program that meets what the theorems ask: it spawns twice, and updates a list.
 use Rattle.std.proofs.Common.{sym, true≢false, ℕ, List, [], ◌∷◌, Some, None, ◌≡◌, refl, Bool, true, false, cond, bytes_eq, arith}
 use Rattle.std.proofs.lemmas.Slice.Eq.{bytes_eq-Decides}
-use Rattle.program_tree.specs.Plain.{Name, Proc}
+use Rattle.meaning.specs.Tree.{Name, Proc}
 use Rattle.meaning.proofs.Samples.{first_list}
 use Rattle.meaning.specs.Elision.{Answer, from_scratch, main}
 use Rattle.meaning.specs.Records.{Revised}

@@ -1,6 +1,6 @@
 -- What is left to do of instances beside what the trail has left of them.
 use Rattle.std.proofs.Common.{Bool, true, false, ◌⊎◌, ◌-◌, ℕ, suc, List, [], ◌∷◌, ◌++◌, append_assoc, append-nil, Option, Some, None, Ok, Err, ℤ, pos, ◌≡◌, inl, inr, refl, sym, ap, ap₂, ◌∙◌, subst}
-use Rattle.program_tree.specs.Plain.{Name, Body, Tree}
+use Rattle.meaning.specs.Tree.{Name, Body, Tree}
 use Rattle.meaning.specs.Tables.{Tables}
 use Rattle.meaning.specs.Outcome.{Log, Accumulators, Fault, Outcome, Place, Begins, Leaves, Spawns, Out, after}
 use Rattle.meaning.specs.Run.{Run, pure, ◌>>=◌}

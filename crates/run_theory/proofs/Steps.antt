@@ -1,6 +1,6 @@
 -- Work, push, inline and pop keep a run right.
 use Rattle.std.proofs.Common.{◌&&◌, ◌-◌, ◌≤◌, ℕ, suc, ℤ, List, [], ◌∷◌, ◌++◌, length, append_assoc, Option, Ok, ◌≡◌, inl, inr, refl, sym, ap, ◌∙◌, subst, true, false, Bool, nat_lt}
-use Rattle.program_tree.specs.Plain.{Tree}
+use Rattle.meaning.specs.Tree.{Tree}
 use Rattle.meaning.specs.Tables.{Tables}
 use Rattle.meaning.specs.Outcome.{Accumulators, Fault, Place, Leaves}
 use Rattle.meaning.specs.Records.{Revised}

@@ -1,6 +1,6 @@
 -- The steps of a run without flags are those of the run with flags, where each flag that is asked for is the one that the test gives.
 use Rattle.std.proofs.Common.{◌&&◌, ◌+◌, zero, ℕ, suc, ℤ, List, [], ◌∷◌, ◌++◌, map, Option, Some, None, ◌≡◌, refl, sym, ap, ◌∙◌, subst, true, false, Bool, cond, nat_lt}
-use Rattle.program_tree.specs.Plain.{bind, enter, read, sync, update, choose, loop, give, end, step}
+use Rattle.meaning.specs.Tree.{bind, enter, read, sync, update, choose, loop, give, end, step}
 use Rattle.meaning.specs.Tables.{Tables}
 use Rattle.meaning.specs.Outcome.{Log, Place, Accumulators}
 use Rattle.meaning.specs.Records.{Revised}

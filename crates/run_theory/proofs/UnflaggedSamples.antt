@@ -4,8 +4,8 @@ use Rattle.std.proofs.Common.{refl}
 use Rattle.std.specs.Int.{int_wrap}
 use Rattle.monoid_laws.specs.declared.Kind.TheVariants as k
 use Rattle.monoid_laws.specs.Worth as w
-use Rattle.program_tree.specs.declared.Way.TheVariants.{Call, Spawn}
-use Rattle.program_tree.specs.Plain.{name, enter, sync, update, give, end, step}
+use Rattle.meaning.specs.declared.tree.Way.TheVariants.{Call, Spawn}
+use Rattle.meaning.specs.Tree.{name, enter, sync, update, give, end, step}
 use Rattle.meaning.specs.Outcome.{Accumulators}
 use Rattle.meaning.specs.Elision.{Finished}
 use Rattle.meaning.specs.Records.{Revised}

@@ -1,6 +1,6 @@
 -- Runs whose instances carry no flag: a layer closes where a test of names says that the top layer is that of the instance that returns.
 use Rattle.std.specs.Prelude.{◌≡◌, ℕ, nat_lt, ◌&&◌, false, List, [], ◌∷◌, map, Option, Some, None}
-use Rattle.program_tree.specs.Plain.{Name, read, Body, step}
+use Rattle.meaning.specs.Tree.{Name, read, Body, step}
 use Rattle.meaning.specs.Tables.{Tables}
 use Rattle.meaning.specs.Records.{Revised}
 use Rattle.meaning.specs.SmallStep.{is_entry, blocks, running, Step, micro}

@@ -19,7 +19,7 @@ use Rattle.own_statements.specs.Fills.{Fills}
 use Rattle.own_statements.specs.Paths.{topped, ComesTo}
 use Rattle.small_steps.specs.Steps.{nested_plain}
 use Rattle.small_steps.proofs.Nesting.{turned_more}
-use Rattle.program_tree.specs.declared.Way.TheVariants.{Call}
+use Rattle.meaning.specs.declared.tree.Way.TheVariants.{Call}
 use Rattle.running_ahead.specs.Ahead.{IsAhead, ComeBack, TurnsOn, topped_child}
 use Rattle.running_ahead.proofs.Paths.{called_plain, turned_next, enter_ahead, child_returns, child_stays}
 

@@ -1,6 +1,6 @@
 -- A strand that goes ahead: one path behind another, and what the steps keep.
 use Rattle.std.proofs.Common.{◌≡◌, ℕ, ◌+◌, ◌-◌, ◌==◌, ℤ, pos, Bool, true, false, if◌then◌else◌, List, [], ◌∷◌, Option, Some, None, Ok, refl, sym, ap, ◌∙◌, subst}
-use Rattle.program_tree.specs.declared.Way.TheVariants.{Call}
+use Rattle.meaning.specs.declared.tree.Way.TheVariants.{Call}
 use Rattle.meaning.specs.declared.FaultKind.TheVariants.{TooDeep}
 use Rattle.meaning.specs.Elision.{depth_limit}
 use Rattle.evaluation.specs.declared.slot.Slot.{Slot}

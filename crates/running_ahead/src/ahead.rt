@@ -1,6 +1,6 @@
 //! Many small steps in one go: those for which no kit is needed, and which spawn nothing.
 ghost use Rattle.std.specs.Prelude.{◌≡◌, ◌+◌, ◌<◌, ◌^◌, ◌++◌, ◌∷◌, [], ℕ, true, false, length, map, vec_len, vec_capacity};
-ghost use Rattle.program_tree.specs.declared.Way.TheVariants.{Call};
+ghost use Rattle.meaning.specs.declared.tree.Way.TheVariants.{Call};
 ghost use Rattle.linked_program.specs.CodeView.{expression as plain, slots_of};
 ghost use Rattle.evaluation.specs.Values.{entry_at};
 ghost use Rattle.positions.specs.Activations.{ShareFits};
@@ -26,7 +26,7 @@ use own_statements::runs::{call, run};
 use positions::phase::Phase;
 use positions::start::Start;
 use positions::work::{Loop, Position, Share, Work};
-use program_tree::Way;
+use meaning::tree::Way;
 use small_steps::machine::Machine;
 use std::alloc::Global;
 use std::mem;

@@ -9,13 +9,13 @@ ghost use Rattle.kept_session.specs.Applied.{edited};
 ghost use Rattle.trace_report.specs.Outcomes.{Extends};
 ghost use Rattle.script_session.specs.Answers.{answer_text, left_by_edit, run_answer, standing_after};
 ghost use Rattle.script_session.specs.Sessions.{answers_of};
-ghost use Rattle.run_terms.specs.Come.{HasCome, HasEnded};
+ghost use Rattle.numbered_runs.specs.Come.{HasCome, HasEnded};
 ghost use Rattle.session_runs.specs.Runs.{IsFromScratch};
 ghost use Rattle.program_endings.specs.Endings.{CarriesRefusal, IsAnswerError, IsRunError, IsWriterError};
 ghost use Rattle.program_endings.specs.Written.{HasBeginning, WritesAll, WritesBeginning};
 
 use crate::runner::Runner;
-use frames::answer::RunAnswer;
+use positions::answer::RunAnswer;
 use input_tables::Tables;
 use kept_session::{ApplyError, Session};
 use linked_program::checked::Checked;

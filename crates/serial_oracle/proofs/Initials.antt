@@ -7,7 +7,7 @@ use Rattle.monoid_laws.specs.declared.Kind.TheVariants as k
 use Rattle.monoid_laws.specs.Kinds.{arity, names_element, element_of}
 use Rattle.meaning.specs.Outcome.{Log, Updates}
 use Rattle.meaning.specs.Statements.{reducers, naming, updates_by, in_pairs, in_groups, initial_updates}
-use Rattle.program_tree.specs.Plain.{Red, reducer, Tree}
+use Rattle.meaning.specs.Tree.{Red, reducer, Tree}
 use Rattle.serial_oracle.specs.declared.journal.Change.{Change}
 use Rattle.serial_oracle.specs.declared.journal.Change.TheVariants as c
 use Rattle.serial_oracle.specs.declared.scope.Scope.{Scope}

@@ -12,7 +12,7 @@ use Rattle.monoid_laws.specs.declared.Val.{Val}
 use Rattle.monoid_laws.specs.declared.Kind.{Kind}
 use Rattle.monoid_laws.specs.Worth.{Worth}
 use Rattle.monoid_laws.specs.Kinds.{meaning, operate, operate_all, element_of, names_element, IsWorth, AreWorths}
-use Rattle.program_tree.specs.Plain.{Name, Red, Tree}
+use Rattle.meaning.specs.Tree.{Name, Red, Tree}
 use Rattle.meaning.specs.declared.FaultKind.TheVariants.{BadElement}
 use Rattle.meaning.specs.Outcome.{Log, after, updated, combined}
 use Rattle.meaning.specs.Statements.{numbered, reducers, identities, beginning, initial_values, naming, updating}
@@ -28,7 +28,7 @@ use Rattle.serial_oracle.specs.Worths.{kinds, noticed, change_log, reused_log, n
 use Rattle.monoid_laws.specs.Kinds as laws
 use Rattle.monoid_laws.proofs.Rows.{AreWorths-identities}
 use Rattle.meaning.specs.declared.FaultKind.{FaultKind}
-use Rattle.program_tree.specs.Plain.{Term}
+use Rattle.meaning.specs.Tree.{Term}
 use Rattle.meaning.specs.Tables.{Tables}
 use Rattle.meaning.specs.Values.{Env, values}
 use Rattle.meaning.specs.Outcome.{Out, onward}

@@ -6,7 +6,7 @@ use Rattle.std.specs.Ordering.{int_eq}
 use Rattle.std.proofs.Math.Seq.{drop-cons}
 use Rattle.std.specs.Global.{Global}
 use Rattle.std.specs.declared.string.String.{String}
-use Rattle.program_tree.specs.Plain.{Name}
+use Rattle.meaning.specs.Tree.{Name}
 use Rattle.serial_oracle.specs.declared.tables.TableRows.{TableRows}
 use Rattle.serial_oracle.specs.declared.tables.Row.{Row}
 use Rattle.meaning.specs.Tables.{rows_of, columns_of, index_of, row_of}

@@ -4,9 +4,9 @@ use Rattle.std.specs.Prelude.{length}
 use Rattle.std.specs.Ordering.{int_eq}
 use Rattle.std.proofs.lemmas.Bool.Decides.{Decides-int_eq}
 use Rattle.std.proofs.Math.Seq.{drop-cons}
-use Rattle.program_tree.specs.Plain.{Name, Term, Proc, Body, Tree, Deed, step}
-use Rattle.program_tree.specs.View.{deed as deed_plain, statements as statements_plain}
-use Rattle.program_tree.specs.declared.Statement.{Statement}
+use Rattle.meaning.specs.Tree.{Name, Term, Proc, Body, Tree, Deed, step}
+use Rattle.meaning.specs.TreeView.{deed as deed_plain, statements as statements_plain}
+use Rattle.meaning.specs.declared.tree.Statement.{Statement}
 use Rattle.meaning.specs.declared.FaultKind.{FaultKind}
 use Rattle.meaning.specs.declared.FaultKind.TheVariants.{TooDeep}
 use Rattle.meaning.specs.Tables.{Tables}

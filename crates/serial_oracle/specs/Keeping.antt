@@ -1,8 +1,8 @@
 -- The code's records, revision numbers and keys as the definitions'.
 use Rattle.std.specs.Prelude.{ℕ, List, map, string_bytes}
 use Rattle.monoid_laws.specs.Kinds.{meaning}
-use Rattle.program_tree.specs.Plain.{Name, Tree}
-use Rattle.program_tree.specs.View.{tree}
+use Rattle.meaning.specs.Tree.{Name, Tree}
+use Rattle.meaning.specs.TreeView.{tree}
 use Rattle.meaning.specs.Tables.{Tables}
 use Rattle.meaning.specs.Outcome as outcome
 use Rattle.meaning.specs.Elision.{Enter}

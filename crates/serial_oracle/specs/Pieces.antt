@@ -1,8 +1,8 @@
 -- What each statement does, once its parts are known.
 use Rattle.std.specs.Prelude.{ℕ, ℤ, pos, map, List, Option, Some, None, Result, Ok, cond}
 use Rattle.std.specs.Ordering.{int_eq}
-use Rattle.program_tree.specs.Plain.{Name, Term, Body, Proc, Tree}
-use Rattle.program_tree.specs.View.{term}
+use Rattle.meaning.specs.Tree.{Name, Term, Body, Proc, Tree}
+use Rattle.meaning.specs.TreeView.{term}
 use Rattle.meaning.specs.Tables.{Tables}
 use Rattle.meaning.specs.Outcome.{Site, Fault}
 use Rattle.meaning.specs.Run.{Run, ◌>>=◌, pure, standing, at}

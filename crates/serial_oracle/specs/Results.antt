@@ -3,7 +3,7 @@ use Rattle.std.specs.Prelude.{◌≡◌, ℕ, ℤ, cond, List, [], ◌∷◌, �
 use Rattle.std.specs.Global.{Vec}
 use Rattle.monoid_laws.specs.Worth.{Worth}
 use Rattle.monoid_laws.specs.declared.Kind.{Kind}
-use Rattle.program_tree.specs.Plain.{Name, Tree}
+use Rattle.meaning.specs.Tree.{Name, Tree}
 use Rattle.meaning.specs.declared.FaultKind.{FaultKind}
 use Rattle.serial_oracle.specs.declared.stops.Fault as stopped
 use Rattle.serial_oracle.specs.declared.stops.Stop.{Stop}

@@ -1,8 +1,8 @@
 -- What pieces of a run come to in a scope: its program, tables and records.
 use Rattle.std.specs.Prelude.{ℕ, ◌-◌, ℤ, List, Option, Result, string_bytes}
-use Rattle.program_tree.specs.declared.Procedure.{Procedure}
-use Rattle.program_tree.specs.Plain.{Name}
-use Rattle.program_tree.specs.View.{term, proc, block}
+use Rattle.meaning.specs.declared.tree.Procedure.{Procedure}
+use Rattle.meaning.specs.Tree.{Name}
+use Rattle.meaning.specs.TreeView.{term, proc, block}
 use Rattle.meaning.specs.Outcome.{Fault}
 use Rattle.meaning.specs.Run.{Run}
 use Rattle.meaning.specs.Values.{Env}

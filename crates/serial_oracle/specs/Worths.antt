@@ -5,7 +5,7 @@ use Rattle.monoid_laws.specs.declared.Kind.{Kind}
 use Rattle.monoid_laws.specs.declared.Kind.TheVariants as k
 use Rattle.monoid_laws.specs.Worth.{Worth}
 use Rattle.monoid_laws.specs.Kinds.{names_element, AreWorths, operate_all}
-use Rattle.program_tree.specs.Plain.{Name, Red, Tree}
+use Rattle.meaning.specs.Tree.{Name, Red, Tree}
 use Rattle.meaning.specs.Statements.{reducers, identities, naming, numbered, updating, updates_by}
 use Rattle.meaning.specs.Outcome.{Accumulators, Log, Reuses, Out, after}
 use Rattle.meaning.specs.Records.{Kept, with_kinds}

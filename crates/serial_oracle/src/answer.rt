@@ -1,6 +1,6 @@
 //! The answer of a program from scratch.
 ghost use Rattle.std.specs.Prelude.{◌≡◌, ℤ, map, length, IfOk, []};
-ghost use Rattle.program_tree.specs.View.{tree};
+ghost use Rattle.meaning.specs.TreeView.{tree};
 ghost use Rattle.meaning.specs.Statements.{beginning};
 ghost use Rattle.meaning.specs.Elision.{from_scratch as from_scratch_of};
 ghost use Rattle.meaning.specs.Records.{executed, reused, needed};
@@ -19,7 +19,7 @@ use crate::tables::TableRows;
 use crate::updates::values_after;
 use meaning::DEPTH_LIMIT;
 use monoid_laws::Val;
-use program_tree::Program;
+use meaning::tree::Program;
 use std::alloc::Global;
 
 /// The value of main and what each reducer is worth, in the order of the program, or the first fault.

@@ -8,7 +8,7 @@ use crate::journal::Change;
 use crate::scope::Scope;
 use crate::updates::is_pair_kind;
 use monoid_laws::Kind;
-use program_tree::Declaration;
+use meaning::tree::Declaration;
 use std::alloc::AllocError;
 
 /// Notes an update of the n-th reducer by these numbers.

@@ -1,6 +1,6 @@
 //! The values of expressions.
 ghost use Rattle.std.specs.Prelude.{◌≡◌, map, slice_get};
-ghost use Rattle.program_tree.specs.View.{term};
+ghost use Rattle.meaning.specs.TreeView.{term};
 ghost use Rattle.serial_oracle.specs.Listing.{tables_plain};
 ghost use Rattle.serial_oracle.specs.Results.{EvaluatesAll};
 ghost use Rattle.meaning.specs.Values.{value, values as values_of, apply, one_if, or_zero};
@@ -9,7 +9,7 @@ use crate::lookup;
 use crate::stops::Trouble;
 use crate::tables::TableRows;
 use meaning::FaultKind;
-use program_tree::{Expr, Operator};
+use meaning::tree::{Expr, Operator};
 use std::alloc::Global;
 
 /// The value of a name; 0 where it has none.

@@ -1,11 +1,11 @@
 //! What names stand for in a program, and the values of a procedure's names.
 ghost use Rattle.std.specs.Prelude.{◌≡◌, map, string_bytes, option_map, IfOk};
-ghost use Rattle.program_tree.specs.View.{proc, tree};
+ghost use Rattle.meaning.specs.TreeView.{proc, tree};
 ghost use Rattle.meaning.specs.Values.{put as put_at};
 ghost use Rattle.meaning.specs.Statements.{put_into as put_into_at, procedure_of, numbered, reducers, fresh as fresh_env};
 
 use monoid_laws::Kind;
-use program_tree::{Declaration, Procedure, Program};
+use meaning::tree::{Declaration, Procedure, Program};
 use std::alloc::{AllocError, Global};
 
 /// The procedure of a name.

@@ -1,5 +1,5 @@
 //! The bounds of a loop, evaluated.
-ghost use Rattle.program_tree.specs.View.{term};
+ghost use Rattle.meaning.specs.TreeView.{term};
 ghost use Rattle.meaning.specs.Statements.{span, bounds};
 ghost use Rattle.serial_oracle.specs.Listing.{tables_plain};
 ghost use Rattle.serial_oracle.specs.Ranges.{AreBounds, ranging};
@@ -8,7 +8,7 @@ use crate::expressions::evaluate;
 use crate::range::Range;
 use crate::tables::TableRows;
 use meaning::{FaultKind, MOST_ITERATIONS};
-use program_tree::Expr;
+use meaning::tree::Expr;
 
 /// The numbers from `low` to below `high`; too long where they are more than a loop may have.
 fn range_between(low: i64, high: i64) -> Result<Range, FaultKind>

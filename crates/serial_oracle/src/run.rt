@@ -1,12 +1,12 @@
 //! A run of a program, statement by statement, in the order of a run on one worker.
 ghost use Rattle.std.specs.Prelude.{◌≡◌, ℕ, ◌<◌, map, slice_get, string_bytes, Some};
-ghost use Rattle.program_tree.specs.View.{term, proc};
-ghost use Rattle.program_tree.specs.View.{deed as deed_plain, statements as statements_plain, block as block_plain};
+ghost use Rattle.meaning.specs.TreeView.{term, proc};
+ghost use Rattle.meaning.specs.TreeView.{deed as deed_plain, statements as statements_plain, block as block_plain};
 ghost use Rattle.meaning.specs.Outcome.{Site};
 ghost use Rattle.meaning.specs.Statements.{job_of};
 ghost use Rattle.meaning.specs.Statements.{turn_values as turn_values_of};
 ghost use Rattle.meaning.specs.Elision.{deed, body, all_turns};
-ghost use Rattle.program_tree.specs.Plain.{Tree};
+ghost use Rattle.meaning.specs.Tree.{Tree};
 ghost use Rattle.serial_oracle.specs.Listing.{tables_plain};
 ghost use Rattle.serial_oracle.specs.Results.{Gives, Does, GivesNext, EvaluatesAll, Summary, results, site_at, with_executed, with_reused};
 ghost use Rattle.serial_oracle.specs.Keeping.{kept, tree_in, tables_in, records_in, enters_in};
@@ -24,7 +24,7 @@ use crate::tables::TableRows;
 use crate::updates;
 use crate::validity::{Found, valid_record};
 use meaning::{DEPTH_LIMIT, FaultKind};
-use program_tree::{Action, Expr, Procedure, Statement};
+use meaning::tree::{Action, Expr, Procedure, Statement};
 
 /// Binds a name to the value of an expression.
 fn run_bind<'p>(

@@ -3,7 +3,7 @@
 use crate::range::Range;
 use crate::records::{Record, Revisions};
 use crate::tables::TableRows;
-use program_tree::{Expr, Program};
+use meaning::tree::{Expr, Program};
 use std::alloc::Global;
 
 /// Memory, a program with its revision numbers, tables, and the records that may answer memo instances.

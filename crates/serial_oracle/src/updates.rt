@@ -1,6 +1,6 @@
 //! The changes of a run, in their order, and what the reducers are worth after them.
 ghost use Rattle.std.specs.Prelude.{◌≡◌, ℕ, suc, ◌<◌, length, map, slice_get, true, false, IfOk, OnOk, Some, option_map};
-ghost use Rattle.program_tree.specs.View.{term, tree};
+ghost use Rattle.meaning.specs.TreeView.{term, tree};
 ghost use Rattle.monoid_laws.specs.Kinds.{meaning, operate, element_of, names_element, identities, operate_all, zero_at, IsWorth, AreWorths};
 ghost use Rattle.meaning.specs.Statements.{numbered, reducers, reading, number_of, update_of};
 ghost use Rattle.meaning.specs.Outcome.{after};
@@ -15,7 +15,7 @@ use crate::stops::Trouble;
 use crate::{expressions, names};
 use meaning::FaultKind;
 use monoid_laws::{Kind, Val, laws_of};
-use program_tree::{Declaration, Expr, Program};
+use meaning::tree::{Declaration, Expr, Program};
 use reducer_values::{combine, copy_of, identity, inject};
 use std::alloc::{AllocError, Global};
 

@@ -1,6 +1,6 @@
 //! What a run comes to, as text.
 
-use frames::answer::RunAnswer;
+use positions::answer::RunAnswer;
 use linked_program::checked::Checked;
 use numbered_runs::step::StrandLine;
 use std::alloc::{AllocError, Global};

@@ -1,8 +1,8 @@
 -- What was noted of a session's runs.
 use Rattle.std.specs.Prelude.{ℕ, List, Bool, true, false, Option, Some, None}
 use Rattle.meaning.specs.Strands.{BookStep}
-use Rattle.frames.specs.declared.answer.RunAnswer.{RunAnswer}
-use Rattle.frames.specs.declared.answer.RunAnswer.TheVariants as answer
+use Rattle.positions.specs.declared.answer.RunAnswer.{RunAnswer}
+use Rattle.positions.specs.declared.answer.RunAnswer.TheVariants as answer
 use Rattle.trace_report.specs.Traces.{splits_in, folds_in, counts_text, no_counts_text}
 use Rattle.session_notes.specs.declared.run_notes.NotesError.{NotesError}
 

@@ -1,10 +1,10 @@
 // Who explains what of a script is refused, the faults of its runs, and what their memo instances come to.
 ghost use Rattle.std.specs.Prelude.{◌≡◌, true, false};
-ghost use Rattle.run_terms.specs.Come.{HasEnded};
+ghost use Rattle.numbered_runs.specs.Come.{HasEnded};
 ghost use Rattle.rerun_records.specs.Doubted.{IsInStep};
 
 use crate::notes::Notes;
-use frames::answer::RunAnswer;
+use positions::answer::RunAnswer;
 use input_tables::Tables;
 use linked_program::checked::Checked;
 use numbered_runs::step::BookStep;

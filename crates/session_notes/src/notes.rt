@@ -1,10 +1,10 @@
 // Who is told of a session's runs.
 ghost use Rattle.std.specs.Prelude.{◌≡◌, Bool, true, false};
-ghost use Rattle.run_terms.specs.Come.{HasEnded};
+ghost use Rattle.numbered_runs.specs.Come.{HasEnded};
 ghost use Rattle.rerun_records.specs.Doubted.{IsInStep};
 
 use crate::explained::Cause;
-use frames::answer::RunAnswer;
+use positions::answer::RunAnswer;
 use input_tables::Tables;
 use linked_program::checked::Checked;
 use numbered_runs::step::BookStep;

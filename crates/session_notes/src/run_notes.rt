@@ -3,13 +3,13 @@ ghost use Rattle.std.specs.Prelude.{◌≡◌, ◌≢◌, ◌⊎◌, ℕ, List, 
 ghost use Rattle.std.specs.Io.KnownBytes.{Appends};
 ghost use Rattle.numbered_runs.specs.Named.{history as steps_of};
 ghost use Rattle.trace_report.specs.Traces.{stats_text, trace_text};
-ghost use Rattle.run_terms.specs.Come.{HasEnded};
+ghost use Rattle.numbered_runs.specs.Come.{HasEnded};
 ghost use Rattle.session_notes.specs.declared.run_notes.NotesError.TheVariants as notes;
 ghost use Rattle.program_endings.specs.declared.session_error.SessionError.TheVariants as ended;
 ghost use Rattle.session_notes.specs.Noted.{Noted, has_failed, known_of, run_counts_text};
 
 use crate::notes::Notes;
-use frames::answer::RunAnswer;
+use positions::answer::RunAnswer;
 use numbered_runs::step::BookStep;
 use program_endings::session_error::SessionError;
 use program_endings::streams::{Failures, flush, write_whole};

@@ -12,11 +12,11 @@ use Rattle.rerun_records.specs.Record.{PlainRecord, settled}
 use Rattle.rerun_records.specs.Named.{AreKept}
 use Rattle.rerun_records.specs.Commits.{put_records}
 use Rattle.rerun_records.proofs.Lookups.{put_all}
-use Rattle.frames.specs.declared.answer.RunAnswer.{RunAnswer}
-use Rattle.frames.specs.declared.answer.RunAnswer.TheVariants as answer
+use Rattle.positions.specs.declared.answer.RunAnswer.{RunAnswer}
+use Rattle.positions.specs.declared.answer.RunAnswer.TheVariants as answer
 use Rattle.numbered_runs.specs.News.{HaveNews}
 use Rattle.numbered_runs.specs.Sound.{AreSoundFor, setting_by}
-use Rattle.run_terms.specs.Recorded.{HasRecordedBy, tally_of}
+use Rattle.numbered_runs.specs.Recorded.{HasRecordedBy, tally_of}
 use Rattle.kept_session.specs.Sessions.{PlainSession, AreNewFor}
 use Rattle.kept_session.proofs.Keeping.{none_new}
 use Rattle.kept_session.proofs.News.{are_new}

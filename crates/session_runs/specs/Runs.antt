@@ -1,7 +1,7 @@
 -- What a run leaves of a session, and that its answer is the elision's.
 use Rattle.std.specs.Prelude.{◌≡◌, List, [], map, length}
 use Rattle.monoid_laws.specs.Kinds.{meaning}
-use Rattle.program_tree.specs.View.{tree}
+use Rattle.meaning.specs.TreeView.{tree}
 use Rattle.meaning.specs.Edits.{Standing}
 use Rattle.meaning.specs.Elision as elision
 use Rattle.meaning.specs.Elision.{from_scratch}
@@ -10,10 +10,10 @@ use Rattle.linked_program.specs.Checked.{revised_of}
 use Rattle.rerun_records.specs.Record.{PlainRecord, settled}
 use Rattle.rerun_records.specs.Commits.{put_records}
 use Rattle.positions.specs.Stands.{fault_in}
-use Rattle.frames.specs.declared.answer.RunAnswer.{RunAnswer}
-use Rattle.frames.specs.declared.answer.RunAnswer.TheVariants as answer
+use Rattle.positions.specs.declared.answer.RunAnswer.{RunAnswer}
+use Rattle.positions.specs.declared.answer.RunAnswer.TheVariants as answer
 use Rattle.numbered_runs.specs.Sound.{AreSoundFor}
-use Rattle.run_terms.specs.Recorded.{HasRecordedBy}
+use Rattle.numbered_runs.specs.Recorded.{HasRecordedBy}
 use Rattle.kept_session.specs.Sessions.{PlainSession, standing_of}
 
 -- a result or a fault is that of the elision of the program on the tables, done from scratch

@@ -1,7 +1,7 @@
 -- A procedure that there is has a revision number.
 use Rattle.std.proofs.Common.{◌≡◌, ℕ, true, false, cond, List, [], ◌∷◌, Option, Some, map, refl, ap, sym, ◌∙◌}
 use Rattle.std.specs.Str.{bytes_eq}
-use Rattle.program_tree.specs.Plain.{Name, Proc, reducer, procedure, Tree}
+use Rattle.meaning.specs.Tree.{Name, Proc, reducer, procedure, Tree}
 use Rattle.meaning.specs.Records.{Revised}
 use Rattle.meaning.specs.Statements.{procedure_of}
 use Rattle.meaning.specs.Edits.{same_proc}

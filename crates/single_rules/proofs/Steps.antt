@@ -1,7 +1,7 @@
 -- What is known, and lines, after one step more.
 use Rattle.std.proofs.Common.{◌≡◌, ℕ, true, false, List, [], ◌∷◌, ◌++◌, slice_get, refl, ap, sym, ◌∙◌, append_assoc, append-nil}
-use Rattle.program_tree.specs.declared.Block.{Block}
-use Rattle.program_tree.specs.View.{block_lines, statement_lines}
+use Rattle.meaning.specs.declared.tree.Block.{Block}
+use Rattle.meaning.specs.TreeView.{block_lines, statement_lines}
 use Rattle.linked_program.specs.declared.knowledge.Moment.{Moment}
 use Rattle.linked_program.specs.declared.knowledge.Knowledge.{Knowledge}
 use Rattle.linked_program.specs.declared.knowledge.Knowledge.TheVariants.{Ended, Known}

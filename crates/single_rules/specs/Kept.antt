@@ -1,6 +1,6 @@
 -- The revision number that a procedure keeps.
 use Rattle.std.specs.Prelude.{ℕ, cond, Option, Some, None}
-use Rattle.program_tree.specs.Plain.{Proc}
+use Rattle.meaning.specs.Tree.{Proc}
 use Rattle.meaning.specs.Records.{Revised}
 use Rattle.meaning.specs.Statements.{procedure_of}
 use Rattle.meaning.specs.Edits.{is_same, revision_of}

@@ -1,6 +1,6 @@
 -- What a statement changes of what is known, its blocks aside.
 use Rattle.std.specs.Prelude.{false}
-use Rattle.program_tree.specs.Plain.{Deed, bind, enter, read, sync, update, choose, loop, give}
+use Rattle.meaning.specs.Tree.{Deed, bind, enter, read, sync, update, choose, loop, give}
 use Rattle.linked_program.specs.declared.knowledge.Moment.{Moment}
 use Rattle.linked_program.specs.Scope.{Scope, bound, entered, has_read, passed, looped}
 

@@ -1,6 +1,6 @@
 -- The plain form of what the statements of a procedure are checked against.
 use Rattle.std.specs.Prelude.{map}
-use Rattle.program_tree.specs.View.{decl}
+use Rattle.meaning.specs.TreeView.{decl}
 use Rattle.linked_program.specs.TableNames.{columned}
 use Rattle.linked_program.specs.Rules.{Setting}
 use Rattle.single_rules.specs.declared.setting.Setting.{Setting as RustSetting}

@@ -2,7 +2,7 @@
 ghost use Rattle.std.specs.Prelude.{◌≡◌, ◌∷◌, [], map, string_bytes, take};
 ghost use Rattle.monoid_laws.specs.declared.Kind.TheVariants as k;
 ghost use Rattle.monoid_laws.specs.Kinds.{names_element};
-ghost use Rattle.program_tree.specs.View.{decl, red, proc};
+ghost use Rattle.meaning.specs.TreeView.{decl, red, proc};
 ghost use Rattle.linked_program.specs.Monoids.{says_monoid, is_monoid_kind};
 ghost use Rattle.linked_program.specs.Initials.{all_elements, are_elements, is_initial};
 ghost use Rattle.linked_program.specs.Declarations.{repeats, reducer_rules, main_rules, procedure_rules};
@@ -12,7 +12,7 @@ use crate::names::{arity, has_name, kind_of, parameters_of};
 use crate::place::{Place, note_if};
 use linked_program::violation::{Rule, Violation};
 use monoid_laws::{Kind, Table, TableAnswer};
-use program_tree::{Declaration, Procedure, Reducer};
+use meaning::tree::{Declaration, Procedure, Reducer};
 use reducer_values::check_table;
 
 // Whether a name is there twice.

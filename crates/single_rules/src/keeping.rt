@@ -1,13 +1,13 @@
 //! Whether a procedure keeps its revision number, and whether there is a next one.
 ghost use Rattle.std.specs.Prelude.{◌≡◌, nat_eq};
-ghost use Rattle.program_tree.specs.View.{proc};
+ghost use Rattle.meaning.specs.TreeView.{proc};
 ghost use Rattle.meaning.specs.Edits.{most};
 ghost use Rattle.linked_program.specs.Checked.{revised_of};
 ghost use Rattle.single_rules.specs.Kept.{kept};
 
 use crate::names::find_procedure;
 use linked_program::checked::Checked;
-use program_tree::Procedure;
+use meaning::tree::Procedure;
 use tree_equality::same_procedure;
 
 /// The revision number of a procedure that is as it was.

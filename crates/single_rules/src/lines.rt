@@ -1,10 +1,10 @@
 //! The lines of a procedure's statements, by their numbers.
 ghost use Rattle.std.specs.Prelude.{◌≡◌, ◌++◌, IfOk, OnOk};
-ghost use Rattle.program_tree.specs.View.{block_lines, statement_lines};
+ghost use Rattle.meaning.specs.TreeView.{block_lines, statement_lines};
 ghost use Rattle.linked_program.specs.Bodies.{line_of};
 ghost use Rattle.single_rules.specs.Filled.{kept, indexed};
 
-use program_tree::{Block, Statement};
+use meaning::tree::{Block, Statement};
 use std::alloc::{AllocError, Global};
 use std::marker::Model;
 

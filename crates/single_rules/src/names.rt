@@ -1,6 +1,6 @@
 //! Declarations, tables and columns by their names.
 ghost use Rattle.std.specs.Prelude.{◌≡◌, map, option_map, option_copied, string_bytes};
-ghost use Rattle.program_tree.specs.View.{decl, proc};
+ghost use Rattle.meaning.specs.TreeView.{decl, proc};
 ghost use Rattle.monoid_laws.specs.Kinds.{arity};
 ghost use Rattle.meaning.specs.Statements.{procedure_of};
 ghost use Rattle.linked_program.specs.Rules.{kind_of};
@@ -9,7 +9,7 @@ ghost use Rattle.linked_program.specs.TableNames.{columned, table_of, has_name};
 
 use linked_program::tables::TableNames;
 use monoid_laws::Kind;
-use program_tree::{Declaration, Procedure};
+use meaning::tree::{Declaration, Procedure};
 
 /// The procedure of that name.
 pub fn find_procedure<'a>(declarations: &'a [Declaration], name: &str) -> Option<&'a Procedure>

@@ -3,7 +3,7 @@
 use crate::lines::LineTable;
 use crate::place::Place;
 use linked_program::tables::TableNames;
-use program_tree::Declaration;
+use meaning::tree::Declaration;
 
 /// The program's declarations, the tables' names, whether the procedure is `main`, which declaration it is, and the lines of its statements.
 #[derive(Drop)]

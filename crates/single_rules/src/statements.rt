@@ -1,7 +1,7 @@
 //! The rules that a statement can break by itself.
 ghost use Rattle.std.specs.Prelude.{◌≡◌, ℕ, false, map, option_copied, ◌++◌, ◌&&◌, ◌==◌};
-ghost use Rattle.program_tree.specs.Plain.{Body};
-ghost use Rattle.program_tree.specs.View.{decl, deed, term};
+ghost use Rattle.meaning.specs.Tree.{Body};
+ghost use Rattle.meaning.specs.TreeView.{decl, deed, term};
 ghost use Rattle.linked_program.specs.Scope.{bound, entered, has_read, looped};
 ghost use Rattle.linked_program.specs.Rules.{bind_rules, target_rules, callee_rules, enter_rules, update_rules, kind_rules, read_rules};
 ghost use Rattle.linked_program.specs.Rules.{term_rules, terms_rules, entry_rules, range_rules, own_rules, kind_of as reducer_kind};
@@ -19,7 +19,7 @@ use linked_program::knowledge::Moment;
 use linked_program::tables::TableNames;
 use linked_program::violation::{Rule, Violation};
 use monoid_laws::Kind;
-use program_tree::{Action, Declaration, Expr, Way};
+use meaning::tree::{Action, Declaration, Expr, Way};
 
 // The first violation so far or that of binding a name.
 fn note_bind(

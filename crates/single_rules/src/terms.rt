@@ -1,6 +1,6 @@
 //! The rules of expressions: names that are known and don't wait, tables and columns that there are.
 ghost use Rattle.std.specs.Prelude.{◌≡◌, map, option_map, option_copied};
-ghost use Rattle.program_tree.specs.View.{term};
+ghost use Rattle.meaning.specs.TreeView.{term};
 ghost use Rattle.linked_program.specs.TableNames.{columned};
 ghost use Rattle.linked_program.specs.Rules.{term_rules, terms_rules, table_rules, column_rules};
 ghost use Rattle.linked_program.specs.Violations.{noted, at};
@@ -10,7 +10,7 @@ use crate::place::{Place, note, note_if};
 use crate::scope::Scope;
 use linked_program::tables::TableNames;
 use linked_program::violation::{Rule, Violation};
-use program_tree::Expr;
+use meaning::tree::Expr;
 
 // The first violation so far or that of the use of a table.
 fn note_table(

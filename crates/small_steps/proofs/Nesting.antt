@@ -1,7 +1,7 @@
 -- Instances that are called or spawned: what is done is what the step says.
 use Rattle.std.proofs.Common.{◌≡◌, ℕ, ◌==◌, Bool, true, false, if◌then◌else◌, List, Option, Some, None, Result, Ok, Err, pos, refl, sym, ap, ◌∙◌, subst, length, OnOk, OnErr}
-use Rattle.program_tree.specs.declared.Way.{Way}
-use Rattle.program_tree.specs.declared.Way.TheVariants.{Call, Spawn}
+use Rattle.meaning.specs.declared.tree.Way.{Way}
+use Rattle.meaning.specs.declared.tree.Way.TheVariants.{Call, Spawn}
 use Rattle.meaning.specs.declared.FaultKind.TheVariants.{TooDeep}
 use Rattle.linked_program.specs.Linked.{Linked}
 use Rattle.linked_program.specs.CodeView.{memo_of}

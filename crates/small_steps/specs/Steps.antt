@@ -1,7 +1,7 @@
 -- What a small step is for who asks for it: with a free kit, or with none.
 use Rattle.std.specs.Prelude.{◌≡◌, ℕ, suc, ◌+◌, ◌-◌, ◌≤◌, ◌==◌, if◌then◌else◌, Bool, true, false, List, [], ◌∷◌, length, Option, All}
-use Rattle.program_tree.specs.declared.Way.{Way}
-use Rattle.program_tree.specs.declared.Way.TheVariants.{Call, Spawn}
+use Rattle.meaning.specs.declared.tree.Way.{Way}
+use Rattle.meaning.specs.declared.tree.Way.TheVariants.{Call, Spawn}
 use Rattle.monoid_laws.specs.declared.Kind.{Kind}
 use Rattle.monoid_laws.specs.Kinds.{IsMonoid}
 use Rattle.rerun_records.specs.Record.{PlainRecord}

@@ -16,7 +16,7 @@ use linked_program::code::Expression;
 use meaning::FaultKind;
 use positions::phase::Phase;
 use positions::work::Work;
-use program_tree::Way;
+use meaning::tree::Way;
 use std::alloc::{AllocError, Global};
 use view_pool::{Kit, KitSource, View};
 

@@ -24,7 +24,7 @@ use linked_program::checked::Checked;
 use linked_program::code::Expression;
 use positions::phase::Phase;
 use positions::work::{Loop, Position, Share, Work};
-use program_tree::Way;
+use meaning::tree::Way;
 use std::alloc::{AllocError, Global};
 use std::mem;
 use view_pool::{Kit, KitSource, View};

@@ -2,12 +2,12 @@
 use Rattle.std.proofs.Common.{◌≡◌, ℕ, zero, suc, ◌+◌, ◌<◌, ◌≤◌, List, [], ◌∷◌, ◌++◌, length, Option, Some, None, refl, sym, ap, subst, ◌∙◌, arith, append_assoc}
 use Rattle.std.specs.Prelude.{slice_get}
 use Rattle.std.proofs.lemmas.List.{append-nil, length-append, length-map}
-use Rattle.program_tree.specs.declared.Action.{Action}
-use Rattle.program_tree.specs.declared.Action.TheVariants as a
-use Rattle.program_tree.specs.declared.Statement.{Statement}
-use Rattle.program_tree.specs.declared.Block.{Block}
-use Rattle.program_tree.specs.Plain.{Name, Deed, bind, enter, read, sync, update, choose, loop, give, Body, end, step}
-use Rattle.program_tree.specs.View.{deed, statements, statements_of, block, statement_lines, block_lines}
+use Rattle.meaning.specs.declared.tree.Action.{Action}
+use Rattle.meaning.specs.declared.tree.Action.TheVariants as a
+use Rattle.meaning.specs.declared.tree.Statement.{Statement}
+use Rattle.meaning.specs.declared.tree.Block.{Block}
+use Rattle.meaning.specs.Tree.{Name, Deed, bind, enter, read, sync, update, choose, loop, give, Body, end, step}
+use Rattle.meaning.specs.TreeView.{deed, statements, statements_of, block, statement_lines, block_lines}
 use Rattle.source_tree.specs.Source.{Stmt, Binds, Enters, Reads, Syncs, Updates, Tests, Loops, Returns, Stmts, none, some}
 use Rattle.source_tree.specs.Lowering.{Walk, lower_term, lower_deed, lower_body, line_of_stmt, count, count_all, own_lines, inner_lines, inside_lines, body_lines}
 use Rattle.source_tree.specs.Layout.{FlatDeed, Bind, Enter, Read, Sync, Update, If, Loop, Return, Flat, Made, laid_deed, laid, flat_deed, entries, flat, flats, laid_procedure}

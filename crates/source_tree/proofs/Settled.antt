@@ -3,8 +3,8 @@ use Rattle.std.proofs.Common.{◌≡◌, [], ◌∷◌, ◌*◌, take, refl, ap,
 use Rattle.monoid_laws.specs.declared.Kind.{Kind}
 use Rattle.monoid_laws.specs.declared.Kind.TheVariants as k
 use Rattle.monoid_laws.proofs.SameTables.{same_rows}
-use Rattle.program_tree.specs.Plain.{Red, Tree}
-use Rattle.program_tree.specs.Plain as plain
+use Rattle.meaning.specs.Tree.{Red, Tree}
+use Rattle.meaning.specs.Tree as plain
 use Rattle.source_tree.specs.Kinds.{WrittenKind, written}
 use Rattle.source_tree.specs.Kinds as word
 use Rattle.source_tree.specs.Lowering.{lowered_decl, settled}

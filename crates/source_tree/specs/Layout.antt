@@ -1,12 +1,12 @@
 -- A procedure laid out: its statements numbered, and its blocks in a table, each behind those inside it.
 use Rattle.std.specs.Prelude.{ℕ, ◌+◌, List, [], ◌∷◌, ◌++◌, length, map, Option, string_bytes}
-use Rattle.program_tree.specs.declared.Action.{Action}
-use Rattle.program_tree.specs.declared.Action.TheVariants as a
-use Rattle.program_tree.specs.declared.Block.{Block}
-use Rattle.program_tree.specs.declared.Statement.{Statement}
-use Rattle.program_tree.specs.declared.Way.{Way}
-use Rattle.program_tree.specs.Plain.{Name, Term}
-use Rattle.program_tree.specs.View.{term}
+use Rattle.meaning.specs.declared.tree.Action.{Action}
+use Rattle.meaning.specs.declared.tree.Action.TheVariants as a
+use Rattle.meaning.specs.declared.tree.Block.{Block}
+use Rattle.meaning.specs.declared.tree.Statement.{Statement}
+use Rattle.meaning.specs.declared.tree.Way.{Way}
+use Rattle.meaning.specs.Tree.{Name, Term}
+use Rattle.meaning.specs.TreeView.{term}
 use Rattle.source_tree.specs.Source.{Stmt, Binds, Enters, Reads, Syncs, Updates, Tests, Loops, Returns, Stmts, none, some}
 use Rattle.source_tree.specs.Lowering.{numbered, optional, lower_term, lower_terms, line_of_stmt}
 

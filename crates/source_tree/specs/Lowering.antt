@@ -2,10 +2,10 @@
 use Rattle.std.specs.Prelude.{ℕ, ℤ, suc, ◌+◌, ◌≤◌, List, [], ◌∷◌, ◌++◌, length, map, Option, Some, None, bytes_eq, if◌then◌else◌, Bool}
 use Rattle.std.specs.Option.{option_map}
 use Rattle.token_scanner.specs.Words.{for_some}
-use Rattle.program_tree.specs.Plain.{Name, Term, number, name, cell, has, limit, sum, negate, binary, Deed, bind, enter, read, sync}
-use Rattle.program_tree.specs.Plain.{update, choose, loop, give, Body, end, step, Proc, Tree}
-use Rattle.program_tree.specs.Plain as plain
-use Rattle.program_tree.specs.View.{Lined}
+use Rattle.meaning.specs.Tree.{Name, Term, number, name, cell, has, limit, sum, negate, binary, Deed, bind, enter, read, sync}
+use Rattle.meaning.specs.Tree.{update, choose, loop, give, Body, end, step, Proc, Tree}
+use Rattle.meaning.specs.Tree as plain
+use Rattle.meaning.specs.TreeView.{Lined}
 use Rattle.source_tree.specs.Kinds.{WrittenKind, written}
 use Rattle.source_tree.specs.Source.{Phrase, Num, Var, Cell, Has, Limit, Sum, Neg, Bin, Stmt, Binds, Enters, Reads, Syncs, Updates, Tests}
 use Rattle.source_tree.specs.Source.{Loops, Returns, Stmts, none, some, stmts_of, Decl, Reduces, Defines, Source}

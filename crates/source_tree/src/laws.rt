@@ -2,7 +2,7 @@
 
 ghost use Rattle.std.specs.Prelude.{◌≡◌};
 ghost use Rattle.monoid_laws.specs.declared.Kind.{Kind};
-ghost use Rattle.program_tree.specs.Plain.{Tree};
+ghost use Rattle.meaning.specs.Tree.{Tree};
 ghost use Rattle.source_tree.specs.Kinds.{written};
 ghost use Rattle.source_tree.specs.Lowering.{settled};
 

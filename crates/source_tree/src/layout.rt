@@ -8,7 +8,7 @@ ghost use Rattle.source_tree.specs.Layout.{laid_plain, laid_deed, laid_block, la
 use crate::pool::Pool;
 use crate::source::{self, line_of};
 use crate::terms::{lower_expression, lower_expressions, number_of_bound};
-use program_tree::{Action, Block, Statement, Way};
+use meaning::tree::{Action, Block, Statement, Way};
 use std::alloc::{AllocError, Global};
 
 fn bind(alloc: Global, pool: &mut Pool, x: &str, value: &source::Expr) -> Result<Action, AllocError>

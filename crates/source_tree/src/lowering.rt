@@ -1,7 +1,7 @@
 //! From a source tree to the tree of a program: variables become numbers, statements are numbered, blocks are laid out.
 
 ghost use Rattle.std.specs.Prelude.{◌≡◌, ◌≤◌, IfOk, string_bytes};
-ghost use Rattle.program_tree.specs.View.{proc, decl, tree, lines, lined, block_lines};
+ghost use Rattle.meaning.specs.TreeView.{proc, decl, tree, lines, lined, block_lines};
 ghost use Rattle.source_tree.specs.Source.{stmts, stmts_of, texts};
 ghost use Rattle.source_tree.specs.Source as plain;
 ghost use Rattle.source_tree.specs.Lowering.{count_all, body_len, BodiesWithin, lower_proc, body_lines, lowered_decl, lower_decl};
@@ -11,7 +11,7 @@ ghost use Rattle.source_tree.specs.Layout.{flats, laid_procedure};
 use crate::layout::statements;
 use crate::pool::Pool;
 use crate::source;
-use program_tree::{Block, Declaration, Procedure, Program, Reducer};
+use meaning::tree::{Block, Declaration, Procedure, Program, Reducer};
 use std::alloc::{AllocError, Global};
 
 /// The table of a body's blocks; new names go last in the pool.

@@ -5,7 +5,7 @@ ghost use Rattle.source_tree.specs.Source.{phrase, depth, stmt};
 ghost use Rattle.source_tree.specs.Lowering.{line_of_stmt};
 
 use monoid_laws::Kind;
-use program_tree::{Operator, Way};
+use meaning::tree::{Operator, Way};
 
 /// An expression.
 #[derive(Drop)]

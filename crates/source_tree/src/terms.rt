@@ -1,14 +1,14 @@
 //! Expressions with their variables as numbers.
 
 ghost use Rattle.std.specs.Prelude.{◌≡◌, IfOk, [], map, string_bytes};
-ghost use Rattle.program_tree.specs.Plain as plain;
-ghost use Rattle.program_tree.specs.View.{term};
+ghost use Rattle.meaning.specs.Tree as plain;
+ghost use Rattle.meaning.specs.TreeView.{term};
 ghost use Rattle.source_tree.specs.Source.{phrase, phrases, option_text};
 ghost use Rattle.source_tree.specs.Lowering.{lower_term, lower_terms, optional};
 
 use crate::pool::Pool;
 use crate::source;
-use program_tree::{Expr, Operator};
+use meaning::tree::{Expr, Operator};
 use std::alloc::{AllocError, Global};
 
 fn cell(alloc: Global, table: &str, row: Expr, column: &str) -> Result<Expr, AllocError>

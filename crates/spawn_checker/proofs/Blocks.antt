@@ -1,10 +1,10 @@
 -- Blocks by their numbers, and what doesn't depend on the blocks inside.
 use Rattle.std.proofs.Common.{◌≡◌, ℕ, zero, suc, ◌-◌, List, Some, None, slice_get, refl, ap, arith}
-use Rattle.program_tree.specs.declared.Block.{Block}
-use Rattle.program_tree.specs.declared.Action.{Action}
-use Rattle.program_tree.specs.declared.Action.TheVariants as a
-use Rattle.program_tree.specs.Plain.{Body, end}
-use Rattle.program_tree.specs.View.{deed, statements, statements_of, block}
+use Rattle.meaning.specs.declared.tree.Block.{Block}
+use Rattle.meaning.specs.declared.tree.Action.{Action}
+use Rattle.meaning.specs.declared.tree.Action.TheVariants as a
+use Rattle.meaning.specs.Tree.{Body, end}
+use Rattle.meaning.specs.TreeView.{deed, statements, statements_of, block}
 use Rattle.linked_program.specs.Scope.{Scope, closed_deed}
 
 pub block_found : (blocks : List Block) (levels n : ℕ) (b : Block) → (levels ≡ 0 → ⊥) → slice_get blocks n ≡ Some b → block blocks levels n ≡ statements (block blocks (levels - 1)) b.statements.items

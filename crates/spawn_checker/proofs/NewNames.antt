@@ -1,11 +1,11 @@
 -- In a program without violations no two procedures have one name.
 use Rattle.std.proofs.Common.{◌≡◌, ℕ, ◌+◌, true, false, cond, ◌||◌, List, [], ◌∷◌, ◌++◌, Some, map, take, length, refl, ap, sym, subst, ◌∙◌, arith, append_assoc}
 use Rattle.std.specs.Str.{bytes_eq}
-use Rattle.program_tree.specs.declared.Declaration.{Declaration}
-use Rattle.program_tree.specs.declared.Declaration.TheVariants as d
-use Rattle.program_tree.specs.declared.Program.{Program}
-use Rattle.program_tree.specs.Plain.{Name, Proc, Decl, reducer, procedure, Tree}
-use Rattle.program_tree.specs.View.{decl, lined, proc, red, tree, block_lines}
+use Rattle.meaning.specs.declared.tree.Declaration.{Declaration}
+use Rattle.meaning.specs.declared.tree.Declaration.TheVariants as d
+use Rattle.meaning.specs.declared.tree.Program.{Program}
+use Rattle.meaning.specs.Tree.{Name, Proc, Decl, reducer, procedure, Tree}
+use Rattle.meaning.specs.TreeView.{decl, lined, proc, red, tree, block_lines}
 use Rattle.meaning.specs.Statements.{procedure_of}
 use Rattle.meaning.specs.Tables.{is_there}
 use Rattle.linked_program.specs.declared.violation.Rule.TheVariants.{Twice}

@@ -2,8 +2,8 @@
 use Rattle.std.proofs.Common.{◌≡◌, ℕ, suc, ◌<◌, ◌≤◌, Bool, true, false, cond, List, [], ◌∷◌, Option, Some, None, map, All, inl, inr, refl, ap, sym, subst, ◌∙◌, arith, nat_lt, lt-ltb}
 use Rattle.std.proofs.lemmas.List.Elements.{All-nil, All-cons, All-head, All-tail}
 use Rattle.std.specs.Str.{bytes_eq}
-use Rattle.program_tree.specs.Plain.{Name, Proc, reducer, procedure, Tree}
-use Rattle.program_tree.specs.View.{Lined}
+use Rattle.meaning.specs.Tree.{Name, Proc, reducer, procedure, Tree}
+use Rattle.meaning.specs.TreeView.{Lined}
 use Rattle.meaning.specs.Records.{Revised}
 use Rattle.meaning.specs.Statements.{procedure_of}
 use Rattle.meaning.specs.Edits.{is_same, revision_of, revised, most}

@@ -1,6 +1,6 @@
 -- Revision numbers put in one by one.
 use Rattle.std.proofs.Common.{◌≡◌, ℕ, suc, ◌+◌, List, [], ◌∷◌, ◌++◌, Some, None, sym, ap, ◌∙◌, append_assoc, add-one}
-use Rattle.program_tree.specs.Plain.{Name, Proc, procedure, Tree}
+use Rattle.meaning.specs.Tree.{Name, Proc, procedure, Tree}
 use Rattle.meaning.specs.Records.{Revised}
 use Rattle.meaning.specs.Edits.{revised}
 use Rattle.single_rules.specs.Kept.{kept}

@@ -1,7 +1,7 @@
 -- What the check of the whole language answers.
 use Rattle.std.specs.Prelude.{◌≡◌, List, Option, Some, string_bytes}
-use Rattle.program_tree.specs.Plain.{Tree}
-use Rattle.program_tree.specs.View.{Lined}
+use Rattle.meaning.specs.Tree.{Tree}
+use Rattle.meaning.specs.TreeView.{Lined}
 use Rattle.linked_program.specs.TableNames.{Columned}
 use Rattle.linked_program.specs.declared.violation.Violation.{Violation}
 use Rattle.linked_program.specs.Declarations.{reported, violations}

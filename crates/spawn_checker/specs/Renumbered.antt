@@ -1,7 +1,7 @@
 -- The revision numbers of a program that takes the place of another.
 use Rattle.std.specs.Prelude.{◌≡◌, ◌≤◌, ◌⊎◌, ℕ, suc, nat_lt, true, false, List, [], ◌∷◌, ◌++◌, Some, string_bytes}
-use Rattle.program_tree.specs.Plain.{Name, Proc, reducer, procedure, Tree}
-use Rattle.program_tree.specs.View.{Lined}
+use Rattle.meaning.specs.Tree.{Name, Proc, reducer, procedure, Tree}
+use Rattle.meaning.specs.TreeView.{Lined}
 use Rattle.meaning.specs.Records.{Revised}
 use Rattle.meaning.specs.Statements.{procedure_of}
 use Rattle.meaning.specs.Edits.{is_same, revision_of, revised, most}

@@ -1,7 +1,7 @@
 //! Checks a program of the whole language.
 ghost use Rattle.std.specs.Prelude.{◌≡◌, [], map, IfOk, IfErr, OnOk};
 ghost use Rattle.meaning.specs.Edits.{revised};
-ghost use Rattle.program_tree.specs.View.{tree, lines};
+ghost use Rattle.meaning.specs.TreeView.{tree, lines};
 ghost use Rattle.linked_program.specs.TableNames.{columned, columned_of};
 ghost use Rattle.linked_program.specs.Declarations.{violations, IsClean};
 ghost use Rattle.linked_program.specs.Checked.{revised_of, nothing};
@@ -19,7 +19,7 @@ use crate::violation::CheckError;
 use input_tables::Tables;
 use linked_program::checked::Checked;
 use linked_program::tables::TableNames;
-use program_tree::Program;
+use meaning::tree::Program;
 use std::alloc::Global;
 
 /// The names of these tables, where a program breaks no rule over them; else its refusal.

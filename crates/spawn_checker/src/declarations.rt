@@ -1,6 +1,6 @@
 //! The first violation of a program's declarations.
 ghost use Rattle.std.specs.Prelude.{◌≡◌, ◌<◌, map, length, IfOk};
-ghost use Rattle.program_tree.specs.View.{decl, proc, block_lines, lined};
+ghost use Rattle.meaning.specs.TreeView.{decl, proc, block_lines, lined};
 ghost use Rattle.linked_program.specs.TableNames.{columned};
 ghost use Rattle.linked_program.specs.Declarations.{proc_violations, decl_violations, missing_main, violations};
 ghost use Rattle.linked_program.specs.Violations.{noted, first_of};
@@ -8,7 +8,7 @@ ghost use Rattle.linked_program.specs.Violations.{noted, first_of};
 use crate::walk::note_block;
 use linked_program::tables::TableNames;
 use linked_program::violation::{Rule, Violation};
-use program_tree::{Declaration, Procedure};
+use meaning::tree::{Declaration, Procedure};
 use single_rules::heads::{note_head, note_reducer};
 use single_rules::lines::LineTable;
 use single_rules::names::parameters_of;

@@ -1,6 +1,6 @@
 //! What follows from the definitions alone, each as the contract of a function that does nothing.
 ghost use Rattle.std.specs.Prelude.{◌≡◌, ◌<◌, ◌↔◌, ℕ, List, Some, true, All};
-ghost use Rattle.program_tree.specs.Plain.{Tree};
+ghost use Rattle.meaning.specs.Tree.{Tree};
 ghost use Rattle.meaning.specs.Edits.{revised};
 ghost use Rattle.linked_program.specs.Procedures.{procedures};
 ghost use Rattle.linked_program.specs.Checked.{revised_of};

@@ -1,6 +1,6 @@
 //! Makes a checked program of one that breaks no rule.
 ghost use Rattle.std.specs.Prelude.{◌≡◌, ◌<◌, All, map, IfOk};
-ghost use Rattle.program_tree.specs.View.{tree};
+ghost use Rattle.meaning.specs.TreeView.{tree};
 ghost use Rattle.linked_program.specs.TableNames.{columned};
 ghost use Rattle.linked_program.specs.Declarations.{IsClean};
 ghost use Rattle.linked_program.specs.Procedures.{procedures};
@@ -10,7 +10,7 @@ use linked_program::checked::Checked;
 use linked_program::initial::initials;
 use linked_program::linking::{codes, kinds};
 use linked_program::tables::TableNames;
-use program_tree::Program;
+use meaning::tree::Program;
 use std::alloc::{AllocError, Global};
 
 /// The checked program of one that breaks no rule, with these revision numbers of its procedures.

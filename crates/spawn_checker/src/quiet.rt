@@ -1,9 +1,9 @@
 //! The statements that may come after a read: plain binds, reads, returns, and `if`s of these.
 ghost use Rattle.std.specs.Prelude.{◌≡◌};
-ghost use Rattle.program_tree.specs.View.{block, deed, statements as body_of};
+ghost use Rattle.meaning.specs.TreeView.{block, deed, statements as body_of};
 ghost use Rattle.linked_program.specs.Rules.{is_quiet as is_quiet_deed, are_quiet as is_quiet_body};
 
-use program_tree::{Action, Block, Statement};
+use meaning::tree::{Action, Block, Statement};
 
 /// Whether the statement is one of these, where blocks nest at most so many levels.
 #[cycle(quiet)]

@@ -1,12 +1,12 @@
 //! The refusal of a program by a violation.
 ghost use Rattle.std.specs.Prelude.{◌≡◌, map, option_map, option_copied, Some};
-ghost use Rattle.program_tree.specs.View.{decl};
+ghost use Rattle.meaning.specs.TreeView.{decl};
 ghost use Rattle.linked_program.specs.Declarations.{name_at as called_at, called as name_of};
 ghost use Rattle.spawn_checker.specs.Refused.{IsRefusedBy};
 
 use crate::violation::CheckError;
 use linked_program::violation::Violation;
-use program_tree::Declaration;
+use meaning::tree::Declaration;
 use std::alloc::Global;
 
 // The name of a declaration.

@@ -1,12 +1,12 @@
 //! The revision numbers of a program that takes the place of another.
 ghost use Rattle.std.specs.Prelude.{◌≡◌, ◌<◌, map, IfOk, IfSome, IfNone};
-ghost use Rattle.program_tree.specs.View.{decl};
+ghost use Rattle.meaning.specs.TreeView.{decl};
 ghost use Rattle.meaning.specs.Edits.{most, revised};
 ghost use Rattle.linked_program.specs.Checked.{revised_of, numbers_in};
 
 use crate::revisions::{Numbers, put_revision};
 use linked_program::checked::Checked;
-use program_tree::{Declaration, Procedure};
+use meaning::tree::{Declaration, Procedure};
 use single_rules::keeping::{is_last_number, kept_revision};
 use std::alloc::{AllocError, Global};
 

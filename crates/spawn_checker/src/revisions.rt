@@ -1,10 +1,10 @@
 //! The revision numbers of procedures.
 ghost use Rattle.std.specs.Prelude.{◌≡◌, ◌∷◌, ◌++◌, [], map, IfOk};
-ghost use Rattle.program_tree.specs.View.{decl};
+ghost use Rattle.meaning.specs.TreeView.{decl};
 ghost use Rattle.meaning.specs.Edits.{revised};
 ghost use Rattle.linked_program.specs.Checked.{numbers_in, nothing};
 
-use program_tree::Declaration;
+use meaning::tree::Declaration;
 use std::alloc::{AllocError, Global};
 
 /// The procedures' names in their order, each with its revision number, and the least number that was never used.

@@ -1,7 +1,7 @@
 //! The walk through a procedure's body: the first violation, and what is known after each statement.
 ghost use Rattle.std.specs.Prelude.{◌≡◌, ℕ, ◌+◌, ◌<◌, ◌^◌, ◌==◌, ◌&&◌};
-ghost use Rattle.program_tree.specs.Plain.{Body};
-ghost use Rattle.program_tree.specs.View.{block, deed, statements as body_of};
+ghost use Rattle.meaning.specs.Tree.{Body};
+ghost use Rattle.meaning.specs.TreeView.{block, deed, statements as body_of};
 ghost use Rattle.linked_program.specs.Scope.{after_deed, after_body, after_block, after_branches, closed, closed_deed};
 ghost use Rattle.linked_program.specs.Rules.{late_rules, deed_rules};
 ghost use Rattle.linked_program.specs.Bodies.{line_of, body_violations, branch_violations, step_violations};
@@ -12,7 +12,7 @@ ghost use Rattle.single_rules.specs.Own.{after_own};
 use crate::quiet::is_quiet;
 use linked_program::knowledge::Moment;
 use linked_program::violation::{Rule, Violation};
-use program_tree::{Action, Block, Statement};
+use meaning::tree::{Action, Block, Statement};
 use single_rules::place::{Place, note_if};
 use single_rules::scope::Scope;
 use single_rules::setting::Setting;

@@ -2,7 +2,7 @@
 use Rattle.std.proofs.Common.{◌≡◌, inl, inr, ℕ, zero, suc, ◌+◌, Bool, true, false, List, [], ◌∷◌, ◌++◌, length, map, Option, Some, None, refl, sym, ◌∙◌, ap, subst, arith}
 use Rattle.std.specs.Prelude.{ℤ}
 use Rattle.std.proofs.lemmas.List.{length-append}
-use Rattle.program_tree.specs.Plain.{Tree}
+use Rattle.meaning.specs.Tree.{Tree}
 use Rattle.meaning.specs.Outcome.{Place, Fault}
 use Rattle.meaning.specs.Trail.{child_of, sight_of}
 use Rattle.meaning.specs.Tallies.{valid_record}

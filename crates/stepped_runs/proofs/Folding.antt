@@ -3,7 +3,7 @@ use Rattle.std.proofs.Common.{◌≡◌, inl, inr, ℕ, ◌+◌, Bool, true, fal
 use Rattle.std.specs.Prelude.{ℤ, ◌-◌, length, if◌then◌else◌, ◌==◌}
 use Rattle.monoid_laws.specs.Worth.{Worth}
 use Rattle.monoid_laws.specs.Kinds.{operate_all}
-use Rattle.program_tree.specs.Plain.{Tree}
+use Rattle.meaning.specs.Tree.{Tree}
 use Rattle.meaning.specs.Outcome.{Place}
 use Rattle.meaning.specs.SmallStep.{Phase as NamedPhase, entering, running, spawning, returning, leaving, broken, same_name}
 use Rattle.meaning.specs.LayeredStrand.{LayeredStrand}

@@ -1,7 +1,7 @@
 -- Laying a strand down, in runs of numbers and in those of the definitions.
 use Rattle.std.proofs.Common.{◌≡◌, ℕ, nat_lt, Bool, true, false, List, [], ◌∷◌, length, suc, Option, None, refl, sym, ◌∙◌, ap, subst, arith}
 use Rattle.std.specs.Prelude.{ℤ, ◌&&◌}
-use Rattle.program_tree.specs.Plain.{Tree}
+use Rattle.meaning.specs.Tree.{Tree}
 use Rattle.meaning.specs.Outcome.{Place, Fault}
 use Rattle.meaning.specs.SmallStep.{Phase as NamedPhase, entering, running, spawning, returning, leaving, broken, Parent, Frame, is_entry as is_entry_by, Step, moved, taken, paused as paused_step, micro, Continuation}
 use Rattle.meaning.specs.Layers.{bottom, total}

@@ -1,6 +1,6 @@
 -- Each step of a run of numbers is that of the definitions' run that it stands for, and a refusal is where there is none.
 use Rattle.std.proofs.Common.{◌≡◌, inl, inr, ℕ, Bool, true, false, not, ◌&&◌, List, [], ◌∷◌, ◌++◌, map, length, Option, Some, None, Result, Ok, Err, refl, sym, ◌∙◌, ap, subst}
-use Rattle.program_tree.specs.Plain.{Tree}
+use Rattle.meaning.specs.Tree.{Tree}
 use Rattle.meaning.specs.Statements.{beginning}
 use Rattle.meaning.specs.Trail.{sight_of}
 use Rattle.meaning.specs.Tallies.{valid_record}

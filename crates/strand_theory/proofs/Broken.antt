@@ -1,6 +1,6 @@
 -- Strands with a fault: the trail from where such a strand began has that fault first.
 use Rattle.std.proofs.Common.{◌-◌, ℕ, List, [], ◌∷◌, ◌++◌, Some, Ok, Err, ℤ, ◌≡◌, sym, ap, ap₂, ◌∙◌, append_assoc}
-use Rattle.program_tree.specs.Plain.{Tree}
+use Rattle.meaning.specs.Tree.{Tree}
 use Rattle.meaning.specs.Tables.{Tables}
 use Rattle.meaning.specs.Outcome.{Log, Accumulators, Fault, Outcome, Place, Leaves, Faults, Out}
 use Rattle.meaning.specs.Statements.{initial_values}

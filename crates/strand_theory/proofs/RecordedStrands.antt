@@ -1,6 +1,6 @@
 -- Each move of a strand keeps its new records, its open layers and what it left without one the executions of its stretch.
 use Rattle.std.proofs.Common.{ℕ, List, [], ◌∷◌, ◌++◌, Option, Ok, ℤ, ◌≡◌, refl, sym, ap, ap₂, ◌∙◌, subst, append_assoc, true, false, Bool}
-use Rattle.program_tree.specs.Plain.{Tree}
+use Rattle.meaning.specs.Tree.{Tree}
 use Rattle.meaning.specs.Tables.{Tables}
 use Rattle.meaning.specs.Outcome.{Log, Accumulators, Place, Syncs, Leaves}
 use Rattle.meaning.specs.Records.{Revised}

@@ -1,8 +1,8 @@
 -- A small step needs no flag but that of an instance that returns above the strand's entry.
 use Rattle.std.proofs.Common.{◌-◌, ◌&&◌, ℕ, zero, suc, List, [], ◌∷◌, map, Option, Some, None, Result, Ok, Err, ℤ, ◌≡◌, refl, sym, ap, ◌∙◌, true, false, Bool, cond}
 use Rattle.std.specs.Prelude.{nat_le, slice_set}
-use Rattle.program_tree.specs.Plain.{Name, bind, enter, read, sync, update, choose, loop, give, end, step, Tree}
-use Rattle.program_tree.specs.declared.Way.TheVariants.{Call, Spawn}
+use Rattle.meaning.specs.Tree.{Name, bind, enter, read, sync, update, choose, loop, give, end, step, Tree}
+use Rattle.meaning.specs.declared.tree.Way.TheVariants.{Call, Spawn}
 use Rattle.meaning.specs.declared.FaultKind.{FaultKind}
 use Rattle.meaning.specs.Tables.{Tables}
 use Rattle.meaning.specs.Outcome.{Log, Accumulators, Site, Out, Syncs}

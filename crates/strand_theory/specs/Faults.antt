@@ -1,6 +1,6 @@
 -- A strand with a fault: the trail from where it began has that fault first.
 use Rattle.std.specs.Prelude.{◌≡◌, ◌∷◌, ◌++◌, None}
-use Rattle.program_tree.specs.Plain.{Tree}
+use Rattle.meaning.specs.Tree.{Tree}
 use Rattle.meaning.specs.Tables.{Tables}
 use Rattle.meaning.specs.Outcome.{Log, Accumulators, Fault, Faults}
 use Rattle.meaning.specs.Trail.{trail_at}

@@ -2,7 +2,7 @@
 #![tactic(auto)]
 
 ghost use Rattle.std.specs.Prelude.{◌≡◌};
-ghost use Rattle.program_tree.specs.Plain.{Tree};
+ghost use Rattle.meaning.specs.Tree.{Tree};
 ghost use Rattle.meaning.specs.Tables.{Tables};
 ghost use Rattle.meaning.specs.Outcome.{Fault};
 ghost use Rattle.meaning.specs.Trail.{sight_of};

@@ -3,7 +3,7 @@ use crate::folds::{first_fold, fold_kept, places_at};
 use crate::kept::{keep, put_behind, take_behind};
 use crate::laid::{Laid, ends_alone, into_alone, may_touch_at};
 use crate::refusal::Refusal;
-use frames::answer::RunAnswer;
+use positions::answer::RunAnswer;
 use numbered_runs::step::{BookStep, Place, StrandLine};
 use rerun_records::record::Record;
 use right_strands::laid::Piece;

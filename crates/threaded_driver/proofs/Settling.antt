@@ -5,11 +5,11 @@ use Rattle.view_pool.specs.Stock.{Stock}
 use Rattle.rerun_records.specs.Record.{PlainRecord, settled}
 use Rattle.rerun_records.specs.Commits.{put_records}
 use Rattle.positions.specs.Setting.{Setting, setting_with}
-use Rattle.frames.specs.declared.answer.RunAnswer.{RunAnswer}
-use Rattle.frames.specs.declared.answer.RunAnswer.TheVariants as answer
+use Rattle.positions.specs.declared.answer.RunAnswer.{RunAnswer}
+use Rattle.positions.specs.declared.answer.RunAnswer.TheVariants as answer
 use Rattle.right_strands.specs.Laid.{HasRecorded}
 use Rattle.numbered_runs.specs.Sound.{AreSoundFor}
-use Rattle.run_terms.specs.Recorded.{HasRecordedBy}
+use Rattle.numbered_runs.specs.Recorded.{HasRecordedBy}
 use Rattle.kept_session.specs.Sessions.{PlainSession}
 use Rattle.session_runs.specs.Runs.{LeavesRecords, IsQuietAfter}
 use Rattle.session_runs.proofs.Outcomes.{quiet_after}

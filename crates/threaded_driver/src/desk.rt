@@ -3,7 +3,7 @@ ghost use Rattle.std.specs.Prelude.{◌≡◌, ◌<◌, ◌==◌, ◌||◌, true
 ghost use Rattle.std.specs.Option.{ForNone};
 ghost use Rattle.sync_fold.specs.Refusals.{WasRefused, is_apart};
 ghost use Rattle.sync_fold.specs.Counts.{held_among, kits_laid, kits_of};
-ghost use Rattle.run_terms.specs.Come.{HasEnded};
+ghost use Rattle.numbered_runs.specs.Come.{HasEnded};
 ghost use Rattle.worker_seats.specs.Balances.{Balances, most};
 ghost use Rattle.worker_seats.specs.Ends.{IsEnd};
 ghost use Rattle.strand_list.specs.Pages.{shown};

@@ -1,9 +1,9 @@
 -- Reading tokens from left to right: a value and the tokens after it, or the tokens from the first on that can't follow.
 use Rattle.std.specs.Prelude.{◌≡◌, ℕ, List, Option, Some, None, Result, Ok, Err, length, nat_le, if◌then◌else◌, ◌&&◌}
-use Rattle.program_tree.specs.declared.Operator.{Operator}
-use Rattle.program_tree.specs.declared.Operator.TheVariants as op
-use Rattle.program_tree.specs.declared.Way.{Way}
-use Rattle.program_tree.specs.declared.Way.TheVariants as way
+use Rattle.meaning.specs.declared.tree.Operator.{Operator}
+use Rattle.meaning.specs.declared.tree.Operator.TheVariants as op
+use Rattle.meaning.specs.declared.tree.Way.{Way}
+use Rattle.meaning.specs.declared.tree.Way.TheVariants as way
 use Rattle.token_scanner.specs.declared.token.Mark.{Mark}
 use Rattle.token_scanner.specs.declared.token.Mark.TheVariants as mark
 use Rattle.token_scanner.specs.declared.token.Mark.TheVariants.{Plus, Minus, Star, Slash, Percent, Call, Spawn}

@@ -1,7 +1,7 @@
 -- Which procedures a text may define for a program.
 use Rattle.std.specs.Prelude.{ℕ, suc, ◌+◌, ◌-◌, List, [], ◌∷◌, ◌++◌, length, Option, Some, None, nat_lt, if◌then◌else◌, remove}
-use Rattle.program_tree.specs.Plain.{Name, Tree}
-use Rattle.program_tree.specs.Plain as plain
+use Rattle.meaning.specs.Tree.{Name, Tree}
+use Rattle.meaning.specs.Tree as plain
 use Rattle.token_scanner.specs.Words.{for_some}
 use Rattle.source_tree.specs.Lowering.{found_index}
 

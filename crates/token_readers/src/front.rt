@@ -5,7 +5,7 @@ ghost use Rattle.token_scanner.specs.Words.{words, starts, rest, front_name, fro
 ghost use Rattle.token_readers.specs.Reading.{Gives, name_at, mark_at, within_of, within_at, word_at, comparison, additive, multiplicative, way_of};
 
 use crate::fault::ParseError;
-use program_tree::{Operator, Way};
+use meaning::tree::{Operator, Way};
 use std::alloc::Global;
 use token_scanner::{Mark, Placed, Token, same};
 

@@ -1,14 +1,14 @@
 //! Which procedures a text may define.
 
 ghost use Rattle.std.specs.Prelude.{◌≡◌, ◌<◌, [], IfOk, IfSome, OnOk, map, length, option_map};
-ghost use Rattle.program_tree.specs.View.{decl, tree};
+ghost use Rattle.meaning.specs.TreeView.{decl, tree};
 ghost use Rattle.source_tree.specs.Source.{texts};
 ghost use Rattle.source_tree.specs.Lowering.{found_index};
 ghost use Rattle.token_readers.specs.Rooms.{with_new, names_from, procedures_in, room_of, room_behind, turns_of};
 ghost use Rattle.token_readers.specs.Seen as seen;
 
 use crate::bounds::MOST_PROCEDURES;
-use program_tree::{Declaration, Program};
+use meaning::tree::{Declaration, Program};
 use std::alloc::{AllocError, Global};
 
 /// The names of the procedures that may still be replaced, and how many new ones may come.

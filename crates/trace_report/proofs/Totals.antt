@@ -3,8 +3,8 @@ use Rattle.std.proofs.Common.{◌≡◌, ℕ, ◌≤◌, List, [], ◌∷◌, �
 use Rattle.std.proofs.lemmas.List.{drop_all}
 use Rattle.monoid_laws.specs.Worth.{Worth}
 use Rattle.meaning.specs.Statements.{reducers}
-use Rattle.program_tree.specs.declared.Declaration.{Declaration}
-use Rattle.program_tree.specs.View.{decl}
+use Rattle.meaning.specs.declared.tree.Declaration.{Declaration}
+use Rattle.meaning.specs.TreeView.{decl}
 use Rattle.meaning.specs.Text.{worths_text}
 
 pub worths_text-none : (ws : List Worth) → worths_text [] ws ≡ []

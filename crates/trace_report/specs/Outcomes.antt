@@ -2,15 +2,15 @@
 use Rattle.std.specs.Prelude.{◌≡◌, List, ◌++◌, map, codes, ℕ, String, string_bytes}
 use Rattle.std.specs.declared.alloc.Global.{Global}
 use Rattle.monoid_laws.specs.Kinds.{meaning}
-use Rattle.program_tree.specs.View.{tree}
+use Rattle.meaning.specs.TreeView.{tree}
 use Rattle.meaning.specs.declared.FaultKind.{FaultKind}
 use Rattle.meaning.specs.Statements.{reducers}
 use Rattle.meaning.specs.Text.{run_line, result_text, worths_text, fault_text}
 use Rattle.linked_program.specs.Checked.{PlainChecked}
 use Rattle.positions.specs.Stands.{fault_in}
 use Rattle.positions.specs.declared.phase.Fault.{Fault}
-use Rattle.frames.specs.declared.answer.RunAnswer.{RunAnswer}
-use Rattle.frames.specs.declared.answer.RunAnswer.TheVariants as answer
+use Rattle.positions.specs.declared.answer.RunAnswer.{RunAnswer}
+use Rattle.positions.specs.declared.answer.RunAnswer.TheVariants as answer
 
 -- the new text is the old one, and more behind it
 abbrev pub Extends : String Global → String Global → List ℕ → Type 0

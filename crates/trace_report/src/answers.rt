@@ -3,18 +3,18 @@ ghost use Rattle.std.specs.Prelude.{◌≡◌, ℤ, ◌++◌, ◌∷◌, Option,
 ghost use Rattle.monoid_laws.specs.Kinds.{meaning, joined};
 ghost use Rattle.meaning.specs.Statements.{reducers, found};
 ghost use Rattle.linked_program.specs.Procedures.{procedures};
-ghost use Rattle.program_tree.specs.Plain.{Tree};
-ghost use Rattle.program_tree.specs.View.{tree, decl, red};
+ghost use Rattle.meaning.specs.Tree.{Tree};
+ghost use Rattle.meaning.specs.TreeView.{tree, decl, red};
 ghost use Rattle.trace_report.specs.Outcomes.{Extends, IsRunText, Shows, named_fault_text, fault_line};
 ghost use Rattle.meaning.specs.Text.{unknown_text, run_line, result_text, fault_name, spaced, spaced_amount, best_text, worth_text, worth_line, worths_text};
 
 use crate::amounts::merged;
-use frames::answer::RunAnswer;
+use positions::answer::RunAnswer;
 use linked_program::checked::Checked;
 use meaning::FaultKind;
 use monoid_laws::Val;
 use positions::phase::Fault;
-use program_tree::{Declaration, Program, Reducer};
+use meaning::tree::{Declaration, Program, Reducer};
 use std::alloc::{AllocError, Global};
 use std::fmt::Write;
 

@@ -1,6 +1,6 @@
 -- Each step of a strand keeps it right.
 use Rattle.std.proofs.Common.{ℕ, suc, ◌-◌, List, [], ◌∷◌, ◌++◌, Option, None, ◌≡◌, inl, inr, refl, sym, ap, ◌∙◌, subst, arith, append_assoc, append-nil, Bool, true, false}
-use Rattle.program_tree.specs.Plain.{Tree}
+use Rattle.meaning.specs.Tree.{Tree}
 use Rattle.meaning.specs.Tables.{Tables}
 use Rattle.meaning.specs.Outcome.{Log, Accumulators, Event, Place, Reads, Enters, Updates, Reuses, Begins, Syncs, Leaves, Faults, Marks, Spawns}
 use Rattle.meaning.specs.Trail.{child_of, env_after, doom_after, trail_at}

@@ -4,7 +4,7 @@ use Rattle.std.specs.Prelude.{slice_get}
 use Rattle.std.specs.List.{AllByRecursion}
 use Rattle.monoid_laws.specs.declared.Kind.{Kind}
 use Rattle.monoid_laws.specs.Kinds.{arity, names_element, element_of, Fits, IsWorth}
-use Rattle.program_tree.specs.Plain.{Red, Tree}
+use Rattle.meaning.specs.Tree.{Red, Tree}
 use Rattle.meaning.specs.Outcome.{Log, Updates}
 use Rattle.meaning.specs.Statements.{reducers, in_pairs, in_groups, updates_by, initial_updates, beginning}
 use Rattle.meaning.specs.Fitting.{ProgramFits}

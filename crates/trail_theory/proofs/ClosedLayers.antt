@@ -3,7 +3,7 @@ use Rattle.std.proofs.Common.{Option, Some, None, ℕ, zero, suc, ◌+◌, ◌-�
 use Rattle.std.specs.Prelude.{◌&&◌, max, length, slice_index_or, ◌↔◌}
 use Rattle.std.specs.List.{Contains}
 use Rattle.std.proofs.lemmas.List.{append_cancel_left}
-use Rattle.program_tree.specs.Plain.{Name, Proc, Tree}
+use Rattle.meaning.specs.Tree.{Name, Proc, Tree}
 use Rattle.meaning.specs.Tables.{Tables, is_there}
 use Rattle.meaning.specs.Outcome.{Log, Accumulators, Event, Fault, Outcome, Place, Out, Reads, Enters, Updates, Reuses, Begins, Syncs, Leaves, Faults, Marks, Spawns, after}
 use Rattle.meaning.specs.Statements.{identities, found, procedure_of}

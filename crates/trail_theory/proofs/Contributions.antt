@@ -1,7 +1,7 @@
 -- An instance leaves the values that it found, times its contribution; and records stay sound as new ones are put in.
 use Rattle.std.proofs.Common.{ℕ, suc, ◌-◌, List, [], ◌∷◌, None, Ok, Err, ℤ, ◌≡◌, inr, sym, ap, ◌∙◌, subst, arith, true, false, Bool, cond}
 use Rattle.monoid_laws.specs.Kinds.{Fits as FitsNumber, AreWorths}
-use Rattle.program_tree.specs.Plain.{Name, Tree}
+use Rattle.meaning.specs.Tree.{Name, Tree}
 use Rattle.meaning.specs.Tables.{Tables}
 use Rattle.meaning.specs.Outcome.{Log, Accumulators, Fault, Site, Outcome, Out, after, combined}
 use Rattle.meaning.specs.Statements.{reducers, identities}

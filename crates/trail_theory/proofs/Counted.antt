@@ -1,6 +1,6 @@
 -- A tally counts the marks of its strand's stretch.
 use Rattle.std.proofs.Common.{suc, ◌+◌, ◌≤◌, List, [], ◌∷◌, ◌++◌, length, length-append, append-nil, ℤ, inl, inr, ◌≡◌, refl, sym, ap, ◌∙◌, subst, arith}
-use Rattle.program_tree.specs.Plain.{Name}
+use Rattle.meaning.specs.Tree.{Name}
 use Rattle.meaning.specs.Outcome.{Log}
 use Rattle.meaning.specs.Records.{Revised, Kept, Key}
 use Rattle.meaning.specs.Layers.{Notes}

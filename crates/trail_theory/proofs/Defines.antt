@@ -2,7 +2,7 @@
 use Rattle.std.proofs.Common.{ℕ, suc, ◌<◌, ◌≤◌, List, [], ◌∷◌, Option, Some, None, ◌≡◌, refl, sym, ap, ◌∙◌, subst, arith, true, false, Bool, cond, nat_eq, eqb-true}
 use Rattle.std.specs.Str.{bytes_eq}
 use Rattle.std.proofs.lemmas.Bool.Decides.{Decides-eqb}
-use Rattle.program_tree.specs.Plain.{Name, Deed, bind, enter, read, sync, update, choose, loop, give, Body, end, step, Proc, reducer, procedure, Tree}
+use Rattle.meaning.specs.Tree.{Name, Deed, bind, enter, read, sync, update, choose, loop, give, Body, end, step, Proc, reducer, procedure, Tree}
 use Rattle.meaning.specs.Tables.{is_there}
 use Rattle.meaning.specs.Statements.{procedure_of, found}
 use Rattle.meaning.specs.Records.{Revised, is_current}

@@ -1,6 +1,6 @@
 -- How strands begin and end.
 use Rattle.std.proofs.Common.{◌-◌, ℕ, suc, List, [], ◌∷◌, ◌++◌, Option, Some, None, Ok, Err, ℤ, ◌≡◌, inr, refl, sym, ap, ◌∙◌, subst, append_assoc, append-nil}
-use Rattle.program_tree.specs.Plain.{Tree}
+use Rattle.meaning.specs.Tree.{Tree}
 use Rattle.meaning.specs.Tables.{Tables}
 use Rattle.meaning.specs.Outcome.{Log, Accumulators, Fault, Outcome, Place, Reads, Enters, Updates, Reuses, Begins, Syncs, Leaves, Faults, Marks, Spawns, Out, after}
 use Rattle.meaning.specs.Statements.{identities, beginning, initial_values}

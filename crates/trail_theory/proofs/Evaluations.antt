@@ -2,8 +2,8 @@
 use Rattle.std.proofs.Common.{ℕ, List, [], ◌∷◌, Option, Some, None, Result, Ok, Err, ℤ, pos, true, false, Bool, cond}
 use Rattle.std.specs.Prelude.{nat_le}
 use Rattle.std.specs.Ordering.{int_eq}
-use Rattle.program_tree.specs.Plain.{Name, Term, number, name, cell, has as has_row, limit, sum, negate, binary, Red}
-use Rattle.program_tree.specs.declared.Operator.{Operator}
+use Rattle.meaning.specs.Tree.{Name, Term, number, name, cell, has as has_row, limit, sum, negate, binary, Red}
+use Rattle.meaning.specs.declared.tree.Operator.{Operator}
 use Rattle.monoid_laws.specs.declared.Kind.{Kind}
 use Rattle.meaning.specs.declared.FaultKind.TheVariants.{DivideByZero, RangeTooLong}
 use Rattle.meaning.specs.Tables.{Tables, cell_of}
@@ -15,7 +15,7 @@ use Rattle.meaning.specs.SmallStep.{Start}
 use Rattle.trail_theory.specs.Order.{Every}
 use Rattle.trail_theory.specs.TaskFits.{SyncInside}
 use Rattle.trail_theory.proofs.Places.{every_append}
-use Rattle.program_tree.specs.declared.Operator.TheVariants as o
+use Rattle.meaning.specs.declared.tree.Operator.TheVariants as o
 
 -- what evaluations note
 abbrev pub Told : Event → Type 0

@@ -11,9 +11,9 @@ use Rattle.monoid_laws.specs.declared.Kind.{Kind}
 use Rattle.monoid_laws.specs.declared.Kind.TheVariants as k
 use Rattle.monoid_laws.specs.Worth.{number as the_worth}
 use Rattle.monoid_laws.specs.Kinds.{Fits, FitsPair, IsWorth, element_of, names_element, zero_at}
-use Rattle.program_tree.specs.Plain.{Name, Term, number, name, cell, has as has_row, limit, sum, negate, binary, Red, Tree}
-use Rattle.program_tree.specs.declared.Operator.{Operator}
-use Rattle.program_tree.specs.declared.Operator.TheVariants as o
+use Rattle.meaning.specs.Tree.{Name, Term, number, name, cell, has as has_row, limit, sum, negate, binary, Red, Tree}
+use Rattle.meaning.specs.declared.tree.Operator.{Operator}
+use Rattle.meaning.specs.declared.tree.Operator.TheVariants as o
 use Rattle.meaning.specs.declared.FaultKind.TheVariants.{DivideByZero, RangeTooLong}
 use Rattle.meaning.specs.Tables.{Tables, cell_of, index_of, columns_of, rows_of, above_all, column_total}
 use Rattle.meaning.specs.Outcome.{Log, Out, onward, pure, fail}

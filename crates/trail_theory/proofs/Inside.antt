@@ -1,6 +1,6 @@
 -- What has no fault above the entry stands above the entry; an instance with a fault to answer answers it.
 use Rattle.std.proofs.Common.{ℕ, suc, List, [], ◌∷◌, ◌++◌, Option, Some, None, Ok, Err, ℤ, ◌≡◌, refl, ap}
-use Rattle.program_tree.specs.Plain.{Name, Tree}
+use Rattle.meaning.specs.Tree.{Name, Tree}
 use Rattle.meaning.specs.Tables.{Tables}
 use Rattle.meaning.specs.Outcome.{Log, Accumulators, Fault, Outcome, Place, Reads, Enters, Updates, Reuses, Begins, Syncs, Leaves, Faults, Marks, Spawns}
 use Rattle.meaning.specs.Trail.{Trace, led, child_of, first, doom_after, after_call, after_spawn, past_sync, over, closed, Look, run_inside, runner}

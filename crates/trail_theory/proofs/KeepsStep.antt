@@ -1,6 +1,6 @@
 -- What one small step keeps.
 use Rattle.std.specs.Prelude.{◌-◌, List, [], ◌++◌, length, ◌≡◌}
-use Rattle.program_tree.specs.Plain.{Tree}
+use Rattle.meaning.specs.Tree.{Tree}
 use Rattle.meaning.specs.Tables.{Tables}
 use Rattle.meaning.specs.Outcome.{Log, Accumulators}
 use Rattle.meaning.specs.Records.{Kept}

@@ -1,6 +1,6 @@
 -- The keys of executed and answered instances, in logs and on stretches of the trail.
 use Rattle.std.proofs.Common.{List, [], ◌∷◌, ◌++◌, ◌≡◌, refl, sym, ap, ap₂, ◌∙◌, true, false, Bool, cond}
-use Rattle.program_tree.specs.Plain.{Tree}
+use Rattle.meaning.specs.Tree.{Tree}
 use Rattle.meaning.specs.Outcome.{Log, Event, Reads, Enters, Updates, Reuses, Begins, Syncs, Leaves, Faults, Marks, Spawns}
 use Rattle.meaning.specs.Statements.{procedure_of}
 use Rattle.meaning.specs.Records.{Key, is_memo, executed, reused}

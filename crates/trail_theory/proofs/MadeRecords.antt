@@ -3,7 +3,7 @@ use Rattle.std.proofs.Common.{ℕ, zero, suc, ◌+◌, ◌-◌, ◌<◌, ◌≤�
 use Rattle.std.specs.Prelude.{max, length, slice_index_or, ◌&&◌, ◌↔◌}
 use Rattle.std.specs.List.{Contains}
 use Rattle.monoid_laws.specs.Kinds.{identity_of}
-use Rattle.program_tree.specs.Plain.{Name, Tree}
+use Rattle.meaning.specs.Tree.{Name, Tree}
 use Rattle.meaning.specs.Every.{every}
 use Rattle.meaning.specs.Tables.{Tables}
 use Rattle.meaning.specs.Outcome.{Log, Accumulators, Reads, Enters, Updates, Reuses, Begins, Syncs, Leaves, Faults, Marks, Spawns, Reading, after}

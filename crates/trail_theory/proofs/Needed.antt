@@ -1,6 +1,6 @@
 -- The trail marks the instances that are needed: those that no valid record answers are executed, the others reused.
 use Rattle.std.proofs.Common.{ℕ, zero, suc, ◌-◌, ◌<◌, ◌≤◌, List, [], ◌∷◌, ◌++◌, Option, Some, None, Ok, Err, ℤ, pos, ◌≡◌, refl, sym, ap, ◌∙◌, subst, arith, append-nil, true, false, Bool, cond}
-use Rattle.program_tree.specs.Plain.{Name, Deed, bind, enter, read, sync, update, choose, loop, give, Body, end, step, Tree, Proc}
+use Rattle.meaning.specs.Tree.{Name, Deed, bind, enter, read, sync, update, choose, loop, give, Body, end, step, Tree, Proc}
 use Rattle.meaning.specs.Tables.{Tables, is_there}
 use Rattle.meaning.specs.Outcome.{Log, Accumulators, Fault, Site, Outcome, Place, Reads, Enters, Updates, Reuses, Begins, Syncs, Leaves, Faults, Marks, Spawns, Out}
 use Rattle.meaning.specs.Run.{Run, pure, ◌>>=◌}

@@ -2,7 +2,7 @@
 use Rattle.std.proofs.Common.{ℕ, suc, ◌+◌, ◌-◌, ◌<◌, ◌≤◌, List, [], ◌∷◌, Some, None, Result, Ok, Err, ℤ, ◌≡◌, sym, ap, ◌∙◌, subst, arith, map, length, true, Bool, cond}
 use Rattle.std.specs.Prelude.{nat_le}
 use Rattle.std.proofs.lemmas.Bool.{le-leb}
-use Rattle.program_tree.specs.Plain.{Name, Tree}
+use Rattle.meaning.specs.Tree.{Name, Tree}
 use Rattle.meaning.specs.Tables.{Tables, is_there}
 use Rattle.meaning.specs.Outcome.{Log, Accumulators, Fault, Outcome, Out}
 use Rattle.meaning.specs.Statements.{identities, initial_values}

@@ -1,6 +1,6 @@
 -- The open layers beside the trail: they fit as the top layer grows, as one opens, and as the top one closes.
 use Rattle.std.proofs.Common.{ℕ, suc, cond, ap₂, ◌-◌, List, [], ◌∷◌, ◌++◌, Option, Some, None, ℤ, ◌≡◌, refl, sym, ap, ◌∙◌, append_assoc, map, true, false, Bool}
-use Rattle.program_tree.specs.Plain.{Name, Tree}
+use Rattle.meaning.specs.Tree.{Name, Tree}
 use Rattle.meaning.specs.Tables.{Tables, is_there}
 use Rattle.meaning.specs.Outcome.{Log, Accumulators, Place, Reads, Enters, Updates, Reuses, Begins, Syncs, Leaves, Faults, Marks, Spawns}
 use Rattle.meaning.specs.Values.{Env}

@@ -1,8 +1,8 @@
 -- What a small step does to the instances that have a layer: it opens one for an instance that it enters, or leaves them.
 use Rattle.std.proofs.Common.{ℕ, zero, suc, ◌-◌, ◌<◌, List, [], ◌∷◌, ◌++◌, Option, Some, None, Result, Ok, Err, ℤ, pos, ◌≡◌, refl, sym, ap, ◌∙◌, subst, arith, append_assoc, map, true, false, Bool, cond, ◌&&◌}
 use Rattle.std.specs.Prelude.{nat_le, ◌+ℤ◌}
-use Rattle.program_tree.specs.Plain.{Name, bind, enter, read, sync, update, choose, loop, give, end, step, Tree}
-use Rattle.program_tree.specs.declared.Way.TheVariants.{Call, Spawn}
+use Rattle.meaning.specs.Tree.{Name, bind, enter, read, sync, update, choose, loop, give, end, step, Tree}
+use Rattle.meaning.specs.declared.tree.Way.TheVariants.{Call, Spawn}
 use Rattle.meaning.specs.declared.FaultKind.{FaultKind}
 use Rattle.meaning.specs.Tables.{Tables, is_there}
 use Rattle.meaning.specs.Outcome.{Out, Log, Accumulators, Site, Place, Begins, Marks, Enters}

@@ -1,6 +1,6 @@
 -- The trail's instances are left in the order of their names.
 use Rattle.std.proofs.Common.{◌-◌, ℕ, suc, ◌<◌, ◌≤◌, [], ◌∷◌, ◌++◌, Option, Some, None, Ok, Err, ℤ, ◌≡◌, inl, inr, ⊎_elim, refl, sym, ap₂, ◌∙◌, arith, append_assoc, append-nil}
-use Rattle.program_tree.specs.Plain.{Tree}
+use Rattle.meaning.specs.Tree.{Tree}
 use Rattle.meaning.specs.Tables.{Tables}
 use Rattle.meaning.specs.Outcome.{Log, Accumulators, Fault, Outcome, Place, Event, Reads, Enters, Updates, Reuses, Begins, Syncs, Leaves, Faults, Marks, Spawns}
 use Rattle.meaning.specs.Statements.{beginning}

@@ -1,6 +1,6 @@
 -- Each move keeps the layers that strands owe each other.
 use Rattle.std.proofs.Common.{ℕ, List, [], ◌∷◌, ◌++◌, Option, ℤ, ◌≡◌, refl, sym, ap, ◌∙◌, subst, append_assoc, append-nil, true, false, Bool}
-use Rattle.program_tree.specs.Plain.{Tree}
+use Rattle.meaning.specs.Tree.{Tree}
 use Rattle.meaning.specs.Tables.{Tables}
 use Rattle.meaning.specs.Outcome.{Log, Accumulators, Place, Syncs}
 use Rattle.meaning.specs.Records.{Revised}

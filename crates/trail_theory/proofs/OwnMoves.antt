@@ -1,6 +1,6 @@
 -- Each move of a strand leaves it the owner of its open layers, whatever other strands and continuations have.
 use Rattle.std.proofs.Common.{ℕ, List, [], ◌∷◌, ◌++◌, ℤ, ◌≡◌, inl, inr, refl, sym, ap, ◌∙◌, subst, append_assoc, true, false, Bool, suc, ◌+◌, arith, length, length-append, append-nil, nat_eq, eqb-true, eq-eqb}
-use Rattle.program_tree.specs.Plain.{Tree}
+use Rattle.meaning.specs.Tree.{Tree}
 use Rattle.meaning.specs.Tables.{Tables}
 use Rattle.meaning.specs.Outcome.{Log, Accumulators, Outcome, Place, Syncs, Leaves}
 use Rattle.meaning.specs.Records.{Revised}

@@ -7,7 +7,7 @@ use Rattle.monoid_laws.specs.Worth.{Worth}
 use Rattle.monoid_laws.specs.Kinds.{operate, operate_all, identity_of, identities as identities_of, IsWorth, AreWorths, IsMonoid, IsTableMonoid}
 use Rattle.monoid_laws.proofs.Laws.{operate_right, IsMonoid-kind}
 use Rattle.monoid_laws.proofs.Rows.{operate_all_identities, AreWorths-identities}
-use Rattle.program_tree.specs.Plain.{Red, Tree}
+use Rattle.meaning.specs.Tree.{Red, Tree}
 use Rattle.meaning.specs.Tables.{Tables}
 use Rattle.meaning.specs.Outcome.{Log, Accumulators, Event, Reads, Enters, Updates, Reuses, Begins, Syncs, Leaves, Faults, Marks, Spawns, updated, combined}
 use Rattle.meaning.specs.Statements.{reducers, identities}

@@ -1,6 +1,6 @@
 -- A right strand that stands at a read begins at the trail's beginning, and has what the elision has in the end.
 use Rattle.std.proofs.Common.{ℕ, ◌-◌, List, [], ◌∷◌, ◌++◌, None, Ok, Err, ℤ, pos, ◌≡◌, inl, inr, refl, sym, ap, ◌∙◌, subst, append_assoc, append-nil, true}
-use Rattle.program_tree.specs.Plain.{Name, bind, enter, read, sync, update, choose, loop, give, Body, end, step, Tree}
+use Rattle.meaning.specs.Tree.{Name, bind, enter, read, sync, update, choose, loop, give, Body, end, step, Tree}
 use Rattle.meaning.specs.Tables.{Tables}
 use Rattle.meaning.specs.Outcome.{Log, Accumulators, Fault, Outcome, Place, Reads, Enters, Updates, Reuses, Begins, Syncs, Leaves, Faults, Marks, Spawns, Out, after}
 use Rattle.meaning.specs.Statements.{identities, beginning, initial_values}

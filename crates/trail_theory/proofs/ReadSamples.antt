@@ -1,7 +1,7 @@
 -- What the rule on reads allows and refuses, on small blocks of main.
 use Rattle.std.proofs.Common.{[], ◌∷◌, None, pos, refl, true}
-use Rattle.program_tree.specs.Plain.{Name, number, name, enter, read, sync, update, choose, loop, give, Body, end, step}
-use Rattle.program_tree.specs.declared.Way.TheVariants.{Call, Spawn}
+use Rattle.meaning.specs.Tree.{Name, number, name, enter, read, sync, update, choose, loop, give, Body, end, step}
+use Rattle.meaning.specs.declared.tree.Way.TheVariants.{Call, Spawn}
 use Rattle.trail_theory.specs.ReadsAtEnd.{ReadsAtEnd}
 
 abbrev total : Name

@@ -1,8 +1,8 @@
 -- A right strand's next statement uses no name that waits.
 use Rattle.std.proofs.Common.{ℕ, zero, suc, ◌+◌, List, [], ◌∷◌, Option, Some, ℤ, ◌≡◌, refl, subst, arith}
 use Rattle.std.specs.Prelude.{slice_get}
-use Rattle.program_tree.specs.Plain.{Term, number, name, cell, has as has_row, limit, sum, negate, binary, Deed, bind, enter, read, sync, update, choose, loop, give, end, step, Tree}
-use Rattle.program_tree.specs.declared.Way.TheVariants.{Call, Spawn}
+use Rattle.meaning.specs.Tree.{Term, number, name, cell, has as has_row, limit, sum, negate, binary, Deed, bind, enter, read, sync, update, choose, loop, give, end, step, Tree}
+use Rattle.meaning.specs.declared.tree.Way.TheVariants.{Call, Spawn}
 use Rattle.meaning.specs.Tables.{Tables}
 use Rattle.meaning.specs.Outcome.{Log, Accumulators, Place}
 use Rattle.meaning.specs.Values.{Env}

@@ -1,6 +1,6 @@
 -- Records that are sound for the elision are sound for the trail.
 use Rattle.std.proofs.Common.{ℕ, suc, ◌-◌, List, [], ◌∷◌, Some, None, Ok, Err, ℤ, ◌≡◌, refl, sym, ap, ◌∙◌, subst, true}
-use Rattle.program_tree.specs.Plain.{Name, Tree}
+use Rattle.meaning.specs.Tree.{Name, Tree}
 use Rattle.meaning.specs.Tables.{Tables}
 use Rattle.meaning.specs.Outcome.{Log, Accumulators, Fault, Outcome, Place, Reads, Enters, Updates, Reuses, Begins, Syncs, Leaves, Faults, Marks, Spawns, Out}
 use Rattle.meaning.specs.Statements.{identities, proc_of}

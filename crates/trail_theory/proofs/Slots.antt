@@ -1,8 +1,8 @@
 -- Slots beside the serial run's values.
 use Rattle.std.proofs.Common.{ℕ, zero, suc, ◌+◌, List, [], ◌∷◌, ◌++◌, Option, Some, None, Ok, Err, ℤ, pos, ◌≡◌, inl, inr, ⊎_elim, refl, sym, ap, ◌∙◌, arith, map, true, false, Bool, cond}
 use Rattle.std.specs.Prelude.{slice_get, slice_set, ◌+ℤ◌}
-use Rattle.program_tree.specs.Plain.{Name, Term, number, name, cell, has as has_row, limit, sum, negate, binary, Deed, bind, enter, read, sync, update, choose, loop, give, Body, end, step, Red}
-use Rattle.program_tree.specs.declared.Way.TheVariants.{Call, Spawn}
+use Rattle.meaning.specs.Tree.{Name, Term, number, name, cell, has as has_row, limit, sum, negate, binary, Deed, bind, enter, read, sync, update, choose, loop, give, Body, end, step, Red}
+use Rattle.meaning.specs.declared.tree.Way.TheVariants.{Call, Spawn}
 use Rattle.meaning.specs.Tables.{Tables}
 use Rattle.meaning.specs.Outcome.{Log, Fault, Place, Site}
 use Rattle.meaning.specs.Values.{Env, put, value, values}

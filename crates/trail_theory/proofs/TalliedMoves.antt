@@ -1,6 +1,6 @@
 -- The other moves keep strands tallied: a strand's beginning, a child as a call or alone, a continuation, a pop, a steal and a fold.
 use Rattle.std.proofs.Common.{Ok, ℕ, List, [], ◌∷◌, Option, ℤ, ◌≡◌, refl, sym, subst, arith}
-use Rattle.program_tree.specs.Plain.{Tree}
+use Rattle.meaning.specs.Tree.{Tree}
 use Rattle.meaning.specs.Tables.{Tables}
 use Rattle.meaning.specs.Outcome.{Accumulators, Place, Leaves}
 use Rattle.meaning.specs.Records.{Revised}

@@ -1,6 +1,6 @@
 -- A small step keeps a tallied strand tallied: the layer that it opens begins with its instance's run, and the record of the one that it closes is sound.
 use Rattle.std.proofs.Common.{ℕ, suc, ◌+◌, arith, length, ap₂, ◌<◌, List, [], ◌∷◌, ◌++◌, None, Ok, ℤ, ◌≡◌, inl, inr, refl, sym, ap, ◌∙◌, subst, append_assoc, true, false, Bool}
-use Rattle.program_tree.specs.Plain.{Tree}
+use Rattle.meaning.specs.Tree.{Tree}
 use Rattle.meaning.specs.Tables.{Tables}
 use Rattle.meaning.specs.Outcome.{Log, Accumulators, Place, Syncs, Leaves}
 use Rattle.meaning.specs.Statements.{proc_of, fresh}

@@ -1,6 +1,6 @@
 -- The theorems about layers and new records, as they are stated of whole strands.
 use Rattle.std.proofs.Common.{[], ◌∷◌, ◌++◌, ◌≡◌, refl, subst}
-use Rattle.program_tree.specs.Plain.{read, step}
+use Rattle.meaning.specs.Tree.{read, step}
 use Rattle.meaning.specs.Tables.{Tables}
 use Rattle.meaning.specs.Outcome.{Accumulators}
 use Rattle.meaning.specs.Records.{Revised}

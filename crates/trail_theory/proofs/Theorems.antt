@@ -1,6 +1,6 @@
 -- The theorems about strands, as they are stated of whole strands.
 use Rattle.std.proofs.Common.{List, [], ◌∷◌, ◌≡◌, refl, sym, ap, subst}
-use Rattle.program_tree.specs.Plain.{Tree}
+use Rattle.meaning.specs.Tree.{Tree}
 use Rattle.meaning.specs.Tables.{Tables}
 use Rattle.meaning.specs.Outcome.{Accumulators}
 use Rattle.meaning.specs.SmallStep.{Start, Phase, Parent, Lookup}

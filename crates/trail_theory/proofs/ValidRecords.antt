@@ -2,7 +2,7 @@
 use Rattle.std.proofs.Common.{ℕ, suc, ◌+◌, ◌-◌, ◌<◌, List, Some, [], ◌∷◌, ◌++◌, None, Ok, Err, ℤ, ◌≡◌, sym, ap, ◌∙◌, subst, arith, append_assoc, append-nil}
 use Rattle.std.specs.Prelude.{max, ◌↔◌}
 use Rattle.std.specs.List.{Contains}
-use Rattle.program_tree.specs.Plain.{Name, Tree}
+use Rattle.meaning.specs.Tree.{Name, Tree}
 use Rattle.meaning.specs.Tables.{Tables}
 use Rattle.meaning.specs.Outcome.{Log, Accumulators, Fault, Outcome, Place, Reads, Enters, Updates, Reuses, Begins, Syncs, Leaves, Faults, Marks, Spawns, Out, after}
 use Rattle.meaning.specs.Statements.{identities}

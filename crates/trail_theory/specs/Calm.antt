@@ -1,6 +1,6 @@
 -- Strands none of whose statements left to do reads a reducer.
 use Rattle.std.specs.Prelude.{◌≡◌, ℕ, ℤ, Bool, List, Option}
-use Rattle.program_tree.specs.Plain.{Tree}
+use Rattle.meaning.specs.Tree.{Tree}
 use Rattle.meaning.specs.Tables.{Tables}
 use Rattle.meaning.specs.Outcome.{Accumulators}
 use Rattle.meaning.specs.SmallStep.{Todo, blocks, halves, second, turns, Child, Phase, entering, running, spawning, returning, leaving}

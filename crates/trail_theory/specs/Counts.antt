@@ -1,6 +1,6 @@
 -- What the trail's marks count: the memo instances that no record answers, and those that one does.
 use Rattle.std.specs.Prelude.{◌≡◌, ◌⊎◌, ◌+◌, ◌≤◌, ℤ, true, List, [], ◌∷◌, length}
-use Rattle.program_tree.specs.Plain.{Tree}
+use Rattle.meaning.specs.Tree.{Tree}
 use Rattle.meaning.specs.Tables.{Tables}
 use Rattle.meaning.specs.Outcome.{Log, Accumulators, Marks}
 use Rattle.meaning.specs.Elision.{Finished, from_scratch}

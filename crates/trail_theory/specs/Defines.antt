@@ -1,6 +1,6 @@
 -- A program whose procedures are defined anew: those that are as they were keep their numbers, the others get new ones.
 use Rattle.std.specs.Prelude.{◌≡◌, true}
-use Rattle.program_tree.specs.Plain.{Name, Tree}
+use Rattle.meaning.specs.Tree.{Name, Tree}
 use Rattle.meaning.specs.Tables.{is_there}
 use Rattle.meaning.specs.Statements.{reducers, procedure_of, proc_of}
 use Rattle.meaning.specs.Records.{Revised}

@@ -1,6 +1,6 @@
 -- The elision beside the trail: its events are the trail's, without those that only the trail has.
 use Rattle.std.specs.Prelude.{ℕ, ℤ, [], ◌∷◌, ◌≡◌, Option, Some, None, Ok, Err}
-use Rattle.program_tree.specs.Plain.{Tree}
+use Rattle.meaning.specs.Tree.{Tree}
 use Rattle.meaning.specs.Outcome.{Log, Fault, Outcome, Reads, Enters, Updates, Reuses, Begins, Syncs, Leaves, Faults, Marks, Spawns, Out}
 use Rattle.meaning.specs.Records.{Kept}
 use Rattle.meaning.specs.Trail.{Trace}

@@ -1,7 +1,7 @@
 -- Records that are all sound, each found by its own name and arguments; and what an instance makes of the reducers' values.
 use Rattle.std.specs.Prelude.{◌≡◌, ℕ, ◌-◌, ◌<◌, ◌≤◌, suc, ℤ, List, Ok}
 use Rattle.monoid_laws.specs.Kinds.{Fits, AreWorths}
-use Rattle.program_tree.specs.Plain.{Name, Tree}
+use Rattle.meaning.specs.Tree.{Name, Tree}
 use Rattle.meaning.specs.Tables.{Tables}
 use Rattle.meaning.specs.Outcome.{Accumulators, Site, after, combined}
 use Rattle.meaning.specs.Statements.{reducers}

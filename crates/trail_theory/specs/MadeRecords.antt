@@ -1,7 +1,7 @@
 -- What a record says, at one depth and with the tables of one moment; and a program in which procedures are defined anew.
 use Rattle.std.specs.Prelude.{◌≡◌, ◌↔◌, ℕ, ◌+◌, ◌-◌, ◌<◌, ◌≤◌, suc, ℤ, true, List, map, Some, Ok}
 use Rattle.std.specs.List.{Contains}
-use Rattle.program_tree.specs.Plain.{Name, Tree}
+use Rattle.meaning.specs.Tree.{Name, Tree}
 use Rattle.meaning.specs.Tables.{Tables}
 use Rattle.meaning.specs.Outcome.{Out, Fault, Reading, after}
 use Rattle.meaning.specs.Statements.{reducers, proc_of, identities}

@@ -1,6 +1,6 @@
 -- Where a strand's instances stand among the reads of main.
 use Rattle.std.specs.Prelude.{◌≡◌, ◌⊎◌, Bool, true, false, ◌&&◌, List, [], ◌∷◌}
-use Rattle.program_tree.specs.Plain.{Body}
+use Rattle.meaning.specs.Tree.{Body}
 use Rattle.meaning.specs.Elision.{main}
 use Rattle.meaning.specs.Outcome.{Log, Event, Place, Reads, Enters, Updates, Reuses, Begins, Syncs, Leaves, Faults, Marks, Spawns}
 use Rattle.meaning.specs.SmallStep.{Todo, blocks, halves, second, turns, Child, instance, half, Phase, entering, running, spawning}

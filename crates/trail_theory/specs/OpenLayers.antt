@@ -1,6 +1,6 @@
 -- The open layers of a strand: each is that of a recorded instance, and begins where the instance's run begins on the trail.
 use Rattle.std.specs.Prelude.{◌≡◌, ◌<◌, ◌≤◌, Bool, true, false, List, [], ◌∷◌, ◌++◌}
-use Rattle.program_tree.specs.Plain.{Name, Tree}
+use Rattle.meaning.specs.Tree.{Name, Tree}
 use Rattle.meaning.specs.Tables.{Tables, is_there}
 use Rattle.meaning.specs.Outcome.{Log, Accumulators, Place}
 use Rattle.meaning.specs.Elision.{depth_limit}

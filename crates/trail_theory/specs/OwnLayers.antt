@@ -1,7 +1,7 @@
 -- The open layers of one strand, told of that strand alone: their instances are on the way from main to the topmost one, each
 -- inside the next; so none of them has left.
 use Rattle.std.specs.Prelude.{◌≡◌, ℕ, ℤ, Bool, true, false, List, [], ◌∷◌, ◌++◌, Option, suc, nat_eq, length}
-use Rattle.program_tree.specs.Plain.{Name, read, Body, step}
+use Rattle.meaning.specs.Tree.{Name, read, Body, step}
 use Rattle.meaning.specs.Tables.{Tables}
 use Rattle.meaning.specs.Outcome.{Log, Accumulators, Outcome, Place, Leaves}
 use Rattle.meaning.specs.Records.{Revised}

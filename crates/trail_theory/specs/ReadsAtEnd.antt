@@ -1,7 +1,7 @@
 -- Programs in which main alone reads reducers, at its end, and which nothing enters again: what the checker's rules give.
 use Rattle.std.specs.Prelude.{◌≡◌, Bool, true, false, ◌&&◌}
-use Rattle.program_tree.specs.Plain.{Name, Deed, bind, enter, read, sync, update, choose, loop, give, Body, end, step, Tree}
-use Rattle.program_tree.specs.declared.Way.TheVariants.{Spawn}
+use Rattle.meaning.specs.Tree.{Name, Deed, bind, enter, read, sync, update, choose, loop, give, Body, end, step, Tree}
+use Rattle.meaning.specs.declared.tree.Way.TheVariants.{Spawn}
 use Rattle.meaning.specs.Statements.{proc_of}
 use Rattle.meaning.specs.Elision.{main}
 use Rattle.trail_theory.specs.Waiting.{UsesNoWaitingName, NoReadsDeed, NoReads}

@@ -1,7 +1,7 @@
 -- The names that a strand's next statement uses: none of them waits for a spawned child.
 use Rattle.std.specs.Prelude.{List, [], ◌∷◌, Option, Some, slice_get}
-use Rattle.program_tree.specs.Plain.{Term, number, name, cell, has as has_row, limit, sum, negate, binary, Deed, bind, enter, read, sync}
-use Rattle.program_tree.specs.Plain.{update, choose, loop, give, step, Tree}
+use Rattle.meaning.specs.Tree.{Term, number, name, cell, has as has_row, limit, sum, negate, binary, Deed, bind, enter, read, sync}
+use Rattle.meaning.specs.Tree.{update, choose, loop, give, step, Tree}
 use Rattle.meaning.specs.Tables.{Tables}
 use Rattle.meaning.specs.Outcome.{Accumulators}
 use Rattle.meaning.specs.SmallStep.{Slot, waits, Todo, blocks, Phase, running, Lookup}

@@ -1,6 +1,6 @@
 -- When a strand is right: it stands where the serial run stands at its place, and its layers have noted the trail from its beginning on.
 use Rattle.std.specs.Prelude.{ℕ, ◌-◌, ◌<◌, ℤ, true, false, List, [], ◌∷◌, ◌++◌, Some, None, Ok, ◌≡◌}
-use Rattle.program_tree.specs.Plain.{Name, read, step, Tree}
+use Rattle.meaning.specs.Tree.{Name, read, step, Tree}
 use Rattle.meaning.specs.Tables.{Tables}
 use Rattle.meaning.specs.Outcome.{Log, Accumulators, Outcome, Place, Leaves}
 use Rattle.meaning.specs.Records.{Kept}

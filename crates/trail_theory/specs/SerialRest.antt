@@ -1,6 +1,6 @@
 -- What the serial run has beside a strand's instances, and what it still does from there.
 use Rattle.std.specs.Prelude.{ℕ, suc, ◌-◌, Bool, true, false, List, [], ◌∷◌, ◌++◌, Option, None, Ok, Err}
-use Rattle.program_tree.specs.Plain.{Tree}
+use Rattle.meaning.specs.Tree.{Tree}
 use Rattle.meaning.specs.Tables.{Tables}
 use Rattle.meaning.specs.Outcome.{Accumulators, Fault, Outcome, Place, Begins, Leaves, Spawns}
 use Rattle.meaning.specs.Values.{Env}

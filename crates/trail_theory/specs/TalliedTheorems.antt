@@ -1,6 +1,6 @@
 -- What is proved of the layers and the new records of strands.
 use Rattle.std.specs.Prelude.{◌≡◌, ℕ, ℤ, Bool, true, List, [], ◌∷◌, ◌++◌, Option, length}
-use Rattle.program_tree.specs.Plain.{Name, read, Body, step}
+use Rattle.meaning.specs.Tree.{Name, read, Body, step}
 use Rattle.meaning.specs.Tables.{Tables}
 use Rattle.meaning.specs.Outcome.{Accumulators, Place}
 use Rattle.meaning.specs.Elision.{Finished, from_scratch}

@@ -1,6 +1,6 @@
 -- A strand's instances beside the serial run: their slots, their faults to answer, and where they stand.
 use Rattle.std.specs.Prelude.{ℕ, suc, ◌<◌, ℤ, List, [], ◌∷◌, ◌++◌, Option, Some, None, Ok, Err, ◌≡◌, ◌⊎◌}
-use Rattle.program_tree.specs.Plain.{Tree}
+use Rattle.meaning.specs.Tree.{Tree}
 use Rattle.meaning.specs.Outcome.{Log, Fault, Place, Event, Reads, Enters, Updates, Reuses, Begins, Syncs, Leaves, Faults, Marks, Spawns}
 use Rattle.meaning.specs.Values.{Env}
 use Rattle.meaning.specs.Trail.{child_of}

@@ -1,6 +1,6 @@
 -- What is proved of strands and of the trail, each for a program, its tables, what `read` sees, and the records that answer.
 use Rattle.std.specs.Prelude.{◌≡◌, ℕ, ◌-◌, suc, ℤ, Bool, List, [], ◌∷◌, ◌++◌, Option, Some}
-use Rattle.program_tree.specs.Plain.{Name, read, Body, step, Tree}
+use Rattle.meaning.specs.Tree.{Name, read, Body, step, Tree}
 use Rattle.meaning.specs.Tables.{Tables}
 use Rattle.meaning.specs.Outcome.{Accumulators, Fault, Place, Site}
 use Rattle.meaning.specs.Statements.{identities, initial_values}

@@ -1,8 +1,8 @@
 -- The names that wait for a spawned child, and the programs in which no statement uses one.
 use Rattle.std.specs.Prelude.{ℕ, List, [], ◌∷◌, ◌++◌, Option, Some, None}
-use Rattle.program_tree.specs.Plain.{Name, Term, number, name, cell, has as has_row, limit, sum, negate, binary, Deed, bind, enter, read}
-use Rattle.program_tree.specs.Plain.{sync, update, choose, loop, give, Body, end, step, Tree}
-use Rattle.program_tree.specs.declared.Way.TheVariants.{Call, Spawn}
+use Rattle.meaning.specs.Tree.{Name, Term, number, name, cell, has as has_row, limit, sum, negate, binary, Deed, bind, enter, read}
+use Rattle.meaning.specs.Tree.{sync, update, choose, loop, give, Body, end, step, Tree}
+use Rattle.meaning.specs.declared.tree.Way.TheVariants.{Call, Spawn}
 use Rattle.meaning.specs.Statements.{proc_of}
 use Rattle.meaning.specs.SmallStep.{Todo, blocks, halves, second, turns}
 use Rattle.trail_theory.specs.Order.{In}

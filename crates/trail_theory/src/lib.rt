@@ -2,7 +2,7 @@
 #![tactic(auto)]
 
 ghost use Rattle.std.specs.Prelude.{ℕ, List};
-ghost use Rattle.program_tree.specs.Plain.{Tree};
+ghost use Rattle.meaning.specs.Tree.{Tree};
 ghost use Rattle.meaning.specs.Outcome.{Accumulators};
 ghost use Rattle.meaning.specs.Records.{IsSound, Kept, Revised};
 ghost use Rattle.meaning.specs.SmallStep.{Lookup};

@@ -4,10 +4,10 @@ use Rattle.std.proofs.Math.Dec.{eqb-suc-zero}
 use Rattle.std.specs.Global.{Global}
 use Rattle.std.specs.declared.string.String.{String}
 use Rattle.std.specs.Str.{bytes_eq}
-use Rattle.program_tree.specs.declared.Expr.{Expr}
-use Rattle.program_tree.specs.declared.Statement.{Statement}
-use Rattle.program_tree.specs.Plain.{Body, end}
-use Rattle.program_tree.specs.View.{term, deed, statements}
+use Rattle.meaning.specs.declared.tree.Expr.{Expr}
+use Rattle.meaning.specs.declared.tree.Statement.{Statement}
+use Rattle.meaning.specs.Tree.{Body, end}
+use Rattle.meaning.specs.TreeView.{term, deed, statements}
 use Rattle.meaning.specs.Edits.{same_term, same_terms, same_deed, same_body, same_names}
 
 and_false : (b c : Bool) → false ≡ c → false ≡ (b && c)

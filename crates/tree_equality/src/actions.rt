@@ -1,12 +1,12 @@
 //! Whether two statements do the same.
 ghost use Rattle.std.specs.Prelude.{◌≡◌, ◌-◌, ℕ, map};
-ghost use Rattle.program_tree.specs.Plain.{Body, bind, enter, read, sync, update, loop, give};
-ghost use Rattle.program_tree.specs.View.{term, block, deed, statements as body_of};
+ghost use Rattle.meaning.specs.Tree.{Body, bind, enter, read, sync, update, loop, give};
+ghost use Rattle.meaning.specs.TreeView.{term, block, deed, statements as body_of};
 ghost use Rattle.meaning.specs.Edits.{same_way as same_ways, same_into, same_deed, same_body};
 
 use crate::blocks::block_at;
 use crate::expressions::{same_expression, same_expressions};
-use program_tree::{Action, Block, Expr, Statement, Way};
+use meaning::tree::{Action, Block, Expr, Statement, Way};
 
 fn same_way(left: Way, right: Way) -> bool
     ensures { result ≡ same_ways left right }

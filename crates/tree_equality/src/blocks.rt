@@ -1,8 +1,8 @@
 //! The blocks of a procedure by their numbers.
 ghost use Rattle.std.specs.Prelude.{◌≡◌, ◌<◌, ◌-◌, option_copied, OnSome};
-ghost use Rattle.program_tree.specs.View.{block, statements_of};
+ghost use Rattle.meaning.specs.TreeView.{block, statements_of};
 
-use program_tree::Block;
+use meaning::tree::Block;
 
 /// The block of a number, where blocks nest at most so many levels; none where no level is left or there is no such block.
 pub fn block_at(blocks: &[Block], levels: usize, number: usize) -> Option<&Block>

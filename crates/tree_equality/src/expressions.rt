@@ -1,9 +1,9 @@
 //! Whether two expressions are the same.
 ghost use Rattle.std.specs.Prelude.{◌≡◌, map};
-ghost use Rattle.program_tree.specs.View.{term};
+ghost use Rattle.meaning.specs.TreeView.{term};
 ghost use Rattle.meaning.specs.Edits.{same_operator as same_operators, same_term, same_terms};
 
-use program_tree::{Expr, Operator};
+use meaning::tree::{Expr, Operator};
 
 fn same_operator(left: Operator, right: Operator) -> bool
     ensures { result ≡ same_operators left right }

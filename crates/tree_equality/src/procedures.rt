@@ -1,10 +1,10 @@
 //! Whether two procedures have the same tree.
 ghost use Rattle.std.specs.Prelude.{◌≡◌, map, string_bytes};
-ghost use Rattle.program_tree.specs.View.{proc};
+ghost use Rattle.meaning.specs.TreeView.{proc};
 ghost use Rattle.meaning.specs.Edits.{same_names as same_name_lists, same_proc, same_mark as same_marks};
 
 use crate::actions::same_block;
-use program_tree::Procedure;
+use meaning::tree::Procedure;
 
 fn same_mark(left: bool, right: bool) -> bool
     ensures { result ≡ same_marks left right }

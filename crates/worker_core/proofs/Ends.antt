@@ -1,7 +1,7 @@
 -- The answer at the end of a run is the elision's, and where the run is over there is one.
 use Rattle.std.proofs.Common.{arith, ◌≡◌, ℕ, ℤ, Bool, true, false, ◌||◌, List, [], ◌∷◌, All, Some, refl, sym, ap, subst}
 use Rattle.monoid_laws.specs.Worth.{Worth}
-use Rattle.program_tree.specs.View.{tree}
+use Rattle.meaning.specs.TreeView.{tree}
 use Rattle.meaning.specs.Elision.{Answer, from_scratch}
 use Rattle.meaning.specs.Elision as elision
 use Rattle.meaning.specs.Strands.{State, Held, Ended, Stalled, Faulted, Finished}
@@ -19,8 +19,8 @@ use Rattle.positions.specs.Tallies.{PlainTally}
 use Rattle.positions.specs.Strands.{PlainStrand}
 use Rattle.positions.specs.Stands.{fault_in}
 use Rattle.frames.specs.Answers.{IsAnswer, over, stopped, underway, ending_at}
-use Rattle.frames.specs.declared.answer.RunAnswer.{RunAnswer}
-use Rattle.frames.specs.declared.answer.RunAnswer.TheVariants as answer
+use Rattle.positions.specs.declared.answer.RunAnswer.{RunAnswer}
+use Rattle.positions.specs.declared.answer.RunAnswer.TheVariants as answer
 use Rattle.stepped_runs.specs.Pieces.{PlainPiece}
 use Rattle.stepped_runs.specs.Stands.{IsLaidAs, StandForPieces}
 use Rattle.stepped_runs.specs.Layered.{HasOneLayer, HasOneLayerAs}

@@ -1,7 +1,7 @@
 -- A run that stands for one of the definitions goes on to do so after each step, taken or refused, until it has failed.
 use Rattle.std.proofs.Common.{All, ◌≡◌, inl, inr, ℕ, Bool, true, false, length, map, List, Option, Some, None, Ok, Err, refl, sym, ap, subst, ◌∙◌}
 use Rattle.monoid_laws.specs.Kinds.{IsMonoid}
-use Rattle.program_tree.specs.View.{tree}
+use Rattle.meaning.specs.TreeView.{tree}
 use Rattle.meaning.specs.Records.{Kept, IsSound}
 use Rattle.meaning.specs.Strands.{replayed}
 use Rattle.meaning.specs.Statements.{beginning}

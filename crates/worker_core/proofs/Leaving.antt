@@ -1,6 +1,6 @@
 -- What is left to do of a run that stands for one of the definitions is the elision's answer.
 use Rattle.std.proofs.Common.{◌≡◌, subst}
-use Rattle.program_tree.specs.View.{tree}
+use Rattle.meaning.specs.TreeView.{tree}
 use Rattle.meaning.specs.Elision.{from_scratch}
 use Rattle.meaning.specs.RestOfRun.{rest_of_run}
 use Rattle.meaning.specs.Schedules.{RunState, recording_from}

@@ -18,8 +18,8 @@ use Rattle.positions.specs.Layers.{lowest}
 use Rattle.positions.specs.Tallies.{PlainTally}
 use Rattle.positions.specs.Strands.{PlainStrand}
 use Rattle.frames.specs.Answers.{IsAnswer, AreCounts, ending_at}
-use Rattle.frames.specs.declared.answer.RunAnswer.{RunAnswer}
-use Rattle.frames.specs.declared.answer.RunAnswer.TheVariants as answer
+use Rattle.positions.specs.declared.answer.RunAnswer.{RunAnswer}
+use Rattle.positions.specs.declared.answer.RunAnswer.TheVariants as answer
 use Rattle.stepped_runs.specs.Pieces.{PlainPiece}
 use Rattle.stepped_runs.specs.Ends.{answer_at, answer_in}
 use Rattle.strand_theory.specs.Recorded.{AllRecordedBut}
@@ -32,7 +32,7 @@ use Rattle.worker_core.specs.Cores.{PlainCore, IsEnd, IsEndOf, made_in, kept_of}
 use Rattle.worker_core.proofs.Ends.{alone_is}
 use Rattle.numbered_runs.specs.Sound.{AreSoundFor}
 use Rattle.worker_core.specs.Keeps.{HasSound, recalling, KeepsRun, StaysRun, HasRecorded, StaySound}
-use Rattle.run_terms.specs.Recorded.{tally_of}
+use Rattle.numbered_runs.specs.Recorded.{tally_of}
 
 -- a run that has finished, with those counts
 pub record HasFinished (setting : Setting) (ps : List PlainPiece) (executed reused unrecorded : ℕ) : Type 0 where

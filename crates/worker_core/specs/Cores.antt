@@ -10,8 +10,8 @@ use Rattle.activations.specs.Given.{given}
 use Rattle.positions.specs.Setting.{Setting}
 use Rattle.positions.specs.Layers.{lowest}
 use Rattle.frames.specs.Answers.{Ending, underway, ending_of, IsAnswer}
-use Rattle.frames.specs.declared.answer.RunAnswer.{RunAnswer}
-use Rattle.frames.specs.declared.answer.RunAnswer.TheVariants as answer
+use Rattle.positions.specs.declared.answer.RunAnswer.{RunAnswer}
+use Rattle.positions.specs.declared.answer.RunAnswer.TheVariants as answer
 use Rattle.numbered_runs.specs.Named.{run_step}
 use Rattle.stepped_runs.specs.Pieces.{PlainPiece}
 use Rattle.stepped_runs.specs.Runs.{PlainRun, first_run, stepped, are_workers, may_be_tried_again}

@@ -1,7 +1,7 @@
 -- What a run on several workers is for the definitions: it stands for a run that their steps lead to, and its answer is the elision's.
 use Rattle.std.specs.Prelude.{◌≡◌, ℕ, Bool, true, false, List, [], map, All, Option, Some, None}
 use Rattle.monoid_laws.specs.Kinds.{meaning, IsMonoid}
-use Rattle.program_tree.specs.View.{tree}
+use Rattle.meaning.specs.TreeView.{tree}
 use Rattle.meaning.specs.Elision.{Answer, Finished, Faulted, from_scratch}
 use Rattle.meaning.specs.Schedules.{RunState, end_of}
 use Rattle.linked_program.specs.Checked.{PlainChecked, IsChecked}
@@ -12,15 +12,15 @@ use Rattle.rerun_records.specs.Named.{HaveValues}
 use Rattle.rerun_records.specs.Commits.{put_records}
 use Rattle.positions.specs.Setting.{Setting}
 use Rattle.positions.specs.Stands.{fault_in}
-use Rattle.frames.specs.declared.answer.RunAnswer.{RunAnswer}
-use Rattle.frames.specs.declared.answer.RunAnswer.TheVariants as answer
+use Rattle.positions.specs.declared.answer.RunAnswer.{RunAnswer}
+use Rattle.positions.specs.declared.answer.RunAnswer.TheVariants as answer
 use Rattle.numbered_runs.specs.Named.{run_step}
 use Rattle.stepped_runs.specs.Stands.{StandsForUnflagged}
 use Rattle.stepped_runs.specs.Ends.{HistoryGives}
 use Rattle.stepped_runs.specs.Simulation.{IsPrepared, IsReached, IsStepOf, IsNoStepOf, IsFirstOf}
 use Rattle.numbered_runs.specs.declared.step.Step.{Step}
 use Rattle.numbered_runs.specs.Sound.{AreSoundFor, setting_by}
-use Rattle.run_terms.specs.Recorded.{HasRecordedBy}
+use Rattle.numbered_runs.specs.Recorded.{HasRecordedBy}
 use Rattle.worker_core.specs.Strands.{PlainStrands, run_of}
 use Rattle.worker_core.specs.Folds.{KeepsLines}
 use Rattle.worker_core.specs.Cores.{PlainCore, is_open_to}

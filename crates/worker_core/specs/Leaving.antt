@@ -1,6 +1,6 @@
 -- What is left to do of a run.
 use Rattle.std.specs.Prelude.{◌≡◌}
-use Rattle.program_tree.specs.View.{tree}
+use Rattle.meaning.specs.TreeView.{tree}
 use Rattle.meaning.specs.Elision.{from_scratch}
 use Rattle.meaning.specs.RestOfRun.{rest_of_run}
 use Rattle.meaning.specs.Schedules.{RunState}

@@ -8,7 +8,7 @@ ghost use Rattle.worker_core.specs.Strands.{layers_of, layers_in, kits_in, AreFi
 
 use crate::piece::Piece;
 use crate::strands::Strands;
-use frames::answer::RunAnswer;
+use positions::answer::RunAnswer;
 use rerun_records::record::Record;
 use std::alloc::Global;
 use strand_list::lines::is_last;

@@ -11,7 +11,7 @@ mod stepping;
 mod strands;
 
 // What callers of a run name.
-pub use frames::answer::RunAnswer;
+pub use positions::answer::RunAnswer;
 pub use numbered_runs::records;
 pub use numbered_runs::refusal::{Refusal, StartError};
 pub use numbered_runs::step::{BookStep, Place, State, Step, StrandLine};

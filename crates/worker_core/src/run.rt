@@ -12,11 +12,11 @@ ghost use Rattle.worker_core.specs.Leaving.{LeavesElision};
 ghost use Rattle.numbered_runs.specs.Sound.{AreSoundFor};
 ghost use Rattle.worker_core.specs.Keeps.{IsBeginning, IsStep, IsNoStep, IsLegal, AnswersElision, IsGiven, ComesToEnd, HasRecorded, StaySound};
 ghost use Rattle.worker_core.specs.Cores.{IsFirstCore, is_failure, takes_memory, stepped_on, taken, failed_by, StandsAfter, IsEnd, is_over, PassesWithoutKit};
-ghost use Rattle.run_terms.specs.Starts.{CannotStart};
+ghost use Rattle.numbered_runs.specs.Starts.{CannotStart};
 
 use crate::strands::Strands;
 use activations::setting::Setting;
-use frames::answer::RunAnswer;
+use positions::answer::RunAnswer;
 use input_tables::Tables;
 use linked_program::checked::Checked;
 use numbered_runs::ready::are_ready;
@@ -48,7 +48,7 @@ impl<'a, V: View> Model for Core<'a, V> {
     ghost Value = { PlainCore };
 
     ghost use Rattle.linked_program.specs.contracts.code.Expression as e;
-    ghost use Rattle.program_tree.specs.contracts.Expr as t;
+    ghost use Rattle.meaning.specs.contracts.tree.Expr as t;
     ghost use Rattle.std.specs.Coded.{codes};
 
     ghost coded = { Prim.hlevel (codes, e.the_row.coded, t.the_row.coded) };

@@ -5,7 +5,7 @@ ghost use Rattle.rerun_records.specs.Named.{HaveValues};
 ghost use Rattle.activations.specs.Given.{lent};
 ghost use Rattle.numbered_runs.specs.Named.{line};
 ghost use Rattle.stepped_runs.specs.Runs.{changed, first_run, line_of};
-ghost use Rattle.run_terms.specs.Starts.{CannotStart};
+ghost use Rattle.numbered_runs.specs.Starts.{CannotStart};
 ghost use Rattle.worker_core.specs.Moves.{moved, takes_memory, RefusedAs};
 ghost use Rattle.worker_core.specs.Folds.{LeavesMoved};
 ghost use Rattle.worker_core.specs.Strands.{held_at, behind_from, run_of, kits_in, AreFit};

@@ -4,8 +4,8 @@ use Rattle.meaning.specs.Strands.{BookStep as NamedStep}
 use Rattle.numbered_runs.specs.declared.step.BookStep.{BookStep}
 use Rattle.numbered_runs.specs.Named.{history}
 use Rattle.strand_list.specs.Replays.{LeavesRootAlone}
-use Rattle.frames.specs.declared.answer.RunAnswer.{RunAnswer}
-use Rattle.frames.specs.declared.answer.RunAnswer.TheVariants as answer
+use Rattle.positions.specs.declared.answer.RunAnswer.{RunAnswer}
+use Rattle.positions.specs.declared.answer.RunAnswer.TheVariants as answer
 use Rattle.worker_seats.specs.Histories.{HasHistory}
 
 -- a legal history that leaves the first strand alone is that of a run that has ended, whatever its answer

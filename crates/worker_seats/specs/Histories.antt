@@ -1,8 +1,8 @@
 -- The history of a run by threads.
 use Rattle.std.specs.Prelude.{List}
 use Rattle.meaning.specs.Strands.{BookStep}
-use Rattle.frames.specs.declared.answer.RunAnswer.{RunAnswer}
-use Rattle.frames.specs.declared.answer.RunAnswer.TheVariants as answer
+use Rattle.positions.specs.declared.answer.RunAnswer.{RunAnswer}
+use Rattle.positions.specs.declared.answer.RunAnswer.TheVariants as answer
 use Rattle.strand_list.specs.Replays.{LeavesRootAlone}
 
 -- that of a run that has ended

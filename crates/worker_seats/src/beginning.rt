@@ -1,6 +1,6 @@
 //! What a run begins with: new deques, and the first strand.
 ghost use Rattle.std.specs.Prelude.{◌≡◌, ◌<◌, ◌≤◌, [], suc, All, length, IfOk, IfErr};
-ghost use Rattle.run_terms.specs.Starts.{CannotStart};
+ghost use Rattle.numbered_runs.specs.Starts.{CannotStart};
 ghost use Rattle.worker_seats.specs.Balances.{most};
 
 use crate::kits::Stocked;

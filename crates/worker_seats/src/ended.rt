@@ -4,9 +4,9 @@ ghost use Rattle.right_strands.specs.Laid.{HasRecorded};
 ghost use Rattle.rerun_records.specs.Named.{HaveValues};
 ghost use Rattle.positions.specs.Setting.{Setting};
 ghost use Rattle.worker_seats.specs.Ends.{IsAlone, IsEnd};
-ghost use Rattle.frames.specs.declared.answer.RunAnswer.TheVariants as answer;
+ghost use Rattle.positions.specs.declared.answer.RunAnswer.TheVariants as answer;
 
-use frames::answer::RunAnswer;
+use positions::answer::RunAnswer;
 use numbered_runs::step::BookStep;
 use rerun_records::record::Record;
 use std::alloc::Global;

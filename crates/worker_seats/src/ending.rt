@@ -2,7 +2,7 @@
 ghost use Rattle.std.specs.Prelude.{◌≡◌, ◌+◌, ◌≤◌, true, false, Some, IfOk, IfErr};
 ghost use Rattle.std.specs.Option.{ForNone};
 ghost use Rattle.positions.specs.Setting.{Setting};
-ghost use Rattle.run_terms.specs.Come.{HasEnded};
+ghost use Rattle.numbered_runs.specs.Come.{HasEnded};
 ghost use Rattle.sync_fold.specs.Books.{is_ended};
 ghost use Rattle.sync_fold.specs.Counts.{kits_laid};
 ghost use Rattle.sync_fold.specs.Refusals.{WasRefused, is_apart};

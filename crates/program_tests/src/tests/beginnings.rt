@@ -3,7 +3,7 @@
 use input_tables::Tables;
 use linked_program::checked::Checked;
 use procedure_parser::parse;
-use program_tree::Program;
+use meaning::tree::Program;
 use spawn_checker::check;
 use std::alloc::Global;
 use std::process::Abort;

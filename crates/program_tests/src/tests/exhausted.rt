@@ -1,7 +1,7 @@
 //! Revision numbers up to the last one, from a checked program that is built by hand: no text gets that far.
 ghost use Rattle.std.specs.Prelude.{◌≡◌, ◌<◌, [], ◌∷◌, map, string_bytes};
 ghost use Rattle.meaning.specs.Elision.{main};
-ghost use Rattle.program_tree.specs.View.{tree};
+ghost use Rattle.meaning.specs.TreeView.{tree};
 ghost use Rattle.linked_program.specs.Declarations.{IsClean};
 ghost use Rattle.linked_program.specs.Procedures.{procedures};
 ghost use Rattle.linked_program.specs.Linked.{main_number};
@@ -11,7 +11,7 @@ use super::{defines, revisions};
 use linked_program::checked::Checked;
 use linked_program::initial::initials;
 use linked_program::linking::{codes, kinds};
-use program_tree::{Block, Declaration, Procedure, Program};
+use meaning::tree::{Block, Declaration, Procedure, Program};
 use std::alloc::Global;
 use std::process::Abort;
 

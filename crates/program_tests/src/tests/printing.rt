@@ -2,7 +2,7 @@
 
 use printing_theory::{print, print_and_parse};
 use procedure_parser::{TextError, parse, parse_define};
-use program_tree::Program;
+use meaning::tree::Program;
 use std::alloc::Global;
 
 fn is_printed(alloc: Global, program: &Program, wanted: &str) -> Result<bool, TextError> {

@@ -2,7 +2,7 @@
 
 use super::beginnings::{checked, program, two_tables};
 use linked_program::checked::Checked;
-use program_tree::Declaration;
+use meaning::tree::Declaration;
 use spawn_checker::{CheckError, redefine};
 use std::alloc::Global;
 use std::fmt::Write;

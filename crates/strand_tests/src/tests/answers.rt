@@ -1,9 +1,9 @@
 //! Answers as text, and those of the plain slow program.
 
-use frames::answer::RunAnswer;
+use positions::answer::RunAnswer;
 use meaning::FaultKind;
 use monoid_laws::Val;
-use program_tree::{Declaration, Program};
+use meaning::tree::{Declaration, Program};
 use serial_oracle::{Answer, Row, TableRows, from_scratch};
 use std::alloc::{AllocError, Global};
 use std::process::Abort;

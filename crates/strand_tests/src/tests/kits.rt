@@ -4,7 +4,7 @@ ghost use Rattle.monoid_laws.specs.declared.Kind.{Kind};
 
 use super::answers::answer_text;
 use super::driving::{are_monoids, begin};
-use frames::answer::RunAnswer;
+use positions::answer::RunAnswer;
 use frames::strand::Strand;
 use input_tables::Tables;
 use linked_program::checked::Checked;

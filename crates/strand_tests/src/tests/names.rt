@@ -2,7 +2,7 @@
 
 use super::driving::begin;
 use super::thefts::{pool_of, taken};
-use frames::answer::RunAnswer;
+use positions::answer::RunAnswer;
 use frames::strand::Strand;
 use linked_program::checked::Checked;
 use positions::phase::Phase;

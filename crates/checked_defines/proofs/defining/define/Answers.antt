@@ -1,6 +1,6 @@
 use Rattle.std.proofs.Common.{◌≡◌, ℕ, List, Result, Ok, IfOk, IfErr, sym, subst}
-use Rattle.program_tree.specs.Plain.{Tree}
-use Rattle.program_tree.specs.View.{tree, lines, Lined}
+use Rattle.meaning.specs.Tree.{Tree}
+use Rattle.meaning.specs.TreeView.{tree, lines, Lined}
 use Rattle.meaning.specs.Edits.{defined_as}
 use Rattle.procedure_parser.specs.Correct.{IsDefinitionFault}
 use Rattle.procedure_parser.specs.Defined.{IsDefined}

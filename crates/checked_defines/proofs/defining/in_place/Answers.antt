@@ -1,5 +1,5 @@
 use Rattle.std.proofs.Common.{◌≤◌, arith}
-use Rattle.program_tree.specs.View.{tree, lines}
+use Rattle.meaning.specs.TreeView.{tree, lines}
 use Rattle.linked_program.specs.TableNames.{columned_of}
 use Rattle.meaning.specs.Edits.{most}
 use Rattle.linked_program.specs.Checked.{IsChecked, revised_of}

@@ -1,5 +1,5 @@
 use Rattle.std.proofs.Common.{map, drop}
-use Rattle.program_tree.specs.View.{term}
+use Rattle.meaning.specs.TreeView.{term}
 use Rattle.std.specs.List.{AllByRecursion}
 use Rattle.meaning.specs.Fitting.{FitsTerm}
 use Rattle.linked_program.proofs.fitting.expressions_fit.Given as goal

@@ -1,5 +1,5 @@
 use Rattle.std.proofs.Common.{◌≡◌, ◌++◌, ◌≤◌, map, drop}
-use Rattle.program_tree.specs.View.{decl}
+use Rattle.meaning.specs.TreeView.{decl}
 use Rattle.meaning.specs.Statements.{reducers}
 use Rattle.linked_program.specs.Initials.{plain_initial, initials_from, initials_of}
 use Rattle.linked_program.proofs.initial.initials.Given as goal

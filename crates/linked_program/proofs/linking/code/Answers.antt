@@ -1,5 +1,5 @@
 use Rattle.std.proofs.Common.{◌≡◌, map, length, string_bytes, refl}
-use Rattle.program_tree.specs.View.{decl}
+use Rattle.meaning.specs.TreeView.{decl}
 use Rattle.linked_program.specs.TableNames.{columned}
 use Rattle.linked_program.proofs.Pushes.{as_many, blocks_linked, length_of_map}
 use Rattle.linked_program.proofs.linking.code.Goals as goal

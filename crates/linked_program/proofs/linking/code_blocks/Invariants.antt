@@ -1,5 +1,5 @@
 use Rattle.std.proofs.Common.{map, take}
-use Rattle.program_tree.specs.View.{decl}
+use Rattle.meaning.specs.TreeView.{decl}
 use Rattle.linked_program.specs.TableNames.{columned}
 use Rattle.linked_program.specs.CodeView.{AreBlocksOf}
 use Rattle.linked_program.proofs.linking.code_blocks.Given as goal

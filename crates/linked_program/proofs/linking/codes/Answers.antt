@@ -1,6 +1,6 @@
 use Rattle.std.proofs.lemmas.List.{append-nil}
 use Rattle.std.proofs.Common.{map, take}
-use Rattle.program_tree.specs.View.{decl, proc}
+use Rattle.meaning.specs.TreeView.{decl, proc}
 use Rattle.linked_program.specs.TableNames.{columned}
 use Rattle.linked_program.specs.Procedures.{procedures}
 use Rattle.linked_program.proofs.Pushes.{take_one_more, code_push, procedures_push}

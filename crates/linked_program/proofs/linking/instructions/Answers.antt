@@ -1,5 +1,5 @@
 use Rattle.std.proofs.Common.{map, take, refl}
-use Rattle.program_tree.specs.View.{decl}
+use Rattle.meaning.specs.TreeView.{decl}
 use Rattle.linked_program.specs.TableNames.{columned}
 use Rattle.linked_program.specs.Linked.{linked_body}
 use Rattle.linked_program.proofs.Pushes.{take_one_more, statement_push}

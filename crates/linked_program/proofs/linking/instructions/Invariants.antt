@@ -1,6 +1,6 @@
 use Rattle.std.proofs.Common.{◌≡◌, ℕ, map, take}
-use Rattle.program_tree.specs.Plain.{Body}
-use Rattle.program_tree.specs.View.{decl, statements}
+use Rattle.meaning.specs.Tree.{Body}
+use Rattle.meaning.specs.TreeView.{decl, statements}
 use Rattle.linked_program.specs.TableNames.{columned}
 use Rattle.linked_program.specs.Linked.{linked_body}
 use Rattle.linked_program.specs.CodeView.{acts}

@@ -1,5 +1,5 @@
 use Rattle.std.proofs.Common.{◌≡◌, ◌+◌, ◌≤◌, map, drop}
-use Rattle.program_tree.specs.View.{decl}
+use Rattle.meaning.specs.TreeView.{decl}
 use Rattle.meaning.specs.Statements.{procedure_of}
 use Rattle.linked_program.specs.Procedures.{procedures}
 use Rattle.linked_program.specs.Linked.{procedure_number}

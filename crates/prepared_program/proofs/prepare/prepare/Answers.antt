@@ -1,4 +1,4 @@
-use Rattle.program_tree.specs.View.{tree, lines}
+use Rattle.meaning.specs.TreeView.{tree, lines}
 use Rattle.prepared_program.proofs.prepare.prepare.Goals as goal
 
 pub returns-in-Err-clause-refused : goal.returns-in-Err-clause-refused

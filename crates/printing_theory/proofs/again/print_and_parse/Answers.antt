@@ -1,5 +1,5 @@
 use Rattle.std.proofs.Common.{◌≡◌, ◌<◌, List, ℕ, length, sym, subst, ◌∙◌}
-use Rattle.program_tree.specs.View.{tree}
+use Rattle.meaning.specs.TreeView.{tree}
 use Rattle.procedure_parser.specs.Correct.{IsSource}
 use Rattle.program_printer.specs.Printing.{printed}
 use Rattle.printing_theory.proofs.Round.{prints_again, collected_prints, reads_again, too_long}

@@ -1,4 +1,4 @@
-use Rattle.program_tree.specs.View.{tree, lines}
+use Rattle.meaning.specs.TreeView.{tree, lines}
 use Rattle.printing_theory.proofs.Forms.{formed}
 use Rattle.printing_theory.proofs.normal.normal_form.Goals as goal
 

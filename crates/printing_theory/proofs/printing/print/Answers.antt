@@ -1,4 +1,4 @@
-use Rattle.program_tree.specs.View.{tree}
+use Rattle.meaning.specs.TreeView.{tree}
 use Rattle.printing_theory.proofs.Round.{carried}
 use Rattle.printing_theory.proofs.printing.print.Goals as goal
 

@@ -1,6 +1,6 @@
 use Rattle.std.proofs.Common.{◌≡◌, ◌-◌, length, drop, Ok, Some, None, Result, sym, ap, subst, ◌∙◌}
 use Rattle.std.proofs.lemmas.List.{length-map}
-use Rattle.program_tree.specs.View.{tree}
+use Rattle.meaning.specs.TreeView.{tree}
 use Rattle.token_readers.specs.declared.fault.ParseError.{ParseError}
 use Rattle.token_scanner.specs.Words.{Words, words, placed}
 use Rattle.source_tree.specs.Source.{Source, source}

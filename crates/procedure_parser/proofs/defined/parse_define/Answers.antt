@@ -1,4 +1,4 @@
-use Rattle.program_tree.specs.View.{tree}
+use Rattle.meaning.specs.TreeView.{tree}
 use Rattle.source_tree.specs.Source.{source}
 use Rattle.token_readers.specs.Rooms.{room_of}
 use Rattle.procedure_parser.proofs.Counts.{definition_bodies}

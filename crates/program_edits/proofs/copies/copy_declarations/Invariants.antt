@@ -1,5 +1,5 @@
 use Rattle.std.proofs.Common.{◌≡◌, ◌++◌, map, drop}
-use Rattle.program_tree.specs.View.{decl, lined}
+use Rattle.meaning.specs.TreeView.{decl, lined}
 use Rattle.program_edits.proofs.copies.copy_declarations.Given as goal
 
 abbrev pub invariant-loop-declaration : goal.invariant-loop-declaration

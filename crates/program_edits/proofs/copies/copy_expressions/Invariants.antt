@@ -1,5 +1,5 @@
 use Rattle.std.proofs.Common.{◌≡◌, ◌++◌, map, drop}
-use Rattle.program_tree.specs.View.{term}
+use Rattle.meaning.specs.TreeView.{term}
 use Rattle.program_edits.proofs.copies.copy_expressions.Given as goal
 
 abbrev pub invariant-loop-expr : goal.invariant-loop-expr

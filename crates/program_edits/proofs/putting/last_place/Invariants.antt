@@ -1,5 +1,5 @@
 use Rattle.std.proofs.Common.{◌≡◌, ◌<◌, map, drop, length, None, IfSome}
-use Rattle.program_tree.specs.View.{decl}
+use Rattle.meaning.specs.TreeView.{decl}
 use Rattle.program_edits.specs.Putting.{last_place}
 use Rattle.program_edits.proofs.putting.last_place.Given as goal
 

@@ -1,6 +1,6 @@
 use Rattle.std.proofs.Common.{◌≡◌, None, Some, map, string_bytes, refl}
-use Rattle.program_tree.specs.View.{decl, lined}
-use Rattle.program_tree.specs.declared.Declaration.TheVariants as variant
+use Rattle.meaning.specs.TreeView.{decl, lined}
+use Rattle.meaning.specs.declared.tree.Declaration.TheVariants as variant
 use Rattle.program_edits.specs.Putting.{last_place}
 use Rattle.program_edits.proofs.Places.{put_behind, put_over}
 use Rattle.program_edits.proofs.putting.put.Goals as goal

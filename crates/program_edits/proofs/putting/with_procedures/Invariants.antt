@@ -1,5 +1,5 @@
 use Rattle.std.proofs.Common.{◌≡◌, [], map, drop}
-use Rattle.program_tree.specs.View.{decl, tree, lined, lines}
+use Rattle.meaning.specs.TreeView.{decl, tree, lined, lines}
 use Rattle.source_tree.specs.Source.{source}
 use Rattle.source_tree.specs.Lowering.{BodiesWithin, most_statements}
 use Rattle.program_edits.specs.Putting.{put_all}

@@ -1,5 +1,5 @@
 use Rattle.std.proofs.Common.{◌-◌, map, string_bytes}
-use Rattle.program_tree.specs.View.{block}
+use Rattle.meaning.specs.TreeView.{block}
 use Rattle.program_printer.proofs.Blocks.{statement_put, block_at}
 use Rattle.program_printer.proofs.block.+printing.Goals as goal
 

@@ -1,5 +1,5 @@
 use Rattle.std.proofs.Common.{◌≡◌, ◌++◌, ◌+◌, ◌*◌, List, map, string_bytes, drop, false}
-use Rattle.program_tree.specs.View.{statements, block}
+use Rattle.meaning.specs.TreeView.{statements, block}
 use Rattle.token_scanner.specs.Words.{Word}
 use Rattle.token_spelling.specs.Spelling.{written, starts_else}
 use Rattle.program_printer.specs.Printing.{body_words}

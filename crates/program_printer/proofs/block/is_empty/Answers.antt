@@ -1,5 +1,5 @@
 use Rattle.std.proofs.Common.{◌-◌, ◌∙◌, sym}
-use Rattle.program_tree.specs.View.{block}
+use Rattle.meaning.specs.TreeView.{block}
 use Rattle.program_printer.proofs.Blocks.{block_at, no_statements}
 use Rattle.program_printer.proofs.block.is_empty.Goals as goal
 

@@ -1,5 +1,5 @@
 use Rattle.std.proofs.Common.{◌+◌, ◌*◌}
-use Rattle.program_tree.specs.View.{term}
+use Rattle.meaning.specs.TreeView.{term}
 use Rattle.program_printer.proofs.Sizes.{size}
 use Rattle.program_printer.proofs.expression.+expressions.Given as goal
 

@@ -1,5 +1,5 @@
 use Rattle.std.proofs.Common.{string_bytes}
-use Rattle.program_tree.specs.View.{tree}
+use Rattle.meaning.specs.TreeView.{tree}
 use Rattle.program_printer.specs.Printing.{printed}
 use Rattle.program_printer.proofs.Blocks.{declaration_put, all_put}
 use Rattle.program_printer.proofs.program.print.Goals as goal

@@ -1,5 +1,5 @@
 use Rattle.std.proofs.Common.{◌≡◌, ◌++◌, map, string_bytes, drop}
-use Rattle.program_tree.specs.View.{tree, decl}
+use Rattle.meaning.specs.TreeView.{tree, decl}
 use Rattle.token_spelling.specs.Spelling.{written}
 use Rattle.program_printer.specs.Printing.{printed_words}
 use Rattle.program_printer.proofs.program.print.Given as goal

@@ -1,5 +1,5 @@
 use Rattle.std.proofs.Common.{◌≡◌, ◌++◌, List, map, string_bytes, drop}
-use Rattle.program_tree.specs.View.{term}
+use Rattle.meaning.specs.TreeView.{term}
 use Rattle.token_scanner.specs.Words.{Word}
 use Rattle.token_spelling.specs.Spelling.{written}
 use Rattle.program_printer.specs.Printing.{more_terms}

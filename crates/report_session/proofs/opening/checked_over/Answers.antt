@@ -1,4 +1,4 @@
-use Rattle.program_tree.specs.View.{tree, lines}
+use Rattle.meaning.specs.TreeView.{tree, lines}
 use Rattle.report_session.proofs.opening.checked_over.Goals as goal
 
 pub returns-in-Err-clause-refused : goal.returns-in-Err-clause-refused

@@ -1,6 +1,6 @@
 use Rattle.std.proofs.Common.{rules, ◌≡◌, ◌∙◌, ◌+◌, ◌-◌, ◌==◌, ℕ, Some, None, true, false, List, [], ◌∷◌, ◌++◌, length, map, reverse, refl, sym, ap, subst}
 use Rattle.std.proofs.lemmas.List.{reverse-append}
-use Rattle.program_tree.specs.declared.Way.TheVariants.{Call}
+use Rattle.meaning.specs.declared.tree.Way.TheVariants.{Call}
 use Rattle.meaning.specs.Elision.{depth_limit}
 use Rattle.linked_program.specs.CodeView.{expression, slots_of}
 use Rattle.evaluation.specs.declared.slot.Slot.TheVariants.{Has}

@@ -1,4 +1,4 @@
-use Rattle.program_tree.specs.View.{tree}
+use Rattle.meaning.specs.TreeView.{tree}
 use Rattle.serial_oracle.specs.Listing.{tables_plain}
 use Rattle.serial_oracle.specs.Keeping.{revised}
 use Rattle.serial_oracle.proofs.Noted.{none_fit}

@@ -1,7 +1,7 @@
 use Rattle.std.proofs.Common.{◌≡◌, ◌∷◌, ◌++◌, ◌+◌, drop, map, ap, sym, ◌∙◌, arith}
 use Rattle.std.proofs.lemmas.List.{drop_more}
-use Rattle.program_tree.specs.Plain.{Tree, reducer}
-use Rattle.program_tree.specs.View.{decl, red}
+use Rattle.meaning.specs.Tree.{Tree, reducer}
+use Rattle.meaning.specs.TreeView.{decl, red}
 use Rattle.meaning.specs.Statements.{reducers, initial_updates, beginning}
 use Rattle.serial_oracle.specs.Keeping.{tree_in}
 use Rattle.serial_oracle.specs.Worths.{noted_in}

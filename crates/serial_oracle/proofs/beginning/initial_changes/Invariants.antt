@@ -1,5 +1,5 @@
 use Rattle.std.proofs.Common.{◌≡◌, ◌≤◌, ◌++◌, map, drop}
-use Rattle.program_tree.specs.View.{decl}
+use Rattle.meaning.specs.TreeView.{decl}
 use Rattle.meaning.specs.Statements.{reducers, initial_updates, beginning}
 use Rattle.serial_oracle.specs.Keeping.{tree_in}
 use Rattle.serial_oracle.specs.Worths.{kinds, noted_in}

@@ -1,5 +1,5 @@
 use Rattle.std.proofs.Common.{◌≡◌, map, drop}
-use Rattle.program_tree.specs.View.{term}
+use Rattle.meaning.specs.TreeView.{term}
 use Rattle.serial_oracle.specs.Listing.{tables_plain}
 use Rattle.meaning.specs.Values.{values}
 use Rattle.serial_oracle.proofs.Evaluating.{before}

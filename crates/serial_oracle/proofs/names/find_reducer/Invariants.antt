@@ -1,5 +1,5 @@
 use Rattle.std.proofs.Common.{◌≡◌, ◌≤◌, map, drop}
-use Rattle.program_tree.specs.View.{decl, tree}
+use Rattle.meaning.specs.TreeView.{decl, tree}
 use Rattle.meaning.specs.Statements.{numbered, reducers}
 use Rattle.serial_oracle.proofs.names.find_reducer.Given as goal
 

@@ -2,8 +2,8 @@
 use Rattle.std.proofs.Common.{◌≡◌, ◌<◌, map, arith, sym, ◌∙◌, ap, Ok, pos, SFits, w64, of_z, rules}
 use Rattle.std.specs.Prelude.{string_bytes}
 use Rattle.std.proofs.lemmas.Int.{to_z-of_z, ints}
-use Rattle.program_tree.specs.View.{term, proc}
-use Rattle.program_tree.specs.View.{block as block_plain}
+use Rattle.meaning.specs.TreeView.{term, proc}
+use Rattle.meaning.specs.TreeView.{block as block_plain}
 use Rattle.meaning.specs.Values.{value, values}
 use Rattle.meaning.specs.Elision.{all_turns}
 use Rattle.serial_oracle.specs.Keeping.{tree_in, tables_in, enters_in, revised_in, records_in}

@@ -1,6 +1,6 @@
 use Rattle.std.proofs.Common.{◌≡◌, ℕ, ◌+◌, ◌-◌, ◌*◌, ◌^◌, ◌≤◌, drop}
 use Rattle.std.specs.Prelude.{string_bytes}
-use Rattle.program_tree.specs.View.{block as block_plain, statements as statements_plain}
+use Rattle.meaning.specs.TreeView.{block as block_plain, statements as statements_plain}
 use Rattle.meaning.specs.Elision.{body, turns, all_turns}
 use Rattle.serial_oracle.specs.Keeping.{tree_in, tables_in, enters_in}
 use Rattle.serial_oracle.specs.Pieces.{job_in}

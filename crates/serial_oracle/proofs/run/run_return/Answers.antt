@@ -1,6 +1,6 @@
 use Rattle.std.proofs.Common.{pos, sym, SFits, w64, rules}
 use Rattle.std.proofs.lemmas.Int.{to_z-of_z}
-use Rattle.program_tree.specs.View.{term}
+use Rattle.meaning.specs.TreeView.{term}
 use Rattle.meaning.specs.Run.{pure}
 use Rattle.serial_oracle.specs.Listing.{tables_plain}
 use Rattle.serial_oracle.specs.Results.{site_at}

@@ -1,5 +1,5 @@
 use Rattle.std.proofs.Common.{pos, map}
-use Rattle.program_tree.specs.View.{term}
+use Rattle.meaning.specs.TreeView.{term}
 use Rattle.meaning.specs.Run.{pure}
 use Rattle.serial_oracle.specs.Keeping.{tree_in, tables_in, records_in}
 use Rattle.serial_oracle.specs.Results.{site_at}

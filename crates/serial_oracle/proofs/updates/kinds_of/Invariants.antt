@@ -1,5 +1,5 @@
 use Rattle.std.proofs.Common.{◌≡◌, ◌++◌, map, drop}
-use Rattle.program_tree.specs.View.{decl, tree}
+use Rattle.meaning.specs.TreeView.{decl, tree}
 use Rattle.serial_oracle.specs.Worths.{kinds}
 use Rattle.serial_oracle.proofs.updates.kinds_of.Given as goal
 

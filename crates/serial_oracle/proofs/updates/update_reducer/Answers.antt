@@ -1,5 +1,5 @@
 use Rattle.std.proofs.Common.{map, sym, subst}
-use Rattle.program_tree.specs.View.{term}
+use Rattle.meaning.specs.TreeView.{term}
 use Rattle.serial_oracle.specs.Keeping.{tree_in, tables_in, records_in}
 use Rattle.serial_oracle.specs.Worths.{worths}
 use Rattle.serial_oracle.proofs.Noted.{update_ends, update_noted}

@@ -1,5 +1,5 @@
 use Rattle.std.proofs.Common.{◌≡◌, Some, sym, ◌∙◌}
-use Rattle.program_tree.specs.View.{tree, proc}
+use Rattle.meaning.specs.TreeView.{tree, proc}
 use Rattle.meaning.specs.Statements.{procedure_of}
 use Rattle.linked_program.specs.Checked.{revised_of, number_in}
 use Rattle.single_rules.proofs.NumberThere.{kept_is}

@@ -1,5 +1,5 @@
 use Rattle.std.proofs.Common.{◌≡◌, ◌++◌, take}
-use Rattle.program_tree.specs.View.{statement_lines}
+use Rattle.meaning.specs.TreeView.{statement_lines}
 use Rattle.single_rules.proofs.lines.push_lines.Given as goal
 
 abbrev pub invariant-loop-statement : goal.invariant-loop-statement

@@ -1,5 +1,5 @@
 use Rattle.std.proofs.Common.{◌≡◌, map, drop}
-use Rattle.program_tree.specs.View.{decl}
+use Rattle.meaning.specs.TreeView.{decl}
 use Rattle.meaning.specs.Statements.{reducers}
 use Rattle.linked_program.specs.Rules.{reducer_of}
 use Rattle.single_rules.proofs.names.kind_of.Given as goal

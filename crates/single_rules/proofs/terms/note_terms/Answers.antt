@@ -1,5 +1,5 @@
 use Rattle.std.proofs.Common.{◌+◌, map, drop, ap, sym, ◌∙◌}
-use Rattle.program_tree.specs.View.{term}
+use Rattle.meaning.specs.TreeView.{term}
 use Rattle.linked_program.specs.TableNames.{columned}
 use Rattle.linked_program.specs.Rules.{term_rules, terms_rules}
 use Rattle.linked_program.specs.Violations.{noted, at}

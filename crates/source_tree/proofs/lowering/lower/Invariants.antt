@@ -1,5 +1,5 @@
 use Rattle.std.proofs.Common.{◌≡◌, ◌++◌, map, drop}
-use Rattle.program_tree.specs.View.{decl, lined}
+use Rattle.meaning.specs.TreeView.{decl, lined}
 use Rattle.source_tree.specs.Source.{source}
 use Rattle.source_tree.specs.Lowering.{lowered_decl, lowered, lines_of, BodiesWithin, most_statements}
 use Rattle.source_tree.proofs.lowering.lower.Given as goal

@@ -1,5 +1,5 @@
 use Rattle.std.proofs.Common.{◌≡◌, [], map, drop}
-use Rattle.program_tree.specs.View.{term}
+use Rattle.meaning.specs.TreeView.{term}
 use Rattle.source_tree.specs.Source.{phrases}
 use Rattle.source_tree.specs.Lowering.{lower_terms}
 use Rattle.source_tree.proofs.terms.lower_expressions.Given as goal

@@ -1,5 +1,5 @@
 use Rattle.std.proofs.Common.{◌≡◌, map, refl, ap, ◌∙◌, arith}
-use Rattle.program_tree.specs.View.{tree}
+use Rattle.meaning.specs.TreeView.{tree}
 use Rattle.meaning.specs.Edits.{revised}
 use Rattle.linked_program.specs.TableNames.{columned}
 use Rattle.linked_program.specs.Checked.{numbers_in, names_in, nothing}

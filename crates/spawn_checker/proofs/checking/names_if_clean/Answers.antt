@@ -1,5 +1,5 @@
 use Rattle.std.proofs.Common.{map, sym, ◌∙◌}
-use Rattle.program_tree.specs.View.{decl, lined}
+use Rattle.meaning.specs.TreeView.{decl, lined}
 use Rattle.linked_program.specs.TableNames.{columned_of}
 use Rattle.linked_program.specs.Declarations.{violations}
 use Rattle.spawn_checker.proofs.Counting.{nothing_violated}

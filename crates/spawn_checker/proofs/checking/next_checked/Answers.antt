@@ -1,5 +1,5 @@
 use Rattle.std.proofs.Common.{◌≡◌, ◌<◌, map, ap, ◌∙◌}
-use Rattle.program_tree.specs.View.{tree}
+use Rattle.meaning.specs.TreeView.{tree}
 use Rattle.meaning.specs.Edits.{most, revised}
 use Rattle.linked_program.specs.TableNames.{columned}
 use Rattle.linked_program.specs.Checked.{revised_of, numbers_in, names_in}

@@ -1,5 +1,5 @@
 use Rattle.std.proofs.Common.{◌+◌, map, drop, ap, ◌∙◌, refl}
-use Rattle.program_tree.specs.View.{decl, lined}
+use Rattle.meaning.specs.TreeView.{decl, lined}
 use Rattle.linked_program.specs.Violations.{noted}
 use Rattle.linked_program.specs.Declarations.{decl_violations, decls_violations}
 use Rattle.single_rules.proofs.Lists.{item_here}

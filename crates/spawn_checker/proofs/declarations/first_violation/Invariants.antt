@@ -1,5 +1,5 @@
 use Rattle.std.proofs.Common.{◌≡◌, map, drop}
-use Rattle.program_tree.specs.View.{decl, lined}
+use Rattle.meaning.specs.TreeView.{decl, lined}
 use Rattle.linked_program.specs.Violations.{noted, first_of}
 use Rattle.linked_program.specs.Declarations.{violations, decls_violations}
 use Rattle.linked_program.specs.TableNames.{columned}

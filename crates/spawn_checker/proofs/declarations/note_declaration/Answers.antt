@@ -1,6 +1,6 @@
 use Rattle.std.proofs.Common.{◌+◌, map, take}
 use Rattle.std.proofs.lemmas.List.{take-map}
-use Rattle.program_tree.specs.View.{decl, proc, block_lines}
+use Rattle.meaning.specs.TreeView.{decl, proc, block_lines}
 use Rattle.linked_program.specs.Violations.{at}
 use Rattle.linked_program.specs.Declarations.{procedure_rules, proc_violations}
 use Rattle.single_rules.proofs.Noting.{noted_append}

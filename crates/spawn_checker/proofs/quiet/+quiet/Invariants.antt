@@ -1,5 +1,5 @@
 use Rattle.std.proofs.Common.{◌≡◌, ◌+◌, ◌*◌, drop}
-use Rattle.program_tree.specs.View.{block, statements}
+use Rattle.meaning.specs.TreeView.{block, statements}
 use Rattle.linked_program.specs.Rules.{are_quiet}
 use Rattle.spawn_checker.proofs.quiet.+quiet.Given as goal
 

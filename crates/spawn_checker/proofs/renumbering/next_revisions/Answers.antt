@@ -1,7 +1,7 @@
 use Rattle.std.proofs.Common.{◌≡◌, ◌+◌, ◌∷◌, ◌++◌, [], None, drop, map, ap, sym, subst, ◌∙◌}
 use Rattle.std.proofs.lemmas.Bool.{eqb-true}
-use Rattle.program_tree.specs.Plain.{Tree, procedure, reducer}
-use Rattle.program_tree.specs.View.{decl, proc, red}
+use Rattle.meaning.specs.Tree.{Tree, procedure, reducer}
+use Rattle.meaning.specs.TreeView.{decl, proc, red}
 use Rattle.meaning.specs.Edits.{most, revised}
 use Rattle.linked_program.specs.Checked.{revised_of, numbers_in}
 use Rattle.single_rules.specs.Kept.{kept}

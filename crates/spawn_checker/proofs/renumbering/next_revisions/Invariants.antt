@@ -1,5 +1,5 @@
 use Rattle.std.proofs.Common.{◌≡◌, map, drop}
-use Rattle.program_tree.specs.View.{decl}
+use Rattle.meaning.specs.TreeView.{decl}
 use Rattle.meaning.specs.Edits.{revised}
 use Rattle.linked_program.specs.Checked.{revised_of, numbers_in}
 use Rattle.spawn_checker.specs.Renumbered.{behind}

@@ -1,6 +1,6 @@
 use Rattle.std.proofs.Common.{◌≡◌, ◌+◌, ◌∷◌, ◌++◌, [], drop, map, refl, ap, subst, ◌∙◌, arith}
-use Rattle.program_tree.specs.Plain.{Tree, procedure, reducer}
-use Rattle.program_tree.specs.View.{decl, proc, red}
+use Rattle.meaning.specs.Tree.{Tree, procedure, reducer}
+use Rattle.meaning.specs.TreeView.{decl, proc, red}
 use Rattle.meaning.specs.Edits.{revised}
 use Rattle.linked_program.specs.Checked.{numbers_in, nothing}
 use Rattle.single_rules.proofs.Lists.{item_here}

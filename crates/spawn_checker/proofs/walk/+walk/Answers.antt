@@ -1,6 +1,6 @@
 use Rattle.std.proofs.Common.{◌+◌, drop, ap, sym, ◌∙◌, refl}
-use Rattle.program_tree.specs.declared.Action.TheVariants.{If}
-use Rattle.program_tree.specs.View.{block, deed, statements}
+use Rattle.meaning.specs.declared.tree.Action.TheVariants.{If}
+use Rattle.meaning.specs.TreeView.{block, deed, statements}
 use Rattle.linked_program.specs.Scope.{moment, after_deed, after_body, second}
 use Rattle.linked_program.specs.Rules.{deed_rules}
 use Rattle.linked_program.specs.Bodies.{line_of, body_violations, branch_violations, step_violations}

@@ -1,5 +1,5 @@
 use Rattle.std.proofs.Common.{◌≡◌, ◌+◌, ◌*◌, drop}
-use Rattle.program_tree.specs.View.{block, statements}
+use Rattle.meaning.specs.TreeView.{block, statements}
 use Rattle.linked_program.specs.Scope.{after_body}
 use Rattle.linked_program.specs.Bodies.{body_violations}
 use Rattle.linked_program.specs.Violations.{noted}

@@ -1,6 +1,6 @@
 use Rattle.std.proofs.Common.{◌≡◌, ℕ, drop}
-use Rattle.program_tree.specs.Plain.{Body}
-use Rattle.program_tree.specs.View.{statements}
+use Rattle.meaning.specs.Tree.{Body}
+use Rattle.meaning.specs.TreeView.{statements}
 use Rattle.linked_program.specs.Scope.{closed}
 use Rattle.spawn_checker.proofs.walk.close_statements.Given as goal
 

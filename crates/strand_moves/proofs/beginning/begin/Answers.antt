@@ -1,6 +1,6 @@
 use Rattle.std.proofs.Common.{map, sym, subst}
 use Rattle.meaning.specs.Statements.{beginning}
-use Rattle.program_tree.specs.View.{tree}
+use Rattle.meaning.specs.TreeView.{tree}
 use Rattle.linked_program.specs.Initials.{plain_initial, AreUpdatesBy}
 use Rattle.strand_moves.proofs.Initials.{are_initials}
 use Rattle.strand_moves.proofs.beginning.begin.Goals as goal

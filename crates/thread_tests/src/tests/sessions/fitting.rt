@@ -1,13 +1,13 @@
 //! A test of the values of records, so that reruns can be called.
 ghost use Rattle.std.specs.Prelude.{◌≡◌, true, map, IfOk, IfSome};
 ghost use Rattle.monoid_laws.specs.Kinds.{meaning, FitsPair, IsWorth, AreWorths};
-ghost use Rattle.program_tree.specs.View.{tree};
-ghost use Rattle.program_tree.specs.Plain.{Tree};
+ghost use Rattle.meaning.specs.TreeView.{tree};
+ghost use Rattle.meaning.specs.Tree.{Tree};
 ghost use Rattle.serial_oracle.specs.Keeping.{kept};
 ghost use Rattle.serial_oracle.specs.Worths.{AreFit, kinds as kinds_in};
 
 use monoid_laws::{Kind, Val};
-use program_tree::{Declaration, Program};
+use meaning::tree::{Declaration, Program};
 use serial_oracle::Record;
 use std::alloc::{AllocError, Global};
 

@@ -6,7 +6,7 @@ use evaluation::note::Note;
 use input_tables::Tables;
 use linked_program::checked::Checked;
 use monoid_laws::{Kind, Val};
-use program_tree::{Declaration, Program};
+use meaning::tree::{Declaration, Program};
 use reducer_values::{copy_of, identity};
 use reuse_planner::Session;
 use serial_oracle::{

@@ -1,5 +1,5 @@
 use Rattle.std.proofs.Common.{◌≡◌, [], map, drop}
-use Rattle.program_tree.specs.View.{decl}
+use Rattle.meaning.specs.TreeView.{decl}
 use Rattle.source_tree.specs.Source.{texts}
 use Rattle.token_readers.specs.Rooms.{names_from}
 use Rattle.token_readers.proofs.rooms.names_of.Given as goal

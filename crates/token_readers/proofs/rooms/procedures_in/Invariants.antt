@@ -1,5 +1,5 @@
 use Rattle.std.proofs.Common.{◌≡◌, ◌+◌, ◌≤◌, map, drop}
-use Rattle.program_tree.specs.View.{decl}
+use Rattle.meaning.specs.TreeView.{decl}
 use Rattle.token_readers.specs.Rooms.{procedures_in}
 use Rattle.token_readers.proofs.rooms.procedures_in.Given as goal
 

@@ -1,5 +1,5 @@
 use Rattle.std.proofs.Common.{◌≡◌, slice_get, map, drop}
-use Rattle.program_tree.specs.View.{decl}
+use Rattle.meaning.specs.TreeView.{decl}
 use Rattle.linked_program.specs.Procedures.{procedures}
 use Rattle.trace_report.proofs.answers.procedure_name.Given as goal
 

@@ -1,7 +1,7 @@
 use Rattle.std.proofs.Common.{◌≡◌, ◌++◌, map, string_bytes, drop}
 use Rattle.monoid_laws.specs.Kinds.{meaning}
 use Rattle.meaning.specs.Statements.{reducers}
-use Rattle.program_tree.specs.View.{tree, decl}
+use Rattle.meaning.specs.TreeView.{tree, decl}
 use Rattle.meaning.specs.Text.{worths_text}
 use Rattle.trace_report.proofs.answers.push_values.Given as goal
 

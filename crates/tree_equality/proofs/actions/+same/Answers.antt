@@ -1,6 +1,6 @@
 use Rattle.std.proofs.Common.{◌≡◌, ◌-◌, length, arith, rules, ◌∙◌}
 use Rattle.std.specs.Vec.{vec_len}
-use Rattle.program_tree.specs.View.{block}
+use Rattle.meaning.specs.TreeView.{block}
 use Rattle.tree_equality.proofs.Apart.{apart_statements, empty_right, empty_left}
 use Rattle.tree_equality.proofs.actions.+same.Goals as goal
 

@@ -1,5 +1,5 @@
 use Rattle.std.proofs.Common.{◌≡◌, ◌+◌, ◌*◌, drop}
-use Rattle.program_tree.specs.View.{block, statements}
+use Rattle.meaning.specs.TreeView.{block, statements}
 use Rattle.meaning.specs.Edits.{same_body}
 use Rattle.tree_equality.proofs.actions.+same.Given as goal
 

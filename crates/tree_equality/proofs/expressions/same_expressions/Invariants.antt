@@ -1,5 +1,5 @@
 use Rattle.std.proofs.Common.{◌≡◌, map, drop}
-use Rattle.program_tree.specs.View.{term}
+use Rattle.meaning.specs.TreeView.{term}
 use Rattle.meaning.specs.Edits.{same_terms}
 use Rattle.tree_equality.proofs.expressions.same_expressions.Given as goal
 

@@ -1,4 +1,4 @@
-use Rattle.run_terms.proofs.Kits.{left_kits}
+use Rattle.numbered_runs.proofs.Kits.{left_kits}
 use Rattle.worker_seats.proofs.beginning.first_of.Goals as goal
 
 pub returns-in-Ok-clause-kits : goal.returns-in-Ok-clause-kits

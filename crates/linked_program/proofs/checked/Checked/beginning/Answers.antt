@@ -1,5 +1,5 @@
 use Rattle.std.proofs.Common.{map, subst}
-use Rattle.program_tree.specs.View.{tree}
+use Rattle.meaning.specs.TreeView.{tree}
 use Rattle.meaning.specs.Statements.{beginning}
 use Rattle.linked_program.specs.TableNames.{columned}
 use Rattle.linked_program.specs.Initials.{plain_initial, AreUpdatesBy}

@@ -1,5 +1,5 @@
 use Rattle.std.proofs.Common.{◌≡◌, take}
-use Rattle.program_tree.specs.View.{block_lines}
+use Rattle.meaning.specs.TreeView.{block_lines}
 use Rattle.single_rules.proofs.lines.LineTable.new.Given as goal
 
 abbrev pub invariant-loop-block : goal.invariant-loop-block

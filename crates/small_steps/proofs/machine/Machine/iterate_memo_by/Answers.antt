@@ -1,5 +1,5 @@
 use Rattle.std.proofs.Common.{◌≡◌, ◌∙◌, ap, map, subst, None, Some}
-use Rattle.program_tree.specs.declared.Way.TheVariants.{Call}
+use Rattle.meaning.specs.declared.tree.Way.TheVariants.{Call}
 use Rattle.linked_program.specs.CodeView.{expression as plain}
 use Rattle.evaluation.specs.Values.{values_at}
 use Rattle.positions.specs.declared.work.Work.TheVariants.{Turns}

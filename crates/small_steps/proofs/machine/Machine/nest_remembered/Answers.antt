@@ -1,5 +1,5 @@
 use Rattle.std.proofs.Common.{rules, ◌≡◌, ◌∙◌, ◌==◌, false, true}
-use Rattle.program_tree.specs.declared.Way.TheVariants.{Call, Spawn}
+use Rattle.meaning.specs.declared.tree.Way.TheVariants.{Call, Spawn}
 use Rattle.positions.specs.declared.phase.Phase.TheVariants.{Entering, AtSpawn}
 use Rattle.positions.specs.Advance.{answer_for, child_of, nested, pushed, recalled}
 use Rattle.activations.specs.Given.{lent}

@@ -1,7 +1,7 @@
 use Rattle.std.proofs.Common.{◌≡◌, All, [], ◌∷◌, ◌++◌, sym, ap, subst, ◌∙◌}
 use Rattle.stepped_runs.specs.Pieces.{PlainPiece}
 use Rattle.worker_core.specs.Moves.{IsFit}
-use Rattle.run_terms.proofs.Kits.{taken_kit, left_kits}
+use Rattle.numbered_runs.proofs.Kits.{taken_kit, left_kits}
 use Rattle.worker_core.proofs.Shares.{one_fit}
 use Rattle.worker_core.proofs.strands.Strands.first.Goals as goal
 

@@ -10,7 +10,7 @@ use Rattle.numbered_runs.specs.declared.refusal.Refusal.TheVariants.{Nothing}
 use Rattle.worker_core.specs.Moves.{IsFit, has_tasks}
 use Rattle.worker_core.specs.Strands.{PlainStrands, run_of, held_at}
 use Rattle.worker_core.proofs.Finding.{held_within, none_held}
-use Rattle.run_terms.proofs.Kits.{taken_kit, left_kits}
+use Rattle.numbered_runs.proofs.Kits.{taken_kit, left_kits}
 use Rattle.worker_core.proofs.Thefts.{theft_busy, theft_alone, theft_nothing, theft_bare, theft_lacks, theft_taken}
 use Rattle.worker_core.proofs.strands.Strands.steal.Goals as goal
 

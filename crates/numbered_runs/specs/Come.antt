@@ -1,6 +1,6 @@
 -- How a run comes to its end.
-use Rattle.frames.specs.declared.answer.RunAnswer.{RunAnswer}
-use Rattle.frames.specs.declared.answer.RunAnswer.TheVariants as answer
+use Rattle.positions.specs.declared.answer.RunAnswer.{RunAnswer}
+use Rattle.positions.specs.declared.answer.RunAnswer.TheVariants as answer
 
 -- anything but a run that has not come to its end
 abbrev pub HasCome : RunAnswer → Type 0

@@ -1,7 +1,7 @@
 -- The tree of a program as plain data: no pointers, no lines. Variables are numbers into the procedure's pool of names; everything else goes by name.
 use Rattle.std.specs.Prelude.{ℕ, ℤ, List, Option, Bool}
-use Rattle.program_tree.specs.declared.Operator.{Operator}
-use Rattle.program_tree.specs.declared.Way.{Way}
+use Rattle.meaning.specs.declared.tree.Operator.{Operator}
+use Rattle.meaning.specs.declared.tree.Way.{Way}
 use Rattle.monoid_laws.specs.declared.Kind.{Kind}
 
 -- a name is its bytes

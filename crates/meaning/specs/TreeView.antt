@@ -1,18 +1,18 @@
 -- The plain tree of a program.
 use Rattle.std.specs.Prelude.{ℕ, zero, suc, List, [], ◌∷◌, ◌++◌, Option, Some, None, map, string_bytes, slice_get, length}
-use Rattle.program_tree.specs.declared.Expr.{Expr}
-use Rattle.program_tree.specs.declared.Expr.TheVariants as e
-use Rattle.program_tree.specs.declared.Action.{Action}
-use Rattle.program_tree.specs.declared.Action.TheVariants as a
-use Rattle.program_tree.specs.declared.Statement.{Statement}
-use Rattle.program_tree.specs.declared.Block.{Block}
-use Rattle.program_tree.specs.declared.Procedure.{Procedure}
-use Rattle.program_tree.specs.declared.Reducer.{Reducer}
-use Rattle.program_tree.specs.declared.Declaration.{Declaration}
-use Rattle.program_tree.specs.declared.Declaration.TheVariants as d
-use Rattle.program_tree.specs.declared.Program.{Program}
-use Rattle.program_tree.specs.Plain.{Term, number, name, cell, has, limit, sum, negate, binary, Deed, bind, enter, read, sync, update}
-use Rattle.program_tree.specs.Plain.{choose, loop, give, Body, end, step, Proc, Red, Decl, reducer, procedure, Tree}
+use Rattle.meaning.specs.declared.tree.Expr.{Expr}
+use Rattle.meaning.specs.declared.tree.Expr.TheVariants as e
+use Rattle.meaning.specs.declared.tree.Action.{Action}
+use Rattle.meaning.specs.declared.tree.Action.TheVariants as a
+use Rattle.meaning.specs.declared.tree.Statement.{Statement}
+use Rattle.meaning.specs.declared.tree.Block.{Block}
+use Rattle.meaning.specs.declared.tree.Procedure.{Procedure}
+use Rattle.meaning.specs.declared.tree.Reducer.{Reducer}
+use Rattle.meaning.specs.declared.tree.Declaration.{Declaration}
+use Rattle.meaning.specs.declared.tree.Declaration.TheVariants as d
+use Rattle.meaning.specs.declared.tree.Program.{Program}
+use Rattle.meaning.specs.Tree.{Term, number, name, cell, has, limit, sum, negate, binary, Deed, bind, enter, read, sync, update}
+use Rattle.meaning.specs.Tree.{choose, loop, give, Body, end, step, Proc, Red, Decl, reducer, procedure, Tree}
 
 abbrev pub term : Expr → Term
 term (e.Number n) = number n

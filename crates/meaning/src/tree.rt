@@ -1,6 +1,4 @@
 //! The tree of a program: its declarations in the order of the text.
-#![tactic(auto)]
-
 use monoid_laws::Kind;
 
 /// An operator between two numbers.

@@ -1,3 +1,0 @@
-pub mod Starts
-pub mod Come
-pub mod Recorded
