@@ -100,6 +100,7 @@ impl Spares {
 
     /// Keeps the lists of an instance that is over, but for those that never held anything: else these would pile up. Where memory is
     /// refused for that they are let go.
+    #[inline(always)]
     pub fn keep(&mut self, over: Activation) {
         let (slots, places) = over.into_lists();
         if slots.capacity() > 0 {

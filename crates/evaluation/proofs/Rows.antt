@@ -1,5 +1,5 @@
 -- An operator on two cells of one row.
-use Rattle.std.proofs.Common.{◌≡◌, ℤ, List, [], ◌++◌, Option, Some, None, Result, Ok, Err, IfSome, ap, sym, ◌∙◌, append-nil}
+use Rattle.std.proofs.Common.{◌≡◌, ℤ, List, [], ◌∷◌, ◌++◌, Option, Some, None, Result, Ok, Err, IfSome, refl, ap, sym, ◌∙◌, append-nil, append_assoc}
 use Rattle.std.proofs.Math.Seq.{take-length}
 use Rattle.std.specs.Prelude.{slice_get}
 use Rattle.meaning.specs.declared.tree.Operator.{Operator}
@@ -8,12 +8,13 @@ use Rattle.input_tables.specs.Edited.{rows_at, cell_at}
 use Rattle.linked_program.specs.declared.code.RowCells.{RowCells}
 use Rattle.linked_program.specs.CodeView.{on_row}
 use Rattle.evaluation.specs.declared.note.Note.{Note}
+use Rattle.evaluation.specs.declared.note.Note.TheVariants.{Cell}
 use Rattle.evaluation.specs.declared.slot.Slot.{Slot}
 use Rattle.evaluation.specs.declared.stop.Stop.{Stop}
 use Rattle.evaluation.specs.declared.stop.Stop.TheVariants.{NoMemory, Fault}
 use Rattle.evaluation.specs.Slots.{number_in}
 use Rattle.evaluation.specs.Values.{NumberedOut, ◌>>=◌, pure, looked, applied, value_at}
-use Rattle.evaluation.specs.Ends.{Ends, Stops}
+use Rattle.evaluation.specs.Ends.{AreNoted, Ends, Stops}
 use Rattle.evaluation.proofs.Ending.{second_ends}
 
 -- what is said of what was found
@@ -47,3 +48,24 @@ pub both_end : (op : Operator) (m k : NumberedOut ℤ) (old mid new : List Note)
 both_end op m k old mid new x y r left noted right more is =
     second_ends (λ v. v) m (λ a. k >>= (λ b. applied op a b)) old mid new x r left noted
     (second_ends (λ v. v) k (λ b. applied op x b) mid new new y r right more (applied_stops op x y new r is))
+
+-- ---- both cells at once
+
+pub are_noted : (ts : Tables) (slots : List Slot) (c : RowCells) (vs : List ℤ) (x y : ℤ) (old new : List Note)
+    → row_of (rows_at ts c.table) (number_in (slice_get slots c.slot)) ≡ Some vs → slice_get vs c.first ≡ Some x → slice_get vs c.second ≡ Some y
+    → new ≡ old ++ Cell c.table (number_in (slice_get slots c.slot)) c.first x ∷ Cell c.table (number_in (slice_get slots c.slot)) c.second y ∷ []
+    → AreNoted ts slots c x y old new
+are_noted ts slots c vs x y old new row left right noted = (ap (λ o. at_column o c.first) row ∙ left, ap (λ o. at_column o c.second) row ∙ right, noted)
+
+pub noted_end : (ts : Tables) (slots : List Slot) (op : Operator) (c : RowCells) (x y : ℤ) (old new : List Note) (r : Result ℤ Stop)
+    → AreNoted ts slots c x y old new → Ends {A = ℤ} {B = ℤ} (λ v. v) (applied op x y) [] [] r
+    → Stops {A = ℤ} {B = ℤ} (λ v. v) (value_at ts slots (on_row op c)) old new r
+noted_end ts slots op c x y old new r are is =
+    let n = number_in (slice_get slots c.slot) in
+    let first = looked c.table n c.first (cell_at ts c.table n c.first) in
+    let second = looked c.table n c.second (cell_at ts c.table n c.second) in
+    both_end op first second old (old ++ first.notes) new x y r
+    (ap (λ o. (looked c.table n c.first o).answer) are.0) refl (ap (λ o. (looked c.table n c.second o).answer) are.1)
+    (are.2 ∙ sym (append_assoc old (Cell c.table n c.first x ∷ []) (Cell c.table n c.second y ∷ []))
+    ∙ ap (λ o. (old ++ (looked c.table n c.first o).notes) ++ Cell c.table n c.second y ∷ []) (sym are.0)
+    ∙ ap (λ o. (old ++ first.notes) ++ (looked c.table n c.second o).notes) (sym are.1)) is

@@ -1,6 +1,12 @@
 -- How the code's evaluations end.
-use Rattle.std.specs.Prelude.{◌≡◌, List, ◌++◌, Result, Ok, Err, length, take}
+use Rattle.std.specs.Prelude.{◌≡◌, ℤ, List, [], ◌∷◌, ◌++◌, Some, Result, Ok, Err, length, slice_get, take}
+use Rattle.meaning.specs.Tables.{Tables}
+use Rattle.input_tables.specs.Edited.{cell_at}
+use Rattle.linked_program.specs.declared.code.RowCells.{RowCells}
 use Rattle.evaluation.specs.declared.note.Note.{Note}
+use Rattle.evaluation.specs.declared.note.Note.TheVariants.{Cell}
+use Rattle.evaluation.specs.declared.slot.Slot.{Slot}
+use Rattle.evaluation.specs.Slots.{number_in}
 use Rattle.evaluation.specs.declared.stop.Stop.{Stop}
 use Rattle.evaluation.specs.declared.stop.Stop.TheVariants.{NoMemory, Fault}
 use Rattle.evaluation.specs.Values.{NumberedOut}
@@ -23,3 +29,9 @@ abbrev pub Stops : {A B : Type 0} → (B → A) → NumberedOut A → List Note 
 Stops view o old new (Ok b) = (o.answer ≡ Ok (view b)) × (new ≡ old ++ o.notes)
 Stops view o old new (Err (Fault k)) = (o.answer ≡ Err k) × (new ≡ old ++ o.notes)
 Stops view o old new (Err NoMemory) = take (length old) new ≡ old
+
+-- these are the values of the two cells, and they are noted one after the other
+abbrev pub AreNoted : Tables → List Slot → RowCells → ℤ → ℤ → List Note → List Note → Type 0
+AreNoted ts slots c x y old new =
+    let n = number_in (slice_get slots c.slot) in
+    (cell_at ts c.table n c.first ≡ Some x) × (cell_at ts c.table n c.second ≡ Some y) × (new ≡ old ++ Cell c.table n c.first x ∷ Cell c.table n c.second y ∷ [])

@@ -1,5 +1,5 @@
 // The notes of what was read, in order.
-ghost use Rattle.std.specs.Prelude.{◌≡◌, ◌++◌, ◌∷◌, [], IfErr, IfOk, OnErr, OnOk, length, map, nat_eq, take};
+ghost use Rattle.std.specs.Prelude.{◌≡◌, ◌++◌, ◌∷◌, [], IfErr, IfOk, OnErr, OnOk, false, length, map, nat_eq, take, true};
 ghost use Rattle.evaluation.specs.Short.{note_of};
 
 use crate::note::Note;
@@ -58,6 +58,35 @@ impl Notes {
             Some(reading) => self.push(reading),
             None => Err(Stop::NoMemory),
         }
+    }
+
+    /// Adds two notes, or where memory is refused or a number is too large for its bytes none: whether they were added.
+    #[inline(always)]
+    pub fn add_both(&mut self, first: &Note, second: &Note) -> bool
+        ensures added { result ≡ true → self.new ≡ self.old ++ first.now ∷ second.now ∷ [] }
+        ensures same { result ≡ false → self.new ≡ self.old }
+    {
+        let Some(first) = Reading::new(first) else {
+            return false;
+        };
+        let Some(second) = Reading::new(second) else {
+            return false;
+        };
+        self.push_both(first, second)
+    }
+
+    // Adds two notes in their few bytes, or none.
+    #[inline(always)]
+    fn push_both(&mut self, first: Reading, second: Reading) -> bool
+        ensures added { result ≡ true → self.new ≡ self.old ++ note_of first ∷ note_of second ∷ [] }
+        ensures same { result ≡ false → self.new ≡ self.old }
+    {
+        if self.readings.reserve(2).is_err() {
+            return false;
+        }
+        self.readings.push_reserved(first);
+        self.readings.push_reserved(second);
+        true
     }
 
     // Adds a note in its few bytes.

@@ -203,9 +203,9 @@ fn evaluate(expression: &Expression, slots: &[Slot], tables: &Tables) -> Result<
     }
 }
 
-// The value of an operator on two cells of one row, where the row is found at once and the operator has a value.
-#[inline(never)]
-fn cells_at_once(
+/// The value of an operator on two cells of one row, where the row is found at once and the operator has a value.
+#[inline(always)]
+pub fn row_at_once(
     operator: Operator,
     cells: &RowCells,
     slots: &[Slot],
@@ -217,6 +217,19 @@ fn cells_at_once(
     let left = values.get(cells.first)?;
     let right = values.get(cells.second)?;
     joined(operator, *left, *right)
+}
+
+// The value of an operator on two cells of one row, where the row is found at once and the operator has a value, compiled by itself.
+#[inline(never)]
+fn cells_at_once(
+    operator: Operator,
+    cells: &RowCells,
+    slots: &[Slot],
+    tables: &Tables,
+) -> Option<i64>
+    ensures value { IfSome result (λ v. (value_at tables.now.tables slots.now (on_row operator cells.now)).answer ≡ Ok v) }
+{
+    row_at_once(operator, cells, slots, tables)
 }
 
 // The value of an operator on two cells of one row, or its fault.

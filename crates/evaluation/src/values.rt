@@ -1,13 +1,13 @@
 //! The values of expressions.
 
-ghost use Rattle.std.specs.Prelude.{◌≡◌, ◌∷◌, [], IfSome, map, slice_get};
+ghost use Rattle.std.specs.Prelude.{◌≡◌, ◌∷◌, [], IfSome, IsNone, map, slice_get};
 ghost use Rattle.linked_program.specs.CodeView.{expression as plain, on_row};
 ghost use Rattle.input_tables.specs.Edited as read;
 ghost use Rattle.meaning.specs.Values.{one_if as one_for};
 ghost use Rattle.evaluation.specs.Slots.{number_in as number_of};
 ghost use Rattle.evaluation.specs.Values.{value_at, values_at, looked, reading, pure, applied as applied_to};
 ghost use Rattle.meaning.specs.Tables.{Tables as TableList};
-ghost use Rattle.evaluation.specs.Ends.{Ends, Stops};
+ghost use Rattle.evaluation.specs.Ends.{AreNoted, Ends, Stops};
 
 use crate::note::Note;
 use crate::notes::Notes;
@@ -286,8 +286,60 @@ pub fn number_in(slots: &[Slot], number: usize) -> i64
     }
 }
 
-// The value of an operator on two cells of one row, or its fault.
+// The value of an operator on two cells of one row, or its fault. Most rows are found at once.
+#[inline(never)]
+#[tactic(auto, using(crate::proofs::Rows::noted_end))]
 fn two_cells(
+    operator: Operator,
+    cells: &RowCells,
+    slots: &[Slot],
+    tables: &Tables,
+    notes: &mut Notes,
+) -> Result<i64, Stop>
+    ensures stops { Stops (λ v. v) (value_at tables.now.tables slots.now (on_row operator cells.now)) notes.old notes.new result }
+{
+    match both_at_once(cells, slots, tables, notes) {
+        Some((left, right)) => applied(operator, left, right),
+        None => cells_in_turn(operator, cells, slots, tables, notes),
+    }
+}
+
+// Two cells of one row, which are noted, where the row is found at once and memory for the notes isn't refused.
+#[inline(always)]
+fn both_at_once(
+    cells: &RowCells,
+    slots: &[Slot],
+    tables: &Tables,
+    notes: &mut Notes,
+) -> Option<(i64, i64)>
+    ensures found { IfSome result (λ p. AreNoted tables.now.tables slots.now cells.now p.0 p.1 notes.old notes.new) }
+    ensures same { IsNone result → notes.new ≡ notes.old }
+{
+    let row = number_in(slots, cells.slot);
+    let values = tables.row_at_once(cells.table, row)?;
+    let left = *values.get(cells.first)?;
+    let right = *values.get(cells.second)?;
+    let first = Note::Cell {
+        table: cells.table,
+        row,
+        column: cells.first,
+        value: left,
+    };
+    let second = Note::Cell {
+        table: cells.table,
+        row,
+        column: cells.second,
+        value: right,
+    };
+    if !notes.add_both(&first, &second) {
+        return None;
+    }
+    Some((left, right))
+}
+
+// The same one cell after the other.
+#[inline(never)]
+fn cells_in_turn(
     operator: Operator,
     cells: &RowCells,
     slots: &[Slot],
@@ -307,6 +359,7 @@ fn two_cells(
 }
 
 // The value of a cell.
+#[inline(always)]
 fn cell(
     tables: &Tables,
     table: usize,

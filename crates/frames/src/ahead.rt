@@ -18,8 +18,9 @@ use std::alloc::Global;
 use view_pool::View;
 
 impl<V: View> Strand<V> {
-    /// Does small steps, some or none: those of instances that no kit is asked for, as far as they spawn nothing, read no reducer,
-    /// close no layer, have no fault and take no memory that is refused.
+    /// Does small steps, some or none: those of instances that no kit is asked for, as far as they spawn no instance of a procedure,
+    /// read no reducer, close no layer, have no fault and take no memory that is refused. A loop is halved only where there are no
+    /// records.
     pub fn run_ahead(
         &mut self,
         alloc: Global,

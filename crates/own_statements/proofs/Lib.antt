@@ -2,3 +2,4 @@ pub mod AtOnce
 pub mod Ones
 pub mod Paths
 pub mod Placed
+pub mod Updates

@@ -5,10 +5,11 @@ ghost use Rattle.meaning.specs.Tables.{Tables as TableList};
 ghost use Rattle.linked_program.specs.CodeView.{expression as plain};
 ghost use Rattle.evaluation.specs.Values.{pure, value_at, values_at};
 ghost use Rattle.positions.specs.Advance.{evaluated, combining};
+ghost use Rattle.own_statements.specs.declared.statements.Did.TheVariants.{Nothing, Next};
 ghost use Rattle.own_statements.specs.Paths.{Does, OnNext, IsInBlock, Takes, Combines};
 
 use crate::found::number_at_once;
-use crate::statements::{Did, Here};
+use crate::statements::Here;
 use activations::activation::Activation;
 use activations::setting::Setting;
 use evaluation::slot::Slot;
@@ -30,40 +31,30 @@ pub fn combine_some<V: View>(
     expressions: &[Expression],
     top: &mut Activation,
     numbers: &mut Vec<i64>,
-) -> Did
+) -> bool
     requires room { here.place.index + 1 < 2 ^ 64 }
     requires kinds { layer.old.kinds ≡ setting.program.now.kinds }
     ensures done { Does here.passes_syncs here.place (λ kit. evaluated here.statement
         (values_at setting.entry.tables.now.tables top.old.slots (map plain expressions.now))
         (combining (slice_get setting.entry.program.now.kinds reducer) here.statement here.place reducer))
-        top.old layer.old result top.new layer.new }
-    ensures same_block { OnNext result (IsInBlock top.old top.new) }
+        top.old layer.old (if result then Next else Nothing) top.new layer.new }
+    ensures same_block { OnNext (if result then Next else Nothing) (IsInBlock top.old top.new) }
     ensures kinds { layer.new.kinds ≡ layer.old.kinds }
 {
     match setting.program.kinds().get(reducer) {
         None => combine_evaluated(layer, setting, here, reducer, expressions, top, numbers),
         Some(kind) => match one_number(kind, expressions, top.slots()) {
-            Some(number) => next_if(layer.update_fitting(kind, reducer, &[number]).is_ok()),
+            Some(number) => layer.update_fitting(kind, reducer, &[number]).is_ok(),
             None => match two_numbers(kind, expressions, top.slots()) {
-                Some(pair) => next_if(
-                    layer
-                        .update_fitting(kind, reducer, &[pair.0, pair.1])
-                        .is_ok(),
-                ),
+                Some(pair) => layer
+                    .update_fitting(kind, reducer, &[pair.0, pair.1])
+                    .is_ok(),
                 None => {
                     combine_evaluated(layer, setting, here, reducer, expressions, top, numbers)
                 }
             },
         },
     }
-}
-
-/// All of a statement was done, or nothing.
-#[inline(always)]
-fn next_if(is_done: bool) -> Did
-    ensures next { result ≡ (if is_done then Did.Next else Did.Nothing) }
-{
-    if is_done { Did::Next } else { Did::Nothing }
 }
 
 /// The number of the only expression, if that has one at once, where the kind takes one.
@@ -102,14 +93,14 @@ fn combine_evaluated<V: View>(
     expressions: &[Expression],
     top: &mut Activation,
     numbers: &mut Vec<i64>,
-) -> Did
+) -> bool
     requires room { here.place.index + 1 < 2 ^ 64 }
     requires kinds { layer.old.kinds ≡ setting.program.now.kinds }
     ensures done { Does here.passes_syncs here.place (λ kit. evaluated here.statement
         (values_at setting.entry.tables.now.tables top.old.slots (map plain expressions.now))
         (combining (slice_get setting.entry.program.now.kinds reducer) here.statement here.place reducer))
-        top.old layer.old result top.new layer.new }
-    ensures same_block { OnNext result (IsInBlock top.old top.new) }
+        top.old layer.old (if result then Next else Nothing) top.new layer.new }
+    ensures same_block { OnNext (if result then Next else Nothing) (IsInBlock top.old top.new) }
     ensures kinds { layer.new.kinds ≡ layer.old.kinds }
 {
     let count = expressions.len();
@@ -134,29 +125,29 @@ fn combine_one<V: View>(
     reducer: usize,
     expression: &Expression,
     top: &mut Activation,
-) -> Did
+) -> bool
     requires room { here.place.index + 1 < 2 ^ 64 }
     requires takes { Takes setting.program.now.kinds reducer 1 }
     requires kinds { layer.old.kinds ≡ setting.program.now.kinds }
     ensures done { Does here.passes_syncs here.place (λ kit. evaluated here.statement
         (values_at setting.entry.tables.now.tables top.old.slots (plain expression.now ∷ []))
         (combining (slice_get setting.entry.program.now.kinds reducer) here.statement here.place reducer))
-        top.old layer.old result top.new layer.new }
-    ensures same_block { OnNext result (IsInBlock top.old top.new) }
+        top.old layer.old (if result then Next else Nothing) top.new layer.new }
+    ensures same_block { OnNext (if result then Next else Nothing) (IsInBlock top.old top.new) }
     ensures kinds { layer.new.kinds ≡ layer.old.kinds }
 {
     let before = layer.readings();
     match layer.value(expression, top.slots(), setting.tables) {
         Ok(number) => {
             if combine_fitting(layer, setting.program, reducer, &[number]) {
-                return Did::Next;
+                return true;
             }
             layer.forget(before);
-            Did::Nothing
+            false
         }
         Err(_) => {
             layer.forget(before);
-            Did::Nothing
+            false
         }
     }
 }
@@ -170,29 +161,29 @@ fn combine_two<V: View>(
     first: &Expression,
     second: &Expression,
     top: &mut Activation,
-) -> Did
+) -> bool
     requires room { here.place.index + 1 < 2 ^ 64 }
     requires takes { Takes setting.program.now.kinds reducer 2 }
     requires kinds { layer.old.kinds ≡ setting.program.now.kinds }
     ensures done { Does here.passes_syncs here.place (λ kit. evaluated here.statement
         (values_at setting.entry.tables.now.tables top.old.slots (plain first.now ∷ plain second.now ∷ []))
         (combining (slice_get setting.entry.program.now.kinds reducer) here.statement here.place reducer))
-        top.old layer.old result top.new layer.new }
-    ensures same_block { OnNext result (IsInBlock top.old top.new) }
+        top.old layer.old (if result then Next else Nothing) top.new layer.new }
+    ensures same_block { OnNext (if result then Next else Nothing) (IsInBlock top.old top.new) }
     ensures kinds { layer.new.kinds ≡ layer.old.kinds }
 {
     let before = layer.readings();
     match layer.pair(first, second, top.slots(), setting.tables) {
         Ok(pair) => {
             if combine_fitting(layer, setting.program, reducer, &[pair.0, pair.1]) {
-                return Did::Next;
+                return true;
             }
             layer.forget(before);
-            Did::Nothing
+            false
         }
         Err(_) => {
             layer.forget(before);
-            Did::Nothing
+            false
         }
     }
 }
@@ -206,14 +197,14 @@ fn combine_all<V: View>(
     expressions: &[Expression],
     top: &mut Activation,
     numbers: &mut Vec<i64>,
-) -> Did
+) -> bool
     requires room { here.place.index + 1 < 2 ^ 64 }
     requires kinds { layer.old.kinds ≡ setting.program.now.kinds }
     ensures done { Does here.passes_syncs here.place (λ kit. evaluated here.statement
         (values_at setting.entry.tables.now.tables top.old.slots (map plain expressions.now))
         (combining (slice_get setting.entry.program.now.kinds reducer) here.statement here.place reducer))
-        top.old layer.old result top.new layer.new }
-    ensures same_block { OnNext result (IsInBlock top.old top.new) }
+        top.old layer.old (if result then Next else Nothing) top.new layer.new }
+    ensures same_block { OnNext (if result then Next else Nothing) (IsInBlock top.old top.new) }
     ensures kinds { layer.new.kinds ≡ layer.old.kinds }
 {
     let before = layer.readings();
@@ -222,13 +213,13 @@ fn combine_all<V: View>(
         .is_err()
     {
         layer.forget(before);
-        return Did::Nothing;
+        return false;
     }
     if combine(layer, setting.program, reducer, numbers) {
-        return Did::Next;
+        return true;
     }
     layer.forget(before);
-    Did::Nothing
+    false
 }
 
 /// Combines the element that the numbers name on the right of a reducer's value; false where they name none, or memory is

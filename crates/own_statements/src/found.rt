@@ -1,7 +1,7 @@
 //! Values of expressions that are found at once, with nothing to note for them.
 ghost use Rattle.std.specs.Prelude.{◌≡◌, IfSome, Ok, Some, slice_get};
 ghost use Rattle.meaning.specs.Tables.{Tables as TableList};
-ghost use Rattle.linked_program.specs.CodeView.{expression as plain};
+ghost use Rattle.linked_program.specs.CodeView.{expression as plain, on_row as row_of};
 ghost use Rattle.evaluation.specs.declared.slot.Slot.TheVariants.{Has};
 ghost use Rattle.evaluation.specs.Values.{pure, value_at};
 ghost use Rattle.own_statements.specs.Fills.{Fills};
@@ -11,7 +11,8 @@ use evaluation::unnoted;
 use evaluation::values::number_in;
 use input_tables::Tables;
 use layers::layer::Layer;
-use linked_program::code::Expression;
+use linked_program::code::{Expression, RowCells};
+use meaning::tree::Operator;
 use view_pool::View;
 
 /// The value of a number, or of a slot that has one, which reads nothing; none of any other expression.
@@ -52,10 +53,32 @@ pub fn value_at_once<V: View>(
 ) -> Option<i64>
     ensures value { IfSome result (λ v. Fills (value_at tables.now.tables slots.now (plain expression.now)) v layer.now layer.now) }
 {
+    if let Expression::OnRow(operator, cells) = expression {
+        return on_row(layer, *operator, cells, slots, tables);
+    }
     match computed(expression, slots, tables) {
         Some(value) => Some(value),
         None => found(layer, expression, slots, tables),
     }
+}
+
+/// The value of an operator on two cells of one row over a layer that keeps no readings, where the row is found at once. It calls
+/// nothing that is compiled by itself, so the other forms save no register for it.
+#[inline(always)]
+#[tactic(auto, using(crate::proofs::AtOnce::unkept_fills))]
+fn on_row<V: View>(
+    layer: &Layer<V>,
+    operator: Operator,
+    cells: &RowCells,
+    slots: &[Slot],
+    tables: &Tables,
+) -> Option<i64>
+    ensures value { IfSome result (λ v. Fills (value_at tables.now.tables slots.now (row_of operator cells.now)) v layer.now layer.now) }
+{
+    if layer.keeps {
+        return None;
+    }
+    unnoted::row_at_once(operator, cells, slots, tables)
 }
 
 /// The same value; that of a number, or of a slot that has one, without a call.

@@ -7,13 +7,14 @@ ghost use Rattle.activations.specs.Given.{lent};
 ghost use Rattle.own_statements.specs.Paths.{ComesTo};
 ghost use Rattle.own_statements.specs.Runs.{RunsTo, IsBlock, IsBody};
 
+use crate::combining::combine_some;
 use crate::ran::Ran;
-use crate::statements::{Did, perform_alone};
+use crate::statements::{Did, Here, perform_alone};
 use activations::activation::{Activation, FIRST};
 use activations::code::instructions;
 use activations::setting::Setting;
 use layers::layer::{DEEPEST, Layer};
-use linked_program::code::Instruction;
+use linked_program::code::{Instruction, Operation};
 use positions::work::{Position, Work};
 use view_pool::View;
 
@@ -123,6 +124,7 @@ fn first(place: Position, statements: &[Instruction]) -> (Position, &[Instructio
 }
 
 /// The statements from that place on, as far as the block's end or to one that leads elsewhere.
+/// Updates call a view, so they stand apart: the machine code tests a flag behind each call that may come to one.
 #[inline(always)]
 fn run_block<'a, V: View>(
     layer: &mut Layer<V>,
@@ -142,15 +144,22 @@ fn run_block<'a, V: View>(
     let mut index = place.index;
     while index < statements.len() {
         let place = Position { block, index };
-        match perform_alone(
-            layer,
-            setting,
-            passes_syncs,
-            place,
-            &statements[index],
-            top,
-            numbers,
-        ) {
+        let statement = &statements[index];
+        if let Operation::Update(reducer, values) = &statement.operation {
+            let here = Here {
+                statement: statement.number,
+                place,
+                passes_syncs,
+            };
+            let values = values.as_slice();
+            if !combine_some(layer, setting, here, *reducer, values, top, numbers) {
+                top.stand(place);
+                return Ran::Stopped;
+            }
+            index += 1;
+            continue;
+        }
+        match perform_alone(layer, setting, passes_syncs, place, statement, top) {
             Did::Next => index += 1,
             Did::Moved => return standing(setting, top),
             Did::Nothing => {

@@ -7,7 +7,6 @@ ghost use Rattle.positions.specs.Advance.{evaluated, binding, choosing, giving, 
 ghost use Rattle.activations.specs.Given.{lent};
 ghost use Rattle.own_statements.specs.Paths.{Does, OnNext, IsInBlock};
 
-use crate::combining::combine_some;
 use crate::found::{given_at_once, value_at_once};
 use activations::activation::Activation;
 use activations::setting::Setting;
@@ -36,7 +35,7 @@ pub struct Here {
     pub passes_syncs: bool,
 }
 
-/// One statement. Where the next one of the block is next, what the instance has left is not noted.
+/// One statement that is no update of a reducer. Where the next one of the block is next, what the instance has left is not noted.
 #[inline(always)]
 pub fn perform_alone<V: View>(
     layer: &mut Layer<V>,
@@ -45,7 +44,6 @@ pub fn perform_alone<V: View>(
     place: Position,
     instruction: &Instruction,
     top: &mut Activation,
-    numbers: &mut Vec<i64>,
 ) -> Did
     requires room { place.index + 1 < 2 ^ 64 }
     requires kinds { layer.old.kinds ≡ setting.program.now.kinds }
@@ -61,10 +59,6 @@ pub fn perform_alone<V: View>(
     };
     match &instruction.operation {
         Operation::Bind(name, value) => { bind(layer, setting.tables, here, *name, value, top) }
-        Operation::Update(reducer, values) => {
-            let values = values.as_slice();
-            combine_some(layer, setting, here, *reducer, values, top, numbers)
-        }
         Operation::If(condition, first, second) => {
             choose(layer, setting.tables, here, condition, *first, *second, top)
         }

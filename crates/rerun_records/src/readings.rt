@@ -62,6 +62,7 @@ impl Model for Readings {
 
 impl Readings {
     /// An instance's own readings, then those of the parts. Nothing keeps spare room.
+    #[inline(always)]
     pub fn new(
         alloc: Global,
         mut own: ShortList<Reading>,

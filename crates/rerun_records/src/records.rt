@@ -501,6 +501,7 @@ fn first_moment(record: &Record, tables: &Tables) -> u32
 }
 
 // The record of the procedure of that number with these arguments, to which that number is given, and its place.
+#[inline(always)]
 fn found_in<'a>(
     list: &'a [Record],
     places: &Places,

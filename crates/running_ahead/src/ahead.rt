@@ -1,4 +1,4 @@
-//! Many small steps in one go: those for which no kit is needed, and which spawn nothing.
+//! Many small steps in one go: those for which no kit is needed, and which spawn no instance of a procedure.
 ghost use Rattle.std.specs.Prelude.{◌≡◌, ◌+◌, ◌<◌, ◌^◌, ◌++◌, ◌∷◌, [], ℕ, true, false, length, map, vec_len, vec_capacity};
 ghost use Rattle.meaning.specs.declared.tree.Way.TheVariants.{Call};
 ghost use Rattle.linked_program.specs.CodeView.{expression as plain, slots_of};
@@ -14,19 +14,20 @@ ghost use Rattle.small_steps.specs.Steps.{nested_plain};
 ghost use Rattle.running_ahead.specs.Ahead.{IsAhead, GoesAhead, GoesAheadBy, CameBy};
 
 use crate::came::Came;
+use crate::halves::{halves_ahead, second_ahead};
 use crate::turns::turns;
 use activations::activation::{Activation, next_of};
-use activations::code::{instruction, instructions};
+use activations::code::{instruction, instructions, loop_code};
 use activations::setting::Setting;
 use activations::spares::Spares;
 use layers::layer::DEEPEST;
 use linked_program::code::{Expression, Instruction, Operation};
+use meaning::tree::Way;
 use own_statements::filling::fills;
 use own_statements::runs::{call, run};
 use positions::phase::Phase;
 use positions::start::Start;
 use positions::work::{Loop, Position, Share, Work};
-use meaning::tree::Way;
 use small_steps::machine::Machine;
 use std::alloc::Global;
 use std::mem;
@@ -68,8 +69,13 @@ fn go_ahead<V: View>(machine: &mut Machine<V>, alloc: Global, setting: Setting<'
         Phase::Entering => enter_alone(machine, setting),
         Phase::Running => match machine.top.work() {
             Work::Block(_) | Work::Over => block_ahead(machine, alloc, setting),
-            Work::Turns(site, share) => turns_ahead(machine, alloc, setting, site, share),
-            _ => false,
+            Work::Turns(site, share) => loop_ahead(machine, alloc, setting, site, share),
+            Work::Halves(site, halvings, share) => {
+                halves_ahead(machine, alloc, setting, site, halvings, share)
+            }
+            Work::Second(site, halvings, share) => {
+                second_ahead(machine, alloc, setting, site, halvings, share)
+            }
         },
         Phase::Returning(value) => sync_ahead(machine, value),
         Phase::Leaving(value) => leave_ahead(machine, value),
@@ -349,6 +355,35 @@ fn child_ahead<V: View>(
             Came::Stays
         }
     }
+}
+
+/// Whether the iterations of the topmost instance's loop are of a procedure that is marked memo.
+#[inline(always)]
+fn is_of_memo<V: View>(machine: &Machine<V>, setting: Setting<'_>, site: Loop) -> bool {
+    let code = loop_code(setting.program, machine.top.procedure(), site);
+    setting.program.is_memo(code.callee)
+}
+
+/// What a loop has left one by one. It looks first whether its procedure is marked memo, since then each iteration comes back here.
+#[inline(always)]
+#[tactic(auto, using(crate::proofs::Paths::ahead_here))]
+fn loop_ahead<V: View>(
+    machine: &mut Machine<V>,
+    alloc: Global,
+    setting: Setting<'_>,
+    site: Loop,
+    share: Share,
+) -> bool
+    requires fits { ShareFits site share }
+    requires there { machine.old.top.work ≡ Work.Turns site share }
+    requires kinds { machine.old.layer.kinds ≡ setting.program.now.kinds }
+    requires running { machine.old.phase ≡ Phase.Running }
+    ensures ahead { IsAhead (lent setting.entry) machine.old machine.new }
+{
+    if share.count > 0 && is_of_memo(machine, setting, site) {
+        return false;
+    }
+    turns_ahead(machine, alloc, setting, site, share)
 }
 
 /// Does the iterations that a loop has left, where their procedure isn't marked memo and each goes back by itself; or ends the

@@ -3,4 +3,5 @@
 
 pub mod ahead;
 pub mod came;
+mod halves;
 pub mod turns;

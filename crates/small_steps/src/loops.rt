@@ -22,9 +22,9 @@ use evaluation::stop::Stop;
 use input_tables::Tables;
 use linked_program::checked::Checked;
 use linked_program::code::Expression;
+use meaning::tree::Way;
 use positions::phase::Phase;
 use positions::work::{Loop, Position, Share, Work};
-use meaning::tree::Way;
 use std::alloc::{AllocError, Global};
 use std::mem;
 use view_pool::{Kit, KitSource, View};
@@ -105,7 +105,7 @@ impl<V: View> Machine<V> {
     }
 
     /// Spawns the first half of the iterations, or goes over to iterations one by one.
-    pub(crate) fn halve(
+    pub fn halve(
         &mut self,
         alloc: Global,
         program: &Checked,
@@ -149,7 +149,7 @@ impl<V: View> Machine<V> {
     }
 
     /// Calls the second half of the iterations. The instance gives its slots away.
-    pub(crate) fn second_half(
+    pub fn second_half(
         &mut self,
         alloc: Global,
         site: Loop,

@@ -146,6 +146,7 @@ impl<V: View> Machine<V> {
     }
 
     /// Begins the topmost instance in a layer of its own. Where memory is refused the kit is handed back.
+    #[inline(always)]
     fn open(
         &mut self,
         alloc: Global,
@@ -172,8 +173,8 @@ impl<V: View> Machine<V> {
         if self.tally.open(opened).is_err() {
             return Err((AllocError, layer.close()));
         }
-        let outer = mem::replace(&mut self.layer, layer);
-        self.lower.push_reserved(outer);
+        self.lower
+            .push_reserved(mem::replace(&mut self.layer, layer));
         self.begin();
         Ok(())
     }

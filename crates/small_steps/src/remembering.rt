@@ -14,9 +14,9 @@ use activations::setting::Setting;
 use evaluation::slot::Slot;
 use linked_program::code::Expression;
 use meaning::FaultKind;
+use meaning::tree::Way;
 use positions::phase::Phase;
 use positions::work::Work;
-use meaning::tree::Way;
 use std::alloc::{AllocError, Global};
 use std::mem;
 use view_pool::{Kit, KitSource, View};
@@ -33,6 +33,7 @@ pub(crate) struct Entrance {
 }
 
 /// The slots of an instance of so many names that is entered with these values, in that empty list.
+#[inline(always)]
 fn slots_with(room: Vec<Slot>, size: usize, values: &[i64]) -> Result<Vec<Slot>, AllocError>
     requires empty { room.items ≡ [] }
     ensures slots { IfOk result (λ v. v.items ≡ slots_for size values.now) }
@@ -145,6 +146,7 @@ impl<V: View> Machine<V> {
     }
 
     /// Enters an instance of a memo procedure, whose arguments are kept, with those slots; or too deep.
+    #[inline(always)]
     fn nest_remembered<K: KitSource<Kit<V>>>(
         &mut self,
         alloc: Global,
@@ -178,6 +180,7 @@ impl<V: View> Machine<V> {
     }
 
     /// Calls a memo child: a record answers it, or it begins.
+    #[inline(always)]
     fn call_memo<K: KitSource<Kit<V>>>(
         &mut self,
         alloc: Global,

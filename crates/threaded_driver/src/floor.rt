@@ -25,11 +25,11 @@ use crate::desk::{Desk, Parts};
 use crate::found::Found;
 use crate::gate::{Gate, Point};
 use crossbeam_utils::CachePadded;
-use positions::answer::RunAnswer;
 use input_tables::Tables;
 use linked_program::checked::Checked;
 use numbered_runs::refusal::StartError;
 use numbered_runs::step::BookStep;
+use positions::answer::RunAnswer;
 use positions::phase::{Paused, Phase};
 use rerun_records::record::Record;
 use rerun_records::records::Records;
@@ -174,7 +174,9 @@ impl<J: Run + Ledger + Stocked + Send, D: Deques, V: View> Floor<'_, J, D, V> {
         self.lay(rt, number, seat, strand, supply, gate);
     }
 
-    /// Small steps, and what there is to do where the strand pauses. Whether the strand goes on.
+    /// Small steps, and what there is to do where the strand pauses. Whether the strand goes on. It stands in its callers' loops, which
+    /// then find the strand's parts once and not at each pause.
+    #[inline(always)]
     pub(crate) fn step<R: Wait, G: Gate>(
         &self,
         rt: &R,
@@ -199,6 +201,7 @@ impl<J: Run + Ledger + Stocked + Send, D: Deques, V: View> Floor<'_, J, D, V> {
 
     /// Small steps until the strand pauses, or as many as are done in one go, which leave its lowest instance as it is. Want of memory
     /// is the only error.
+    #[inline(always)]
     fn take_steps<R: Wait, G: Gate>(
         &self,
         number: usize,
@@ -345,6 +348,7 @@ impl<J: Run + Ledger + Stocked + Send, D: Deques, V: View> Floor<'_, J, D, V> {
 
     /// The newest continuation in the worker's deque, which waits for the child at its spot; none once all that was pushed was
     /// taken. The lock is taken only where a pop has missed, to count.
+    #[inline(always)]
     fn take<R: Wait>(&self, rt: &R, seat: &mut Seat<J, D>) -> Option<Box<RightTask<J>>>
         ensures waits { IfSome result (λ t. seat.old.here ≡ Some (child_spot t.value)) }
         ensures popped { IfSome result (λ t. seat.new.here ≡ Some (own_spot t.value)) }

@@ -24,9 +24,9 @@ returns-in-Some-one_number-clause-done g c =
     let updated : OnOk c.update_fitting.result (c.update_fitting.new.self ≡ updating r kind (v ∷ []) c.args.layer.now) = search rules in
     let named : OnOk c.update_fitting.result (names_element kind (v ∷ []) ≡ true) = search rules in
     does_at_once c.args.here.passes_syncs c.args.here.place c.args.here.statement r kind (v ∷ []) c.args.top.now c.args.layer.now c.update_fitting.new.self
-    c.update_fitting.result c.next_if.result (values_at ts slots es) (slice_get c.args.setting.program.now.kinds r) is
+    c.update_fitting.result (if c.is_ok.result then Next else Nothing) (values_at ts slots es) (slice_get c.args.setting.program.now.kinds r) is
     (ap (λ (xs : List Slot). values_at ts xs es) (sym c.slots.ensures.slots) ∙ c.in-Some-one_number.ensures.value ts)
-    (c.next_if.ensures.next ∙ ap (λ (b : Bool). if b then Next else Nothing) c.is_ok.ensures.value)
+    (ap (λ (b : Bool). if b then Next else Nothing) c.is_ok.ensures.value)
     updated named c.update_fitting.ensures.unchanged
 
 pub returns-in-Some-two_numbers-clause-done : goal.returns-in-Some-two_numbers-clause-done
@@ -43,7 +43,7 @@ returns-in-Some-two_numbers-clause-done g c =
     let updated : OnOk c.update_fitting-in-Some-two_numbers.result (c.update_fitting-in-Some-two_numbers.new.self ≡ updating r kind (pair.0 ∷ pair.1 ∷ []) c.args.layer.now) = search rules in
     let named : OnOk c.update_fitting-in-Some-two_numbers.result (names_element kind (pair.0 ∷ pair.1 ∷ []) ≡ true) = search rules in
     does_at_once c.args.here.passes_syncs c.args.here.place c.args.here.statement r kind (pair.0 ∷ pair.1 ∷ []) c.args.top.now c.args.layer.now c.update_fitting-in-Some-two_numbers.new.self
-    c.update_fitting-in-Some-two_numbers.result c.next_if-in-Some-two_numbers.result (values_at ts slots es) (slice_get c.args.setting.program.now.kinds r) is
+    c.update_fitting-in-Some-two_numbers.result (if c.is_ok-in-Some-two_numbers.result then Next else Nothing) (values_at ts slots es) (slice_get c.args.setting.program.now.kinds r) is
     (ap (λ (xs : List Slot). values_at ts xs es) (sym c.slots-in-None-one_number.ensures.slots) ∙ c.in-Some-two_numbers.ensures.value ts)
-    (c.next_if-in-Some-two_numbers.ensures.next ∙ ap (λ (b : Bool). if b then Next else Nothing) c.is_ok-in-Some-two_numbers.ensures.value)
+    (ap (λ (b : Bool). if b then Next else Nothing) c.is_ok-in-Some-two_numbers.ensures.value)
     updated named c.update_fitting-in-Some-two_numbers.ensures.unchanged

@@ -1,12 +1,17 @@
-use Rattle.std.proofs.Common.{rules, ◌≡◌, ◌∙◌, ◌<◌, ◌≤◌, ℤ, Some, None, length, refl, sym, subst, to_z, of_z, w64}
+use Rattle.std.proofs.Common.{rules, ◌≡◌, ◌∙◌, ◌<◌, ◌≤◌, ℤ, Bool, true, false, if◌then◌else◌, Some, None, length, map, refl, sym, slice_get, subst, to_z, of_z, w64}
 use Rattle.std.proofs.lemmas.Option.{slice_get_read, slice_get_past}
 use Rattle.positions.specs.declared.work.Position.{Position}
 use Rattle.positions.specs.declared.work.Work.TheVariants.{Block}
 use Rattle.positions.specs.Activations.{PlainActivation, at}
 use Rattle.positions.specs.Code.{instruction_inside}
+use Rattle.linked_program.specs.CodeView.{expression}
+use Rattle.evaluation.specs.Values.{values_at}
+use Rattle.positions.specs.Advance.{evaluated, combining}
 use Rattle.activations.specs.Given.{lent}
-use Rattle.own_statements.specs.Paths.{here, ComesTo}
+use Rattle.own_statements.specs.declared.statements.Did.TheVariants.{Nothing, Next}
+use Rattle.own_statements.specs.Paths.{here, ComesTo, Does, OnNext, IsInBlock}
 use Rattle.own_statements.proofs.Paths.{run_join, come_next, come_moved, come_gave, come_none, come_out, found_as}
+use Rattle.own_statements.proofs.Updates.{does_update}
 use Rattle.own_statements.proofs.runs.run_block.Goals as goal
 
 pub loop-index-init : goal.loop-index-init
@@ -30,6 +35,60 @@ loop-index-preserved g c =
       same = (c.in-Next.ensures.same_block.0 ∙ c.loop-index.invariant.same.0, c.in-Next.ensures.same_block.1 ∙ c.loop-index.invariant.same.1);
       come = come_next S c.args.passes_syncs a c.args.layer.now p b c.loop-index.layer c.loop-index.invariant.come i found c.perform_alone.new.top c.perform_alone.new.layer c.in-Next.ensures.done;
     }
+
+pub loop-index-preserved-in-Update : goal.loop-index-preserved-in-Update
+loop-index-preserved-in-Update g c =
+    let S = lent c.args.setting in
+    let a = at (Block c.args.place) c.args.top.now in
+    let xs = c.args.statements.now in
+    let index = c.loop-index.index in
+    let i = c.index-statements-index.result in
+    let p : Position = record { block = c.args.place.block; index = index } in
+    let b = c.loop-index.top in
+    let there : index < length xs = search rules in
+    let found : Some i ≡ instruction_inside S.codes b.procedure (length b.outer) p =
+    sym (slice_get_read xs (length xs) index i refl there c.index-statements-index.is) ∙ c.requires.block index
+    ∙ found_as S.codes c.args.top.now b p c.loop-index.invariant.same.0 c.loop-index.invariant.same.1 in
+    let t = c.combine_some.result in
+    let did : t ≡ true = search rules in
+    let es : c.as_slice-values.result.now ≡ c.in-Update.values.items = search rules in
+    let r = c.in-Update.reducer in
+    let m = c.combine_some.new.top in
+    let n = c.combine_some.new.layer in
+    let done : Does c.args.passes_syncs p (λ kit. evaluated i.number (values_at S.tables b.slots (map expression c.as_slice-values.result.now)) (combining (slice_get S.kinds r) i.number p r)) b c.loop-index.layer Next m n =
+    subst (λ (u : Bool). Does c.args.passes_syncs p (λ kit. evaluated i.number (values_at S.tables b.slots (map expression c.as_slice-values.result.now)) (combining (slice_get S.kinds r) i.number p r)) b c.loop-index.layer (if u then Next else Nothing) m n) did c.combine_some.ensures.done in
+    let same : IsInBlock b m = subst (λ (u : Bool). OnNext (if u then Next else Nothing) (IsInBlock b m)) did c.combine_some.ensures.same_block in
+    record {
+      kinds = c.combine_some.ensures.kinds ∙ c.loop-index.invariant.kinds;
+      same = (same.0 ∙ c.loop-index.invariant.same.0, same.1 ∙ c.loop-index.invariant.same.1);
+      come = come_next S c.args.passes_syncs a c.args.layer.now p b c.loop-index.layer c.loop-index.invariant.come i found m n
+          (does_update S c.args.passes_syncs p i.number r c.in-Update.values c.as_slice-values.result.now i.operation b c.loop-index.layer Next m n c.in-Update.is es done);
+    }
+
+pub returns-then-not-combine_some-clause-ran : goal.returns-then-not-combine_some-clause-ran
+returns-then-not-combine_some-clause-ran g c =
+    let S = lent c.args.setting in
+    let a = at (Block c.args.place) c.args.top.now in
+    let xs = c.args.statements.now in
+    let index = c.loop-index.index in
+    let i = c.index-statements-index.result in
+    let p : Position = record { block = c.args.place.block; index = index } in
+    let b = c.loop-index.top in
+    let there : index < length xs = search rules in
+    let found : Some i ≡ instruction_inside S.codes b.procedure (length b.outer) p =
+    sym (slice_get_read xs (length xs) index i refl there c.index-statements-index.is) ∙ c.requires.block index
+    ∙ found_as S.codes c.args.top.now b p c.loop-index.invariant.same.0 c.loop-index.invariant.same.1 in
+    let t = c.combine_some.result in
+    let did : t ≡ false = search rules in
+    let es : c.as_slice-values.result.now ≡ c.in-Update.values.items = search rules in
+    let r = c.in-Update.reducer in
+    let m = c.combine_some.new.top in
+    let n = c.combine_some.new.layer in
+    let done : Does c.args.passes_syncs p (λ kit. evaluated i.number (values_at S.tables b.slots (map expression c.as_slice-values.result.now)) (combining (slice_get S.kinds r) i.number p r)) b c.loop-index.layer Nothing m n =
+    subst (λ (u : Bool). Does c.args.passes_syncs p (λ kit. evaluated i.number (values_at S.tables b.slots (map expression c.as_slice-values.result.now)) (combining (slice_get S.kinds r) i.number p r)) b c.loop-index.layer (if u then Next else Nothing) m n) did c.combine_some.ensures.done in
+    subst (λ (y : PlainActivation). ComesTo S c.args.passes_syncs a c.args.layer.now None y n) (sym c.stand.ensures.stands)
+    (come_none S c.args.passes_syncs a c.args.layer.now p b c.loop-index.layer c.loop-index.invariant.come i found m n
+    (does_update S c.args.passes_syncs p i.number r c.in-Update.values c.as_slice-values.result.now i.operation b c.loop-index.layer Nothing m n c.in-Update.is es done))
 
 pub returns-in-Moved-clause-ran : goal.returns-in-Moved-clause-ran
 returns-in-Moved-clause-ran g c =
@@ -61,7 +120,7 @@ returns-in-Nothing-clause-ran g c =
     let found : Some i ≡ instruction_inside S.codes b.procedure (length b.outer) p =
     sym (slice_get_read xs (length xs) index i refl there c.index-statements-index.is) ∙ c.requires.block index
     ∙ found_as S.codes c.args.top.now b p c.loop-index.invariant.same.0 c.loop-index.invariant.same.1 in
-    subst (λ (y : PlainActivation). ComesTo S c.args.passes_syncs a c.args.layer.now None y c.perform_alone.new.layer) (sym c.stand.ensures.stands)
+    subst (λ (y : PlainActivation). ComesTo S c.args.passes_syncs a c.args.layer.now None y c.perform_alone.new.layer) (sym c.stand-in-Nothing.ensures.stands)
     (come_none S c.args.passes_syncs a c.args.layer.now p b c.loop-index.layer c.loop-index.invariant.come i found c.perform_alone.new.top c.perform_alone.new.layer c.in-Nothing.ensures.done)
 
 pub returns-in-Gave-clause-ran : goal.returns-in-Gave-clause-ran

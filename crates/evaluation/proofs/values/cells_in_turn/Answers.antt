@@ -5,7 +5,7 @@ use Rattle.input_tables.specs.Edited.{cell_at}
 use Rattle.evaluation.specs.Slots.{number_in}
 use Rattle.evaluation.specs.Values.{looked}
 use Rattle.evaluation.proofs.Rows.{both_end}
-use Rattle.evaluation.proofs.values.two_cells.Goals as goal
+use Rattle.evaluation.proofs.values.cells_in_turn.Goals as goal
 
 pub returns-in-Ok-cell : goal.returns-in-Ok-cell
 returns-in-Ok-cell c =
