@@ -18,7 +18,7 @@ use Rattle.positions.specs.Strands.{PlainStrand}
 use Rattle.positions.specs.Advance.{in_phase, giving, with_top, split, left_of, right_of, turn_by, worked, closed, owns_top}
 use Rattle.positions.specs.Moves.{inlined}
 use Rattle.answered_loops.specs.Ways.{IsNext, IsWay, here, on, as_call}
-use Rattle.answered_loops.specs.Answered.{IsOfMemo, IsAnswer, AreAnswers, iteration_depth, absorbed, answered_more, behind_turns, turned_to, halved_to, is_by_turns, ended_by, ended, HasAnswers, with_answers, standing, half_answered, turns_answered, IsInside}
+use Rattle.answered_loops.specs.Answered.{IsOfMemo, IsAnswer, AreAnswers, iteration_depth, absorbed, answered_more, behind_turns, turned_to, halved_to, is_by_turns, ended_by, ended, HasAnswers, with_answers, with_work, half_answered, turns_answered, IsInside}
 use Rattle.answered_loops.proofs.Ways.{way_join}
 use Rattle.answered_loops.proofs.Turns.{path_back, turns_way}
 
@@ -81,7 +81,7 @@ module _ (setting : Setting) (l : Loop) where
   -- such halves that may be halved so many times are answered
   abbrev pub IsAnswered : ℕ → Type 0
   IsAnswered k = (h : Share) (a : PlainActivation) (s : PlainStrand) (rs : List PlainRecord) → IsInside s → IsOfMemo setting (loop_at setting.codes a.procedure l) a.left → length rs ≡ h.count → AreAnswers setting (loop_at setting.codes a.procedure l) a.slots a.left l.low h.first rs
-      → IsWay setting (standing (Halves l k h) a s) (leaves_with (iteration_depth a) rs (ended setting.codes l k h a) s)
+      → IsWay setting (with_work (Halves l k h) a s) (leaves_with (iteration_depth a) rs (ended setting.codes l k h a) s)
 
   -- the implicit sync
   syncs : (v : ℤ) (s : PlainStrand) → IsInside s → IsNext setting (in_phase (Returning v) s) (in_phase (Leaving v) s)
@@ -93,7 +93,7 @@ module _ (setting : Setting) (l : Loop) where
   module _ (k : ℕ) (h : Share) (a : PlainActivation) (s : PlainStrand) (rs : List PlainRecord) (inside : IsInside s) (is : IsOfMemo setting (loop_at setting.codes a.procedure l) a.left) (all : length rs ≡ h.count)
       (answers : AreAnswers setting (loop_at setting.codes a.procedure l) a.slots a.left l.low h.first rs) where
     abbrev here_now : PlainStrand
-    here_now = standing (Halves l k h) a s
+    here_now = with_work (Halves l k h) a s
 
     abbrev d : ℕ
     d = iteration_depth a
@@ -104,7 +104,7 @@ module _ (setting : Setting) (l : Loop) where
     -- one by one
     one_by_one : is_by_turns setting.codes a l k h.count ≡ true → IsWay setting here_now (leaves_with d rs (ended setting.codes l k h a) s)
     one_by_one e =
-        let begin = standing (Turns l h) a s in
+        let begin = with_work (Turns l h) a s in
         let to : IsNext setting here_now begin = λ kit. sym (ap goes_by e) in
         let b = turned_to (length rs) l h a in
         let done = record (with_answers d rs s) { top = b; phase = Running } in
@@ -122,7 +122,7 @@ module _ (setting : Setting) (l : Loop) where
   module _ (k : ℕ) (again : IsAnswered k) (h : Share) (a : PlainActivation) (s : PlainStrand) (rs : List PlainRecord) (inside : IsInside s) (is : IsOfMemo setting (loop_at setting.codes a.procedure l) a.left) (all : length rs ≡ h.count)
       (answers : AreAnswers setting (loop_at setting.codes a.procedure l) a.slots a.left l.low h.first rs) where
     abbrev whole_now : PlainStrand
-    whole_now = standing (Halves l (suc k) h) a s
+    whole_now = with_work (Halves l (suc k) h) a s
 
     abbrev depth : ℕ
     depth = iteration_depth a
@@ -159,22 +159,22 @@ module _ (setting : Setting) (l : Loop) where
     spawned = split l k h whole_now
 
     abbrev at_first : PlainStrand
-    at_first = standing (Halves l k (left_of h)) (child_of_half (left_of h)) beside_first
+    at_first = with_work (Halves l k (left_of h)) (child_of_half (left_of h)) beside_first
 
     abbrev at_second : PlainStrand
-    at_second = standing (Halves l k (right_of h)) (child_of_half (right_of h)) beside_second
+    at_second = with_work (Halves l k (right_of h)) (child_of_half (right_of h)) beside_second
 
     abbrev first_leaves : PlainStrand
     first_leaves = leaves_with depth xs (ended setting.codes l k (left_of h) (child_of_half (left_of h))) beside_first
 
     abbrev between : PlainStrand
-    between = standing (Second l k (right_of h)) under_first first_done
+    between = with_work (Second l k (right_of h)) under_first first_done
 
     abbrev second_leaves : PlainStrand
     second_leaves = leaves_with depth ys (ended setting.codes l k (right_of h) (child_of_half (right_of h))) beside_second
 
     abbrev behind : PlainStrand
-    behind = standing Over under_second both_done
+    behind = with_work Over under_second both_done
 
     spawns : is_by_turns setting.codes a l (suc k) h.count ≡ false → IsNext setting whole_now spawned
     spawns e kit =
@@ -222,7 +222,7 @@ module _ (setting : Setting) (l : Loop) where
 
   half_by : (b : Bool) (k : ℕ) → IsAnswered k → (h : Share) (a : PlainActivation) (s : PlainStrand) (rs : List PlainRecord) → IsInside s → IsOfMemo setting (loop_at setting.codes a.procedure l) a.left → length rs ≡ h.count
       → AreAnswers setting (loop_at setting.codes a.procedure l) a.slots a.left l.low h.first rs → is_by_turns setting.codes a l (suc k) h.count ≡ b
-      → IsWay setting (standing (Halves l (suc k) h) a s) (leaves_with (iteration_depth a) rs (ended setting.codes l (suc k) h a) s)
+      → IsWay setting (with_work (Halves l (suc k) h) a s) (leaves_with (iteration_depth a) rs (ended setting.codes l (suc k) h a) s)
   half_by true k again h a s rs inside is all answers e = one_by_one (suc k) h a s rs inside is all answers e
   half_by false k again h a s rs inside is all answers e = by_halves k again h a s rs inside is all answers e
 
@@ -233,15 +233,15 @@ module _ (setting : Setting) (l : Loop) where
 -- ---- of a strand as it stands
 
 module _ (setting : Setting) where
-  stands : (l : Loop) (w : Work) (s : PlainStrand) → s.phase ≡ Running → s.top.work ≡ w → standing w s.top s ≡ s
-  stands l w s running there = ap (λ v. record s { top = at v s.top; phase = Running }) (sym there) ∙ ap (λ p. record s { phase = p }) (sym running)
+  is_with_work : (l : Loop) (w : Work) (s : PlainStrand) → s.phase ≡ Running → s.top.work ≡ w → with_work w s.top s ≡ s
+  is_with_work l w s running there = ap (λ v. record s { top = at v s.top; phase = Running }) (sym there) ∙ ap (λ p. record s { phase = p }) (sym running)
 
   pub half_answers : (s : PlainStrand) (l : Loop) (k : ℕ) (h : Share) (rs : List PlainRecord) → s.phase ≡ Running → s.top.work ≡ Halves l k h → IsInside s → length rs ≡ h.count → HasAnswers setting l s.top h.first rs
       → IsWay setting s (half_answered setting.codes l k h rs s)
   half_answers s l k h rs running there inside all has =
-      subst (λ (x : PlainStrand). IsWay setting x (half_answered setting.codes l k h rs s)) (stands l (Halves l k h) s running there) (half_way setting l k h s.top s rs inside has.of_memo all has.answers)
+      subst (λ (x : PlainStrand). IsWay setting x (half_answered setting.codes l k h rs s)) (is_with_work l (Halves l k h) s running there) (half_way setting l k h s.top s rs inside has.of_memo all has.answers)
 
   pub turns_answer : (s : PlainStrand) (l : Loop) (h : Share) (rs : List PlainRecord) → s.phase ≡ Running → s.top.work ≡ Turns l h → length rs ≤ h.count → HasAnswers setting l s.top h.first rs
       → IsWay setting s (turns_answered l h rs s)
   turns_answer s l h rs running there fits has =
-      subst (λ (x : PlainStrand). IsWay setting x (turns_answered l h rs s)) (stands l (Turns l h) s running there) (turns_way setting l rs h s.top s has.of_memo fits has.answers)
+      subst (λ (x : PlainStrand). IsWay setting x (turns_answered l h rs s)) (is_with_work l (Turns l h) s running there) (turns_way setting l rs h s.top s has.of_memo fits has.answers)

@@ -23,7 +23,7 @@ use Rattle.positions.specs.Tallies.{answering}
 use Rattle.positions.specs.Strands.{PlainStrand, shorter}
 use Rattle.positions.specs.Advance.{faulted, evaluated, recalled, started_as, pushed, child_of, with_arguments, entered, nested_memo, called_as, giving, turn_slots, turn_by, rest_of, reused}
 use Rattle.answered_loops.specs.Ways.{IsNext, IsWay, here, on}
-use Rattle.answered_loops.specs.Answered.{IsOfMemo, IsAnswer, AreAnswers, iteration_depth, turned_to, with_answers, standing}
+use Rattle.answered_loops.specs.Answered.{IsOfMemo, IsAnswer, AreAnswers, iteration_depth, turned_to, with_answers, with_work}
 use Rattle.answered_loops.proofs.Ways.{way_join}
 
 pub path_back : (xs : List ℕ) (x : ℕ) → shorter (xs ++ x ∷ []) ≡ xs
@@ -63,7 +63,7 @@ module _ (setting : Setting) (l : Loop) where
   module _ (h : Share) (a : PlainActivation) (s : PlainStrand) (r : PlainRecord) (is : IsOfMemo setting (loop_at setting.codes a.procedure l) a.left) (more : (h.count == 0) ≡ false)
       (answer : IsAnswer setting (loop_at setting.codes a.procedure l) a.slots a.left (l.low +ℤ pos h.first) r) where
     abbrev here_now : PlainStrand
-    here_now = standing (Turns l h) a s
+    here_now = with_work (Turns l h) a s
 
     abbrev loop : PlainLoop
     loop = loop_at setting.codes a.procedure l
@@ -76,7 +76,7 @@ module _ (setting : Setting) (l : Loop) where
     called_now = pushed (child_of loop.callee (slots_for (slots_of setting.codes loop.callee) r.arguments) here_now) false None later Entering (with_arguments r.arguments here_now)
 
     abbrev turned_once : PlainStrand
-    turned_once = standing later (waiting false None later a) (with_answer (iteration_depth a) r s)
+    turned_once = with_work later (waiting false None later a) (with_answer (iteration_depth a) r s)
 
     turn_reuses : IsNext setting here_now (reused r called_now)
     turn_reuses kit =
@@ -97,19 +97,19 @@ module _ (setting : Setting) (l : Loop) where
     turn_answered = on (reused r called_now) turned_once (on here_now (reused r called_now) here turn_reuses) turn_leaves
 
   pub turns_way : (rs : List PlainRecord) (h : Share) (a : PlainActivation) (s : PlainStrand) → IsOfMemo setting (loop_at setting.codes a.procedure l) a.left → length rs ≤ h.count → AreAnswers setting (loop_at setting.codes a.procedure l) a.slots a.left l.low h.first rs
-      → IsWay setting (standing (Turns l h) a s) (record (with_answers (iteration_depth a) rs s) { top = turned_to (length rs) l h a; phase = Running })
+      → IsWay setting (with_work (Turns l h) a s) (record (with_answers (iteration_depth a) rs s) { top = turned_to (length rs) l h a; phase = Running })
   turns_way [] h a s is room answers =
       let none : s.tally.reused + 0 ≡ s.tally.reused = omega arith in
-      subst (λ n. IsWay setting (standing (Turns l h) a s) (record s { top = at (Turns l h) a; phase = Running; tally = record s.tally { reused = n } })) (sym none) here
+      subst (λ n. IsWay setting (with_work (Turns l h) a s) (record s { top = at (Turns l h) a; phase = Running; tally = record s.tally { reused = n } })) (sym none) here
   turns_way (r ∷ rs) h a s is room answers =
       let d = iteration_depth a in
       let later = Turns l (rest_of h) in
       let b = waiting false None later a in
       let t = with_answer d r s in
       let fits : length rs ≤ h.count - 1 = omega arith in
-      let first : IsWay setting (standing (Turns l h) a s) (standing later b t) = turn_answered h a s r is (not_none h.count (length rs) room) answers.0 in
-      let rest : IsWay setting (standing later b t) (record (with_answers d rs t) { top = turned_to (length rs) l (rest_of h) b; phase = Running }) = turns_way rs (rest_of h) b t is fits answers.1 in
+      let first : IsWay setting (with_work (Turns l h) a s) (with_work later b t) = turn_answered h a s r is (not_none h.count (length rs) room) answers.0 in
+      let rest : IsWay setting (with_work later b t) (record (with_answers d rs t) { top = turned_to (length rs) l (rest_of h) b; phase = Running }) = turns_way rs (rest_of h) b t is fits answers.1 in
       let sums : suc s.tally.reused + length rs ≡ s.tally.reused + suc (length rs) = omega arith in
-      let whole : IsWay setting (standing (Turns l h) a s) (record (with_answers d rs t) { top = turned_to (length rs) l (rest_of h) b; phase = Running }) = way_join setting _ _ _ first rest in
-      subst (λ n. IsWay setting (standing (Turns l h) a s) (record (with_answers d (r ∷ rs) s) { top = turned_to (suc (length rs)) l h a; phase = Running; tally = record s.tally { reused = n } })) sums
-      (subst (λ (x : PlainActivation). IsWay setting (standing (Turns l h) a s) (record (with_answers d rs t) { top = x; phase = Running })) (turned_more (length rs) l h a) whole)
+      let whole : IsWay setting (with_work (Turns l h) a s) (record (with_answers d rs t) { top = turned_to (length rs) l (rest_of h) b; phase = Running }) = way_join setting _ _ _ first rest in
+      subst (λ n. IsWay setting (with_work (Turns l h) a s) (record (with_answers d (r ∷ rs) s) { top = turned_to (suc (length rs)) l h a; phase = Running; tally = record s.tally { reused = n } })) sums
+      (subst (λ (x : PlainActivation). IsWay setting (with_work (Turns l h) a s) (record (with_answers d rs t) { top = x; phase = Running })) (turned_more (length rs) l h a) whole)

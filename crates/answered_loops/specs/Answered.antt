@@ -91,8 +91,8 @@ abbrev pub with_answers : ℕ → List PlainRecord → PlainStrand → PlainStra
 with_answers d rs s = record s { layer = absorbed d rs s.layer; arguments = arguments_of_last s.arguments rs; tally = answered_more (length rs) s.tally }
 
 -- the topmost instance is a loop's that has that left
-abbrev pub standing : Work → PlainActivation → PlainStrand → PlainStrand
-standing w a s = record s { top = at w a; phase = Running }
+abbrev pub with_work : Work → PlainActivation → PlainStrand → PlainStrand
+with_work w a s = record s { top = at w a; phase = Running }
 
 -- a half that records answer: it leaves
 abbrev pub half_answered : List Code → Loop → ℕ → Share → List PlainRecord → PlainStrand → PlainStrand

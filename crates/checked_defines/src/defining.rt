@@ -13,8 +13,8 @@ ghost use Rattle.checked_defines.specs.Causes.{IsDefineCause};
 use crate::refusal::{DefineError, unchecked, unread};
 use input_tables::Tables;
 use linked_program::checked::Checked;
-use procedure_parser::parse_define;
 use meaning::tree::Program;
+use procedure_parser::parse_define;
 use spawn_checker::redefine;
 use std::alloc::Global;
 

@@ -2,10 +2,10 @@
 #![tactic(auto)]
 
 use anyhow::{Context, Result, bail};
-use positions::answer::RunAnswer;
 use input_tables::Tables;
 use kept_session::Session;
 use monoid_laws::{Kind, Val};
+use positions::answer::RunAnswer;
 use report_session::opening::open;
 use report_session::values::value;
 use session_edits::Edit;

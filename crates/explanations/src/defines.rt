@@ -5,8 +5,8 @@ use crate::programs::{LOOKED_FOR, line_at, push_broken_line, push_shown, wrong_b
 use crate::rules::{push_line, push_rule};
 use crate::statements::{procedure_called, push_statement, statement_on};
 use linked_program::violation::Rule;
-use procedure_parser::parse;
 use meaning::tree::Program;
+use procedure_parser::parse;
 use std::alloc::{AllocError, Global};
 use std::fmt::Write;
 use token_scanner::{LONGEST_TEXT, Mark, Placed, Token, tokens};

@@ -3,8 +3,8 @@
 use crate::rules::push_line;
 use crate::statements::{procedure_at, push_statement, statement_at};
 use meaning::FaultKind;
-use monoid_laws::Kind;
 use meaning::tree::{Action, Declaration, Program, Statement};
+use monoid_laws::Kind;
 use std::alloc::AllocError;
 use std::fmt::Write;
 

@@ -8,8 +8,8 @@ ghost use Rattle.positions.specs.Simulation.{IsAlone};
 ghost use Rattle.strand_moves.specs.Joins.{HasFault};
 ghost use Rattle.frames.specs.Answers.{ending_of, over, IsAnswer, IsAnswerOf};
 
-use positions::answer::RunAnswer;
 use crate::strand::Strand;
+use positions::answer::RunAnswer;
 use positions::phase::Phase;
 use rerun_records::record::Record;
 use small_steps::machine::Machine;

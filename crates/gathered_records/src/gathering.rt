@@ -2,11 +2,11 @@
 ghost use Rattle.std.specs.Prelude.{◌≡◌, ◌+ℤ◌, ℕ, ℤ, pos, true, List, IfOk, OnOk, OnErr, OnSome, IfSome, Some, All, map, slice_get};
 ghost use Rattle.monoid_laws.specs.declared.Kind.{Kind as PlainKind};
 ghost use Rattle.monoid_laws.specs.Kinds.{IsMonoid};
-ghost use Rattle.rerun_records.specs.Record.{settled};
+ghost use Rattle.rerun_records.specs.Record.{doubtless};
 ghost use Rattle.rerun_records.specs.Commits.{put_records};
 ghost use Rattle.rerun_records.specs.Doubted.{IsInStep, ReadNow};
 ghost use Rattle.rerun_records.specs.Named.{HaveValues, CommitsNamed};
-ghost use Rattle.rerun_records.specs.Blocks.{stands_at};
+ghost use Rattle.rerun_records.specs.Blocks.{is_trusted_at};
 ghost use Rattle.gathered_records.specs.Gathering.{moved_to, IsThere, AreInRow};
 
 use crate::bounds::{PARTS, bounds_at, part_above};
@@ -41,7 +41,7 @@ pub fn keep(
     requires values { HaveValues program.now.kinds records.old }
     requires made_values { HaveValues program.now.kinds made.items }
     ensures committed { OnOk result
-        (map settled records.new ≡ put_records (map settled records.old) made.items) }
+        (map doubtless records.new ≡ put_records (map doubtless records.old) made.items) }
     ensures in_step { OnOk result (IsInStep tables.now.tables records.new) }
     ensures named { OnOk result (CommitsNamed program.now records.old made.items records.new) }
     ensures values { OnOk result ((kinds : List PlainKind) → HaveValues kinds records.old
@@ -57,14 +57,14 @@ pub fn keep(
     Ok(())
 }
 
-/// Makes blocks of records in a row that stand, as many as there is memory for: of those at the places that were put in, or
+/// Makes blocks of records in a row that are trusted, as many as there is memory for: of those at the places that were put in, or
 /// whose blocks were dropped, since it was done last. Nothing that can be told of the records changes but what is in doubt.
 pub fn gather(records: &mut Records, alloc: Global, tables: &Tables, program: &Checked)
     requires in_step { IsInStep tables.now.tables records.old }
     requires monoids { All IsMonoid program.now.kinds }
     requires values { HaveValues program.now.kinds records.old }
     ensures in_step { IsInStep tables.now.tables records.new }
-    ensures same { map settled records.new ≡ map settled records.old }
+    ensures same { map doubtless records.new ≡ map doubtless records.old }
 {
     let are_all = records.are_all_due();
     let listed = records.take_due(alloc);
@@ -84,7 +84,7 @@ fn gather_due(
     requires monoids { All IsMonoid program.now.kinds }
     requires values { HaveValues program.now.kinds records.old }
     ensures in_step { IsInStep tables.now.tables records.new }
-    ensures same { map settled records.new ≡ map settled records.old }
+    ensures same { map doubtless records.new ≡ map doubtless records.old }
 {
     if are_all {
         gather_all(records, alloc, tables, program)
@@ -104,7 +104,7 @@ fn gather_all(
     requires monoids { All IsMonoid program.now.kinds }
     requires values { HaveValues program.now.kinds records.old }
     ensures in_step { IsInStep tables.now.tables records.new }
-    ensures same { map settled records.new ≡ map settled records.old }
+    ensures same { map doubtless records.new ≡ map doubtless records.old }
 {
     let all = places_to(alloc, records.len())?;
     gather_these(records, alloc, &all, tables, program)
@@ -123,7 +123,7 @@ fn gather_these(
     requires monoids { All IsMonoid program.now.kinds }
     requires values { HaveValues program.now.kinds records.old }
     ensures in_step { IsInStep tables.now.tables records.new }
-    ensures same { map settled records.new ≡ map settled records.old }
+    ensures same { map doubtless records.new ≡ map doubtless records.old }
 {
     let mut stretches = Stretches::new(alloc);
     make_fine(records, alloc, places, &mut stretches, tables, program)?;
@@ -156,7 +156,7 @@ fn make_fine(
     requires monoids { All IsMonoid program.now.kinds }
     requires values { HaveValues program.now.kinds records.old }
     ensures in_step { IsInStep tables.now.tables records.new }
-    ensures same { map settled records.new ≡ map settled records.old }
+    ensures same { map doubtless records.new ≡ map doubtless records.old }
 {
     let mut tried = Tried::new(alloc, records.len(), places.len())?;
     for place in places {
@@ -215,7 +215,7 @@ fn gather_at(
     requires monoids { All IsMonoid program.now.kinds }
     requires values { HaveValues program.now.kinds records.old }
     ensures in_step { IsInStep tables.now.tables records.new }
-    ensures same { map settled records.new ≡ map settled records.old }
+    ensures same { map doubtless records.new ≡ map doubtless records.old }
 {
     if tried.has(place) || has_block(records, Width::Fine, place, program.kinds()) {
         return;
@@ -244,7 +244,7 @@ fn gather_on(
     requires monoids { All IsMonoid program.now.kinds }
     requires values { HaveValues program.now.kinds records.old }
     ensures in_step { IsInStep tables.now.tables records.new }
-    ensures same { map settled records.new ≡ map settled records.old }
+    ensures same { map doubtless records.new ≡ map doubtless records.old }
 {
     for _ in 0..PARTS {
         let bounds = bounds_at(
@@ -280,10 +280,10 @@ fn gather_row(
     requires monoids { All IsMonoid program.now.kinds }
     requires values { HaveValues program.now.kinds records.old }
     ensures in_step { IsInStep tables.now.tables records.new }
-    ensures same { map settled records.new ≡ map settled records.old }
+    ensures same { map doubtless records.new ≡ map doubtless records.old }
 {
     let first = lowest(records, row, bounds);
-    let places = stand_in_row(records, alloc, row, first, bounds, tables)?;
+    let places = trusted_in_row(records, alloc, row, first, bounds, tables)?;
     tried.put_all(&places);
     if places.len() < 2 {
         return Ok(());
@@ -310,8 +310,8 @@ fn lowest(records: &Records, row: &mut Row, bounds: Bounds) -> i64 {
     first
 }
 
-// The places of the records in a row from that number on that stand, as far as to the last of these numbers.
-fn stand_in_row(
+// The places of the records in a row from that number on that are trusted, as far as to the last of these numbers.
+fn trusted_in_row(
     records: &mut Records,
     alloc: Global,
     row: &mut Row,
@@ -321,12 +321,12 @@ fn stand_in_row(
 ) -> Result<Vec<u32>, AllocError>
     requires in_step { IsInStep tables.now.tables records.old }
     ensures in_step { IsInStep tables.now.tables records.new }
-    ensures same { map settled records.new ≡ map settled records.old }
+    ensures same { map doubtless records.new ≡ map doubtless records.old }
     ensures row { IfOk result (λ places. AreInRow records.new row.new first places.items) }
 {
     let mut places = Vec::new(alloc);
     for _ in 0..bounds.count_from(first) {
-        match stand_next(records, row, first, places.len(), tables) {
+        match next_trusted(records, row, first, places.len(), tables) {
             Some(place) => places.push(place)?,
             None => return Ok(places),
         }
@@ -334,9 +334,9 @@ fn stand_in_row(
     Ok(places)
 }
 
-// The place of the record so many further in the row, where there is one and it stands.
+// The place of the record so many further in the row, where there is one and it is trusted.
 #[tactic(auto, using(crate::proofs::Rows::still_there))]
-fn stand_next(
+fn next_trusted(
     records: &mut Records,
     row: &mut Row,
     first: i64,
@@ -345,18 +345,18 @@ fn stand_next(
 ) -> Option<u32>
     requires in_step { IsInStep tables.now.tables records.old }
     ensures in_step { IsInStep tables.now.tables records.new }
-    ensures same { map settled records.new ≡ map settled records.old }
-    ensures kept { (p : ℕ) → stands_at records.old p ≡ true → stands_at records.new p ≡ true }
+    ensures same { map doubtless records.new ≡ map doubtless records.old }
+    ensures kept { (p : ℕ) → is_trusted_at records.old p ≡ true → is_trusted_at records.new p ≡ true }
     ensures row { (z : ℤ) → moved_to row.new z ≡ moved_to row.old z }
     ensures there { IfSome result (λ place. IsThere records.new row.new place) }
     ensures moved { OnSome result (row.new ≡ moved_to row.old (first +ℤ pos step)) }
-    ensures stands { IfSome result (λ place. stands_at records.new place ≡ true) }
+    ensures trusted { IfSome result (λ place. is_trusted_at records.new place ≡ true) }
 {
     if !go_on(row, first, step) {
         return None;
     }
     let place = find_row(records, row)?;
-    if records.stand_now(place as usize, tables) {
+    if records.trust(place as usize, tables) {
         Some(place)
     } else {
         None

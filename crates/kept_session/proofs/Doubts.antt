@@ -7,21 +7,21 @@ use Rattle.trail_theory.specs.Order.{Every}
 use Rattle.linked_program.specs.TableNames.{columned_of}
 use Rattle.linked_program.specs.Checked.{PlainChecked, revised_of}
 use Rattle.input_tables.specs.Edited.{Edited}
-use Rattle.rerun_records.specs.Record.{PlainRecord, settled}
+use Rattle.rerun_records.specs.Record.{PlainRecord, doubtless}
 use Rattle.rerun_records.specs.Doubted.{IsInStep, ReadNow}
 use Rattle.rerun_records.specs.Named.{AreKept}
 use Rattle.rerun_records.proofs.Members.{both}
 use Rattle.rerun_records.proofs.Lookups.{same_but_doubts, agree_now}
 use Rattle.kept_session.specs.Sessions.{AreKeptFor, IsRightNow, AreNewFor}
 
-pub twice : (rs : List PlainRecord) → map settled (map settled rs) ≡ map settled rs
+pub twice : (rs : List PlainRecord) → map doubtless (map doubtless rs) ≡ map doubtless rs
 twice [] = refl
-twice (r ∷ rs) = ap (λ xs. settled r ∷ xs) (twice rs)
+twice (r ∷ rs) = ap (λ xs. doubtless r ∷ xs) (twice rs)
 
-pub stand_so : (program : PlainChecked) (ks : List Kept) (rs ss : List PlainRecord) → map settled ss ≡ map settled rs → AreKept program ks rs → AreKept program ks ss
+pub stand_so : (program : PlainChecked) (ks : List Kept) (rs ss : List PlainRecord) → map doubtless ss ≡ map doubtless rs → AreKept program ks rs → AreKept program ks ss
 stand_so program ks rs ss e h = same_but_doubts (revised_of program) program.tables program.kinds ks rs ss e h
 
-pub kept_so : (program : PlainChecked) (rs ss : List PlainRecord) → map settled ss ≡ map settled rs → AreKeptFor program rs → AreKeptFor program ss
+pub kept_so : (program : PlainChecked) (rs ss : List PlainRecord) → map doubtless ss ≡ map doubtless rs → AreKeptFor program rs → AreKeptFor program ss
 kept_so program rs ss e k = record {
   sound = record { kept = k.sound.kept; stand = stand_so program k.sound.kept rs ss e k.sound.stand; sound = k.sound.sound };
   there = k.there;

@@ -8,7 +8,7 @@ use Rattle.input_tables.specs.declared.refusal.PutError.{PutError}
 use Rattle.input_tables.specs.declared.refusal.PutError.TheVariants as put
 use Rattle.checked_defines.specs.declared.refusal.DefineError.{DefineError}
 use Rattle.checked_defines.specs.declared.refusal.DefineError.TheVariants as define
-use Rattle.rerun_records.specs.Record.{settled}
+use Rattle.rerun_records.specs.Record.{doubtless}
 use Rattle.kept_session.specs.declared.refusal.ApplyError.{ApplyError}
 use Rattle.kept_session.specs.declared.refusal.ApplyError.TheVariants.{NoMemory, Refused}
 use Rattle.kept_session.specs.Sessions.{PlainSession, standing_of}
@@ -47,4 +47,4 @@ pub record IsApplied (s : PlainSession) (e : Edit) (given : Result Unit ApplyErr
   pub refused : IfErr given (IsApplyCause e (edited (standing_of s) e))
   pub same : OnErr given (t ≡ s)
   pub rest : t ≡ record s { checked = t.checked; tables = t.tables; records = t.records }
-  pub records : map settled t.records ≡ map settled s.records
+  pub records : map doubtless t.records ≡ map doubtless s.records

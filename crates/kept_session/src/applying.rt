@@ -2,7 +2,7 @@
 ghost use Rattle.std.specs.Prelude.{◌≡◌, Ok, map, IfErr, OnOk, OnErr};
 ghost use Rattle.meaning.specs.Edits.{Put, Delete, Define, after_put, after_delete, after_define};
 ghost use Rattle.checked_defines.specs.Readers.{reads_text, checks_rules};
-ghost use Rattle.rerun_records.specs.Record.{settled};
+ghost use Rattle.rerun_records.specs.Record.{doubtless};
 ghost use Rattle.kept_session.specs.Sessions.{standing_of};
 ghost use Rattle.kept_session.specs.Applied.{IsApplyCause};
 
@@ -28,7 +28,7 @@ impl<V: View> Session<V> {
         ensures same { OnErr result (self.new ≡ self.old) }
         ensures rest { self.new
             ≡ record self.old { tables = self.new.tables; records = self.new.records } }
-        ensures records { map settled self.new.records ≡ map settled self.old.records }
+        ensures records { map doubtless self.new.records ≡ map doubtless self.old.records }
     {
         match self.tables.put(alloc, table, row, values) {
             Ok(number) => {
@@ -48,7 +48,7 @@ impl<V: View> Session<V> {
         ensures same { OnErr result (self.new ≡ self.old) }
         ensures rest { self.new
             ≡ record self.old { tables = self.new.tables; records = self.new.records } }
-        ensures records { map settled self.new.records ≡ map settled self.old.records }
+        ensures records { map doubtless self.new.records ≡ map doubtless self.old.records }
     {
         match self.tables.delete(table, row) {
             Ok(number) => {

@@ -1,7 +1,7 @@
 // A session: a checked program, its tables, its pool of kits, and the records that its runs have left.
 ghost use Rattle.std.specs.Prelude.{◌≡◌, ◌<◌, [], true, false, All, Ok, length, map, IfOk, IfErr, OnOk, OnErr};
 ghost use Rattle.linked_program.specs.TableNames.{columned_of};
-ghost use Rattle.rerun_records.specs.Record.{settled};
+ghost use Rattle.rerun_records.specs.Record.{doubtless};
 ghost use Rattle.rerun_records.specs.Doubted.{IsInStep};
 ghost use Rattle.rerun_records.specs.Commits.{put_records};
 ghost use Rattle.rerun_records.specs.Named.{HaveValues};
@@ -92,7 +92,7 @@ impl<V: View> Session<V> {
         ensures same { OnErr result (self.new ≡ self.old) }
         ensures rest { self.new
             ≡ record self.old { checked = self.new.checked; tables = self.new.tables; records = self.new.records } }
-        ensures records { map settled self.new.records ≡ map settled self.old.records }
+        ensures records { map doubtless self.new.records ≡ map doubtless self.old.records }
     {
         match edit {
             Edit::Put { table, row, values } => self.put(alloc, table, *row, values),
@@ -198,8 +198,8 @@ impl<V: View> Session<V> {
         requires new { AreNewFor self.old.checked self.old.tables made.items }
         ensures settled { OnOk result (self.new
             ≡ record self.old { kits = pool; records = self.new.records }) }
-        ensures records { OnOk result (map settled self.new.records
-            ≡ put_records (map settled self.old.records) made.items) }
+        ensures records { OnOk result (map doubtless self.new.records
+            ≡ put_records (map doubtless self.old.records) made.items) }
         ensures refused { OnErr result (self.new ≡ record self.old { kits = pool }) }
     {
         // What the types of the program, the tables and the records keep: so the values are of the reducers' kinds.
@@ -232,7 +232,7 @@ impl<V: View> Session<V> {
     /// them; where memory is refused there are fewer blocks.
     pub fn gather(&mut self, alloc: Global)
         ensures rest { self.new ≡ record self.old { records = self.new.records } }
-        ensures records { map settled self.new.records ≡ map settled self.old.records }
+        ensures records { map doubtless self.new.records ≡ map doubtless self.old.records }
     {
         // What the program's type keeps: so its reducers are monoids.
         self.checked.clean();

@@ -7,7 +7,7 @@ use Rattle.evaluation.specs.declared.stop.Stop.TheVariants.{NoMemory, Fault}
 use Rattle.evaluation.specs.Values.{NumberedOut}
 use Rattle.evaluation.specs.Ends.{Ends, Answers}
 use Rattle.positions.specs.Layers.{PlainLayer, kept_behind, noting}
-use Rattle.layers.specs.Ends.{HasNoted, kept_or_first, settled}
+use Rattle.layers.specs.Ends.{HasNoted, kept_or_first, without_unkept}
 
 pub take_all : {A : Type 0} (xs : List A) → take (length xs) xs ≡ xs
 take_all [] = refl
@@ -26,20 +26,20 @@ none_more : (b : Bool) (xs : List Note) → kept_or_first b (length xs) xs ≡ x
 none_more true xs = refl
 none_more false xs = take_all xs
 
-settled_more : (l : PlainLayer) (ns more : List Note) → ns ≡ l.notes ++ more → settled (length l.notes) (record l { notes = ns }) ≡ noting more l
-settled_more l ns more e = ap (λ xs. record l { notes = kept_or_first l.keeps (length l.notes) xs }) e ∙ ap (λ xs. record l { notes = xs }) (kept_same l.keeps l.notes more)
+unkept_more : (l : PlainLayer) (ns more : List Note) → ns ≡ l.notes ++ more → without_unkept (length l.notes) (record l { notes = ns }) ≡ noting more l
+unkept_more l ns more e = ap (λ xs. record l { notes = kept_or_first l.keeps (length l.notes) xs }) e ∙ ap (λ xs. record l { notes = xs }) (kept_same l.keeps l.notes more)
 
-ends_settled : {A B : Type 0} (view : B → A) (o : NumberedOut A) (l : PlainLayer) (ns : List Note) (r : Result B Stop) → Ends view o l.notes ns r
-    → HasNoted view o l (settled (length l.notes) (record l { notes = ns })) r
-ends_settled view o l ns (Ok b) h = (h.0, settled_more l ns o.notes h.1)
-ends_settled view o l ns (Err (Fault k)) h = (h.0, settled_more l ns o.notes h.1)
-ends_settled view o l ns (Err NoMemory) h = ap (λ xs. record l { notes = kept_or_first l.keeps (length l.notes) xs }) h ∙ ap (λ xs. record l { notes = xs }) (none_more l.keeps l.notes)
+ends_without_unkept : {A B : Type 0} (view : B → A) (o : NumberedOut A) (l : PlainLayer) (ns : List Note) (r : Result B Stop) → Ends view o l.notes ns r
+    → HasNoted view o l (without_unkept (length l.notes) (record l { notes = ns })) r
+ends_without_unkept view o l ns (Ok b) h = (h.0, unkept_more l ns o.notes h.1)
+ends_without_unkept view o l ns (Err (Fault k)) h = (h.0, unkept_more l ns o.notes h.1)
+ends_without_unkept view o l ns (Err NoMemory) h = ap (λ xs. record l { notes = kept_or_first l.keeps (length l.notes) xs }) h ∙ ap (λ xs. record l { notes = xs }) (none_more l.keeps l.notes)
 
 -- what an evaluation has read is kept or forgotten
-pub noted_settled : {A B : Type 0} (view : B → A) (o : NumberedOut A) (l m new : PlainLayer) (ns : List Note) (n : ℕ) (r : Result B Stop) → Ends view o l.notes ns r
-    → m ≡ record l { notes = ns } → n ≡ length l.notes → new ≡ settled n m → HasNoted view o l new r
-noted_settled view o l m new ns n r h e f g =
-    subst (λ k. HasNoted view o l k r) (sym (g ∙ ap (settled n) e ∙ ap (λ k. settled k (record l { notes = ns })) f)) (ends_settled view o l ns r h)
+pub noted_without_unkept : {A B : Type 0} (view : B → A) (o : NumberedOut A) (l m new : PlainLayer) (ns : List Note) (n : ℕ) (r : Result B Stop) → Ends view o l.notes ns r
+    → m ≡ record l { notes = ns } → n ≡ length l.notes → new ≡ without_unkept n m → HasNoted view o l new r
+noted_without_unkept view o l m new ns n r h e f g =
+    subst (λ k. HasNoted view o l k r) (sym (g ∙ ap (without_unkept n) e ∙ ap (λ k. without_unkept k (record l { notes = ns })) f)) (ends_without_unkept view o l ns r h)
 
 noted_nothing : (b : Bool) (xs ys : List Note) → b ≡ false → kept_behind b xs ys ≡ xs
 noted_nothing true xs ys e = absurd cc

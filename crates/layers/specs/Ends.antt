@@ -12,8 +12,8 @@ kept_or_first true n ns = ns
 kept_or_first false n ns = take n ns
 
 -- a layer that had so many readings before
-abbrev pub settled : ℕ → PlainLayer → PlainLayer
-settled n l = record l { notes = kept_or_first l.keeps n l.notes }
+abbrev pub without_unkept : ℕ → PlainLayer → PlainLayer
+without_unkept n l = record l { notes = kept_or_first l.keeps n l.notes }
 
 -- a layer has noted what the evaluation read, which ends as that; where memory is refused it is as it was
 abbrev pub HasNoted : {A B : Type 0} → (B → A) → NumberedOut A → PlainLayer → PlainLayer → Result B Stop → Type 0

@@ -6,7 +6,7 @@ ghost use Rattle.linked_program.specs.CodeView.{expression as plain};
 ghost use Rattle.meaning.specs.Statements.{number_of};
 ghost use Rattle.evaluation.specs.Values.{value_at, values_at, entry_at, bounds_at};
 ghost use Rattle.positions.specs.Layers.{blank, entering};
-ghost use Rattle.layers.specs.Ends.{HasNoted, settled};
+ghost use Rattle.layers.specs.Ends.{HasNoted, without_unkept};
 
 use crate::spares::SpareLists;
 use evaluation::entry::entry_slots;
@@ -158,8 +158,8 @@ impl<V: View> Layer<V> {
 
     /// Forgets the readings behind so many first ones, unless readings are kept.
     #[inline(always)]
-    fn settle(&mut self, before: usize)
-        ensures settled { self.new ≡ settled before self.old }
+    fn forget_unkept(&mut self, before: usize)
+        ensures without_unkept { self.new ≡ without_unkept before self.old }
     {
         if !self.keeps {
             self.notes.truncate(before);
@@ -203,7 +203,7 @@ impl<V: View> Layer<V> {
     }
 
     /// The values of expressions, in place of what `numbers` held.
-    #[tactic(auto, using(crate::proofs::Kept::noted_settled))]
+    #[tactic(auto, using(crate::proofs::Kept::noted_without_unkept))]
     pub fn values(
         &mut self,
         expressions: &[Expression],
@@ -215,13 +215,13 @@ impl<V: View> Layer<V> {
     {
         let before = self.notes.len();
         let outcome = values(expressions, slots, tables, numbers, &mut self.notes);
-        self.settle(before);
+        self.forget_unkept(before);
         outcome
     }
 
     /// The slots of an instance that is entered with these arguments, in that empty list.
     #[inline(always)]
-    #[tactic(auto, using(crate::proofs::Kept::noted_settled))]
+    #[tactic(auto, using(crate::proofs::Kept::noted_without_unkept))]
     pub fn entry(
         &mut self,
         room: Vec<Slot>,
@@ -235,12 +235,12 @@ impl<V: View> Layer<V> {
     {
         let before = self.notes.len();
         let outcome = entry_slots(room, size, arguments, slots, tables, &mut self.notes);
-        self.settle(before);
+        self.forget_unkept(before);
         outcome
     }
 
     /// A loop's range.
-    #[tactic(auto, using(crate::proofs::Kept::noted_settled))]
+    #[tactic(auto, using(crate::proofs::Kept::noted_without_unkept))]
     pub fn bounds(
         &mut self,
         low: &Expression,
@@ -252,7 +252,7 @@ impl<V: View> Layer<V> {
     {
         let before = self.notes.len();
         let outcome = bounds(low, high, slots, tables, &mut self.notes);
-        self.settle(before);
+        self.forget_unkept(before);
         outcome
     }
 

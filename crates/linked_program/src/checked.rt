@@ -18,8 +18,8 @@ use crate::fitting::numbers_fit;
 use crate::initial::Initial;
 use crate::linking::{procedure_number, procedure_place};
 use crate::tables::TableNames;
-use monoid_laws::Kind;
 use meaning::tree::Program;
+use monoid_laws::Kind;
 use std::marker::Model;
 
 // The number that stands beside a name in a list.

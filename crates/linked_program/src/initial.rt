@@ -4,8 +4,8 @@ ghost use Rattle.meaning.specs.TreeView.{decl};
 ghost use Rattle.meaning.specs.Statements.{in_pairs, in_groups};
 ghost use Rattle.linked_program.specs.Initials.{plain_initial, initials_by, initials_of};
 
-use monoid_laws::Kind;
 use meaning::tree::Declaration;
+use monoid_laws::Kind;
 use std::alloc::{AllocError, Global};
 
 /// The numbers of one element of an initial value, as many as an update takes, and the number of the reducer that begins with it.

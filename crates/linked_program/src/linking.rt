@@ -13,8 +13,8 @@ ghost use Rattle.linked_program.specs.CodeView.{expression as plain, act, acts, 
 
 use crate::code::{Code, CodeBlock, Expression, Instruction, Operation, RowCells};
 use crate::tables::TableNames;
-use monoid_laws::Kind;
 use meaning::tree::{Action, Block, Declaration, Expr, Operator, Procedure, Statement};
+use monoid_laws::Kind;
 use std::alloc::{AllocError, Global};
 
 /// The number of the first procedure of a name among declarations' procedures; how many there are where there is no such procedure.

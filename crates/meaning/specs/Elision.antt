@@ -5,7 +5,7 @@ use Rattle.meaning.specs.Tree.{Name, Deed, bind, enter, read, sync, update, choo
 use Rattle.meaning.specs.declared.FaultKind.TheVariants.{TooDeep}
 use Rattle.meaning.specs.Tables.{Tables}
 use Rattle.meaning.specs.Outcome.{Out, Log, Accumulators, Site, Fault, Reads, Enters, Reading, after}
-use Rattle.meaning.specs.Run.{Run, ◌>>=◌, ◌>>◌, pure, fail, note, nothing, standing, at}
+use Rattle.meaning.specs.Run.{Run, ◌>>=◌, ◌>>◌, pure, fail, note, nothing, values_here, at}
 use Rattle.meaning.specs.Values.{Env, put, value, values}
 use Rattle.meaning.specs.Statements.{reducers, proc_of, numbered, identities, initial_values, put_into, reading, fresh, Job, job_of}
 use Rattle.meaning.specs.Statements.{turn_values, update_of, bounds}
@@ -51,7 +51,7 @@ module _ (program : Tree) (tables : Tables) (enters : Enter) where
       v ← enters site f vs
       pure (On (put_into x env v))
     deed site env (read x r) = do
-      acc ← standing
+      acc ← values_here
       pure (On (put env x (reading acc (numbered 0 (reducers program) r))))
     deed site env sync = pure (On env)
     deed site env (update r es) = do

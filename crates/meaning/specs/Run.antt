@@ -29,8 +29,8 @@ abbrev pub nothing : Run (Unit {0})
 nothing = λ acc. outcome.pure tt
 
 -- the accumulators here
-abbrev pub standing : Run Accumulators
-standing = λ acc. outcome.pure acc
+abbrev pub values_here : Run Accumulators
+values_here = λ acc. outcome.pure acc
 
 abbrev pub placed : {A : Type 0} → Site → Result A FaultKind → Result A Fault
 placed site (Ok a) = Ok a

@@ -121,12 +121,12 @@ abbrev pub unless : Bool → Step → Step
 unless true s = paused at_sync
 unless false s = s
 
-abbrev pub settling : {A : Type 0} → Frame → List Parent → Site → Result A FaultKind → (A → Step) → Step
-settling fr t site (Ok a) next = next a
-settling fr t site (Err k) next = moved noting [] fr (broken (fault_at site k)) t
+abbrev pub on_answer : {A : Type 0} → Frame → List Parent → Site → Result A FaultKind → (A → Step) → Step
+on_answer fr t site (Ok a) next = next a
+on_answer fr t site (Err k) next = moved noting [] fr (broken (fault_at site k)) t
 
 abbrev pub on_value : {A : Type 0} → Frame → List Parent → Site → Out FaultKind A → (A → Step) → Step
-on_value fr t site o next = led_step o.log (settling fr t site o.answer next)
+on_value fr t site o next = led_step o.log (on_answer fr t site o.answer next)
 
 abbrev pub on_depth : Frame → List Parent → Site → ℕ → (ℕ → Step) → Step
 on_depth fr t site zero next = moved noting [] fr (broken (fault_at site TooDeep)) t

@@ -55,13 +55,13 @@ doom_after doom (Err k) = Some (first doom k)
 abbrev pub stop : Option Fault → Fault → Trace
 stop doom k = record { events = Faults k ∷ []; outcome = Err (first doom k) }
 
-abbrev pub settled : {A : Type 0} → Option Fault → Site → Result A FaultKind → (A → Trace) → Trace
-settled doom site (Ok a) next = next a
-settled doom site (Err k) next = stop doom (fault_at site k)
+abbrev pub after_answer : {A : Type 0} → Option Fault → Site → Result A FaultKind → (A → Trace) → Trace
+after_answer doom site (Ok a) next = next a
+after_answer doom site (Err k) next = stop doom (fault_at site k)
 
 -- an evaluation at a statement, and then the rest
 abbrev pub evaluated : {A : Type 0} → Option Fault → Site → Out FaultKind A → (A → Trace) → Trace
-evaluated doom site o next = led o.log (settled doom site o.answer next)
+evaluated doom site o next = led o.log (after_answer doom site o.answer next)
 
 -- what enters an instance, where the depth allows one
 abbrev pub Go : Type 0

@@ -34,7 +34,7 @@ pub fn run<V: View>(
     ensures ahead { ComesTo (lent setting.entry) passes_syncs top.old layer.old result top.new layer.new }
     ensures kinds { layer.new.kinds ≡ layer.old.kinds }
 {
-    match standing(setting, top) {
+    match ran_to(setting, top) {
         Ran::On(place, statements) => {
             run_from(
                 layer,
@@ -161,7 +161,7 @@ fn run_block<'a, V: View>(
         }
         match perform_alone(layer, setting, passes_syncs, place, statement, top) {
             Did::Next => index += 1,
-            Did::Moved => return standing(setting, top),
+            Did::Moved => return ran_to(setting, top),
             Did::Nothing => {
                 top.stand(place);
                 return Ran::Stopped;
@@ -173,13 +173,13 @@ fn run_block<'a, V: View>(
         }
     }
     top.go_outside();
-    standing(setting, top)
+    ran_to(setting, top)
 }
 
 /// Where an instance goes on; one that has nothing left gives 0 back.
 #[inline(always)]
-fn standing<'a>(setting: Setting<'a>, top: &Activation) -> Ran<'a>
-    ensures stands { (passes : Bool) (l : PlainLayer) → RunsTo (lent setting.entry) passes top.now l result top.now l }
+fn ran_to<'a>(setting: Setting<'a>, top: &Activation) -> Ran<'a>
+    ensures runs { (passes : Bool) (l : PlainLayer) → RunsTo (lent setting.entry) passes top.now l result top.now l }
 {
     match top.work() {
         Work::Over => Ran::Gave(0),

@@ -13,7 +13,7 @@ use Rattle.meaning.specs.Records.{Kept}
 use Rattle.meaning.specs.Values.{value, values}
 use Rattle.meaning.specs.Trail.{halvings}
 use Rattle.meaning.specs.Statements.{proc_of, job_of, reducers, update_of, bounds, turn_values}
-use Rattle.meaning.specs.SmallStep.{seen, has, with_env, on_depth, enter_child, enter_by, memo_answer, layer_of, awaiting, child_name, opened, Start as NamedStart, Frame, Todo, blocks, halves, second, turns, Child, instance, half, Phase as NamedPhase, running, spawning, returning, Parent, Lookup, Step, moved, taken, paused, noting, opening_one, unless, is_entry, led_step, settling, on_value, todo_step, enter_step}
+use Rattle.meaning.specs.SmallStep.{seen, has, with_env, on_depth, enter_child, enter_by, memo_answer, layer_of, awaiting, child_name, opened, Start as NamedStart, Frame, Todo, blocks, halves, second, turns, Child, instance, half, Phase as NamedPhase, running, spawning, returning, Parent, Lookup, Step, moved, taken, paused, noting, opening_one, unless, is_entry, led_step, on_answer, on_value, todo_step, enter_step}
 use Rattle.positions.specs.Simulation.{IsTaken}
 
 -- a child that is called or spawned
@@ -29,12 +29,12 @@ pub record IsClaim (P : Step → Type 0) : Type 0 where
   pub leads : (es : Log) (st : Step) → P st → P (led_step es st)
 
 module _ (P : Step → Type 0) (claim : IsClaim P) where
-  settled_has : {A : Type 0} (fr : Frame) (under : List Parent) (site : Site) (r : Result A FaultKind) (next : A → Step) → ((v : A) → P (next v)) → P (settling fr under site r next)
-  settled_has fr under site (Ok v) next h = h v
-  settled_has fr under site (Err k) next h = claim.notes [] fr _ under
+  on_answer_has : {A : Type 0} (fr : Frame) (under : List Parent) (site : Site) (r : Result A FaultKind) (next : A → Step) → ((v : A) → P (next v)) → P (on_answer fr under site r next)
+  on_answer_has fr under site (Ok v) next h = h v
+  on_answer_has fr under site (Err k) next h = claim.notes [] fr _ under
 
   value_has : {A : Type 0} (fr : Frame) (under : List Parent) (site : Site) (out : Out FaultKind A) (next : A → Step) → ((v : A) → P (next v)) → P (on_value fr under site out next)
-  value_has fr under site out next h = claim.leads out.log (settling fr under site out.answer next) (settled_has fr under site out.answer next h)
+  value_has fr under site out next h = claim.leads out.log (on_answer fr under site out.answer next) (on_answer_has fr under site out.answer next h)
 
   either_has : (b : Bool) (s u : Step) → P s → P u → P (cond b s u)
   either_has true s u h i = h

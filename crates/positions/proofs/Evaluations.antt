@@ -5,7 +5,7 @@ use Rattle.std.specs.Prelude.{[], ◌-◌, false}
 use Rattle.meaning.specs.Elision.{depth_limit}
 use Rattle.meaning.specs.Outcome.{Out, Log, Reads, Reading, Site, onward}
 use Rattle.meaning.specs.Trail.{fault_at}
-use Rattle.meaning.specs.SmallStep.{Start as NamedStart, Frame, Phase as NamedPhase, broken, Parent, noting, opening_one, closing_one, Step, moved, taken, paused, led_step, settling, on_value, with_layer}
+use Rattle.meaning.specs.SmallStep.{Start as NamedStart, Frame, Phase as NamedPhase, broken, Parent, noting, opening_one, closing_one, Step, moved, taken, paused, led_step, on_answer, on_value, with_layer}
 use Rattle.meaning.specs.Layers.{Notes, notes, noted_top, closed_top, take_top, notes_of, ahead_of_entry, from_entry}
 use Rattle.meaning.specs.Tallies.{Tally, executions, opened_all, passed_all, answered_one, closed_by, tallied}
 use Rattle.trail_theory.specs.Unflagged.{unflagged_under, unflagged_step}
@@ -83,8 +83,8 @@ led_led es fs (paused p) = refl
 
 -- an evaluation in two parts
 module _ {A B : Type 0} (fr : Frame) (under : List Parent) (site : Site) (f : A → Out FaultKind B) (step : B → Step) where
-  in_parts : (log : Log) (r : Result A FaultKind) → on_value fr under site (onward log r f) step ≡ led_step log (settling fr under site r (λ a. on_value fr under site (f a) step))
-  in_parts log (Ok a) = led_led log (f a).log (settling fr under site (f a).answer step)
+  in_parts : (log : Log) (r : Result A FaultKind) → on_value fr under site (onward log r f) step ≡ led_step log (on_answer fr under site r (λ a. on_value fr under site (f a) step))
+  in_parts log (Ok a) = led_led log (f a).log (on_answer fr under site (f a).answer step)
   in_parts log (Err k) = refl
 
   pub two_parts : (o : Out FaultKind A) → on_value fr under site (onward o.log o.answer f) step ≡ on_value fr under site o (λ a. on_value fr under site (f a) step)
@@ -115,7 +115,7 @@ module _ (setting : Setting) (m : NamedStart) (fr : Frame) (ph : NamedPhase) (un
   stops_or_goes : {A : Type 0} (log : Log) (r : Result A FaultKind) (next : A → PlainStrand → PlainStrand) (step : A → Step) (ls : List Notes)
       → OnlyReads log → AreNotes setting (s.layer ∷ s.lower) ls → ((v : A) → IsTaken (step v))
       → ((v : A) (l : PlainLayer) (ks : List Notes) → AreNotes setting (l ∷ s.lower) ks → Comes setting (next v (layered l s)) (strand_at m ks fr ph under) t (step v))
-      → Comes setting (answered n r next (noted (map (numbered setting.names) (readings log)) s)) (strand_at m ls fr ph under) t (led_step log (settling fr under site r step))
+      → Comes setting (answered n r next (noted (map (numbered setting.names) (readings log)) s)) (strand_at m ls fr ph under) t (led_step log (on_answer fr under site r step))
   stops_or_goes log (Ok v) next step ls only h is_taken goes =
       led_comes setting (next v (noted (map (numbered setting.names) (readings log)) s)) m ls fr ph under t log only (step v) (is_taken v)
       (goes v (plain.noting (map (numbered setting.names) (readings log)) s.layer) (noted_top ls log) (top_read setting s.layer s.lower ls log only h))

@@ -3,7 +3,7 @@ use Rattle.std.specs.Prelude.{◌≡◌, ℕ, List, [], Ok, Err, string_bytes}
 use Rattle.meaning.specs.Tree.{Tree}
 use Rattle.meaning.specs.TreeView.{tree, lines, Lined}
 use Rattle.source_tree.specs.Source.{Source}
-use Rattle.source_tree.specs.Lowering.{settled, lowered, lines_of}
+use Rattle.source_tree.specs.Lowering.{lowered_tree, lowered, lines_of}
 use Rattle.procedure_parser.specs.Correct.{IsText, IsSource, IsFaultLineIn, InGrammar}
 use Rattle.meaning.specs.Tables.{Tables}
 use Rattle.meaning.specs.Edits.{revised}
@@ -20,7 +20,7 @@ use Rattle.prepared_program.specs.declared.prepare.PrepareError.TheVariants.{NoM
 -- the program was checked against them, and its procedures have their first revision numbers
 pub record IsPrepared (text tables_text : List ℕ) (program : PlainChecked) (tables : Tables) : Type 0 where
   pub is_text : IsText text (tree program.program) (lines program.program)
-  pub is_only : (s : Source) → IsSource s text → (settled (tree program.program) ≡ lowered s) × (lines program.program ≡ lines_of s)
+  pub is_only : (s : Source) → IsSource s text → (lowered_tree (tree program.program) ≡ lowered s) × (lines program.program ≡ lines_of s)
   pub is_read : document.reading tables_text ≡ Ok tables
   pub is_for : program.tables ≡ columned_of tables
   pub is_clean : violations (columned_of tables) (tree program.program) (lines program.program) ≡ []

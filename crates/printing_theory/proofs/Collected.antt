@@ -5,7 +5,7 @@ use Rattle.token_scanner.specs.Words.{Word, Words, Sign}
 use Rattle.token_scanner.specs.Scanning.{tokens_of}
 use Rattle.meaning.specs.Tree.{Tree}
 use Rattle.source_tree.specs.Source.{Decl, Reduces, Defines, Source}
-use Rattle.source_tree.specs.Lowering.{lowered, settled}
+use Rattle.source_tree.specs.Lowering.{lowered, lowered_tree}
 use Rattle.procedure_parser.specs.Grammar.{Form, ReducerForm, reduces, ProcedureForm, defines, Declarations, no_declaration, a_reducer, a_procedure, reducer_over, procedure_over}
 use Rattle.program_printer.specs.Tokens.{AllTokens, bare}
 use Rattle.printing_theory.specs.Again.{IsIn, AllOfSome, reducer_count, procedure_count}
@@ -50,7 +50,7 @@ member_comes d (e ∷ ds) (inl q) c = subst (λ (z : Decl). DeclComes z) q c.0
 member_comes d (e ∷ ds) (inr i) c = member_comes d ds i c.1
 
 -- a source tree of such declarations
-pub chosen : (t : Tree) → AllOfSome t → (s : Source) × EachComes s × (settled t ≡ lowered s)
+pub chosen : (t : Tree) → AllOfSome t → (s : Source) × EachComes s × (lowered_tree t ≡ lowered s)
 chosen [] i = ([], tt, refl)
 chosen (d ∷ t) ((text, s, e, o, m, q), j) =
     let c = member_comes e s m (each_comes 16 256 s (tokens_of text) [] (tokens_read text) o.1) in

@@ -7,7 +7,7 @@ use Rattle.token_scanner.specs.Words.{Over, Words}
 use Rattle.token_scanner.specs.Words as word
 use Rattle.token_scanner.specs.Scanning.{tokens_of, longest_text}
 use Rattle.source_tree.specs.Source.{Decl, Reduces, Defines, Source, stmts_of}
-use Rattle.source_tree.specs.Lowering.{Lowered, lowered_decl, lower_decl, lowered, settled, lower_proc, body_lines}
+use Rattle.source_tree.specs.Lowering.{Lowered, lowered_decl, lower_decl, lowered, lowered_tree, lower_proc, body_lines}
 use Rattle.program_edits.specs.Putting.{is_in, last_place, spot_of, put_at, put_all}
 use Rattle.procedure_parser.specs.Grammar.{ReducerForm, reduces, ProcedureForm, defines, Declarations, no_declaration, a_reducer, a_procedure, reducer_over, procedure_over}
 use Rattle.token_readers.specs.Rooms.{Room, room_of, turns_of}
@@ -44,12 +44,12 @@ within _ _ _ _ _ (procedure_over r k l m ts us w) = (omega arith, omega arith)
 
 -- the declarations of a text
 module _ (text : List ℕ) (all : Source) (is : IsSource all text) where
-  each_of_some : (t : Tree) (s : Source) → ((d : Decl) → IsIn d s → IsIn d all) → settled t ≡ lowered s → AllOfSome t
+  each_of_some : (t : Tree) (s : Source) → ((d : Decl) → IsIn d s → IsIn d all) → lowered_tree t ≡ lowered s → AllOfSome t
   each_of_some [] s among e = tt
   each_of_some (d ∷ t) [] among e = absurd (cc)
   each_of_some (d ∷ t) (x ∷ s) among e =
       let q : lowered_decl d ≡ lower_decl x = (cc) in
-      let r : settled t ≡ lowered s = (cc) in
+      let r : lowered_tree t ≡ lowered s = (cc) in
       ((text, all, x, is, among x (inl refl), q), each_of_some t s (λ y i. among y (inr i)) r)
 
 pub text_of_texts : (t : Tree) → IsOfText t → IsOfTexts t
@@ -81,7 +81,7 @@ module _ (text : List ℕ) (all : Source) (is : IsSource all text) where
   each_defined (Reduces l x k vs ∷ s) among = each_defined s (λ y i. among y (inr i))
   each_defined (Defines l m f xs ss ∷ s) among = ((text, all, Defines l m f xs ss, is, among (Defines l m f xs ss) (inl refl), refl), each_defined s (λ y i. among y (inr i)))
 
-definition_defined : (t : Tree) (s : Source) (text : List ℕ) → procedure_count (settled t) ≤ 256 → IsDefinition t s text → Defined s
+definition_defined : (t : Tree) (s : Source) (text : List ℕ) → procedure_count (lowered_tree t) ≤ 256 → IsDefinition t s text → Defined s
 definition_defined t s text le i =
     let turns : turns_of (room_of t) ≤ 256 = omega (arith, names_few t, names_count t, le) in
     each_defined text s (i.0, declared (room_of t) s (tokens_of text) [] (tokens_read text) i.1.1 256 turns) s (λ d j. j)
@@ -96,7 +96,7 @@ put_all_of_some (Defines k m f xs ss ∷ s) seen t l d a =
     let spot = spot_of (is_in f seen) (last_place 0 None f t) in
     put_all_of_some s (seen ++ f ∷ []) (put_at spot (plain.procedure p) t) (put_at spot (record { line = k; statements = body_lines (stmts_of ss) }) l) d.1 (some_put spot t (plain.procedure p) d.0 a)
 
-put_all_reducers : (s : Source) (seen : List Name) (t : Tree) (l : List Lined) → reducer_count (settled t) ≤ 16 → reducer_count (settled (put_all seen s (t, l)).0) ≤ 16
+put_all_reducers : (s : Source) (seen : List Name) (t : Tree) (l : List Lined) → reducer_count (lowered_tree t) ≤ 16 → reducer_count (lowered_tree (put_all seen s (t, l)).0) ≤ 16
 put_all_reducers [] seen t l h = h
 put_all_reducers (Reduces k x kind vs ∷ s) seen t l h = put_all_reducers s seen t l h
 put_all_reducers (Defines k m f xs ss ∷ s) seen t l h =
@@ -105,7 +105,7 @@ put_all_reducers (Defines k m f xs ss ∷ s) seen t l h =
     let g = put_grows spot t p in
     put_all_reducers s (seen ++ f ∷ []) (put_at spot (plain.procedure p) t) (put_at spot (record { line = k; statements = body_lines (stmts_of ss) }) l) (omega (arith, g.0, h))
 
-put_all_procedures : (room : Room) (s : Source) (ts us : Words) → Procedures room s ts us → (seen : List Name) (t : Tree) (l : List Lined) → Fits room seen t → procedure_count (settled (put_all seen s (t, l)).0) ≤ 256
+put_all_procedures : (room : Room) (s : Source) (ts us : Words) → Procedures room s ts us → (seen : List Name) (t : Tree) (l : List Lined) → Fits room seen t → procedure_count (lowered_tree (put_all seen s (t, l)).0) ≤ 256
 put_all_procedures _ _ _ _ (no_procedure room ts) seen t l fits = omega (arith, fits.few)
 put_all_procedures _ _ _ _ (one_procedure room after i k m f d s ts us vs ws w e (behind_name xs ss _ zs _ p b) q) seen t l fits =
     let proc = lower_proc m f xs ss in
@@ -118,7 +118,7 @@ defined_of_texts t l text after (a, r, p) (s, i, e) =
     let q : after.0 ≡ (put_all [] s (t, l)).0 = ap (λ (z : Tree × List Lined). z.0) e in
     let fits : Fits (room_of t) [] t = record { apart = names_apart t; stand = names_stand t; few = omega (arith, names_count t, p) } in
     let h = put_all_procedures (room_of t) s (tokens_of text) [] i.1.1 [] t l fits in
-    (subst (λ (z : Tree). AllOfSome z) (sym q) (put_all_of_some s [] t l (definition_defined t s text p i) a), subst (λ (z : Tree). reducer_count (settled z) ≤ 16) (sym q) (put_all_reducers s [] t l r), subst (λ (z : Tree). procedure_count (settled z) ≤ 256) (sym q) h)
+    (subst (λ (z : Tree). AllOfSome z) (sym q) (put_all_of_some s [] t l (definition_defined t s text p i) a), subst (λ (z : Tree). reducer_count (lowered_tree z) ≤ 16) (sym q) (put_all_reducers s [] t l r), subst (λ (z : Tree). procedure_count (lowered_tree z) ≤ 256) (sym q) h)
 
 pub defined_prints : (t : Tree) (l : List Lined) (text : List ℕ) (after : Tree × List Lined) → IsOfTexts t → IsDefined (t, l) text after → length (printed after.0) ≤ longest_text → PrintsAgain after.0
 defined_prints t l text after i d h = collected_prints after.0 (defined_of_texts t l text after i d) h

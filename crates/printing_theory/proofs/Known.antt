@@ -6,7 +6,7 @@ use Rattle.std.proofs.lemmas.Bool.{ltb-true}
 use Rattle.std.proofs.lemmas.Slice.Eq.{bytes_eq-Decides}
 use Rattle.meaning.specs.Tree.{Name, Proc, reducer, procedure, Tree}
 use Rattle.token_scanner.specs.Words.{for_some}
-use Rattle.source_tree.specs.Lowering.{found_index, settled}
+use Rattle.source_tree.specs.Lowering.{found_index, lowered_tree}
 use Rattle.program_edits.specs.Putting.{is_in, last_place, spot_of}
 use Rattle.token_readers.specs.Rooms.{Room, room_behind, with_new, names_from, procedures_in}
 use Rattle.printing_theory.specs.Again.{procedure_count}
@@ -105,7 +105,7 @@ replaced f (y ∷ ys) n seen t u go a s e =
 pub record Fits (room : Room) (seen : List Name) (t : Tree) : Type 0 where
   pub apart : AllApart room.0
   pub stand : Stand room.0 seen t
-  pub few : procedure_count (settled t) + room.1 ≤ 256
+  pub few : procedure_count (lowered_tree t) + room.1 ≤ 256
 
 pub fits_behind : (known : List Name) (left : ℕ) (after : Room) (p : Proc) (seen : List Name) (t : Tree) → room_behind (known, left) p.called ≡ Some after → Fits (known, left) seen t → Fits after (seen ++ p.called ∷ []) (put_in (is_in p.called seen) p t)
 fits_behind known left after p seen t e fits =
@@ -117,7 +117,7 @@ fits_behind known left after p seen t e fits =
           let k : Some (remove known n, left) ≡ Some after = sym (ap (λ (o : Option ℕ). for_some o (cond (ltb 0 left) (Some (known, left - 1)) None) (λ n. Some (remove known n, left))) h) ∙ e in
           let q : (remove known n, left) ≡ after = (cc) in
           let r = replaced p.called known n seen t u go fits.apart fits.stand h in
-          let c : procedure_count (settled u) ≡ procedure_count (settled t) = subst (λ (b : Bool). procedure_count (settled (put_in b p t)) ≡ procedure_count (settled t)) (sym r.1) (count_put p t r.0) in
+          let c : procedure_count (lowered_tree u) ≡ procedure_count (lowered_tree t) = subst (λ (b : Bool). procedure_count (lowered_tree (put_in b p t)) ≡ procedure_count (lowered_tree t)) (sym r.1) (count_put p t r.0) in
           subst (λ (r : Room). Fits r (seen ++ p.called ∷ []) u) q (record { apart = r.2; stand = r.3; few = omega (arith, c, fits.few) })
       | inl h ↦
           let k : cond (ltb 0 left) (Some (known, left - 1)) None ≡ Some after = sym (ap (λ (o : Option ℕ). for_some o (cond (ltb 0 left) (Some (known, left - 1)) None) (λ n. Some (remove known n, left))) h) ∙ e in
@@ -189,7 +189,7 @@ names_stand t = stand_from t [] t (λ x h. h) tt
 pub names_few : (t : Tree) → length (names_from [] t) ≤ procedures_in t
 names_few t = omega (arith, few_from t [])
 
-pub names_count : (t : Tree) → procedure_count (settled t) ≡ procedures_in t
+pub names_count : (t : Tree) → procedure_count (lowered_tree t) ≡ procedures_in t
 names_count [] = refl
 names_count (reducer r ∷ t) = names_count t
 names_count (procedure p ∷ t) = ap (λ (n : ℕ). suc n) (names_count t)

@@ -13,7 +13,7 @@ use Rattle.monoid_laws.specs.declared.Kind.{Kind}
 use Rattle.monoid_laws.specs.declared.Kind.TheVariants as k
 use Rattle.source_tree.specs.Kinds.{WrittenKind, written}
 use Rattle.source_tree.specs.Source.{Phrase, Num, Var, Cell, Has, Limit, Sum, Neg, Bin, Stmt, Binds, Enters, Reads, Syncs, Updates, Tests, Loops, Returns, Stmts, none, some, stmts_of, Decl, Reduces, Defines, Source}
-use Rattle.source_tree.specs.Lowering.{found_index, numbered, lower_term, lower_terms, optional, Walk, lower_deed, lower_body, Lowered, lowered_decl, settled, lower_proc, lower_decl, lowered}
+use Rattle.source_tree.specs.Lowering.{found_index, numbered, lower_term, lower_terms, optional, Walk, lower_deed, lower_body, Lowered, lowered_decl, lowered_tree, lower_proc, lower_decl, lowered}
 use Rattle.source_tree.specs.Lowering as l
 use Rattle.program_printer.specs.Printing.{operator_mark, way_mark, names_words, memo_words, variable, term_words, more_terms, terms_words, bound_words, deed_words, body_words, else_words, kind_words, initial_words, decl_words, printed_words}
 use Rattle.printing_theory.proofs.Said.{phrase_words, more_phrases, phrases_words, target_words, stmt_words, stmts_words, otherwise_words, written_words, decl_said, said}
@@ -277,11 +277,11 @@ decl_says (plain.procedure p) (Defines i m f xs ss) h us =
     ∙ ap (λ (z : List Word). names_words xs (Sign mark.CloseParen ∷ Sign mark.OpenBrace ∷ z)) (b.1 names (ext_same names) (Sign mark.CloseBrace ∷ us)))
 
 -- the tokens of a printed tree are those of each source tree of it
-pub said_of : (t : Tree) (s : Source) → settled t ≡ lowered s → printed_words t ≡ said s
+pub said_of : (t : Tree) (s : Source) → lowered_tree t ≡ lowered s → printed_words t ≡ said s
 said_of [] [] h = refl
 said_of [] (e ∷ s) h = absurd cc
 said_of (d ∷ t) [] h = absurd cc
 said_of (d ∷ t) (e ∷ s) h =
     let p : lowered_decl d ≡ lower_decl e = cc in
-    let q : settled t ≡ lowered s = cc in
+    let q : lowered_tree t ≡ lowered s = cc in
     decl_says d e p (printed_words t) ∙ ap (λ (z : List Word). decl_said e z) (said_of t s q)

@@ -3,7 +3,7 @@ use Rattle.std.proofs.Common.{◌≡◌, ℕ, zero, suc, ◌+◌, ◌≤◌, Boo
 use Rattle.std.specs.Prelude.{insert, slice_set, bytes_eq}
 use Rattle.std.proofs.lemmas.Slice.Eq.{bytes_eq-Decides}
 use Rattle.meaning.specs.Tree.{Name, Proc, Decl, reducer, procedure, Tree}
-use Rattle.source_tree.specs.Lowering.{settled}
+use Rattle.source_tree.specs.Lowering.{lowered_tree}
 use Rattle.program_edits.specs.Putting.{is_procedure, last_place, Spot, Last, Over, Behind, spot_of, put_at}
 use Rattle.printing_theory.specs.Again.{IsOfSome, AllOfSome, reducer_count, procedure_count}
 
@@ -45,7 +45,7 @@ some_put (Behind n) t x o a = some_behind t (n + 1) x o a
 
 -- no more reducers, and at most one procedure more
 abbrev pub Grown : Tree → Tree → Type 0
-Grown t u = (reducer_count (settled u) ≤ reducer_count (settled t)) × (procedure_count (settled u) ≤ suc (procedure_count (settled t)))
+Grown t u = (reducer_count (lowered_tree u) ≤ reducer_count (lowered_tree t)) × (procedure_count (lowered_tree u) ≤ suc (procedure_count (lowered_tree t)))
 
 grown_behind : (d : Decl) (t u : Tree) → Grown t u → Grown (d ∷ t) (d ∷ u)
 grown_behind (reducer r) t u g = (omega (arith, g.0), g.1)
@@ -127,18 +127,18 @@ last_none k found f (d ∷ t) e =
 
 -- ---- a procedure in the place of one of its name
 
-count_over : (f : Name) (t : Tree) (n : ℕ) (p : Proc) → IsThere f n t → procedure_count (settled (slice_set t n (procedure p))) ≡ procedure_count (settled t)
+count_over : (f : Name) (t : Tree) (n : ℕ) (p : Proc) → IsThere f n t → procedure_count (lowered_tree (slice_set t n (procedure p))) ≡ procedure_count (lowered_tree t)
 count_over f [] n p i = absurd i
 count_over f (reducer r ∷ t) zero p i = let g : false ≡ true = i in absurd (cc)
 count_over f (procedure q ∷ t) zero p i = refl
 count_over f (reducer r ∷ t) (suc n) p i = count_over f t n p i
 count_over f (procedure q ∷ t) (suc n) p i = ap (λ (k : ℕ). suc k) (count_over f t n p i)
 
-pub count_put : (p : Proc) (t : Tree) → Has p.called t → procedure_count (settled (put_in false p t)) ≡ procedure_count (settled t)
+pub count_put : (p : Proc) (t : Tree) → Has p.called t → procedure_count (lowered_tree (put_in false p t)) ≡ procedure_count (lowered_tree t)
 count_put p t h =
     elim (on_option (last_place 0 None p.called t)) [
       | inl e ↦ absurd ((last_none 0 None p.called t e).1 h)
-      | inr (n, e) ↦ subst (λ (o : Option ℕ). procedure_count (settled (put_at (spot_of false o) (procedure p) t)) ≡ procedure_count (settled t)) (sym e) (count_over p.called t n p (last_there p.called t n e))
+      | inr (n, e) ↦ subst (λ (o : Option ℕ). procedure_count (lowered_tree (put_at (spot_of false o) (procedure p) t)) ≡ procedure_count (lowered_tree t)) (sym e) (count_over p.called t n p (last_there p.called t n e))
     ]
 
 -- ---- names stay

@@ -8,8 +8,8 @@ use Rattle.meaning.specs.declared.tree.Program.{Program}
 use Rattle.token_scanner.specs.Words.{Word, Words}
 use Rattle.token_scanner.specs.Scanning.{tokens_of, longest_text}
 use Rattle.source_tree.specs.Source.{Source}
-use Rattle.source_tree.specs.Lowering.{Lowered, settled, lowered, lines_of}
-use Rattle.source_tree.proofs.Settled.{settled_back}
+use Rattle.source_tree.specs.Lowering.{Lowered, lowered_tree, lowered, lines_of}
+use Rattle.source_tree.proofs.LoweredTrees.{lowered_back}
 use Rattle.token_readers.specs.declared.fault.TextError.{TextError}
 use Rattle.token_readers.specs.declared.fault.TextError.TheVariants.{NoMemory, Text}
 use Rattle.procedure_parser.specs.Grammar.{Declarations}
@@ -29,7 +29,7 @@ bare_nil [] h = refl
 bare_nil (t ∷ ts) h = absurd cc
 
 -- another source tree of the same program, in the printed text
-source_again : (t : Tree) (s : Source) (text : List ℕ) → InGrammar s (tokens_of text) → settled t ≡ lowered s → (y : Source) × InGrammar y (tokens_of (printed t)) × (lowered y ≡ lowered s)
+source_again : (t : Tree) (s : Source) (text : List ℕ) → InGrammar s (tokens_of text) → lowered_tree t ≡ lowered s → (y : Source) × InGrammar y (tokens_of (printed t)) × (lowered y ≡ lowered s)
 source_again t s text i e =
     let q = declarations_print 16 256 s (tokens_of text) [] (tokens_read text) i in
     let w : printed_words t ≡ said s = said_of t s e in
@@ -42,8 +42,8 @@ prints_again t (text, (l, (s, i, e, g))) h =
     let q = source_again t s text i.1 e in
     (lines_of q.0, (q.0, (h, q.1), e ∙ sym q.2, refl))
 
-answered : (t : Tree) (s : Source) (answer : Result Program TextError) → settled t ≡ lowered s → Answers answer s → IsAgain t answer
-answered t s (Ok p) e a = settled_back (tree p) t (a.0 ∙ sym e)
+answered : (t : Tree) (s : Source) (answer : Result Program TextError) → lowered_tree t ≡ lowered s → Answers answer s → IsAgain t answer
+answered t s (Ok p) e a = lowered_back (tree p) t (a.0 ∙ sym e)
 answered t s (Err NoMemory) e a = tt
 answered t s (Err (Text n)) e a = a
 

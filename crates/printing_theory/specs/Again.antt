@@ -5,7 +5,7 @@ use Rattle.meaning.specs.Tree as plain
 use Rattle.meaning.specs.TreeView.{tree, Lined}
 use Rattle.meaning.specs.declared.tree.Program.{Program}
 use Rattle.source_tree.specs.Source.{Decl, Source}
-use Rattle.source_tree.specs.Lowering.{Lowered, reducer, procedure, lowered_decl, lower_decl, settled}
+use Rattle.source_tree.specs.Lowering.{Lowered, reducer, procedure, lowered_decl, lower_decl, lowered_tree}
 use Rattle.token_readers.specs.declared.fault.TextError.{TextError}
 use Rattle.token_readers.specs.declared.fault.TextError.TheVariants.{NoMemory, Text}
 use Rattle.procedure_parser.specs.Correct.{IsText, IsSource}
@@ -43,7 +43,7 @@ procedure_count (procedure p ∷ ds) = suc (procedure_count ds)
 
 -- each declaration is of some text, and no limit is passed: so are the programs that definitions have made of a text's
 abbrev pub IsOfTexts : Tree → Type 0
-IsOfTexts t = AllOfSome t × (reducer_count (settled t) ≤ 16) × (procedure_count (settled t) ≤ 256)
+IsOfTexts t = AllOfSome t × (reducer_count (lowered_tree t) ≤ 16) × (procedure_count (lowered_tree t) ≤ 256)
 
 -- its printed text has the same tree
 abbrev pub PrintsAgain : Tree → Type 0

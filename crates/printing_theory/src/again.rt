@@ -7,8 +7,8 @@ ghost use Rattle.printing_theory.specs.Again.{IsOfText, IsOfTexts, IsAgain, IsTo
 ghost use Rattle.token_scanner.specs.Scanning.{longest_text};
 
 use crate::printing::print;
-use procedure_parser::{TextError, parse};
 use meaning::tree::Program;
+use procedure_parser::{TextError, parse};
 use std::alloc::Global;
 
 /// The program that the printed text of a program is read as. An error is NoMemory, or line 0 where the printed text is too

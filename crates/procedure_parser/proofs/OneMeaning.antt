@@ -6,7 +6,7 @@ use Rattle.token_scanner.specs.Words.{Words}
 use Rattle.token_scanner.specs.Scanning.{tokens_of}
 use Rattle.source_tree.specs.Source.{Source}
 use Rattle.source_tree.specs.Lowering.{lowered, lines_of}
-use Rattle.source_tree.proofs.Settled.{settled_back}
+use Rattle.source_tree.proofs.LoweredTrees.{lowered_back}
 use Rattle.program_edits.specs.Putting.{put_all}
 use Rattle.procedure_parser.specs.Correct.{IsSource, IsText, IsDefinition}
 use Rattle.procedure_parser.specs.Defined.{IsDefined}
@@ -23,7 +23,7 @@ pub one_source : (text : List ℕ) (s r : Source) → IsSource s text → IsSour
 one_source text s r i j = same_source s r (sym (only_text s (tokens_of text) i.1) ∙ only_text r (tokens_of text) j.1)
 
 pub one_tree : (text : List ℕ) (t u : Tree) (l m : List Lined) → IsText text t l → IsText text u m → t ≡ u
-one_tree text t u l m (s, i, e, f) (r, j, g, h) = settled_back t u (e ∙ ap lowered (one_source text s r i j) ∙ sym g)
+one_tree text t u l m (s, i, e, f) (r, j, g, h) = lowered_back t u (e ∙ ap lowered (one_source text s r i j) ∙ sym g)
 
 pub one_list : (text : List ℕ) (t u : Tree) (l m : List Lined) → IsText text t l → IsText text u m → l ≡ m
 one_list text t u l m (s, i, e, f) (r, j, g, h) = f ∙ ap lines_of (one_source text s r i j) ∙ sym h

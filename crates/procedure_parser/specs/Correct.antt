@@ -11,7 +11,7 @@ use Rattle.source_tree.specs.declared.source.Declaration.{Declaration}
 use Rattle.source_tree.specs.Source.{Source, source}
 use Rattle.procedure_parser.specs.Grammar.{Declarations}
 use Rattle.token_scanner.specs.Scanning.{tokens_of, longest_text}
-use Rattle.source_tree.specs.Lowering.{settled, lowered, lines_of}
+use Rattle.source_tree.specs.Lowering.{lowered_tree, lowered, lines_of}
 use Rattle.token_readers.specs.Lines.{line_at}
 use Rattle.token_readers.specs.Rooms.{Room, room_of}
 use Rattle.procedure_parser.specs.Defining.{Defining}
@@ -45,7 +45,7 @@ IsSource s text = (length text ≤ longest_text) × InGrammar s (tokens_of text)
 
 -- a text's tree, and the lines of its declarations and statements
 abbrev pub IsText : List ℕ → Tree → List Lined → Type 0
-IsText text t l = (s : Source) × IsSource s text × (settled t ≡ lowered s) × (l ≡ lines_of s)
+IsText text t l = (s : Source) × IsSource s text × (lowered_tree t ≡ lowered s) × (l ≡ lines_of s)
 
 -- the source tree that is the answer to a text with such a one, unless memory runs out
 abbrev pub AnswersSource : Result (Vec Declaration) TextError → Source → Type 0
@@ -55,7 +55,7 @@ AnswersSource (Err (Text l)) s = ⊥
 
 -- the answer to a text with such a source tree, unless memory runs out
 abbrev pub Answers : Result Program TextError → Source → Type 0
-Answers (Ok p) s = (settled (tree p) ≡ lowered s) × (lines p ≡ lines_of s)
+Answers (Ok p) s = (lowered_tree (tree p) ≡ lowered s) × (lines p ≡ lines_of s)
 Answers (Err NoMemory) s = Unit {0}
 Answers (Err (Text l)) s = ⊥
 

@@ -7,8 +7,8 @@ ghost use Rattle.procedure_parser.specs.Correct.{IsDefinition, AnswersSource, Is
 ghost use Rattle.procedure_parser.specs.Defined.{AnswersDefinition, IsDefined};
 
 use crate::define::definition;
-use program_edits::with_procedures;
 use meaning::tree::Program;
+use program_edits::with_procedures;
 use source_tree::Declaration;
 use std::alloc::Global;
 use token_readers::{ParseError, TextError, fault_line, room_of};

@@ -12,8 +12,8 @@ ghost use Rattle.program_printer.specs.Printing.{more_numbers, numbers_words, ta
 ghost use Rattle.program_printer.specs.Printing.{initial_words, more_names, names_words, memo_words, decl_words, names_of, opening_words};
 
 use crate::block::{put_block, put_close};
-use monoid_laws::{Kind, Table};
 use meaning::tree::{Declaration, Procedure, Reducer};
+use monoid_laws::{Kind, Table};
 use std::alloc::AllocError;
 use std::fmt::Write;
 

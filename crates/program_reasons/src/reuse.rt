@@ -1,9 +1,9 @@
 // What is said of the memo instances of a run.
 ghost use Rattle.rerun_records.specs.Doubted.{IsInStep};
 
-use positions::answer::RunAnswer;
 use input_tables::Tables;
 use linked_program::checked::Checked;
+use positions::answer::RunAnswer;
 use rerun_reasons::{push_reasons, reasons};
 use rerun_records::records::Records;
 use session_notes::explained::Crew;

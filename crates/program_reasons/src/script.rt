@@ -4,9 +4,9 @@ ghost use Rattle.rerun_records.specs.Doubted.{IsInStep};
 
 use crate::causes::explanation;
 use crate::reuse::{outcome_text, reuse_text};
-use positions::answer::RunAnswer;
 use input_tables::Tables;
 use linked_program::checked::Checked;
+use positions::answer::RunAnswer;
 use program_endings::streams::{Failures, flush, write_whole};
 use rerun_records::records::Records;
 use session_notes::explained::{Cause, Crew, Explain};

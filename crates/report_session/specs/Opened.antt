@@ -3,7 +3,7 @@ use Rattle.std.specs.Prelude.{◌≡◌, ◌⊎◌, ℕ, List, []}
 use Rattle.meaning.specs.Tree.{Tree}
 use Rattle.meaning.specs.TreeView.{tree, lines, Lined}
 use Rattle.source_tree.specs.Source.{Source}
-use Rattle.source_tree.specs.Lowering.{settled, lowered, lines_of}
+use Rattle.source_tree.specs.Lowering.{lowered_tree, lowered, lines_of}
 use Rattle.procedure_parser.specs.Correct.{IsText, IsSource}
 use Rattle.meaning.specs.Tables.{Tables}
 use Rattle.meaning.specs.Edits.{revised}
@@ -20,7 +20,7 @@ use Rattle.report_session.specs.declared.opening.OpenError.TheVariants.{NoMemory
 -- and its procedures have their first revision numbers
 pub record IsProgramOver (text : List ℕ) (tables : Tables) (program : PlainChecked) : Type 0 where
   pub is_text : IsText text (tree program.program) (lines program.program)
-  pub is_only : (s : Source) → IsSource s text → (settled (tree program.program) ≡ lowered s) × (lines program.program ≡ lines_of s)
+  pub is_only : (s : Source) → IsSource s text → (lowered_tree (tree program.program) ≡ lowered s) × (lines program.program ≡ lines_of s)
   pub is_for : program.tables ≡ columned_of tables
   pub is_clean : violations (columned_of tables) (tree program.program) (lines program.program) ≡ []
   pub is_first : ((revised_of program).revisions, program.counter) ≡ revised nothing (tree program.program) 0

@@ -5,8 +5,8 @@ ghost use Rattle.meaning.specs.Statements.{reducers};
 ghost use Rattle.linked_program.specs.Linked.{reducer_number as number_of_reducer};
 
 use linked_program::checked::Checked;
-use monoid_laws::Val;
 use meaning::tree::Declaration;
+use monoid_laws::Val;
 
 /// The value of the reducer of a name, of those that a run of the program came to, which are in the order of its text; none
 /// where the program has no such reducer.

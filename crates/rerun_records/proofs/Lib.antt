@@ -3,7 +3,7 @@ pub mod Absorbed
 pub mod Covered
 pub mod Puts
 pub mod InStep
-pub mod Standing
+pub mod Doubts
 pub mod Finding
 pub mod Marks
 pub mod Numbers

@@ -12,10 +12,10 @@ use Rattle.meaning.specs.Records.{same_number, same_bool}
 use Rattle.meaning.specs.Tables.{Tables}
 use Rattle.evaluation.specs.declared.note.Note.{Note}
 use Rattle.evaluation.specs.declared.note.Note.TheVariants.{Cell, Has, Limit, Sum}
-use Rattle.rerun_records.specs.Record.{PlainRecord, Doubts, everything, rows, settled}
+use Rattle.rerun_records.specs.Record.{PlainRecord, Doubts, everything, rows, doubtless}
 use Rattle.rerun_records.specs.Validity.{note_agrees}
 use Rattle.rerun_records.specs.Doubted.{rests_on, in_step, reads_in_step, IsInStep, reads_agree, IsSameBut}
-use Rattle.rerun_records.specs.Moments.{doubts_since, doubted_by, standing, never, is_moment, AreStanding, first_moment}
+use Rattle.rerun_records.specs.Moments.{doubts_since, doubted_by, with_doubts, never, is_moment, HaveMoments, first_moment}
 use Rattle.rerun_records.proofs.Members.{left_is, right_is, both, every_weaker}
 use Rattle.rerun_records.proofs.InStep.{read_now}
 
@@ -78,19 +78,19 @@ module _ (table : ℕ) (row : ℤ) (before after : Tables) (same : IsSameBut tab
               | inr gt ↦ gt.0
             ]
 
-    pub marked : (ns : List ℕ) (rs : List PlainRecord) → every (is_moment (length changes)) ns ≡ true → IsInStep before (standing changes ns rs) → IsInStep after (standing (changes ++ (table, row) ∷ []) ns rs)
+    pub marked : (ns : List ℕ) (rs : List PlainRecord) → every (is_moment (length changes)) ns ≡ true → IsInStep before (with_doubts changes ns rs) → IsInStep after (with_doubts (changes ++ (table, row) ∷ []) ns rs)
     marked ns [] m h = refl
     marked [] (r ∷ rs) m h =
-        both (reads_in_step after (doubted_by everything r)) (every (reads_in_step after) (standing (changes ++ (table, row) ∷ []) [] rs))
+        both (reads_in_step after (doubted_by everything r)) (every (reads_in_step after) (with_doubts (changes ++ (table, row) ∷ []) [] rs))
         (all_doubted after r.reads)
-        (marked [] rs refl (right_is (reads_in_step before (doubted_by everything r)) (every (reads_in_step before) (standing changes [] rs)) h))
+        (marked [] rs refl (right_is (reads_in_step before (doubted_by everything r)) (every (reads_in_step before) (with_doubts changes [] rs)) h))
     marked (n ∷ ns) (r ∷ rs) m h =
-        both (reads_in_step after (doubted_by (doubts_since (changes ++ (table, row) ∷ []) n) r)) (every (reads_in_step after) (standing (changes ++ (table, row) ∷ []) ns rs))
+        both (reads_in_step after (doubted_by (doubts_since (changes ++ (table, row) ∷ []) n) r)) (every (reads_in_step after) (with_doubts (changes ++ (table, row) ∷ []) ns rs))
         (every_weaker (in_step before (doubts_since changes n)) (in_step after (doubts_since (changes ++ (table, row) ∷ []) n)) r.reads
         (λ note e. doubts_marked n (left_is (is_moment (length changes) n) (every (is_moment (length changes)) ns) m) note e)
-        (left_is (reads_in_step before (doubted_by (doubts_since changes n) r)) (every (reads_in_step before) (standing changes ns rs)) h))
+        (left_is (reads_in_step before (doubted_by (doubts_since changes n) r)) (every (reads_in_step before) (with_doubts changes ns rs)) h))
         (marked ns rs (right_is (is_moment (length changes) n) (every (is_moment (length changes)) ns) m)
-        (right_is (reads_in_step before (doubted_by (doubts_since changes n) r)) (every (reads_in_step before) (standing changes ns rs)) h))
+        (right_is (reads_in_step before (doubted_by (doubts_since changes n) r)) (every (reads_in_step before) (with_doubts changes ns rs)) h))
 
 -- the moments stay moments when one more change is listed
 pub still_moments : (changes : List (ℕ × ℤ)) (change : ℕ × ℤ) (ns : List ℕ) → every (is_moment (length changes)) ns ≡ true → every (is_moment (length (changes ++ change ∷ []))) ns ≡ true
@@ -106,52 +106,52 @@ still_moments changes change ns e = every_weaker (is_moment (length changes)) (i
           | inr gt ↦ or_true (nat_le n (length (changes ++ change ∷ []))) (nat_eq n never) (rw gt.0 at m)
         ]
 
-pub listed_stand : (changes more : List (ℕ × ℤ)) (change : ℕ × ℤ) (ns : List ℕ) (rs : List PlainRecord) → more ≡ changes ++ change ∷ [] → length more < never → AreStanding changes ns rs → AreStanding more ns rs
+pub listed_stand : (changes more : List (ℕ × ℤ)) (change : ℕ × ℤ) (ns : List ℕ) (rs : List PlainRecord) → more ≡ changes ++ change ∷ [] → length more < never → HaveMoments changes ns rs → HaveMoments more ns rs
 listed_stand changes more change ns rs e few h = record {
   single = h.single;
-  settled_are = h.settled_are;
+  doubtless_are = h.doubtless_are;
   places = h.places;
   moments_are = rw e (still_moments changes change ns h.moments_are);
   few = few;
 }
 
-pub listed_marked : (changes more : List (ℕ × ℤ)) (table : ℕ) (row : ℤ) (ns : List ℕ) (rs : List PlainRecord) → more ≡ changes ++ (table, row) ∷ [] → length more < never → AreStanding changes ns rs
-    → (before after : Tables) → IsSameBut table row before after → IsInStep before (standing changes ns rs) → IsInStep after (standing more ns rs)
+pub listed_marked : (changes more : List (ℕ × ℤ)) (table : ℕ) (row : ℤ) (ns : List ℕ) (rs : List PlainRecord) → more ≡ changes ++ (table, row) ∷ [] → length more < never → HaveMoments changes ns rs
+    → (before after : Tables) → IsSameBut table row before after → IsInStep before (with_doubts changes ns rs) → IsInStep after (with_doubts more ns rs)
 listed_marked changes more table row ns rs e few h before after same i = rw e (marked table row before after same changes (rw e at few) ns rs h.moments_are i)
 
 -- ---- all in doubt, and all compared
 
-nevers_doubt : (tables : Tables) (k : ℕ) (rs : List PlainRecord) → every (reads_in_step tables) (standing [] (replicate k never) rs) ≡ true
+nevers_doubt : (tables : Tables) (k : ℕ) (rs : List PlainRecord) → every (reads_in_step tables) (with_doubts [] (replicate k never) rs) ≡ true
 nevers_doubt tables k [] = refl
-nevers_doubt tables zero (r ∷ rs) = both (reads_in_step tables (doubted_by everything r)) (every (reads_in_step tables) (standing [] [] rs)) (all_doubted tables r.reads) (nevers_doubt tables zero rs)
+nevers_doubt tables zero (r ∷ rs) = both (reads_in_step tables (doubted_by everything r)) (every (reads_in_step tables) (with_doubts [] [] rs)) (all_doubted tables r.reads) (nevers_doubt tables zero rs)
 nevers_doubt tables (suc k) (r ∷ rs) =
-    both (reads_in_step tables (doubted_by everything r)) (every (reads_in_step tables) (standing [] (replicate k never) rs)) (all_doubted tables r.reads) (nevers_doubt tables k rs)
+    both (reads_in_step tables (doubted_by everything r)) (every (reads_in_step tables) (with_doubts [] (replicate k never) rs)) (all_doubted tables r.reads) (nevers_doubt tables k rs)
 
-pub all_doubted_step : (tables : Tables) (ns : List ℕ) (k : ℕ) (rs : List PlainRecord) → ns ≡ replicate k never → IsInStep tables (standing [] ns rs)
+pub all_doubted_step : (tables : Tables) (ns : List ℕ) (k : ℕ) (rs : List PlainRecord) → ns ≡ replicate k never → IsInStep tables (with_doubts [] ns rs)
 all_doubted_step tables ns k rs e = rw e (nevers_doubt tables k rs)
 
 -- what was in doubt before doesn't count
-doubted_anew : (doubts : Doubts) (changes : List (ℕ × ℤ)) (ns : List ℕ) (rs : List PlainRecord) → map (doubted_by doubts) (standing changes ns rs) ≡ map (doubted_by doubts) rs
+doubted_anew : (doubts : Doubts) (changes : List (ℕ × ℤ)) (ns : List ℕ) (rs : List PlainRecord) → map (doubted_by doubts) (with_doubts changes ns rs) ≡ map (doubted_by doubts) rs
 doubted_anew doubts changes ns [] = refl
 doubted_anew doubts changes [] (r ∷ rs) = ap (λ xs. doubted_by doubts r ∷ xs) (doubted_anew doubts changes [] rs)
 doubted_anew doubts changes (n ∷ ns) (r ∷ rs) = ap (λ xs. doubted_by doubts r ∷ xs) (doubted_anew doubts changes ns rs)
 
-nevers_are : (k : ℕ) (rs : List PlainRecord) → standing [] (replicate k never) rs ≡ map (doubted_by everything) rs
+nevers_are : (k : ℕ) (rs : List PlainRecord) → with_doubts [] (replicate k never) rs ≡ map (doubted_by everything) rs
 nevers_are k [] = refl
 nevers_are zero (r ∷ rs) = ap (λ xs. doubted_by everything r ∷ xs) (nevers_are zero rs)
 nevers_are (suc k) (r ∷ rs) = ap (λ xs. doubted_by everything r ∷ xs) (nevers_are k rs)
 
-pub all_doubted_are : (changes : List (ℕ × ℤ)) (ms ns : List ℕ) (k : ℕ) (rs : List PlainRecord) → ns ≡ replicate k never → standing [] ns rs ≡ map (doubted_by everything) (standing changes ms rs)
-all_doubted_are changes ms ns k rs e = ap (λ is. standing [] is rs) e ∙ nevers_are k rs ∙ sym (doubted_anew everything changes ms rs)
+pub all_doubted_are : (changes : List (ℕ × ℤ)) (ms ns : List ℕ) (k : ℕ) (rs : List PlainRecord) → ns ≡ replicate k never → with_doubts [] ns rs ≡ map (doubted_by everything) (with_doubts changes ms rs)
+all_doubted_are changes ms ns k rs e = ap (λ is. with_doubts [] is rs) e ∙ nevers_are k rs ∙ sym (doubted_anew everything changes ms rs)
 
 never_moments : (k : ℕ) → every (is_moment 0) (replicate k never) ≡ true
 never_moments zero = refl
 never_moments (suc k) = never_moments k
 
-pub all_doubted_stand : (changes : List (ℕ × ℤ)) (ms ns : List ℕ) (k : ℕ) (rs : List PlainRecord) → ns ≡ replicate k never → k ≡ length ms → AreStanding changes ms rs → AreStanding [] ns rs
+pub all_doubted_stand : (changes : List (ℕ × ℤ)) (ms ns : List ℕ) (k : ℕ) (rs : List PlainRecord) → ns ≡ replicate k never → k ≡ length ms → HaveMoments changes ms rs → HaveMoments [] ns rs
 all_doubted_stand changes ms ns k rs e l h = record {
   single = h.single;
-  settled_are = h.settled_are;
+  doubtless_are = h.doubtless_are;
   places = ap length e ∙ length-replicate k never ∙ l ∙ h.places;
   moments_are = rw e (never_moments k);
   few = omega arith;
@@ -160,16 +160,16 @@ all_doubted_stand changes ms ns k rs e l h = record {
 compared_one : (tables : Tables) (r : PlainRecord) → reads_in_step tables (doubted_by (doubts_since [] (first_moment tables r)) r) ≡ true
 compared_one tables r =
     elim (reads_agree tables r) as (λ b. reads_agree tables r ≡ b → reads_in_step tables (doubted_by (doubts_since [] (cond b 0 never)) r) ≡ true) [
-      | true ↦ λ e. read_now tables (settled r) e
+      | true ↦ λ e. read_now tables (doubtless r) e
       | false ↦ λ e. all_doubted tables r.reads
     ] refl
 
-compared_step : (tables : Tables) (rs : List PlainRecord) → IsInStep tables (standing [] (map (first_moment tables) rs) rs)
+compared_step : (tables : Tables) (rs : List PlainRecord) → IsInStep tables (with_doubts [] (map (first_moment tables) rs) rs)
 compared_step tables [] = refl
 compared_step tables (r ∷ rs) =
-    both (reads_in_step tables (doubted_by (doubts_since [] (first_moment tables r)) r)) (every (reads_in_step tables) (standing [] (map (first_moment tables) rs) rs)) (compared_one tables r) (compared_step tables rs)
+    both (reads_in_step tables (doubted_by (doubts_since [] (first_moment tables r)) r)) (every (reads_in_step tables) (with_doubts [] (map (first_moment tables) rs) rs)) (compared_one tables r) (compared_step tables rs)
 
-pub compared_in_step : (tables : Tables) (ns : List ℕ) (rs : List PlainRecord) → ns ≡ map (first_moment tables) rs → IsInStep tables (standing [] ns rs)
+pub compared_in_step : (tables : Tables) (ns : List ℕ) (rs : List PlainRecord) → ns ≡ map (first_moment tables) rs → IsInStep tables (with_doubts [] ns rs)
 compared_in_step tables ns rs e = rw e (compared_step tables rs)
 
 first_is_moment : (tables : Tables) (r : PlainRecord) → is_moment 0 (first_moment tables r) ≡ true
@@ -187,10 +187,10 @@ as_many : (tables : Tables) (rs : List PlainRecord) → length (map (first_momen
 as_many tables [] = refl
 as_many tables (r ∷ rs) = ap suc (as_many tables rs)
 
-pub compared_stand : (tables : Tables) (changes : List (ℕ × ℤ)) (ms ns : List ℕ) (rs : List PlainRecord) → ns ≡ map (first_moment tables) rs → AreStanding changes ms rs → AreStanding [] ns rs
+pub compared_stand : (tables : Tables) (changes : List (ℕ × ℤ)) (ms ns : List ℕ) (rs : List PlainRecord) → ns ≡ map (first_moment tables) rs → HaveMoments changes ms rs → HaveMoments [] ns rs
 compared_stand tables changes ms ns rs e h = record {
   single = h.single;
-  settled_are = h.settled_are;
+  doubtless_are = h.doubtless_are;
   places = ap length e ∙ as_many tables rs;
   moments_are = rw e (first_moments tables rs);
   few = omega arith;

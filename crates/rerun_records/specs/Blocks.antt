@@ -7,7 +7,7 @@ use Rattle.linked_program.specs.Checked.{PlainChecked}
 use Rattle.meaning.specs.Elision.{depth_limit}
 use Rattle.meaning.specs.Every.{every}
 use Rattle.monoid_laws.specs.declared.Kind.{Kind}
-use Rattle.rerun_records.specs.Record.{PlainRecord, settled}
+use Rattle.rerun_records.specs.Record.{PlainRecord, doubtless}
 use Rattle.rerun_records.specs.Doubted.{is_doubted, rests_on}
 use Rattle.rerun_records.specs.Sums.{IsSumOf}
 use Rattle.rerun_records.specs.declared.spans.Span.{Span}
@@ -25,16 +25,16 @@ abbrev pub is_apart : List (ℕ × ℤ) → Note → Bool
 is_apart changes note = not (list_any (rests_on note) changes)
 
 -- nothing that was read is in doubt
-abbrev pub stands : PlainRecord → Bool
-stands r = every (λ note. not (is_doubted r.doubted note)) r.reads
+abbrev pub is_trusted : PlainRecord → Bool
+is_trusted r = every (λ note. not (is_doubted r.doubted note)) r.reads
 
-abbrev pub stands_if : Option PlainRecord → Bool
-stands_if None = false
-stands_if (Some r) = stands r
+abbrev pub is_some_trusted : Option PlainRecord → Bool
+is_some_trusted None = false
+is_some_trusted (Some r) = is_trusted r
 
 -- a record is at that place, and nothing that it read is in doubt
-abbrev pub stands_at : List PlainRecord → ℕ → Bool
-stands_at records place = stands_if (slice_get records place)
+abbrev pub is_trusted_at : List PlainRecord → ℕ → Bool
+is_trusted_at records place = is_some_trusted (slice_get records place)
 
 module _ (records : List PlainRecord) (procedure : ℕ) (arguments : List ℤ) (counted : ℕ) where
   -- a record at that place, of the procedure with that number in the counted argument
@@ -49,15 +49,15 @@ module _ (records : List PlainRecord) (procedure : ℕ) (arguments : List ℤ) (
   AreLeaves v (p ∷ ps) (r ∷ rs) = IsLeaf v p r × AreLeaves (v +ℤ pos 1) ps rs
   AreLeaves _ _ _ = ⊥
 
--- the records at a block's places go up by one, all stand, and the block's record has what they have together
+-- the records at a block's places go up by one, all are trusted, and the block's record has what they have together
 pub record BlockFits (kinds : List Kind) (records : List PlainRecord) (block : PlainBlock) : Type 0 where
   pub procedure : ℕ
   pub arguments : List ℤ
   pub first : ℤ
   pub first_is : slice_get arguments block.counted ≡ Some first
   pub leaves : List PlainRecord
-  pub are_leaves : AreLeaves (map settled records) procedure arguments block.counted first block.places leaves
-  pub standing : every (stands_at records) block.places ≡ true
+  pub are_leaves : AreLeaves (map doubtless records) procedure arguments block.counted first block.places leaves
+  pub trusted : every (is_trusted_at records) block.places ≡ true
   pub sum_is : IsSumOf kinds leaves block.sum
 
 -- ---- blocks by numbers: some were dropped

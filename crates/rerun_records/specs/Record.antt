@@ -61,5 +61,5 @@ made_of procedure arguments value contribution reads entered height =
     }
 
 -- the record with nothing in doubt
-abbrev pub settled : PlainRecord → PlainRecord
-settled r = record r { doubted = rows [] }
+abbrev pub doubtless : PlainRecord → PlainRecord
+doubtless r = record r { doubted = rows [] }

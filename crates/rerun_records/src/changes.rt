@@ -41,7 +41,7 @@ fn rests_on(reading: &Reading, change: &(usize, i64)) -> bool
     }
 }
 
-/// The changes since the record at that place stands; none where all of it is in doubt.
+/// The changes since the record at that place was trusted; none where all of it is in doubt.
 pub(crate) fn changes_since<'a>(
     changes: &'a [(usize, i64)],
     moments: &[u32],
@@ -77,8 +77,8 @@ pub(crate) fn list_change(changes: &mut Vec<(usize, i64)>, table: usize, row: i6
     changes.len() < MOST && changes.push((table, row)).is_ok()
 }
 
-/// Has the record at that place, or one behind the others, stand since now, when there are so many changes.
-pub(crate) fn stand(moments: &mut Vec<u32>, place: usize, now: usize)
+/// Trusts the record at that place, or one behind the others, from now on, when there are so many changes.
+pub(crate) fn stamp_or_add(moments: &mut Vec<u32>, place: usize, now: usize)
     requires few { now < never }
     requires within { place ≤ length moments.old.items }
     requires room { length moments.old.items < vec_capacity moments.old }
@@ -92,7 +92,7 @@ pub(crate) fn stand(moments: &mut Vec<u32>, place: usize, now: usize)
     }
 }
 
-/// Has the record at that place stand since now, when there are so many changes.
+/// Trusts the record at that place from now on, when there are so many changes.
 pub(crate) fn stamp(moments: &mut Vec<u32>, place: usize, now: usize)
     requires few { now < never }
     requires within { place < length moments.old.items }
@@ -101,7 +101,7 @@ pub(crate) fn stamp(moments: &mut Vec<u32>, place: usize, now: usize)
     moments[place] = now as u32;
 }
 
-/// Whether the record at that place stands since now, when there are so many changes.
+/// Whether the record at that place is trusted since now, when there are so many changes.
 pub(crate) fn is_stamped(moments: &[u32], place: usize, now: usize) -> bool
     ensures stamped { result ≡ true → slice_get moments.now place ≡ Some now }
 {

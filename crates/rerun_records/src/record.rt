@@ -7,7 +7,7 @@ ghost use Rattle.std.specs.Ordering.{on, eq_of_both, int_eq};
 ghost use Rattle.std.proofs.Common.{rules};
 ghost use Rattle.meaning.specs.Elision.{depth_limit};
 ghost use Rattle.meaning.specs.Every.{every};
-ghost use Rattle.rerun_records.specs.Record.{touched, made_of, settled, rows};
+ghost use Rattle.rerun_records.specs.Record.{touched, made_of, doubtless, rows};
 ghost use Rattle.rerun_records.specs.Doubted.{in_step, reads_agree};
 ghost use Rattle.rerun_records.specs.Moments.{doubts_by};
 ghost use Rattle.rerun_records.specs.ShortLists.{items_in};
@@ -110,8 +110,8 @@ impl Record {
     }
 
     /// What the type keeps: nothing of a record on its own is in doubt.
-    pub fn settled(&self)
-        ensures settled { settled self.now ≡ self.now }
+    pub fn doubtless(&self)
+        ensures doubtless { doubtless self.now ≡ self.now }
     {
         let _ = &self.value;
     }

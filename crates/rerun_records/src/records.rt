@@ -3,21 +3,21 @@ ghost use Rattle.std.specs.Prelude.{◌≡◌, ◌↔◌, IsTrue, ℕ, List, [],
 ghost use Rattle.std.specs.Prelude.{option_copied, map, true, slice_get, vec_capacity};
 ghost use Rattle.std.specs.List.{find, position_or_len};
 ghost use Rattle.place_chains.specs.Mixing.{number_of as mixed_number};
-ghost use Rattle.rerun_records.specs.Record.{is_of, same_instance, instance_number, settled, everything};
+ghost use Rattle.rerun_records.specs.Record.{is_of, same_instance, instance_number, doubtless, everything};
 ghost use Rattle.rerun_records.specs.Validity.{valid_at};
 ghost use Rattle.rerun_records.specs.Doubted.{IsInStep, ReadNow, IsSameBut};
-ghost use Rattle.rerun_records.specs.Moments.{standing, AreStanding, first_moment, doubted_by};
+ghost use Rattle.rerun_records.specs.Moments.{with_doubts, HaveMoments, first_moment, doubted_by};
 ghost use Rattle.meaning.specs.Tables.{Tables as PlainTables};
 ghost use Rattle.rerun_records.specs.Commits.{put_record, put_records, AreSingle};
 ghost use Rattle.rerun_records.specs.Named.{looked_up, FindsNamed, CommitsNamed, HaveValues};
 ghost use Rattle.rerun_records.specs.Batches.{IsBatch};
-ghost use Rattle.rerun_records.specs.Blocks.{BlockFits, BlocksFit, stands_at};
+ghost use Rattle.rerun_records.specs.Blocks.{BlockFits, BlocksFit, is_trusted_at};
 ghost use Rattle.monoid_laws.specs.declared.Kind.{Kind as PlainKind};
 
 use crate::batch::Batch;
 use crate::block::Block;
 use crate::blocks::{Blocks, Width};
-use crate::changes::{NEVER, changes_since, is_stamped, list_change, stamp, stand};
+use crate::changes::{NEVER, changes_since, is_stamped, list_change, stamp, stamp_or_add};
 use crate::key::Key;
 use crate::record::Record;
 use crate::series::Series;
@@ -39,7 +39,7 @@ const RECORDS_A_CHANGE: usize = 16;
 const RECORDS_A_SPARE: usize = 64;
 
 /// Records, at most one of each procedure and arguments, in the order in which those were first recorded. A row that is changed
-/// is listed, and of a record those readings are in doubt that rest on rows listed since it stands: they alone are compared.
+/// is listed, and of a record those readings are in doubt that rest on rows listed since it was trusted: they alone are compared.
 #[derive(Drop)]
 pub struct Records {
     list: Vec<Record>,
@@ -49,22 +49,22 @@ pub struct Records {
     moments: Vec<u32>,
     // The rows that were changed, by their tables' numbers.
     changes: Vec<(usize, i64)>,
-    // Records in a row that stand, so that what they have together answers them all.
+    // Records in a row that are trusted, so that what they have together answers them all.
     blocks: Blocks,
 }
 
 impl Model for Records {
     ghost use Rattle.std.specs.Prelude.{◌≡◌, List, map};
     ghost use Rattle.rerun_records.specs.Record.{PlainRecord, instance_number};
-    ghost use Rattle.rerun_records.specs.Moments.{standing, AreStanding};
+    ghost use Rattle.rerun_records.specs.Moments.{with_doubts, HaveMoments};
     ghost use Rattle.rerun_records.specs.Blocks.{BlocksFit};
 
     ghost Value = { List PlainRecord };
 
-    ghost view = { λ r. standing r.changes.items r.moments.items r.list.items };
+    ghost view = { λ r. with_doubts r.changes.items r.moments.items r.list.items };
 
-    ghost invariant = { λ r. AreStanding r.changes.items r.moments.items r.list.items
-        × BlocksFit (standing r.changes.items r.moments.items r.list.items) r.blocks
+    ghost invariant = { λ r. HaveMoments r.changes.items r.moments.items r.list.items
+        × BlocksFit (with_doubts r.changes.items r.moments.items r.list.items) r.blocks
         × (r.places.numbers ≡ map instance_number r.list.items) };
 }
 
@@ -98,7 +98,7 @@ impl Records {
 
     /// Lends the records.
     pub fn as_slice(&self) -> &[Record]
-        ensures records { result.now ≡ map settled self.now }
+        ensures records { result.now ≡ map doubtless self.now }
     {
         &self.list
     }
@@ -137,7 +137,7 @@ impl Records {
     /// The record of the procedure of that number with these arguments, valid or not, and its place.
     pub fn place_of(&self, procedure: usize, arguments: &[i64]) -> Option<(usize, &Record)>
         ensures there { IfSome result (λ found.
-            slice_get (map settled self.now) found.0 ≡ Some found.1.now) }
+            slice_get (map doubtless self.now) found.0 ≡ Some found.1.now) }
         ensures procedure { IfSome result (λ found. found.1.now.procedure ≡ procedure) }
         ensures arguments { IfSome result (λ found. found.1.now.arguments ≡ arguments.now) }
         ensures none { IfNone result (find (is_of procedure arguments.now) self.now ≡ None) }
@@ -157,7 +157,7 @@ impl Records {
         arguments: &[i64],
     ) -> Option<(usize, &Record)>
         ensures there { IfSome result (λ found.
-            slice_get (map settled self.now) found.0 ≡ Some found.1.now) }
+            slice_get (map doubtless self.now) found.0 ≡ Some found.1.now) }
         ensures procedure { IfSome result (λ found. found.1.now.procedure ≡ procedure) }
         ensures arguments { IfSome result (λ found. found.1.now.arguments ≡ arguments.now) }
     {
@@ -170,7 +170,7 @@ impl Records {
     // The record at that place, where it is that of the procedure of that number with these arguments.
     fn found_at(&self, place: usize, procedure: usize, arguments: &[i64]) -> Option<&Record>
         ensures there { IfSome result (λ r.
-            slice_get (map settled self.now) place ≡ Some r.now) }
+            slice_get (map doubtless self.now) place ≡ Some r.now) }
         ensures procedure { IfSome result (λ r. r.now.procedure ≡ procedure) }
         ensures arguments { IfSome result (λ r. r.now.arguments ≡ arguments.now) }
     {
@@ -195,7 +195,7 @@ impl Records {
         program: &Checked,
     ) -> Option<&'a Record>
         requires in_step { IsInStep tables.now.tables self.now }
-        requires there { slice_get (map settled self.now) place ≡ Some record.now }
+        requires there { slice_get (map doubtless self.now) place ≡ Some record.now }
         ensures valid { option_copied result ≡ valid_at program.now.revisions tables.now.tables depth
             self.now record.now.procedure record.now.arguments }
     {
@@ -203,7 +203,7 @@ impl Records {
         if !record.stays_valid(depth, changes, tables, program) {
             return None;
         }
-        record.settled();
+        record.doubtless();
         Some(record)
     }
 
@@ -242,7 +242,7 @@ impl Records {
     ) -> Option<Batch<'a>>
         requires in_step { IsInStep tables.now.tables self.now }
         requires values { HaveValues program.now.kinds self.now }
-        requires there { slice_get (map settled self.now) place ≡ Some record.now }
+        requires there { slice_get (map doubtless self.now) place ≡ Some record.now }
         requires counted { series.counted < length record.now.arguments }
         requires some { 0 < series.most }
         requires deep { 0 < series.depth }
@@ -266,7 +266,7 @@ impl Records {
     ) -> Option<Batch<'a>>
         requires in_step { IsInStep tables.now.tables self.now }
         requires values { HaveValues program.now.kinds self.now }
-        requires there { slice_get (map settled self.now) place ≡ Some record.now }
+        requires there { slice_get (map doubtless self.now) place ≡ Some record.now }
         requires counted { series.counted < length record.now.arguments }
         requires some { 0 < series.most }
         requires deep { 0 < series.depth }
@@ -279,31 +279,31 @@ impl Records {
         }
     }
 
-    /// Has the record at that place stand since now, where the tables hold what it read: whether they do.
-    pub fn stand_now(&mut self, place: usize, tables: &Tables) -> bool
+    /// Trusts the record at that place from now on, where the tables hold what it read: whether they do.
+    pub fn trust(&mut self, place: usize, tables: &Tables) -> bool
         requires in_step { IsInStep tables.now.tables self.old }
         ensures in_step { IsInStep tables.now.tables self.new }
-        ensures same { map settled self.new ≡ map settled self.old }
-        ensures kept { (p : ℕ) → stands_at self.old p ≡ true → stands_at self.new p ≡ true }
-        ensures stands { result ≡ true → stands_at self.new place ≡ true }
+        ensures same { map doubtless self.new ≡ map doubtless self.old }
+        ensures kept { (p : ℕ) → is_trusted_at self.old p ≡ true → is_trusted_at self.new p ≡ true }
+        ensures trusted { result ≡ true → is_trusted_at self.new place ≡ true }
     {
-        self.stands_now(place) || self.compare_one(place, tables)
+        self.is_trusted(place) || self.compare_one(place, tables)
     }
 
-    // Whether no row was changed since the record at that place stands.
-    fn stands_now(&self, place: usize) -> bool
-        ensures stands { result ≡ true → stands_at self.now place ≡ true }
+    // Whether no row was changed since the record at that place was trusted.
+    fn is_trusted(&self, place: usize) -> bool
+        ensures trusted { result ≡ true → is_trusted_at self.now place ≡ true }
     {
         is_stamped(&self.moments, place, self.changes.len())
     }
 
-    // Compares the record at that place with the tables: where they agree with it, it stands since now.
+    // Compares the record at that place with the tables: where they agree with it, it is trusted from now on.
     fn compare_one(&mut self, place: usize, tables: &Tables) -> bool
         requires in_step { IsInStep tables.now.tables self.old }
         ensures in_step { IsInStep tables.now.tables self.new }
-        ensures same { map settled self.new ≡ map settled self.old }
-        ensures kept { (p : ℕ) → stands_at self.old p ≡ true → stands_at self.new p ≡ true }
-        ensures stands { result ≡ true → stands_at self.new place ≡ true }
+        ensures same { map doubtless self.new ≡ map doubtless self.old }
+        ensures kept { (p : ℕ) → is_trusted_at self.old p ≡ true → is_trusted_at self.new p ≡ true }
+        ensures trusted { result ≡ true → is_trusted_at self.new place ≡ true }
     {
         match record_at(&self.list, place) {
             Some(record) => {
@@ -385,7 +385,7 @@ impl Records {
         requires in_step { IsInStep tables.now.tables self.old }
         requires read_now { ReadNow tables.now.tables records.items }
         ensures committed { OnOk result
-            (map settled self.new ≡ put_records (map settled self.old) records.items) }
+            (map doubtless self.new ≡ put_records (map doubtless self.old) records.items) }
         ensures in_step { OnOk result (IsInStep tables.now.tables self.new) }
         ensures named { OnOk result (CommitsNamed program.now self.old records.items self.new) }
         ensures values { OnOk result ((kinds : List PlainKind) → HaveValues kinds self.old
@@ -413,7 +413,7 @@ impl Records {
     pub fn row_changed(&mut self, table: usize, row: i64)
         ensures marked { (before after : PlainTables) → IsSameBut table row before after
             → IsInStep before self.old → IsInStep after self.new }
-        ensures same { map settled self.new ≡ map settled self.old }
+        ensures same { map doubtless self.new ≡ map doubtless self.old }
     {
         if !list_change(&mut self.changes, table, row) {
             self.doubt_all();
@@ -426,7 +426,7 @@ impl Records {
     pub fn doubt_all(&mut self)
         ensures doubted { self.new ≡ map (doubted_by everything) self.old }
         ensures in_step { (tables : PlainTables) → IsInStep tables self.new }
-        ensures same { map settled self.new ≡ map settled self.old }
+        ensures same { map doubtless self.new ≡ map doubtless self.old }
     {
         self.blocks.clear();
         self.changes.clear();
@@ -437,7 +437,7 @@ impl Records {
     fn tidy(&mut self, tables: &Tables)
         requires in_step { IsInStep tables.now.tables self.old }
         ensures in_step { IsInStep tables.now.tables self.new }
-        ensures same { map settled self.new ≡ map settled self.old }
+        ensures same { map doubtless self.new ≡ map doubtless self.old }
     {
         if is_due(self.changes.len(), self.list.len()) {
             self.compare(tables);
@@ -447,7 +447,7 @@ impl Records {
     // Compares each record with the tables: one that they agree with has nothing in doubt then, the others all.
     fn compare(&mut self, tables: &Tables)
         ensures in_step { IsInStep tables.now.tables self.new }
-        ensures same { map settled self.new ≡ map settled self.old }
+        ensures same { map doubtless self.new ≡ map doubtless self.old }
     {
         self.blocks.clear();
         self.changes.clear();
@@ -481,7 +481,7 @@ fn is_due(changes: usize, records: usize) -> bool {
     changes >= FEWEST && changes >= records / RECORDS_A_CHANGE
 }
 
-// Has each record stand since the beginning where it agrees with the tables, else since no moment.
+// Trusts each record since the beginning where it agrees with the tables, else since no moment.
 fn compare_all(records: &[Record], moments: &mut Vec<u32>, tables: &Tables)
     requires places { length moments.old.items ≡ length records.now }
     ensures moments { moments.new.items ≡ map (first_moment tables.now.tables) records.now }
@@ -540,15 +540,15 @@ fn put_all(
     requires room_below { length list.old.items + length records.items ≤ places.old.room }
     requires places { length moments.old.items + length records.items ≤ vec_capacity moments.old }
     requires numbered { places.old.numbers ≡ map instance_number list.old.items }
-    requires standing { AreStanding changes.now moments.old.items list.old.items }
-    requires fit { BlocksFit (standing changes.now moments.old.items list.old.items) blocks.old }
-    ensures put { standing changes.now moments.new.items list.new.items
-        ≡ put_records (standing changes.now moments.old.items list.old.items) records.items }
+    requires moments { HaveMoments changes.now moments.old.items list.old.items }
+    requires fit { BlocksFit (with_doubts changes.now moments.old.items list.old.items) blocks.old }
+    ensures put { with_doubts changes.now moments.new.items list.new.items
+        ≡ put_records (with_doubts changes.now moments.old.items list.old.items) records.items }
     ensures numbered { places.new.numbers ≡ map instance_number list.new.items }
-    ensures standing { AreStanding changes.now moments.new.items list.new.items }
-    ensures fit { BlocksFit (standing changes.now moments.new.items list.new.items) blocks.new }
-    ensures settled { map settled (standing changes.now moments.new.items list.new.items)
-        ≡ put_records (map settled (standing changes.now moments.old.items list.old.items))
+    ensures moments { HaveMoments changes.now moments.new.items list.new.items }
+    ensures fit { BlocksFit (with_doubts changes.now moments.new.items list.new.items) blocks.new }
+    ensures doubtless { map doubtless (with_doubts changes.now moments.new.items list.new.items)
+        ≡ put_records (map doubtless (with_doubts changes.now moments.old.items list.old.items))
         records.items }
 {
     for record in records {
@@ -569,33 +569,33 @@ fn put(
     requires room_below { length list.old.items < places.old.room }
     requires place { length moments.old.items < vec_capacity moments.old }
     requires numbered { places.old.numbers ≡ map instance_number list.old.items }
-    requires standing { AreStanding changes.now moments.old.items list.old.items }
-    requires fit { BlocksFit (standing changes.now moments.old.items list.old.items) blocks.old }
-    ensures put { standing changes.now moments.new.items list.new.items
-        ≡ put_record (standing changes.now moments.old.items list.old.items) made }
+    requires moments { HaveMoments changes.now moments.old.items list.old.items }
+    requires fit { BlocksFit (with_doubts changes.now moments.old.items list.old.items) blocks.old }
+    ensures put { with_doubts changes.now moments.new.items list.new.items
+        ≡ put_record (with_doubts changes.now moments.old.items list.old.items) made }
     ensures count { length list.new.items ≤ length list.old.items + 1 }
     ensures room { vec_capacity list.new ≡ vec_capacity list.old }
     ensures room_below { places.new.room ≡ places.old.room }
     ensures places { length moments.new.items ≤ length moments.old.items + 1 }
     ensures capacity { vec_capacity moments.new ≡ vec_capacity moments.old }
     ensures numbered { places.new.numbers ≡ map instance_number list.new.items }
-    ensures made { settled made ≡ made }
-    ensures standing { AreStanding changes.now moments.new.items list.new.items }
-    ensures fit { BlocksFit (standing changes.now moments.new.items list.new.items) blocks.new }
+    ensures made { doubtless made ≡ made }
+    ensures moments { HaveMoments changes.now moments.new.items list.new.items }
+    ensures fit { BlocksFit (with_doubts changes.now moments.new.items list.new.items) blocks.new }
 {
-    made.settled();
+    made.doubtless();
     let number = number_of(made.procedure(), made.arguments());
     let place = place_for(list, places, number, &made);
     put_at(list, places, number, place, made);
     blocks.put_in(place);
-    stand(moments, place, changes.len());
+    stamp_or_add(moments, place, changes.len());
 }
 
 // The place of the record of the same procedure and arguments, or the one behind the others.
 fn place_for(list: &[Record], places: &Places, number: u32, made: &Record) -> usize
     requires numbered { places.now.numbers ≡ map instance_number list.now }
     requires number { number ≡ instance_number made.now }
-    requires settled { map settled list.now ≡ list.now }
+    requires doubtless { map doubtless list.now ≡ list.now }
     requires single { AreSingle list.now }
     ensures place { result ≡ position_or_len (same_instance made.now) list.now }
 {

@@ -11,8 +11,8 @@ ghost use Rattle.right_strands.specs.Laid.{IsAtRest, laid_as, AnswersElision, Is
 
 use crate::run::{Run, Scene};
 use crate::strand::RightStrand;
-use positions::answer::RunAnswer;
 use frames::strand::Strand;
+use positions::answer::RunAnswer;
 use positions::phase::Paused;
 use positions::start::Start;
 use rerun_records::record::Record;

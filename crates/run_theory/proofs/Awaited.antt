@@ -11,7 +11,7 @@ use Rattle.meaning.specs.Statements.{reducers, job_of, proc_of, update_of, bound
 use Rattle.meaning.specs.Elision.{depth_limit}
 use Rattle.meaning.specs.Records.{Kept}
 use Rattle.meaning.specs.Trail.{halvings}
-use Rattle.meaning.specs.SmallStep.{seen, Start, is_entry, Frame, Todo, blocks, halves, second, turns, Child, instance, half, Phase, entering, running, spawning, returning, leaving, broken, Parent, Step, moved, taken, paused, led_step, unless, settling, on_value, on_depth, Lookup, memo_answer, opened, child_name, awaiting, enter_by, enter_step, enter_child, todo_step, micro}
+use Rattle.meaning.specs.SmallStep.{seen, Start, is_entry, Frame, Todo, blocks, halves, second, turns, Child, instance, half, Phase, entering, running, spawning, returning, leaving, broken, Parent, Step, moved, taken, paused, led_step, unless, on_answer, on_value, on_depth, Lookup, memo_answer, opened, child_name, awaiting, enter_by, enter_step, enter_child, todo_step, micro}
 use Rattle.run_theory.specs.RightRuns.{count}
 use Rattle.meaning.specs.SmallStep.{Continuation, Slot, waits, has, slot, set_into, env_of}
 use Rattle.std.specs.Prelude.{slice_set}
@@ -65,12 +65,12 @@ module _ (P : Place → ℕ → Type 0) where
   unless_waits true s h = tt
   unless_waits false s h = h
 
-  settling_waits : {A : Type 0} (fr : Frame) (t : List Parent) (site : Site) (r : Result A FaultKind) (next : A → Step) → StackWaits P fr t → ((a : A) → StepWaits (next a)) → StepWaits (settling fr t site r next)
-  settling_waits fr t site (Ok a) next c h = h a
-  settling_waits fr t site (Err k) next c h = c
+  on_answer_waits : {A : Type 0} (fr : Frame) (t : List Parent) (site : Site) (r : Result A FaultKind) (next : A → Step) → StackWaits P fr t → ((a : A) → StepWaits (next a)) → StepWaits (on_answer fr t site r next)
+  on_answer_waits fr t site (Ok a) next c h = h a
+  on_answer_waits fr t site (Err k) next c h = c
 
   value_waits : {A : Type 0} (fr : Frame) (t : List Parent) (site : Site) (o : Out FaultKind A) (next : A → Step) → StackWaits P fr t → ((a : A) → StepWaits (next a)) → StepWaits (on_value fr t site o next)
-  value_waits fr t site o next c h = led_waits o.log (settling fr t site o.answer next) (settling_waits fr t site o.answer next c h)
+  value_waits fr t site o next c h = led_waits o.log (on_answer fr t site o.answer next) (on_answer_waits fr t site o.answer next c h)
 
   depth_waits : (fr : Frame) (t : List Parent) (site : Site) (d : ℕ) (next : ℕ → Step) → StackWaits P fr t → ((d : ℕ) → StepWaits (next d)) → StepWaits (on_depth fr t site d next)
   depth_waits fr t site zero next c h = c

@@ -11,7 +11,7 @@ use Rattle.meaning.specs.Statements.{reducers, job_of, proc_of, update_of, bound
 use Rattle.meaning.specs.Elision.{depth_limit}
 use Rattle.meaning.specs.Records.{Kept}
 use Rattle.meaning.specs.Trail.{halvings, child_of}
-use Rattle.meaning.specs.SmallStep.{seen, Start, root, behind, is_entry, Frame, Todo, blocks, halves, second, turns, Child, instance, half, Phase, entering, running, spawning, returning, leaving, broken, Parent, with_value, Layers, noting, opening_one, closing_one, Pause, at_spawn, at_sync, returned, faulted, Step, moved, taken, paused, led_step, unless, settling, on_value, on_depth, Lookup, memo_answer, opened, child_name, awaiting, with_layer, enter_by, layer_of, leaving_layer, enter_step, enter_child, todo_step, micro}
+use Rattle.meaning.specs.SmallStep.{seen, Start, root, behind, is_entry, Frame, Todo, blocks, halves, second, turns, Child, instance, half, Phase, entering, running, spawning, returning, leaving, broken, Parent, with_value, Layers, noting, opening_one, closing_one, Pause, at_spawn, at_sync, returned, faulted, Step, moved, taken, paused, led_step, unless, on_answer, on_value, on_depth, Lookup, memo_answer, opened, child_name, awaiting, with_layer, enter_by, layer_of, leaving_layer, enter_step, enter_child, todo_step, micro}
 use Rattle.meaning.specs.RestOfRun.{lowest}
 use Rattle.meaning.specs.Schedules.{place_of_start}
 use Rattle.trail_theory.specs.TaskFits.{Higher, Spot, IsChild, Stacked}
@@ -66,12 +66,12 @@ module _ (m : Start) (kit : Bool) (R : Type 0) (fr : Frame) (t : List Parent) wh
   unless_shifts true s e h = e
   unless_shifts false s e h = h refl
 
-  settling_shifts : {A : Type 0} (site : Site) (r : Result A FaultKind) (next : A → Step) → ((a : A) → Shifts m kit R fr t (next a)) → Shifts m kit R fr t (settling fr t site r next)
-  settling_shifts site (Ok a) next h = h a
-  settling_shifts site (Err k) next h = record { moves = same; lowest_is = refl; closed = tt; onward = λ u h. h }
+  on_answer_shifts : {A : Type 0} (site : Site) (r : Result A FaultKind) (next : A → Step) → ((a : A) → Shifts m kit R fr t (next a)) → Shifts m kit R fr t (on_answer fr t site r next)
+  on_answer_shifts site (Ok a) next h = h a
+  on_answer_shifts site (Err k) next h = record { moves = same; lowest_is = refl; closed = tt; onward = λ u h. h }
 
   value_shifts : {A : Type 0} (site : Site) (o : Out FaultKind A) (next : A → Step) → ((a : A) → Shifts m kit R fr t (next a)) → Shifts m kit R fr t (on_value fr t site o next)
-  value_shifts site o next h = led_shifts o.log (settling fr t site o.answer next) (settling_shifts site o.answer next h)
+  value_shifts site o next h = led_shifts o.log (on_answer fr t site o.answer next) (on_answer_shifts site o.answer next h)
 
   depth_shifts : (site : Site) (d : ℕ) (next : ℕ → Step) → ((d : ℕ) → Shifts m kit R fr t (next d)) → Shifts m kit R fr t (on_depth fr t site d next)
   depth_shifts site zero next h = record { moves = same; lowest_is = refl; closed = tt; onward = λ u h. h }

@@ -11,7 +11,7 @@ use Rattle.meaning.specs.Trail.{child_of, halvings}
 use Rattle.meaning.specs.Statements.{reducers, job_of, turn_values, update_of, bounds}
 use Rattle.meaning.specs.Elision.{depth_limit}
 use Rattle.meaning.specs.Records.{Revised, Kept}
-use Rattle.meaning.specs.SmallStep.{seen, Start, root, behind, is_entry, Frame, Todo, blocks, halves, second, turns, Child, instance, half, Phase, entering, running, spawning, returning, leaving, broken, Parent, awaiting, child_name, opened, at_spawn, at_sync, returned, faulted, Step, moved, taken, paused, led_step, unless, settling, on_value, on_depth, Lookup, memo_answer, enter_by, enter_step, todo_step, Continuation, place_of_continuation}
+use Rattle.meaning.specs.SmallStep.{seen, Start, root, behind, is_entry, Frame, Todo, blocks, halves, second, turns, Child, instance, half, Phase, entering, running, spawning, returning, leaving, broken, Parent, awaiting, child_name, opened, at_spawn, at_sync, returned, faulted, Step, moved, taken, paused, led_step, unless, on_answer, on_value, on_depth, Lookup, memo_answer, enter_by, enter_step, todo_step, Continuation, place_of_continuation}
 use Rattle.meaning.specs.Layers.{Notes, total}
 use Rattle.meaning.specs.RestOfRun.{lowest}
 use Rattle.meaning.specs.Statements.{proc_of}
@@ -50,12 +50,12 @@ module _ (m : Start) (fr : Frame) (t : List Parent) where
   unless_goes true s e h = e
   unless_goes false s e h = h
 
-  settling_goes : {A : Type 0} (site : Site) (r : Result A FaultKind) (next : A → Step) → ((a : A) → Goes m fr (next a)) → Goes m fr (settling fr t site r next)
-  settling_goes site (Ok a) next h = h a
-  settling_goes site (Err k) next h = tt
+  on_answer_goes : {A : Type 0} (site : Site) (r : Result A FaultKind) (next : A → Step) → ((a : A) → Goes m fr (next a)) → Goes m fr (on_answer fr t site r next)
+  on_answer_goes site (Ok a) next h = h a
+  on_answer_goes site (Err k) next h = tt
 
   value_goes : {A : Type 0} (site : Site) (o : Out FaultKind A) (next : A → Step) → ((a : A) → Goes m fr (next a)) → Goes m fr (on_value fr t site o next)
-  value_goes site o next h = led_goes o.log (settling fr t site o.answer next) (settling_goes site o.answer next h)
+  value_goes site o next h = led_goes o.log (on_answer fr t site o.answer next) (on_answer_goes site o.answer next h)
 
   depth_goes : (site : Site) (d : ℕ) (next : ℕ → Step) → ((d : ℕ) → Goes m fr (next d)) → Goes m fr (on_depth fr t site d next)
   depth_goes site zero next h = tt

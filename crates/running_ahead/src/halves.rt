@@ -1,4 +1,4 @@
-// A loop's instance that has halves left: it is halved, or goes over to its second half.
+//! A loop's instance that has halves left: it is halved, or goes over to its second half.
 ghost use Rattle.std.specs.Prelude.{◌≡◌};
 ghost use Rattle.positions.specs.Activations.{ShareFits};
 ghost use Rattle.activations.specs.Given.{lent};
@@ -52,6 +52,7 @@ pub(crate) fn second_ahead<V: View>(
     requires running { machine.old.phase ≡ Phase.Running }
     ensures ahead { IsAhead (lent setting.entry) machine.old machine.new }
 {
+    // (what the setting's type keeps is needed for the path of steps)
     let _ = setting.program;
     match machine.second_half(alloc, site, halvings, share) {
         Ok(()) => true,

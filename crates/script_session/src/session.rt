@@ -15,11 +15,11 @@ ghost use Rattle.program_endings.specs.Endings.{CarriesRefusal, IsAnswerError, I
 ghost use Rattle.program_endings.specs.Written.{HasBeginning, WritesAll, WritesBeginning};
 
 use crate::runner::Runner;
-use positions::answer::RunAnswer;
 use input_tables::Tables;
 use kept_session::{ApplyError, Session};
 use linked_program::checked::Checked;
 use numbered_runs::step::BookStep;
+use positions::answer::RunAnswer;
 use program_endings::session_error::SessionError;
 use program_endings::streams::{Failures, flush, read_all, write_whole};
 use script_reader::command::Command;

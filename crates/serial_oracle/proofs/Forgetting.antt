@@ -148,23 +148,23 @@ module _ (program : Tree) where
   pub still : (log : Log) → Quiet log → (acc : Accumulators) → after log acc ≡ acc
   still log h acc = let now : Summary = record { worths = acc; executed = []; reused = [] } in sym (through_worths program log now) ∙ ap (λ x. x.worths) (h now)
 
-  abbrev Settles : Log → Type 0
-  Settles log = (now : Summary) → through program log now ≡ with_worths now (after log now.worths)
+  abbrev Revalues : Log → Type 0
+  Revalues log = (now : Summary) → through program log now ≡ with_worths now (after log now.worths)
 
-  onward_settles : {F A B : Type 0} (log : Log) (r : Result A F) (f : A → Out F B) → Quiet log → ((a : A) → Settles (f a).log) → Settles (onward log r f).log
-  onward_settles log (Err e) f h k now = h now ∙ ap (with_worths now) (sym (still log h now.worths))
-  onward_settles log (Ok a) f h k now =
+  onward_revalues : {F A B : Type 0} (log : Log) (r : Result A F) (f : A → Out F B) → Quiet log → ((a : A) → Revalues (f a).log) → Revalues (onward log r f).log
+  onward_revalues log (Err e) f h k now = h now ∙ ap (with_worths now) (sym (still log h now.worths))
+  onward_revalues log (Ok a) f h k now =
       through-append program log (f a).log now ∙ ap (through program (f a).log) (h now) ∙ k a now
       ∙ ap (with_worths now) (sym (after-append log (f a).log now.worths ∙ ap (after (f a).log) (still log h now.worths)))
 
-  naming_settles : (n : ℕ) (kind : Kind) (vs : List ℤ) (b : Bool) → Settles (naming n kind vs b).log
-  naming_settles n kind vs true now = refl
-  naming_settles n kind vs false now = refl
+  naming_revalues : (n : ℕ) (kind : Kind) (vs : List ℤ) (b : Bool) → Revalues (naming n kind vs b).log
+  naming_revalues n kind vs true now = refl
+  naming_revalues n kind vs false now = refl
 
-  updating_settles : (o : Option (ℕ × Red)) (vs : List ℤ) → Settles (updating o vs).log
-  updating_settles None vs now = refl
-  updating_settles (Some p) vs now = naming_settles p.0 p.1.kind vs (names_element p.1.kind vs) now
+  updating_revalues : (o : Option (ℕ × Red)) (vs : List ℤ) → Revalues (updating o vs).log
+  updating_revalues None vs now = refl
+  updating_revalues (Some p) vs now = naming_revalues p.0 p.1.kind vs (names_element p.1.kind vs) now
 
-  pub update_settles : (tables : Tables) (reds : List Red) (env : Env) (red : Name) (es : List Term) → Settles (update_of tables reds env red es).log
-  update_settles tables reds env red es =
-      onward_settles _ (values tables env es).answer _ (values_quiet tables env es) (λ vs. updating_settles (numbered 0 reds red) vs)
+  pub update_revalues : (tables : Tables) (reds : List Red) (env : Env) (red : Name) (es : List Term) → Revalues (update_of tables reds env red es).log
+  update_revalues tables reds env red es =
+      onward_revalues _ (values tables env es).answer _ (values_quiet tables env es) (λ vs. updating_revalues (numbered 0 reds red) vs)

@@ -313,8 +313,8 @@ kept_in ks vals i k new a lt e h = added_kept ks vals i k new a (slice_get_read 
 
 -- ---- a record that answers
 
-abbrev standing_of : List Worth → List Key → List Key → Summary
-standing_of ws executed reused = record { worths = ws; executed = executed; reused = reused }
+abbrev summary_of : List Worth → List Key → List Key → Summary
+summary_of ws executed reused = record { worths = ws; executed = executed; reused = reused }
 
 pub record_answers : (scope : Scope) (old new : Journal) (place : ℕ) (k : Kept) (key : Key) → slice_get (records_in scope) place ≡ Some k
     → new.changes.items ≡ old.changes.items ++ (c.Reused place ∷ []) → map key_plain new.reused.items ≡ map key_plain old.reused.items ++ (key ∷ []) → new.executed ≡ old.executed
@@ -322,16 +322,16 @@ pub record_answers : (scope : Scope) (old new : Journal) (place : ℕ) (k : Kept
 record_answers scope old new place k key h ch re ex =
     let w : combined (worths (tree_in scope) (records_in scope) old.changes.items) (with_kinds (reducers (tree_in scope)) k.contribution) ≡ worths (tree_in scope) (records_in scope) new.changes.items =
     sym (worths_reuse (tree_in scope) (records_in scope) old.changes.items place k h) ∙ ap (worths (tree_in scope) (records_in scope)) (sym ch) in
-    ap (λ a. (Ok k.value, standing_of a (map key_plain old.executed.items) (map key_plain old.reused.items ++ (key ∷ [])))) w
-    ∙ ap (λ e. (Ok k.value, standing_of (worths (tree_in scope) (records_in scope) new.changes.items) (map key_plain e.items) (map key_plain old.reused.items ++ (key ∷ [])))) (sym ex)
-    ∙ ap (λ r. (Ok k.value, standing_of (worths (tree_in scope) (records_in scope) new.changes.items) (map key_plain new.executed.items) r)) (sym re)
+    ap (λ a. (Ok k.value, summary_of a (map key_plain old.executed.items) (map key_plain old.reused.items ++ (key ∷ [])))) w
+    ∙ ap (λ e. (Ok k.value, summary_of (worths (tree_in scope) (records_in scope) new.changes.items) (map key_plain e.items) (map key_plain old.reused.items ++ (key ∷ [])))) (sym ex)
+    ∙ ap (λ r. (Ok k.value, summary_of (worths (tree_in scope) (records_in scope) new.changes.items) (map key_plain new.executed.items) r)) (sym re)
 
-pub standing_begin : (scope : Scope) (j : Journal) → noted_in scope j.changes.items ≡ beginning (tree_in scope) → j.executed.items ≡ [] → j.reused.items ≡ []
+pub summary_begin : (scope : Scope) (j : Journal) → noted_in scope j.changes.items ≡ beginning (tree_in scope) → j.executed.items ≡ [] → j.reused.items ≡ []
     → summary scope j ≡ record { worths = initial_values (tree_in scope); executed = []; reused = [] }
-standing_begin scope j ch ex re =
-    ap (λ a. standing_of a (map key_plain j.executed.items) (map key_plain j.reused.items)) (worths_initial scope j.changes.items ch)
-    ∙ ap (λ e. standing_of (initial_values (tree_in scope)) (map key_plain e) (map key_plain j.reused.items)) ex
-    ∙ ap (λ r. standing_of (initial_values (tree_in scope)) [] (map key_plain r)) re
+summary_begin scope j ch ex re =
+    ap (λ a. summary_of a (map key_plain j.executed.items) (map key_plain j.reused.items)) (worths_initial scope j.changes.items ch)
+    ∙ ap (λ e. summary_of (initial_values (tree_in scope)) (map key_plain e) (map key_plain j.reused.items)) ex
+    ∙ ap (λ r. summary_of (initial_values (tree_in scope)) [] (map key_plain r)) re
 
 pub fit_all : (program : Tree) (ks : List Kind) (records : List Kept) → ks ≡ kinds program → All (λ k. AreWorths ks k.contribution) records → AreFit program records
 unfolding AreFit

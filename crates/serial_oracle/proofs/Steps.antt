@@ -23,7 +23,7 @@ use Rattle.meaning.specs.Records.{Kept, Revised, needing, answered, if_valid, re
 use Rattle.serial_oracle.specs.Results.{Summary, with_worths, with_executed, through, results, fault_plain, Gives, Does, GivesNext, Notes, EvaluatesAll, IsFault, IsTrouble}
 use Rattle.serial_oracle.specs.Worths.{outcome_of}
 use Rattle.serial_oracle.specs.Pieces.{bound, back, updates_here, entered, chosen, looped, turn, inside, memoised}
-use Rattle.serial_oracle.proofs.Forgetting.{next, bind_results, value_results, values_results, bounds_results, update_settles}
+use Rattle.serial_oracle.proofs.Forgetting.{next, bind_results, value_results, values_results, bounds_results, update_revalues}
 
 -- a fault at a site
 abbrev pub fault_of : FaultKind → Site → Fault
@@ -141,7 +141,7 @@ module _ (program : Tree) where
 
     -- an update
     update_results : (r : Name) (es : List Term) (now : Summary) → results program (at site (update_of tables (reducers program) env r es)) now ≡ (placed site (update_of tables (reducers program) env r es).answer, with_worths now (after (update_of tables (reducers program) env r es).log now.worths))
-    update_results r es now = ap (λ x. (placed site (update_of tables (reducers program) env r es).answer, x)) (update_settles program tables (reducers program) env r es now)
+    update_results r es now = ap (λ x. (placed site (update_of tables (reducers program) env r es).answer, x)) (update_revalues program tables (reducers program) env r es now)
 
     update_then : (r : Name) (es : List Term) (now : Summary) (o : Result (Unit {0}) FaultKind × Accumulators) → outcome_of (update_of tables (reducers program) env r es) now.worths ≡ o
         → results program (updates_here program tables site env r es) now ≡ next program (placed site o.0, with_worths now o.1) (λ _. pure (On env))

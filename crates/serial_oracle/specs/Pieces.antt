@@ -5,7 +5,7 @@ use Rattle.meaning.specs.Tree.{Name, Term, Body, Proc, Tree}
 use Rattle.meaning.specs.TreeView.{term}
 use Rattle.meaning.specs.Tables.{Tables}
 use Rattle.meaning.specs.Outcome.{Site, Fault}
-use Rattle.meaning.specs.Run.{Run, ◌>>=◌, pure, standing, at}
+use Rattle.meaning.specs.Run.{Run, ◌>>=◌, pure, values_here, at}
 use Rattle.meaning.specs.Values.{Env, put, value, values}
 use Rattle.meaning.specs.Statements.{reducers, numbered, reading, put_into, fresh, update_of, bounds, Job, job_of, turn_values}
 use Rattle.meaning.specs.Records.{Key, Kept, with_kinds}
@@ -28,7 +28,7 @@ abbrev pub back : Tables → Site → Env → Term → Run Next
 back tables site env e = at site (value tables env e) >>= (λ v. pure (Back v))
 
 abbrev pub told : Tree → Env → ℕ → Name → Run Next
-told program env x r = standing >>= (λ acc. pure (On (put env x (reading acc (numbered 0 (reducers program) r)))))
+told program env x r = values_here >>= (λ acc. pure (On (put env x (reading acc (numbered 0 (reducers program) r)))))
 
 abbrev pub updates_here : Tree → Tables → Site → Env → Name → List Term → Run Next
 updates_here program tables site env r es = at site (update_of tables (reducers program) env r es) >>= (λ _. pure (On env))

@@ -18,8 +18,8 @@ use crate::stops::{Fault, NoMemory, Stop};
 use crate::tables::TableRows;
 use crate::updates::values_after;
 use meaning::DEPTH_LIMIT;
-use monoid_laws::Val;
 use meaning::tree::Program;
+use monoid_laws::Val;
 use std::alloc::Global;
 
 /// The value of main and what each reducer is worth, in the order of the program, or the first fault.

@@ -7,8 +7,8 @@ ghost use Rattle.serial_oracle.specs.Worths.{kinds, grouped, noted_in, waiting};
 use crate::journal::Change;
 use crate::scope::Scope;
 use crate::updates::is_pair_kind;
-use monoid_laws::Kind;
 use meaning::tree::Declaration;
+use monoid_laws::Kind;
 use std::alloc::AllocError;
 
 /// Notes an update of the n-th reducer by these numbers.

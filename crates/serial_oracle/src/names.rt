@@ -4,8 +4,8 @@ ghost use Rattle.meaning.specs.TreeView.{proc, tree};
 ghost use Rattle.meaning.specs.Values.{put as put_at};
 ghost use Rattle.meaning.specs.Statements.{put_into as put_into_at, procedure_of, numbered, reducers, fresh as fresh_env};
 
-use monoid_laws::Kind;
 use meaning::tree::{Declaration, Procedure, Program};
+use monoid_laws::Kind;
 use std::alloc::{AllocError, Global};
 
 /// The procedure of a name.

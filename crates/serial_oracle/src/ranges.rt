@@ -7,8 +7,8 @@ ghost use Rattle.serial_oracle.specs.Ranges.{AreBounds, ranging};
 use crate::expressions::evaluate;
 use crate::range::Range;
 use crate::tables::TableRows;
-use meaning::{FaultKind, MOST_ITERATIONS};
 use meaning::tree::Expr;
+use meaning::{FaultKind, MOST_ITERATIONS};
 
 /// The numbers from `low` to below `high`; too long where they are more than a loop may have.
 fn range_between(low: i64, high: i64) -> Result<Range, FaultKind>

@@ -23,8 +23,8 @@ use crate::stops::{Stop, Trouble, stopped};
 use crate::tables::TableRows;
 use crate::updates;
 use crate::validity::{Found, valid_record};
-use meaning::{DEPTH_LIMIT, FaultKind};
 use meaning::tree::{Action, Expr, Procedure, Statement};
+use meaning::{DEPTH_LIMIT, FaultKind};
 
 /// Binds a name to the value of an expression.
 fn run_bind<'p>(

@@ -14,8 +14,8 @@ use crate::scope::Scope;
 use crate::stops::Trouble;
 use crate::{expressions, names};
 use meaning::FaultKind;
-use monoid_laws::{Kind, Val, laws_of};
 use meaning::tree::{Declaration, Expr, Program};
+use monoid_laws::{Kind, Val, laws_of};
 use reducer_values::{combine, copy_of, identity, inject};
 use std::alloc::{AllocError, Global};
 

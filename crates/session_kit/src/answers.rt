@@ -1,8 +1,8 @@
 //! What a run comes to, as text.
 
-use positions::answer::RunAnswer;
 use linked_program::checked::Checked;
 use numbered_runs::step::StrandLine;
+use positions::answer::RunAnswer;
 use std::alloc::{AllocError, Global};
 use std::fmt::Write;
 use trace_report::answers::push_outcome;

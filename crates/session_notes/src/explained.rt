@@ -4,10 +4,10 @@ ghost use Rattle.numbered_runs.specs.Come.{HasEnded};
 ghost use Rattle.rerun_records.specs.Doubted.{IsInStep};
 
 use crate::notes::Notes;
-use positions::answer::RunAnswer;
 use input_tables::Tables;
 use linked_program::checked::Checked;
 use numbered_runs::step::BookStep;
+use positions::answer::RunAnswer;
 use positions::phase::Fault;
 use rerun_records::records::Records;
 use session_edits::{Edit, EditError};

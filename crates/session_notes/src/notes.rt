@@ -4,10 +4,10 @@ ghost use Rattle.numbered_runs.specs.Come.{HasEnded};
 ghost use Rattle.rerun_records.specs.Doubted.{IsInStep};
 
 use crate::explained::Cause;
-use positions::answer::RunAnswer;
 use input_tables::Tables;
 use linked_program::checked::Checked;
 use numbered_runs::step::BookStep;
+use positions::answer::RunAnswer;
 use rerun_records::records::Records;
 
 /// Who is told of each run that came to a result or a fault, and of what is refused.

@@ -9,8 +9,8 @@ ghost use Rattle.program_endings.specs.declared.session_error.SessionError.TheVa
 ghost use Rattle.session_notes.specs.Noted.{Noted, has_failed, known_of, run_counts_text};
 
 use crate::notes::Notes;
-use positions::answer::RunAnswer;
 use numbered_runs::step::BookStep;
+use positions::answer::RunAnswer;
 use program_endings::session_error::SessionError;
 use program_endings::streams::{Failures, flush, write_whole};
 use std::alloc::{AllocError, Global};

@@ -7,7 +7,7 @@ use Rattle.meaning.specs.Elision as elision
 use Rattle.meaning.specs.Elision.{from_scratch}
 use Rattle.meaning.specs.Records.{needed, executed}
 use Rattle.linked_program.specs.Checked.{revised_of}
-use Rattle.rerun_records.specs.Record.{PlainRecord, settled}
+use Rattle.rerun_records.specs.Record.{PlainRecord, doubtless}
 use Rattle.rerun_records.specs.Commits.{put_records}
 use Rattle.positions.specs.Stands.{fault_in}
 use Rattle.positions.specs.declared.answer.RunAnswer.{RunAnswer}
@@ -26,8 +26,8 @@ IsFromScratch s _ = Unit {0}
 abbrev pub LeavesRecords : PlainSession → RunAnswer → List PlainRecord → Type 0
 LeavesRecords s (answer.Finished v values n m k) records =
     (made : List PlainRecord) × HasRecordedBy s.checked s.tables s.records (answer.Finished v values n m k) made
-    × (map settled records ≡ put_records (map settled s.records) made)
-LeavesRecords s _ records = map settled records ≡ map settled s.records
+    × (map doubtless records ≡ put_records (map doubtless s.records) made)
+LeavesRecords s _ records = map doubtless records ≡ map doubtless s.records
 
 -- by records that the session's stand for nothing is left to execute
 pub record NeedsNothing (s : PlainSession) : Type 0 where

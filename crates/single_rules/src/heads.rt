@@ -11,8 +11,8 @@ ghost use Rattle.linked_program.specs.Violations.{noted, at};
 use crate::names::{arity, has_name, kind_of, parameters_of};
 use crate::place::{Place, note_if};
 use linked_program::violation::{Rule, Violation};
-use monoid_laws::{Kind, Table, TableAnswer};
 use meaning::tree::{Declaration, Procedure, Reducer};
+use monoid_laws::{Kind, Table, TableAnswer};
 use reducer_values::check_table;
 
 // Whether a name is there twice.

@@ -8,8 +8,8 @@ ghost use Rattle.linked_program.specs.Monoids.{is_readable};
 ghost use Rattle.linked_program.specs.TableNames.{columned, table_of, has_name};
 
 use linked_program::tables::TableNames;
-use monoid_laws::Kind;
 use meaning::tree::{Declaration, Procedure};
+use monoid_laws::Kind;
 
 /// The procedure of that name.
 pub fn find_procedure<'a>(declarations: &'a [Declaration], name: &str) -> Option<&'a Procedure>

@@ -18,8 +18,8 @@ use crate::terms::{note_term, note_terms};
 use linked_program::knowledge::Moment;
 use linked_program::tables::TableNames;
 use linked_program::violation::{Rule, Violation};
-use monoid_laws::Kind;
 use meaning::tree::{Action, Declaration, Expr, Way};
+use monoid_laws::Kind;
 
 // The first violation so far or that of binding a name.
 fn note_bind(

@@ -17,6 +17,8 @@ use Rattle.positions.specs.Tallies.{opening}
 use Rattle.positions.specs.Strands.{PlainStrand, shorter, IsLayered}
 use Rattle.positions.specs.Advance.{begun, child_of, pushed, faulted, opened_of}
 use Rattle.positions.specs.Simulation.{IsSmallStep, KitsFollow}
+use Rattle.view_pool.specs.declared.pool.KitSource.{Ghosts as Source}
+use Rattle.activations.specs.declared.setting.Setting.{Setting as Lent}
 
 -- a source has no kit to give
 abbrev pub GivesNone : {S : Type 0} → (List Kind → S → Type 0) → S → Type 0
@@ -94,3 +96,12 @@ module _ {S : Type 0} (fits gives : List Kind → S → Type 0) (free total : S 
     pub all : total new ≡ total old
     pub fitting : (k : List Kind) → fits k old → fits k new
     pub given : (k : List Kind) → gives k new → k ≡ kinds
+
+-- the source has what a step of the strand needs, in that setting
+abbrev pub IsSuppliedBy : {S : Type 0} → Source S (List Kind) → Lent → S → PlainStrand → Type 0
+IsSuppliedBy source setting kits s =
+    IsSupplied source.fits source.gives source.free source.total setting.program.now.kinds kits setting.records.now s.layer.kinds s.lower
+
+-- from the strand before a step to that after it no kit is lost
+abbrev pub KeepsAllKits : {S : Type 0} → Source S (List Kind) → List Kind → S → S → PlainStrand → PlainStrand → Type 0
+KeepsAllKits source kinds old new s t = KeepsKits source.fits source.gives source.free source.total kinds old new s.lower t.lower

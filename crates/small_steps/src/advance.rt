@@ -4,7 +4,7 @@ ghost use Rattle.rerun_records.specs.Named.{HaveValues};
 ghost use Rattle.positions.specs.Strands.{IsLayered};
 ghost use Rattle.positions.specs.Advance.{performed, gone, worked, left_to, advanced, pause_of, next_statement, is_sync};
 ghost use Rattle.activations.specs.Given.{lent};
-ghost use Rattle.small_steps.specs.Steps.{GivesNone, HoldsBy, IsSupplied, IsValued, KeepsKits};
+ghost use Rattle.small_steps.specs.Steps.{GivesNone, HoldsBy, IsSuppliedBy, IsValued, KeepsAllKits};
 
 use crate::machine::Machine;
 use crate::remembering::Entrance;
@@ -93,13 +93,12 @@ impl<V: View> Machine<V> {
         kits: &mut K,
     ) -> Result<(), AllocError>
         requires layered { IsLayered self.old }
-        requires supplied { IsSupplied K.fits K.gives K.free K.total setting.program.now.kinds kits.old setting.records.now
-            self.old.layer.kinds self.old.lower }
+        requires supplied { IsSuppliedBy K.KitSource setting kits.old self.old }
         ensures advanced { OnOk result (HoldsBy (K.lacks kits.old) (GivesNone K.gives kits.old)
             (λ kit. self.new ≡ advanced (lent setting.entry) kit self.old)) }
         ensures made { HaveValues self.old.layer.kinds self.old.tally.made → HaveValues self.old.layer.kinds self.new.tally.made }
         ensures refused { OnErr result (IsValued self.old self.new) }
-        ensures kits { KeepsKits K.fits K.gives K.free K.total setting.entry.program.now.kinds kits.old kits.new self.old.lower self.new.lower }
+        ensures kits { KeepsAllKits K.KitSource setting.entry.program.now.kinds kits.old kits.new self.old self.new }
     {
         match self.phase {
             Phase::Entering => self.start(alloc, setting, kits),
@@ -121,12 +120,11 @@ impl<V: View> Machine<V> {
         kits: &mut K,
     ) -> Result<(), AllocError>
         requires running { self.old.phase ≡ Phase.Running }
-        requires supplied { IsSupplied K.fits K.gives K.free K.total setting.program.now.kinds kits.old setting.records.now
-            self.old.layer.kinds self.old.lower }
+        requires supplied { IsSuppliedBy K.KitSource setting kits.old self.old }
         ensures worked { OnOk result (HoldsBy (K.lacks kits.old) (GivesNone K.gives kits.old)
             (λ kit. self.new ≡ worked (lent setting.entry) kit self.old.top.work self.old)) }
         ensures refused { OnErr result (IsValued self.old self.new) }
-        ensures kits { KeepsKits K.fits K.gives K.free K.total setting.entry.program.now.kinds kits.old kits.new self.old.lower self.new.lower }
+        ensures kits { KeepsAllKits K.KitSource setting.entry.program.now.kinds kits.old kits.new self.old self.new }
     {
         match self.top.work() {
             Work::Block(place) => self.go(alloc, setting, place, kits),
@@ -155,12 +153,11 @@ impl<V: View> Machine<V> {
         kits: &mut K,
     ) -> Result<(), AllocError>
         requires running { self.old.phase ≡ Phase.Running }
-        requires supplied { IsSupplied K.fits K.gives K.free K.total setting.program.now.kinds kits.old setting.records.now
-            self.old.layer.kinds self.old.lower }
+        requires supplied { IsSuppliedBy K.KitSource setting kits.old self.old }
         ensures gone { OnOk result (HoldsBy (K.lacks kits.old) (GivesNone K.gives kits.old)
             (λ kit. self.new ≡ gone (lent setting.entry) kit place self.old)) }
         ensures refused { OnErr result (IsValued self.old self.new) }
-        ensures kits { KeepsKits K.fits K.gives K.free K.total setting.entry.program.now.kinds kits.old kits.new self.old.lower self.new.lower }
+        ensures kits { KeepsAllKits K.KitSource setting.entry.program.now.kinds kits.old kits.new self.old self.new }
     {
         match instruction(
             setting.program,
@@ -187,12 +184,11 @@ impl<V: View> Machine<V> {
     ) -> Result<(), AllocError>
         requires room { place.index + 1 < 2 ^ 64 }
         requires running { self.old.phase ≡ Phase.Running }
-        requires supplied { IsSupplied K.fits K.gives K.free K.total setting.program.now.kinds kits.old setting.records.now
-            self.old.layer.kinds self.old.lower }
+        requires supplied { IsSuppliedBy K.KitSource setting kits.old self.old }
         ensures performed { OnOk result (HoldsBy (K.lacks kits.old) (GivesNone K.gives kits.old)
             (λ kit. self.new ≡ performed (lent setting.entry) kit place instruction.now.number instruction.now.operation self.old)) }
         ensures refused { OnErr result (IsValued self.old self.new) }
-        ensures kits { KeepsKits K.fits K.gives K.free K.total setting.entry.program.now.kinds kits.old kits.new self.old.lower self.new.lower }
+        ensures kits { KeepsAllKits K.KitSource setting.entry.program.now.kinds kits.old kits.new self.old self.new }
     {
         let number = instruction.number;
         match &instruction.operation {

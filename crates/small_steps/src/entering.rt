@@ -5,7 +5,7 @@ ghost use Rattle.evaluation.specs.Values.{entry_at};
 ghost use Rattle.positions.specs.Activations.{WorkFits};
 ghost use Rattle.positions.specs.Advance.{evaluated, called};
 ghost use Rattle.activations.specs.Given.{lent};
-ghost use Rattle.small_steps.specs.Steps.{GivesNone, HoldsBy, IsSupplied, IsValued, KeepsKits, nested_plain};
+ghost use Rattle.small_steps.specs.Steps.{GivesNone, HoldsBy, IsSuppliedBy, IsValued, KeepsAllKits, nested_plain};
 
 use crate::machine::Machine;
 use crate::remembering::Entrance;
@@ -14,9 +14,9 @@ use activations::setting::Setting;
 use evaluation::slot::Slot;
 use linked_program::code::Expression;
 use meaning::FaultKind;
+use meaning::tree::Way;
 use positions::phase::Phase;
 use positions::work::Work;
-use meaning::tree::Way;
 use std::alloc::{AllocError, Global};
 use view_pool::{Kit, KitSource, View};
 
@@ -32,13 +32,12 @@ impl<V: View> Machine<V> {
     ) -> Result<(), AllocError>
         requires fits { WorkFits entrance.work }
         requires running { self.old.phase ≡ Phase.Running }
-        requires supplied { IsSupplied K.fits K.gives K.free K.total setting.program.now.kinds kits.old setting.records.now
-            self.old.layer.kinds self.old.lower }
+        requires supplied { IsSuppliedBy K.KitSource setting kits.old self.old }
         ensures called { OnOk result (HoldsBy (K.lacks kits.old) (GivesNone K.gives kits.old)
             (λ kit. self.new ≡ called (lent setting.entry) kit entrance.statement entrance.way entrance.into entrance.work entrance.callee
             (map plain arguments.now) self.old.top.slots self.old)) }
         ensures refused { OnErr result (IsValued self.old self.new) }
-        ensures kits { KeepsKits K.fits K.gives K.free K.total setting.entry.program.now.kinds kits.old kits.new self.old.lower self.new.lower }
+        ensures kits { KeepsAllKits K.KitSource setting.entry.program.now.kinds kits.old kits.new self.old self.new }
     {
         if setting.program.is_memo(entrance.callee) {
             self.enter_memo(alloc, setting, entrance, arguments, kits)

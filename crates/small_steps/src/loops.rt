@@ -8,7 +8,7 @@ ghost use Rattle.positions.specs.Advance.{evaluated, looping, split, halved, sec
 ghost use Rattle.activations.specs.Given.{lent, loop_of};
 ghost use Rattle.small_steps.specs.Ends.{Evaluates, TakesNumber};
 ghost use Rattle.layers.specs.Ends.{HasNoted};
-ghost use Rattle.small_steps.specs.Steps.{GivesNone, HoldsBy, IsSupplied, IsValued, KeepsKits, nested_plain};
+ghost use Rattle.small_steps.specs.Steps.{GivesNone, HoldsBy, IsSuppliedBy, IsValued, KeepsAllKits, nested_plain};
 
 use crate::machine::Machine;
 use crate::remembering::Entrance;
@@ -189,12 +189,11 @@ impl<V: View> Machine<V> {
     ) -> Result<(), AllocError>
         requires fits { ShareFits site share }
         requires running { self.old.phase ≡ Phase.Running }
-        requires supplied { IsSupplied K.fits K.gives K.free K.total setting.program.now.kinds kits.old setting.records.now
-            self.old.layer.kinds self.old.lower }
+        requires supplied { IsSuppliedBy K.KitSource setting kits.old self.old }
         ensures turned { OnOk result (HoldsBy (K.lacks kits.old) (GivesNone K.gives kits.old)
             (λ kit. self.new ≡ turned (lent setting.entry) kit site share self.old)) }
         ensures refused { OnErr result (IsValued self.old self.new) }
-        ensures kits { KeepsKits K.fits K.gives K.free K.total setting.entry.program.now.kinds kits.old kits.new self.old.lower self.new.lower }
+        ensures kits { KeepsAllKits K.KitSource setting.entry.program.now.kinds kits.old kits.new self.old self.new }
     {
         if share.count == 0 {
             self.phase = Phase::Returning(0);
@@ -217,12 +216,11 @@ impl<V: View> Machine<V> {
         requires fits { ShareFits turns.site turns.share }
         requires more { 0 < turns.share.count }
         requires running { self.old.phase ≡ Phase.Running }
-        requires supplied { IsSupplied K.fits K.gives K.free K.total setting.program.now.kinds kits.old setting.records.now
-            self.old.layer.kinds self.old.lower }
+        requires supplied { IsSuppliedBy K.KitSource setting kits.old self.old }
         ensures turned { OnOk result (HoldsBy (K.lacks kits.old) (GivesNone K.gives kits.old)
             (λ kit. self.new ≡ turn_by (lent setting.entry) kit (loop_of code.entry) turns.site turns.share self.old)) }
         ensures refused { OnErr result (IsValued self.old self.new) }
-        ensures kits { KeepsKits K.fits K.gives K.free K.total setting.entry.program.now.kinds kits.old kits.new self.old.lower self.new.lower }
+        ensures kits { KeepsAllKits K.KitSource setting.entry.program.now.kinds kits.old kits.new self.old self.new }
     {
         if setting.program.is_memo(code.callee) {
             self.iterate_memo(alloc, setting, code, turns, kits)
@@ -284,15 +282,14 @@ impl<V: View> Machine<V> {
         requires more { 0 < turns.share.count }
         requires running { self.old.phase ≡ Phase.Running }
         requires memo { memo_of setting.program.now.codes code.callee ≡ true }
-        requires supplied { IsSupplied K.fits K.gives K.free K.total setting.program.now.kinds kits.old setting.records.now
-            self.old.layer.kinds self.old.lower }
+        requires supplied { IsSuppliedBy K.KitSource setting kits.old self.old }
         ensures turned { OnOk result (HoldsBy (K.lacks kits.old) (GivesNone K.gives kits.old)
             (λ kit. self.new ≡ evaluated code.entry.number
             (values_at setting.entry.tables.now.tables (turn_slots (loop_of code.entry) turns.site turns.share self.old)
             (map plain code.entry.arguments.now)) (nested_memo (lent setting.entry) kit code.entry.number Way.Call None
             (Work.Turns turns.site (later_of turns.share)) code.entry.callee) self.old)) }
         ensures refused { OnErr result (IsValued self.old self.new) }
-        ensures kits { KeepsKits K.fits K.gives K.free K.total setting.entry.program.now.kinds kits.old kits.new self.old.lower self.new.lower }
+        ensures kits { KeepsAllKits K.KitSource setting.entry.program.now.kinds kits.old kits.new self.old self.new }
     {
         let mut numbers = mem::replace(&mut self.numbers, Vec::new(alloc));
         let outcome = self.iterate_memo_by(alloc, setting, code, turns, &mut numbers, kits);
@@ -314,15 +311,14 @@ impl<V: View> Machine<V> {
         requires more { 0 < turns.share.count }
         requires running { self.old.phase ≡ Phase.Running }
         requires memo { memo_of setting.program.now.codes code.callee ≡ true }
-        requires supplied { IsSupplied K.fits K.gives K.free K.total setting.program.now.kinds kits.old setting.records.now
-            self.old.layer.kinds self.old.lower }
+        requires supplied { IsSuppliedBy K.KitSource setting kits.old self.old }
         ensures turned { OnOk result (HoldsBy (K.lacks kits.old) (GivesNone K.gives kits.old)
             (λ kit. self.new ≡ evaluated code.entry.number
             (values_at setting.entry.tables.now.tables (turn_slots (loop_of code.entry) turns.site turns.share self.old)
             (map plain code.entry.arguments.now)) (nested_memo (lent setting.entry) kit code.entry.number Way.Call None
             (Work.Turns turns.site (later_of turns.share)) code.entry.callee) self.old)) }
         ensures refused { OnErr result (IsValued self.old self.new) }
-        ensures kits { KeepsKits K.fits K.gives K.free K.total setting.entry.program.now.kinds kits.old kits.new self.old.lower self.new.lower }
+        ensures kits { KeepsAllKits K.KitSource setting.entry.program.now.kinds kits.old kits.new self.old self.new }
     {
         let before = self.layer.readings();
         match self.turn_values(setting.tables, code, turns, numbers)? {

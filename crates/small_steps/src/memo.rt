@@ -5,7 +5,7 @@ ghost use Rattle.monoid_laws.specs.Kinds.{IsMonoid};
 ghost use Rattle.rerun_records.specs.Named.{AreValuesFrom, HaveValues};
 ghost use Rattle.positions.specs.Advance.{reused, passed, opened_of, answer_for, recalled, started, closed, synced};
 ghost use Rattle.activations.specs.Given.{lent};
-ghost use Rattle.small_steps.specs.Steps.{GivesNone, HoldsBy, IsSupplied, IsValued, KeepsKits, opened_in, revalued};
+ghost use Rattle.small_steps.specs.Steps.{GivesNone, HoldsBy, IsSuppliedBy, IsValued, KeepsAllKits, opened_in, revalued};
 
 use crate::machine::Machine;
 use activations::setting::Setting;
@@ -29,12 +29,11 @@ impl<V: View> Machine<V> {
         kits: &mut K,
     ) -> Result<(), AllocError>
         requires entering { self.old.phase ≡ Phase.Entering }
-        requires supplied { IsSupplied K.fits K.gives K.free K.total setting.program.now.kinds kits.old setting.records.now
-            self.old.layer.kinds self.old.lower }
+        requires supplied { IsSuppliedBy K.KitSource setting kits.old self.old }
         ensures started { OnOk result (HoldsBy (K.lacks kits.old) (GivesNone K.gives kits.old)
             (λ kit. self.new ≡ started (lent setting.entry) kit self.old)) }
         ensures refused { OnErr result (IsValued self.old self.new) }
-        ensures kits { KeepsKits K.fits K.gives K.free K.total setting.entry.program.now.kinds kits.old kits.new self.old.lower self.new.lower }
+        ensures kits { KeepsAllKits K.KitSource setting.entry.program.now.kinds kits.old kits.new self.old self.new }
     {
         match self.top.work() {
             Work::Block(_) => {
@@ -61,12 +60,11 @@ impl<V: View> Machine<V> {
         kits: &mut K,
     ) -> Result<(), AllocError>
         requires entering { self.old.phase ≡ Phase.Entering }
-        requires supplied { IsSupplied K.fits K.gives K.free K.total setting.program.now.kinds kits.old setting.records.now
-            self.old.layer.kinds self.old.lower }
+        requires supplied { IsSuppliedBy K.KitSource setting kits.old self.old }
         ensures recalled { OnOk result (HoldsBy (K.lacks kits.old) (GivesNone K.gives kits.old)
             (λ kit. self.new ≡ recalled (lent setting.entry) kit (answer_for (lent setting.entry) self.old) self.old)) }
         ensures refused { OnErr result (IsValued self.old self.new) }
-        ensures kits { KeepsKits K.fits K.gives K.free K.total setting.entry.program.now.kinds kits.old kits.new self.old.lower self.new.lower }
+        ensures kits { KeepsAllKits K.KitSource setting.entry.program.now.kinds kits.old kits.new self.old self.new }
     {
         match self.record_for(setting) {
             Some(record) => self.reuse(alloc, record),
@@ -118,7 +116,7 @@ impl<V: View> Machine<V> {
         ensures without_kit { OnOk result (GivesNone K.gives kits.old → self.new ≡ passed self.old) }
         ensures either { OnOk result ((self.new ≡ opened_in program.now.kinds (length program.now.codes) self.old) ⊎ (self.new ≡ passed self.old)) }
         ensures unchanged { OnErr result (self.new ≡ self.old) }
-        ensures kits { KeepsKits K.fits K.gives K.free K.total program.now.kinds kits.old kits.new self.old.lower self.new.lower }
+        ensures kits { KeepsAllKits K.KitSource program.now.kinds kits.old kits.new self.old self.new }
     {
         match kits.take() {
             Some(kit) => match self.open(alloc, program, kit) {
@@ -200,12 +198,11 @@ impl<V: View> Machine<V> {
     ) -> Result<(), AllocError>
         requires returning { self.old.phase ≡ Phase.Returning value }
         requires layered { length self.old.tally.opened ≡ length self.old.lower }
-        requires supplied { IsSupplied K.fits K.gives K.free K.total setting.program.now.kinds kits.old setting.records.now
-            self.old.layer.kinds self.old.lower }
+        requires supplied { IsSuppliedBy K.KitSource setting kits.old self.old }
         ensures synced { OnOk result (self.new ≡ synced (lent setting.entry) value self.old) }
         ensures made { HaveValues self.old.layer.kinds self.old.tally.made → HaveValues self.old.layer.kinds self.new.tally.made }
         ensures refused { OnErr result (IsValued self.old self.new) }
-        ensures kits { KeepsKits K.fits K.gives K.free K.total setting.entry.program.now.kinds kits.old kits.new self.old.lower self.new.lower }
+        ensures kits { KeepsAllKits K.KitSource setting.entry.program.now.kinds kits.old kits.new self.old self.new }
     {
         if self.is_entry() {
             return Ok(());

@@ -6,7 +6,7 @@ ghost use Rattle.evaluation.specs.Values.{values_at};
 ghost use Rattle.positions.specs.Activations.{WorkFits};
 ghost use Rattle.positions.specs.Advance.{answer_for, evaluated, nested, nested_memo, pushed, recalled};
 ghost use Rattle.activations.specs.Given.{lent};
-ghost use Rattle.small_steps.specs.Steps.{GivesNone, HoldsBy, IsSupplied, IsValued, KeepsKits, took_back};
+ghost use Rattle.small_steps.specs.Steps.{GivesNone, HoldsBy, IsSuppliedBy, IsValued, KeepsAllKits, took_back};
 
 use crate::machine::Machine;
 use activations::activation::{Activation, FIRST, Waiting};
@@ -60,15 +60,14 @@ impl<V: View> Machine<V> {
         requires fits { WorkFits entrance.work }
         requires running { self.old.phase ≡ Phase.Running }
         requires memo { memo_of setting.program.now.codes entrance.callee ≡ true }
-        requires supplied { IsSupplied K.fits K.gives K.free K.total setting.program.now.kinds kits.old setting.records.now
-            self.old.layer.kinds self.old.lower }
+        requires supplied { IsSuppliedBy K.KitSource setting kits.old self.old }
         ensures entered { OnOk result (HoldsBy (K.lacks kits.old) (GivesNone K.gives kits.old)
             (λ kit. self.new ≡ evaluated entrance.statement
             (values_at setting.entry.tables.now.tables self.old.top.slots (map plain arguments.now))
             (nested_memo (lent setting.entry) kit entrance.statement entrance.way entrance.into entrance.work entrance.callee)
             self.old)) }
         ensures refused { OnErr result (IsValued self.old self.new) }
-        ensures kits { KeepsKits K.fits K.gives K.free K.total setting.entry.program.now.kinds kits.old kits.new self.old.lower self.new.lower }
+        ensures kits { KeepsAllKits K.KitSource setting.entry.program.now.kinds kits.old kits.new self.old self.new }
     {
         let mut numbers = mem::replace(&mut self.numbers, Vec::new(alloc));
         let outcome = self.enter_memo_by(alloc, setting, entrance, arguments, &mut numbers, kits);
@@ -89,15 +88,14 @@ impl<V: View> Machine<V> {
         requires fits { WorkFits entrance.work }
         requires running { self.old.phase ≡ Phase.Running }
         requires memo { memo_of setting.program.now.codes entrance.callee ≡ true }
-        requires supplied { IsSupplied K.fits K.gives K.free K.total setting.program.now.kinds kits.old setting.records.now
-            self.old.layer.kinds self.old.lower }
+        requires supplied { IsSuppliedBy K.KitSource setting kits.old self.old }
         ensures entered { OnOk result (HoldsBy (K.lacks kits.old) (GivesNone K.gives kits.old)
             (λ kit. self.new ≡ evaluated entrance.statement
             (values_at setting.entry.tables.now.tables self.old.top.slots (map plain arguments.now))
             (nested_memo (lent setting.entry) kit entrance.statement entrance.way entrance.into entrance.work entrance.callee)
             self.old)) }
         ensures refused { OnErr result (IsValued self.old self.new) }
-        ensures kits { KeepsKits K.fits K.gives K.free K.total setting.entry.program.now.kinds kits.old kits.new self.old.lower self.new.lower }
+        ensures kits { KeepsAllKits K.KitSource setting.entry.program.now.kinds kits.old kits.new self.old self.new }
     {
         let before = self.layer.readings();
         match self.values(setting.tables, entrance.statement, arguments, numbers)? {
@@ -125,13 +123,12 @@ impl<V: View> Machine<V> {
         requires fits { WorkFits entrance.work }
         requires running { self.old.phase ≡ Phase.Running }
         requires memo { memo_of setting.program.now.codes entrance.callee ≡ true }
-        requires supplied { IsSupplied K.fits K.gives K.free K.total setting.program.now.kinds kits.old setting.records.now
-            self.old.layer.kinds self.old.lower }
+        requires supplied { IsSuppliedBy K.KitSource setting kits.old self.old }
         ensures nested { OnOk result (HoldsBy (K.lacks kits.old) (GivesNone K.gives kits.old)
             (λ kit. self.new ≡ nested_memo (lent setting.entry)
             kit entrance.statement entrance.way entrance.into entrance.work entrance.callee numbers.old.items self.old)) }
         ensures refused { OnErr result (IsValued self.old self.new) }
-        ensures kits { KeepsKits K.fits K.gives K.free K.total setting.entry.program.now.kinds kits.old kits.new self.old.lower self.new.lower }
+        ensures kits { KeepsAllKits K.KitSource setting.entry.program.now.kinds kits.old kits.new self.old self.new }
     {
         let room = self.spares.slots(alloc);
         let slots = slots_with(room, setting.program.slots(entrance.callee), numbers)?;
@@ -158,13 +155,12 @@ impl<V: View> Machine<V> {
         requires fits { WorkFits entrance.work }
         requires running { self.old.phase ≡ Phase.Running }
         requires memo { memo_of setting.program.now.codes entrance.callee ≡ true }
-        requires supplied { IsSupplied K.fits K.gives K.free K.total setting.program.now.kinds kits.old setting.records.now
-            self.old.layer.kinds self.old.lower }
+        requires supplied { IsSuppliedBy K.KitSource setting kits.old self.old }
         ensures nested { OnOk result (HoldsBy (K.lacks kits.old) (GivesNone K.gives kits.old)
             (λ kit. self.new ≡ nested (lent setting.entry)
             kit entrance.statement entrance.way entrance.into entrance.work entrance.callee slots.items self.old)) }
         ensures refused { OnErr result (IsValued self.old self.new) }
-        ensures kits { KeepsKits K.fits K.gives K.free K.total setting.entry.program.now.kinds kits.old kits.new self.old.lower self.new.lower }
+        ensures kits { KeepsAllKits K.KitSource setting.entry.program.now.kinds kits.old kits.new self.old self.new }
     {
         let left = self.top.left();
         if left == 0 {
@@ -191,14 +187,13 @@ impl<V: View> Machine<V> {
     ) -> Result<(), AllocError>
         requires fits { WorkFits entrance.work }
         requires running { self.old.phase ≡ Phase.Running }
-        requires supplied { IsSupplied K.fits K.gives K.free K.total setting.program.now.kinds kits.old setting.records.now
-            self.old.layer.kinds self.old.lower }
+        requires supplied { IsSuppliedBy K.KitSource setting kits.old self.old }
         ensures recalled { OnOk result (HoldsBy (K.lacks kits.old) (GivesNone K.gives kits.old)
             (λ kit. self.new ≡ recalled (lent setting.entry) kit
             (answer_for (lent setting.entry) (pushed child false entrance.into entrance.work Phase.Entering self.old))
             (pushed child false entrance.into entrance.work Phase.Entering self.old))) }
         ensures refused { OnErr result (IsValued self.old self.new) }
-        ensures kits { KeepsKits K.fits K.gives K.free K.total setting.entry.program.now.kinds kits.old kits.new self.old.lower self.new.lower }
+        ensures kits { KeepsAllKits K.KitSource setting.entry.program.now.kinds kits.old kits.new self.old self.new }
     {
         let before = self.top.waiting();
         self.push_called(child, entrance.work, entrance.into, Phase::Entering)?;

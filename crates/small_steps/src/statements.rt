@@ -14,9 +14,9 @@ use input_tables::Tables;
 use layers::layer::Layer;
 use linked_program::code::Expression;
 use meaning::FaultKind;
+use meaning::tree::Way;
 use positions::phase::Phase;
 use positions::work::{Position, Work};
-use meaning::tree::Way;
 use std::alloc::{AllocError, Global};
 use view_pool::View;
 

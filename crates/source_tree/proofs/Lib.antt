@@ -1,4 +1,4 @@
 pub mod Pools
 pub mod Counting
 pub mod Laying
-pub mod Settled
+pub mod LoweredTrees

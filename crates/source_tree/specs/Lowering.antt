@@ -91,8 +91,8 @@ lowered_decl (plain.reducer r) = reducer r.called (written r.kind) r.initial
 lowered_decl (plain.procedure p) = procedure p
 
 -- a program's tree so
-abbrev pub settled : Tree → List Lowered
-settled ds = map lowered_decl ds
+abbrev pub lowered_tree : Tree → List Lowered
+lowered_tree ds = map lowered_decl ds
 
 abbrev pub lower_proc : Bool → Name → List Name → List Stmt → Proc
 lower_proc memo f xs ss =

@@ -8,6 +8,6 @@ mod pool;
 mod source;
 mod terms;
 
-pub use laws::laws_of_settled_trees;
+pub use laws::laws_of_lowered_trees;
 pub use lowering::{lower, lower_procedure};
 pub use source::{Declaration, Expr, Measured, Procedure, Reducer, Statement};

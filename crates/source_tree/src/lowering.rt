@@ -5,7 +5,7 @@ ghost use Rattle.meaning.specs.TreeView.{proc, decl, tree, lines, lined, block_l
 ghost use Rattle.source_tree.specs.Source.{stmts, stmts_of, texts};
 ghost use Rattle.source_tree.specs.Source as plain;
 ghost use Rattle.source_tree.specs.Lowering.{count_all, body_len, BodiesWithin, lower_proc, body_lines, lowered_decl, lower_decl};
-ghost use Rattle.source_tree.specs.Lowering.{lined_decl, settled, lowered, lines_of, most_statements};
+ghost use Rattle.source_tree.specs.Lowering.{lined_decl, lowered_tree, lowered, lines_of, most_statements};
 ghost use Rattle.source_tree.specs.Layout.{flats, laid_procedure};
 
 use crate::layout::statements;
@@ -92,7 +92,7 @@ fn lower_declaration(
 /// The tree of a program, from its source tree, in which no procedure has more than 1,048,576 statements. Want of memory is the only error.
 pub fn lower(alloc: Global, source: &[source::Declaration]) -> Result<Program, AllocError>
     requires { BodiesWithin most_statements (plain.source source.now) }
-    ensures tree { IfOk result (λ p. settled (tree p) ≡ lowered (plain.source source.now)) }
+    ensures tree { IfOk result (λ p. lowered_tree (tree p) ≡ lowered (plain.source source.now)) }
     ensures lines { IfOk result (λ p. lines p ≡ lines_of (plain.source source.now)) }
 {
     let mut declarations = Vec::with_capacity(alloc, source.len())?;

@@ -4,8 +4,8 @@ ghost use Rattle.std.specs.Prelude.{◌≡◌};
 ghost use Rattle.source_tree.specs.Source.{phrase, depth, stmt};
 ghost use Rattle.source_tree.specs.Lowering.{line_of_stmt};
 
-use monoid_laws::Kind;
 use meaning::tree::{Operator, Way};
+use monoid_laws::Kind;
 
 /// An expression.
 #[derive(Drop)]

@@ -3,7 +3,7 @@ use Rattle.std.specs.Prelude.{◌≡◌, ◌++◌, ℕ, Bool, true, false, List,
 use Rattle.meaning.specs.Outcome.{Place}
 use Rattle.meaning.specs.Strands.{BookStep, Book, Split, first_book, is_held_at, stepped}
 use Rattle.strand_list.specs.Laying.{rest_step}
-use Rattle.strand_list.specs.Pages.{stands}
+use Rattle.strand_list.specs.Pages.{has_strand}
 use Rattle.strand_list.specs.declared.rest.Rest.{Rest}
 use Rattle.strand_list.specs.declared.error.BookError.{BookError}
 use Rattle.strand_list.specs.declared.error.BookError.TheVariants as error
@@ -38,10 +38,10 @@ unless_allowed (Some c) = None
 unless_allowed None = Some error.NotThere
 
 abbrev pub split_refusal : Book → Place → Place → ℕ → Option BookError
-split_refusal b v n w = unless (stands v b.lines) error.NoStrand (unless_allowed (stepped b (Split v n w)))
+split_refusal b v n w = unless (has_strand v b.lines) error.NoStrand (unless_allowed (stepped b (Split v n w)))
 
 abbrev pub rest_refusal : Book → Rest → Place → Option BookError
-rest_refusal b r p = unless (stands p b.lines) error.NoStrand (unless (is_held_at b.lines p) error.AlreadyLaid (unless_allowed (stepped b (rest_step r p))))
+rest_refusal b r p = unless (has_strand p b.lines) error.NoStrand (unless (is_held_at b.lines p) error.AlreadyLaid (unless_allowed (stepped b (rest_step r p))))
 
 -- for want of memory, or for that reason
 abbrev pub IsRefusedBy : Option BookError → BookError → Type 0

@@ -53,9 +53,9 @@ are_neighbours l r [] = false
 are_neighbours l r (x ∷ rest) = begins_with l r (x ∷ rest) || are_neighbours l r rest
 
 -- a strand begins at that place
-abbrev pub stands : Place → List Line → Bool
-stands p [] = false
-stands p (l ∷ ls) = bytes_eq l.0 p || stands p ls
+abbrev pub has_strand : Place → List Line → Bool
+has_strand p [] = false
+has_strand p (l ∷ ls) = bytes_eq l.0 p || has_strand p ls
 
 -- the place of the first strand that the worker holds
 abbrev pub held_place : ℕ → List Line → Option Place

@@ -48,7 +48,7 @@ impl Chronicle {
     ghost use Rattle.std.specs.Prelude.{◌≡◌, ◌<◌, ◌&&◌, length, true, IfOk, IfErr, OnOk, OnErr, MatchOption, vec_len, vec_capacity};
     ghost use Rattle.meaning.specs.Strands.{Split, Fold, is_free, may_fold, stepped};
     ghost use Rattle.numbered_runs.specs.Named.{book_step};
-    ghost use Rattle.strand_list.specs.Pages.{shown, position, stands, are_neighbours, Apart};
+    ghost use Rattle.strand_list.specs.Pages.{shown, position, has_strand, are_neighbours, Apart};
     ghost use Rattle.strand_list.specs.Laying.{rest_step};
     ghost use Rattle.strand_list.specs.Chronicled.{Took, Notes, IsRefusedBy, first_chronicle, unless_allowed, split_refusal, rest_refusal};
     ghost use Rattle.strand_list.specs.Chronicles.{told};
@@ -93,10 +93,10 @@ impl Chronicle {
     }
 
     /// Whether there are strands of both places.
-    pub fn both_stand(&self, left: &[usize], right: &[usize]) -> bool
-        ensures stand { result ≡ (stands left.now self.now.page.lines && stands right.now self.now.page.lines) }
+    pub fn has_both(&self, left: &[usize], right: &[usize]) -> bool
+        ensures both { result ≡ (has_strand left.now self.now.page.lines && has_strand right.now self.now.page.lines) }
     {
-        self.page.stands(left) && self.page.stands(right)
+        self.page.has_strand(left) && self.page.has_strand(right)
     }
 
     /// Whether a strand of the right place stands directly behind one of the left place.
@@ -150,7 +150,7 @@ impl Chronicle {
         ensures refused { IfErr result (IsRefusedBy (split_refusal self.old.page victim.now new.now thief)) }
         ensures same { OnErr result (told self.new ≡ told self.old) }
     {
-        if !self.page.stands(victim) {
+        if !self.page.has_strand(victim) {
             return Err(BookError::NoStrand);
         }
         match split_of(alloc, victim, new, thief) {
@@ -166,7 +166,7 @@ impl Chronicle {
         ensures refused { IfErr result (IsRefusedBy (rest_refusal self.old.page rest place.now)) }
         ensures same { OnErr result (told self.new ≡ told self.old) }
     {
-        if !self.page.stands(place) {
+        if !self.page.has_strand(place) {
             return Err(BookError::NoStrand);
         }
         if !self.page.is_held_at(place) {

@@ -4,7 +4,8 @@ ghost use Rattle.std.specs.Str.{bytes_eq};
 ghost use Rattle.meaning.specs.Strands.{Held, done, waits, holds_by, is_held, is_free, is_held_at, is_root, is_alone, may_fold, becomes, splits};
 ghost use Rattle.numbered_runs.specs.Named.{named_state, line};
 ghost use Rattle.strand_list.specs.Laying.{is_last};
-ghost use Rattle.strand_list.specs.Pages.{shown, position, removes, items_of, is_unused, is_pair, begins_pair, begins_with, are_neighbours, stands, held_place};
+ghost use Rattle.strand_list.specs.Pages.{shown, position, removes, items_of, is_unused, is_pair, begins_pair};
+ghost use Rattle.strand_list.specs.Pages.{begins_with, are_neighbours, has_strand, held_place};
 
 use numbered_runs::step::{Place, State, StrandLine};
 use std::alloc::{AllocError, Global};
@@ -202,8 +203,8 @@ pub fn are_neighbours(lines: &[StrandLine], left: &[usize], right: &[usize]) -> 
 }
 
 /// Whether there is a strand of that place.
-pub fn stands(lines: &[StrandLine], place: &[usize]) -> bool
-    ensures stands { result ≡ stands place.now (shown lines.now) }
+pub fn has_strand(lines: &[StrandLine], place: &[usize]) -> bool
+    ensures has_strand { result ≡ has_strand place.now (shown lines.now) }
 {
     for line in lines.iter() {
         if is_same(&line.place, place) {

@@ -1,7 +1,7 @@
 //! The list of strands with the places that were split off, and the steps that it allows.
 use crate::lines::{
-    are_neighbours, find, is_alone, is_free, is_held_at, is_root, is_unused, may_fold, put_behind,
-    set_state, stands, take_out,
+    are_neighbours, find, has_strand, is_alone, is_free, is_held_at, is_root, is_unused, may_fold,
+    put_behind, set_state, take_out,
 };
 use crate::rest::{Rest, state_of};
 use numbered_runs::step::{BookStep, Place, State, StrandLine};
@@ -29,7 +29,7 @@ impl Page {
     ghost use Rattle.std.specs.Prelude.{◌≡◌, ◌<◌, ◌&&◌, ◌∷◌, length, MatchOption, IfOk, OnOk, OnErr};
     ghost use Rattle.meaning.specs.Strands.{Held, Split, Fold, first_book, is_free, is_held_at, may_fold, splits};
     ghost use Rattle.numbered_runs.specs.Named.{book_step};
-    ghost use Rattle.strand_list.specs.Pages.{shown, position, is_unused, stands, are_neighbours, Apart};
+    ghost use Rattle.strand_list.specs.Pages.{shown, position, is_unused, has_strand, are_neighbours, Apart};
     ghost use Rattle.strand_list.specs.Laying.{rest_step, may_rest};
     ghost use Rattle.strand_list.specs.Steps.{Takes, may_split};
 
@@ -78,10 +78,10 @@ impl Page {
     }
 
     /// Whether there is a strand of that place.
-    pub fn stands(&self, place: &[usize]) -> bool
-        ensures stands { result ≡ stands place.now self.now.lines }
+    pub fn has_strand(&self, place: &[usize]) -> bool
+        ensures has_strand { result ≡ has_strand place.now self.now.lines }
     {
-        stands(&self.lines, place)
+        has_strand(&self.lines, place)
     }
 
     /// Whether a strand of the right place stands directly behind one of the left place.

@@ -11,7 +11,7 @@ use Rattle.meaning.specs.Statements.{reducers, numbered, reading, job_of, proc_o
 use Rattle.meaning.specs.Elision.{depth_limit}
 use Rattle.meaning.specs.Records.{Revised, Kept}
 use Rattle.meaning.specs.Trail.{halvings, fault_at, opening}
-use Rattle.meaning.specs.SmallStep.{seen, Start, is_entry, Frame, Todo, blocks, halves, second, turns, Child, instance, half, Phase, entering, running, spawning, returning, leaving, broken, Parent, Layers, noting, opening_one, closing_one, Step, moved, taken, paused, led_step, unless, settling, on_value, on_depth, Lookup, look_of, memo_answer, opened, child_name, awaiting, has, with_env, first_todo, with_layer, layer_of, enter_by, leaving_layer, enter_step, enter_child, todo_step, micro}
+use Rattle.meaning.specs.SmallStep.{seen, Start, is_entry, Frame, Todo, blocks, halves, second, turns, Child, instance, half, Phase, entering, running, spawning, returning, leaving, broken, Parent, Layers, noting, opening_one, closing_one, Step, moved, taken, paused, led_step, unless, on_answer, on_value, on_depth, Lookup, look_of, memo_answer, opened, child_name, awaiting, has, with_env, first_todo, with_layer, layer_of, enter_by, leaving_layer, enter_step, enter_child, todo_step, micro}
 use Rattle.meaning.specs.Layers.{Notes}
 use Rattle.meaning.specs.Tallies.{Opened, Tally, executions, opened_all, tallied}
 use Rattle.trail_theory.specs.Right.{Sees}
@@ -40,15 +40,15 @@ module _ (t' t : List Parent) (same : unflagged_under t' ≡ unflagged_under t) 
   goes : (l : Layers) (evs : Log) (fr : Frame) (ph : Phase) → moved l evs fr ph (unflagged_under t') ≡ moved l evs fr ph (unflagged_under t)
   goes l evs fr ph = ap (λ u. moved l evs fr ph u) same
 
-  settling_alike : {A : Type 0} (b : Bool) (fr : Frame) (site : Site) (r : Result A FaultKind) (next' next : A → Step) → ((a : A) → unflagged_step (next' a) ≡ unflagged_step (next a)) → unflagged_step (settling (with_layer b fr) t' site r next') ≡ unflagged_step (settling fr t site r next)
-  settling_alike b fr site (Ok a) next' next h = h a
-  settling_alike b fr site (Err k) next' next h = goes noting [] (with_layer false fr) (broken (fault_at site k))
+  on_answer_alike : {A : Type 0} (b : Bool) (fr : Frame) (site : Site) (r : Result A FaultKind) (next' next : A → Step) → ((a : A) → unflagged_step (next' a) ≡ unflagged_step (next a)) → unflagged_step (on_answer (with_layer b fr) t' site r next') ≡ unflagged_step (on_answer fr t site r next)
+  on_answer_alike b fr site (Ok a) next' next h = h a
+  on_answer_alike b fr site (Err k) next' next h = goes noting [] (with_layer false fr) (broken (fault_at site k))
 
   value_alike : {A : Type 0} (b : Bool) (fr : Frame) (site : Site) (o : Out FaultKind A) (next' next : A → Step) → ((a : A) → unflagged_step (next' a) ≡ unflagged_step (next a)) → unflagged_step (on_value (with_layer b fr) t' site o next') ≡ unflagged_step (on_value fr t site o next)
   value_alike b fr site o next' next h =
-      led_alike o.log (settling (with_layer b fr) t' site o.answer next')
-      ∙ ap (led_step o.log) (settling_alike b fr site o.answer next' next h)
-      ∙ sym (led_alike o.log (settling fr t site o.answer next))
+      led_alike o.log (on_answer (with_layer b fr) t' site o.answer next')
+      ∙ ap (led_step o.log) (on_answer_alike b fr site o.answer next' next h)
+      ∙ sym (led_alike o.log (on_answer fr t site o.answer next))
 
   depth_alike : (b : Bool) (fr : Frame) (site : Site) (d : ℕ) (next' next : ℕ → Step) → ((e : ℕ) → unflagged_step (next' e) ≡ unflagged_step (next e)) → unflagged_step (on_depth (with_layer b fr) t' site d next') ≡ unflagged_step (on_depth fr t site d next)
   depth_alike b fr site zero next' next h = goes _ _ _ _

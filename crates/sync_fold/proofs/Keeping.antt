@@ -11,7 +11,7 @@ use Rattle.right_strands.specs.Laid.{PlainPiece}
 use Rattle.strand_list.specs.declared.rest.Rest.{Rest}
 use Rattle.strand_list.specs.declared.rest.Rest.TheVariants as rest
 use Rattle.strand_list.specs.Laying.{state_as, rest_step}
-use Rattle.strand_list.specs.Pages.{position, stands, is_unused, are_neighbours, Apart}
+use Rattle.strand_list.specs.Pages.{position, has_strand, is_unused, are_neighbours, Apart}
 use Rattle.strand_list.specs.Chronicled.{PlainChronicle, Took, unless, unless_allowed, split_refusal, rest_refusal}
 use Rattle.sync_fold.specs.Books.{PlainLaid, PlainBook, IsBook, Fits, BeginWithPair, IsHalved, may_touch, touch, folded, first_fold, fold_refusal, BecomeOne, FirstBecome, FirstStay, KeepsFrom, KeepsStrands, IsWhole, ends_alone}
 use Rattle.strand_list.specs.declared.error.BookError.{BookError}
@@ -126,11 +126,11 @@ halve_keeps b c ds es k h e i = subst (λ c. IsBook c es) (sym e) (record {
 
 -- ---- refusals
 
-pub missing : (p : Place) (ls : List Line) → position p ls ≡ length ls → stands p ls ≡ false
+pub missing : (p : Place) (ls : List Line) → position p ls ≡ length ls → has_strand p ls ≡ false
 missing p [] e = refl
 missing p (l ∷ ls) e = by (bytes_eq l.0 p) e (λ f. missing p ls f)
   where
-    by : (b : Bool) → cond b 0 (suc (position p ls)) ≡ suc (length ls) → (position p ls ≡ length ls → stands p ls ≡ false) → (b || stands p ls) ≡ false
+    by : (b : Bool) → cond b 0 (suc (position p ls)) ≡ suc (length ls) → (position p ls ≡ length ls → has_strand p ls ≡ false) → (b || has_strand p ls) ≡ false
     by true f r = absurd (omega arith)
     by false f r = r (omega arith)
 
@@ -174,9 +174,9 @@ kept_same k error.NotThere ds es h = h
 -- ---- why a fold is refused
 
 abbrev pub both_in : Place → Place → List Line → Bool
-both_in l r ls = stands l ls && stands r ls
+both_in l r ls = has_strand l ls && has_strand r ls
 
-module _ (b : PlainBook) (l r : Place) (w : ℕ) (s : Bool) (same : s ≡ (stands l b.chronicle.page.lines && stands r b.chronicle.page.lines)) where
+module _ (b : PlainBook) (l r : Place) (w : ℕ) (s : Bool) (same : s ≡ (has_strand l b.chronicle.page.lines && has_strand r b.chronicle.page.lines)) where
   pub fold_missing : s ≡ false → fold_refusal b l r w ≡ Some error.NoStrand
   fold_missing e = ap (λ s. unless s error.NoStrand (unless (touch b l r) error.NotNeighbour (unless_allowed (stepped b.chronicle.page (Fold l r w))))) (sym same ∙ e)
 

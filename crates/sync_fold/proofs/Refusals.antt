@@ -8,7 +8,7 @@ use Rattle.strand_theory.proofs.Books.{NoneAt}
 use Rattle.right_strands.specs.Laid.{PlainPiece}
 use Rattle.strand_list.specs.declared.rest.Rest.{Rest}
 use Rattle.strand_list.specs.Laying.{rest_step}
-use Rattle.strand_list.specs.Pages.{stands, position, held_place, begins_with, are_neighbours, Apart}
+use Rattle.strand_list.specs.Pages.{has_strand, position, held_place, begins_with, are_neighbours, Apart}
 use Rattle.strand_list.specs.Chronicled.{PlainChronicle, Took, IsRefusedBy, unless, unless_allowed, split_refusal, rest_refusal}
 use Rattle.strand_list.specs.declared.error.BookError.{BookError}
 use Rattle.strand_list.specs.declared.error.BookError.TheVariants as error
@@ -68,7 +68,7 @@ allowed (Some c) e = cc
 allowed None e = cc
 
 split_passes : (b : Book) (v n : Place) (w : ℕ) → split_refusal b v n w ≡ Some error.NotNeighbour → ⊥
-split_passes b v n w e = by (stands v b.lines) e
+split_passes b v n w e = by (has_strand v b.lines) e
   where
     by : (t : Bool) → unless t error.NoStrand (unless_allowed (stepped b (Split v n w))) ≡ Some error.NotNeighbour → ⊥
     by true f = allowed (stepped b (Split v n w)) f
@@ -82,7 +82,7 @@ held_passes b v n w e = by (held_place v b.lines) e
     by (Some from) f = split_passes b from n w f
 
 rest_passes : (b : Book) (r : Rest) (p : Place) → rest_refusal b r p ≡ Some error.NotNeighbour → ⊥
-rest_passes b r p e = by (stands p b.lines) (is_held_at b.lines p) e
+rest_passes b r p e = by (has_strand p b.lines) (is_held_at b.lines p) e
   where
     by : (t u : Bool) → unless t error.NoStrand (unless u error.AlreadyLaid (unless_allowed (stepped b (rest_step r p)))) ≡ Some error.NotNeighbour → ⊥
     by true true f = allowed (stepped b (rest_step r p)) f
@@ -90,7 +90,7 @@ rest_passes b r p e = by (stands p b.lines) (is_held_at b.lines p) e
     by false u f = cc
 
 fold_passes : (b : PlainBook) (l r : Place) (w : ℕ) → touch b l r ≡ true → fold_refusal b l r w ≡ Some error.NotNeighbour → ⊥
-fold_passes b l r w t e = by (stands l b.chronicle.page.lines && stands r b.chronicle.page.lines) (touch b l r) t e
+fold_passes b l r w t e = by (has_strand l b.chronicle.page.lines && has_strand r b.chronicle.page.lines) (touch b l r) t e
   where
     by : (s t : Bool) → t ≡ true → unless s error.NoStrand (unless t error.NotNeighbour (unless_allowed (stepped b.chronicle.page (Fold l r w)))) ≡ Some error.NotNeighbour → ⊥
     by true true g f = allowed (stepped b.chronicle.page (Fold l r w)) f

@@ -11,7 +11,7 @@ use Rattle.right_strands.specs.Laid.{PlainPiece, ends_run}
 use Rattle.right_strands.specs.Pairs.{PlainPair, IsStill, is_over, is_waiting, may_pair}
 use Rattle.strand_list.specs.declared.rest.Rest.{Rest}
 use Rattle.strand_list.specs.Laying.{state_as}
-use Rattle.strand_list.specs.Pages.{stands, position, are_neighbours}
+use Rattle.strand_list.specs.Pages.{has_strand, position, are_neighbours}
 use Rattle.strand_list.specs.Chronicled.{PlainChronicle, Took, IsRefusedBy, unless, unless_allowed, rest_refusal}
 use Rattle.sync_fold.specs.declared.laid.Laid.{Laid}
 use Rattle.sync_fold.specs.declared.laid.Laid.TheVariants.{Nothing, Whole, Half, Lent}
@@ -183,7 +183,7 @@ touch b l r = are_neighbours l r b.chronicle.page.lines && may_touch (drop (posi
 
 abbrev pub fold_refusal : PlainBook → Place → Place → ℕ → Option BookError
 fold_refusal b l r w =
-    unless (stands l b.chronicle.page.lines && stands r b.chronicle.page.lines) error.NoStrand
+    unless (has_strand l b.chronicle.page.lines && has_strand r b.chronicle.page.lines) error.NoStrand
     (unless (touch b l r) error.NotNeighbour (unless_allowed (stepped b.chronicle.page (Fold l r w))))
 
 -- ---- a fold of the first two that may be folded

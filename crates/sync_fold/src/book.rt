@@ -3,8 +3,8 @@ use crate::folds::{first_fold, fold_kept, places_at};
 use crate::kept::{keep, put_behind, take_behind};
 use crate::laid::{Laid, ends_alone, into_alone, may_touch_at};
 use crate::refusal::Refusal;
-use positions::answer::RunAnswer;
 use numbered_runs::step::{BookStep, Place, StrandLine};
+use positions::answer::RunAnswer;
 use rerun_records::record::Record;
 use right_strands::laid::Piece;
 use right_strands::pair::Pair;
@@ -343,7 +343,7 @@ impl<J: Run, V: View> Book<J, V> {
         ensures kept { IfErr result
             (λ e. KeepsStrands self.old left.now e self.new) }
     {
-        if !self.chronicle.both_stand(left, right) {
+        if !self.chronicle.has_both(left, right) {
             return Err(BookError::NoStrand);
         }
         if !self.may_touch(left, right) {

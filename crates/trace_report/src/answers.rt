@@ -9,12 +9,12 @@ ghost use Rattle.trace_report.specs.Outcomes.{Extends, IsRunText, Shows, named_f
 ghost use Rattle.meaning.specs.Text.{unknown_text, run_line, result_text, fault_name, spaced, spaced_amount, best_text, worth_text, worth_line, worths_text};
 
 use crate::amounts::merged;
-use positions::answer::RunAnswer;
 use linked_program::checked::Checked;
 use meaning::FaultKind;
-use monoid_laws::Val;
-use positions::phase::Fault;
 use meaning::tree::{Declaration, Program, Reducer};
+use monoid_laws::Val;
+use positions::answer::RunAnswer;
+use positions::phase::Fault;
 use std::alloc::{AllocError, Global};
 use std::fmt::Write;
 

@@ -7,19 +7,19 @@ use Rattle.meaning.specs.Tables.{Tables}
 use Rattle.meaning.specs.Outcome.{Accumulators, Fault, Site, Place}
 use Rattle.meaning.specs.Values.{Env, put, value}
 use Rattle.meaning.specs.Statements.{reducers, numbered, reading}
-use Rattle.meaning.specs.Trail.{Trace, settled, evaluated, over, Runner, deed_walk, body_walk}
+use Rattle.meaning.specs.Trail.{Trace, after_answer, evaluated, over, Runner, deed_walk, body_walk}
 use Rattle.trail_theory.specs.ReadsAtEnd.{IsPlainDeed, IsPlain, IsEnding}
 use Rattle.trail_theory.proofs.Places.{every_append}
 use Rattle.trail_theory.proofs.MainElides.{ChangesNothing, Still, still_value}
 
-settled_still : {A : Type 0} (doom : Option Fault) (site : Site) (r : Result A FaultKind) (next : A → Trace) → ((a : A) → Still (next a).events) → Still (settled doom site r next).events
-settled_still doom site (Ok a) next h = h a
-settled_still doom site (Err k) next h = (tt, tt)
+still_after_answer : {A : Type 0} (doom : Option Fault) (site : Site) (r : Result A FaultKind) (next : A → Trace) → ((a : A) → Still (next a).events) → Still (after_answer doom site r next).events
+still_after_answer doom site (Ok a) next h = h a
+still_after_answer doom site (Err k) next h = (tt, tt)
 
 value_still : (tables : Tables) (env : Env) (e : _) (doom : Option Fault) (site : Site) (next : ℤ → Trace) → ((v : ℤ) → Still (next v).events) → Still (evaluated doom site (value tables env e) next).events
 value_still tables env e doom site next h =
     let o = value tables env e in
-    every_append ChangesNothing o.log (settled doom site o.answer next).events (still_value tables env e) (settled_still doom site o.answer next h)
+    every_append ChangesNothing o.log (after_answer doom site o.answer next).events (still_value tables env e) (still_after_answer doom site o.answer next h)
 
 cond_still : (b : Bool) (x y : Trace) → Still x.events → Still y.events → Still (cond b x y).events
 cond_still true x y h k = h

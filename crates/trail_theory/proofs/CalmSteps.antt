@@ -12,7 +12,7 @@ use Rattle.meaning.specs.Statements.{reducers, job_of, proc_of, update_of, bound
 use Rattle.meaning.specs.Elision.{depth_limit}
 use Rattle.meaning.specs.Records.{Kept}
 use Rattle.meaning.specs.Trail.{halvings}
-use Rattle.meaning.specs.SmallStep.{seen, Start, is_entry, Frame, Todo, blocks, halves, second, turns, Child, instance, half, Phase, entering, running, spawning, returning, leaving, broken, Parent, Step, moved, taken, paused, led_step, unless, settling, on_value, on_depth, Lookup, memo_answer, opened, child_name, awaiting, enter_by, enter_step, enter_child, todo_step, micro}
+use Rattle.meaning.specs.SmallStep.{seen, Start, is_entry, Frame, Todo, blocks, halves, second, turns, Child, instance, half, Phase, entering, running, spawning, returning, leaving, broken, Parent, Step, moved, taken, paused, led_step, unless, on_answer, on_value, on_depth, Lookup, memo_answer, opened, child_name, awaiting, enter_by, enter_step, enter_child, todo_step, micro}
 use Rattle.trail_theory.specs.Order.{Every}
 use Rattle.trail_theory.specs.Waiting.{NoReads, HasNoReads}
 use Rattle.meaning.specs.LayeredStrand.{LayeredStrand, advanced, settled_under}
@@ -34,12 +34,12 @@ unless_calm : (b : Bool) (s : Step) → IsCalmStep s → IsCalmStep (unless b s)
 unless_calm true s h = tt
 unless_calm false s h = h
 
-settling_calm : {A : Type 0} (fr : Frame) (t : List Parent) (site : Site) (r : Result A FaultKind) (next : A → Step) → AreCalm t → ((a : A) → IsCalmStep (next a)) → IsCalmStep (settling fr t site r next)
-settling_calm fr t site (Ok a) next c h = h a
-settling_calm fr t site (Err k) next c h = (tt, c)
+on_answer_calm : {A : Type 0} (fr : Frame) (t : List Parent) (site : Site) (r : Result A FaultKind) (next : A → Step) → AreCalm t → ((a : A) → IsCalmStep (next a)) → IsCalmStep (on_answer fr t site r next)
+on_answer_calm fr t site (Ok a) next c h = h a
+on_answer_calm fr t site (Err k) next c h = (tt, c)
 
 value_calm : {A : Type 0} (fr : Frame) (t : List Parent) (site : Site) (o : Out FaultKind A) (next : A → Step) → AreCalm t → ((a : A) → IsCalmStep (next a)) → IsCalmStep (on_value fr t site o next)
-value_calm fr t site o next c h = led_calm o.log (settling fr t site o.answer next) (settling_calm fr t site o.answer next c h)
+value_calm fr t site o next c h = led_calm o.log (on_answer fr t site o.answer next) (on_answer_calm fr t site o.answer next c h)
 
 depth_calm : (fr : Frame) (t : List Parent) (site : Site) (d : ℕ) (next : ℕ → Step) → AreCalm t → ((d : ℕ) → IsCalmStep (next d)) → IsCalmStep (on_depth fr t site d next)
 depth_calm fr t site zero next c h = (tt, c)

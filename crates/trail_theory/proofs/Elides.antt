@@ -12,7 +12,7 @@ use Rattle.meaning.specs.Run.{Run, placed, at, pure, ◌>>=◌}
 use Rattle.meaning.specs.Values.{Env, put, value, values}
 use Rattle.meaning.specs.Statements.{reducers, Job, job_of, proc_of, fresh, put_into, update_of, bounds, turn_values}
 use Rattle.meaning.specs.Elision.{Enter, Next, On, Back, go_on, back_or_zero, turns, all_turns, deed, body, elide, depth_limit}
-use Rattle.meaning.specs.Trail.{Trace, led, child_of, fault_at, env_after, doom_after, settled, evaluated, Go, Runner, entering, after_call, after_spawn, over, Look, mark, opening, inner, turns_walk, half_closed, loop_walk, half_run, halvings, deed_walk, body_walk, run_inside, runner, run}
+use Rattle.meaning.specs.Trail.{Trace, led, child_of, fault_at, env_after, doom_after, after_answer, evaluated, Go, Runner, entering, after_call, after_spawn, over, Look, mark, opening, inner, turns_walk, half_closed, loop_walk, half_run, halvings, deed_walk, body_walk, run_inside, runner, run}
 use Rattle.std.proofs.Math.Nat.{div-le_self}
 use Rattle.trail_theory.specs.ElisionBeside.{forgotten, first_fault, before_fault, Fits, Matches}
 use Rattle.trail_theory.specs.Order.{Every}
@@ -112,7 +112,7 @@ module _ (G : Accumulators → Out Fault ℤ → Type 0) (onwards : GoesOn G) wh
   eval_fits : {A : Type 0} (site : Site) (o : Out FaultKind A) (f : A → Run ℤ) (acc : Accumulators) (next : A → Trace) → Calm o → G acc ((at site o >>= f) acc) → ((a : A) (acc : Accumulators) → G acc (f a acc) → Matches (f a acc) (next a)) → Matches ((at site o >>= f) acc) (evaluated None site o next)
   eval_fits site o f acc next calm known h = eval_at o.log o.answer calm known
     where
-      eval_at : (log : Log) (r : Result _ FaultKind) → Every Told log → G acc (onward log (placed site r) (λ a. f a (after log acc))) → Matches (onward log (placed site r) (λ a. f a (after log acc))) (led log (settled None site r next))
+      eval_at : (log : Log) (r : Result _ FaultKind) → Every Told log → G acc (onward log (placed site r) (λ a. f a (after log acc))) → Matches (onward log (placed site r) (λ a. f a (after log acc))) (led log (after_answer None site r next))
       eval_at log (Err k) t g = fits_stopped log (fault_at site k) t
       eval_at log (Ok a) t g = fits_led log (next a).events (f a (after log acc)) log (next a).outcome (sym (forgotten_told log t)) (told_none log t) (h a (after log acc) (onwards log acc (f a (after log acc)) g))
 

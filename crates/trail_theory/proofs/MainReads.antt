@@ -12,7 +12,7 @@ use Rattle.meaning.specs.Statements.{reducers, job_of, proc_of, update_of, bound
 use Rattle.meaning.specs.Elision.{main, depth_limit}
 use Rattle.meaning.specs.Records.{Kept}
 use Rattle.meaning.specs.Trail.{child_of, opening, halvings}
-use Rattle.meaning.specs.SmallStep.{seen, Start, is_entry, Frame, Todo, blocks, halves, second, turns, Child, instance, half, Phase, entering, running, spawning, returning, leaving, broken, Parent, Step, moved, taken, paused, led_step, unless, settling, on_value, on_depth, Lookup, look_of, memo_answer, opened, child_name, awaiting, enter_by, enter_step, enter_child, todo_step, micro}
+use Rattle.meaning.specs.SmallStep.{seen, Start, is_entry, Frame, Todo, blocks, halves, second, turns, Child, instance, half, Phase, entering, running, spawning, returning, leaving, broken, Parent, Step, moved, taken, paused, led_step, unless, on_answer, on_value, on_depth, Lookup, look_of, memo_answer, opened, child_name, awaiting, enter_by, enter_step, enter_child, todo_step, micro}
 use Rattle.trail_theory.specs.Order.{Every}
 use Rattle.trail_theory.specs.Waiting.{NoReads}
 use Rattle.trail_theory.specs.TaskFits.{Stacked}
@@ -185,9 +185,9 @@ cond_reads : (done : Log) (b : Bool) (x y : Step) → StepReads done x → StepR
 cond_reads done true x y h k = h
 cond_reads done false x y h k = k
 
-settling_reads : {A : Type 0} (done : Log) (fr : Frame) (t : List Parent) (site : Site) (r : Result A FaultKind) (next : A → Step) → UnderReads done t → ((a : A) → StepReads done (next a)) → StepReads done (settling fr t site r next)
-settling_reads done fr t site (Ok a) next u h = h a
-settling_reads done fr t site (Err k) next u h = (tt, under_on done [] tt t u)
+on_answer_reads : {A : Type 0} (done : Log) (fr : Frame) (t : List Parent) (site : Site) (r : Result A FaultKind) (next : A → Step) → UnderReads done t → ((a : A) → StepReads done (next a)) → StepReads done (on_answer fr t site r next)
+on_answer_reads done fr t site (Ok a) next u h = h a
+on_answer_reads done fr t site (Err k) next u h = (tt, under_on done [] tt t u)
 
 told_spawns : (es : Log) → Every Told es → Every SpawnsElsewhere es
 told_spawns es h = no_spawns es (told_elsewhere es h)
@@ -195,7 +195,7 @@ told_spawns es h = no_spawns es (told_elsewhere es h)
 value_reads : {A : Type 0} (done : Log) (fr : Frame) (t : List Parent) (site : Site) (o : Out FaultKind A) (next : A → Step) → Calm o → UnderReads done t → (UnderReads (done ++ o.log) t → (a : A) → StepReads (done ++ o.log) (next a)) → StepReads done (on_value fr t site o next)
 value_reads done fr t site o next c u h =
     let u' = under_on done o.log (told_spawns o.log c) t u in
-    led_reads done o.log (settling fr t site o.answer next) (settling_reads (done ++ o.log) fr t site o.answer next u' (h u'))
+    led_reads done o.log (on_answer fr t site o.answer next) (on_answer_reads (done ++ o.log) fr t site o.answer next u' (h u'))
 
 depth_reads : (done : Log) (fr : Frame) (t : List Parent) (site : Site) (d : ℕ) (next : ℕ → Step) → UnderReads done t → ((d : ℕ) → StepReads done (next d)) → StepReads done (on_depth fr t site d next)
 depth_reads done fr t site zero next u h = (tt, under_on done [] tt t u)

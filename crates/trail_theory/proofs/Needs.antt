@@ -13,7 +13,7 @@ use Rattle.meaning.specs.Run.{Run, placed, at, pure, ◌>>=◌}
 use Rattle.meaning.specs.Values.{Env, put, value, values}
 use Rattle.meaning.specs.Statements.{reducers, Job, job_of, put_into, update_of, bounds, turn_values}
 use Rattle.meaning.specs.Elision.{Enter, Next, On, Back, turns, all_turns, deed, body, depth_limit}
-use Rattle.meaning.specs.Trail.{Trace, led, child_of, fault_at, env_after, doom_after, settled, evaluated, Go, Runner, entering, after_call, after_spawn, over, turns_walk, half_closed, loop_walk, half_run, halvings, deed_walk, body_walk}
+use Rattle.meaning.specs.Trail.{Trace, led, child_of, fault_at, env_after, doom_after, after_answer, evaluated, Go, Runner, entering, after_call, after_spawn, over, turns_walk, half_closed, loop_walk, half_run, halvings, deed_walk, body_walk}
 use Rattle.trail_theory.specs.ElisionBeside.{first_fault, before_fault}
 use Rattle.trail_theory.specs.Order.{Every}
 use Rattle.trail_theory.specs.Waiting.{NoReadsDeed, NoReads}
@@ -99,7 +99,7 @@ module _ (program : Tree) (tables : Tables) (sight : Accumulators) (enters : Ent
     eval_goal : {A : Type 0} (site : Site) (o : Out FaultKind A) (f : A → Run ℤ) (acc : Accumulators) (next : A → Trace) → Calm o → ((a : A) (acc : Accumulators) → Goal (f a acc) (next a)) → Goal ((at site o >>= f) acc) (evaluated None site o next)
     eval_goal site o f acc next calm h = eval_at o.log o.answer calm
       where
-        eval_at : (log : Log) (r : Result _ FaultKind) → Every Told log → Goal (onward log (placed site r) (λ a. f a (after log acc))) (led log (settled None site r next))
+        eval_at : (log : Log) (r : Result _ FaultKind) → Every Told log → Goal (onward log (placed site r) (λ a. f a (after log acc))) (led log (after_answer None site r next))
         eval_at log (Err k) t = g.stops log (fault_at site k) t
         eval_at log (Ok a) t = g.leads log log (f a (after log acc)) (next a) (told_keys program log t) (told_none log t) (h a (after log acc))
 

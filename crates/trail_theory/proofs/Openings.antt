@@ -11,7 +11,7 @@ use Rattle.meaning.specs.Statements.{reducers, proc_of, job_of, turn_values, upd
 use Rattle.meaning.specs.Elision.{depth_limit}
 use Rattle.meaning.specs.Records.{Kept}
 use Rattle.meaning.specs.Trail.{child_of, mark, opening, halvings}
-use Rattle.meaning.specs.SmallStep.{seen, Start, is_entry, Frame, Todo, blocks, halves, second, turns, Child, instance, half, Phase, running, Parent, child_name, awaiting, noting, opening_one, closing_one, Step, moved, taken, paused, led_step, unless, settling, on_value, on_depth, Lookup, look_of, memo_answer, first_todo, opened, with_layer, layer_of, enter_by, enter_step, enter_child, todo_step}
+use Rattle.meaning.specs.SmallStep.{seen, Start, is_entry, Frame, Todo, blocks, halves, second, turns, Child, instance, half, Phase, running, Parent, child_name, awaiting, noting, opening_one, closing_one, Step, moved, taken, paused, led_step, unless, on_answer, on_value, on_depth, Lookup, look_of, memo_answer, first_todo, opened, with_layer, layer_of, enter_by, enter_step, enter_child, todo_step}
 use Rattle.trail_theory.specs.Counts.{reuses}
 use Rattle.trail_theory.specs.Order.{Every}
 use Rattle.trail_theory.specs.TaskFits.{Higher, Spot}
@@ -98,12 +98,12 @@ module _ (program : Tree) (lookup : Lookup) (m : Start) where
     abbrev here : List Place
     here = recorded_by fr.recorded fr.instance (recorded_under t)
 
-    settling_layers : {A : Type 0} (site : Site) (r : Result A FaultKind) (next : A → Step) → ((a : A) → LayersKept here (next a)) → LayersKept here (settling fr t site r next)
-    settling_layers site (Ok a) next h = h a
-    settling_layers site (Err k) next h = ((deep, (tt, shallow)), (refl, refl))
+    on_answer_layers : {A : Type 0} (site : Site) (r : Result A FaultKind) (next : A → Step) → ((a : A) → LayersKept here (next a)) → LayersKept here (on_answer fr t site r next)
+    on_answer_layers site (Ok a) next h = h a
+    on_answer_layers site (Err k) next h = ((deep, (tt, shallow)), (refl, refl))
 
     value_layers : {A : Type 0} (site : Site) (o : Out FaultKind A) (next : A → Step) → Calm o → ((a : A) → LayersKept here (next a)) → LayersKept here (on_value fr t site o next)
-    value_layers site o next c h = led_layers here o.log (settling fr t site o.answer next) c (settling_layers site o.answer next h)
+    value_layers site o next c h = led_layers here o.log (on_answer fr t site o.answer next) c (on_answer_layers site o.answer next h)
 
     depth_layers : (site : Site) (d : ℕ) (next : ℕ → Step) → d < depth_limit → ((e : ℕ) → e < depth_limit → LayersKept here (next e)) → LayersKept here (on_depth fr t site d next)
     depth_layers site zero next l h = ((deep, (tt, shallow)), (refl, refl))

@@ -11,8 +11,8 @@ use Rattle.meaning.specs.Outcome.{Log, Accumulators, Fault, Site, Outcome, Place
 use Rattle.meaning.specs.Values.{Env, put, value, values}
 use Rattle.meaning.specs.Statements.{reducers, numbered, reading, put_into, Job, job_of, proc_of, fresh, update_of, bounds, turn_values}
 use Rattle.meaning.specs.Records.{Kept}
-use Rattle.meaning.specs.Trail.{Trace, led, child_of, fault_at, env_after, doom_after, stop, settled, evaluated, Go, Runner, entering as to_enter, after_call, after_spawn, past_sync, over, closed, Look, answers, within, mark, opening, inner, turns_walk, half_closed, loop_walk, half_run, halvings, body_walk, run_inside, runner, run}
-use Rattle.meaning.specs.SmallStep.{seen, Start, is_entry, Frame, Todo, blocks, halves, second, turns, Child, instance, half, Phase, entering, running, spawning, returning, leaving, broken, Parent, child_name, awaiting, noting, Step, moved, taken, paused, led_step, unless, settling, on_value, on_depth, Lookup, look_of, memo_answer, first_todo, opened, env_of, with_layer, layer_of, enter_by, enter_step, enter_child, todo_step, micro}
+use Rattle.meaning.specs.Trail.{Trace, led, child_of, fault_at, env_after, doom_after, stop, after_answer, evaluated, Go, Runner, entering as to_enter, after_call, after_spawn, past_sync, over, closed, Look, answers, within, mark, opening, inner, turns_walk, half_closed, loop_walk, half_run, halvings, body_walk, run_inside, runner, run}
+use Rattle.meaning.specs.SmallStep.{seen, Start, is_entry, Frame, Todo, blocks, halves, second, turns, Child, instance, half, Phase, entering, running, spawning, returning, leaving, broken, Parent, child_name, awaiting, noting, Step, moved, taken, paused, led_step, unless, on_answer, on_value, on_depth, Lookup, look_of, memo_answer, first_todo, opened, env_of, with_layer, layer_of, enter_by, enter_step, enter_child, todo_step, micro}
 use Rattle.trail_theory.specs.SerialRest.{Beside, finished_by, todo_walk, parent_walk, below}
 use Rattle.meaning.specs.Layers.{SameNotes, notes_of, Notes, noted_one, noted, blank}
 use Rattle.meaning.specs.Tallies.{executions}
@@ -87,16 +87,16 @@ module _ (program : Tree) (tables : Tables) (sight : Accumulators) (lookup : Loo
         inside = tt;
       }
 
-  settled_kept : {A : Type 0} (fr : Frame) (todo : Todo) (t : List Parent) (g : Beside) (gs : List Beside) → TaskFits program B m fr (running todo) t g gs → (site : Site) (r : Result A FaultKind) (next : A → Trace) (st : A → Step)
-      → ((a : A) → K (go_on fr.instance (next a) t gs) (st a)) → K (go_on fr.instance (settled g.doom site r next) t gs) (settling fr t site r st)
-  settled_kept fr todo t g gs h site (Ok a) next st k = k a
-  settled_kept fr todo t g gs h site (Err f) next st k = broken_kept fr (fault_at site f) todo t g gs h
+  kept_after_answer : {A : Type 0} (fr : Frame) (todo : Todo) (t : List Parent) (g : Beside) (gs : List Beside) → TaskFits program B m fr (running todo) t g gs → (site : Site) (r : Result A FaultKind) (next : A → Trace) (st : A → Step)
+      → ((a : A) → K (go_on fr.instance (next a) t gs) (st a)) → K (go_on fr.instance (after_answer g.doom site r next) t gs) (on_answer fr t site r st)
+  kept_after_answer fr todo t g gs h site (Ok a) next st k = k a
+  kept_after_answer fr todo t g gs h site (Err f) next st k = broken_kept fr (fault_at site f) todo t g gs h
 
   value_kept : {A : Type 0} (fr : Frame) (todo : Todo) (t : List Parent) (g : Beside) (gs : List Beside) → TaskFits program B m fr (running todo) t g gs → (site : Site) (o : Out FaultKind A) (next : A → Trace) (st : A → Step)
       → Calm o → ((a : A) → K (go_on fr.instance (next a) t gs) (st a)) → K (go_on fr.instance (evaluated g.doom site o next) t gs) (on_value fr t site o st)
   value_kept fr todo t g gs h site o next st c k =
-      let r = settled g.doom site o.answer next in
-      led_kept (go_on fr.instance r t gs) (go_on fr.instance (evaluated g.doom site o next) t gs) o.log (settling fr t site o.answer st) (told_inside m o.log c) (simp append_assoc) (settled_kept fr todo t g gs h site o.answer next st k)
+      let r = after_answer g.doom site o.answer next in
+      led_kept (go_on fr.instance r t gs) (go_on fr.instance (evaluated g.doom site o next) t gs) o.log (on_answer fr t site o.answer st) (told_inside m o.log c) (simp append_assoc) (kept_after_answer fr todo t g gs h site o.answer next st k)
 
   depth_kept : (fr : Frame) (todo : Todo) (t : List Parent) (g : Beside) (gs : List Beside) → TaskFits program B m fr (running todo) t g gs → (site : Site) (e : ℕ) (next : Go → Trace) (st : ℕ → Step)
       → ((d : ℕ) → K (go_on fr.instance (next (run program tables sight d L)) t gs) (st d)) → K (go_on fr.instance (to_enter g.doom site (runner program tables sight e L) next) t gs) (on_depth fr t site e st)

@@ -13,7 +13,7 @@ use Rattle.meaning.specs.Statements.{reducers, identities, beginning, Job, job_o
 use Rattle.meaning.specs.Elision.{elide, start, main, depth_limit}
 use Rattle.meaning.specs.Records.{Key}
 use Rattle.meaning.specs.Tallies.{executions}
-use Rattle.meaning.specs.Trail.{Trace, led, brief, child_of, fault_at, first, env_after, doom_after, stop, settled, evaluated, Go, Runner, entering, on_call, after_call, after_spawn, past_sync, over, closed, Look, answers, within, mark, turns_walk, half_closed, loop_walk, half_run, halvings, deed_walk, body_walk, blocks_walk, run_inside, runner, run, trail_at}
+use Rattle.meaning.specs.Trail.{Trace, led, brief, child_of, fault_at, first, env_after, doom_after, stop, after_answer, evaluated, Go, Runner, entering, on_call, after_call, after_spawn, past_sync, over, closed, Look, answers, within, mark, turns_walk, half_closed, loop_walk, half_run, halvings, deed_walk, body_walk, blocks_walk, run_inside, runner, run, trail_at}
 use Rattle.trail_theory.specs.Order.{Every}
 use Rattle.trail_theory.specs.ReadsAtEnd.{ReadsAtMainsEnd}
 use Rattle.trail_theory.specs.Right.{IsRecorded}
@@ -60,18 +60,18 @@ ends_quietly o es (Err k) h z = absurd (let q = sym z ∙ h.1.1 in cc)
 -- Ran: what is known of an instance that the first walk executes; Found: what makes the second walk answer it
 module _ (Ran Found : Key → Type 0) where
   -- without a fault, all that the first stretch executes is known, and the second executes nothing
-  abbrev pub Settles : Log → Log → Type 0
-  Settles es fs = first_fault es ≡ None → Every Ran (executions es) × (Every Found (executions es) → executions fs ≡ [])
+  abbrev pub Saves : Log → Log → Type 0
+  Saves es fs = first_fault es ≡ None → Every Ran (executions es) × (Every Found (executions es) → executions fs ≡ [])
 
   pub record Twins (r s : Trace) : Type 0 where
     pub outcomes : r.outcome ≡ s.outcome
-    pub events : Settles r.events s.events
+    pub events : Saves r.events s.events
 
-  settles_unmarked : (es fs : Log) → executions es ≡ [] → executions fs ≡ [] → Settles es fs
-  settles_unmarked es fs e h = λ z. (subst (Every Ran) (sym e) tt, λ k. h)
+  saves_unmarked : (es fs : Log) → executions es ≡ [] → executions fs ≡ [] → Saves es fs
+  saves_unmarked es fs e h = λ z. (subst (Every Ran) (sym e) tt, λ k. h)
 
-  settles_append : (a b es fs : Log) → Settles a es → Settles b fs → Settles (a ++ b) (es ++ fs)
-  settles_append a b es fs h k = λ z.
+  saves_append : (a b es fs : Log) → Saves a es → Saves b fs → Saves (a ++ b) (es ++ fs)
+  saves_append a b es fs h k = λ z.
       let q = sym (fault_append a b) ∙ z in
       let x = h (none_left (first_fault a) (first_fault b) q) in
       let y = k (none_right (first_fault a) (first_fault b) q) in (
@@ -82,20 +82,20 @@ module _ (Ran Found : Key → Type 0) where
       )
 
   twins_same : (r : Trace) → executions r.events ≡ [] → Twins r r
-  twins_same r e = record { outcomes = refl; events = settles_unmarked r.events r.events e e }
+  twins_same r e = record { outcomes = refl; events = saves_unmarked r.events r.events e e }
 
-  twins_led : (a es : Log) (r s : Trace) → Settles a es → Twins r s → Twins (led a r) (led es s)
-  twins_led a es r s h t = record { outcomes = t.outcomes; events = settles_append a r.events es s.events h t.events }
+  twins_led : (a es : Log) (r s : Trace) → Saves a es → Twins r s → Twins (led a r) (led es s)
+  twins_led a es r s h t = record { outcomes = t.outcomes; events = saves_append a r.events es s.events h t.events }
 
-  twins_settled : {A : Type 0} (doom : Option Fault) (site : Site) (o : Result A FaultKind) (f g : A → Trace) → ((v : A) → Twins (f v) (g v)) → Twins (settled doom site o f) (settled doom site o g)
-  twins_settled doom site (Ok v) f g h = h v
-  twins_settled doom site (Err k) f g h = twins_same (stop doom (fault_at site k)) refl
+  twins_after_answer : {A : Type 0} (doom : Option Fault) (site : Site) (o : Result A FaultKind) (f g : A → Trace) → ((v : A) → Twins (f v) (g v)) → Twins (after_answer doom site o f) (after_answer doom site o g)
+  twins_after_answer doom site (Ok v) f g h = h v
+  twins_after_answer doom site (Err k) f g h = twins_same (stop doom (fault_at site k)) refl
 
-  told_settles : (es : Log) → Every Told es → Settles es es
-  told_settles es t = let e = sym (unmarked_keys [] es (told_unmarked es t)).executed_are in settles_unmarked es es e e
+  told_saves : (es : Log) → Every Told es → Saves es es
+  told_saves es t = let e = sym (unmarked_keys [] es (told_unmarked es t)).executed_are in saves_unmarked es es e e
 
   twins_evaluated : {A : Type 0} (doom : Option Fault) (site : Site) (o : Out FaultKind A) (f g : A → Trace) → Calm o → ((v : A) → Twins (f v) (g v)) → Twins (evaluated doom site o f) (evaluated doom site o g)
-  twins_evaluated doom site o f g calm h = twins_led o.log o.log (settled doom site o.answer f) (settled doom site o.answer g) (told_settles o.log calm) (twins_settled doom site o.answer f g h)
+  twins_evaluated doom site o f g calm h = twins_led o.log o.log (after_answer doom site o.answer f) (after_answer doom site o.answer g) (told_saves o.log calm) (twins_after_answer doom site o.answer f g h)
 
   twins_on_call : (doom : Option Fault) (o : Outcome) (f g : ℤ → Trace) → ((v : ℤ) → Twins (f v) (g v)) → Twins (on_call doom o f) (on_call doom o g)
   twins_on_call doom (Ok v) f g h = h v
@@ -114,14 +114,14 @@ module _ (Ran Found : Key → Type 0) where
   twins_over : (n : Place) (doom : Option Fault) (v : ℤ) → Twins (over n doom v) (over n doom v)
   twins_over n doom v = twins_same (over n doom v) refl
 
-  left_behind : (n : Place) (r s : Trace) → Twins r s → Settles (r.events ++ Leaves n r.outcome ∷ []) (s.events ++ Leaves n s.outcome ∷ [])
-  left_behind n r s t = settles_append r.events (Leaves n r.outcome ∷ []) s.events (Leaves n s.outcome ∷ []) t.events (settles_unmarked (Leaves n r.outcome ∷ []) (Leaves n s.outcome ∷ []) refl refl)
+  left_behind : (n : Place) (r s : Trace) → Twins r s → Saves (r.events ++ Leaves n r.outcome ∷ []) (s.events ++ Leaves n s.outcome ∷ [])
+  left_behind n r s t = saves_append r.events (Leaves n r.outcome ∷ []) s.events (Leaves n s.outcome ∷ []) t.events (saves_unmarked (Leaves n r.outcome ∷ []) (Leaves n s.outcome ∷ []) refl refl)
 
   twins_closed : (ops : Log) (n : Place) (r s : Trace) → executions ops ≡ [] → Twins r s → Twins (closed ops n r) (closed ops n s)
   twins_closed ops n r s e t =
       record {
         outcomes = t.outcomes;
-        events = settles_append ops (r.events ++ Leaves n r.outcome ∷ []) ops (s.events ++ Leaves n s.outcome ∷ []) (settles_unmarked ops ops e e) (left_behind n r s t);
+        events = saves_append ops (r.events ++ Leaves n r.outcome ∷ []) ops (s.events ++ Leaves n s.outcome ∷ []) (saves_unmarked ops ops e e) (left_behind n r s t);
       }
 
   twins_cond : (b : Bool) (x y z w : Trace) → Twins x z → Twins y w → Twins (cond b x y) (cond b z w)
@@ -218,12 +218,12 @@ module _ (Ran Found : Key → Type 0) where
       abbrev TwinInside : ℕ → Type 0
       TwinInside left = (f : Name) (vs : List ℤ) (n : Place) → Twins (inside left (Some l) f vs n) (inside left (Some m) f vs n)
 
-      settles_answer : (left : ℕ) → left < depth_limit → TwinInside left → (f : Name) (vs : List ℤ) (n : Place) → IsRecorded program f → (b : Bool) → l f vs (depth_limit - left) ≡ b → (first_fault (by_answer l left f vs n b).events ≡ None → Ends (elided left f vs))
-          → Settles (by_answer l left f vs n b).events (by_answer m left f vs n (m f vs (depth_limit - left))).events
-      settles_answer left deep t f vs n memo true q ends = λ z.
+      saves_answer : (left : ℕ) → left < depth_limit → TwinInside left → (f : Name) (vs : List ℤ) (n : Place) → IsRecorded program f → (b : Bool) → l f vs (depth_limit - left) ≡ b → (first_fault (by_answer l left f vs n b).events ≡ None → Ends (elided left f vs))
+          → Saves (by_answer l left f vs n b).events (by_answer m left f vs n (m f vs (depth_limit - left))).events
+      saves_answer left deep t f vs n memo true q ends = λ z.
           let e = ends z in
           (subst (Every Ran) (sym (silent l left f vs n true refl)) tt, λ k. silent m left f vs n (m f vs (depth_limit - left)) (after.again left f vs e.value deep memo e.is q))
-      settles_answer left deep t f vs n memo false q ends = λ z.
+      saves_answer left deep t f vs n memo false q ends = λ z.
           let e = ends z in
           let x = left_behind n (inside left (Some l) f vs n) (inside left (Some m) f vs n) (t f vs n) z in
           ((after.ran left f vs e.value deep memo e.is, x.0), λ k. silent m left f vs n (m f vs (depth_limit - left)) (after.found left f vs e.value deep memo e.is k.0))
@@ -238,7 +238,7 @@ module _ (Ran Found : Key → Type 0) where
           let two = by_memo m left f vs n true in
           record {
             outcomes = sym (answer_is o one.events one.outcome (matches l)) ∙ answer_is o two.events two.outcome (matches m);
-            events = settles_answer left deep t f vs n memo (l f vs (depth_limit - left)) refl (ends_quietly o one.events one.outcome (matches l));
+            events = saves_answer left deep t f vs n memo (l f vs (depth_limit - left)) refl (ends_quietly o one.events one.outcome (matches l));
           }
 
       twin_runs : (left : ℕ) → left ≤ depth_limit → TwinRuns (runner program tables sight left (Some l)) (runner program tables sight left (Some m))
@@ -252,7 +252,7 @@ module _ (Ran Found : Key → Type 0) where
           twin_by left deep (λ g ws p. twin_blocks program tables sight (runner program tables sight left (Some l)) (runner program tables sight left (Some m)) (twin_runs left (omega (arith, deep))) left p (proc_of program g).called ((proc_of program g).body ∷ []) (fresh (proc_of program g).names ws) 1 None) f vs n (proc_of program f).memo refl
 
       -- so the trails by the two
-      pub twin_trail : Settles (trail_at program tables sight (Some l)) (trail_at program tables sight (Some m))
+      pub twin_trail : Saves (trail_at program tables sight (Some l)) (trail_at program tables sight (Some m))
       twin_trail =
           let left = depth_limit - 1 in
-          settles_append (beginning program) (run program tables sight left (Some l) main [] []).events (beginning program) (run program tables sight left (Some m) main [] []).events (told_settles (beginning program) (beginning_told program)) (twin_run left (omega arith) main [] []).events
+          saves_append (beginning program) (run program tables sight left (Some l) main [] []).events (beginning program) (run program tables sight left (Some m) main [] []).events (told_saves (beginning program) (beginning_told program)) (twin_run left (omega arith) main [] []).events

@@ -14,7 +14,7 @@ use Rattle.meaning.specs.Outcome.{Log, Accumulators, Fault, Site, Outcome, Place
 use Rattle.meaning.specs.Values.{Env, put, value, values}
 use Rattle.meaning.specs.Statements.{reducers, beginning, numbered, reading, Job, job_of, proc_of, fresh, put_into, update_of, bounds, turn_values}
 use Rattle.meaning.specs.Elision.{depth_limit, main}
-use Rattle.meaning.specs.Trail.{Trace, led, child_of, ended, env_after, doom_after, settled, evaluated, Go, Runner, entering, after_call, after_spawn, past_sync, over, closed, Look, mark, opening, inner, turns_walk, half_closed, loop_walk, half_run, halvings, deed_walk, body_walk, run_inside, runner, run, trail_at}
+use Rattle.meaning.specs.Trail.{Trace, led, child_of, ended, env_after, doom_after, after_answer, evaluated, Go, Runner, entering, after_call, after_spawn, past_sync, over, closed, Look, mark, opening, inner, turns_walk, half_closed, loop_walk, half_run, halvings, deed_walk, body_walk, run_inside, runner, run, trail_at}
 use Rattle.meaning.specs.SmallStep.{Lookup, look_of}
 use Rattle.trail_theory.specs.Order.{Every}
 use Rattle.trail_theory.specs.Right.{StretchesMultiply}
@@ -76,15 +76,15 @@ module _ (program : Tree) (tables : Tables) (sight : Accumulators) (numbers : Pr
   good_over R n None v f = ((tt, tt), f)
   good_over R n (Some k) v f = ((tt, tt), tt)
 
-  good_settled : (R : ℤ → Type 0) {A : Type 0} (P : A → Type 0) (doom : Option Fault) (site : Site) (r : Result A FaultKind) (next : A → Trace) → Gives P r → ((a : A) → P a → GoodFor R (next a)) → GoodFor R (settled doom site r next)
-  good_settled R P doom site (Ok a) next p h = h a p
-  good_settled R P doom site (Err k) next p h = ((tt, tt), tt)
+  good_after_answer : (R : ℤ → Type 0) {A : Type 0} (P : A → Type 0) (doom : Option Fault) (site : Site) (r : Result A FaultKind) (next : A → Trace) → Gives P r → ((a : A) → P a → GoodFor R (next a)) → GoodFor R (after_answer doom site r next)
+  good_after_answer R P doom site (Ok a) next p h = h a p
+  good_after_answer R P doom site (Err k) next p h = ((tt, tt), tt)
 
   good_led : (R : ℤ → Type 0) (es : Log) (r : Trace) → Every (IsTyped cs) es → GoodFor R r → GoodFor R (led es r)
   good_led R es r t h = (every_append (IsTyped cs) es r.events t h.0, h.1)
 
   good_evaluated : (R : ℤ → Type 0) {A : Type 0} (P : A → Type 0) (doom : Option Fault) (site : Site) (o : Out FaultKind A) (next : A → Trace) → FitsOf P o → ((a : A) → P a → GoodFor R (next a)) → GoodFor R (evaluated doom site o next)
-  good_evaluated R P doom site o next f h = good_led R o.log (settled doom site o.answer next) f.0 (good_settled R P doom site o.answer next f.1 h)
+  good_evaluated R P doom site o next f h = good_led R o.log (after_answer doom site o.answer next) f.0 (good_after_answer R P doom site o.answer next f.1 h)
 
   good_call : (R : ℤ → Type 0) (doom : Option Fault) (es : Log) (o : Outcome) (next : ℤ → Trace) → Good (record { events = es; outcome = o }) → ((v : ℤ) → Fits v → GoodFor R (next v)) → GoodFor R (after_call doom (record { events = es; outcome = o }) next)
   good_call R doom es (Ok v) next g h = good_led R es (next v) g.0 (h v g.1)

@@ -10,7 +10,7 @@ use Rattle.meaning.specs.Tables.{Tables}
 use Rattle.meaning.specs.Outcome.{Log, Accumulators, Fault, Site, Outcome, Place, Event, Reads, Enters, Updates, Reuses, Begins, Syncs, Leaves, Faults, Marks, Spawns, Out}
 use Rattle.meaning.specs.Values.{Env, put, value, values}
 use Rattle.meaning.specs.Statements.{reducers, Job, job_of, proc_of, fresh, update_of, bounds, turn_values}
-use Rattle.meaning.specs.Trail.{Trace, led, child_of, fault_at, env_after, doom_after, stop, settled, evaluated, Go, Runner, entering, after_call, after_spawn, past_sync, over, closed, Look, mark, opening, inner, turns_walk, loop_walk, half_run, halvings, deed_walk, body_walk, blocks_walk, run_inside, runner, run}
+use Rattle.meaning.specs.Trail.{Trace, led, child_of, fault_at, env_after, doom_after, stop, after_answer, evaluated, Go, Runner, entering, after_call, after_spawn, past_sync, over, closed, Look, mark, opening, inner, turns_walk, loop_walk, half_run, halvings, deed_walk, body_walk, blocks_walk, run_inside, runner, run}
 use Rattle.trail_theory.specs.Order.{Every}
 use Rattle.trail_theory.proofs.Evaluations.{Told, Calm, calm_value, calm_values, calm_update, calm_bounds}
 use Rattle.meaning.specs.Elision.{depth_limit}
@@ -49,12 +49,12 @@ module _ (O : Log → Type 0) (Q : Place → ℕ → Option Fault → Trace → 
   GoodRuns None = Unit {0}
   GoodRuns (Some go) = (f : Name) (vs : List ℤ) (n : Place) → R n (go f vs n)
 
-  has_settled : {A : Type 0} (n : Place) (c : ℕ) (doom : Option Fault) (site : Site) (r : Result A FaultKind) (next : A → Trace) → ((a : A) → Q n c doom (next a)) → Q n c doom (settled doom site r next)
-  has_settled n c doom site (Ok a) next h = h a
-  has_settled n c doom site (Err k) next h = q.stops n c doom (fault_at site k)
+  has_after_answer : {A : Type 0} (n : Place) (c : ℕ) (doom : Option Fault) (site : Site) (r : Result A FaultKind) (next : A → Trace) → ((a : A) → Q n c doom (next a)) → Q n c doom (after_answer doom site r next)
+  has_after_answer n c doom site (Ok a) next h = h a
+  has_after_answer n c doom site (Err k) next h = q.stops n c doom (fault_at site k)
 
   has_evaluated : {A : Type 0} (n : Place) (c : ℕ) (doom : Option Fault) (site : Site) (o : Out FaultKind A) (next : A → Trace) → Calm o → ((a : A) → Q n c doom (next a)) → Q n c doom (evaluated doom site o next)
-  has_evaluated n c doom site o next calm h = q.leds n c doom o.log (settled doom site o.answer next) calm (has_settled n c doom site o.answer next h)
+  has_evaluated n c doom site o next calm h = q.leds n c doom o.log (after_answer doom site o.answer next) calm (has_after_answer n c doom site o.answer next h)
 
   has_entering : (n : Place) (c : ℕ) (doom : Option Fault) (site : Site) (sub : Runner) (next : Go → Trace) → GoodRuns sub → ((go : Go) → ((f : Name) (vs : List ℤ) (n : Place) → R n (go f vs n)) → Q n c doom (next go)) → Q n c doom (entering doom site sub next)
   unfolding GoodRuns

@@ -424,8 +424,8 @@ pub fn rerun_executes_nothing()
 
 /// Under the same premises, the same program on the same tables needs to execute no recorded procedure by any records into
 /// which a finished run has put new ones, where each needed execution has one of its name and arguments.
-pub fn new_records_settle()
-    ensures settled { (program : Revised) (tables : Tables) (records : List Kept)
+pub fn new_records_suffice()
+    ensures suffice { (program : Revised) (tables : Tables) (records : List Kept)
         → ReadsAtMainsEnd program.tree → IsNumbered program → Every (IsSound program) records
         → NoneAfterEach program tables records }
 {}

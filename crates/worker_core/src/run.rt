@@ -16,12 +16,12 @@ ghost use Rattle.numbered_runs.specs.Starts.{CannotStart};
 
 use crate::strands::Strands;
 use activations::setting::Setting;
-use positions::answer::RunAnswer;
 use input_tables::Tables;
 use linked_program::checked::Checked;
 use numbered_runs::ready::are_ready;
 use numbered_runs::refusal::{Refusal, StartError};
 use numbered_runs::step::{BookStep, Step, StrandLine};
+use positions::answer::RunAnswer;
 use rerun_records::record::Record;
 use rerun_records::records::Records;
 use std::alloc::{AllocError, Global};

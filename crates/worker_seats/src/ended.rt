@@ -6,8 +6,8 @@ ghost use Rattle.positions.specs.Setting.{Setting};
 ghost use Rattle.worker_seats.specs.Ends.{IsAlone, IsEnd};
 ghost use Rattle.positions.specs.declared.answer.RunAnswer.TheVariants as answer;
 
-use positions::answer::RunAnswer;
 use numbered_runs::step::BookStep;
+use positions::answer::RunAnswer;
 use rerun_records::record::Record;
 use std::alloc::Global;
 

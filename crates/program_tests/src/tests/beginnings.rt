@@ -2,8 +2,8 @@
 
 use input_tables::Tables;
 use linked_program::checked::Checked;
-use procedure_parser::parse;
 use meaning::tree::Program;
+use procedure_parser::parse;
 use spawn_checker::check;
 use std::alloc::Global;
 use std::process::Abort;

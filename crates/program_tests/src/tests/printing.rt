@@ -1,8 +1,8 @@
 //! Procedures that are put into programs, which are printed then, and read again.
 
+use meaning::tree::Program;
 use printing_theory::{print, print_and_parse};
 use procedure_parser::{TextError, parse, parse_define};
-use meaning::tree::Program;
 use std::alloc::Global;
 
 fn is_printed(alloc: Global, program: &Program, wanted: &str) -> Result<bool, TextError> {

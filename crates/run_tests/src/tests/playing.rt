@@ -77,7 +77,7 @@ pub fn take_all<V: View>(
 }
 
 /// The strands and the history where a run stands.
-fn standing<V: View>(alloc: Global, core: &Core<'_, V>) -> Result<(String, String), AllocError> {
+fn state_of<V: View>(alloc: Global, core: &Core<'_, V>) -> Result<(String, String), AllocError> {
     let lines = core.strands(alloc)?;
     let strands = strands_text(alloc, &lines)?;
     Ok((strands, history_text(alloc, 1, core.history())?))
@@ -102,7 +102,7 @@ pub fn play_over<V: View, W: View>(
     };
     let refused = take_all(rt, alloc, &mut core, line);
     core.kept();
-    let (strands, history) = standing(alloc, &core).expect(rt, "memory");
+    let (strands, history) = state_of(alloc, &core).expect(rt, "memory");
     let is_over = core.is_over();
     let (answer, pool, _) = core.finish(alloc);
     let answer = answer_text(alloc, program, &answer).expect(rt, "memory");

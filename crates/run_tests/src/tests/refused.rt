@@ -56,7 +56,7 @@ fn push_record(text: &mut String, record: &Record) -> Result<(), AllocError> {
 }
 
 /// Writes what a session holds, as far as it can be read, and how many of its kits are free.
-fn push_standing<V: View>(text: &mut String, session: &Session<V>) -> Result<(), AllocError> {
+fn push_state<V: View>(text: &mut String, session: &Session<V>) -> Result<(), AllocError> {
     push_tables(text, session.tables())?;
     push_program(text, session.checked())?;
     for record in session.records().as_slice() {
@@ -67,9 +67,9 @@ fn push_standing<V: View>(text: &mut String, session: &Session<V>) -> Result<(),
 }
 
 /// What a session holds, as a text.
-pub fn standing<V: View>(rt: &impl Abort, alloc: Global, session: &Session<V>) -> String {
+pub fn state_of<V: View>(rt: &impl Abort, alloc: Global, session: &Session<V>) -> String {
     let mut text = String::new(alloc);
-    push_standing(&mut text, session).expect(rt, "memory");
+    push_state(&mut text, session).expect(rt, "memory");
     text
 }
 
@@ -145,9 +145,9 @@ fn is_done<V: View>(
     one: &[Command<'_>],
     is_played: bool,
 ) {
-    let before = standing(rt, alloc, session);
+    let before = state_of(rt, alloc, session);
     if lacks_memory(alloc, session, one, is_played) {
-        let after = standing(rt, alloc, session);
+        let after = state_of(rt, alloc, session);
         assert_eq!(rt;
             after.as_str(),
             before.as_str(),
@@ -199,7 +199,7 @@ fn are_done<V: View>(rt: &impl Abort, alloc: Global, session: &mut Session<V>, a
 /// Compares what the script leaves: whatever was refused, the commands have been done.
 fn is_left<V: View>(rt: &impl Abort, alloc: Global, session: &mut Session<V>, are_played: bool) {
     are_done(rt, alloc, session, are_played);
-    let found = standing(rt, alloc, session);
+    let found = state_of(rt, alloc, session);
     assert_eq!(rt; found.as_str(), AFTER);
 }
 

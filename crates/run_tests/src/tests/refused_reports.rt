@@ -1,7 +1,7 @@
 //! Reports that memory may be refused to: a run comes to what the report comes to, or to nothing, and then the session is as it was.
 //! With ample memory none is refused: `tests/refused` refuses each allocation in turn.
 
-use super::refused::standing;
+use super::refused::state_of;
 use super::words::steps;
 use reuse_planner::{Session, run_session};
 use session_kit::answers::answer_text;
@@ -76,7 +76,7 @@ const OTHERS: [Row; 3] = [
 /// Whether a run is refused memory, or doesn't end since a push was: then the session is as before. Else it comes to what it should.
 fn is_refused<V: View>(rt: &impl Abort, alloc: Global, session: &mut Session<V>, row: Row) -> bool {
     let (_, workers, _, line, wanted) = row;
-    let before = standing(rt, alloc, session);
+    let before = state_of(rt, alloc, session);
     let steps = steps(rt, alloc, line);
     let answer = run_session(alloc, session, workers, &steps);
     let text = answer_text(alloc, session.checked(), &answer).expect(rt, "memory");
@@ -85,7 +85,7 @@ fn is_refused<V: View>(rt: &impl Abort, alloc: Global, session: &mut Session<V>,
     }
     let is_unfinished = text.as_str() == "unfinished\n" && session.last_inlined() > 0;
     assert!(rt; is_unfinished || text.as_str() == "no memory\n");
-    let after = standing(rt, alloc, session);
+    let after = state_of(rt, alloc, session);
     assert_eq!(rt; after.as_str(), before.as_str());
     true
 }

@@ -1,9 +1,9 @@
 //! Answers as text, and those of the plain slow program.
 
-use positions::answer::RunAnswer;
 use meaning::FaultKind;
-use monoid_laws::Val;
 use meaning::tree::{Declaration, Program};
+use monoid_laws::Val;
+use positions::answer::RunAnswer;
 use serial_oracle::{Answer, Row, TableRows, from_scratch};
 use std::alloc::{AllocError, Global};
 use std::process::Abort;

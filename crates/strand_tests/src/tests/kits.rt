@@ -4,10 +4,10 @@ ghost use Rattle.monoid_laws.specs.declared.Kind.{Kind};
 
 use super::answers::answer_text;
 use super::driving::{are_monoids, begin};
-use positions::answer::RunAnswer;
 use frames::strand::Strand;
 use input_tables::Tables;
 use linked_program::checked::Checked;
+use positions::answer::RunAnswer;
 use positions::phase::Phase;
 use rerun_records::records::Records;
 use std::alloc::Global;

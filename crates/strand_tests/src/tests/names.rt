@@ -2,9 +2,9 @@
 
 use super::driving::begin;
 use super::thefts::{pool_of, taken};
-use positions::answer::RunAnswer;
 use frames::strand::Strand;
 use linked_program::checked::Checked;
+use positions::answer::RunAnswer;
 use positions::phase::Phase;
 use std::alloc::Global;
 use std::process::Abort;

@@ -34,7 +34,7 @@ const OTHERS: [Row; 4] = [
 ];
 
 /// How many edits the tables have had, the least number of a revision that was never used, and how many records there are.
-fn standing<V: View>(session: &Session<V>) -> (u64, u64, usize) {
+fn state_of<V: View>(session: &Session<V>) -> (u64, u64, usize) {
     let (tables, program) = (session.tables(), session.checked());
     (
         tables.edit_number(),
@@ -56,11 +56,11 @@ fn is_refused<V: View + Send, R: Abort + Threads + Wait + Sync>(
     session: &mut Session<V>,
     row: Row,
 ) -> bool {
-    let before = standing(session);
+    let before = state_of(session);
     let (free, _) = session.kits();
     let text = outcome(rt, alloc, session, 2, &NoGate);
     if text.as_str() == "no memory\n" {
-        assert_eq!(rt; standing(session), before);
+        assert_eq!(rt; state_of(session), before);
         return true;
     }
     assert!(rt; text.as_str() == with_kits(free, row.2));

@@ -1,10 +1,10 @@
 use Rattle.std.proofs.Common.{◌≡◌, map}
-use Rattle.rerun_records.specs.Record.{settled}
+use Rattle.rerun_records.specs.Record.{doubtless}
 use Rattle.rerun_records.specs.Doubted.{IsInStep}
 use Rattle.gathered_records.proofs.gathering.make_fine.Given as goal
 
 abbrev pub invariant-loop-place : goal.invariant-loop-place
 invariant-loop-place l = record {
   in_step : IsInStep l.tables.tables l.records;
-  same : map settled l.records ≡ map settled l.fn.records;
+  same : map doubtless l.records ≡ map doubtless l.fn.records;
 }

@@ -103,9 +103,9 @@ returns-in-Moved-clause-ran g c =
     let found : Some i ≡ instruction_inside S.codes b.procedure (length b.outer) p =
     sym (slice_get_read xs (length xs) index i refl there c.index-statements-index.is) ∙ c.requires.block index
     ∙ found_as S.codes c.args.top.now b p c.loop-index.invariant.same.0 c.loop-index.invariant.same.1 in
-    run_join S c.args.passes_syncs a c.args.layer.now c.perform_alone.new.top c.perform_alone.new.layer c.standing.result c.perform_alone.new.top c.perform_alone.new.layer
+    run_join S c.args.passes_syncs a c.args.layer.now c.perform_alone.new.top c.perform_alone.new.layer c.ran_to.result c.perform_alone.new.top c.perform_alone.new.layer
     (come_moved S c.args.passes_syncs a c.args.layer.now p b c.loop-index.layer c.loop-index.invariant.come i found c.perform_alone.new.top c.perform_alone.new.layer c.in-Moved.ensures.done)
-    (c.standing.ensures.stands c.args.passes_syncs c.perform_alone.new.layer)
+    (c.ran_to.ensures.runs c.args.passes_syncs c.perform_alone.new.layer)
 
 pub returns-in-Nothing-clause-ran : goal.returns-in-Nothing-clause-ran
 returns-in-Nothing-clause-ran g c =
@@ -152,6 +152,6 @@ returns-clause-ran g c =
     let past : length xs ≤ index = search rules in
     let found : None ≡ instruction_inside S.codes b.procedure (length b.outer) p =
     sym (slice_get_past xs index past) ∙ c.requires.block index ∙ found_as S.codes c.args.top.now b p c.loop-index.invariant.same.0 c.loop-index.invariant.same.1 in
-    run_join S c.args.passes_syncs a c.args.layer.now c.go_outside.new.self c.loop-index.layer c.standing-2.result c.go_outside.new.self c.loop-index.layer
+    run_join S c.args.passes_syncs a c.args.layer.now c.go_outside.new.self c.loop-index.layer c.ran_to-2.result c.go_outside.new.self c.loop-index.layer
     (come_out S c.args.passes_syncs a c.args.layer.now p b c.loop-index.layer c.loop-index.invariant.come c.go_outside.new.self found c.go_outside.ensures.outside)
-    (c.standing-2.ensures.stands c.args.passes_syncs c.loop-index.layer)
+    (c.ran_to-2.ensures.runs c.args.passes_syncs c.loop-index.layer)

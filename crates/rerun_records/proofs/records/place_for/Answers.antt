@@ -11,7 +11,7 @@ returns-in-Some c =
     let of : is_of made.procedure made.arguments k ≡ true =
     subst (λ (f : ℕ). is_of f made.arguments k ≡ true) c.procedure.ensures.procedure
     (subst (λ (xs : List ℤ). is_of c.procedure.result xs k ≡ true) c.arguments.ensures.arguments c.in-Some.ensures.of) in
-    record { place = found_place c.args.list.now made k c.in-Some.place c.requires.settled c.requires.single c.in-Some.ensures.there of }
+    record { place = found_place c.args.list.now made k c.in-Some.place c.requires.doubtless c.requires.single c.in-Some.ensures.there of }
 
 pub returns-in-None : goal.returns-in-None
 returns-in-None c =

@@ -1,4 +1,4 @@
-use Rattle.rerun_records.proofs.Puts.{still_put, place_before, places_after, still_put_settled}
+use Rattle.rerun_records.proofs.Puts.{still_put, place_before, places_after, still_put_doubtless}
 use Rattle.rerun_records.proofs.records.put_all.Goals as goal
 
 pub put-requires : goal.put-requires
@@ -7,7 +7,7 @@ put-requires c = record {
   room_below = place_before _ _ _ _ _ c.loop-record.invariant.room_below c.in-Some.ensures.steps.0;
   place = place_before _ _ _ _ _ c.loop-record.invariant.places c.in-Some.ensures.steps.0;
   numbered = c.loop-record.invariant.numbered;
-  standing = c.loop-record.invariant.standing_are;
+  moments = c.loop-record.invariant.have_moments;
   fit = c.loop-record.invariant.fit;
 }
 
@@ -21,8 +21,8 @@ loop-record-preserved c =
       room_below = places_after _ _ _ _ _ _ _ c.loop-record.invariant.room_below s c.put.ensures.count c.put.ensures.room_below;
       places = places_after _ _ _ _ _ _ _ c.loop-record.invariant.places s c.put.ensures.places c.put.ensures.capacity;
       numbered = c.put.ensures.numbered;
-      standing_are = c.put.ensures.standing;
+      have_moments = c.put.ensures.moments;
       fit = c.put.ensures.fit;
       put = still_put _ _ _ _ _ _ c.loop-record.invariant.put s c.put.ensures.put;
-      settled_are = still_put_settled _ _ _ _ _ _ c.loop-record.invariant.settled_are s c.put.ensures.put c.put.ensures.made;
+      doubtless_are = still_put_doubtless _ _ _ _ _ _ c.loop-record.invariant.doubtless_are s c.put.ensures.put c.put.ensures.made;
     }

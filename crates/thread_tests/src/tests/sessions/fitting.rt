@@ -6,8 +6,8 @@ ghost use Rattle.meaning.specs.Tree.{Tree};
 ghost use Rattle.serial_oracle.specs.Keeping.{kept};
 ghost use Rattle.serial_oracle.specs.Worths.{AreFit, kinds as kinds_in};
 
-use monoid_laws::{Kind, Val};
 use meaning::tree::{Declaration, Program};
+use monoid_laws::{Kind, Val};
 use serial_oracle::Record;
 use std::alloc::{AllocError, Global};
 

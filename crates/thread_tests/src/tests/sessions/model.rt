@@ -1,7 +1,7 @@
 //! What a session is compared with: the rows of its table, and the text that each of its procedures has, edited by themselves.
 
-use procedure_parser::parse;
 use meaning::tree::Program;
+use procedure_parser::parse;
 use serial_oracle::{Row, TableRows};
 use std::alloc::Global;
 use std::process::Abort;

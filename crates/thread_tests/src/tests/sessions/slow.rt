@@ -5,8 +5,8 @@ use super::model::Model;
 use evaluation::note::Note;
 use input_tables::Tables;
 use linked_program::checked::Checked;
-use monoid_laws::{Kind, Val};
 use meaning::tree::{Declaration, Program};
+use monoid_laws::{Kind, Val};
 use reducer_values::{copy_of, identity};
 use reuse_planner::Session;
 use serial_oracle::{

@@ -1,12 +1,12 @@
 use Rattle.std.proofs.Common.{◌≡◌, List, [], ◌∷◌, ◌++◌, ℕ, ℤ, true, Option, Some, map, sym, ap, ◌∙◌, subst, w64}
 use Rattle.std.proofs.lemmas.Int.{to_z-of_z}
-use Rattle.rerun_records.specs.Record.{instance_number, settled}
+use Rattle.rerun_records.specs.Record.{instance_number, doubtless}
 use Rattle.rerun_records.specs.Doubted.{IsInStep}
-use Rattle.rerun_records.specs.Moments.{AreStanding, standing}
+use Rattle.rerun_records.specs.Moments.{HaveMoments, with_doubts}
 use Rattle.meaning.specs.Every.{every}
 use Rattle.rerun_records.specs.Blocks.{PlainBlock, BlocksFit, live_at, is_apart}
 use Rattle.rerun_records.proofs.Leaves.{marked_fits}
-use Rattle.rerun_records.proofs.Standing.{standing_settled}
+use Rattle.rerun_records.proofs.Doubts.{same_without_doubts}
 use Rattle.rerun_records.proofs.Marks.{listed_stand, listed_marked}
 use Rattle.rerun_records.proofs.records.Records.row_changed.Goals as goal
 
@@ -14,7 +14,7 @@ pub invariant_of-self : goal.invariant_of-self
 invariant_of-self c =
     let keys = c.self.inside.list.items in
     let moments = c.self.inside.moments.items in
-    subst (λ (cs : List (ℕ × ℤ)). AreStanding cs moments keys × BlocksFit (standing cs moments keys) c.self.inside.blocks × (c.self.inside.places.numbers ≡ map instance_number keys)) (sym (c.list_change.ensures.unlisted c.if-not-list_change.true)) c.self.invariant
+    subst (λ (cs : List (ℕ × ℤ)). HaveMoments cs moments keys × BlocksFit (with_doubts cs moments keys) c.self.inside.blocks × (c.self.inside.places.numbers ≡ map instance_number keys)) (sym (c.list_change.ensures.unlisted c.if-not-list_change.true)) c.self.invariant
 
 pub invariant_of-self-else-not-list_change : goal.invariant_of-self-else-not-list_change
 invariant_of-self-else-not-list_change c =
@@ -33,9 +33,9 @@ invariant_of-self-else-not-list_change c =
 pub returns-then-not-list_change-clause-same : goal.returns-then-not-list_change-clause-same
 returns-then-not-list_change-clause-same c =
     c.doubt_all.ensures.same
-    ∙ standing_settled c.list_change.new.changes.items c.self.inside.moments.items c.self.inside.list.items
-    ∙ sym (standing_settled c.self.inside.changes.items c.self.inside.moments.items c.self.inside.list.items)
-    ∙ ap (map settled) c.self.view_is
+    ∙ same_without_doubts c.list_change.new.changes.items c.self.inside.moments.items c.self.inside.list.items
+    ∙ sym (same_without_doubts c.self.inside.changes.items c.self.inside.moments.items c.self.inside.list.items)
+    ∙ ap (map doubtless) c.self.view_is
 
 pub returns-else-not-list_change-clause-marked : goal.returns-else-not-list_change-clause-marked
 returns-else-not-list_change-clause-marked c = λ before after same step.
@@ -45,6 +45,6 @@ returns-else-not-list_change-clause-marked c = λ before after same step.
 
 pub returns-else-not-list_change-clause-same : goal.returns-else-not-list_change-clause-same
 returns-else-not-list_change-clause-same c =
-    standing_settled c.list_change.new.changes.items c.self.inside.moments.items c.self.inside.list.items
-    ∙ sym (standing_settled c.self.inside.changes.items c.self.inside.moments.items c.self.inside.list.items)
-    ∙ ap (map settled) c.self.view_is
+    same_without_doubts c.list_change.new.changes.items c.self.inside.moments.items c.self.inside.list.items
+    ∙ sym (same_without_doubts c.self.inside.changes.items c.self.inside.moments.items c.self.inside.list.items)
+    ∙ ap (map doubtless) c.self.view_is

@@ -15,22 +15,22 @@ returns g c = record {
   kit = c.fold_at.ensures.kit;
   counted = c.fold_at.ensures.counted;
   refused = subst (λ o. IfErr c.fold_at.result (IsRefusedBy o))
-      (sym (fold_passes c.args.self.now c.args.left.now c.args.right.now c.args.worker c.both_stand.result
-      (c.both_stand.ensures.stand ∙ ap (λ (b : PlainBook). both_in c.args.left.now c.args.right.now b.chronicle.page.lines) c.self.view_is) c.may_touch.result c.if-not-both_stand.false c.may_touch.ensures.may c.if-not-may_touch.false))
+      (sym (fold_passes c.args.self.now c.args.left.now c.args.right.now c.args.worker c.has_both.result
+      (c.has_both.ensures.both ∙ ap (λ (b : PlainBook). both_in c.args.left.now c.args.right.now b.chronicle.page.lines) c.self.view_is) c.may_touch.result c.if-not-has_both.false c.may_touch.ensures.may c.if-not-may_touch.false))
       c.fold_at.ensures.refused;
   same = c.fold_at.ensures.same;
   kept = c.fold_at.ensures.kept;
 }
 
-pub returns-then-not-both_stand : goal.returns-then-not-both_stand
-returns-then-not-both_stand g c = record {
+pub returns-then-not-has_both : goal.returns-then-not-has_both
+returns-then-not-has_both g c = record {
   taken = tt;
   joined = tt;
   going = tt;
   kit = tt;
   counted = tt;
-  refused = fold_missing c.args.self.now c.args.left.now c.args.right.now c.args.worker c.both_stand.result
-      (c.both_stand.ensures.stand ∙ ap (λ (b : PlainBook). both_in c.args.left.now c.args.right.now b.chronicle.page.lines) c.self.view_is) c.if-not-both_stand.true;
+  refused = fold_missing c.args.self.now c.args.left.now c.args.right.now c.args.worker c.has_both.result
+      (c.has_both.ensures.both ∙ ap (λ (b : PlainBook). both_in c.args.left.now c.args.right.now b.chronicle.page.lines) c.self.view_is) c.if-not-has_both.true;
   same = refl;
   kept = refl;
 }
@@ -42,8 +42,8 @@ returns-then-not-may_touch g c = record {
   going = tt;
   kit = tt;
   counted = tt;
-  refused = fold_apart c.args.self.now c.args.left.now c.args.right.now c.args.worker c.both_stand.result
-      (c.both_stand.ensures.stand ∙ ap (λ (b : PlainBook). both_in c.args.left.now c.args.right.now b.chronicle.page.lines) c.self.view_is) c.may_touch.result c.if-not-both_stand.false c.may_touch.ensures.may c.if-not-may_touch.true;
+  refused = fold_apart c.args.self.now c.args.left.now c.args.right.now c.args.worker c.has_both.result
+      (c.has_both.ensures.both ∙ ap (λ (b : PlainBook). both_in c.args.left.now c.args.right.now b.chronicle.page.lines) c.self.view_is) c.may_touch.result c.if-not-has_both.false c.may_touch.ensures.may c.if-not-may_touch.true;
   same = refl;
   kept = refl;
 }

@@ -1,12 +1,12 @@
 use Rattle.std.proofs.Common.{◌≡◌, map}
-use Rattle.rerun_records.specs.Record.{settled}
+use Rattle.rerun_records.specs.Record.{doubtless}
 use Rattle.rerun_records.specs.Doubted.{IsInStep}
 use Rattle.gathered_records.specs.Gathering.{AreInRow}
-use Rattle.gathered_records.proofs.gathering.stand_in_row.Given as goal
+use Rattle.gathered_records.proofs.gathering.trusted_in_row.Given as goal
 
 abbrev pub invariant-loop : goal.invariant-loop
 invariant-loop l = record {
   in_step : IsInStep l.tables.tables l.records;
-  same : map settled l.records ≡ map settled l.fn.records;
+  same : map doubtless l.records ≡ map doubtless l.fn.records;
   row : AreInRow l.records l.row l.first l.places.items;
 }

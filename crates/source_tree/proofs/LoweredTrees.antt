@@ -7,7 +7,7 @@ use Rattle.meaning.specs.Tree.{Red, Tree}
 use Rattle.meaning.specs.Tree as plain
 use Rattle.source_tree.specs.Kinds.{WrittenKind, written}
 use Rattle.source_tree.specs.Kinds as word
-use Rattle.source_tree.specs.Lowering.{lowered_decl, settled}
+use Rattle.source_tree.specs.Lowering.{lowered_decl, lowered_tree}
 
 -- the kind that is written, or the other where that is a table, which carries more than is written
 abbrev unwritten : WrittenKind → Kind → Kind
@@ -64,12 +64,12 @@ declaration_back (plain.reducer r) (plain.reducer q) h =
 declaration_back (plain.procedure p) (plain.procedure q) h = let e : p ≡ q = cc in ap plain.procedure e
 declaration_back _ _ h = absurd cc
 
-pub settled_back : (t u : Tree) → settled t ≡ settled u → t ≡ u
-settled_back [] [] h = refl
-settled_back (d ∷ t) (e ∷ u) h =
+pub lowered_back : (t u : Tree) → lowered_tree t ≡ lowered_tree u → t ≡ u
+lowered_back [] [] h = refl
+lowered_back (d ∷ t) (e ∷ u) h =
     let a : lowered_decl d ≡ lowered_decl e = cc in
-    let b : settled t ≡ settled u = cc in
+    let b : lowered_tree t ≡ lowered_tree u = cc in
     let c = declaration_back d e a in
-    let s = settled_back t u b in
+    let s = lowered_back t u b in
     cc
-settled_back _ _ h = absurd cc
+lowered_back _ _ h = absurd cc

@@ -1,6 +1,6 @@
 use Rattle.std.proofs.Common.{rules, ◌≡◌, ◌∙◌, length, arith}
-use Rattle.rerun_records.proofs.Standing.{set_is_stamped, push_is_stamped}
-use Rattle.rerun_records.proofs.changes.stand.Goals as goal
+use Rattle.rerun_records.proofs.Doubts.{set_is_stamped, push_is_stamped}
+use Rattle.rerun_records.proofs.changes.stamp_or_add.Goals as goal
 
 pub returns-then-place-len-clause-stamped : goal.returns-then-place-len-clause-stamped
 returns-then-place-len-clause-stamped c =

@@ -1,8 +1,0 @@
-use Rattle.source_tree.proofs.Settled.{written_back, settled_back}
-use Rattle.source_tree.proofs.laws.laws_of_settled_trees.Goals as goal
-
-pub returns-clause-kind : goal.returns-clause-kind
-returns-clause-kind c = written_back
-
-pub returns-clause-tree : goal.returns-clause-tree
-returns-clause-tree c = settled_back

@@ -1,5 +1,0 @@
-use Rattle.trail_theory.proofs.NothingNeeded.{none_after_each}
-use Rattle.trail_theory.proofs.new_records_settle.Goals as goal
-
-pub returns : goal.returns
-returns c = record { settled = λ program tables records ruled numbers sound. none_after_each program tables records ruled numbers sound }
