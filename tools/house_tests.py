@@ -7,8 +7,6 @@ import unittest
 
 TOP = os.path.dirname(os.path.dirname(os.path.realpath(__file__)))
 WIDEST, MOST = 160, 7
-# The files with one line that is wider, as docs/DECISIONS.md says.
-WIDE = {"evaluation/specs/Ends.antt": 1}
 # Libraries that lead down to others along more ways than this, all together, are too dear to sum for one build of the kit.
 WAYS = 250_000
 OPEN, CLOSE = "([{<", ")]}>"
@@ -94,7 +92,7 @@ class House(unittest.TestCase):
         for pattern in ("src/**/*.rt", "specs/**/*.antt"):
             for path, text in sources(pattern):
                 wide = [line for line in text.splitlines() if len(line) > WIDEST and not line.lstrip().startswith('"')]
-                self.assertEqual(len(wide), WIDE.get(path, 0), f"{path}: {wide}")
+                self.assertEqual(wide, [], path)
 
     def test_functions_take_few_parameters(self):
         for path, text in sources("src/**/*.rt"):

@@ -34,4 +34,5 @@ Stops view o old new (Err NoMemory) = take (length old) new ≡ old
 abbrev pub AreNoted : Tables → List Slot → RowCells → ℤ → ℤ → List Note → List Note → Type 0
 AreNoted ts slots c x y old new =
     let n = number_in (slice_get slots c.slot) in
-    (cell_at ts c.table n c.first ≡ Some x) × (cell_at ts c.table n c.second ≡ Some y) × (new ≡ old ++ Cell c.table n c.first x ∷ Cell c.table n c.second y ∷ [])
+    (cell_at ts c.table n c.first ≡ Some x) × (cell_at ts c.table n c.second ≡ Some y)
+    × (new ≡ old ++ Cell c.table n c.first x ∷ Cell c.table n c.second y ∷ [])

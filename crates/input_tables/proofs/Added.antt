@@ -4,7 +4,7 @@ use Rattle.std.proofs.lemmas.List.{append-nil, append_assoc}
 use Rattle.meaning.specs.Tree.{Name}
 use Rattle.meaning.specs.Tables.{index_of}
 use Rattle.input_tables.specs.Names.{is_name}
-use Rattle.input_tables.specs.Shapes.{given, passing, item_count, columns_from, columns_in, table_in}
+use Rattle.input_tables.specs.Shapes.{where_some, passing, item_count, columns_from, columns_in, table_in}
 use Rattle.input_tables.specs.Adding.{unless, column_refusal, own_refusal, without_rows, texts, rowless, unless_refused}
 use Rattle.input_tables.specs.declared.refusal.AddError.{AddError}
 use Rattle.input_tables.specs.declared.refusal.AddError.TheVariants as e
@@ -15,7 +15,7 @@ item_count-texts (c ∷ cs) = ap suc (item_count-texts cs)
 
 -- one more column, where the rest is known
 one_more : (named new : Bool) (c : Name) (f : Name → Option (List Name)) (rest : Option AddError) (all : List Name) → f c ≡ unless_refused rest all
-    → given (passing (named && new) c) f ≡ unless_refused (unless (not named) e.ColumnName (unless (not new) e.ColumnTwice rest)) all
+    → where_some (passing (named && new) c) f ≡ unless_refused (unless (not named) e.ColumnName (unless (not new) e.ColumnTwice rest)) all
 one_more true true c f rest all h = h
 one_more true false c f rest all h = refl
 one_more false true c f rest all h = refl
@@ -39,7 +39,7 @@ columns_of_texts cs =
     rw (item_count-texts cs, columns_behind [] cs) (if_many (nat_le 1 (length cs) && nat_le (length cs) 8) (column_refusal [] cs) cs)
 
 if_named : (named : Bool) (rest : Option AddError) (columns : Option (List Name)) (name : Name) (cs : List Name) → columns ≡ unless_refused rest cs
-    → cond named (given columns (λ ds. Some (without_rows name ds))) None ≡ unless_refused (unless (not named) e.TableName rest) (without_rows name cs)
+    → cond named (where_some columns (λ ds. Some (without_rows name ds))) None ≡ unless_refused (unless (not named) e.TableName rest) (without_rows name cs)
 if_named true None columns name cs h = rw h refl
 if_named true (Some error) columns name cs h = rw h refl
 if_named false rest columns name cs h = refl

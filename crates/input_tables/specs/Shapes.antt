@@ -8,9 +8,9 @@ use Rattle.input_tables.specs.Names.{is_name}
 use Rattle.input_tables.specs.Rows.{Row}
 
 -- what comes of a value, where there is one
-abbrev pub given : {A B : Type 0} → Option A → (A → Option B) → Option B
-given None f = None
-given (Some x) f = f x
+abbrev pub where_some : {A B : Type 0} → Option A → (A → Option B) → Option B
+where_some None f = None
+where_some (Some x) f = f x
 
 -- a value that passes a test
 abbrev pub passing : {A : Type 0} → Bool → A → Option A
@@ -33,7 +33,7 @@ new_column cs c = passing (is_name c && nat_eq (index_of cs c) (length cs)) c
 
 abbrev pub columns_from : List Name → Items → Option (List Name)
 columns_from cs no_items = Some cs
-columns_from cs (item d rest) = given (given (as_str d) (new_column cs)) (λ c. columns_from (cs ++ c ∷ []) rest)
+columns_from cs (item d rest) = where_some (where_some (as_str d) (new_column cs)) (λ c. columns_from (cs ++ c ∷ []) rest)
 
 -- 1 to 8 distinct names
 abbrev pub columns_in : Items → Option (List Name)
@@ -43,11 +43,11 @@ columns_in ds = cond (nat_le 1 (item_count ds) && nat_le (item_count ds) 8) (col
 
 abbrev pub integers_from : List ℤ → Items → Option (List ℤ)
 integers_from ns no_items = Some ns
-integers_from ns (item d rest) = given (as_integer d) (λ n. integers_from (ns ++ n ∷ []) rest)
+integers_from ns (item d rest) = where_some (as_integer d) (λ n. integers_from (ns ++ n ∷ []) rest)
 
 -- the number of a row
 abbrev pub number_in : Data → Option ℤ
-number_in d = given (as_integer d) (λ n. passing (in_range n) n)
+number_in d = where_some (as_integer d) (λ n. passing (in_range n) n)
 
 -- one value for each of so many columns
 abbrev pub values_in : ℕ → Items → Option (List ℤ)
@@ -55,10 +55,10 @@ values_in k ds = cond (nat_eq (item_count ds) k) (integers_from [] ds) None
 
 abbrev pub row_in : ℕ → Items → Option Row
 row_in k no_items = None
-row_in k (item d ds) = given (number_in d) (λ n. given (values_in k ds) (λ vs. Some (n, vs)))
+row_in k (item d ds) = where_some (number_in d) (λ n. where_some (values_in k ds) (λ vs. Some (n, vs)))
 
 abbrev pub row_at : ℕ → Data → Option Row
-row_at k d = given (as_array d) (row_in k)
+row_at k d = where_some (as_array d) (row_in k)
 
 -- the rows with one more, whose number is new
 abbrev pub with_row : List Row → Row → Option (List Row)
@@ -66,23 +66,23 @@ with_row rows r = passing (not (is_there (row_of rows r.0))) (row_put r.0 r.1 ro
 
 abbrev pub rows_from : ℕ → List Row → Items → Option (List Row)
 rows_from k rows no_items = Some rows
-rows_from k rows (item d rest) = given (given (row_at k d) (with_row rows)) (λ more. rows_from k more rest)
+rows_from k rows (item d rest) = where_some (where_some (row_at k d) (with_row rows)) (λ more. rows_from k more rest)
 
 -- ---- tables
 
 -- the array at a key
 abbrev pub array_at : List ℕ → Members → Option Items
-array_at k ms = given (get_member k ms) as_array
+array_at k ms = where_some (get_member k ms) as_array
 
 abbrev pub with_rows_of : Name → Members → List Name → Option Listed
 with_rows_of name ms columns =
-    given (array_at (codes "rows") ms) (λ ds. given (rows_from (length columns) [] ds) (λ rows.
+    where_some (array_at (codes "rows") ms) (λ ds. where_some (rows_from (length columns) [] ds) (λ rows.
     Some (record { called = name; columns = columns; rows = rows })))
 
 abbrev pub listed_in : Name → Members → Option Listed
 listed_in name ms =
-    cond (nat_eq (member_count ms) 2) (given (array_at (codes "columns") ms) (λ ds. given (columns_in ds) (with_rows_of name ms))) None
+    cond (nat_eq (member_count ms) 2) (where_some (array_at (codes "columns") ms) (λ ds. where_some (columns_in ds) (with_rows_of name ms))) None
 
 -- the table of a key and its value, or none where it is faulty
 abbrev pub table_in : Name → Data → Option Listed
-table_in name d = cond (is_name name) (given (as_table d) (listed_in name)) None
+table_in name d = cond (is_name name) (where_some (as_table d) (listed_in name)) None

@@ -4,7 +4,7 @@ ghost use Rattle.std.specs.Prelude.{◌≡◌, [], true, IfOk, IfErr, IfSome, So
 ghost use Rattle.toml.specs.View.{view, items_view, array_view, table_view};
 ghost use Rattle.meaning.specs.Edits.{in_range};
 ghost use Rattle.input_tables.specs.Shapes.{new_column, columns_from, columns_in, integers_from, number_in, values_in, row_in, row_at};
-ghost use Rattle.input_tables.specs.Shapes.{with_row, rows_from, array_at, given};
+ghost use Rattle.input_tables.specs.Shapes.{with_row, rows_from, array_at, where_some};
 ghost use Rattle.input_tables.specs.Faults.{IsFaulty};
 ghost use Rattle.input_tables.specs.Rows.{AreWide};
 ghost use Rattle.input_tables.specs.Sums.{AreTotals};
@@ -32,8 +32,8 @@ pub fn array_at<'a>(members: &'a Members, key: &str) -> Option<&'a Vec<Value>>
 
 // A name that isn't yet among the columns.
 fn new_column(alloc: Global, columns: &[String], item: &Value) -> Result<String, Fault>
-    ensures read { IfOk result (λ column. given (as_str (view item.now)) (new_column (map string_bytes columns.now)) ≡ Some (string_bytes column)) }
-    ensures refused { IfErr result (IsFaulty (given (as_str (view item.now)) (new_column (map string_bytes columns.now)))) }
+    ensures read { IfOk result (λ column. where_some (as_str (view item.now)) (new_column (map string_bytes columns.now)) ≡ Some (string_bytes column)) }
+    ensures refused { IfErr result (IsFaulty (where_some (as_str (view item.now)) (new_column (map string_bytes columns.now)))) }
 {
     match item.as_str() {
         Some(name) if is_name(name) && index_of(columns, name) == columns.len() => {
@@ -174,11 +174,11 @@ fn add_item(
     requires wide { AreWide columns rows.old }
     requires sums { length sums.old.items ≡ columns }
     requires totals { AreTotals sums.old.items rows.old }
-    ensures read { OnOk result (given (row_at columns (view item.now)) (with_row rows.old) ≡ Some rows.new) }
+    ensures read { OnOk result (where_some (row_at columns (view item.now)) (with_row rows.old) ≡ Some rows.new) }
     ensures wide { OnOk result (AreWide columns rows.new) }
     ensures sums { OnOk result (length sums.new.items ≡ columns) }
     ensures totals { OnOk result (AreTotals sums.new.items rows.new) }
-    ensures refused { IfErr result (IsFaulty (given (row_at columns (view item.now)) (with_row rows.old))) }
+    ensures refused { IfErr result (IsFaulty (where_some (row_at columns (view item.now)) (with_row rows.old))) }
 {
     let number = row_at(values, item, columns)?;
     add_row(rows, sums, number, values)

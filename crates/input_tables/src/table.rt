@@ -10,6 +10,7 @@ ghost use Rattle.input_tables.specs.Adding.{without_rows};
 ghost use Rattle.input_tables.specs.Edited.{names_of, RowsFit};
 ghost use Rattle.input_tables.specs.Shapes.{table_in, listed_in, with_rows_of};
 ghost use Rattle.input_tables.specs.Faults.{IsFaulty};
+ghost use Rattle.input_tables.specs.Rows.{AreWide};
 ghost use Rattle.input_tables.specs.Sums.{AreTotals};
 
 use crate::names::{index_of, is_name};
@@ -107,6 +108,21 @@ impl Table {
         ensures { IfSome result (λ values. row_of self.now.rows row ≡ Some values.now) }
     {
         self.rows.get_at_once(row)
+    }
+
+    /// Lends the values of the row of this number.
+    pub fn row(&self, row: i64) -> Option<&[i64]>
+        ensures { option_map (λ values. values.now) result ≡ row_of self.now.rows row }
+    {
+        self.rows.get(row)
+    }
+
+    /// How many columns the table has, and so how many values each of its rows.
+    pub fn width(&self) -> usize
+        ensures columns { result ≡ length self.now.columns }
+        ensures rows { AreWide result self.now.rows }
+    {
+        self.columns.len()
     }
 
     /// The value of a row in the column of this number.

@@ -11,6 +11,7 @@ ghost use Rattle.input_tables.specs.Shapes.{table_in};
 ghost use Rattle.meaning.specs.Records.{Revised};
 ghost use Rattle.meaning.specs.Edits.{after_put, after_delete, in_range, table_of};
 ghost use Rattle.input_tables.specs.Edited.{beside, row_refusal, IsPutCause, edited, changed_at, row_into, row_out_of, names_of};
+ghost use Rattle.input_tables.specs.Rows.{AreWide};
 ghost use Rattle.input_tables.specs.Edited.{columns_at, rows_at, cell_at, has_at, limit_at, sum_at, CellsFit};
 
 use crate::adding;
@@ -185,6 +186,28 @@ impl Tables {
         match self.at(table) {
             Some(table) => table.row_at_once(row),
             None => None,
+        }
+    }
+
+    /// Lends the values of a row, by the number of the table.
+    pub fn row(&self, table: usize, row: i64) -> Option<&[i64]>
+        ensures row { option_map (λ values. values.now) result
+            ≡ row_of (rows_at self.now.tables table) row }
+    {
+        match self.at(table) {
+            Some(table) => table.row(row),
+            None => None,
+        }
+    }
+
+    /// How many columns the table of a number has, and so how many values each of its rows; 0 where there is no such table.
+    pub fn width(&self, table: usize) -> usize
+        ensures columns { result ≡ length (columns_at self.now.tables table) }
+        ensures rows { AreWide result (rows_at self.now.tables table) }
+    {
+        match self.at(table) {
+            Some(table) => table.width(),
+            None => 0,
         }
     }
 

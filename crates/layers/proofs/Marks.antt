@@ -11,7 +11,9 @@ use Rattle.evaluation.specs.declared.reading.Reading.{Reading}
 use Rattle.evaluation.specs.Short.{note_of}
 use Rattle.evaluation.specs.contracts.note.NotePartialEq.TheImpl as notes
 use Rattle.rerun_records.specs.Readings.{all_of}
-use Rattle.positions.specs.Values.{same_note, once, once_behind, put_note}
+use Rattle.rerun_records.specs.Same.{same_note}
+use Rattle.rerun_records.proofs.Same.{derived_same}
+use Rattle.positions.specs.Values.{once, once_behind, put_note}
 
 module _ (eq : Note → Note → Bool) (same : (a b : Note) → eq a b ≡ same_note a b) where
   any_same : (n : Note) (seen : List Note) → list_any (eq n) seen ≡ list_any (same_note n) seen
@@ -24,28 +26,6 @@ module _ (eq : Note → Note → Bool) (same : (a b : Note) → eq a b ≡ same_
 
   pub put_as_key : (seen : List Note) (n : Note) → insert_key eq seen n ≡ put_note seen n
   put_as_key seen n = put_by (list_any (eq n) seen) seen (seen ++ n ∷ []) ∙ ap (λ b. cond b seen (seen ++ n ∷ [])) (any_same n seen)
-
--- readings are compared part by part
-pub derived_same : (a b : Note) → (notes.ghosts).eq a b ≡ same_note a b
-derived_same (n.Cell t row c v) (n.Cell u s d w) = refl
-derived_same (n.Cell t row c v) (n.Has u s d) = refl
-derived_same (n.Cell t row c v) (n.Limit u w) = refl
-derived_same (n.Cell t row c v) (n.Sum u d w) = refl
-derived_same (n.Has t row true) (n.Has u s true) = refl
-derived_same (n.Has t row true) (n.Has u s false) = refl
-derived_same (n.Has t row false) (n.Has u s true) = refl
-derived_same (n.Has t row false) (n.Has u s false) = refl
-derived_same (n.Has t row b) (n.Cell u s d w) = refl
-derived_same (n.Has t row b) (n.Limit u w) = refl
-derived_same (n.Has t row b) (n.Sum u d w) = refl
-derived_same (n.Limit t v) (n.Limit u w) = refl
-derived_same (n.Limit t v) (n.Cell u s d w) = refl
-derived_same (n.Limit t v) (n.Has u s d) = refl
-derived_same (n.Limit t v) (n.Sum u d w) = refl
-derived_same (n.Sum t c v) (n.Sum u d w) = refl
-derived_same (n.Sum t c v) (n.Cell u s d w) = refl
-derived_same (n.Sum t c v) (n.Has u s d) = refl
-derived_same (n.Sum t c v) (n.Limit u w) = refl
 
 pub inserted_is : (seen : List Note) (n : Note) → insert_key (notes.ghosts).eq seen n ≡ put_note seen n
 inserted_is seen n = put_as_key (notes.ghosts).eq derived_same seen n

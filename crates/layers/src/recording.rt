@@ -9,7 +9,8 @@ ghost use Rattle.rerun_records.specs.Record.{touched};
 ghost use Rattle.rerun_records.specs.Named.{AreValuesFrom};
 ghost use Rattle.rerun_records.specs.Readings.{all_of};
 ghost use Rattle.rerun_records.specs.ShortLists.{items_in};
-ghost use Rattle.positions.specs.Values.{same_note, once, put_note};
+ghost use Rattle.rerun_records.specs.Same.{same_note};
+ghost use Rattle.positions.specs.Values.{once, put_note};
 ghost use Rattle.positions.specs.Tallies.{touched_from, entries_from};
 ghost use Rattle.layers.specs.Gatherings.{gathered_in};
 ghost use Rattle.layers.specs.Recordings.{recording_of, recorded, touched_at, entry_of};
@@ -368,7 +369,7 @@ fn is_among(seen: &[Reading], reading: &Reading) -> bool
 }
 
 /// Whether two readings are the same.
-#[tactic(auto, using(crate::proofs::Marks::derived_same))]
+#[tactic(auto, using(rerun_records::proofs::Same::derived_same))]
 fn is_same(left: &Reading, right: &Reading) -> bool
     ensures same { result ≡ same_note (note_of left.now) (note_of right.now) }
 {

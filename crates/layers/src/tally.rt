@@ -146,6 +146,7 @@ impl Tally {
     }
 
     /// An instance is executed in a layer of its own; refused for want of memory, or where the count is at its limit.
+    #[inline(always)]
     pub fn open(&mut self, opened: Opened) -> Result<(), AllocError>
         ensures opened { OnOk result (self.new ≡ opening opened self.old) }
         ensures unchanged { OnErr result (self.new ≡ self.old) }

@@ -17,7 +17,7 @@ use Rattle.trail_theory.specs.Order.{In}
 use Rattle.positions.specs.Layers.{flagged}
 use Rattle.positions.specs.Tallies.{entries_from}
 use Rattle.positions.proofs.Members.{there, back, same_members, in_map, made_from, map_map}
-use Rattle.positions.proofs.Once.{first_is, second_is}
+use Rattle.rerun_records.proofs.Same.{first_is, second_is}
 
 -- ---- flags
 

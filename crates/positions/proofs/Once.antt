@@ -1,38 +1,24 @@
 -- Values and readings that are found to be the same are equal: each reading once are the same readings, and the values that differ from the identities are all that there are.
 use Rattle.std.proofs.Common.{◌≡◌, ℕ, suc, ◌+◌, ◌<◌, ◌≤◌, ◌⊎◌, ℤ, Bool, true, false, true≢false, cond, List, [], ◌∷◌, ◌++◌, length, Option, Some, None, inl, inr, ⊎_elim, refl, sym, ◌∙◌, ap, ap₂, subst, arith, append_assoc}
-use Rattle.std.specs.Prelude.{◌&&◌, ◌||◌, nat_eq, slice_set}
+use Rattle.std.specs.Prelude.{◌||◌, slice_set}
 use Rattle.std.specs.Cmp.Lexicographic.{pointwise}
 use Rattle.std.specs.List.{list_any}
 use Rattle.std.specs.Ordering.{int_eq}
-use Rattle.std.proofs.lemmas.Bool.Decides.{Decides-eqb, Decides-int_eq}
 use Rattle.std.proofs.lemmas.List.{length-append}
 use Rattle.monoid_laws.specs.declared.Kind.{Kind}
 use Rattle.monoid_laws.specs.Worth.{Worth, number, items, best, line, amounts, element}
 use Rattle.monoid_laws.specs.Kinds.{identities, identity_of}
 use Rattle.evaluation.specs.declared.note.Note.{Note}
-use Rattle.evaluation.specs.declared.note.Note.TheVariants.{Cell, Has, Limit, Sum}
 use Rattle.rerun_records.specs.Named.{NameReducersFrom, SameMembers, filled}
 use Rattle.trail_theory.specs.Order.{In}
 use Rattle.trail_theory.proofs.Places.{in_append, in_left, in_right}
 use Rattle.positions.specs.Tallies.{touched_from}
-use Rattle.positions.specs.Values.{same_pair, same_best, same_worth, same_flag, same_note, put_note, once_behind, once}
+use Rattle.rerun_records.specs.Same.{same_note}
+use Rattle.rerun_records.proofs.Same.{first_is, second_is, number_is, integer_is, note_is}
+use Rattle.positions.specs.Values.{same_pair, same_best, same_worth, put_note, once_behind, once}
 use Rattle.positions.proofs.Members.{same_members}
 
 -- ---- tests that hold
-
-pub first_is : (a b : Bool) → (a && b) ≡ true → a ≡ true
-first_is true b e = refl
-first_is false b e = absurd (true≢false (sym e))
-
-pub second_is : (a b : Bool) → (a && b) ≡ true → b ≡ true
-second_is true b e = e
-second_is false b e = absurd (true≢false (sym e))
-
-number_is : (a b : ℕ) → nat_eq a b ≡ true → a ≡ b
-number_is a b = (Decides-eqb a b).0
-
-integer_is : (a b : ℤ) → int_eq a b ≡ true → a ≡ b
-integer_is a b = (Decides-int_eq a b).0
 
 each_is : {A : Type 0} (same : A → A → Bool) → ((a b : A) → same a b ≡ true → a ≡ b) → (xs ys : List A) → pointwise same xs ys ≡ true → xs ≡ ys
 each_is same is [] [] e = refl
@@ -87,45 +73,6 @@ worth_is (element a) (best b) e = absurd (true≢false (sym e))
 worth_is (element a) (line c d) e = absurd (true≢false (sym e))
 worth_is (element a) (amounts ys) e = absurd (true≢false (sym e))
 worth_is (element a) (element b) e = ap element (number_is a b e)
-
-flag_is : (a b : Bool) → same_flag a b ≡ true → a ≡ b
-flag_is true b e = sym e
-flag_is false true e = absurd (true≢false (sym e))
-flag_is false false e = refl
-
-cell_is : (t u c d : ℕ) (row s v w : ℤ) → t ≡ u → row ≡ s → c ≡ d → v ≡ w → Cell t row c v ≡ Cell u s d w
-cell_is t u c d row s v w e f g h = ap (λ x. Cell x row c v) e ∙ ap (λ x. Cell u x c v) f ∙ ap (λ x. Cell u s x v) g ∙ ap (λ x. Cell u s d x) h
-
-note_is : (a b : Note) → same_note a b ≡ true → a ≡ b
-note_is (Cell t row c v) (Cell u s d w) e =
-    let rest = second_is (nat_eq t u) (int_eq row s && (nat_eq c d && int_eq v w)) e in
-    let last = second_is (int_eq row s) (nat_eq c d && int_eq v w) rest in
-    cell_is t u c d row s v w (number_is t u (first_is (nat_eq t u) (int_eq row s && (nat_eq c d && int_eq v w)) e)) (integer_is row s (first_is (int_eq row s) (nat_eq c d && int_eq v w) rest))
-    (number_is c d (first_is (nat_eq c d) (int_eq v w) last)) (integer_is v w (second_is (nat_eq c d) (int_eq v w) last))
-note_is (Cell t row c v) (Has u s d) e = absurd (true≢false (sym e))
-note_is (Cell t row c v) (Limit u w) e = absurd (true≢false (sym e))
-note_is (Cell t row c v) (Sum u d w) e = absurd (true≢false (sym e))
-note_is (Has t row b) (Cell u s d w) e = absurd (true≢false (sym e))
-note_is (Has t row b) (Has u s d) e =
-    let rest = second_is (nat_eq t u) (int_eq row s && same_flag b d) e in
-    ap (λ x. Has x row b) (number_is t u (first_is (nat_eq t u) (int_eq row s && same_flag b d) e))
-    ∙ ap (λ x. Has u x b) (integer_is row s (first_is (int_eq row s) (same_flag b d) rest))
-    ∙ ap (λ x. Has u s x) (flag_is b d (second_is (int_eq row s) (same_flag b d) rest))
-note_is (Has t row b) (Limit u w) e = absurd (true≢false (sym e))
-note_is (Has t row b) (Sum u d w) e = absurd (true≢false (sym e))
-note_is (Limit t v) (Cell u s d w) e = absurd (true≢false (sym e))
-note_is (Limit t v) (Has u s d) e = absurd (true≢false (sym e))
-note_is (Limit t v) (Limit u w) e =
-    ap (λ x. Limit x v) (number_is t u (first_is (nat_eq t u) (int_eq v w) e)) ∙ ap (λ x. Limit u x) (integer_is v w (second_is (nat_eq t u) (int_eq v w) e))
-note_is (Limit t v) (Sum u d w) e = absurd (true≢false (sym e))
-note_is (Sum t c v) (Cell u s d w) e = absurd (true≢false (sym e))
-note_is (Sum t c v) (Has u s d) e = absurd (true≢false (sym e))
-note_is (Sum t c v) (Limit u w) e = absurd (true≢false (sym e))
-note_is (Sum t c v) (Sum u d w) e =
-    let rest = second_is (nat_eq t u) (nat_eq c d && int_eq v w) e in
-    ap (λ x. Sum x c v) (number_is t u (first_is (nat_eq t u) (nat_eq c d && int_eq v w) e))
-    ∙ ap (λ x. Sum u x v) (number_is c d (first_is (nat_eq c d) (int_eq v w) rest))
-    ∙ ap (λ x. Sum u d x) (integer_is v w (second_is (nat_eq c d) (int_eq v w) rest))
 
 -- ---- each reading once
 

@@ -22,7 +22,8 @@ use Rattle.positions.specs.Tallies.{PlainOpened, PlainTally, touched_from, entri
 use Rattle.positions.specs.Advance.{record_for}
 use Rattle.positions.specs.Stands.{IsNotes, IsOpened, AreOpened, IsTally}
 use Rattle.positions.specs.Simulation.{HoldNow}
-use Rattle.positions.proofs.Once.{second_is, touched_is, touched_named}
+use Rattle.rerun_records.proofs.Same.{second_is}
+use Rattle.positions.proofs.Once.{touched_is, touched_named}
 use Rattle.positions.proofs.Products.{kept_reads_are}
 use Rattle.positions.proofs.Entries.{entries_are}
 

@@ -5,7 +5,7 @@ use Rattle.std.specs.Ordering.{int_eq}
 use Rattle.std.specs.Cmp.Lexicographic.{pointwise}
 use Rattle.monoid_laws.specs.Worth.{Worth, number, items, best, line, amounts, element}
 use Rattle.evaluation.specs.declared.note.Note.{Note}
-use Rattle.evaluation.specs.declared.note.Note.TheVariants.{Cell, Has, Limit, Sum}
+use Rattle.rerun_records.specs.Same.{same_note}
 
 abbrev pub same_pair : ℤ × ℤ → ℤ × ℤ → Bool
 same_pair a b = int_eq a.0 b.0 && int_eq a.1 b.1
@@ -23,18 +23,6 @@ same_worth (line a b) (line c d) = int_eq a c && int_eq b d
 same_worth (amounts xs) (amounts ys) = pointwise same_pair xs ys
 same_worth (element a) (element b) = nat_eq a b
 same_worth _ _ = false
-
-abbrev pub same_flag : Bool → Bool → Bool
-same_flag true b = b
-same_flag false true = false
-same_flag false false = true
-
-abbrev pub same_note : Note → Note → Bool
-same_note (Cell t row c v) (Cell u s d w) = nat_eq t u && (int_eq row s && (nat_eq c d && int_eq v w))
-same_note (Has t row b) (Has u s d) = nat_eq t u && (int_eq row s && same_flag b d)
-same_note (Limit t v) (Limit u w) = nat_eq t u && int_eq v w
-same_note (Sum t c v) (Sum u d w) = nat_eq t u && (nat_eq c d && int_eq v w)
-same_note _ _ = false
 
 -- a reading among those that are there
 abbrev pub put_note : List Note → Note → List Note

@@ -10,6 +10,7 @@ pub mod Numbers
 pub mod Lookups
 pub mod Singles
 pub mod NodeNotes
+pub mod Same
 pub mod Homes
 pub mod Touched
 pub mod Hulls

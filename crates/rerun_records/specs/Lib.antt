@@ -1,4 +1,5 @@
 pub mod Record
+pub mod Same
 pub mod Spans
 pub mod Readings
 pub mod Validity

@@ -6,7 +6,7 @@ pub mod block;
 pub mod blocks;
 mod changes;
 mod due;
-mod hull;
+pub mod hull;
 pub mod key;
 pub mod laws;
 mod level;

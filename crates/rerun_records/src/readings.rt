@@ -11,10 +11,11 @@ ghost use Rattle.rerun_records.specs.ShortLists.{items_in};
 ghost use Rattle.rerun_records.specs.Validity.{note_agrees};
 ghost use Rattle.rerun_records.specs.Doubted.{rests_on, in_step};
 ghost use Rattle.rerun_records.specs.Blocks.{is_apart};
+ghost use Rattle.rerun_records.specs.Same.{is_read, same_note};
 
 use crate::changes::is_among;
 use crate::short_list::ShortList;
-use crate::spans::{Span, are_touched, put_read, put_spans};
+use crate::spans::{Span, are_touched, may_have, put_read, put_spans};
 use evaluation::note::Note;
 use evaluation::reading::Reading;
 use input_tables::Tables;
@@ -110,10 +111,17 @@ impl Readings {
 
     /// Whether one of these changes, each given by its table's number and the row, may have changed what was read, by its own
     /// readings and the spans of the others.
-    pub(crate) fn are_touched(&self, changes: &[(usize, i64)]) -> bool
+    pub fn are_touched(&self, changes: &[(usize, i64)]) -> bool
         ensures apart { result ≡ false → every (is_apart changes.now) self.now ≡ true }
     {
         node_is_touched(&self.node, changes)
+    }
+
+    /// Whether that was read. It takes no memory, and passes over parts that read none of its rows.
+    pub fn has(&self, note: &Note) -> bool
+        ensures has { result ≡ is_read self.now note.now }
+    {
+        node_has(&self.node, note)
     }
 
     /// Joins spans with the rows of what was read.
@@ -274,6 +282,67 @@ fn are_own_touched(own: &[Reading], changes: &[(usize, i64)]) -> bool
         }
     }
     false
+}
+
+// Whether that was read there or below. Where its rows lie in no span, the parts aren't asked.
+#[cycle(having)]
+fn node_has(node: &Node, note: &Note) -> bool
+    requires covered { is_covered node.now ≡ true }
+    ensures has { result ≡ is_read (node_notes node.now) note.now }
+{
+    if has_own(node.own.as_slice(), note) {
+        return true;
+    }
+    match &node.below {
+        Some(below) => {
+            if may_have(&below.spans, note) {
+                parts_have(&below.parts, note)
+            } else {
+                false
+            }
+        }
+        None => false,
+    }
+}
+
+#[cycle(having)]
+fn parts_have(parts: &[Arc<Node>], note: &Note) -> bool
+    requires covered { every is_covered_share parts.now ≡ true }
+    ensures have { result ≡ is_read (flat_map shared_notes parts.now) note.now }
+{
+    for part in parts {
+        if node_has(part, note) {
+            return true;
+        }
+    }
+    false
+}
+
+// Whether that is one of these readings.
+fn has_own(own: &[Reading], note: &Note) -> bool
+    ensures has { result ≡ is_read (map note_of own.now) note.now }
+{
+    for reading in own {
+        if is_of(reading, note) {
+            return true;
+        }
+    }
+    false
+}
+
+// Whether the reading is that one.
+fn is_of(reading: &Reading, note: &Note) -> bool
+    ensures of { result ≡ same_note note.now (note_of reading.now) }
+{
+    is_same(note, &reading.note())
+}
+
+// Whether two readings are the same.
+#[tactic(auto, using(crate::proofs::Same::derived_same))]
+fn is_same(note: &Note, other: &Note) -> bool
+    ensures same { result ≡ same_note note.now other.now }
+{
+    *note == *other
 }
 
 // Puts the notes of a node and of those below it behind others.

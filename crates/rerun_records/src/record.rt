@@ -193,7 +193,7 @@ impl Record {
 
     /// Whether the procedures entered are as they were, and an instance at that depth with as many nested in it stays within the
     /// limit.
-    pub(crate) fn is_allowed(&self, depth: u32, program: &Checked) -> bool
+    pub fn is_allowed(&self, depth: u32, program: &Checked) -> bool
         ensures allowed { result ≡ (every (has_revision program.now.revisions) self.now.entered
             && nat_le (depth + self.now.height) (suc depth_limit)) }
     {

@@ -1,8 +1,9 @@
 // Stretches of rows in which what was read lies, one for each table.
-ghost use Rattle.std.specs.Prelude.{◌≡◌, OnOk, map, pos, false, true};
+ghost use Rattle.std.specs.Prelude.{◌≡◌, OnOk, map, nat_eq, pos, false, true};
 ghost use Rattle.std.specs.List.{list_any};
-ghost use Rattle.rerun_records.specs.Spans.{span_of, lies_in, joined, put_span, put_spans, is_touched};
+ghost use Rattle.rerun_records.specs.Spans.{span_of, has_row, covers, lies_in, joined, put_span, put_spans, is_covered_by, is_touched};
 
+use evaluation::note::Note;
 use evaluation::reading::Reading;
 use std::alloc::AllocError;
 
@@ -62,6 +63,32 @@ impl Span {
             low: self.low.min(other.low),
             high: self.high.max(other.high),
         }
+    }
+
+    // Whether its rows are all that was read so rests on.
+    fn covers(&self, note: &Note) -> bool
+        ensures covers { result ≡ covers note.now self.now }
+    {
+        match note {
+            Note::Cell { table, row, .. } => self.is_of(*table) && self.has_row(*row),
+            Note::Has { table, row, .. } => self.is_of(*table) && self.has_row(*row),
+            Note::Limit { table, .. } => self.is_of(*table) && self.whole,
+            Note::Sum { table, .. } => self.is_of(*table) && self.whole,
+        }
+    }
+
+    // Whether it is one of the table of that number.
+    fn is_of(&self, table: usize) -> bool
+        ensures of { result ≡ nat_eq self.now.table table }
+    {
+        usize::from(self.table) == table
+    }
+
+    // Whether it has that row.
+    fn has_row(&self, row: i64) -> bool
+        ensures has { result ≡ has_row self.now row }
+    {
+        self.whole || self.low <= row && row <= self.high
     }
 
     // Whether the changed row, given by its table's number and its own, is one of these.
@@ -124,6 +151,18 @@ fn has_one(span: &Span, changes: &[(usize, i64)]) -> bool
 {
     for change in changes {
         if span.has(change) {
+            return true;
+        }
+    }
+    false
+}
+
+/// Whether one of the spans may hold that reading: its rows lie there.
+pub(crate) fn may_have(spans: &[Span], note: &Note) -> bool
+    ensures has { result ≡ is_covered_by spans.now note.now }
+{
+    for span in spans {
+        if span.covers(note) {
             return true;
         }
     }
