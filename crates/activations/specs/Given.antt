@@ -8,11 +8,11 @@ use Rattle.positions.specs.Code.{PlainLoop}
 use Rattle.activations.specs.declared.setting.Setting.{Setting as Lent}
 use Rattle.activations.specs.declared.code.LoopCode.{LoopCode}
 
-abbrev pub given : PlainChecked → Edited → List PlainRecord → Setting
-given program tables records = setting_with program tables.tables [] records
+abbrev pub setting_over : PlainChecked → Edited → List PlainRecord → Setting
+setting_over program tables records = setting_with program tables.tables [] records
 
 abbrev pub lent : Lent → Setting
-lent setting = given setting.program.now setting.tables.now setting.records.now
+lent setting = setting_over setting.program.now setting.tables.now setting.records.now
 
 -- a loop's statement as a plain value
 abbrev pub loop_of : LoopCode → PlainLoop

@@ -327,6 +327,7 @@ impl Activation {
     }
 
     /// Goes into a block of the statement at that place; refused for want of memory alone.
+    #[inline(always)]
     pub fn go_inside(&mut self, block: usize, place: Position) -> Result<(), AllocError>
         requires room { place.index + 1 < 2 ^ 64 }
         ensures inside { OnOk result (self.new ≡ inside block place self.old) }
@@ -338,6 +339,7 @@ impl Activation {
     }
 
     /// Goes behind its innermost block.
+    #[inline(always)]
     pub fn go_outside(&mut self)
         ensures outside { self.new ≡ outside self.old }
     {

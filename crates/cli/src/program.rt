@@ -16,7 +16,7 @@ use crate::formatting::format_file;
 use crate::sorts::Sort;
 use command_line::line::asked_by;
 use command_line::options::{Asked, Options};
-use command_line::words::{held_words, lent};
+use command_line::words::{held_words, as_strs};
 use kept_session::{Blocks, Session};
 use monoid_laws::Kind;
 use program_endings::failing::{failed, failed_file, no_memory};
@@ -97,7 +97,7 @@ pub fn report<V: View, M: Fn(Sort, Kind) -> Result<V, AllocError>, X: Explain + 
         Ok(held) => held,
         Err(error) => return Err(ProgramError::Line(error)),
     };
-    let words = match lent(alloc, held.as_slice()) {
+    let words = match as_strs(alloc, held.as_slice()) {
         Ok(words) => words,
         Err(error) => return Err(ProgramError::Line(error)),
     };

@@ -12,7 +12,7 @@ use Rattle.clap.proofs.WalkLemmas.{first_value-rows}
 use Rattle.command_line.specs.declared.options.OptionsError.{OptionsError}
 use Rattle.command_line.specs.declared.options.OptionsError.TheVariants.{NoMemory, Usage, Help, Version}
 use Rattle.command_line.specs.declared.options.Views.TheVariants.{Plain, Flat, Mixed}
-use Rattle.command_line.specs.Line.{line_form, print_form, given, print_given, HasForm, HasPrintForm, IsPrintLine, IsNoPrintLine, IsLine, IsNoLine, Request, IsRefusalOf, IsRefusedFor, WantsHelp, WantsVersion}
+use Rattle.command_line.specs.Line.{line_form, print_form, value_given, print_given, HasForm, HasPrintForm, IsPrintLine, IsNoPrintLine, IsLine, IsNoLine, Request, IsRefusalOf, IsRefusedFor, WantsHelp, WantsVersion}
 use Rattle.command_line.proofs.Faults.{HasOneAtMost, of_words, whole}
 
 pub simple_form : is_simple line_form ≡ true
@@ -24,10 +24,10 @@ unfolding clap_on_literals
 free_form = refl
 
 -- what the matches have for a name is what the words give
-pub given_by : (app : App) (words : List (List ℕ)) (m : ArgMatches) → app ≡ line_form → HasMatchesOf app words m
-    → (name : List ℕ) → first_value (found_of m) name ≡ given name words
-unfolding given
-given_by app words m e h name = first_value-rows (found_of m) name ∙ ap (first_of name) ((h (ap is_simple e ∙ simple_form)).0 ∙ ap (λ a. matches_of a words) e)
+pub value_given_by : (app : App) (words : List (List ℕ)) (m : ArgMatches) → app ≡ line_form → HasMatchesOf app words m
+    → (name : List ℕ) → first_value (found_of m) name ≡ value_given name words
+unfolding value_given
+value_given_by app words m e h name = first_value-rows (found_of m) name ∙ ap (first_of name) ((h (ap is_simple e ∙ simple_form)).0 ∙ ap (λ a. matches_of a words) e)
 
 -- words that are taken have the form
 pub form_of : (app : App) (words : List (List ℕ)) → app ≡ line_form
@@ -141,7 +141,7 @@ abbrev paths_alone : Request
 paths_alone = record { program = codes "p.ck"; tables = codes "t.toml"; workers = 1; kits = 64; views = Plain; trace = None; stats = false; explain = false; live = false; why = false }
 
 pub two_workers : IsLine (codes "cilkreport" ∷ codes "p.ck" ∷ codes "--workers" ∷ codes "2" ∷ codes "t.toml" ∷ []) (record paths_alone { workers = 2 })
-unfolding given HasForm clap_on_literals
+unfolding value_given HasForm clap_on_literals
 two_workers =
     let written : 0 < 1 = omega arith in
     let digit : 2 < 10 = omega arith in
@@ -162,11 +162,11 @@ two_workers =
     }
 
 pub one_worker : IsLine (codes "cilkreport" ∷ codes "p.ck" ∷ codes "t.toml" ∷ []) paths_alone
-unfolding given HasForm clap_on_literals
+unfolding value_given HasForm clap_on_literals
 one_worker = record { form = refl; program_is = refl; tables_are = refl; workers_are = refl; kits_are = refl; views_are = refl; trace_is = refl; stats_are = refl; explain_is = refl; live_is = refl; why_is = refl }
 
 pub eight_kits : IsLine (codes "cilkreport" ∷ codes "--kits" ∷ codes "8" ∷ codes "p.ck" ∷ codes "t.toml" ∷ []) (record paths_alone { kits = 8 })
-unfolding given HasForm clap_on_literals
+unfolding value_given HasForm clap_on_literals
 eight_kits =
     let written : 0 < 1 = omega arith in
     let digit : 8 < 10 = omega arith in
@@ -188,27 +188,27 @@ eight_kits =
 
 pub traced : IsLine (codes "cilkreport" ∷ codes "--stats" ∷ codes "p.ck" ∷ codes "t.toml" ∷ codes "--trace" ∷ codes "runs" ∷ [])
     (record paths_alone { trace = Some (codes "runs"); stats = true })
-unfolding given HasForm clap_on_literals
+unfolding value_given HasForm clap_on_literals
 traced = record { form = refl; program_is = refl; tables_are = refl; workers_are = refl; kits_are = refl; views_are = refl; trace_is = refl; stats_are = refl; explain_is = refl; live_is = refl; why_is = refl }
 
 pub explained : IsLine (codes "cilkreport" ∷ codes "p.ck" ∷ codes "--explain" ∷ codes "t.toml" ∷ []) (record paths_alone { explain = true })
-unfolding given HasForm clap_on_literals
+unfolding value_given HasForm clap_on_literals
 explained = record { form = refl; program_is = refl; tables_are = refl; workers_are = refl; kits_are = refl; views_are = refl; trace_is = refl; stats_are = refl; explain_is = refl; live_is = refl; why_is = refl }
 
 pub line_by_line : IsLine (codes "cilkreport" ∷ codes "--live" ∷ codes "p.ck" ∷ codes "t.toml" ∷ []) (record paths_alone { live = true })
-unfolding given HasForm clap_on_literals
+unfolding value_given HasForm clap_on_literals
 line_by_line = record { form = refl; program_is = refl; tables_are = refl; workers_are = refl; kits_are = refl; views_are = refl; trace_is = refl; stats_are = refl; explain_is = refl; live_is = refl; why_is = refl }
 
 pub with_reasons : IsLine (codes "cilkreport" ∷ codes "p.ck" ∷ codes "--why" ∷ codes "t.toml" ∷ []) (record paths_alone { why = true })
-unfolding given HasForm clap_on_literals
+unfolding value_given HasForm clap_on_literals
 with_reasons = record { form = refl; program_is = refl; tables_are = refl; workers_are = refl; kits_are = refl; views_are = refl; trace_is = refl; stats_are = refl; explain_is = refl; live_is = refl; why_is = refl }
 
 pub flat_views : IsLine (codes "cilkreport" ∷ codes "--views" ∷ codes "flat" ∷ codes "p.ck" ∷ codes "t.toml" ∷ []) (record paths_alone { views = Flat })
-unfolding given HasForm clap_on_literals
+unfolding value_given HasForm clap_on_literals
 flat_views = record { form = refl; program_is = refl; tables_are = refl; workers_are = refl; kits_are = refl; views_are = refl; trace_is = refl; stats_are = refl; explain_is = refl; live_is = refl; why_is = refl }
 
 pub mixed_views : IsLine (codes "cilkreport" ∷ codes "p.ck" ∷ codes "t.toml" ∷ codes "--views" ∷ codes "mixed" ∷ []) (record paths_alone { views = Mixed })
-unfolding given HasForm clap_on_literals
+unfolding value_given HasForm clap_on_literals
 mixed_views = record { form = refl; program_is = refl; tables_are = refl; workers_are = refl; kits_are = refl; views_are = refl; trace_is = refl; stats_are = refl; explain_is = refl; live_is = refl; why_is = refl }
 
 pub no_tables : HasForm (codes "cilkreport" ∷ codes "p.ck" ∷ []) → ⊥

@@ -48,8 +48,8 @@ abbrev pub print_form : App
 print_form = with_rule program_form (option_rule (codes "print"))
 
 -- what the words give for a name of the form
-unfoldable pub given : List ℕ → List (List ℕ) → Option (List ℕ)
-given name words = first_of name (matches_of line_form words)
+unfoldable pub value_given : List ℕ → List (List ℕ) → Option (List ℕ)
+value_given name words = first_of name (matches_of line_form words)
 
 -- the words have the form
 unfoldable pub HasForm : List (List ℕ) → Type 0
@@ -92,16 +92,16 @@ pub record Request : Type 0 where
 -- the words are a line that asks for this
 pub record IsLine (words : List (List ℕ)) (r : Request) : Type 0 where
   pub form : HasForm words
-  pub program_is : given (codes "program") words ≡ Some r.program
-  pub tables_are : given (codes "tables") words ≡ Some r.tables
-  pub workers_are : AsksFor 1 16 (given (codes "workers") words) r.workers
-  pub kits_are : AsksFor 64 4096 (given (codes "kits") words) r.kits
-  pub views_are : AsksForViews (given (codes "views") words) r.views
-  pub trace_is : given (codes "trace") words ≡ r.trace
-  pub stats_are : is_set (given (codes "stats") words) ≡ r.stats
-  pub explain_is : is_set (given (codes "explain") words) ≡ r.explain
-  pub live_is : is_set (given (codes "live") words) ≡ r.live
-  pub why_is : is_set (given (codes "why") words) ≡ r.why
+  pub program_is : value_given (codes "program") words ≡ Some r.program
+  pub tables_are : value_given (codes "tables") words ≡ Some r.tables
+  pub workers_are : AsksFor 1 16 (value_given (codes "workers") words) r.workers
+  pub kits_are : AsksFor 64 4096 (value_given (codes "kits") words) r.kits
+  pub views_are : AsksForViews (value_given (codes "views") words) r.views
+  pub trace_is : value_given (codes "trace") words ≡ r.trace
+  pub stats_are : is_set (value_given (codes "stats") words) ≡ r.stats
+  pub explain_is : is_set (value_given (codes "explain") words) ≡ r.explain
+  pub live_is : is_set (value_given (codes "live") words) ≡ r.live
+  pub why_is : is_set (value_given (codes "why") words) ≡ r.why
 
 abbrev pub request_of : Options → Request
 request_of o = record {

@@ -1,7 +1,7 @@
 // The words of the program's line.
 ghost use Rattle.std.specs.Prelude.{◌≡◌, ◌≤◌, ℕ, List, IfOk, IfErr, IfSome, IfNone, OnOk, false, map, option_map};
 ghost use Rattle.clap.specs.Words.{app_of, found_of, first_value, kind_of, rule_of};
-ghost use Rattle.command_line.specs.Line.{line_form, values_form, print_form, given, is_set, flag_rule, option_rule, path_rule, HasForm};
+ghost use Rattle.command_line.specs.Line.{line_form, values_form, print_form, value_given, is_set, flag_rule, option_rule, path_rule, HasForm};
 ghost use Rattle.asked_counts.specs.Counts.{AsksFor};
 ghost use Rattle.command_line.specs.Line.{IsAsked, IsLineOf, IsNoLine, IsNothing, IsPrintLine, IsNoPrintLine, IsRefusedFor};
 ghost use Rattle.command_line.specs.Line.{IsRefusalOf, IsWithin, AsksForViews, views_named};
@@ -97,7 +97,7 @@ pub fn options<'a>(alloc: Global, words: &'a [&'a str]) -> Result<Options<'a>, O
 fn matched<'a>(alloc: Global, words: &'a [&'a str]) -> Result<ArgMatches<'a>, OptionsError>
     ensures form { OnOk result (HasForm (map (λ word. word.now) words.now)) }
     ensures given { IfOk result (λ matches. (name : List ℕ)
-        → first_value (found_of matches) name ≡ given name (map (λ word. word.now) words.now)) }
+        → first_value (found_of matches) name ≡ value_given name (map (λ word. word.now) words.now)) }
     ensures refused { IfErr result (IsRefusedFor (HasForm (map (λ word. word.now) words.now) → ⊥)
         (map (λ word. word.now) words.now)) }
 {

@@ -31,7 +31,7 @@ pub fn held_words(
 }
 
 /// The words, lent; refused for want of memory.
-pub fn lent(alloc: Global, held: &[String]) -> Result<Vec<&str>, OptionsError>
+pub fn as_strs(alloc: Global, held: &[String]) -> Result<Vec<&str>, OptionsError>
     ensures words { IfOk result (λ words.
         map (λ word. word.now) words.items ≡ map string_bytes held.now) }
     ensures refused { IfErr result (λ e. e ≡ refusal.NoMemory) }

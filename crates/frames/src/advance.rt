@@ -8,7 +8,7 @@ ghost use Rattle.rerun_records.specs.Doubted.{IsInStep};
 ghost use Rattle.positions.specs.Setting.{HasItsTables, setting_with};
 ghost use Rattle.positions.specs.Simulation.{IsPause, IsStepTaken};
 ghost use Rattle.positions.specs.Advance.{advanced, pause_of};
-ghost use Rattle.activations.specs.Given.{given};
+ghost use Rattle.activations.specs.Given.{setting_over};
 ghost use Rattle.small_steps.specs.Steps.{GivesNone, HoldsBy, IsStepOf, IsValued};
 
 use crate::strand::Strand;
@@ -41,7 +41,7 @@ impl<V: View> Strand<V> {
         requires fits { K.fits program.now.kinds kits.old }
         ensures pause { IfOk result (λ paused. paused ≡ pause_of program.now.codes self.old) }
         ensures advanced { OnOk result (HoldsBy (K.lacks kits.old) (GivesNone K.gives kits.old)
-            (λ kit. self.new ≡ advanced (given program.now tables.now records.now) kit self.old)) }
+            (λ kit. self.new ≡ advanced (setting_over program.now tables.now records.now) kit self.old)) }
         ensures small_step { OnOk result (HoldsBy (K.lacks kits.old) (GivesNone K.gives kits.old)
             (λ kit. (kept : List Kept) → AreKept program.now kept records.now
             → HasItsTables (setting_with program.now tables.now.tables kept records.now)

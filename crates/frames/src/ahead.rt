@@ -4,7 +4,7 @@ ghost use Rattle.meaning.specs.Records.{Kept};
 ghost use Rattle.rerun_records.specs.Doubted.{IsInStep};
 ghost use Rattle.rerun_records.specs.Named.{AreKept};
 ghost use Rattle.positions.specs.Setting.{HasItsTables, setting_with};
-ghost use Rattle.activations.specs.Given.{given};
+ghost use Rattle.activations.specs.Given.{setting_over};
 ghost use Rattle.own_statements.specs.Paths.{IsPath};
 ghost use Rattle.frames.specs.Paths.{IsPathOf};
 
@@ -30,7 +30,7 @@ impl<V: View> Strand<V> {
     )
         requires kinds { self.old.layer.kinds ≡ program.now.kinds }
         requires in_step { IsInStep tables.now.tables records.now }
-        ensures path { IsPath (given program.now tables.now records.now) self.old self.new }
+        ensures path { IsPath (setting_over program.now tables.now records.now) self.old self.new }
         ensures small_steps { (kept : List Kept) → AreKept program.now kept records.now
             → HasItsTables (setting_with program.now tables.now.tables kept records.now)
             → IsPathOf (setting_with program.now tables.now.tables kept records.now) self.old self.new }

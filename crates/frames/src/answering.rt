@@ -5,7 +5,7 @@ ghost use Rattle.meaning.specs.Records.{Kept};
 ghost use Rattle.rerun_records.specs.Doubted.{IsInStep};
 ghost use Rattle.rerun_records.specs.Named.{AreKept, HaveValues};
 ghost use Rattle.positions.specs.Setting.{HasItsTables, setting_with};
-ghost use Rattle.activations.specs.Given.{given};
+ghost use Rattle.activations.specs.Given.{setting_over};
 ghost use Rattle.answered_loops.specs.Ways.{IsWay, IsWayOf};
 
 use crate::strand::Strand;
@@ -33,7 +33,7 @@ impl<V: View> Strand<V> {
         requires monoids { All IsMonoid program.now.kinds }
         requires values { HaveValues program.now.kinds records.now }
         requires in_step { IsInStep tables.now.tables records.now }
-        ensures way { OnOk result (IsWay (given program.now tables.now records.now) self.old self.new) }
+        ensures way { OnOk result (IsWay (setting_over program.now tables.now records.now) self.old self.new) }
         ensures steps { OnOk result ((kept : List Kept) → AreKept program.now kept records.now
             → HasItsTables (setting_with program.now tables.now.tables kept records.now)
             → IsWayOf (setting_with program.now tables.now.tables kept records.now) self.old self.new) }

@@ -40,7 +40,7 @@ const SINGLES: u32 = 64;
 const WIDTH: u32 = 16;
 
 /// There is room for so many batches at first.
-const FIRST_ROOM: usize = 64;
+const FIRST_CAPACITY: usize = 64;
 
 /// Batches that answer a loop's iterations one after another, and how many iterations those are.
 #[derive(Drop)]
@@ -163,7 +163,7 @@ fn answers_by<'a, V: View>(
         return None;
     }
     let mut batches = Vec::new(alloc);
-    let _ = batches.reserve(FIRST_ROOM);
+    let _ = batches.reserve(FIRST_CAPACITY);
     let mut count = 0;
     let mut singles = 0;
     let mut near = 0;

@@ -13,7 +13,7 @@ use crate::causes::push_holder;
 use crate::failed::{push_failed, push_failed_program};
 use command_line::line::asked_by;
 use command_line::options::{Asked, OptionsError};
-use command_line::words::{held_words, lent};
+use command_line::words::{held_words, as_strs};
 use explanations::programs::{push_bad_program, push_broken_line};
 use explanations::tables::{push_bad_table, push_bad_toml};
 use explanations::words::push_mistake;
@@ -46,7 +46,7 @@ pub fn reasons_of(
 // Which word of the program's line is wrong.
 fn mistaken(rt: &(impl Runtime + AllocGlobal), alloc: Global) -> Option<String> {
     let held = held_words(rt, alloc).ok()?;
-    let words = lent(alloc, held.as_slice()).ok()?;
+    let words = as_strs(alloc, held.as_slice()).ok()?;
     let mut usage = String::new(alloc);
     write!(usage, "{}", OptionsError::Usage).ok()?;
     let mut text = String::new(alloc);
@@ -57,7 +57,7 @@ fn mistaken(rt: &(impl Runtime + AllocGlobal), alloc: Global) -> Option<String> 
 // Why a file of the program's line failed.
 fn failed_again(rt: &(impl Runtime + AllocGlobal), alloc: Global, path: &str) -> Option<String> {
     let held = held_words(rt, alloc).ok()?;
-    let words = lent(alloc, held.as_slice()).ok()?;
+    let words = as_strs(alloc, held.as_slice()).ok()?;
     let mut text = String::new(alloc);
     match asked_by(alloc, words.as_slice()).ok()? {
         Asked::Session(options) => push_failed(&mut text, rt, path, options).ok()?,
@@ -73,7 +73,7 @@ fn read_again(
     error: &PrepareError,
 ) -> Option<String> {
     let held = held_words(rt, alloc).ok()?;
-    let words = lent(alloc, held.as_slice()).ok()?;
+    let words = as_strs(alloc, held.as_slice()).ok()?;
     match asked_by(alloc, words.as_slice()).ok()? {
         Asked::Session(options) => {
             let tables = fs::read(rt, options.tables).ok()?;

@@ -16,7 +16,7 @@ use Rattle.worker_core.specs.Cores.{PlainCore, IsFirstCore}
 use Rattle.numbered_runs.specs.Sound.{AreSoundFor}
 use Rattle.worker_core.specs.Keeps.{IsBeginning, IsElision, IsEndBy, ComesToEnd}
 use Rattle.kept_session.specs.Sessions.{standing_of}
-use Rattle.reuse_planner.specs.Driven.{lent, IsSameRun, AreTaken, ComesBy, EndsBy}
+use Rattle.reuse_planner.specs.Driven.{lender, IsSameRun, AreTaken, ComesBy, EndsBy}
 use Rattle.session_runs.specs.Runs.{IsFromScratch}
 use Rattle.reuse_planner.specs.Runs.{IsLedBy, IsLed, IsBegun}
 
@@ -57,7 +57,7 @@ module _ (program : PlainChecked) (tables : Edited) (records : List PlainRecord)
       ∙ ap (λ b. record c { program = program; tables = tables; records = records; workers = workers; failed = b }) h.going)))
 
   module _ (s : PlainStrands) (steps : List Step) (n : ℕ) (beginning : IsBeginning (length pool.kits) (first_with s)) where
-    led_by : (given : RunAnswer) → ComesBy (first_with s) steps n given → IsLedBy (lent program tables pool records) workers steps n given
+    led_by : (given : RunAnswer) → ComesBy (first_with s) steps n given → IsLedBy (lender program tables pool records) workers steps n given
     led_by given h = record { marks = h.marks; placed = h.placed; counted = h.counted; comes = λ k. let b = beginning k in h.comes k _ b.0 b.1 }
 
     no_end : (o : Option elision.Answer) → IsEndBy program o answer.NoKit → ⊥
@@ -74,7 +74,7 @@ module _ (program : PlainChecked) (tables : Edited) (records : List PlainRecord)
     begun_at k (answer.Fault f) h = tt
     begun_at k (answer.Finished v ws i j m) h = tt
 
-    led_at : (k : AreSoundFor program records) (given : RunAnswer) → EndsBy (first_with s) steps n given → IsLed (lent program tables pool records) workers steps n given
+    led_at : (k : AreSoundFor program records) (given : RunAnswer) → EndsBy (first_with s) steps n given → IsLed (lender program tables pool records) workers steps n given
     led_at k answer.NoMemory h = h
     led_at k answer.NoKit h = absurd (not_begun k h)
     led_at k answer.Unfinished h = led_by answer.Unfinished h
@@ -82,7 +82,7 @@ module _ (program : PlainChecked) (tables : Edited) (records : List PlainRecord)
     led_at k (answer.Finished v ws i j m) h = led_by (answer.Finished v ws i j m) h
 
   module _ (c : PlainCore) (first : IsFirstCore program tables records pool workers c) (steps : List Step) (n : ℕ) (given : RunAnswer) (beginning : IsBeginning (length pool.kits) c) (h : EndsBy c steps n given) (k : AreSoundFor program records) where
-    pub led_of : IsLed (lent program tables pool records) workers steps n given
+    pub led_of : IsLed (lender program tables pool records) workers steps n given
     led_of = led_at c.strands steps n (subst (IsBeginning (length pool.kits)) (is_first c first) beginning) k given (subst (λ (z : PlainCore). EndsBy z steps n given) (is_first c first) h)
 
     pub begun_of : IsBegun given
@@ -99,7 +99,7 @@ of_later P c d same h = subst (λ r. P c.program c.tables r) same.records (subst
 -- ---- the elision's answer
 
 from_elision : (program : PlainChecked) (a : elision.Answer) (given : RunAnswer) → IsElision program a given → (tables : Edited) → from_scratch (tree program.program) tables.tables ≡ a
-    → (pool : Stock (List Kind)) (records : List PlainRecord) → IsFromScratch (standing_of (lent program tables pool records)) given
+    → (pool : Stock (List Kind)) (records : List PlainRecord) → IsFromScratch (standing_of (lender program tables pool records)) given
 from_elision program (elision.Finished v ws) (answer.Finished w got n m k) h tables e pool records = e ∙ (ap (λ u. elision.Finished u ws) (sym h.0) ∙ ap (elision.Finished w) (sym h.1))
 from_elision program (elision.Finished v ws) (answer.Fault f) h tables e pool records = absurd h
 from_elision program (elision.Faulted k) (answer.Finished w got n m i) h tables e pool records = absurd h
@@ -109,5 +109,5 @@ from_elision program a answer.NoMemory h tables e pool records = tt
 from_elision program a answer.NoKit h tables e pool records = tt
 
 pub is_from_scratch : (program : PlainChecked) (tables : Edited) (pool : Stock (List Kind)) (records : List PlainRecord) (given : RunAnswer)
-    → IsElision program (from_scratch (tree program.program) tables.tables) given → IsFromScratch (standing_of (lent program tables pool records)) given
+    → IsElision program (from_scratch (tree program.program) tables.tables) given → IsFromScratch (standing_of (lender program tables pool records)) given
 is_from_scratch program tables pool records given h = from_elision program (from_scratch (tree program.program) tables.tables) given h tables refl pool records

@@ -16,40 +16,40 @@ use Rattle.kept_session.specs.Sessions.{PlainSession, AreNewFor, standing_of, st
 use Rattle.session_runs.specs.Runs.{IsFromScratch, LeavesRecords, IsQuietAfter}
 use Rattle.session_runs.proofs.Outcomes.{news_of}
 use Rattle.session_runs.proofs.Outcomes.{leaves_records, quiet_after}
-use Rattle.reuse_planner.specs.Driven.{lent}
+use Rattle.reuse_planner.specs.Driven.{lender}
 use Rattle.reuse_planner.specs.Runs.{IsLed}
 
 -- ---- of what a run was lent, back to the session
 
-led_lent : (s : PlainSession) (workers : ℕ) (steps : List Step) (n : ℕ) (given : RunAnswer) → IsLed (lent s.checked s.tables s.kits s.records) workers steps n given → IsLed s workers steps n given
-led_lent s workers steps n answer.NoMemory h = h
-led_lent s workers steps n answer.NoKit h = h
-led_lent s workers steps n answer.Unfinished h = record { marks = h.marks; placed = h.placed; counted = h.counted; comes = h.comes }
-led_lent s workers steps n (answer.Fault f) h = record { marks = h.marks; placed = h.placed; counted = h.counted; comes = h.comes }
-led_lent s workers steps n (answer.Finished v ws i j k) h = record { marks = h.marks; placed = h.placed; counted = h.counted; comes = h.comes }
+led_lender : (s : PlainSession) (workers : ℕ) (steps : List Step) (n : ℕ) (given : RunAnswer) → IsLed (lender s.checked s.tables s.kits s.records) workers steps n given → IsLed s workers steps n given
+led_lender s workers steps n answer.NoMemory h = h
+led_lender s workers steps n answer.NoKit h = h
+led_lender s workers steps n answer.Unfinished h = record { marks = h.marks; placed = h.placed; counted = h.counted; comes = h.comes }
+led_lender s workers steps n (answer.Fault f) h = record { marks = h.marks; placed = h.placed; counted = h.counted; comes = h.comes }
+led_lender s workers steps n (answer.Finished v ws i j k) h = record { marks = h.marks; placed = h.placed; counted = h.counted; comes = h.comes }
 
 -- a session that lends its parts to a run, with a note of none done as inlines, and what was lent
 module _ (s t : PlainSession) (same : t ≡ record s { kits = stock_of []; inlined = 0 }) (checked : PlainChecked) (tables : Edited) (records : List PlainRecord)
     (checked_is : checked ≡ t.checked) (tables_are : tables ≡ t.tables) (records_are : records ≡ t.records) where
   -- what is known of them is known of the session's
-  lent_back : (P : PlainChecked → Edited → List PlainRecord → Type 0) → P checked tables records → P s.checked s.tables s.records
-  lent_back P h =
+  lender_back : (P : PlainChecked → Edited → List PlainRecord → Type 0) → P checked tables records → P s.checked s.tables s.records
+  lender_back P h =
       subst (λ (z : PlainSession). P z.checked z.tables z.records) same
       (subst (λ rs. P t.checked t.tables rs) records_are (subst (λ ts. P t.checked ts records) tables_are (subst (λ p. P p tables records) checked_is h)))
 
   pub elision_back : (given : RunAnswer) → IsFromScratch (standing checked tables) given → IsFromScratch (standing_of s) given
-  elision_back given h = lent_back (λ p ts rs. IsFromScratch (standing p ts) given) h
+  elision_back given h = lender_back (λ p ts rs. IsFromScratch (standing p ts) given) h
 
   pub led_back : (pool : Stock (List Kind)) (workers : ℕ) (steps : List Step) (n m : ℕ) (given : RunAnswer) → pool ≡ s.kits → m ≡ n
-      → IsLed (lent checked tables pool records) workers steps n given → IsLed s workers steps m given
+      → IsLed (lender checked tables pool records) workers steps n given → IsLed s workers steps m given
   led_back pool workers steps n m given p e h =
-      subst (λ (i : ℕ). IsLed s workers steps i given) (sym e) (led_lent s workers steps n given
-      (subst (λ (q : Stock (List Kind)). IsLed (lent s.checked s.tables q s.records) workers steps n given) p
-      (lent_back (λ c ts rs. IsLed (lent c ts pool rs) workers steps n given) h)))
+      subst (λ (i : ℕ). IsLed s workers steps i given) (sym e) (led_lender s workers steps n given
+      (subst (λ (q : Stock (List Kind)). IsLed (lender s.checked s.tables q s.records) workers steps n given) p
+      (lender_back (λ c ts rs. IsLed (lender c ts pool rs) workers steps n given) h)))
 
   module _ (u : PlainSession) (n : ℕ) (noted : u ≡ record t { inlined = n }) (given : RunAnswer) (made : List PlainRecord) (has : HasRecordedBy checked tables records given made) where
     recorded_by : HasRecordedBy s.checked s.tables s.records given made
-    recorded_by = lent_back (λ p ts rs. HasRecordedBy p ts rs given made) has
+    recorded_by = lender_back (λ p ts rs. HasRecordedBy p ts rs given made) has
 
     noted_is : u ≡ record s { kits = stock_of []; inlined = n }
     noted_is = noted ∙ ap (λ (z : PlainSession). record z { inlined = n }) same

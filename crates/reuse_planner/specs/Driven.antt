@@ -20,8 +20,8 @@ use Rattle.kept_session.specs.Sessions.{PlainSession}
 use Rattle.reuse_planner.specs.Steps.{done_as, done_of, IsMark, AreMarks, marked, by_workers}
 
 -- a session of what a run is lent
-abbrev pub lent : PlainChecked → Edited → Stock (List Kind) → List PlainRecord → PlainSession
-lent checked tables kits records = record { checked = checked; tables = tables; kits = kits; records = records; inlined = 0 }
+abbrev pub lender : PlainChecked → Edited → Stock (List Kind) → List PlainRecord → PlainSession
+lender checked tables kits records = record { checked = checked; tables = tables; kits = kits; records = records; inlined = 0 }
 
 -- the same run: its program, its tables and records, and as many kits
 pub record IsSameRun (c d : PlainCore) : Type 0 where

@@ -9,7 +9,7 @@ ghost use Rattle.numbered_runs.specs.Sound.{AreSoundFor};
 ghost use Rattle.worker_core.specs.Keeps.{AnswersElision, HasRecorded};
 ghost use Rattle.numbered_runs.specs.Recorded.{HasRecordedBy};
 ghost use Rattle.kept_session.specs.Sessions.{standing_of};
-ghost use Rattle.reuse_planner.specs.Driven.{lent, IsSameRun, IsTaken, AreTaken, EndsBy};
+ghost use Rattle.reuse_planner.specs.Driven.{lender, IsSameRun, IsTaken, AreTaken, EndsBy};
 ghost use Rattle.session_runs.specs.Runs.{IsFromScratch};
 ghost use Rattle.reuse_planner.specs.Runs.{IsLed, IsBegun};
 
@@ -45,8 +45,8 @@ pub(crate) fn run_on<V: View>(
     requires sound { AreSoundFor checked.now records.now }
     requires values { HaveValues checked.now.kinds records.now }
     requires in_step { IsInStep tables.now.tables records.now }
-    ensures elision { IsFromScratch (standing_of (lent checked.now tables.now pool records.now)) result.answer }
-    ensures led { IsLed (lent checked.now tables.now pool records.now) workers steps.now result.inlined result.answer }
+    ensures elision { IsFromScratch (standing_of (lender checked.now tables.now pool records.now)) result.answer }
+    ensures led { IsLed (lender checked.now tables.now pool records.now) workers steps.now result.inlined result.answer }
     ensures within { result.inlined ≤ length steps.now }
     ensures begun { IsBegun result.answer }
     ensures recorded { HasRecordedBy checked.now tables.now records.now result.answer result.made.items }

@@ -8,7 +8,7 @@ use Rattle.rerun_records.specs.Named.{AreKept, AreRecords}
 use Rattle.positions.specs.Setting.{Setting, setting_with}
 use Rattle.positions.specs.Advance.{advanced}
 use Rattle.positions.specs.Strands.{PlainStrand}
-use Rattle.activations.specs.Given.{given}
+use Rattle.activations.specs.Given.{setting_over}
 use Rattle.answered_loops.proofs.Memories.{advanced_same}
 use Rattle.right_strands.specs.Picked.{IsSet}
 use Rattle.right_strands.specs.Remembering.{Remembers, recalling}
@@ -19,7 +19,7 @@ advanced_with setting k kit s = advanced_same setting (recording_from k.kept) ki
 
 module _ (setting : Setting) (p : PlainChecked) (e : Edited) (r : List PlainRecord) (set : IsSet setting p e r) where
   -- by the run's setting the step is the same
-  pub advanced_is : (kit : Bool) (s : PlainStrand) → advanced (given p e r) kit s ≡ advanced setting kit s
+  pub advanced_is : (kit : Bool) (s : PlainStrand) → advanced (setting_over p e r) kit s ≡ advanced setting kit s
   advanced_is kit s = ap (λ (i : Setting). advanced i kit s) set.same
 
   module _ (k : Remembers setting) where

@@ -20,7 +20,7 @@ use Rattle.positions.specs.Moves.{first_strand}
 use Rattle.positions.specs.Simulation.{IsSmallStep, IsFirst, small_step, tally_after}
 use Rattle.small_steps.specs.Steps.{HoldsBy, IsStepOf}
 use Rattle.frames.specs.Paths.{IsPathOf, here, on}
-use Rattle.activations.specs.Given.{given}
+use Rattle.activations.specs.Given.{setting_over}
 use Rattle.positions.specs.Stands.{IsStart}
 use Rattle.right_strands.specs.Picked.{IsSet}
 use Rattle.right_strands.specs.Remembering.{Remembers, recalling}
@@ -69,7 +69,7 @@ kinds_are setting p e r h = ap (λ (i : Setting). i.kinds) h.same
 pub codes_are : (setting : Setting) (p : PlainChecked) (e : Edited) (r : List PlainRecord) → IsSet setting p e r → p.codes ≡ setting.codes
 codes_are setting p e r h = ap (λ (i : Setting). i.codes) h.same
 
-pub all_advanced : (setting : Setting) (p : PlainChecked) (e : Edited) (r : List PlainRecord) → IsSet setting p e r → (lacks none : Type 0) (s s' : PlainStrand) → HoldsBy lacks none (λ kit. s' ≡ advanced (given p e r) kit s)
+pub all_advanced : (setting : Setting) (p : PlainChecked) (e : Edited) (r : List PlainRecord) → IsSet setting p e r → (lacks none : Type 0) (s s' : PlainStrand) → HoldsBy lacks none (λ kit. s' ≡ advanced (setting_over p e r) kit s)
     → HoldsBy lacks none (λ kit. s' ≡ advanced setting kit s)
 all_advanced setting p e r set lacks none s s' h = record {
   kit = h.kit;
@@ -82,13 +82,13 @@ all_advanced setting p e r set lacks none s s' h = record {
 abbrev IsStepBy : Type 0 → Type 0 → PlainChecked → Edited → List PlainRecord → PlainStrand → PlainStrand → Type 0
 IsStepBy lacks none p e r s s' = HoldsBy lacks none (λ kit. (kept : List Kept) → AreKept p kept r → HasItsTables (setting_with p e.tables kept r) → IsStepOf (setting_with p e.tables kept r) kit s s')
 
-goes_on : (setting : Setting) (p : PlainChecked) (e : Edited) (r : List PlainRecord) → IsSet setting p e r → (k : Remembers setting) (lacks none : Type 0) (s s' : PlainStrand) → HoldsBy lacks none (λ kit. s' ≡ advanced (given p e r) kit s) → IsStepBy lacks none p e r s s'
+goes_on : (setting : Setting) (p : PlainChecked) (e : Edited) (r : List PlainRecord) → IsSet setting p e r → (k : Remembers setting) (lacks none : Type 0) (s s' : PlainStrand) → HoldsBy lacks none (λ kit. s' ≡ advanced (setting_over p e r) kit s) → IsStepBy lacks none p e r s s'
     → IsRightBy (recalling setting k) s → GoesOn (recalling setting k) s s'
 goes_on setting p e r set k lacks none s s' adv step h =
     let by : IsSmallStep (recalling setting k) step.kit s s' = subst (λ (i : Setting). IsSmallStep i step.kit s s') (set_with setting p e r set k) (step.done k.kept (kept_with setting p e r set k) set.names).step in
     step_right (recalling setting k) (set.ready k) set.numbered adv.kit step.kit s s' (adv.done ∙ advanced_is setting p e r set adv.kit s ∙ advanced_with setting k adv.kit s) by h
 
-pub step_kept : (setting : Setting) (p : PlainChecked) (e : Edited) (r : List PlainRecord) → IsSet setting p e r → (lacks none : Type 0) (s s' : PlainStrand) → HoldsBy lacks none (λ kit. s' ≡ advanced (given p e r) kit s) → IsStepBy lacks none p e r s s'
+pub step_kept : (setting : Setting) (p : PlainChecked) (e : Edited) (r : List PlainRecord) → IsSet setting p e r → (lacks none : Type 0) (s s' : PlainStrand) → HoldsBy lacks none (λ kit. s' ≡ advanced (setting_over p e r) kit s) → IsStepBy lacks none p e r s s'
     → s'.layer.kinds ≡ s.layer.kinds → (start : Start) (failed : Bool) → IsHeld setting start failed s → IsHeld setting start failed s'
 step_kept setting p e r set lacks none s s' adv step kinds start failed h = record {
   kinds = kinds ∙ h.kinds;

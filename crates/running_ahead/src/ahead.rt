@@ -155,6 +155,7 @@ fn sync_ahead<V: View>(machine: &mut Machine<V>, value: i64) -> bool
 }
 
 /// The topmost instance's value goes to the one below it.
+#[inline(always)]
 fn leave_ahead<V: View>(machine: &mut Machine<V>, value: i64) -> bool
     requires leaving { machine.old.phase ≡ Phase.Leaving value }
     ensures ahead { (setting : PlainSetting) → IsAhead setting machine.old machine.new }

@@ -17,7 +17,7 @@ use Rattle.strand_list.specs.Pages.{position}
 use Rattle.strand_list.specs.Chronicled.{PlainChronicle, Took}
 use Rattle.sync_fold.specs.Books.{PlainLaid, FitsLine, Fits, IsBook, ArePair, IsPairOf, BeginWithPair, ends_alone, folded}
 use Rattle.sync_fold.specs.Counts.{kits_of, kits_in, kits_laid, held_in, held_among, HoldsMore, LaysDown, TakesUp, HaveOneMore, BeginWithOneMore}
-use Rattle.sync_fold.specs.declared.laid.Laid.TheVariants.{Nothing, Whole, Half, Lent}
+use Rattle.sync_fold.specs.declared.laid.Laid.TheVariants.{Nothing, Whole, Half, Paired}
 
 -- ---- a split
 
@@ -44,7 +44,7 @@ held_line : (p : Place) (s : State) (d : PlainLaid) → FitsLine (p, s) d → is
 held_line p s Nothing f h = refl
 held_line p s (Whole q) f h = absurd (never_held q.rest s f.0 h)
 held_line p s (Half q r) f h = absurd (never_held r s f.0 h)
-held_line p s (Lent r) f h = absurd (never_held r s f h)
+held_line p s (Paired r) f h = absurd (never_held r s f h)
 
 set_counts : (p : Place) (q : PlainPiece) (ls : List Line) (ds : List PlainLaid) → is_held_at ls p ≡ true → Fits ls ds → LaysDown q.strand ds (slice_set ds (position p ls) (Whole q))
 set_counts p q [] ds h f = absurd cc
@@ -117,30 +117,30 @@ one_more l r s n e =
 pub have_one_more : (d e : PlainLaid) (pair : PlainPair) (s : PlainStrand) → ArePair d e → IsPairOf d e pair → pair.right.lower ≡ [] → s ≡ joined pair.left pair.right → HaveOneMore d e s
 have_one_more (Whole p) (Whole q) pair s a is n e =
     subst (λ (x : PlainPair). kits_of x.left + kits_of x.right ≡ suc (kits_of s)) is (one_more pair.left pair.right s n e)
-have_one_more (Half q r) (Lent t) pair s a is n e =
+have_one_more (Half q r) (Paired t) pair s a is n e =
     let all : kits_of q.left + kits_of q.right ≡ suc (kits_of s) = subst (λ (x : PlainPair). kits_of x.left + kits_of x.right ≡ suc (kits_of s)) is (one_more pair.left pair.right s n e) in
     omega arith
 have_one_more Nothing d pair s a is n e = absurd a
 have_one_more (Whole p) Nothing pair s a is n e = absurd a
 have_one_more (Whole p) (Half q r) pair s a is n e = absurd a
-have_one_more (Whole p) (Lent r) pair s a is n e = absurd a
+have_one_more (Whole p) (Paired r) pair s a is n e = absurd a
 have_one_more (Half q r) Nothing pair s a is n e = absurd a
 have_one_more (Half q r) (Whole p) pair s a is n e = absurd a
 have_one_more (Half q r) (Half p t) pair s a is n e = absurd a
-have_one_more (Lent r) d pair s a is n e = absurd a
+have_one_more (Paired r) d pair s a is n e = absurd a
 
 -- no worker holds them
 none_held : (d e : PlainLaid) → ArePair d e → held_in d + held_in e ≡ 0
 none_held (Whole p) (Whole q) a = refl
-none_held (Half q r) (Lent t) a = refl
+none_held (Half q r) (Paired t) a = refl
 none_held Nothing d a = absurd a
 none_held (Whole p) Nothing a = absurd a
 none_held (Whole p) (Half q r) a = absurd a
-none_held (Whole p) (Lent r) a = absurd a
+none_held (Whole p) (Paired r) a = absurd a
 none_held (Half q r) Nothing a = absurd a
 none_held (Half q r) (Whole p) a = absurd a
 none_held (Half q r) (Half p t) a = absurd a
-none_held (Lent r) d a = absurd a
+none_held (Paired r) d a = absurd a
 
 folded_counts : (k : ℕ) (ds : List PlainLaid) (s : PlainStrand) → BeginWithPair (drop k ds) → BeginWithOneMore (drop k ds) s → TakesUp s ds (folded k ds)
 folded_counts zero [] s a m = absurd a
@@ -172,7 +172,7 @@ held_within (d ∷ ds) =
     at_most Nothing = omega arith
     at_most (Whole p) = omega arith
     at_most (Half q r) = omega arith
-    at_most (Lent r) = omega arith
+    at_most (Paired r) = omega arith
 
 -- one strand is left, and ends the run
 pub none_at_end : (ds : List PlainLaid) → ends_alone ds ≡ true → held_among ds ≡ 0
@@ -181,7 +181,7 @@ none_at_end (Whole p ∷ []) e = refl
 none_at_end (Whole p ∷ d ∷ ds) e = absurd cc
 none_at_end (Nothing ∷ ds) e = absurd cc
 none_at_end (Half q r ∷ ds) e = absurd cc
-none_at_end (Lent r ∷ ds) e = absurd cc
+none_at_end (Paired r ∷ ds) e = absurd cc
 
 pub kits_alone : (p : PlainPiece) (ds : List PlainLaid) → ds ≡ Whole p ∷ [] → kits_laid ds ≡ kits_of p.strand
 kits_alone p ds e = let f : kits_laid ds ≡ kits_of p.strand + 0 = ap kits_laid e in omega arith

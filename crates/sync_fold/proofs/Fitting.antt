@@ -17,7 +17,7 @@ use Rattle.strand_list.specs.Pages.{position, removes, Apart, is_pair, begins_pa
 use Rattle.strand_list.specs.Replays.{LeavesRootAlone}
 use Rattle.strand_list.specs.Chronicled.{PlainChronicle}
 use Rattle.sync_fold.specs.Books.{PlainLaid, FitsLine, Fits, IsBook, may_be_one, may_touch, RestsAs, ArePair, BeginWithPair, IsPairOf, IsMadeOf, BeginAsPair, BeginAt, folded, halved, IsHalved, ends_alone}
-use Rattle.sync_fold.specs.declared.laid.Laid.TheVariants.{Nothing, Whole, Half, Lent}
+use Rattle.sync_fold.specs.declared.laid.Laid.TheVariants.{Nothing, Whole, Half, Paired}
 
 -- ---- lengths, and what is left behind a line
 
@@ -165,15 +165,15 @@ are_pair x y Nothing e f g a b m = absurd (held_not_done x.1 f a)
 are_pair x y (Whole p) Nothing f g a b m = absurd (held_not_waits y.1 g b)
 are_pair x y (Whole p) (Whole q) f g a b m = (over_done p.rest ∙ ap done (sym f.0) ∙ a, waiting_waits q.rest ∙ ap waits (sym g.0) ∙ b, m)
 are_pair x y (Whole p) (Half q r) f g a b m = absurd cc
-are_pair x y (Whole p) (Lent r) f g a b m = absurd cc
+are_pair x y (Whole p) (Paired r) f g a b m = absurd cc
 are_pair x y (Half q r) Nothing f g a b m = absurd (held_not_waits y.1 g b)
 are_pair x y (Half q r) (Whole p) f g a b m = absurd cc
 are_pair x y (Half q r) (Half p t) f g a b m = absurd cc
-are_pair x y (Half q r) (Lent t) f g a b m = tt
-are_pair x y (Lent r) Nothing f g a b m = absurd (held_not_waits y.1 g b)
-are_pair x y (Lent r) (Whole p) f g a b m = absurd cc
-are_pair x y (Lent r) (Half p t) f g a b m = absurd cc
-are_pair x y (Lent r) (Lent t) f g a b m = absurd cc
+are_pair x y (Half q r) (Paired t) f g a b m = tt
+are_pair x y (Paired r) Nothing f g a b m = absurd (held_not_waits y.1 g b)
+are_pair x y (Paired r) (Whole p) f g a b m = absurd cc
+are_pair x y (Paired r) (Half p t) f g a b m = absurd cc
+are_pair x y (Paired r) (Paired t) f g a b m = absurd cc
 
 pub begins_pair_kept : (l r : Place) (ls : List Line) (ds : List PlainLaid) → begins_pair l r ls ≡ true → Fits ls ds → may_touch ds ≡ true → BeginWithPair ds
 begins_pair_kept l r [] ds e h m = absurd cc
@@ -204,7 +204,7 @@ rests_fit : (p : Place) (s : State) (d : PlainLaid) (r : Rest) → FitsLine (p, 
 rests_fit p s Nothing r f e = absurd e
 rests_fit p s (Whole q) r f e = f.0 ∙ ap state_as (sym e)
 rests_fit p s (Half q t) r f e = f.0 ∙ ap state_as (sym e)
-rests_fit p s (Lent t) r f e = f ∙ ap state_as (sym e)
+rests_fit p s (Paired t) r f e = f ∙ ap state_as (sym e)
 
 -- a pair is at the place of its left strand
 made_fits : (x : Line) (d e : PlainLaid) (pair : PlainPair) → FitsLine x d → IsMadeOf d e pair → place_of pair.left.start pair.left.path ≡ x.0
@@ -212,9 +212,9 @@ made_fits x Nothing e pair f m = absurd m
 made_fits x (Whole p) Nothing pair f m = absurd m
 made_fits x (Whole p) (Whole q) pair f m = ap (λ (s : PlainStrand). place_of s.start s.path) m.left ∙ f.1
 made_fits x (Whole p) (Half q r) pair f m = absurd m
-made_fits x (Whole p) (Lent r) pair f m = absurd m
+made_fits x (Whole p) (Paired r) pair f m = absurd m
 made_fits x (Half q r) e pair f m = ap (λ (s : PlainStrand). place_of s.start s.path) m.left ∙ f.1
-made_fits x (Lent r) e pair f m = absurd m
+made_fits x (Paired r) e pair f m = absurd m
 
 -- a fold that was refused
 pub fits_halved : (k : ℕ) (pair : PlainPair) (over waiting : Rest) (ls : List Line) (ds : List PlainLaid) → BeginAt (drop k ds) over waiting → BeginAsPair (drop k ds) pair → Fits ls ds → Fits ls (halved k pair over waiting ds)
@@ -237,9 +237,9 @@ made_of Nothing e pair new p s = absurd p
 made_of (Whole l) Nothing pair new p s = absurd p
 made_of (Whole l) (Whole r) pair new p s = subst (λ (q : PlainPair). IsStill q new) p s
 made_of (Whole l) (Half q r) pair new p s = absurd p
-made_of (Whole l) (Lent r) pair new p s = absurd p
+made_of (Whole l) (Paired r) pair new p s = absurd p
 made_of (Half q r) e pair new p s = subst (λ (z : PlainPair). IsStill z new) p s
-made_of (Lent r) e pair new p s = absurd p
+made_of (Paired r) e pair new p s = absurd p
 
 -- ---- the end
 
@@ -253,7 +253,7 @@ ended_alone : (steps : List BookStep) (lines : List Line) (used : List Place) (d
 ended_alone steps lines used [] e h f = absurd cc
 ended_alone steps lines used (Nothing ∷ ds) e h f = absurd cc
 ended_alone steps lines used (Half q r ∷ ds) e h f = absurd cc
-ended_alone steps lines used (Lent r ∷ ds) e h f = absurd cc
+ended_alone steps lines used (Paired r ∷ ds) e h f = absurd cc
 ended_alone steps lines used (Whole p ∷ d ∷ ds) e h f = absurd cc
 ended_alone steps [] used (Whole p ∷ []) e h f = absurd h
 ended_alone steps (x ∷ y ∷ lines) used (Whole p ∷ []) e h f = absurd h.1
@@ -297,13 +297,13 @@ folded_taken k ds es e =
     ap (λ xs. remove xs (k + 1)) e ∙ ap (λ n. remove (slice_set (slice_set ds k Nothing) n Nothing) n) (next k) ∙ remove_again k ds Nothing
 
 pub halved_taken : (k : ℕ) (pair : PlainPair) (over waiting : Rest) (ds es fs : List PlainLaid) (x y : PlainLaid) → drop k ds ≡ x ∷ y ∷ drop (suc (suc k)) ds → RestsAs x over → RestsAs y waiting → IsMadeOf x y pair
-    → es ≡ slice_set (slice_set ds k Nothing) (k + 1) Nothing → fs ≡ slice_set (slice_set es k (Half pair over)) (k + 1) (Lent waiting) → IsHalved k ds fs
+    → es ≡ slice_set (slice_set ds k Nothing) (k + 1) Nothing → fs ≡ slice_set (slice_set es k (Half pair over)) (k + 1) (Paired waiting) → IsHalved k ds fs
 halved_taken k pair over waiting ds es fs x y t o w m e f = record {
   pair = pair;
   over = over;
   waiting = waiting;
   rests = subst (λ xs. BeginAt xs over waiting) (sym t) (o, w);
   made = subst (λ xs. BeginAsPair xs pair) (sym t) m;
-  are = f ∙ ap (λ xs. slice_set (slice_set xs k (Half pair over)) (k + 1) (Lent waiting)) e ∙ ap (λ n. slice_set (slice_set (slice_set (slice_set ds k Nothing) n Nothing) k (Half pair over)) n (Lent waiting)) (next k)
-      ∙ set_again k ds Nothing (Half pair over) (Lent waiting);
+  are = f ∙ ap (λ xs. slice_set (slice_set xs k (Half pair over)) (k + 1) (Paired waiting)) e ∙ ap (λ n. slice_set (slice_set (slice_set (slice_set ds k Nothing) n Nothing) k (Half pair over)) n (Paired waiting)) (next k)
+      ∙ set_again k ds Nothing (Half pair over) (Paired waiting);
 }

@@ -16,7 +16,7 @@ use Rattle.strand_list.specs.Chronicled.{PlainChronicle, Took, unless, unless_al
 use Rattle.sync_fold.specs.Books.{PlainLaid, PlainBook, IsBook, Fits, BeginWithPair, IsHalved, may_touch, touch, folded, first_fold, fold_refusal, BecomeOne, FirstBecome, FirstStay, KeepsFrom, KeepsStrands, IsWhole, ends_alone}
 use Rattle.strand_list.specs.declared.error.BookError.{BookError}
 use Rattle.strand_list.specs.declared.error.BookError.TheVariants as error
-use Rattle.sync_fold.specs.declared.laid.Laid.TheVariants.{Nothing, Whole, Half, Lent}
+use Rattle.sync_fold.specs.declared.laid.Laid.TheVariants.{Nothing, Whole, Half, Paired}
 use Rattle.strand_list.proofs.Apart.{replayed_apart}
 use Rattle.strand_list.proofs.Lists.{folds_apart, add_one}
 use Rattle.sync_fold.proofs.Fitting.{fits_long, fits_drop, fits_splits, fits_becomes, fits_folds, fits_halved, pair_at, begins_pair_kept, begins_pair_with, pair_within}
@@ -213,13 +213,13 @@ alone_popped ds es d e f = e ∙ alone es (subst (λ ds. ends_alone ds ≡ true)
     alone (Whole p ∷ []) g = absurd cc
     alone (Whole p ∷ x ∷ es) g = absurd cc
     alone (Half q r ∷ es) g = absurd cc
-    alone (Lent r ∷ es) g = absurd cc
+    alone (Paired r ∷ es) g = absurd cc
 
 pub alone_whole : (d : PlainLaid) → ends_alone (d ∷ []) ≡ true → IsWhole d
 alone_whole Nothing e = absurd cc
 alone_whole (Whole p) e = tt
 alone_whole (Half q r) e = absurd cc
-alone_whole (Lent r) e = absurd cc
+alone_whole (Paired r) e = absurd cc
 
 pub whole_same : (p q : PlainPiece) (ds : List PlainLaid) → ds ≡ Whole p ∷ [] → ds ≡ Whole q ∷ [] → p ≡ q
 whole_same p q ds e f = let same : Whole p ∷ [] ≡ Whole q ∷ [] = sym e ∙ f in cc

@@ -14,7 +14,7 @@ use Rattle.strand_list.specs.Laying.{state_as}
 use Rattle.strand_list.specs.Pages.{has_strand, position, are_neighbours}
 use Rattle.strand_list.specs.Chronicled.{PlainChronicle, Took, IsRefusedBy, unless, unless_allowed, rest_refusal}
 use Rattle.sync_fold.specs.declared.laid.Laid.{Laid}
-use Rattle.sync_fold.specs.declared.laid.Laid.TheVariants.{Nothing, Whole, Half, Lent}
+use Rattle.sync_fold.specs.declared.laid.Laid.TheVariants.{Nothing, Whole, Half, Paired}
 use Rattle.strand_list.specs.declared.error.BookError.{BookError}
 use Rattle.strand_list.specs.declared.error.BookError.TheVariants as error
 
@@ -37,7 +37,7 @@ abbrev pub FitsLine : Line → PlainLaid → Type 0
 FitsLine (p, s) Nothing = is_held s ≡ true
 FitsLine (p, s) (Whole q) = (s ≡ state_as q.rest) × (begins_at q ≡ p) × (s ≡ Finished → p ≡ [])
 FitsLine (p, s) (Half q r) = (s ≡ state_as r) × (place_of q.left.start q.left.path ≡ p)
-FitsLine (p, s) (Lent r) = s ≡ state_as r
+FitsLine (p, s) (Paired r) = s ≡ state_as r
 
 abbrev pub Fits : List Line → List PlainLaid → Type 0
 Fits [] [] = Unit {0}
@@ -55,8 +55,8 @@ may_be_one Nothing e = true
 may_be_one (Whole p) Nothing = true
 may_be_one (Whole p) (Whole q) = may_pair p q
 may_be_one (Half q r) Nothing = true
-may_be_one (Half q r) (Lent t) = true
-may_be_one (Lent r) Nothing = true
+may_be_one (Half q r) (Paired t) = true
+may_be_one (Paired r) Nothing = true
 may_be_one _ _ = false
 
 abbrev pub may_touch : List PlainLaid → Bool
@@ -105,20 +105,20 @@ abbrev pub RestsAs : PlainLaid → Rest → Type 0
 RestsAs Nothing r = ⊥
 RestsAs (Whole p) r = r ≡ p.rest
 RestsAs (Half q s) r = r ≡ s
-RestsAs (Lent s) r = r ≡ s
+RestsAs (Paired s) r = r ≡ s
 
 abbrev pub IsWhole : {P Q : Type 0} → Laid P Q → Type 0
 IsWhole (Whole p) = Unit {0}
 IsWhole _ = ⊥
 
-abbrev pub IsLent : PlainLaid → Type 0
-IsLent (Lent r) = Unit {0}
-IsLent _ = ⊥
+abbrev pub IsPaired : PlainLaid → Type 0
+IsPaired (Paired r) = Unit {0}
+IsPaired _ = ⊥
 
 -- two strands that may become one
 abbrev pub ArePair : PlainLaid → PlainLaid → Type 0
 ArePair (Whole p) (Whole q) = (is_over p.rest ≡ true) × (is_waiting q.rest ≡ true) × (may_pair p q ≡ true)
-ArePair (Half q r) (Lent t) = Unit {0}
+ArePair (Half q r) (Paired t) = Unit {0}
 ArePair _ _ = ⊥
 
 abbrev pub BeginWithPair : List PlainLaid → Type 0
@@ -131,7 +131,7 @@ folded k ds = remove (slice_set ds k Nothing) (suc k)
 
 -- the strand of that number and the next one are kept as a pair
 abbrev pub halved : ℕ → PlainPair → Rest → Rest → List PlainLaid → List PlainLaid
-halved k q r t ds = slice_set (slice_set ds k (Half q r)) (suc k) (Lent t)
+halved k q r t ds = slice_set (slice_set ds k (Half q r)) (suc k) (Paired t)
 
 -- the pair is made of these two strands, but for reducers' values that have moved from the right one to the left
 abbrev pub IsMadeOf : PlainLaid → PlainLaid → PlainPair → Type 0

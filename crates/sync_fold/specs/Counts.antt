@@ -2,7 +2,7 @@
 use Rattle.std.specs.Prelude.{◌≡◌, ◌+◌, ℕ, suc, List, [], ◌∷◌, length}
 use Rattle.positions.specs.Strands.{PlainStrand}
 use Rattle.sync_fold.specs.Books.{PlainLaid}
-use Rattle.sync_fold.specs.declared.laid.Laid.TheVariants.{Nothing, Whole, Half, Lent}
+use Rattle.sync_fold.specs.declared.laid.Laid.TheVariants.{Nothing, Whole, Half, Paired}
 
 -- a strand has a kit for each of its layers
 abbrev pub kits_of : PlainStrand → ℕ
@@ -12,7 +12,7 @@ abbrev pub kits_in : PlainLaid → ℕ
 kits_in Nothing = 0
 kits_in (Whole p) = kits_of p.strand
 kits_in (Half q r) = kits_of q.left + kits_of q.right
-kits_in (Lent r) = 0
+kits_in (Paired r) = 0
 
 abbrev pub kits_laid : List PlainLaid → ℕ
 kits_laid [] = 0
@@ -23,7 +23,7 @@ abbrev pub held_in : PlainLaid → ℕ
 held_in Nothing = 1
 held_in (Whole p) = 0
 held_in (Half q r) = 0
-held_in (Lent r) = 0
+held_in (Paired r) = 0
 
 abbrev pub held_among : List PlainLaid → ℕ
 held_among [] = 0

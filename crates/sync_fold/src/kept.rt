@@ -1,7 +1,7 @@
 //! Lists of what is kept of strands.
 ghost use Rattle.std.specs.Prelude.{◌≡◌, ◌<◌, ◌+◌, length, OnOk, OnErr, slice_index_or, slice_set};
 ghost use Rattle.std.specs.List.{insert, remove};
-ghost use Rattle.sync_fold.specs.declared.laid.Laid.TheVariants.{Nothing, Whole, Half, Lent};
+ghost use Rattle.sync_fold.specs.declared.laid.Laid.TheVariants.{Nothing, Whole, Half, Paired};
 
 use crate::laid::Laid;
 use right_strands::laid::Rest;
@@ -60,8 +60,8 @@ pub(crate) fn keep_pair<P: Drop, Q: Drop>(
     waiting: Rest,
 )
     requires within { k + 1 < length laid.old.items }
-    ensures kept { laid.new.items ≡ slice_set (slice_set laid.old.items k (Half pair over)) (k + 1) (Lent waiting) }
+    ensures kept { laid.new.items ≡ slice_set (slice_set laid.old.items k (Half pair over)) (k + 1) (Paired waiting) }
 {
     laid[k] = Laid::Half(pair, over);
-    laid[k + 1] = Laid::Lent(waiting);
+    laid[k + 1] = Laid::Paired(waiting);
 }

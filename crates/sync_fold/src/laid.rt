@@ -1,6 +1,6 @@
 //! What the book keeps of a line's strand.
 ghost use Rattle.std.specs.Prelude.{◌≡◌, ◌<◌, ◌∷◌, [], length, drop, true, false, IfOk, IfErr};
-ghost use Rattle.sync_fold.specs.Books.{AreOne, ArePair, IsLent, IsMadeOf, IsPairOf, IsWhole, RestsAs, ends_alone, may_be_one, may_touch};
+ghost use Rattle.sync_fold.specs.Books.{AreOne, ArePair, IsPaired, IsMadeOf, IsPairOf, IsWhole, RestsAs, ends_alone, may_be_one, may_touch};
 ghost use Rattle.sync_fold.specs.Counts.{HaveOneMore};
 ghost use Rattle.sync_fold.specs.declared.laid.Laid.TheVariants.{Whole};
 
@@ -11,13 +11,13 @@ use right_strands::strand::RightStrand;
 use view_pool::{Kit, View};
 
 /// Nothing is kept while a worker holds the strand. A fold that memory was refused for has left both strands in the left line, as
-/// a pair; the right line's is lent to it.
+/// a pair; the right line's has gone into it.
 #[derive(Drop)]
 pub enum Laid<P, Q> {
     Nothing,
     Whole(P),
     Half(Q, Rest),
-    Lent(Rest),
+    Paired(Rest),
 }
 
 /// What is kept of the strands of a run.
@@ -30,7 +30,7 @@ fn joins_piece<J: Run, V: View>(left: &Piece<J, V>, right: &LaidOf<J, V>) -> boo
     match right {
         Laid::Nothing => true,
         Laid::Whole(right) => left.may_join(right),
-        Laid::Half(..) | Laid::Lent(_) => false,
+        Laid::Half(..) | Laid::Paired(_) => false,
     }
 }
 
@@ -41,8 +41,8 @@ fn may_be_one<J: Run, V: View>(left: &LaidOf<J, V>, right: &LaidOf<J, V>) -> boo
     match left {
         Laid::Nothing => true,
         Laid::Whole(left) => joins_piece(left, right),
-        Laid::Half(..) => matches!(right, Laid::Nothing | Laid::Lent(_)),
-        Laid::Lent(_) => matches!(right, Laid::Nothing),
+        Laid::Half(..) => matches!(right, Laid::Nothing | Laid::Paired(_)),
+        Laid::Paired(_) => matches!(right, Laid::Nothing),
     }
 }
 
@@ -81,7 +81,7 @@ fn whole_of<P, Q>(laid: Laid<P, Q>) -> P
 {
     match laid {
         Laid::Whole(piece) => piece,
-        Laid::Nothing | Laid::Half(..) | Laid::Lent(_) => unreachable!(),
+        Laid::Nothing | Laid::Half(..) | Laid::Paired(_) => unreachable!(),
     }
 }
 
@@ -109,17 +109,17 @@ fn pair_pieces<J: Run, V: View>(left: Piece<J, V>, right: LaidOf<J, V>) -> (Pair
             let waiting = right.rest();
             (Pair::new(left, right), over, waiting)
         }
-        Laid::Nothing | Laid::Half(..) | Laid::Lent(_) => unreachable!(),
+        Laid::Nothing | Laid::Half(..) | Laid::Paired(_) => unreachable!(),
     }
 }
 
-/// As what a strand that is lent was laid down.
-fn lent_as<J: Run, V: View>(right: LaidOf<J, V>) -> Rest
-    requires lent { IsLent right }
+/// As what a strand that has gone into a pair was laid down.
+fn paired_as<J: Run, V: View>(right: LaidOf<J, V>) -> Rest
+    requires paired { IsPaired right }
     ensures rest { RestsAs right result }
 {
     match right {
-        Laid::Lent(waiting) => waiting,
+        Laid::Paired(waiting) => waiting,
         Laid::Nothing | Laid::Whole(_) | Laid::Half(..) => unreachable!(),
     }
 }
@@ -133,8 +133,8 @@ fn pair_up<J: Run, V: View>(left: LaidOf<J, V>, right: LaidOf<J, V>) -> (Pair<J,
 {
     match left {
         Laid::Whole(left) => pair_pieces(left, right),
-        Laid::Half(pair, over) => (pair, over, lent_as(right)),
-        Laid::Nothing | Laid::Lent(_) => unreachable!(),
+        Laid::Half(pair, over) => (pair, over, paired_as(right)),
+        Laid::Nothing | Laid::Paired(_) => unreachable!(),
     }
 }
 

@@ -45,7 +45,7 @@ use worker_seats::seat::Seat;
 
 /// What a run is lent: a program, its tables, and the records that may answer its memo instances.
 #[derive(Clone, Copy)]
-struct Lent<'a> {
+struct Borrowed<'a> {
     program: &'a Checked,
     tables: &'a Tables,
     records: &'a Records,
@@ -85,15 +85,15 @@ pub fn run_threads<V: View + Send, R: Threads + Wait + Sync, G: Gate>(
     }
     session.kept();
     let pool = session.take_pool(alloc);
-    let lent = Lent {
+    let borrowed = Borrowed {
         program: session.checked(),
         tables: session.tables(),
         records: session.records(),
     };
-    let (ran, pool) = run_lent::<Brand, V, R, G>(
+    let (ran, pool) = run_borrowed::<Brand, V, R, G>(
         rt,
         alloc,
-        lent,
+        borrowed,
         pool,
         Blanks::new(workers),
         workers,
@@ -140,10 +140,10 @@ fn give_back<V: View>(
 }
 
 /// How a run of what is lent has ended, and the pool.
-fn run_lent<J, V, R, G>(
+fn run_borrowed<J, V, R, G>(
     rt: &R,
     alloc: Global,
-    lent: Lent<'_>,
+    borrowed: Borrowed<'_>,
     pool: Pool<Kit<V>>,
     blanks: Blanks,
     workers: usize,
@@ -154,11 +154,11 @@ where
     V: View + Send,
     R: Threads + Wait + Sync,
     G: Gate,
-    requires same { setting_with lent.program.now lent.tables.now.tables [] lent.records.now ≡ J.setting }
-    requires names { lent.program.now.tables ≡ columned_of lent.tables.now.tables }
-    requires sound { AreSound (revised_of lent.program.now) lent.program.now.tables lent.program.now.kinds lent.records.now }
-    requires values { HaveValues lent.program.now.kinds lent.records.now }
-    requires in_step { IsInStep lent.tables.now.tables lent.records.now }
+    requires same { setting_with borrowed.program.now borrowed.tables.now.tables [] borrowed.records.now ≡ J.setting }
+    requires names { borrowed.program.now.tables ≡ columned_of borrowed.tables.now.tables }
+    requires sound { AreSound (revised_of borrowed.program.now) borrowed.program.now.tables borrowed.program.now.kinds borrowed.records.now }
+    requires values { HaveValues borrowed.program.now.kinds borrowed.records.now }
+    requires in_step { IsInStep borrowed.tables.now.tables borrowed.records.now }
     requires kinds { All (λ k. k ≡ J.setting.kinds) pool.kits }
     requires total { pool.total ≡ J.total }
     requires begun { length pool.kits ≡ J.begun }
@@ -175,7 +175,7 @@ where
     ensures total { result.1.total ≡ J.total }
 {
     match deques_of(alloc, blanks, workers) {
-        Ok(deques) => run_through::<J, Brand, V, R, G>(rt, alloc, lent, pool, deques, gate),
+        Ok(deques) => run_through::<J, Brand, V, R, G>(rt, alloc, borrowed, pool, deques, gate),
         Err(AllocError) => (Ok(Ended::without_memory(alloc)), pool),
     }
 }
@@ -184,7 +184,7 @@ where
 fn run_through<J, D, V, R, G>(
     rt: &R,
     alloc: Global,
-    lent: Lent<'_>,
+    borrowed: Borrowed<'_>,
     pool: Pool<Kit<V>>,
     deques: NewDeques<J>,
     gate: &G,
@@ -195,11 +195,11 @@ where
     V: View + Send,
     R: Threads + Wait + Sync,
     G: Gate,
-    requires same { setting_with lent.program.now lent.tables.now.tables [] lent.records.now ≡ J.setting }
-    requires names { lent.program.now.tables ≡ columned_of lent.tables.now.tables }
-    requires sound { AreSound (revised_of lent.program.now) lent.program.now.tables lent.program.now.kinds lent.records.now }
-    requires values { HaveValues lent.program.now.kinds lent.records.now }
-    requires in_step { IsInStep lent.tables.now.tables lent.records.now }
+    requires same { setting_with borrowed.program.now borrowed.tables.now.tables [] borrowed.records.now ≡ J.setting }
+    requires names { borrowed.program.now.tables ≡ columned_of borrowed.tables.now.tables }
+    requires sound { AreSound (revised_of borrowed.program.now) borrowed.program.now.tables borrowed.program.now.kinds borrowed.records.now }
+    requires values { HaveValues borrowed.program.now.kinds borrowed.records.now }
+    requires in_step { IsInStep borrowed.tables.now.tables borrowed.records.now }
     requires kinds { All (λ k. k ≡ J.setting.kinds) pool.kits }
     requires total { pool.total ≡ J.total }
     requires begun { length pool.kits ≡ J.begun }
@@ -213,11 +213,11 @@ where
     ensures kinds { All (λ k. k ≡ J.setting.kinds) result.1.kits }
     ensures total { result.1.total ≡ J.total }
 {
-    let Lent {
+    let Borrowed {
         program,
         tables,
         records,
-    } = lent;
+    } = borrowed;
     match Floor::<J, D, V>::new(alloc, program, tables, records, pool, deques) {
         Ok((floor, seats)) => run_floor(rt, alloc, floor, seats, gate),
         Err((_, pool)) => (Ok(Ended::without_memory(alloc)), pool),

@@ -16,7 +16,7 @@ use Rattle.input_tables.specs.Edited.{Edited}
 use Rattle.rerun_records.specs.Record.{PlainRecord}
 use Rattle.rerun_records.specs.Doubted.{IsInStep}
 use Rattle.rerun_records.specs.Named.{HaveValues}
-use Rattle.activations.specs.Given.{given}
+use Rattle.activations.specs.Given.{setting_over}
 use Rattle.numbered_runs.specs.Named.{run_step}
 use Rattle.stepped_runs.specs.Runs.{first_run, stepped, are_workers, line_of}
 use Rattle.stepped_runs.specs.Ends.{HistoryGives}
@@ -73,7 +73,7 @@ module _ (program : PlainChecked) (tables : Edited) (records : List PlainRecord)
 
   -- ---- a step that is taken
 
-  pub step_is : (s t : PlainStrands) (e : RunStep) → KeepsRun program tables records s → stepped (given program tables records) (run_of s) e ≡ Ok (run_of t)
+  pub step_is : (s t : PlainStrands) (e : RunStep) → KeepsRun program tables records s → stepped (setting_over program tables records) (run_of s) e ≡ Ok (run_of t)
       → (k : AreSoundFor program records) → IsStepOf (setting_by program tables records k) e (run_of s) (run_of t)
   step_is s t e h is k = steps_agree (setting_by program tables records k) (h.prepared k) (run_of s) (run_of t) e is
 
@@ -81,7 +81,7 @@ module _ (program : PlainChecked) (tables : Edited) (records : List PlainRecord)
   path_to k None t h = absurd h
   path_to k (Some y) t h = record { run = y; reached = h.0; stands = h.1 }
 
-  pub keeps_step : (s t : PlainStrands) (e : RunStep) → KeepsRun program tables records s → stepped (given program tables records) (run_of s) e ≡ Ok (run_of t) → KeepsRun program tables records t
+  pub keeps_step : (s t : PlainStrands) (e : RunStep) → KeepsRun program tables records s → stepped (setting_over program tables records) (run_of s) e ≡ Ok (run_of t) → KeepsRun program tables records t
   keeps_step s t e h is = record {
     sound = h.sound;
     values = h.values;
@@ -94,7 +94,7 @@ module _ (program : PlainChecked) (tables : Edited) (records : List PlainRecord)
 
   -- ---- a step that is refused
 
-  pub no_step_is : (s : PlainStrands) (e : RunStep) (f : Refusal) → KeepsRun program tables records s → stepped (given program tables records) (run_of s) e ≡ Err f
+  pub no_step_is : (s : PlainStrands) (e : RunStep) (f : Refusal) → KeepsRun program tables records s → stepped (setting_over program tables records) (run_of s) e ≡ Err f
       → (k : AreSoundFor program records) → IsNoStepOf (setting_by program tables records k) e (run_of s)
   no_step_is s e f h is k = refusals_agree (setting_by program tables records k) (h.prepared k) (run_of s) e f is
 
@@ -126,8 +126,8 @@ module _ (program : PlainChecked) (tables : Edited) (records : List PlainRecord)
     stays_same false e = (keeps_same s t h e, subst (AreHeldBy n) (sym e) held)
     stays_same true e = (s, h, record { lines = ap (λ (x : PlainStrands). map line_of x.pieces) e; kits = ap (λ (x : PlainStrands). length x.kits) e; total = ap (λ (x : PlainStrands). x.total) e; history = ap (λ (x : PlainStrands). x.history) e })
 
-    pub stays_taken : (e : Step) → are_workers n (run_step e) ≡ true → stepped (given program tables records) (run_of s) (run_step e) ≡ Ok (run_of t) → StaysRun false program tables records n t
-    stays_taken e by is = (keeps_step s t (run_step e) h is, λ some. steps_by n (given program tables records) (run_of s) (run_of t) (run_step e) by is (held some))
+    pub stays_taken : (e : Step) → are_workers n (run_step e) ≡ true → stepped (setting_over program tables records) (run_of s) (run_step e) ≡ Ok (run_of t) → StaysRun false program tables records n t
+    stays_taken e by is = (keeps_step s t (run_step e) h is, λ some. steps_by n (setting_over program tables records) (run_of s) (run_of t) (run_step e) by is (held some))
 
     refused_by : (e : Step) (f : Refusal) → StandsAfter e f s t → StaysRun (is_failure e f) program tables records n t
     refused_by (step.Fold w q) refusal.NoMemory u = (keeps_products s t h u, held_products n s t held u)

@@ -5,7 +5,7 @@ use Rattle.linked_program.specs.Checked.{PlainChecked}
 use Rattle.input_tables.specs.Edited.{Edited}
 use Rattle.rerun_records.specs.Record.{PlainRecord}
 use Rattle.positions.specs.Advance.{pause_of}
-use Rattle.activations.specs.Given.{given}
+use Rattle.activations.specs.Given.{setting_over}
 use Rattle.stepped_runs.specs.Pieces.{PlainPiece, place_of, stalled}
 use Rattle.stepped_runs.specs.Runs.{PlainRun, changed}
 use Rattle.numbered_runs.specs.declared.step.State.{State}
@@ -26,7 +26,7 @@ module _ (program : PlainChecked) (w i : ℕ) (s : PlainStrands) (found : held_a
 
   -- what a laying down by the worker is
   abbrev laying_down : Edited → List PlainRecord → Result PlainRun Refusal
-  laying_down tables records = changed NotThere w (stalled (given program tables records) (length s.kits)) [] s.pieces s.history
+  laying_down tables records = changed NotThere w (stalled (setting_over program tables records) (length s.kits)) [] s.pieces s.history
 
   abbrev ran : PlainRun → Result PlainRun Refusal
   ran r = Ok r
@@ -37,16 +37,16 @@ module _ (program : PlainChecked) (w i : ℕ) (s : PlainStrands) (found : held_a
   taken_by : (o : Option State) (t : PlainStrands) (tables : Edited) (records : List PlainRecord) → rest_at (pause_of program.codes that.strand) that.deque ≡ o → LaysDown o i that s t → laying_down tables records ≡ Ok (run_of t)
   taken_by None t tables records e h = absurd h
   taken_by (Some st) t tables records e h =
-      rest_taken (given program tables records) w i s.pieces (some_piece w i s.pieces found) found st (length s.kits) s.history e
+      rest_taken (setting_over program tables records) w i s.pieces (some_piece w i s.pieces found) found st (length s.kits) s.history e
       ∙ ap (λ ps. ran (record { pieces = ps; kits = length s.kits + freed st that; history = s.history ++ rest_noted st (place_of that) ∷ [] })) (sym h.pieces)
       ∙ ap (λ hs. ran (record { pieces = t.pieces; kits = length s.kits + freed st that; history = hs })) (sym h.history)
       ∙ sym (run_is st t h)
 
   refused_by : (o : Option State) (tables : Edited) (records : List PlainRecord) (e : Refusal) → rest_at (pause_of program.codes that.strand) that.deque ≡ o → IsLayingRefused o e → RefusedAs true (laying_down tables records) e
   refused_by None tables records e o h = subst (RefusedAs true (laying_down tables records)) (sym h)
-      (rest_refused (given program tables records) w i s.pieces (some_piece w i s.pieces found) found (length s.kits) s.history o)
+      (rest_refused (setting_over program tables records) w i s.pieces (some_piece w i s.pieces found) found (length s.kits) s.history o)
   refused_by (Some st) tables records e o h = subst (RefusedAs true (laying_down tables records)) (sym h)
-      (rest_lacks (given program tables records) w i s.pieces (some_piece w i s.pieces found) found st (length s.kits) s.history o)
+      (rest_lacks (setting_over program tables records) w i s.pieces (some_piece w i s.pieces found) found st (length s.kits) s.history o)
 
   pub stall_taken : {A : Type 0} (r : Result A Refusal) (t : PlainStrands) → OnOk r (IsLaid program.codes i s t) → OnOk r ((tables : Edited) (records : List PlainRecord) → laying_down tables records ≡ Ok (run_of t))
   stall_taken (Ok a) t h = λ tables records. taken_by (rest_at (pause_of program.codes that.strand) that.deque) t tables records refl (h (some_piece w i s.pieces found))

@@ -4,7 +4,7 @@ use Rattle.std.specs.Prelude.{OnOk, IfErr}
 use Rattle.linked_program.specs.Checked.{PlainChecked}
 use Rattle.input_tables.specs.Edited.{Edited}
 use Rattle.rerun_records.specs.Record.{PlainRecord}
-use Rattle.activations.specs.Given.{given}
+use Rattle.activations.specs.Given.{setting_over}
 use Rattle.numbered_runs.specs.Named.{run_step}
 use Rattle.stepped_runs.specs.Runs.{PlainRun, stepped}
 use Rattle.numbered_runs.specs.declared.step.Step.{Step}
@@ -39,12 +39,12 @@ step_is_refused (Err f) e c h t = step_refused e c f h t
 -- ---- a step whose contract speaks of all tables and records
 
 module _ (program : PlainChecked) (tables : Edited) (records : List PlainRecord) {A : Type 0} where
-  pub stepped_at : (r : Result A Refusal) (e d : Step) (s t : PlainStrands) → e ≡ d → OnOk r ((ts : Edited) (rs : List PlainRecord) → stepped (given program ts rs) (run_of s) (run_step d) ≡ Ok (run_of t))
-      → OnOk r (stepped (given program tables records) (run_of s) (run_step e) ≡ Ok (run_of t))
-  stepped_at (Ok a) e d s t is h = subst (λ x. stepped (given program tables records) (run_of s) (run_step x) ≡ Ok (run_of t)) (sym is) (h tables records)
+  pub stepped_at : (r : Result A Refusal) (e d : Step) (s t : PlainStrands) → e ≡ d → OnOk r ((ts : Edited) (rs : List PlainRecord) → stepped (setting_over program ts rs) (run_of s) (run_step d) ≡ Ok (run_of t))
+      → OnOk r (stepped (setting_over program tables records) (run_of s) (run_step e) ≡ Ok (run_of t))
+  stepped_at (Ok a) e d s t is h = subst (λ x. stepped (setting_over program tables records) (run_of s) (run_step x) ≡ Ok (run_of t)) (sym is) (h tables records)
   stepped_at (Err f) e d s t is h = tt
 
-  pub refused_at : (r : Result A Refusal) (e d : Step) (s : PlainStrands) → e ≡ d → IfErr r (λ f. (ts : Edited) (rs : List PlainRecord) → RefusedAs (takes_memory d) (stepped (given program ts rs) (run_of s) (run_step d)) f)
-      → IfErr r (RefusedAs (takes_memory e) (stepped (given program tables records) (run_of s) (run_step e)))
+  pub refused_at : (r : Result A Refusal) (e d : Step) (s : PlainStrands) → e ≡ d → IfErr r (λ f. (ts : Edited) (rs : List PlainRecord) → RefusedAs (takes_memory d) (stepped (setting_over program ts rs) (run_of s) (run_step d)) f)
+      → IfErr r (RefusedAs (takes_memory e) (stepped (setting_over program tables records) (run_of s) (run_step e)))
   refused_at (Ok a) e d s is h = tt
-  refused_at (Err f) e d s is h = subst (λ x. RefusedAs (takes_memory x) (stepped (given program tables records) (run_of s) (run_step x)) f) (sym is) (h tables records)
+  refused_at (Err f) e d s is h = subst (λ x. RefusedAs (takes_memory x) (stepped (setting_over program tables records) (run_of s) (run_step x)) f) (sym is) (h tables records)

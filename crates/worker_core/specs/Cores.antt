@@ -6,7 +6,7 @@ use Rattle.meaning.specs.Strands.{State, Finished, Faulted}
 use Rattle.input_tables.specs.Edited.{Edited}
 use Rattle.linked_program.specs.Checked.{PlainChecked}
 use Rattle.rerun_records.specs.Record.{PlainRecord}
-use Rattle.activations.specs.Given.{given}
+use Rattle.activations.specs.Given.{setting_over}
 use Rattle.positions.specs.Setting.{Setting}
 use Rattle.positions.specs.Layers.{lowest}
 use Rattle.frames.specs.Answers.{Ending, underway, ending_of, IsAnswer}
@@ -41,7 +41,7 @@ takes_memory _ = true
 
 -- its program, tables and records
 abbrev pub setting_in : PlainCore → Setting
-setting_in c = given c.program c.tables c.records
+setting_in c = setting_over c.program c.tables c.records
 
 -- the step on the run of numbers
 abbrev pub stepped_on : PlainCore → Step → Result PlainRun Refusal

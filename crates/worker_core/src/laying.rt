@@ -3,7 +3,7 @@ ghost use Rattle.std.specs.Prelude.{◌≡◌, ◌+◌, ◌≤◌, List, All, sl
 ghost use Rattle.monoid_laws.specs.declared.Kind.{Kind};
 ghost use Rattle.rerun_records.specs.Record.{PlainRecord};
 ghost use Rattle.input_tables.specs.Edited.{Edited};
-ghost use Rattle.activations.specs.Given.{given};
+ghost use Rattle.activations.specs.Given.{setting_over};
 ghost use Rattle.positions.specs.Advance.{pause_of};
 ghost use Rattle.numbered_runs.specs.Named.{named_state, book_step};
 ghost use Rattle.stepped_runs.specs.Pieces.{PlainPiece, stalled};
@@ -75,11 +75,11 @@ impl<V: View> Strands<V> {
     ) -> Result<(), Refusal>
         requires fit { AreFit program.now.kinds self.old }
         ensures taken { OnOk result ((tables : Edited) (records : List PlainRecord)
-            → changed Refusal.NotThere worker (stalled (given program.now tables records) (length self.old.kits))
+            → changed Refusal.NotThere worker (stalled (setting_over program.now tables records) (length self.old.kits))
             [] self.old.pieces self.old.history ≡ Ok (run_of self.new)) }
         ensures refused { IfErr result (λ e. (tables : Edited) (records : List PlainRecord)
             → RefusedAs true (changed Refusal.NotThere worker
-            (stalled (given program.now tables records) (length self.old.kits)) [] self.old.pieces self.old.history) e) }
+            (stalled (setting_over program.now tables records) (length self.old.kits)) [] self.old.pieces self.old.history) e) }
         ensures unchanged { OnErr result (self.new ≡ self.old) }
         ensures fit { AreFit program.now.kinds self.new }
         ensures total { self.new.total ≡ self.old.total }

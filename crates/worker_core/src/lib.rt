@@ -11,7 +11,6 @@ mod stepping;
 mod strands;
 
 // What callers of a run name.
-pub use numbered_runs::records;
 pub use numbered_runs::refusal::{Refusal, StartError};
 pub use numbered_runs::step::{BookStep, Place, State, Step, StrandLine};
 pub use positions::answer::RunAnswer;

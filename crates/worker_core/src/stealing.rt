@@ -3,7 +3,7 @@ ghost use Rattle.std.specs.Prelude.{◌≡◌, true, ℕ, List, suc, ◌+◌, �
 ghost use Rattle.meaning.specs.Strands.{Split};
 ghost use Rattle.rerun_records.specs.Record.{PlainRecord};
 ghost use Rattle.input_tables.specs.Edited.{Edited};
-ghost use Rattle.activations.specs.Given.{given};
+ghost use Rattle.activations.specs.Given.{setting_over};
 ghost use Rattle.stepped_runs.specs.Pieces.{place_of as begins_at, stolen_of, stolen_from};
 ghost use Rattle.stepped_runs.specs.Runs.{changed, is_idle, if_idle};
 ghost use Rattle.worker_core.specs.Moves.{IsFit, RefusedAs, has_tasks};
@@ -50,7 +50,7 @@ impl<V: View> Piece<V> {
         requires tasks { has_tasks self.old.deque ≡ true }
         requires kinds { kit ≡ program.now.kinds }
         ensures robbed { IfOk result (λ r. (tables : Edited) (records : List PlainRecord) (kits : ℕ)
-            → stolen_of (given program.now tables records) thief (suc kits) self.old self.old.deque
+            → stolen_of (setting_over program.now tables records) thief (suc kits) self.old self.old.deque
             ≡ Ok (record { pieces = self.new ∷ r.1 ∷ []; kits = kits; noted = Split (begins_at self.old) r.0.items thief ∷ [] })) }
         ensures fit { IfOk result (λ r. IsFit program.now.kinds r.1) }
         ensures one_layer { IfOk result (λ r. r.1.strand.lower ≡ []) }
@@ -92,7 +92,7 @@ impl<V: View> Strands<V> {
         requires tasks { MayRob number self.old.pieces }
         requires kinds { kit ≡ program.now.kinds }
         ensures taken { OnOk result ((tables : Edited) (records : List PlainRecord)
-            → IsRobbed (given program.now tables records) thief number self.old self.new) }
+            → IsRobbed (setting_over program.now tables records) thief number self.old self.new) }
         ensures fit { AreFit program.now.kinds self.new }
         ensures total { self.new.total ≡ self.old.total }
         ensures free { self.new.kits ≡ self.old.kits }
@@ -129,11 +129,11 @@ impl<V: View> Strands<V> {
         requires fit { AreFit program.now.kinds self.old }
         ensures taken { OnOk result ((tables : Edited) (records : List PlainRecord)
             → if_idle (is_idle thief self.old.pieces)
-            (changed Refusal.Nothing victim (stolen_from (given program.now tables records) thief (length self.old.kits))
+            (changed Refusal.Nothing victim (stolen_from (setting_over program.now tables records) thief (length self.old.kits))
             [] self.old.pieces self.old.history) ≡ Ok (run_of self.new)) }
         ensures refused { IfErr result (λ e. (tables : Edited) (records : List PlainRecord)
             → RefusedAs true (if_idle (is_idle thief self.old.pieces)
-            (changed Refusal.Nothing victim (stolen_from (given program.now tables records) thief (length self.old.kits))
+            (changed Refusal.Nothing victim (stolen_from (setting_over program.now tables records) thief (length self.old.kits))
             [] self.old.pieces self.old.history)) e) }
         ensures unchanged { OnErr result (self.new ≡ self.old) }
         ensures fit { AreFit program.now.kinds self.new }

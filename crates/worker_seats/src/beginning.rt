@@ -15,7 +15,7 @@ use stealing_deques::{NewDeque, new_deques};
 use view_pool::{Kit, Pool, View};
 
 /// How many continuations a deque has room for at first.
-const ROOM: usize = 64;
+const FIRST_CAPACITY: usize = 64;
 
 /// New ledgers of a run: of the workers that will leave, and of the kits that strands have.
 #[derive(Drop)]
@@ -68,7 +68,7 @@ pub fn deques_of<J: Run + Ledger + Stocked + Send>(
     requires workers { J.parts ≡ workers }
     ensures count { IfOk result (λ deques. length deques ≡ workers) }
 {
-    let deques = new_deques(alloc, workers, ROOM)?;
+    let deques = new_deques(alloc, workers, FIRST_CAPACITY)?;
     Ok(NewDeques { deques, blanks })
 }
 

@@ -10,7 +10,7 @@ use Rattle.positions.proofs.Stepping.{small_step_is}
 use Rattle.positions.proofs.Kits.{kits_follow}
 use Rattle.positions.proofs.Pauses.{pause_is}
 use Rattle.positions.proofs.Working.{working_is}
-use Rattle.activations.specs.Given.{given}
+use Rattle.activations.specs.Given.{setting_over}
 use Rattle.small_steps.specs.Steps.{GivesNone, HoldsBy, IsStepOf}
 use Rattle.answered_loops.proofs.Memories.{advanced_same}
 use Rattle.small_steps.proofs.Supplies.{holds_as}
@@ -25,11 +25,11 @@ pub invariant_of-self-2 : goal.invariant_of-self-2
 invariant_of-self-2 g c =
     let step = c.in_ok-step_by_phase.ensures.advanced in
     let kinds : c.self.inside.machine.layer.kinds ≡ c.args.program.now.kinds = ap (λ (s : PlainStrand). s.layer.kinds) c.self.view_is ∙ c.requires.kinds in
-    advanced_whole (given c.args.program.now c.args.tables.now c.args.records.now) step.kit c.self.inside.machine c.step_by_phase.new.self kinds step.done (c.step_by_phase.ensures.made c.self.invariant.made) c.self.invariant
+    advanced_whole (setting_over c.args.program.now c.args.tables.now c.args.records.now) step.kit c.self.inside.machine c.step_by_phase.new.self kinds step.done (c.step_by_phase.ensures.made c.self.invariant.made) c.self.invariant
 
 pub returns-clause-advanced : goal.returns-clause-advanced
 returns-clause-advanced g c =
-    subst (λ (s : PlainStrand). HoldsBy (g.K.KitSource.lacks c.args.kits.now) (GivesNone g.K.KitSource.gives c.args.kits.now) (λ kit. c.step_by_phase.new.self ≡ advanced (given c.args.program.now c.args.tables.now c.args.records.now) kit s))
+    subst (λ (s : PlainStrand). HoldsBy (g.K.KitSource.lacks c.args.kits.now) (GivesNone g.K.KitSource.gives c.args.kits.now) (λ kit. c.step_by_phase.new.self ≡ advanced (setting_over c.args.program.now c.args.tables.now c.args.records.now) kit s))
     c.self.view_is c.in_ok-step_by_phase.ensures.advanced
 
 pub returns-clause-small_step : goal.returns-clause-small_step
@@ -40,13 +40,13 @@ returns-clause-small_step g c =
     let s = c.args.self.now in
     let new = c.step_by_phase.new.self in
     holds_as (g.K.KitSource.lacks c.args.kits.now) (GivesNone g.K.KitSource.gives c.args.kits.now)
-    (λ kit. new ≡ advanced (given p tables records) kit s)
+    (λ kit. new ≡ advanced (setting_over p tables records) kit s)
     (λ kit. (kept : List Kept) → AreKept p kept records → HasItsTables (setting_with p tables.tables kept records) → IsStepOf (setting_with p tables.tables kept records) kit s new)
     (λ kit e kept are same.
     let setting = setting_with p tables.tables kept records in
     let linked : IsLinked setting = record { codes = c.linked.ensures.codes; kinds = c.linked.ensures.kinds } in
     let known : HasItsRecords setting = record { records = are; recording = refl; in_order = c.revised.ensures.each } in
-    let is : advanced setting kit s ≡ new = sym (e ∙ advanced_same (given p tables records) setting.memory kit s) in
+    let is : advanced setting kit s ≡ new = sym (e ∙ advanced_same (setting_over p tables records) setting.memory kit s) in
     record {
       step = subst (λ (z : PlainStrand). IsSmallStep setting kit s z) is (small_step_is setting same linked known kit s);
       kits = subst (λ (z : PlainStrand). KitsFollow setting kit s z) is (kits_follow setting same linked known kit s);
@@ -70,5 +70,5 @@ returns-clause-kinds g c =
     let kinds : machine.layer.kinds ≡ c.args.program.now.kinds = ap (λ (s : PlainStrand). s.layer.kinds) c.self.view_is ∙ c.requires.kinds in
     let below : All (λ (l : PlainLayer). l.kinds ≡ c.args.program.now.kinds) machine.lower = subst (λ ks. All (λ (l : PlainLayer). l.kinds ≡ ks) machine.lower) kinds c.self.invariant.kinds in
     ap (λ (s : PlainStrand). s.layer.kinds) step.done
-    ∙ (kinds_kept (given c.args.program.now c.args.tables.now c.args.records.now) step.kit machine kinds below).0
+    ∙ (kinds_kept (setting_over c.args.program.now c.args.tables.now c.args.records.now) step.kit machine kinds below).0
     ∙ sym c.requires.kinds

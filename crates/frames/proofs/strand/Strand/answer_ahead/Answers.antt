@@ -6,23 +6,23 @@ use Rattle.positions.specs.Setting.{IsLinked, HasItsTables, HasItsRecords, setti
 use Rattle.positions.specs.Strands.{PlainStrand}
 use Rattle.answered_loops.specs.Ways.{IsWay, IsWayOf}
 use Rattle.answered_loops.proofs.Ways.{ways_of}
-use Rattle.activations.specs.Given.{given}
+use Rattle.activations.specs.Given.{setting_over}
 use Rattle.frames.proofs.Replays.{on_ok, whole_after, way_then, lower_then, kinds_then}
 use Rattle.frames.proofs.Whole.{at_phase}
 use Rattle.frames.proofs.strand.Strand.answer_ahead.Goals as goal
 
 pub invariant_of-self : goal.invariant_of-self
-invariant_of-self g c = whole_after (given c.args.program.now c.args.tables.now c.args.records.now) c.answer_ahead.result c.self.inside.machine c.answer_ahead.new.machine c.answer_ahead.ensures.ahead c.answer_ahead.ensures.refused c.self.invariant
+invariant_of-self g c = whole_after (setting_over c.args.program.now c.args.tables.now c.args.records.now) c.answer_ahead.result c.self.inside.machine c.answer_ahead.new.machine c.answer_ahead.ensures.ahead c.answer_ahead.ensures.refused c.self.invariant
 
 pub answer_ahead-requires-clause-layered : goal.answer_ahead-requires-clause-layered
 answer_ahead-requires-clause-layered g c κs within = λ running. at_phase c.self.inside.machine Running running c.self.invariant
 
 pub returns-clause-way : goal.returns-clause-way
-returns-clause-way g c = way_then (given c.args.program.now c.args.tables.now c.args.records.now) c.answer_ahead.result c.self.inside.machine c.args.self.now c.answer_ahead.new.machine c.self.view_is c.answer_ahead.ensures.ahead
+returns-clause-way g c = way_then (setting_over c.args.program.now c.args.tables.now c.args.records.now) c.answer_ahead.result c.self.inside.machine c.args.self.now c.answer_ahead.new.machine c.self.view_is c.answer_ahead.ensures.ahead
 
 pub returns-clause-steps : goal.returns-clause-steps
 returns-clause-steps g c =
-    let G = given c.args.program.now c.args.tables.now c.args.records.now in
+    let G = setting_over c.args.program.now c.args.tables.now c.args.records.now in
     let s = c.args.self.now in
     let t = c.answer_ahead.new.machine in
     on_ok c.answer_ahead.result (IsWay G s t)
@@ -37,8 +37,8 @@ returns-clause-steps g c =
 
 pub returns-clause-lower : goal.returns-clause-lower
 returns-clause-lower g c =
-    lower_then (given c.args.program.now c.args.tables.now c.args.records.now) c.answer_ahead.result c.self.inside.machine c.answer_ahead.new.machine c.answer_ahead.ensures.ahead c.answer_ahead.ensures.refused ∙ ap (λ (s : PlainStrand). s.lower) c.self.view_is
+    lower_then (setting_over c.args.program.now c.args.tables.now c.args.records.now) c.answer_ahead.result c.self.inside.machine c.answer_ahead.new.machine c.answer_ahead.ensures.ahead c.answer_ahead.ensures.refused ∙ ap (λ (s : PlainStrand). s.lower) c.self.view_is
 
 pub returns-clause-kinds : goal.returns-clause-kinds
 returns-clause-kinds g c =
-    kinds_then (given c.args.program.now c.args.tables.now c.args.records.now) c.answer_ahead.result c.self.inside.machine c.answer_ahead.new.machine c.answer_ahead.ensures.ahead c.answer_ahead.ensures.refused ∙ ap (λ (s : PlainStrand). s.layer.kinds) c.self.view_is
+    kinds_then (setting_over c.args.program.now c.args.tables.now c.args.records.now) c.answer_ahead.result c.self.inside.machine c.answer_ahead.new.machine c.answer_ahead.ensures.ahead c.answer_ahead.ensures.refused ∙ ap (λ (s : PlainStrand). s.layer.kinds) c.self.view_is

@@ -3,7 +3,7 @@ use Rattle.std.specs.Prelude.{slice_set as set}
 use Rattle.std.specs.List.{insert}
 use Rattle.std.proofs.lemmas.List.{get_or_default, map_push}
 use Rattle.meaning.specs.Strands.{Split}
-use Rattle.activations.specs.Given.{given}
+use Rattle.activations.specs.Given.{setting_over}
 use Rattle.numbered_runs.specs.Named.{book_step}
 use Rattle.stepped_runs.specs.Pieces.{place_of}
 use Rattle.worker_core.specs.Moves.{IsFit}
@@ -23,7 +23,7 @@ returns-in-Ok-rob-clause-taken g c tables records =
     let put : c.insert.new.self.items ≡ insert (set c.reserve.new.self.items c.args.number c.rob.new.self) (c.args.number + 1) c.in-Ok-rob.piece = search rules in
     let noted : map book_step c.push_reserved.new.self.items ≡ map book_step c.self.inside.history.items ++ Split c.in-Ok.place.items c.in-Ok-rob.new.items c.args.thief ∷ [] =
     ap (map book_step) c.push_reserved.ensures.items ∙ map_push book_step c.reserve-else-is_err.new.self.items _ ∙ ap (λ h. map book_step h ++ Split c.in-Ok.place.items c.in-Ok-rob.new.items c.args.thief ∷ []) c.reserve-else-is_err.ensures.items in
-    parted_taken c.args.program.now.kinds c.args.number c.args.self.now c.index_mut.result.now c.rob.new.self c.in-Ok-rob.piece c.requires.number at (given c.args.program.now tables records) c.args.thief c.in-Ok-rob.new.items
+    parted_taken c.args.program.now.kinds c.args.number c.args.self.now c.index_mut.result.now c.rob.new.self c.in-Ok-rob.piece c.requires.number at (setting_over c.args.program.now tables records) c.args.thief c.in-Ok-rob.new.items
     (record { pieces = c.insert.new.self.items; kits = c.self.inside.pool.kits; total = c.self.inside.pool.total; history = map book_step c.push_reserved.new.self.items })
     (c.in-Ok-rob.ensures.robbed tables records)
     (put ∙ ap (λ xs. insert (set xs c.args.number c.rob.new.self) (c.args.number + 1) c.in-Ok-rob.piece) old ∙ ap (λ n. insert (set c.args.self.now.pieces c.args.number c.rob.new.self) n c.in-Ok-rob.piece) (add-one c.args.number))

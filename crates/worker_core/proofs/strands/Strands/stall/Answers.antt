@@ -1,7 +1,7 @@
 use Rattle.std.proofs.Common.{List, ◌≡◌, ◌<◌, true, [], Some, None, length, sym, ap, subst, ◌∙◌}
 use Rattle.input_tables.specs.Edited.{Edited}
 use Rattle.rerun_records.specs.Record.{PlainRecord}
-use Rattle.activations.specs.Given.{given}
+use Rattle.activations.specs.Given.{setting_over}
 use Rattle.stepped_runs.specs.Pieces.{stalled}
 use Rattle.stepped_runs.specs.Runs.{changed}
 use Rattle.numbered_runs.specs.declared.refusal.Refusal.TheVariants.{NotThere}
@@ -14,8 +14,8 @@ use Rattle.worker_core.proofs.strands.Strands.stall.Goals as goal
 pub returns-in-None-clause-refused : goal.returns-in-None-clause-refused
 returns-in-None-clause-refused g c =
     let none : held_at c.args.worker c.self.inside.pieces.items ≡ None = sym (c.in-None.ensures.held ∙ ap (held_at c.args.worker) c.deref.ensures.value) in
-    subst (λ (s : PlainStrands). (tables : Edited) (records : List PlainRecord) → RefusedAs true (changed NotThere c.args.worker (stalled (given c.args.program.now tables records) (length s.kits)) [] s.pieces s.history) NotThere) c.self.view_is
-    (λ tables records. none_refused true c.args.worker c.self.inside.pieces.items NotThere (stalled (given c.args.program.now tables records) (length c.self.inside.pool.kits)) _ none)
+    subst (λ (s : PlainStrands). (tables : Edited) (records : List PlainRecord) → RefusedAs true (changed NotThere c.args.worker (stalled (setting_over c.args.program.now tables records) (length s.kits)) [] s.pieces s.history) NotThere) c.self.view_is
+    (λ tables records. none_refused true c.args.worker c.self.inside.pieces.items NotThere (stalled (setting_over c.args.program.now tables records) (length c.self.inside.pool.kits)) _ none)
 
 pub stall_at-requires-clause-number : goal.stall_at-requires-clause-number
 stall_at-requires-clause-number g c κs within =

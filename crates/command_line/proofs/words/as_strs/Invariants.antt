@@ -1,5 +1,5 @@
 use Rattle.std.proofs.Common.{◌≡◌, ◌++◌, map, drop, string_bytes}
-use Rattle.command_line.proofs.words.lent.Given as goal
+use Rattle.command_line.proofs.words.as_strs.Given as goal
 
 -- the words lent so far, and then those that are left
 abbrev pub invariant-loop-word : goal.invariant-loop-word
