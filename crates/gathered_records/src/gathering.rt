@@ -1,11 +1,9 @@
 //! Records in a row are gathered into blocks, so that what they have together answers them all.
-ghost use Rattle.std.specs.Prelude.{◌≡◌, ◌+ℤ◌, ℕ, ℤ, pos, true, List, IfOk, OnOk, OnErr, OnSome, IfSome, Some, All, map, slice_get};
-ghost use Rattle.monoid_laws.specs.declared.Kind.{Kind as PlainKind};
+ghost use Rattle.std.specs.Prelude.{◌≡◌, ◌+ℤ◌, ℕ, ℤ, pos, true, IfOk, OnSome, IfSome, Some, All, map, slice_get};
 ghost use Rattle.monoid_laws.specs.Kinds.{IsMonoid};
 ghost use Rattle.rerun_records.specs.Record.{doubtless};
-ghost use Rattle.rerun_records.specs.Commits.{put_records};
-ghost use Rattle.rerun_records.specs.Doubted.{IsInStep, ReadNow};
-ghost use Rattle.rerun_records.specs.Named.{HaveValues, CommitsNamed};
+ghost use Rattle.rerun_records.specs.Doubted.{IsInStep};
+ghost use Rattle.rerun_records.specs.Named.{HaveValues};
 ghost use Rattle.rerun_records.specs.Blocks.{is_trusted_at};
 ghost use Rattle.gathered_records.specs.Gathering.{moved_to, IsThere, AreInRow};
 
@@ -26,36 +24,6 @@ use std::alloc::{AllocError, Global};
 
 /// Vast blocks are made of so many records at least: an edit has one made again, which takes more than it saves among fewer.
 const MANY: usize = 250_000;
-
-/// Puts records in as `commit` does, and then makes blocks of those in a row, if they are to be made at once.
-pub fn keep(
-    records: &mut Records,
-    made: Vec<Record>,
-    tables: &Tables,
-    program: &Checked,
-    at_once: bool,
-) -> Result<(), AllocError>
-    requires in_step { IsInStep tables.now.tables records.old }
-    requires read_now { ReadNow tables.now.tables made.items }
-    requires monoids { All IsMonoid program.now.kinds }
-    requires values { HaveValues program.now.kinds records.old }
-    requires made_values { HaveValues program.now.kinds made.items }
-    ensures committed { OnOk result
-        (map doubtless records.new ≡ put_records (map doubtless records.old) made.items) }
-    ensures in_step { OnOk result (IsInStep tables.now.tables records.new) }
-    ensures named { OnOk result (CommitsNamed program.now records.old made.items records.new) }
-    ensures values { OnOk result ((kinds : List PlainKind) → HaveValues kinds records.old
-        → HaveValues kinds made.items → HaveValues kinds records.new) }
-    ensures same { OnErr result (records.new ≡ records.old) }
-{
-    let alloc = *made.allocator();
-    records.commit(made, tables, program)?;
-    if !at_once {
-        return Ok(());
-    }
-    gather(records, alloc, tables, program);
-    Ok(())
-}
 
 /// Makes blocks of records in a row that are trusted, as many as there is memory for: of those at the places that were put in, or
 /// whose blocks were dropped, since it was done last. Nothing that can be told of the records changes but what is in doubt.

@@ -1,5 +1,5 @@
 -- What a session keeps of its records doesn't go by what is in doubt of them, and they stay in step with its tables.
-use Rattle.std.proofs.Common.{◌≡◌, true, List, [], ◌∷◌, map, Result, Ok, Err, OnOk, OnErr, refl, sym, ap, subst}
+use Rattle.std.proofs.Common.{◌≡◌, true, List, [], ◌∷◌, map, refl, sym, ap}
 use Rattle.meaning.specs.Every.{every}
 use Rattle.meaning.specs.Tables.{Tables}
 use Rattle.meaning.specs.Records.{Revised, Kept, holds_now}
@@ -8,7 +8,7 @@ use Rattle.linked_program.specs.TableNames.{columned_of}
 use Rattle.linked_program.specs.Checked.{PlainChecked, revised_of}
 use Rattle.input_tables.specs.Edited.{Edited}
 use Rattle.rerun_records.specs.Record.{PlainRecord, doubtless}
-use Rattle.rerun_records.specs.Doubted.{IsInStep, ReadNow}
+use Rattle.rerun_records.specs.Doubted.{ReadNow}
 use Rattle.rerun_records.specs.Named.{AreKept}
 use Rattle.rerun_records.proofs.Members.{both}
 use Rattle.rerun_records.proofs.Lookups.{same_but_doubts, agree_now}
@@ -35,8 +35,3 @@ news_hold program tables (k ∷ ks) h = both (holds_now program tables k) (every
 pub made_read_now : (program : PlainChecked) (tables : Edited) (made : List PlainRecord) → program.tables ≡ columned_of tables.tables → AreNewFor program tables made → ReadNow tables.tables made
 made_read_now program tables made columns n =
     agree_now (revised_of program) program.tables program.kinds tables.tables (sym columns) n.kept made n.stand (news_hold (revised_of program) tables.tables n.kept n.right)
-
--- whether memory was refused or not
-pub stay_in_step : {E : Type 0} (given : Result Unit E) (tables : Tables) (old new : List PlainRecord) → OnOk given (IsInStep tables new) → OnErr given (new ≡ old) → IsInStep tables old → IsInStep tables new
-stay_in_step (Ok u) tables old new step same h = step
-stay_in_step (Err e) tables old new step same h = subst (IsInStep tables) (sym same) h

@@ -16,7 +16,7 @@ use Rattle.linked_program.specs.TableNames.{Columned}
 use Rattle.linked_program.specs.Checked.{PlainChecked, IsChecked, revised_of}
 use Rattle.input_tables.specs.Edited.{Edited}
 use Rattle.rerun_records.specs.Record.{PlainRecord}
-use Rattle.rerun_records.specs.Named.{IsRecord, AreRecords, SameMembers, numbered_entry, CommitsNamed, HaveValues}
+use Rattle.rerun_records.specs.Named.{IsRecord, AreRecords, SameMembers, numbered_entry, CommitsNamed, HasValuesIfAnswers, HaveValues}
 use Rattle.checked_defines.specs.Standings.{KeepsPlaces, KeepsNumbers}
 use Rattle.checked_defines.proofs.Numbers.{keeps_numbers, current_are_there}
 use Rattle.kept_session.specs.Sessions.{NamesThere, AreKeptFor, IsRightNow, AreNewFor}
@@ -142,6 +142,10 @@ settled_values (Err e) kinds old made new values same h k = subst (HaveValues ki
 -- no records are sound for every program
 pub none_kept : (program : PlainChecked) → AreKeptFor program []
 none_kept program = record { sound = record { kept = []; stand = tt; sound = tt }; there = tt }
+
+-- and have values of all kinds
+pub none_valued : (kinds : List Kind) → HaveValues kinds []
+none_valued kinds = All-nil (HasValuesIfAnswers kinds)
 
 -- a run that has made none has made none that don't hold now
 pub none_new : (program : PlainChecked) (tables : Edited) → AreNewFor program tables []

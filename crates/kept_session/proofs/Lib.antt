@@ -1,7 +1,9 @@
+pub mod Changes
 pub mod Doubts
 pub mod Elided
 pub mod Keeping
 pub mod News
+pub mod Procedures
 pub mod Refusals
 pub mod SameBut
 pub mod Values

@@ -3,7 +3,7 @@ use Rattle.std.proofs.Common.{◌≡◌, ℕ, ℤ, List, Result, Err, subst}
 use Rattle.meaning.specs.Tree.{Name}
 use Rattle.meaning.specs.TreeView.{Lined, lines}
 use Rattle.meaning.specs.Records.{Revised}
-use Rattle.meaning.specs.Edits.{Standing, EditRefusal, Put, Delete, Define, after_put, after_delete}
+use Rattle.meaning.specs.Edits.{Standing, EditRefusal, Put, Define, after_put, after_delete}
 use Rattle.linked_program.specs.Checked.{revised_of}
 use Rattle.input_tables.specs.Edited.{beside, row_refusal, IsPutCause}
 use Rattle.input_tables.specs.declared.refusal.RowError.{RowError}

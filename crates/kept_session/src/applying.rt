@@ -1,13 +1,19 @@
 // Edits of a session, one kind after another.
-ghost use Rattle.std.specs.Prelude.{◌≡◌, Ok, map, IfErr, OnOk, OnErr};
+ghost use Rattle.std.specs.Prelude.{◌≡◌, ◌⊎◌, ◌<◌, [], Ok, length, map, IfErr, OnOk, OnErr};
+ghost use Rattle.meaning.specs.Tables.{index_of};
 ghost use Rattle.meaning.specs.Edits.{Put, Delete, Define, after_put, after_delete, after_define};
 ghost use Rattle.checked_defines.specs.Readers.{reads_text, checks_rules};
+ghost use Rattle.input_tables.specs.Edited.{names_of};
 ghost use Rattle.rerun_records.specs.Record.{doubtless};
+ghost use Rattle.record_index.specs.Befores.{HasRoomFor};
+ghost use Rattle.record_index.specs.Indexed.{IsNoted};
 ghost use Rattle.kept_session.specs.Sessions.{standing_of};
 ghost use Rattle.kept_session.specs.Applied.{IsApplyCause};
 
 use crate::refusal::{ApplyError, undefined, unput};
 use crate::session::Session;
+use input_tables::Tables;
+use record_index::indexed::IndexedRecords;
 use session_edits::EditError;
 use std::alloc::Global;
 use view_pool::View;
@@ -30,9 +36,10 @@ impl<V: View> Session<V> {
             ≡ record self.old { tables = self.new.tables; records = self.new.records } }
         ensures records { map doubtless self.new.records ≡ map doubtless self.old.records }
     {
+        note_before(&mut self.records, &self.tables, table, row);
         match self.tables.put(alloc, table, row, values) {
             Ok(number) => {
-                self.records.row_changed(number, row);
+                self.records.row_changed(&self.tables, number, row);
                 Ok(())
             }
             Err(error) => Err(unput(error)),
@@ -50,9 +57,10 @@ impl<V: View> Session<V> {
             ≡ record self.old { tables = self.new.tables; records = self.new.records } }
         ensures records { map doubtless self.new.records ≡ map doubtless self.old.records }
     {
+        note_before(&mut self.records, &self.tables, table, row);
         match self.tables.delete(table, row) {
             Ok(number) => {
-                self.records.row_changed(number, row);
+                self.records.row_changed(&self.tables, number, row);
                 Ok(())
             }
             Err(error) => Err(ApplyError::Refused(EditError::Row(error))),
@@ -71,10 +79,27 @@ impl<V: View> Session<V> {
     {
         match checked_defines::define(alloc, &self.checked, &self.tables, text) {
             Ok(checked) => {
+                // What the types of both programs keep: so the names of the first procedures are as they were.
+                self.checked.revised();
+                checked.revised();
+                self.records.procedures_changed(&checked);
                 self.checked = checked;
                 Ok(())
             }
             Err(error) => Err(undefined(error)),
         }
+    }
+}
+
+// Has the records note a row of the table of that name as it is before an edit, where there is such a table.
+fn note_before(records: &mut IndexedRecords, tables: &Tables, table: &str, row: i64)
+    requires room { (records.old.records ≡ []) ⊎ HasRoomFor tables.now.tables records.old.room }
+    ensures noted { index_of (names_of tables.now.tables) table.now < length tables.now.tables
+        → (records.new.records ≡ [])
+        ⊎ IsNoted tables.now.tables (index_of (names_of tables.now.tables) table.now) row records.new.was }
+    ensures same { records.new ≡ record records.old { was = records.new.was } }
+{
+    if let Some(number) = tables.table(table) {
+        records.row_before(tables, number, row);
     }
 }

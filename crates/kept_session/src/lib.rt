@@ -6,6 +6,7 @@ mod arguments;
 mod blocks;
 mod refusal;
 mod session;
+mod settling;
 
 pub use blocks::Blocks;
 pub use refusal::ApplyError;

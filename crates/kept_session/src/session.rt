@@ -1,11 +1,12 @@
 // A session: a checked program, its tables, its pool of kits, and the records that its runs have left.
-ghost use Rattle.std.specs.Prelude.{◌≡◌, ◌<◌, [], true, false, All, Ok, length, map, IfOk, IfErr, OnOk, OnErr};
+ghost use Rattle.std.specs.Prelude.{◌≡◌, ◌<◌, [], true, false, All, Ok, length, map, option_copied, IfOk, IfErr, OnOk, OnErr};
 ghost use Rattle.linked_program.specs.TableNames.{columned_of};
 ghost use Rattle.rerun_records.specs.Record.{doubtless};
 ghost use Rattle.rerun_records.specs.Doubted.{IsInStep};
 ghost use Rattle.rerun_records.specs.Commits.{put_records};
-ghost use Rattle.rerun_records.specs.Named.{HaveValues};
+ghost use Rattle.rerun_records.specs.Named.{looked_up, HaveValues};
 ghost use Rattle.numbered_runs.specs.Sound.{AreSoundFor};
+ghost use Rattle.record_index.specs.Indexed.{IsStale, record_for};
 ghost use Rattle.session_edits.specs.Said.{said};
 ghost use Rattle.kept_session.specs.Sessions.{AreKeptFor, AreNewFor, begun, stock_of, standing_of};
 ghost use Rattle.kept_session.specs.Applied.{edited, IsApplyCause};
@@ -13,11 +14,12 @@ ghost use Rattle.kept_session.specs.Applied.{edited, IsApplyCause};
 use crate::arguments::arguments_fit;
 use crate::blocks::Blocks;
 use crate::refusal::ApplyError;
-use gathered_records::gathering::{gather, keep};
+use crate::settling::keep;
 use input_tables::Tables;
 use linked_program::checked::Checked;
-use numbered_runs::records::no_records;
 use numbered_runs::refusal::StartError;
+use record_index::indexed::IndexedRecords;
+use rerun_records::key::Key;
 use rerun_records::record::Record;
 use rerun_records::records::Records;
 use session_edits::Edit;
@@ -32,7 +34,7 @@ pub struct Session<V: View = Box<dyn View>> {
     pub(crate) checked: Checked,
     pub(crate) tables: Tables,
     pub(crate) kits: Pool<Kit<V>>,
-    pub(crate) records: Records,
+    pub(crate) records: IndexedRecords,
     pub(crate) inlined: usize,
     // When blocks are made of the records that runs leave.
     blocks: Blocks,
@@ -40,6 +42,7 @@ pub struct Session<V: View = Box<dyn View>> {
 
 impl<V: View> Model for Session<V> {
     ghost use Rattle.kept_session.specs.Sessions.{PlainSession, KeepsSession};
+    ghost use Rattle.record_index.specs.Indexed.{IsIndexed};
     ghost use Rattle.linked_program.specs.contracts.code.Expression as e;
     ghost use Rattle.meaning.specs.contracts.tree.Expr as t;
     ghost use Rattle.std.specs.Coded.{codes};
@@ -48,9 +51,10 @@ impl<V: View> Model for Session<V> {
 
     ghost coded = { Prim.hlevel (codes, e.the_row.coded, t.the_row.coded) };
 
-    ghost view = { λ s. record { checked = s.checked; tables = s.tables; kits = s.kits; records = s.records; inlined = s.inlined } };
+    ghost view = { λ s. record { checked = s.checked; tables = s.tables; kits = s.kits; records = s.records.records; inlined = s.inlined } };
 
-    ghost invariant = { λ s. KeepsSession (record { checked = s.checked; tables = s.tables; kits = s.kits; records = s.records; inlined = s.inlined }) };
+    ghost invariant = { λ s. KeepsSession (record { checked = s.checked; tables = s.tables; kits = s.kits; records = s.records.records; inlined = s.inlined })
+        × IsIndexed s.checked.revisions s.tables.tables s.records };
 }
 
 impl<V: View> Session<V> {
@@ -71,7 +75,7 @@ impl<V: View> Session<V> {
         if kits.is_empty() {
             return Err(StartError::NoKit);
         }
-        let records = no_records(alloc, &checked);
+        let records = IndexedRecords::new(alloc);
         Ok(Session {
             checked,
             tables,
@@ -122,7 +126,26 @@ impl<V: View> Session<V> {
     pub fn records(&self) -> &Records
         ensures records { result.now ≡ self.now.records }
     {
-        &self.records
+        self.records.records()
+    }
+
+    /// How many different readings and revision numbers of a key's record don't hold now; none where there is no such record. It looks
+    /// at no table, and takes no memory. Of a record with 4,294,967,295 readings or more it may tell another number.
+    pub fn stale(&self, key: &Key) -> Option<usize>
+        ensures stale { IsStale self.now.checked.revisions self.now.tables.tables
+            (record_for self.now.checked (map doubtless self.now.records) key.now) result }
+    {
+        // What the program's type keeps: so the procedures' numbers are the places of their names.
+        self.checked.revised();
+        self.records.stale(key)
+    }
+
+    /// The record of a key that is valid now for an instance at that depth, where there is one: so what that came to is known without
+    /// a run. It takes no memory.
+    pub fn lookup(&self, key: &Key, depth: u32) -> Option<&Record>
+        ensures found { option_copied result ≡ looked_up self.now.checked self.now.tables.tables depth self.now.records key.now }
+    {
+        self.records.lookup(key, depth, &self.tables, &self.checked)
     }
 
     /// How many kits are free, and how many there are.
@@ -238,6 +261,6 @@ impl<V: View> Session<V> {
         self.checked.clean();
         self.checked.linked();
         self.checked.revised();
-        gather(&mut self.records, alloc, &self.tables, &self.checked);
+        self.records.gather(alloc, &self.tables, &self.checked);
     }
 }

@@ -2,6 +2,5 @@
 #![tactic(auto)]
 
 pub mod ready;
-pub mod records;
 pub mod refusal;
 pub mod step;

@@ -22,7 +22,7 @@ use view_pool::{Kit, PlainView, Pool};
 
 /// What a run is lent: a program, its tables, and the records that may answer its memo instances.
 #[derive(Clone, Copy)]
-struct Lent<'a> {
+struct Borrowed<'a> {
     program: &'a Checked,
     tables: &'a Tables,
     records: &'a Records,
@@ -31,28 +31,28 @@ struct Lent<'a> {
 /// How many kits are home, where the run through these deques is given up at once; none where it isn't begun.
 fn through<J, D>(
     alloc: Global,
-    lent: Lent<'_>,
+    borrowed: Borrowed<'_>,
     pool: Pool<Kit<PlainView>>,
     deques: NewDeques<J>,
 ) -> Option<usize>
 where
     J: Run + Ledger + Stocked + Send,
     D: Deques,
-    requires same { setting_with lent.program.now lent.tables.now.tables [] lent.records.now ≡ J.setting }
-    requires names { lent.program.now.tables ≡ columned_of lent.tables.now.tables }
-    requires sound { AreSound (revised_of lent.program.now) lent.program.now.tables lent.program.now.kinds lent.records.now }
-    requires values { HaveValues lent.program.now.kinds lent.records.now }
-    requires in_step { IsInStep lent.tables.now.tables lent.records.now }
+    requires same { setting_with borrowed.program.now borrowed.tables.now.tables [] borrowed.records.now ≡ J.setting }
+    requires names { borrowed.program.now.tables ≡ columned_of borrowed.tables.now.tables }
+    requires sound { AreSound (revised_of borrowed.program.now) borrowed.program.now.tables borrowed.program.now.kinds borrowed.records.now }
+    requires values { HaveValues borrowed.program.now.kinds borrowed.records.now }
+    requires in_step { IsInStep borrowed.tables.now.tables borrowed.records.now }
     requires kinds { All (λ k. k ≡ J.setting.kinds) pool.kits }
     requires total { pool.total ≡ J.total }
     requires begun { length pool.kits ≡ J.begun }
     requires named { D.deques ≡ deques }
 {
-    let Lent {
+    let Borrowed {
         program,
         tables,
         records,
-    } = lent;
+    } = borrowed;
     match Floor::<J, D, PlainView>::new(alloc, program, tables, records, pool, deques) {
         Ok((floor, _seats)) => Some(floor.into_pool().free()),
         Err(_) => None,
@@ -63,18 +63,18 @@ where
 fn by_workers<J>(
     rt: &impl Abort,
     alloc: Global,
-    lent: Lent<'_>,
+    borrowed: Borrowed<'_>,
     pool: Pool<Kit<PlainView>>,
     blanks: Blanks,
     workers: usize,
 ) -> Option<usize>
 where
     J: Run + Ledger + Stocked + Send,
-    requires same { setting_with lent.program.now lent.tables.now.tables [] lent.records.now ≡ J.setting }
-    requires names { lent.program.now.tables ≡ columned_of lent.tables.now.tables }
-    requires sound { AreSound (revised_of lent.program.now) lent.program.now.tables lent.program.now.kinds lent.records.now }
-    requires values { HaveValues lent.program.now.kinds lent.records.now }
-    requires in_step { IsInStep lent.tables.now.tables lent.records.now }
+    requires same { setting_with borrowed.program.now borrowed.tables.now.tables [] borrowed.records.now ≡ J.setting }
+    requires names { borrowed.program.now.tables ≡ columned_of borrowed.tables.now.tables }
+    requires sound { AreSound (revised_of borrowed.program.now) borrowed.program.now.tables borrowed.program.now.kinds borrowed.records.now }
+    requires values { HaveValues borrowed.program.now.kinds borrowed.records.now }
+    requires in_step { IsInStep borrowed.tables.now.tables borrowed.records.now }
     requires kinds { All (λ k. k ≡ J.setting.kinds) pool.kits }
     requires total { pool.total ≡ J.total }
     requires begun { length pool.kits ≡ J.begun }
@@ -84,7 +84,7 @@ where
     requires some { 0 < workers }
 {
     let deques = deques_of::<J>(alloc, blanks, workers).expect(rt, "memory");
-    through::<J, Brand>(alloc, lent, pool, deques)
+    through::<J, Brand>(alloc, borrowed, pool, deques)
 }
 
 /// How many kits are home, where a run of a session's program on its tables with its kits is given up at once. The session has no
@@ -99,12 +99,12 @@ fn given_up(
 {
     session.kept();
     let pool = session.take_pool(alloc);
-    let lent = Lent {
+    let borrowed = Borrowed {
         program: session.checked(),
         tables: session.tables(),
         records: session.records(),
     };
-    by_workers::<Brand>(rt, alloc, lent, pool, Blanks::new(workers), workers)
+    by_workers::<Brand>(rt, alloc, borrowed, pool, Blanks::new(workers), workers)
 }
 
 /// The first strand has a kit.

@@ -3,6 +3,7 @@
 mod drawn;
 mod fitting;
 mod model;
+mod numbers;
 mod programs;
 mod random;
 mod runs;

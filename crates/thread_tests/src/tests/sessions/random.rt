@@ -1,8 +1,10 @@
 //! Sessions by any edits and runs, of one to five workers or sixteen with one to six kits or many: the answers are those of the slow serial
-//! program from scratch, and what a run executes and has answered by records is what that one needs by the session's records.
+//! program from scratch, and what a run executes and has answered by records is what that one needs by the session's records. After each edit and
+//! each run the number of each record is what a slow count gives.
 
 use super::drawn::any_steps;
 use super::model::Model;
+use super::numbers::compare_all;
 use super::slow::{Needed, needs_of, scratch_text};
 use reuse_planner::{Blocks, Session, run_session};
 use session_kit::answers::answer_text;
@@ -51,6 +53,7 @@ fn edit<V: View>(
     let drawn = model.edit(rt, alloc, dice);
     let found = played(alloc, session, drawn.script.as_bytes()).expect(rt, "memory");
     assert_eq!(rt; found.lines.as_str(), drawn.answer, "{}", drawn.script);
+    compare_all(rt, alloc, session);
 }
 
 /// What the model comes to, from scratch as by the session's records.
@@ -89,6 +92,7 @@ fn run_beside<V: View>(
     let answer = any_run(rt, alloc, session, dice);
     let text = answer_text(alloc, session.checked(), &answer).expect(rt, "memory");
     assert_eq!(rt; text.as_str(), needed.text.as_str());
+    compare_all(rt, alloc, session);
     seen(rt, &answer, &needed)
 }
 

@@ -50,7 +50,7 @@ pub fn scratch_text(rt: &impl Abort, alloc: Global, model: &Model) -> String {
 }
 
 /// The name of the procedure of that number.
-fn procedure_name(declarations: &[Declaration], number: usize) -> &str {
+pub fn procedure_name(declarations: &[Declaration], number: usize) -> &str {
     let mut left = number;
     for declaration in declarations {
         match declaration {

@@ -16,16 +16,19 @@ gather-requires g c =
       each = c.revised.ensures.each;
       below = c.revised.ensures.below;
     } in
-    record { in_step = c.self.invariant.in_step; monoids = checked_monoids s.checked is; values = c.self.invariant.values }
+    record { indexed = c.self.invariant.1; monoids = checked_monoids s.checked is; values = c.self.invariant.0.values }
 
 pub invariant_of-self : goal.invariant_of-self
 invariant_of-self g c =
     let s = c.self.inside in
-    let keeps = c.self.invariant in
-    record {
-      kept = kept_so s.checked s.records c.gather.new.records c.gather.ensures.same keeps.kept;
-      values = same_values s.checked.kinds s.records c.gather.new.records c.gather.ensures.same keeps.values;
-      columns = keeps.columns;
-      kinds = keeps.kinds;
-      in_step = c.gather.ensures.in_step;
-    }
+    let keeps = c.self.invariant.0 in
+    let now = c.gather.new.self in (
+      record {
+        kept = kept_so s.checked s.records.records now.records c.gather.ensures.same keeps.kept;
+        values = same_values s.checked.kinds s.records.records now.records c.gather.ensures.same keeps.values;
+        columns = keeps.columns;
+        kinds = keeps.kinds;
+        in_step = c.gather.ensures.indexed.in_step;
+      },
+      c.gather.ensures.indexed,
+    )

@@ -7,28 +7,52 @@ use Rattle.rules_theory.proofs.EditedTables.{put_keeps_columns}
 use Rattle.rerun_records.proofs.Puts.{same_values}
 use Rattle.kept_session.specs.Sessions.{PlainSession, standing_of}
 use Rattle.kept_session.specs.Applied.{IsApplyCause, of_put}
+use Rattle.kept_session.proofs.Changes.{noted_indexed, same_as_noted, put_told, told_beside}
 use Rattle.kept_session.proofs.Doubts.{kept_so}
 use Rattle.kept_session.proofs.Refusals.{put_refused}
-use Rattle.kept_session.proofs.SameBut.{put_same_but}
 use Rattle.kept_session.proofs.session.Session.put.Goals as goal
+
+pub row_changed-requires : goal.row_changed-requires
+row_changed-requires g c =
+    let s = c.self.inside in
+    let after = c.put.new.self in
+    let noted = c.note_before.new.records in
+    let t = c.args.table.now in
+    let row = to_z w64 (of_z w64 c.args.row) in
+    let number = c.in-Ok.number in
+    record {
+      beside = told_beside s.checked.revisions s.tables.tables after.tables number row noted (noted_indexed s.checked.revisions s.tables.tables s.records noted c.note_before.ensures.same c.self.invariant.1)
+          (put_told s.tables after t row number c.in-Ok.ensures.number noted c.note_before.ensures.noted c.args.values.now c.in-Ok.ensures.put);
+    }
 
 pub invariant_of-self : goal.invariant_of-self
 invariant_of-self g c =
     let s = c.self.inside in
     let after = c.put.new.self in
-    let marked = c.row_changed.ensures in
-    record {
-      kept = kept_so s.checked s.records c.row_changed.new.self marked.same c.self.invariant.kept;
-      values = same_values s.checked.kinds s.records c.row_changed.new.self marked.same c.self.invariant.values;
-      columns = c.self.invariant.columns ∙ sym (put_keeps_columns (beside nothing [] s.tables) (beside nothing [] after) c.args.table.now (to_z w64 (of_z w64 c.args.row)) c.args.values.now (c.in-Ok.ensures.put nothing []));
-      kinds = c.self.invariant.kinds;
-      in_step = marked.marked s.tables.tables after.tables (put_same_but s.tables after c.args.table.now _ c.args.values.now c.in-Ok.number c.in-Ok.ensures.number c.in-Ok.ensures.put) c.self.invariant.in_step;
-    }
+    let noted = c.note_before.new.records in
+    let now = c.row_changed.new.self in
+    let t = c.args.table.now in
+    let row = to_z w64 (of_z w64 c.args.row) in
+    let number = c.in-Ok.number in
+    let keeps = c.self.invariant.0 in
+    let same = same_as_noted s.records noted now c.note_before.ensures.same c.row_changed.ensures.same in
+    let told = put_told s.tables after t row number c.in-Ok.ensures.number noted c.note_before.ensures.noted c.args.values.now c.in-Ok.ensures.put in
+    let indexed = c.row_changed.ensures.indexed s.checked.revisions s.tables.tables told.noted told.same_but told.columns
+    (noted_indexed s.checked.revisions s.tables.tables s.records noted c.note_before.ensures.same c.self.invariant.1) in (
+      record {
+        kept = kept_so s.checked s.records.records now.records same keeps.kept;
+        values = same_values s.checked.kinds s.records.records now.records same keeps.values;
+        columns = keeps.columns ∙ sym (put_keeps_columns (beside nothing [] s.tables) (beside nothing [] after) t row c.args.values.now (c.in-Ok.ensures.put nothing []));
+        kinds = keeps.kinds;
+        in_step = indexed.in_step;
+      },
+      indexed,
+    )
 
 pub returns-in-Err-clause-refused : goal.returns-in-Err-clause-refused
 returns-in-Err-clause-refused g c =
     let t = c.args.table.now in
-    let s : PlainSession = record { checked = c.self.inside.checked; tables = c.self.inside.tables; kits = c.self.inside.kits; records = c.self.inside.records; inlined = c.self.inside.inlined } in
+    let s : PlainSession = record { checked = c.self.inside.checked; tables = c.self.inside.tables; kits = c.self.inside.kits; records = c.self.inside.records.records; inlined = c.self.inside.inlined } in
     let row = c.args.row in
     let vs = c.args.values.now in
     subst (IsApplyCause (Put t row vs) (after_put (standing_of c.args.self.now) t row vs)) (sym c.unput.ensures)

@@ -3,7 +3,7 @@ use Rattle.positions.specs.Setting.{setting_with}
 use Rattle.thread_tests.proofs.tests.floors.given_up.Given as goal
 
 abbrev pub ghosts-by_workers-J-Run : goal.ghosts-by_workers-J-Run
-ghosts-by_workers-J-Run g a = record { setting = setting_with a.lent.program.now a.lent.tables.now.tables [] a.lent.records.now }
+ghosts-by_workers-J-Run g a = record { setting = setting_with a.borrowed.program.now a.borrowed.tables.now.tables [] a.borrowed.records.now }
 
 abbrev pub ghosts-by_workers-J-Ledger : goal.ghosts-by_workers-J-Ledger
 ghosts-by_workers-J-Ledger g a = record { name = a.blanks.leavers.name; parts = a.blanks.leavers.parts }
