@@ -32,6 +32,9 @@ use rerun_records::records::Records;
 use std::alloc::{AllocError, Global};
 use std::marker::Model;
 
+/// Room for one more number is made for so many.
+const RECORDS_A_SPARE: usize = 64;
+
 /// Records, and beside each of them the number of its different readings that don't hold now, with what was told of the procedures.
 /// They are brought up to date with each edit, so that to ask takes no look at the tables.
 #[derive(Drop)]
@@ -149,7 +152,7 @@ impl IndexedRecords {
         self.records.single();
         let alloc = *made.allocator();
         let places = places_of(alloc, &self.records, &made)?;
-        self.numbers.reserve(made.len())?;
+        self.numbers.reserve(with_spare(made.len()))?;
         let told = told_for(alloc, &self.told, program)?;
         let before = before_for(alloc, &self.before, tables)?;
         self.records.commit(made, tables, program)?;
@@ -281,6 +284,13 @@ impl IndexedRecords {
             self.before.won(),
         );
     }
+}
+
+// Room for so many records, and for those of some runs behind: else the first edit after a large run would move all numbers.
+fn with_spare(records: usize) -> usize
+    ensures room { records ≤ result }
+{
+    records.saturating_add(records / RECORDS_A_SPARE)
 }
 
 // Has the records at these places numbers of their own anew, and so many records in all: of none of those something is stale.

@@ -21,7 +21,9 @@ number-requires-clause-room c =
     let count : c.len-2.result ≡ length c.commit.new.self = c.len-2.ensures.count in
     let more : c.len.result ≡ length c.args.made.items = search rules in
     let held : vec_len c.reserve.new.self ≡ length c.self.inside.numbers.items = search rules in
-    let room : vec_len c.reserve.new.self + c.len.result ≤ vec_capacity c.reserve.new.self = c.in_ok-reserve.ensures.ok in
+    let wider : c.len.result ≤ c.with_spare.result = c.with_spare.ensures.room in
+    let reserved : vec_len c.reserve.new.self + c.with_spare.result ≤ vec_capacity c.reserve.new.self = c.in_ok-reserve.ensures.ok in
+    let room : vec_len c.reserve.new.self + c.len.result ≤ vec_capacity c.reserve.new.self = omega (arith, wider, reserved) in
     omega (arith, few, many, count, more, held, room)
 
 pub grow-requires : goal.grow-requires
