@@ -16,7 +16,7 @@ use crate::formatting::format_file;
 use crate::sorts::Sort;
 use command_line::line::asked_by;
 use command_line::options::{Asked, Options};
-use command_line::words::{held_words, as_strs};
+use command_line::words::{as_strs, held_words};
 use kept_session::{Blocks, Session};
 use monoid_laws::Kind;
 use program_endings::failing::{failed, failed_file, no_memory};

@@ -13,7 +13,7 @@ use crate::causes::push_holder;
 use crate::failed::{push_failed, push_failed_program};
 use command_line::line::asked_by;
 use command_line::options::{Asked, OptionsError};
-use command_line::words::{held_words, as_strs};
+use command_line::words::{as_strs, held_words};
 use explanations::programs::{push_bad_program, push_broken_line};
 use explanations::tables::{push_bad_table, push_bad_toml};
 use explanations::words::push_mistake;

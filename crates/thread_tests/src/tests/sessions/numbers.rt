@@ -35,11 +35,11 @@ fn holds(tables: &Tables, note: &Note) -> bool {
 
 /// How many different ones of these the tables don't hold.
 fn lapsed(tables: &Tables, notes: &[Note]) -> usize {
-    let mut count = 0;
+    let mut count: usize = 0;
     for place in 0..notes.len() {
         let note = notes[place];
         if !holds(tables, &note) && !notes[place + 1..].contains(&note) {
-            count += 1;
+            count = count.saturating_add(1);
         }
     }
     count
@@ -47,10 +47,10 @@ fn lapsed(tables: &Tables, notes: &[Note]) -> usize {
 
 /// How many procedures have another revision number; no record names one twice.
 fn outdated(program: &Checked, entered: &[(usize, u64)]) -> usize {
-    let mut count = 0;
+    let mut count: usize = 0;
     for entry in entered {
         if program.revision_at(entry.0) != Some(entry.1) {
-            count += 1;
+            count = count.saturating_add(1);
         }
     }
     count
@@ -59,7 +59,8 @@ fn outdated(program: &Checked, entered: &[(usize, u64)]) -> usize {
 /// Compares the number of a record with the slow count.
 fn compare<V: View>(rt: &impl Abort, alloc: Global, session: &Session<V>, record: &Record) {
     let notes = record.reads().notes(alloc).expect(rt, "memory");
-    let wanted = lapsed(session.tables(), &notes) + outdated(session.checked(), record.entered());
+    let revisions = outdated(session.checked(), record.entered());
+    let wanted = lapsed(session.tables(), &notes).saturating_add(revisions);
     let name = procedure_name(
         &session.checked().program().declarations,
         record.procedure(),
@@ -115,11 +116,24 @@ fn lines_by_hand<V: View>(rt: &impl Abort, alloc: Global, session: &mut Session<
     ] {
         play(rt, alloc, session, edit);
         assert_eq!(rt; stale(rt, alloc, session, "line", &[1]), Some(0), "{edit}");
-        assert_eq!(rt; stale(rt, alloc, session, "line", &[2]), Some(number), "{edit}");
-        assert_eq!(rt; value(rt, alloc, session, 2).is_some(), number == 0, "{edit}");
+        assert_eq!(rt;
+            stale(rt, alloc, session, "line", &[2]),
+            Some(number),
+            "{edit}"
+        );
+        assert_eq!(rt;
+            value(rt, alloc, session, 2).is_some(),
+            number == 0,
+            "{edit}"
+        );
     }
     assert_eq!(rt; value(rt, alloc, session, 2), Some(21));
-    play(rt, alloc, session, "define\nmemo proc line(r) { return r; }\nend\n");
+    play(
+        rt,
+        alloc,
+        session,
+        "define\nmemo proc line(r) { return r; }\nend\n",
+    );
     for row in 1..4 {
         assert_eq!(rt; stale(rt, alloc, session, "line", &[row]), Some(1));
     }
@@ -137,7 +151,11 @@ fn nested_by_hand<V: View>(
     play(rt, alloc, session, "run\n");
     play(rt, alloc, session, edit);
     assert_eq!(rt; stale(rt, alloc, session, "all", &[]), Some(all), "{edit}");
-    assert_eq!(rt; stale(rt, alloc, session, "line", &[2]), Some(line), "{edit}");
+    assert_eq!(rt;
+        stale(rt, alloc, session, "line", &[2]),
+        Some(line),
+        "{edit}"
+    );
 }
 
 #[test]
