@@ -123,3 +123,7 @@ class House(unittest.TestCase):
             folder = named or folder
             there = [crate for crate in crates if os.path.isfile(f"{TOP}/crates/{crate}/{folder}/{name}")]
             self.assertTrue(there, f"{crates}: {folder}/{name}")
+
+
+if __name__ == "__main__":
+    unittest.main()

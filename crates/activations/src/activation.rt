@@ -21,7 +21,7 @@ use positions::work::{Loop, Position, Share, Work};
 use std::alloc::{AllocError, Global};
 use std::marker::Model;
 
-/// The first place of an instance's code.
+/// The first position of an instance's code.
 pub const FIRST: Position = Position { block: 0, index: 0 };
 
 /// Of the instance that one entered last whether that was spawned, and the slot for its value; and what the one has left.
@@ -255,24 +255,24 @@ impl Activation {
         self.work = work;
     }
 
-    /// Stands at that place.
+    /// Stands at that position.
     #[inline(always)]
-    pub fn stand(&mut self, place: Position)
-        ensures stands { self.new ≡ at (Work.Block place) self.old }
+    pub fn stand(&mut self, position: Position)
+        ensures stands { self.new ≡ at (Work.Block position) self.old }
     {
-        put_place(&mut self.work, place);
+        put_position(&mut self.work, position);
     }
 
-    /// Has called one more instance, for whose value that slot is, and stands at that place.
+    /// Has called one more instance, for whose value that slot is, and stands at that position.
     #[inline(always)]
-    pub fn wait_at(&mut self, into: Option<usize>, place: Position)
+    pub fn wait_at(&mut self, into: Option<usize>, position: Position)
         requires room { self.old.children + 1 < 2 ^ 64 }
-        ensures waiting { self.new ≡ waiting false into (Work.Block place) self.old }
+        ensures waiting { self.new ≡ waiting false into (Work.Block position) self.old }
     {
         self.children += 1;
         self.spawned = false;
         self.into = into;
-        put_place(&mut self.work, place);
+        put_position(&mut self.work, position);
     }
 
     /// Has called the next iteration of its loop, and has those behind it left.
@@ -326,15 +326,15 @@ impl Activation {
         self.work = before.work;
     }
 
-    /// Goes into a block of the statement at that place; refused for want of memory alone.
+    /// Goes into a block of the statement at that position; refused for want of memory alone.
     #[inline(always)]
-    pub fn go_inside(&mut self, block: usize, place: Position) -> Result<(), AllocError>
-        requires room { place.index + 1 < 2 ^ 64 }
-        ensures inside { OnOk result (self.new ≡ inside block place self.old) }
+    pub fn go_inside(&mut self, block: usize, position: Position) -> Result<(), AllocError>
+        requires room { position.index + 1 < 2 ^ 64 }
+        ensures inside { OnOk result (self.new ≡ inside block position self.old) }
         ensures unchanged { OnErr result (self.new ≡ self.old) }
     {
-        self.outer.push(next_of(place))?;
-        put_place(&mut self.work, Position { block, index: 0 });
+        self.outer.push(next_of(position))?;
+        put_position(&mut self.work, Position { block, index: 0 });
         Ok(())
     }
 
@@ -345,29 +345,29 @@ impl Activation {
     {
         match self.outer.pop() {
             None => self.work = Work::Over,
-            Some(place) => put_place(&mut self.work, place),
+            Some(position) => put_position(&mut self.work, position),
         }
     }
 
     /// Gives that value to the slots that wait for the child of that number; a loop's slots wait for none.
-    pub fn settle(&mut self, child: usize, value: i64)
+    pub fn give_child(&mut self, child: usize, value: i64)
         ensures settled { self.new ≡ settled child value self.old }
     {
         match self.work {
-            Work::Block(_) | Work::Over => settle_all(&mut self.slots, child, value),
+            Work::Block(_) | Work::Over => give_all(&mut self.slots, child, value),
             _ => {}
         }
     }
 }
 
-/// Puts a place in place of what is left: where that is a place already, nothing else is written.
+/// Puts a position in place of what is left: where that is a position already, nothing else is written.
 #[inline(always)]
-fn put_place(work: &mut Work, place: Position)
-    ensures place { work.new ≡ Work.Block place }
+fn put_position(work: &mut Work, position: Position)
+    ensures position { work.new ≡ Work.Block position }
 {
     match work {
-        Work::Block(held) => *held = place,
-        other => *other = Work::Block(place),
+        Work::Block(held) => *held = position,
+        other => *other = Work::Block(position),
     }
 }
 
@@ -385,19 +385,19 @@ fn put_turns(work: &mut Work, site: Loop, share: Share)
     }
 }
 
-/// The place behind an instruction.
-pub fn next_of(place: Position) -> Position
-    requires room { place.index + 1 < 2 ^ 64 }
-    ensures next { result ≡ next_of place }
+/// The position behind an instruction.
+pub fn next_of(position: Position) -> Position
+    requires room { position.index + 1 < 2 ^ 64 }
+    ensures next { result ≡ next_of position }
 {
     Position {
-        block: place.block,
-        index: place.index + 1,
+        block: position.block,
+        index: position.index + 1,
     }
 }
 
 /// Gives that value to the slots that wait for the child of that number.
-fn settle_all(slots: &mut Vec<Slot>, child: usize, value: i64)
+fn give_all(slots: &mut Vec<Slot>, child: usize, value: i64)
     ensures settled { slots.new.items ≡ map (settled_slot child value) slots.old.items }
 {
     for i in 0..slots.len() {

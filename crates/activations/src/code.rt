@@ -1,4 +1,4 @@
-// What stands in the code at a place.
+// What stands in the code at a position.
 ghost use Rattle.std.specs.Prelude.{◌≡◌, ◌+◌, ◌<◌, ◌^◌, ℕ, option_copied, slice_get, OnSome};
 ghost use Rattle.positions.specs.Code.{instruction_inside, loop_at};
 ghost use Rattle.activations.specs.Given.{loop_of};
@@ -7,21 +7,21 @@ use linked_program::checked::Checked;
 use linked_program::code::{Expression, Instruction, Operation};
 use positions::work::{Loop, Position};
 
-/// The instruction at a place that has so many blocks around it.
+/// The instruction at a position that has so many blocks around it.
 pub fn instruction(
     program: &Checked,
     procedure: usize,
     depth: usize,
-    place: Position,
+    position: Position,
 ) -> Option<&Instruction>
-    ensures found { option_copied result ≡ instruction_inside program.now.codes procedure depth place }
-    ensures small { OnSome result (place.index + 1 < 2 ^ 64) }
+    ensures found { option_copied result ≡ instruction_inside program.now.codes procedure depth position }
+    ensures small { OnSome result (position.index + 1 < 2 ^ 64) }
 {
     match program.codes().get(procedure) {
         None => None,
         Some(code) => {
             if depth < code.blocks.len() {
-                program.instruction(procedure, place.block, place.index)
+                program.instruction(procedure, position.block, position.index)
             } else {
                 None
             }

@@ -5,7 +5,7 @@ use Rattle.std.specs.Ordering.{int_eq}
 use Rattle.std.specs.Cmp.Lexicographic.{pointwise}
 use Rattle.std.proofs.lemmas.Bool.Decides.{Decides-int_eq}
 use Rattle.std.proofs.lemmas.Slice.Eq.{slice_eq-Decides}
-use Rattle.rerun_records.specs.Record.{PlainRecord, is_of, doubtless}
+use Rattle.rerun_records.specs.Record.{PlainRecord, is_of, as_made}
 use Rattle.rerun_records.specs.Validity.{only_valid, record_valid}
 use Rattle.positions.specs.Setting.{Setting}
 use Rattle.positions.specs.Advance.{record_for}
@@ -27,9 +27,9 @@ same_arguments : (f : ℕ) (vs : List ℤ) (q : PlainRecord) → is_of f vs q �
 same_arguments f vs q e = sym ((slice_eq-Decides Decides-int_eq vs q.arguments (pointwise int_eq vs q.arguments) refl).0 (right_too (nat_eq f q.procedure) (pointwise int_eq vs q.arguments) e))
 
 module _ (setting : Setting) where
-  valid_has : (P : PlainRecord → Type 0) (depth : ℕ) (o : Option PlainRecord) (x : PlainRecord) → ((r : PlainRecord) → o ≡ Some r → P (doubtless r)) → only_valid setting.program.revisions setting.tables depth o ≡ Some x → P x
+  valid_has : (P : PlainRecord → Type 0) (depth : ℕ) (o : Option PlainRecord) (x : PlainRecord) → ((r : PlainRecord) → o ≡ Some r → P (as_made r)) → only_valid setting.program.revisions setting.tables depth o ≡ Some x → P x
   valid_has P depth None x h e = absurd cc
-  valid_has P depth (Some r) x h e = by_cond P (record_valid setting.program.revisions setting.tables depth r) (doubtless r) x None (λ t. h r refl) (λ f. absurd cc) e
+  valid_has P depth (Some r) x h e = by_cond P (record_valid setting.program.revisions setting.tables depth r) (as_made r) x None (λ t. h r refl) (λ f. absurd cc) e
 
   -- it has the arguments that were asked for
   pub found_arguments : (depth procedure : ℕ) (vs : List ℤ) (r : PlainRecord) → record_for setting depth procedure vs ≡ Some r → r.arguments ≡ vs

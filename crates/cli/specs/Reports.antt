@@ -63,7 +63,7 @@ IsBegun program tables_text script old new =
     ⊎ ((checked : PlainChecked) × (tables : Tables) × IsPrepared program tables_text checked tables
     × HasBeginning old new (first_answers checked tables script))
 
--- the same over the files that the options name, where their bytes and the script are known
+-- nothing was written, or a beginning of the answers, over the files that the options name, where their bytes and the script are known
 abbrev pub IsBegunOver : (List ℕ → Option (List ℕ)) → Options → Option (List ℕ) → Option (List ℕ) → Option (List ℕ) → Type 0
 IsBegunOver held options known old new =
     (program tables script : List ℕ) → held options.program.now ≡ Some program → held options.tables.now ≡ Some tables

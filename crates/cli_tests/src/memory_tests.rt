@@ -8,7 +8,7 @@ use command_line::line::options;
 use command_line::options::{Options, OptionsError, Views};
 use monoid_laws::Kind;
 use prepared_program::prepare::PrepareError;
-use program_endings::program_error::status;
+use program_endings::program_error::{ProgramError, status};
 use program_endings::streams::Failures;
 use program_reasons::script::Explainer;
 use std::alloc::{AllocError, Global};
@@ -64,6 +64,16 @@ struct Pen<'a> {
     page: &'a Cell<Page>,
     room: usize,
     flushes: bool,
+}
+
+impl<'a> Pen<'a> {
+    fn on(page: &'a Cell<Page>) -> Pen<'a> {
+        Pen {
+            page,
+            room: 128,
+            flushes: true,
+        }
+    }
 }
 
 impl<'a> Write for Pen<'a> {
@@ -140,13 +150,8 @@ fn reported(
         alloc,
         options: ASKED,
     };
-    let counts_pen = Pen {
-        page: &counts,
-        room: 128,
-        flushes: true,
-    };
     let told = Told {
-        errors: counts_pen,
+        errors: Pen::on(&counts),
         explain: Explainer::new(alloc, io::sink()),
     };
     let ended = report_on(
@@ -159,23 +164,23 @@ fn reported(
             flushes,
         },
         &mut reader,
-        &mut Pen {
-            page: &answers,
-            room: 128,
-            flushes: true,
-        },
+        &mut Pen::on(&answers),
         told,
         &mut Failures::none(),
     );
-    let status = match ended {
-        Ok(()) => 0,
-        Err(error) => status(&error),
-    };
     Report {
         answers: answers.get(),
         trace: trace.get(),
         counts: counts.get(),
-        status,
+        status: status_of(&ended),
+    }
+}
+
+// The status of a report that has ended so.
+fn status_of(ended: &Result<(), ProgramError>) -> u8 {
+    match ended {
+        Ok(()) => 0,
+        Err(error) => status(error),
     }
 }
 

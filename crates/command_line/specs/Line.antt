@@ -32,7 +32,7 @@ with_version app = record app { top = record app.top { has_version = true } }
 abbrev pub program_form : App
 program_form = with_version (new_app (codes "cilkreport"))
 
--- the same without its flags
+-- the form of a line without its flags
 abbrev pub values_form : App
 values_form =
     with_rule (with_rule (with_rule (with_rule (with_rule (with_rule program_form (path_rule (codes "program"))) (path_rule (codes "tables")))

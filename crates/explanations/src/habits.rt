@@ -178,7 +178,7 @@ pub fn binds_itself(alloc: Global, line: &[u8]) -> Result<bool, AllocError> {
     Ok(binds_itself_in(&tokens))
 }
 
-// The same of a line's tokens.
+// Whether a line of these tokens binds a name that its own expression uses.
 fn binds_itself_in(tokens: &[Placed]) -> bool {
     let mut bound = "";
     let mut is_behind = false;

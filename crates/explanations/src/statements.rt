@@ -68,8 +68,7 @@ pub fn push_statement(
         }
         Action::Enter(x, way, callee, arguments) => {
             push_target(text, procedure, *x)?;
-            text.push_str(word_of(*way))?;
-            push_entry(text, procedure, callee, arguments)
+            push_call(text, procedure, *way, callee, arguments)
         }
         Action::Read(x, reducer) => {
             push_target(text, procedure, Some(*x))?;
@@ -77,11 +76,7 @@ pub fn push_statement(
         }
         Action::Sync => text.push_str("sync;"),
         Action::Update(reducer, numbers) => push_update(text, procedure, reducer, numbers),
-        Action::If(condition, _, _) => {
-            text.push_str("if ")?;
-            push_expression(text, procedure, condition)?;
-            text.push_str(" { .. }")
-        }
+        Action::If(condition, _, _) => push_test(text, procedure, condition),
         Action::Loop(x, low, high, grain, callee, arguments) => {
             push_loop(text, variable(procedure, *x))?;
             push_range(text, procedure, low, high, *grain)?;
@@ -107,6 +102,25 @@ fn push_target(
             text.push_str(" = ")
         }
     }
+}
+
+// Puts the call or the spawn of a procedure, and the end of the statement.
+fn push_call(
+    text: &mut String,
+    procedure: &Procedure,
+    way: Way,
+    callee: &str,
+    arguments: &[Expr],
+) -> Result<(), AllocError> {
+    text.push_str(word_of(way))?;
+    push_entry(text, procedure, callee, arguments)
+}
+
+// Puts an `if` without its blocks.
+fn push_test(text: &mut String, procedure: &Procedure, condition: &Expr) -> Result<(), AllocError> {
+    text.push_str("if ")?;
+    push_expression(text, procedure, condition)?;
+    text.push_str(" { .. }")
 }
 
 fn word_of(way: Way) -> &'static str {

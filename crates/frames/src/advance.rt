@@ -4,12 +4,12 @@ ghost use Rattle.monoid_laws.specs.declared.Kind.{Kind};
 ghost use Rattle.monoid_laws.specs.Kinds.{IsMonoid};
 ghost use Rattle.meaning.specs.Records.{Kept};
 ghost use Rattle.rerun_records.specs.Named.{AreKept, HaveValues};
-ghost use Rattle.rerun_records.specs.Doubted.{IsInStep};
+ghost use Rattle.rerun_records.specs.InStep.{IsInStep};
 ghost use Rattle.positions.specs.Setting.{HasItsTables, setting_with};
 ghost use Rattle.positions.specs.Simulation.{IsPause, IsStepTaken};
 ghost use Rattle.positions.specs.Advance.{advanced, pause_of};
 ghost use Rattle.activations.specs.Given.{setting_over};
-ghost use Rattle.small_steps.specs.Steps.{GivesNone, HoldsBy, IsStepOf, IsValued};
+ghost use Rattle.small_steps.specs.Steps.{HoldsFor, IsStepOf, IsValued};
 
 use crate::strand::Strand;
 use activations::setting::Setting;
@@ -40,9 +40,9 @@ impl<V: View> Strand<V> {
         requires given_kinds { (k : List Kind) → K.gives k kits.old → k ≡ program.now.kinds }
         requires fits { K.fits program.now.kinds kits.old }
         ensures pause { IfOk result (λ paused. paused ≡ pause_of program.now.codes self.old) }
-        ensures advanced { OnOk result (HoldsBy (K.lacks kits.old) (GivesNone K.gives kits.old)
+        ensures advanced { OnOk result (HoldsFor K.KitSource kits.old
             (λ kit. self.new ≡ advanced (setting_over program.now tables.now records.now) kit self.old)) }
-        ensures small_step { OnOk result (HoldsBy (K.lacks kits.old) (GivesNone K.gives kits.old)
+        ensures small_step { OnOk result (HoldsFor K.KitSource kits.old
             (λ kit. (kept : List Kept) → AreKept program.now kept records.now
             → HasItsTables (setting_with program.now tables.now.tables kept records.now)
             → IsStepOf (setting_with program.now tables.now.tables kept records.now) kit self.old self.new)) }
@@ -59,6 +59,7 @@ impl<V: View> Strand<V> {
         ensures given_kinds { (k : List Kind) → K.gives k kits.new → k ≡ program.now.kinds }
         ensures refused { OnErr result (IsValued self.old self.new) }
     {
+        // What the program's type keeps: so what its codes do is what its tree says.
         program.linked();
         program.revised();
         let paused = self.machine.pause(program);

@@ -1,7 +1,7 @@
 // Many small steps in one go.
 ghost use Rattle.std.specs.Prelude.{◌≡◌, List};
 ghost use Rattle.meaning.specs.Records.{Kept};
-ghost use Rattle.rerun_records.specs.Doubted.{IsInStep};
+ghost use Rattle.rerun_records.specs.InStep.{IsInStep};
 ghost use Rattle.rerun_records.specs.Named.{AreKept};
 ghost use Rattle.positions.specs.Setting.{HasItsTables, setting_with};
 ghost use Rattle.activations.specs.Given.{setting_over};
@@ -37,6 +37,7 @@ impl<V: View> Strand<V> {
         ensures lower { self.new.lower ≡ self.old.lower }
         ensures kinds { self.new.layer.kinds ≡ self.old.layer.kinds }
     {
+        // What the program's type keeps: so the way by its codes is one by its tree.
         program.linked();
         program.revised();
         let setting = Setting {

@@ -2,7 +2,7 @@
 ghost use Rattle.std.specs.Prelude.{◌≡◌, List, All, OnOk};
 ghost use Rattle.monoid_laws.specs.Kinds.{IsMonoid};
 ghost use Rattle.meaning.specs.Records.{Kept};
-ghost use Rattle.rerun_records.specs.Doubted.{IsInStep};
+ghost use Rattle.rerun_records.specs.InStep.{IsInStep};
 ghost use Rattle.rerun_records.specs.Named.{AreKept, HaveValues};
 ghost use Rattle.positions.specs.Setting.{HasItsTables, setting_with};
 ghost use Rattle.activations.specs.Given.{setting_over};
@@ -40,6 +40,7 @@ impl<V: View> Strand<V> {
         ensures lower { self.new.lower ≡ self.old.lower }
         ensures kinds { self.new.layer.kinds ≡ self.old.layer.kinds }
     {
+        // What the program's type keeps: so the way by its codes is one by its tree.
         program.linked();
         program.revised();
         let setting = Setting {

@@ -26,11 +26,11 @@ impl<V: View> Strand<V> {
         ensures alone { self.new ≡ lowest_alone self.old }
         ensures definition { (setting : Setting) → IsAlone setting self.old self.new }
         ensures kinds { self.new.layer.kinds ≡ self.old.layer.kinds }
-        ensures home { K.fits self.old.layer.kinds kits.new }
+        ensures fits_home { K.fits self.old.layer.kinds kits.new }
         ensures fitting { (k : List Kind) → K.fits k kits.old → K.fits k kits.new }
-        ensures kept { (k : List Kind) → K.gives k kits.new
+        ensures gives_known { (k : List Kind) → K.gives k kits.new
             → K.gives k kits.old ⊎ self.old.layer.kinds ≡ k }
-        ensures given { length self.old.lower + K.free kits.old ≤ K.total kits.old
+        ensures home { length self.old.lower + K.free kits.old ≤ K.total kits.old
             → K.free kits.new ≡ length self.old.lower + K.free kits.old }
         ensures total { K.total kits.new ≡ K.total kits.old }
     {
@@ -46,9 +46,9 @@ impl<V: View> Strand<V> {
         ensures definition { (setting : Setting) → IsAnswerOf setting self result.0 }
         ensures records { result.1.items ≡ self.tally.made }
         ensures fitting { (k : List Kind) → K.fits k kits.old → K.fits k kits.new }
-        ensures kept { (k : List Kind) → K.gives k kits.new
+        ensures gives_known { (k : List Kind) → K.gives k kits.new
             → K.gives k kits.old ⊎ self.layer.kinds ≡ k }
-        ensures given { suc (length self.lower) + K.free kits.old ≤ K.total kits.old
+        ensures home { suc (length self.lower) + K.free kits.old ≤ K.total kits.old
             → K.free kits.new ≡ suc (length self.lower) + K.free kits.old }
         ensures total { K.total kits.new ≡ K.total kits.old }
     {
@@ -76,8 +76,8 @@ fn end<V: View, K: KitSource<Kit<V>>>(
         machine.tally result.0 }
     ensures records { result.1.items ≡ machine.tally.made }
     ensures fitting { (k : List Kind) → K.fits k kits.old → K.fits k kits.new }
-    ensures kept { (k : List Kind) → K.gives k kits.new → K.gives k kits.old ⊎ machine.layer.kinds ≡ k }
-    ensures given { suc (length machine.lower) + K.free kits.old ≤ K.total kits.old → K.free kits.new ≡ suc (length machine.lower) + K.free kits.old }
+    ensures gives_known { (k : List Kind) → K.gives k kits.new → K.gives k kits.old ⊎ machine.layer.kinds ≡ k }
+    ensures home { suc (length machine.lower) + K.free kits.old ≤ K.total kits.old → K.free kits.new ≡ suc (length machine.lower) + K.free kits.old }
     ensures total { K.total kits.new ≡ K.total kits.old }
 {
     close_upper(&mut machine, kits);

@@ -33,6 +33,7 @@ impl<V: View> Strand<V> {
             IsFirst (setting_with program.now tables kept records) strand) }
         ensures handed_back { IfErr result (λ e. e.1 ≡ kit) }
     {
+        // What the program's type keeps: so the strand is the one that its tree begins with.
         program.linked();
         program.beginning();
         match moves::first(alloc, program, kit) {
@@ -57,6 +58,7 @@ impl<V: View> Strand<V> {
         ensures task_back { IfErr result (λ e. e.1 ≡ task) }
         ensures kit_back { IfErr result (λ e. e.2 ≡ kit) }
     {
+        // What the program's type keeps: so the strand is the one that a theft gives by its tree.
         program.linked();
         match moves::stolen(alloc, program, task, kit) {
             Ok(machine) => Ok(Strand { machine }),

@@ -8,19 +8,16 @@ use Rattle.monoid_laws.specs.declared.Kind.{Kind}
 use Rattle.monoid_laws.specs.Kinds.{IsMonoid}
 use Rattle.meaning.specs.Elision.{depth_limit}
 use Rattle.meaning.specs.Every.{every}
-use Rattle.meaning.specs.Commits.{committed}
-use Rattle.linked_program.specs.Checked.{PlainChecked, revised_of}
-use Rattle.rerun_records.specs.Record.{PlainRecord, doubtless}
-use Rattle.rerun_records.specs.Named.{HasValuesIfAnswers, HaveValues, CommitsNamed}
+use Rattle.rerun_records.specs.Record.{PlainRecord, as_made}
+use Rattle.rerun_records.specs.Named.{HasValuesIfAnswers, HaveValues}
 use Rattle.rerun_records.specs.Sums.{IsSumOf}
 use Rattle.gathered_records.specs.Summing.{PlainSum, at_places, got_before, added, summed, HasSummed}
-use Rattle.rerun_records.specs.Blocks.{PlainBlock, AreLeaves, BlockFits, is_trusted_at}
+use Rattle.rerun_records.specs.Blocks.{PlainBlock, AreLeaves, BlockFits, is_fresh_at}
 use Rattle.gathered_records.specs.Gathering.{PlainRow, moved_to, IsThere, AreInRow, IsPart}
-use Rattle.rerun_records.proofs.Members.{both, every_weaker}
+use Rattle.rerun_records.proofs.Members.{both}
 use Rattle.rerun_records.proofs.NodeNotes.{every_append}
 use Rattle.rerun_records.proofs.Puts.{same_values}
 use Rattle.gathered_records.proofs.Summed.{one_part_more, one_record_more, sum_is}
-use Rattle.rerun_records.proofs.Lookups.{same_but_doubts}
 
 -- ---- records at places
 
@@ -40,12 +37,12 @@ got_has P [] p r a e = absurd cc
 got_has P (x ∷ xs) zero r a e = subst P (let s : x ≡ r = cc (e) in s) (All-head P x xs a)
 got_has P (x ∷ xs) (suc p) r a e = got_has P xs p r (All-tail P x xs a) e
 
-doubtless_twice : (rs : List PlainRecord) → map doubtless (map doubtless rs) ≡ map doubtless rs
-doubtless_twice [] = refl
-doubtless_twice (r ∷ rs) = ap (λ xs. doubtless r ∷ xs) (doubtless_twice rs)
+as_made_twice : (rs : List PlainRecord) → map as_made (map as_made rs) ≡ map as_made rs
+as_made_twice [] = refl
+as_made_twice (r ∷ rs) = ap (λ xs. as_made r ∷ xs) (as_made_twice rs)
 
-pub values_doubtless : (kinds : List Kind) (rs : List PlainRecord) → HaveValues kinds rs → HaveValues kinds (map doubtless rs)
-values_doubtless kinds rs h = same_values kinds rs (map doubtless rs) (doubtless_twice rs) h
+pub values_as_made : (kinds : List Kind) (rs : List PlainRecord) → HaveValues kinds rs → HaveValues kinds (map as_made rs)
+values_as_made kinds rs h = same_values kinds rs (map as_made rs) (as_made_twice rs) h
 
 -- ---- leaves
 
@@ -117,7 +114,7 @@ part_are rs row v f args u (q ∷ qs) (x ∷ xs) place it w g b t p a l =
 -- ---- records in a row
 
 pub none_in_row : (rs : List PlainRecord) (row : PlainRow) (first : ℤ) → AreInRow rs row first []
-none_in_row rs row first = record { leaves = tt; trusted = refl }
+none_in_row rs row first = record { leaves = tt; fresh = refl }
 
 moved_set : (row other : PlainRow) → ((z : ℤ) → moved_to row z ≡ moved_to other z) → (z : ℤ) → slice_set row.arguments row.counted z ≡ slice_set other.arguments row.counted z
 moved_set row other e z =
@@ -129,97 +126,83 @@ pub in_row_moved : (rs : List PlainRecord) (row other : PlainRow) (first : ℤ) 
 in_row_moved rs row other first ps e h =
     let counts : row.counted ≡ other.counted = ap (λ r. r.counted) (e first) in
     record {
-      leaves = subst (λ n. AreLeaves (map doubtless rs) other.procedure other.arguments n first ps (at_places (map doubtless rs) ps)) counts
-          (leaves_moved (map doubtless rs) row.procedure other.procedure row.arguments other.arguments row.counted first ps (at_places (map doubtless rs) ps) (ap (λ r. r.procedure) (e first)) (moved_set row other e) h.leaves);
-      trusted = h.trusted;
+      leaves = subst (λ n. AreLeaves (map as_made rs) other.procedure other.arguments n first ps (at_places (map as_made rs) ps)) counts
+          (leaves_moved (map as_made rs) row.procedure other.procedure row.arguments other.arguments row.counted first ps (at_places (map as_made rs) ps) (ap (λ r. r.procedure) (e first)) (moved_set row other e) h.leaves);
+      fresh = h.fresh;
     }
-
--- the same of records that are trusted still
-pub in_row_still : (old new : List PlainRecord) (row : PlainRow) (first : ℤ) (ps : List ℕ) → map doubtless new ≡ map doubtless old → ((p : ℕ) → is_trusted_at old p ≡ true → is_trusted_at new p ≡ true)
-    → AreInRow old row first ps → AreInRow new row first ps
-in_row_still old new row first ps same kept h = record {
-  leaves = subst (λ rs. AreLeaves rs row.procedure row.arguments row.counted first ps (at_places rs ps)) (sym same) h.leaves;
-  trusted = every_weaker (is_trusted_at old) (is_trusted_at new) ps kept h.trusted;
-}
 
 every_more : (p : ℕ → Bool) (ps qs : List ℕ) → every p ps ≡ true → every p qs ≡ true → every p (ps ++ qs) ≡ true
 every_more p ps qs e f = every_append p ps qs ∙ both (every p ps) (every p qs) e f
 
 module _ (rs : List PlainRecord) (row : PlainRow) (first : ℤ) (ps : List ℕ) (h : AreInRow rs row first ps) where
   -- more behind them
-  in_row_more : (qs : List ℕ) (xs : List PlainRecord) → AreLeaves (map doubtless rs) row.procedure row.arguments row.counted (first +ℤ pos (length ps)) qs xs → every (is_trusted_at rs) qs ≡ true → AreInRow rs row first (ps ++ qs)
+  in_row_more : (qs : List ℕ) (xs : List PlainRecord) → AreLeaves (map as_made rs) row.procedure row.arguments row.counted (first +ℤ pos (length ps)) qs xs → every (is_fresh_at rs) qs ≡ true → AreInRow rs row first (ps ++ qs)
   in_row_more qs xs l s = record {
     leaves =
-        subst (AreLeaves (map doubtless rs) row.procedure row.arguments row.counted first (ps ++ qs))
-        (ap (λ ys. at_places (map doubtless rs) ps ++ ys) (sym (leaves_are (map doubtless rs) row.procedure row.arguments row.counted (first +ℤ pos (length ps)) qs xs l)) ∙ sym (at_more (map doubtless rs) ps qs))
-        (leaves_append (map doubtless rs) row.procedure row.arguments row.counted first ps qs (at_places (map doubtless rs) ps) xs h.leaves l);
-    trusted = every_more (is_trusted_at rs) ps qs h.trusted s;
+        subst (AreLeaves (map as_made rs) row.procedure row.arguments row.counted first (ps ++ qs))
+        (ap (λ ys. at_places (map as_made rs) ps ++ ys) (sym (leaves_are (map as_made rs) row.procedure row.arguments row.counted (first +ℤ pos (length ps)) qs xs l)) ∙ sym (at_more (map as_made rs) ps qs))
+        (leaves_append (map as_made rs) row.procedure row.arguments row.counted first ps qs (at_places (map as_made rs) ps) xs h.leaves l);
+    fresh = every_more (is_fresh_at rs) ps qs h.fresh s;
   }
 
   -- one record more
-  pub in_row_next : (place : ℕ) → IsThere rs (moved_to row (first +ℤ pos (length ps))) place → is_trusted_at rs place ≡ true → AreInRow rs row first (ps ++ place ∷ [])
+  pub in_row_next : (place : ℕ) → IsThere rs (moved_to row (first +ℤ pos (length ps))) place → is_fresh_at rs place ≡ true → AreInRow rs row first (ps ++ place ∷ [])
   in_row_next place t s =
-      in_row_more (place ∷ []) (t.it ∷ []) (record { there = t.there; procedure_is = t.procedure_is; arguments_are = t.arguments_are }, tt) (both (is_trusted_at rs place) true s refl)
+      in_row_more (place ∷ []) (t.it ∷ []) (record { there = t.there; procedure_is = t.procedure_is; arguments_are = t.arguments_are }, tt) (both (is_fresh_at rs place) true s refl)
 
-  pub row_count : length ps ≡ length (at_places (map doubtless rs) ps)
-  row_count = leaves_count (map doubtless rs) row.procedure row.arguments row.counted first ps (at_places (map doubtless rs) ps) h.leaves
+  pub row_count : length ps ≡ length (at_places (map as_made rs) ps)
+  row_count = leaves_count (map as_made rs) row.procedure row.arguments row.counted first ps (at_places (map as_made rs) ps) h.leaves
 
   -- a block of them
-  pub block_fits : (kinds : List Kind) (s : PlainRecord) (counted : ℕ) → counted ≡ row.counted → counted < length row.arguments → IsSumOf kinds (at_places (map doubtless rs) ps) s
+  pub block_fits : (kinds : List Kind) (s : PlainRecord) (counted : ℕ) → counted ≡ row.counted → counted < length row.arguments → IsSumOf kinds (at_places (map as_made rs) ps) s
       → BlockFits kinds rs (record { places = ps; counted = counted; sum = s })
   block_fits kinds s counted e within is = record {
     procedure = row.procedure;
     arguments = slice_set row.arguments counted first;
     first = first;
     first_is = set_there row.arguments counted first within;
-    leaves = at_places (map doubtless rs) ps;
+    leaves = at_places (map as_made rs) ps;
     are_leaves =
-        leaves_moved (map doubtless rs) row.procedure row.procedure row.arguments (slice_set row.arguments counted first) counted first ps (at_places (map doubtless rs) ps) refl
-        (λ z. sym (set-set row.arguments counted first z)) (subst (λ n. AreLeaves (map doubtless rs) row.procedure row.arguments n first ps (at_places (map doubtless rs) ps)) (sym e) h.leaves);
-    trusted = h.trusted;
+        leaves_moved (map as_made rs) row.procedure row.procedure row.arguments (slice_set row.arguments counted first) counted first ps (at_places (map as_made rs) ps) refl
+        (λ z. sym (set-set row.arguments counted first z)) (subst (λ n. AreLeaves (map as_made rs) row.procedure row.arguments n first ps (at_places (map as_made rs) ps)) (sym e) h.leaves);
+    fresh = h.fresh;
     sum_is = is;
   }
 
   -- a block more behind them
   module _ (kinds : List Kind) (b : PlainBlock) (part : IsPart kinds rs (moved_to row (first +ℤ pos (length ps))) b) (within : row.counted < length row.arguments) where
-    part_leaves : AreLeaves (map doubtless rs) row.procedure row.arguments row.counted (first +ℤ pos (length ps)) b.places part.fits.leaves
+    part_leaves : AreLeaves (map as_made rs) row.procedure row.arguments row.counted (first +ℤ pos (length ps)) b.places part.fits.leaves
     part_leaves =
-        part_are (map doubtless rs) row (first +ℤ pos (length ps)) part.fits.procedure part.fits.arguments part.fits.first b.places part.fits.leaves part.first part.there.it within
+        part_are (map as_made rs) row (first +ℤ pos (length ps)) part.fits.procedure part.fits.arguments part.fits.first b.places part.fits.leaves part.first part.there.it within
         (subst (λ n. slice_get part.fits.arguments n ≡ Some part.fits.first) part.counts part.fits.first_is) part.begins part.there.there part.there.procedure_is part.there.arguments_are
-        (subst (λ n. AreLeaves (map doubtless rs) part.fits.procedure part.fits.arguments n part.fits.first b.places part.fits.leaves) part.counts part.fits.are_leaves)
+        (subst (λ n. AreLeaves (map as_made rs) part.fits.procedure part.fits.arguments n part.fits.first b.places part.fits.leaves) part.counts part.fits.are_leaves)
 
     part_in_row : AreInRow rs row first (ps ++ b.places)
-    part_in_row = in_row_more b.places part.fits.leaves part_leaves part.fits.trusted
+    part_in_row = in_row_more b.places part.fits.leaves part_leaves part.fits.fresh
 
-    part_summed : (s : PlainSum) → All IsMonoid kinds → HasSummed kinds (at_places (map doubtless rs) ps) s → HasSummed kinds (at_places (map doubtless rs) (ps ++ b.places)) (added kinds s b.sum)
+    part_summed : (s : PlainSum) → All IsMonoid kinds → HasSummed kinds (at_places (map as_made rs) ps) s → HasSummed kinds (at_places (map as_made rs) (ps ++ b.places)) (added kinds s b.sum)
     part_summed s monoids m =
         subst (λ xs. HasSummed kinds xs (added kinds s b.sum))
-        (ap (λ ys. at_places (map doubtless rs) ps ++ ys) (sym (leaves_are (map doubtless rs) row.procedure row.arguments row.counted (first +ℤ pos (length ps)) b.places part.fits.leaves part_leaves)) ∙ sym (at_more (map doubtless rs) ps b.places))
-        (one_part_more kinds (at_places (map doubtless rs) ps) part.fits.leaves s b.sum monoids m part.fits.sum_is)
+        (ap (λ ys. at_places (map as_made rs) ps ++ ys) (sym (leaves_are (map as_made rs) row.procedure row.arguments row.counted (first +ℤ pos (length ps)) b.places part.fits.leaves part_leaves)) ∙ sym (at_more (map as_made rs) ps b.places))
+        (one_part_more kinds (at_places (map as_made rs) ps) part.fits.leaves s b.sum monoids m part.fits.sum_is)
 
 pub moved_twice : (row : PlainRow) (n z : ℤ) → moved_to (moved_to row n) z ≡ moved_to row z
 moved_twice row n z = ap (λ (zs : List ℤ). record row { arguments = zs }) (set-set row.arguments row.counted n z)
 
--- a record stays where it is
-pub still_there : (old new : List PlainRecord) (row : PlainRow) (place : ℕ) → map doubtless new ≡ map doubtless old → IsThere old row place → IsThere new row place
-still_there old new row place same h = record { it = h.it; there = ap (λ rs. slice_get rs place) same ∙ h.there; procedure_is = h.procedure_is; arguments_are = h.arguments_are }
-
--- the next record of a row was found and is trusted
-pub next_stands : (old new : List PlainRecord) (row other : PlainRow) (first : ℤ) (ps more : List ℕ) (n place : ℕ) → map doubtless new ≡ map doubtless old → ((p : ℕ) → is_trusted_at old p ≡ true → is_trusted_at new p ≡ true)
-    → other ≡ moved_to row (first +ℤ pos n) → n ≡ length ps → IsThere new other place → is_trusted_at new place ≡ true → more ≡ ps ++ place ∷ []
-    → AreInRow old row first ps → AreInRow new other first more
-next_stands old new row other first ps more n place same kept moved count there stand is h =
-    subst (AreInRow new other first) (sym is)
-    (in_row_moved new row other first (ps ++ place ∷ []) (λ z. sym (ap (λ r. moved_to r z) moved ∙ moved_twice row (first +ℤ pos n) z))
-    (in_row_next new row first ps (in_row_still old new row first ps same kept h) place (subst (λ r. IsThere new r place) (moved ∙ ap (λ m. moved_to row (first +ℤ pos m)) count) there) stand))
+-- the next record of a row was found and is fresh
+pub next_stands : (rs : List PlainRecord) (row other : PlainRow) (first : ℤ) (ps more : List ℕ) (n place : ℕ) → other ≡ moved_to row (first +ℤ pos n) → n ≡ length ps → IsThere rs other place → is_fresh_at rs place ≡ true
+    → more ≡ ps ++ place ∷ [] → AreInRow rs row first ps → AreInRow rs other first more
+next_stands rs row other first ps more n place moved count there stand is h =
+    subst (AreInRow rs other first) (sym is)
+    (in_row_moved rs row other first (ps ++ place ∷ []) (λ z. sym (ap (λ r. moved_to r z) moved ∙ moved_twice row (first +ℤ pos n) z))
+    (in_row_next rs row first ps h place (subst (λ r. IsThere rs r place) (moved ∙ ap (λ m. moved_to row (first +ℤ pos m)) count) there) stand))
 
 -- it wasn't
-pub stopped_in_row : (old new : List PlainRecord) (row other : PlainRow) (first : ℤ) (ps : List ℕ) → map doubtless new ≡ map doubtless old → ((p : ℕ) → is_trusted_at old p ≡ true → is_trusted_at new p ≡ true)
-    → ((z : ℤ) → moved_to other z ≡ moved_to row z) → AreInRow old row first ps → AreInRow new other first ps
-stopped_in_row old new row other first ps same kept moved h = in_row_moved new row other first ps (λ z. sym (moved z)) (in_row_still old new row first ps same kept h)
+pub stopped_in_row : (rs : List PlainRecord) (row other : PlainRow) (first : ℤ) (ps : List ℕ) → ((z : ℤ) → moved_to other z ≡ moved_to row z) → AreInRow rs row first ps → AreInRow rs other first ps
+stopped_in_row rs row other first ps moved h = in_row_moved rs row other first ps (λ z. sym (moved z)) h
 
-pub some_there : (rs : List PlainRecord) (row : PlainRow) (first : ℤ) (ps : List ℕ) → AreInRow rs row first ps → 1 < length ps → 0 < length (at_places (map doubtless rs) ps)
-some_there rs row first ps h l = let e : length ps ≡ length (at_places (map doubtless rs) ps) = row_count rs row first ps h in omega (arith, l, e)
+pub some_there : (rs : List PlainRecord) (row : PlainRow) (first : ℤ) (ps : List ℕ) → AreInRow rs row first ps → 1 < length ps → 0 < length (at_places (map as_made rs) ps)
+some_there rs row first ps h l = let e : length ps ≡ length (at_places (map as_made rs) ps) = row_count rs row first ps h in omega (arith, l, e)
 
 pub part_is : (kinds : List Kind) (rs : List PlainRecord) (row : PlainRow) (b : PlainBlock) (counted first : ℕ) → BlockFits kinds rs b → b.counted ≡ counted → counted ≡ row.counted → slice_get b.places 0 ≡ Some first
     → IsThere rs row first → IsPart kinds rs row b
@@ -244,10 +227,10 @@ module _ (rs : List PlainRecord) (row other : PlainRow) (first : ℤ) (ps more :
       subst (AreInRow rs other first) (sym is)
       (in_row_moved rs row other first (ps ++ b.places) (λ z. sym (ap (λ r. moved_to r z) moved ∙ moved_twice row (first +ℤ pos n) z)) (part_in_row rs row first ps h kinds b there inside))
 
-  pub next_summed : (s new : PlainSum) → All IsMonoid kinds → new ≡ added kinds s b.sum → HasSummed kinds (at_places (map doubtless rs) ps) s → HasSummed kinds (at_places (map doubtless rs) more) new
+  pub next_summed : (s new : PlainSum) → All IsMonoid kinds → new ≡ added kinds s b.sum → HasSummed kinds (at_places (map as_made rs) ps) s → HasSummed kinds (at_places (map as_made rs) more) new
   next_summed s new monoids e m =
-      subst (λ qs. HasSummed kinds (at_places (map doubtless rs) qs) new) (sym is)
-      (subst (HasSummed kinds (at_places (map doubtless rs) (ps ++ b.places))) (sym e) (part_summed rs row first ps h kinds b there inside s monoids m))
+      subst (λ qs. HasSummed kinds (at_places (map as_made rs) qs) new) (sym is)
+      (subst (HasSummed kinds (at_places (map as_made rs) (ps ++ b.places))) (sym e) (part_summed rs row first ps h kinds b there inside s monoids m))
 
 -- ---- the sum of records at places
 
@@ -273,14 +256,5 @@ sum_over (Ok x) kinds rs ps i s some over h is =
     (sum_is kinds (at_places rs ps) s some (subst (λ qs. HasSummed kinds (at_places rs qs) s) (take_all i ps over) h))
 
 pub wide_sum : (kinds : List Kind) (rs : List PlainRecord) (row : PlainRow) (first : ℤ) (ps : List ℕ) (s : PlainSum) → AreInRow rs row first ps → 0 < length ps
-    → HasSummed kinds (at_places (map doubtless rs) ps) s → IsSumOf kinds (at_places (map doubtless rs) ps) (summed s)
-wide_sum kinds rs row first ps s in_row some h = sum_is kinds (at_places (map doubtless rs) ps) s (subst (λ n. 0 < n) (row_count rs row first ps in_row) some) h
-
--- ---- what a commit and the gathering behind it leave
-
-pub still_named : (program : PlainChecked) (old made mid new : List PlainRecord) → map doubtless new ≡ map doubtless mid → CommitsNamed program old made mid → CommitsNamed program old made new
-still_named program old made mid new e h ks js a b = same_but_doubts (revised_of program) program.tables program.kinds (committed ks js) mid new e (h ks js a b)
-
-pub still_values : (old made mid new : List PlainRecord) → map doubtless new ≡ map doubtless mid → ((kinds : List Kind) → HaveValues kinds old → HaveValues kinds made → HaveValues kinds mid)
-    → (kinds : List Kind) → HaveValues kinds old → HaveValues kinds made → HaveValues kinds new
-still_values old made mid new e h kinds a b = same_values kinds mid new e (h kinds a b)
+    → HasSummed kinds (at_places (map as_made rs) ps) s → IsSumOf kinds (at_places (map as_made rs) ps) (summed s)
+wide_sum kinds rs row first ps s in_row some h = sum_is kinds (at_places (map as_made rs) ps) s (subst (λ n. 0 < n) (row_count rs row first ps in_row) some) h

@@ -2,9 +2,9 @@
 use Rattle.std.specs.Prelude.{◌≡◌, ℕ, ℤ, true, List, Some, map, slice_get, slice_set}
 use Rattle.meaning.specs.Every.{every}
 use Rattle.monoid_laws.specs.declared.Kind.{Kind}
-use Rattle.rerun_records.specs.Record.{PlainRecord, doubtless}
+use Rattle.rerun_records.specs.Record.{PlainRecord, as_made}
 use Rattle.gathered_records.specs.Summing.{at_places}
-use Rattle.rerun_records.specs.Blocks.{PlainBlock, AreLeaves, BlockFits, is_trusted_at}
+use Rattle.rerun_records.specs.Blocks.{PlainBlock, AreLeaves, BlockFits, is_fresh_at}
 
 -- instances of a procedure whose arguments are these but for the counted one
 pub record PlainRow : Type 0 where
@@ -19,14 +19,14 @@ moved_to row v = record row { arguments = slice_set row.arguments row.counted v 
 -- a record of the row's instance is at that place
 pub record IsThere (records : List PlainRecord) (row : PlainRow) (place : ℕ) : Type 0 where
   pub it : PlainRecord
-  pub there : slice_get (map doubtless records) place ≡ Some it
+  pub there : slice_get (map as_made records) place ≡ Some it
   pub procedure_is : it.procedure ≡ row.procedure
   pub arguments_are : it.arguments ≡ row.arguments
 
--- records of the row at these places, with that number and the next ones, and all are trusted
+-- records of the row at these places, with that number and the next ones, and all are fresh
 pub record AreInRow (records : List PlainRecord) (row : PlainRow) (first : ℤ) (places : List ℕ) : Type 0 where
-  pub leaves : AreLeaves (map doubtless records) row.procedure row.arguments row.counted first places (at_places (map doubtless records) places)
-  pub trusted : every (is_trusted_at records) places ≡ true
+  pub leaves : AreLeaves (map as_made records) row.procedure row.arguments row.counted first places (at_places (map as_made records) places)
+  pub fresh : every (is_fresh_at records) places ≡ true
 
 -- a block of these kinds, whose first record is that of the row, and which counts the same argument
 pub record IsPart (kinds : List Kind) (records : List PlainRecord) (row : PlainRow) (block : PlainBlock) : Type 0 where

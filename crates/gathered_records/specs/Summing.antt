@@ -5,7 +5,7 @@ use Rattle.monoid_laws.specs.Worth.{Worth}
 use Rattle.monoid_laws.specs.declared.Kind.{Kind}
 use Rattle.monoid_laws.specs.Kinds.{operate_all, identities, AreWorths}
 use Rattle.evaluation.specs.declared.note.Note.{Note}
-use Rattle.rerun_records.specs.Record.{PlainRecord, rows}
+use Rattle.rerun_records.specs.Record.{PlainRecord}
 use Rattle.rerun_records.specs.Named.{filled, SameMembers}
 use Rattle.rerun_records.specs.Sums.{contributed, highest, arguments_of_last}
 
@@ -45,7 +45,7 @@ summed s = record {
   reads = s.reads;
   entered = s.entered;
   height = s.height;
-  doubted = rows [];
+  stale = 0;
 }
 
 -- for reducers of these kinds

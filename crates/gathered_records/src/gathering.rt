@@ -1,10 +1,8 @@
 //! Records in a row are gathered into blocks, so that what they have together answers them all.
-ghost use Rattle.std.specs.Prelude.{◌≡◌, ◌+ℤ◌, ℕ, ℤ, pos, true, IfOk, OnSome, IfSome, Some, All, map, slice_get};
+ghost use Rattle.std.specs.Prelude.{◌≡◌, ◌+ℤ◌, ℤ, pos, true, IfOk, OnSome, IfSome, Some, All, slice_get};
 ghost use Rattle.monoid_laws.specs.Kinds.{IsMonoid};
-ghost use Rattle.rerun_records.specs.Record.{doubtless};
-ghost use Rattle.rerun_records.specs.Doubted.{IsInStep};
 ghost use Rattle.rerun_records.specs.Named.{HaveValues};
-ghost use Rattle.rerun_records.specs.Blocks.{is_trusted_at};
+ghost use Rattle.rerun_records.specs.Blocks.{is_fresh_at};
 ghost use Rattle.gathered_records.specs.Gathering.{moved_to, IsThere, AreInRow};
 
 use crate::bounds::{PARTS, bounds_at, part_above};
@@ -13,7 +11,6 @@ use crate::stretch::{Bounds, Stretches};
 use crate::sums::sum_at;
 use crate::tried::Tried;
 use crate::widening::widen_at;
-use input_tables::Tables;
 use linked_program::checked::Checked;
 use monoid_laws::Kind;
 use rerun_records::block::Block;
@@ -25,18 +22,16 @@ use std::alloc::{AllocError, Global};
 /// Vast blocks are made of so many records at least: an edit has one made again, which takes more than it saves among fewer.
 const MANY: usize = 250_000;
 
-/// Makes blocks of records in a row that are trusted, as many as there is memory for: of those at the places that were put in, or
-/// whose blocks were dropped, since it was done last. Nothing that can be told of the records changes but what is in doubt.
-pub fn gather(records: &mut Records, alloc: Global, tables: &Tables, program: &Checked)
-    requires in_step { IsInStep tables.now.tables records.old }
+/// Makes blocks of records in a row of which all readings are held, as many as there is memory for: of those at the places that were
+/// put in, or whose blocks were dropped, since it was done last. Nothing that can be told of the records changes.
+pub fn gather(records: &mut Records, alloc: Global, program: &Checked)
     requires monoids { All IsMonoid program.now.kinds }
     requires values { HaveValues program.now.kinds records.old }
-    ensures in_step { IsInStep tables.now.tables records.new }
-    ensures same { map doubtless records.new ≡ map doubtless records.old }
+    ensures same { records.new ≡ records.old }
 {
     let are_all = records.are_all_due();
     let listed = records.take_due(alloc);
-    let _ = gather_due(records, alloc, are_all, &listed, tables, program);
+    let _ = gather_due(records, alloc, are_all, &listed, program);
 }
 
 // Makes such blocks of all records, or of those at these places.
@@ -45,56 +40,42 @@ fn gather_due(
     alloc: Global,
     are_all: bool,
     places: &[u32],
-    tables: &Tables,
     program: &Checked,
 ) -> Result<(), AllocError>
-    requires in_step { IsInStep tables.now.tables records.old }
     requires monoids { All IsMonoid program.now.kinds }
     requires values { HaveValues program.now.kinds records.old }
-    ensures in_step { IsInStep tables.now.tables records.new }
-    ensures same { map doubtless records.new ≡ map doubtless records.old }
+    ensures same { records.new ≡ records.old }
 {
     if are_all {
-        gather_all(records, alloc, tables, program)
+        gather_all(records, alloc, program)
     } else {
-        gather_these(records, alloc, places, tables, program)
+        gather_these(records, alloc, places, program)
     }
 }
 
 // Makes the blocks of all records.
-fn gather_all(
-    records: &mut Records,
-    alloc: Global,
-    tables: &Tables,
-    program: &Checked,
-) -> Result<(), AllocError>
-    requires in_step { IsInStep tables.now.tables records.old }
+fn gather_all(records: &mut Records, alloc: Global, program: &Checked) -> Result<(), AllocError>
     requires monoids { All IsMonoid program.now.kinds }
     requires values { HaveValues program.now.kinds records.old }
-    ensures in_step { IsInStep tables.now.tables records.new }
-    ensures same { map doubtless records.new ≡ map doubtless records.old }
+    ensures same { records.new ≡ records.old }
 {
     let all = places_to(alloc, records.len())?;
-    gather_these(records, alloc, &all, tables, program)
+    gather_these(records, alloc, &all, program)
 }
 
 // Gathers the records at these places: first into fine blocks, then these into wider ones.
-#[tactic(auto, using(rerun_records::proofs::Puts::same_values))]
 fn gather_these(
     records: &mut Records,
     alloc: Global,
     places: &[u32],
-    tables: &Tables,
     program: &Checked,
 ) -> Result<(), AllocError>
-    requires in_step { IsInStep tables.now.tables records.old }
     requires monoids { All IsMonoid program.now.kinds }
     requires values { HaveValues program.now.kinds records.old }
-    ensures in_step { IsInStep tables.now.tables records.new }
-    ensures same { map doubtless records.new ≡ map doubtless records.old }
+    ensures same { records.new ≡ records.old }
 {
     let mut stretches = Stretches::new(alloc);
-    make_fine(records, alloc, places, &mut stretches, tables, program)?;
+    make_fine(records, alloc, places, &mut stretches, program)?;
     make_wider(
         records,
         alloc,
@@ -111,20 +92,16 @@ fn gather_these(
 }
 
 // Makes fine blocks that have the records at these places as part.
-#[tactic(auto, using(rerun_records::proofs::Puts::same_values))]
 fn make_fine(
     records: &mut Records,
     alloc: Global,
     places: &[u32],
     stretches: &mut Stretches,
-    tables: &Tables,
     program: &Checked,
 ) -> Result<(), AllocError>
-    requires in_step { IsInStep tables.now.tables records.old }
     requires monoids { All IsMonoid program.now.kinds }
     requires values { HaveValues program.now.kinds records.old }
-    ensures in_step { IsInStep tables.now.tables records.new }
-    ensures same { map doubtless records.new ≡ map doubtless records.old }
+    ensures same { records.new ≡ records.old }
 {
     let mut tried = Tried::new(alloc, records.len(), places.len())?;
     for place in places {
@@ -134,7 +111,6 @@ fn make_fine(
             *place as usize,
             &mut tried,
             stretches,
-            tables,
             program,
         );
     }
@@ -169,50 +145,40 @@ fn make_wider(
 }
 
 // Makes a fine block that has the record at that place as part, where there is none and that wasn't tried.
-#[tactic(auto, using(rerun_records::proofs::Puts::same_values))]
 fn gather_at(
     records: &mut Records,
     alloc: Global,
     place: usize,
     tried: &mut Tried,
     stretches: &mut Stretches,
-    tables: &Tables,
     program: &Checked,
 )
-    requires in_step { IsInStep tables.now.tables records.old }
     requires monoids { All IsMonoid program.now.kinds }
     requires values { HaveValues program.now.kinds records.old }
-    ensures in_step { IsInStep tables.now.tables records.new }
-    ensures same { map doubtless records.new ≡ map doubtless records.old }
+    ensures same { records.new ≡ records.old }
 {
     if tried.has(place) || has_block(records, Width::Fine, place, program.kinds()) {
         return;
     }
     tried.put(place);
     match row_at(records, alloc, place) {
-        Ok(Some(mut row)) => {
-            gather_on(records, alloc, &mut row, tried, stretches, tables, program)
-        }
+        Ok(Some(mut row)) => { gather_on(records, alloc, &mut row, tried, stretches, program) }
         _ => {}
     }
 }
 
 // Makes fine blocks of the records in a row from where it is on, as far as they have none and one is made.
-#[tactic(auto, using(rerun_records::proofs::Puts::same_values))]
 fn gather_on(
     records: &mut Records,
     alloc: Global,
     row: &mut Row,
     tried: &mut Tried,
     stretches: &mut Stretches,
-    tables: &Tables,
     program: &Checked,
 )
-    requires in_step { IsInStep tables.now.tables records.old }
     requires monoids { All IsMonoid program.now.kinds }
     requires values { HaveValues program.now.kinds records.old }
-    ensures in_step { IsInStep tables.now.tables records.new }
-    ensures same { map doubtless records.new ≡ map doubtless records.old }
+    ensures same { records.new ≡ records.old }
 {
     for _ in 0..PARTS {
         let bounds = bounds_at(
@@ -224,7 +190,7 @@ fn gather_on(
             tried.are_many(),
             program.kinds(),
         );
-        if gather_row(records, alloc, row, bounds, tried, tables, program).is_err() {
+        if gather_row(records, alloc, row, bounds, tried, program).is_err() {
             return;
         }
         if part_above(records, Width::Fine, row, bounds.last, program.kinds()).is_none() {
@@ -234,24 +200,20 @@ fn gather_on(
 }
 
 // Makes a fine block of the records in that row between these numbers.
-#[tactic(auto, using(rerun_records::proofs::Puts::same_values))]
 fn gather_row(
     records: &mut Records,
     alloc: Global,
     row: &mut Row,
     bounds: Bounds,
     tried: &mut Tried,
-    tables: &Tables,
     program: &Checked,
 ) -> Result<(), AllocError>
-    requires in_step { IsInStep tables.now.tables records.old }
     requires monoids { All IsMonoid program.now.kinds }
     requires values { HaveValues program.now.kinds records.old }
-    ensures in_step { IsInStep tables.now.tables records.new }
-    ensures same { map doubtless records.new ≡ map doubtless records.old }
+    ensures same { records.new ≡ records.old }
 {
     let first = lowest(records, row, bounds);
-    let places = trusted_in_row(records, alloc, row, first, bounds, tables)?;
+    let places = fresh_in_row(records, alloc, row, first, bounds)?;
     tried.put_all(&places);
     if places.len() < 2 {
         return Ok(());
@@ -278,23 +240,19 @@ fn lowest(records: &Records, row: &mut Row, bounds: Bounds) -> i64 {
     first
 }
 
-// The places of the records in a row from that number on that are trusted, as far as to the last of these numbers.
-fn trusted_in_row(
-    records: &mut Records,
+// The places of the records in a row from that number on of which all readings are held, as far as to the last of these numbers.
+fn fresh_in_row(
+    records: &Records,
     alloc: Global,
     row: &mut Row,
     first: i64,
     bounds: Bounds,
-    tables: &Tables,
 ) -> Result<Vec<u32>, AllocError>
-    requires in_step { IsInStep tables.now.tables records.old }
-    ensures in_step { IsInStep tables.now.tables records.new }
-    ensures same { map doubtless records.new ≡ map doubtless records.old }
-    ensures row { IfOk result (λ places. AreInRow records.new row.new first places.items) }
+    ensures row { IfOk result (λ places. AreInRow records.now row.new first places.items) }
 {
     let mut places = Vec::new(alloc);
     for _ in 0..bounds.count_from(first) {
-        match next_trusted(records, row, first, places.len(), tables) {
+        match next_fresh(records, row, first, places.len()) {
             Some(place) => places.push(place)?,
             None => return Ok(places),
         }
@@ -302,29 +260,18 @@ fn trusted_in_row(
     Ok(places)
 }
 
-// The place of the record so many further in the row, where there is one and it is trusted.
-#[tactic(auto, using(crate::proofs::Rows::still_there))]
-fn next_trusted(
-    records: &mut Records,
-    row: &mut Row,
-    first: i64,
-    step: usize,
-    tables: &Tables,
-) -> Option<u32>
-    requires in_step { IsInStep tables.now.tables records.old }
-    ensures in_step { IsInStep tables.now.tables records.new }
-    ensures same { map doubtless records.new ≡ map doubtless records.old }
-    ensures kept { (p : ℕ) → is_trusted_at records.old p ≡ true → is_trusted_at records.new p ≡ true }
+// The place of the record so many further in the row, where there is one and all that it has read is held.
+fn next_fresh(records: &Records, row: &mut Row, first: i64, step: usize) -> Option<u32>
     ensures row { (z : ℤ) → moved_to row.new z ≡ moved_to row.old z }
-    ensures there { IfSome result (λ place. IsThere records.new row.new place) }
+    ensures there { IfSome result (λ place. IsThere records.now row.new place) }
     ensures moved { OnSome result (row.new ≡ moved_to row.old (first +ℤ pos step)) }
-    ensures trusted { IfSome result (λ place. is_trusted_at records.new place ≡ true) }
+    ensures fresh { IfSome result (λ place. is_fresh_at records.now place ≡ true) }
 {
     if !go_on(row, first, step) {
         return None;
     }
     let place = find_row(records, row)?;
-    if records.trust(place as usize, tables) {
+    if records.is_fresh(place as usize) {
         Some(place)
     } else {
         None

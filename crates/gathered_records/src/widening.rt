@@ -1,7 +1,7 @@
 // Blocks in a row are joined into wider ones.
 ghost use Rattle.std.specs.Prelude.{◌≡◌, ◌<◌, ◌+ℤ◌, ◌++◌, ℤ, pos, [], OnOk, OnSome, IfSome, All, length, map, slice_get, Some, true};
 ghost use Rattle.monoid_laws.specs.Kinds.{AreWorths, IsMonoid};
-ghost use Rattle.rerun_records.specs.Record.{doubtless};
+ghost use Rattle.rerun_records.specs.Record.{as_made};
 ghost use Rattle.rerun_records.specs.Named.{AreValuesFrom};
 ghost use Rattle.gathered_records.specs.Summing.{at_places, nothing_summed, added, HasSummed};
 ghost use Rattle.gathered_records.specs.Gathering.{moved_to, AreInRow, IsPart};
@@ -154,7 +154,7 @@ fn add_wide(
     kinds: &[Kind],
 ) -> Result<(), AllocError>
     requires row { AreInRow records.old row.now first joined.places.items }
-    requires summed { HasSummed kinds.now (at_places (map doubtless records.old) joined.places.items) joined.sum }
+    requires summed { HasSummed kinds.now (at_places (map as_made records.old) joined.places.items) joined.sum }
     requires some { 0 < length joined.places.items }
     ensures same { records.new ≡ records.old }
 {
@@ -209,7 +209,7 @@ fn join_parts(
     requires nothing { joined.old.sum ≡ nothing_summed kinds.now }
     ensures row { OnOk result (AreInRow records.now row.new first joined.new.places.items) }
     ensures summed { OnOk result (
-        HasSummed kinds.now (at_places (map doubtless records.now) joined.new.places.items) joined.new.sum) }
+        HasSummed kinds.now (at_places (map as_made records.now) joined.new.places.items) joined.new.sum) }
 {
     for _ in 0..PARTS {
         match part_next(

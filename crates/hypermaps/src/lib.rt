@@ -140,7 +140,7 @@ fn fold_at<V: View>(
         ≡ operate_all (map V.kind_of left.old.items) (map V.worth_of left.old.items) (map V.worth_of right.old.items) }
     ensures moved { (c : Kind) → IsAt (map V.kind_of right.old.items) r c
         → OnOk result (map V.worth_of right.new.items ≡ slice_set (map V.worth_of right.old.items) r (identity_of c)) }
-    ensures kept { OnErr result (map V.worth_of right.new.items ≡ map V.worth_of right.old.items) }
+    ensures same { OnErr result (map V.worth_of right.new.items ≡ map V.worth_of right.old.items) }
 {
     let Ok(fresh) = note_first(left_used, r) else {
         return Err(AllocError);

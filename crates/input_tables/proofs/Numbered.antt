@@ -57,12 +57,9 @@ pub changed_at-place : (f : Listed → Listed) (ts : Tables) (t : Name) → chan
 changed_at-place f [] t = refl
 changed_at-place f (x ∷ xs) t = changed_either (bytes_eq x.called t) f x xs (index_of (names_of xs) t) (table_changed f xs t) (changed_at-place f xs t)
 
--- a table that stands at the place of a name
-pub table_of-at : (ts : Tables) (t : Name) (n : ℕ) (x : Listed) → n ≡ index_of (names_of ts) t → slice_get ts n ≡ Some x → table_of ts t ≡ Some x
-table_of-at ts t n x place at = sym (table_of-place ts t) ∙ subst (λ k. slice_get ts k ≡ Some x) place at
-
-pub columns_at-named : (ts : Tables) (t : Name) (n : ℕ) (x : Listed) → n ≡ index_of (names_of ts) t → Some x ≡ table_of ts t → columns_at ts n ≡ x.columns
-columns_at-named ts t n x place found = columns_at-there ts n x (ap (slice_get ts) place ∙ table_of-place ts t ∙ sym found)
+-- the table of a number that is a name's is the table of the name
+pub table_of-number : (ts : Tables) (t : Name) (n : ℕ) → n ≡ index_of (names_of ts) t → slice_get ts n ≡ table_of ts t
+table_of-number ts t n place = ap (slice_get ts) place ∙ table_of-place ts t
 
 pub table_of-absent : (ts : Tables) (t : Name) → index_of (names_of ts) t ≡ length ts → table_of ts t ≡ None
 table_of-absent ts t place = sym (table_of-place ts t) ∙ ap (slice_get ts) place ∙ past ts

@@ -9,7 +9,7 @@ ghost use Rattle.input_tables.specs.Document.{reading, HasCause};
 ghost use Rattle.input_tables.specs.Adding.{refusal, own_refusal, unless_refused, IsAddCause, without_rows, with_table, rowless};
 ghost use Rattle.input_tables.specs.Shapes.{table_in};
 ghost use Rattle.meaning.specs.Records.{Revised};
-ghost use Rattle.meaning.specs.Edits.{after_put, after_delete, in_range, table_of};
+ghost use Rattle.meaning.specs.Edits.{after_put, put_in, after_delete, delete_in, in_range, table_of};
 ghost use Rattle.input_tables.specs.Edited.{beside, row_refusal, IsPutCause, edited, changed_at, row_into, row_out_of, names_of};
 ghost use Rattle.input_tables.specs.Rows.{AreWide};
 ghost use Rattle.input_tables.specs.Edited.{columns_at, rows_at, cell_at, has_at, limit_at, sum_at, CellsFit};
@@ -292,12 +292,35 @@ impl Tables {
             error) }
         ensures same { OnErr result (self.new ≡ self.old) }
     {
-        match self.table_to_put(table, row, values.len()) {
-            Ok(number) => {
-                // Pages take their memory where their table's rows do, so no list is made here.
-                let _ = alloc;
-                self.put_at(number, row, values)?;
-                Ok(number)
+        // Pages take their memory where their table's rows do, so no list is made here.
+        let _ = alloc;
+        match self.find(table) {
+            None => Err(PutError::Refused(RowError::UnknownTable)),
+            Some((number, _)) => match self.put_at(number, row, values) {
+                Ok(()) => Ok(number),
+                Err(error) => Err(error),
+            },
+        }
+    }
+
+    /// Puts a row into the table of a number, in the place of the one of its own. Refused by E6, E5, E18, or for want of memory,
+    /// in this order; a refusal changes nothing.
+    pub fn put_at(&mut self, number: usize, row: i64, values: &[i64]) -> Result<(), PutError>
+        requires { number < length self.old.tables }
+        ensures put { OnOk result ((t : Name) → number ≡ index_of (names_of self.old.tables) t
+            → (program : Revised) (lines : List Lined)
+            → after_put (beside program lines self.old) t row values.now
+            ≡ Ok (beside program lines self.new)) }
+        ensures refused { IfErr result (λ error. (t : Name)
+            → number ≡ index_of (names_of self.old.tables) t
+            → (program : Revised) (lines : List Lined)
+            → IsPutCause (after_put (beside program lines self.old) t row values.now) error) }
+        ensures same { OnErr result (self.new ≡ self.old) }
+    {
+        match self.check_put(number, row, values.len()) {
+            Ok(()) => {
+                self.put_row(number, row, values)?;
+                Ok(())
             }
             Err(error) => Err(PutError::Refused(error)),
         }
@@ -316,75 +339,97 @@ impl Tables {
             ≡ Err (row_refusal error)) }
         ensures same { OnErr result (self.new ≡ self.old) }
     {
-        match self.table_to_delete(table, row) {
-            Ok(number) => {
-                self.delete_at(number, row);
-                Ok(number)
+        match self.find(table) {
+            None => Err(RowError::UnknownTable),
+            Some((number, _)) => match self.delete_at(number, row) {
+                Ok(()) => Ok(number),
+                Err(error) => Err(error),
+            },
+        }
+    }
+
+    /// Takes a row out of the table of a number. Refused by E6, E7, E18, in this order; a refusal changes nothing. It takes no
+    /// memory, and is never refused for want of it.
+    pub fn delete_at(&mut self, number: usize, row: i64) -> Result<(), RowError>
+        requires { number < length self.old.tables }
+        ensures deleted { OnOk result ((t : Name) → number ≡ index_of (names_of self.old.tables) t
+            → (program : Revised) (lines : List Lined)
+            → after_delete (beside program lines self.old) t row
+            ≡ Ok (beside program lines self.new)) }
+        ensures refused { IfErr result (λ error. (t : Name)
+            → number ≡ index_of (names_of self.old.tables) t
+            → (program : Revised) (lines : List Lined)
+            → after_delete (beside program lines self.old) t row ≡ Err (row_refusal error)) }
+        ensures same { OnErr result (self.new ≡ self.old) }
+    {
+        match self.check_delete(number, row) {
+            Ok(()) => {
+                self.take_row(number, row);
+                Ok(())
             }
             Err(error) => Err(error),
         }
     }
 
-    // The number of the table into which a row of so many values may be put, or why it may not.
-    fn table_to_put(&self, name: &str, row: i64, values: usize) -> Result<usize, RowError>
-        ensures found { IfOk result (λ number. number ≡ index_of (names_of self.now.tables) name.now) }
-        ensures within { IfOk result (λ number. number < length self.now.tables) }
-        ensures wide { IfOk result (λ number. values ≡ length (columns_at self.now.tables number)) }
-        ensures range { OnOk result (in_range row ≡ true) }
-        ensures room { OnOk result (self.now.edits < 18446744073709551615) }
-        ensures allowed { OnOk result ((program : Revised) (lines : List Lined) (vs : List ℤ) → length vs ≡ values
-            → after_put (beside program lines self.now) name.now row vs ≡ Ok (beside program lines (edited (row_into row vs) self.now name.now))) }
-        ensures refused { IfErr result (λ error. (program : Revised) (lines : List Lined) (vs : List ℤ) → length vs ≡ values
-            → after_put (beside program lines self.now) name.now row vs ≡ Err (row_refusal error)) }
+    // The table of a number that there is.
+    fn numbered(&self, number: usize) -> &Table
+        requires { number < length self.now.tables }
+        ensures { Some result.now ≡ slice_get self.now.tables number }
     {
-        match self.find(name) {
-            None => Err(RowError::UnknownTable),
-            Some((number, table)) => {
-                if !is_row_number(row) {
-                    return Err(RowError::RowRange);
-                }
-                if table.column_count() != values {
-                    return Err(RowError::WrongColumns);
-                }
-                if self.edit_number() == u64::MAX {
-                    return Err(RowError::Exhausted);
-                }
-                Ok(number)
-            }
-        }
+        &self.listed[number]
     }
 
-    // The number of the table out of which a row may be taken, or why it may not.
-    fn table_to_delete(&self, name: &str, row: i64) -> Result<usize, RowError>
-        ensures found { IfOk result (λ number. number ≡ index_of (names_of self.now.tables) name.now) }
-        ensures within { IfOk result (λ number. number < length self.now.tables) }
+    // Whether a row of so many values may be put into the table of a number, whatever its name, or why it may not.
+    fn check_put(&self, number: usize, row: i64, values: usize) -> Result<(), RowError>
+        requires { number < length self.now.tables }
+        ensures wide { OnOk result (values ≡ length (columns_at self.now.tables number)) }
+        ensures range { OnOk result (in_range row ≡ true) }
         ensures room { OnOk result (self.now.edits < 18446744073709551615) }
-        ensures allowed { OnOk result ((program : Revised) (lines : List Lined)
-            → after_delete (beside program lines self.now) name.now row
-            ≡ Ok (beside program lines (edited (row_out_of row) self.now name.now))) }
-        ensures refused { IfErr result (λ error. (program : Revised) (lines : List Lined)
-            → after_delete (beside program lines self.now) name.now row
+        ensures allowed { OnOk result ((t : Name) (program : Revised) (lines : List Lined) (vs : List ℤ) → length vs ≡ values
+            → put_in (beside program lines self.now) t row vs (slice_get self.now.tables number)
+            ≡ Ok (beside program lines (edited (row_into row vs) self.now t))) }
+        ensures refused { IfErr result (λ error. (t : Name) (program : Revised) (lines : List Lined) (vs : List ℤ) → length vs ≡ values
+            → put_in (beside program lines self.now) t row vs (slice_get self.now.tables number) ≡ Err (row_refusal error)) }
+    {
+        let table = self.numbered(number);
+        if !is_row_number(row) {
+            return Err(RowError::RowRange);
+        }
+        if table.column_count() != values {
+            return Err(RowError::WrongColumns);
+        }
+        if self.edit_number() == u64::MAX {
+            return Err(RowError::Exhausted);
+        }
+        Ok(())
+    }
+
+    // Whether a row may be taken out of the table of a number, whatever its name, or why it may not.
+    fn check_delete(&self, number: usize, row: i64) -> Result<(), RowError>
+        requires { number < length self.now.tables }
+        ensures room { OnOk result (self.now.edits < 18446744073709551615) }
+        ensures allowed { OnOk result ((t : Name) (program : Revised) (lines : List Lined)
+            → delete_in (beside program lines self.now) t row (slice_get self.now.tables number)
+            ≡ Ok (beside program lines (edited (row_out_of row) self.now t))) }
+        ensures refused { IfErr result (λ error. (t : Name) (program : Revised) (lines : List Lined)
+            → delete_in (beside program lines self.now) t row (slice_get self.now.tables number)
             ≡ Err (row_refusal error)) }
     {
-        match self.find(name) {
-            None => Err(RowError::UnknownTable),
-            Some((number, table)) => {
-                if !is_row_number(row) {
-                    return Err(RowError::RowRange);
-                }
-                if !table.has(row) {
-                    return Err(RowError::NoRow);
-                }
-                if self.edit_number() == u64::MAX {
-                    return Err(RowError::Exhausted);
-                }
-                Ok(number)
-            }
+        let table = self.numbered(number);
+        if !is_row_number(row) {
+            return Err(RowError::RowRange);
         }
+        if !table.has(row) {
+            return Err(RowError::NoRow);
+        }
+        if self.edit_number() == u64::MAX {
+            return Err(RowError::Exhausted);
+        }
+        Ok(())
     }
 
     // Puts a row into the table of a number, and counts the edit.
-    fn put_at(&mut self, number: usize, row: i64, values: &[i64]) -> Result<(), AllocError>
+    fn put_row(&mut self, number: usize, row: i64, values: &[i64]) -> Result<(), AllocError>
         requires within { number < length self.old.tables }
         requires wide { length values.now ≡ length (columns_at self.old.tables number) }
         requires range { in_range row ≡ true }
@@ -400,7 +445,7 @@ impl Tables {
     }
 
     // Takes a row out of the table of a number, and counts the edit.
-    fn delete_at(&mut self, number: usize, row: i64)
+    fn take_row(&mut self, number: usize, row: i64)
         requires within { number < length self.old.tables }
         requires room { self.old.edits < 18446744073709551615 }
         ensures tables { self.new.tables ≡ changed_at (row_out_of row) self.old.tables number }

@@ -11,8 +11,8 @@ use Rattle.linked_program.specs.TableNames.{Columned, columned_of}
 use Rattle.input_tables.specs.Edited.{Edited, beside, names_of, columns_at}
 use Rattle.input_tables.proofs.Numbered.{table_of-place}
 use Rattle.rules_theory.proofs.EditedTables.{put_keeps_columns, delete_keeps_columns}
-use Rattle.rerun_records.specs.Record.{doubtless}
-use Rattle.rerun_records.specs.Doubted.{IsSameBut}
+use Rattle.rerun_records.specs.Record.{as_made}
+use Rattle.rerun_records.specs.InStep.{IsSameBut}
 use Rattle.record_index.specs.Befores.{HasRoomFor}
 use Rattle.record_index.specs.Indexed.{PlainIndexed, IsIndexed, IsNoted, IsBeside, HaveSameColumns}
 use Rattle.kept_session.proofs.SameBut.{put_same_but, delete_same_but}
@@ -72,13 +72,13 @@ pub told_beside : (revisions : List (Name × ℕ)) (before after : Tables) (n : 
     → (x.records ≡ []) ⊎ (IsBeside after n row x.was × (length x.was.sums < x.room))
 told_beside revisions before after n row x is told = is_beside before after n row x told.columns is.room told.noted
 
--- to note a row changes no number
+-- to note a row changes nothing of it
 pub noted_indexed : (revisions : List (Name × ℕ)) (tables : Tables) (x y : PlainIndexed) → y ≡ record x { was = y.was } → IsIndexed revisions tables x → IsIndexed revisions tables y
 noted_indexed revisions tables x y same is =
-    subst (IsIndexed revisions tables) (sym same) (record { in_step = is.in_step; counted = is.counted; told = record { first = is.told.first; within = is.told.within }; room = is.room })
+    subst (IsIndexed revisions tables) (sym same) (record { in_step = is.in_step; told = record { first = is.told.first; within = is.told.within }; room = is.room })
 
-pub same_as_noted : (x y z : PlainIndexed) → y ≡ record x { was = y.was } → map doubtless z.records ≡ map doubtless y.records → map doubtless z.records ≡ map doubtless x.records
-same_as_noted x y z noted same = same ∙ ap (λ (w : PlainIndexed). map doubtless w.records) noted
+pub same_as_noted : (x y z : PlainIndexed) → y ≡ record x { was = y.was } → map as_made z.records ≡ map as_made y.records → map as_made z.records ≡ map as_made x.records
+same_as_noted x y z noted same = same ∙ ap (λ (w : PlainIndexed). map as_made w.records) noted
 
 module _ (old new : Edited) (t : Name) (row : ℤ) (n : ℕ) (place : n ≡ index_of (names_of old.tables) t) (x : PlainIndexed)
     (noted : index_of (names_of old.tables) t < length old.tables → WasNoted old.tables (index_of (names_of old.tables) t) row x) where

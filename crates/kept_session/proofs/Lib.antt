@@ -1,5 +1,5 @@
 pub mod Changes
-pub mod Doubts
+pub mod AsMade
 pub mod Elided
 pub mod Keeping
 pub mod News

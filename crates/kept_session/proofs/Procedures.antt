@@ -84,12 +84,12 @@ module _ (program : PlainChecked) (is : IsChecked program) (tables : Edited) whe
   pub made_entered_now : (made : List PlainRecord) → AreNewFor program tables made → EnteredNow program.revisions made
   made_entered_now made news = are_current_now news.kept made news.stand news.right
 
--- ---- numbers beside records
+-- ---- what is counted and told
 
--- no records have numbers that are right
+-- of no records it is right
 pub nothing_is_indexed : (revisions : List (Name × ℕ)) (tables : Tables) (x : PlainIndexed) → x ≡ nothing_indexed → IsIndexed revisions tables x
 nothing_is_indexed revisions tables x none =
-    subst (IsIndexed revisions tables) (sym none) (record { in_step = refl; counted = tt; told = record { first = refl; within = refl }; room = inl refl })
+    subst (IsIndexed revisions tables) (sym none) (record { in_step = refl; told = record { first = refl; within = refl }; room = inl refl })
 
 -- whether memory was refused or not
 pub stay_indexed : {E : Type 0} (given : Result Unit E) (revisions : List (Name × ℕ)) (tables : Tables) (old new : PlainIndexed) → OnOk given (IsIndexed revisions tables new) → OnErr given (new ≡ old)

@@ -8,7 +8,7 @@ use Rattle.input_tables.specs.declared.refusal.PutError.{PutError}
 use Rattle.input_tables.specs.declared.refusal.PutError.TheVariants as put
 use Rattle.checked_defines.specs.declared.refusal.DefineError.{DefineError}
 use Rattle.checked_defines.specs.declared.refusal.DefineError.TheVariants as define
-use Rattle.rerun_records.specs.Record.{doubtless}
+use Rattle.rerun_records.specs.Record.{as_made}
 use Rattle.kept_session.specs.declared.refusal.ApplyError.{ApplyError}
 use Rattle.kept_session.specs.declared.refusal.ApplyError.TheVariants.{NoMemory, Refused}
 use Rattle.kept_session.specs.Sessions.{PlainSession, standing_of}
@@ -41,10 +41,10 @@ IsApplyCause e answer NoMemory = MayLackMemory e answer
 IsApplyCause e answer (Refused error) = answer ≡ Err (refusal error)
 
 -- the answer to an edit is the definitions', and the session after it is theirs: a refused edit changes nothing, and no edit
--- changes the records, but for what is in doubt of them
+-- changes the records, but for how many of their readings don't hold
 pub record IsApplied (s : PlainSession) (e : Edit) (given : Result Unit ApplyError) (t : PlainSession) : Type 0 where
   pub applied : OnOk given (edited (standing_of s) e ≡ Ok (standing_of t))
   pub refused : IfErr given (IsApplyCause e (edited (standing_of s) e))
   pub same : OnErr given (t ≡ s)
   pub rest : t ≡ record s { checked = t.checked; tables = t.tables; records = t.records }
-  pub records : map doubtless t.records ≡ map doubtless s.records
+  pub records : map as_made t.records ≡ map as_made s.records

@@ -1,10 +1,10 @@
 // Edits of a session, one kind after another.
-ghost use Rattle.std.specs.Prelude.{◌≡◌, ◌⊎◌, ◌<◌, [], Ok, length, map, IfErr, OnOk, OnErr};
+ghost use Rattle.std.specs.Prelude.{◌≡◌, ◌⊎◌, ◌<◌, [], Ok, length, map, IfErr, IfNone, IfSome, OnOk, OnErr};
 ghost use Rattle.meaning.specs.Tables.{index_of};
 ghost use Rattle.meaning.specs.Edits.{Put, Delete, Define, after_put, after_delete, after_define};
 ghost use Rattle.checked_defines.specs.Readers.{reads_text, checks_rules};
 ghost use Rattle.input_tables.specs.Edited.{names_of};
-ghost use Rattle.rerun_records.specs.Record.{doubtless};
+ghost use Rattle.rerun_records.specs.Record.{as_made};
 ghost use Rattle.record_index.specs.Befores.{HasRoomFor};
 ghost use Rattle.record_index.specs.Indexed.{IsNoted};
 ghost use Rattle.kept_session.specs.Sessions.{standing_of};
@@ -12,7 +12,7 @@ ghost use Rattle.kept_session.specs.Applied.{IsApplyCause};
 
 use crate::refusal::{ApplyError, undefined, unput};
 use crate::session::Session;
-use input_tables::Tables;
+use input_tables::{RowError, Tables};
 use record_index::indexed::IndexedRecords;
 use session_edits::EditError;
 use std::alloc::Global;
@@ -32,17 +32,21 @@ impl<V: View> Session<V> {
         ensures refused { IfErr result (IsApplyCause (Put table.now row values.now)
             (after_put (standing_of self.old) table.now row values.now)) }
         ensures same { OnErr result (self.new ≡ self.old) }
-        ensures rest { self.new
+        ensures others { self.new
             ≡ record self.old { tables = self.new.tables; records = self.new.records } }
-        ensures records { map doubtless self.new.records ≡ map doubtless self.old.records }
+        ensures records { map as_made self.new.records ≡ map as_made self.old.records }
     {
-        note_before(&mut self.records, &self.tables, table, row);
-        match self.tables.put(alloc, table, row, values) {
-            Ok(number) => {
-                self.records.row_changed(&self.tables, number, row);
-                Ok(())
-            }
-            Err(error) => Err(unput(error)),
+        // A row takes its memory where its table's rows do.
+        let _ = alloc;
+        match note_before(&mut self.records, &self.tables, table, row) {
+            None => Err(ApplyError::Refused(EditError::Row(RowError::UnknownTable))),
+            Some(number) => match self.tables.put_at(number, row, values) {
+                Ok(()) => {
+                    self.records.row_changed(&self.tables, number, row);
+                    Ok(())
+                }
+                Err(error) => Err(unput(error)),
+            },
         }
     }
 
@@ -53,17 +57,19 @@ impl<V: View> Session<V> {
         ensures refused { IfErr result (IsApplyCause (Delete table.now row)
             (after_delete (standing_of self.old) table.now row)) }
         ensures same { OnErr result (self.new ≡ self.old) }
-        ensures rest { self.new
+        ensures others { self.new
             ≡ record self.old { tables = self.new.tables; records = self.new.records } }
-        ensures records { map doubtless self.new.records ≡ map doubtless self.old.records }
+        ensures records { map as_made self.new.records ≡ map as_made self.old.records }
     {
-        note_before(&mut self.records, &self.tables, table, row);
-        match self.tables.delete(table, row) {
-            Ok(number) => {
-                self.records.row_changed(&self.tables, number, row);
-                Ok(())
-            }
-            Err(error) => Err(ApplyError::Refused(EditError::Row(error))),
+        match note_before(&mut self.records, &self.tables, table, row) {
+            None => Err(ApplyError::Refused(EditError::Row(RowError::UnknownTable))),
+            Some(number) => match self.tables.delete_at(number, row) {
+                Ok(()) => {
+                    self.records.row_changed(&self.tables, number, row);
+                    Ok(())
+                }
+                Err(error) => Err(ApplyError::Refused(EditError::Row(error))),
+            },
         }
     }
 
@@ -75,7 +81,7 @@ impl<V: View> Session<V> {
         ensures refused { IfErr result (IsApplyCause (Define text.now)
             (after_define reads_text checks_rules (standing_of self.old) text.now)) }
         ensures same { OnErr result (self.new ≡ self.old) }
-        ensures rest { self.new ≡ record self.old { checked = self.new.checked } }
+        ensures others { self.new ≡ record self.old { checked = self.new.checked } }
     {
         match checked_defines::define(alloc, &self.checked, &self.tables, text) {
             Ok(checked) => {
@@ -91,15 +97,23 @@ impl<V: View> Session<V> {
     }
 }
 
-// Has the records note a row of the table of that name as it is before an edit, where there is such a table.
-fn note_before(records: &mut IndexedRecords, tables: &Tables, table: &str, row: i64)
+// The number of the table of a name, of which the records have noted a row as it is before an edit.
+fn note_before(records: &mut IndexedRecords, tables: &Tables, name: &str, row: i64) -> Option<usize>
     requires room { (records.old.records ≡ []) ⊎ HasRoomFor tables.now.tables records.old.room }
-    ensures noted { index_of (names_of tables.now.tables) table.now < length tables.now.tables
-        → (records.new.records ≡ [])
-        ⊎ IsNoted tables.now.tables (index_of (names_of tables.now.tables) table.now) row records.new.was }
+    ensures found { IfSome result (λ number. number
+        ≡ index_of (names_of tables.now.tables) name.now) }
+    ensures within { IfSome result (λ number. number < length tables.now.tables) }
+    ensures absent { IfNone result (index_of (names_of tables.now.tables) name.now
+        ≡ length tables.now.tables) }
+    ensures noted { IfSome result (λ number. (records.new.records ≡ [])
+        ⊎ IsNoted tables.now.tables number row records.new.was) }
     ensures same { records.new ≡ record records.old { was = records.new.was } }
 {
-    if let Some(number) = tables.table(table) {
-        records.row_before(tables, number, row);
+    match tables.table(name) {
+        None => None,
+        Some(number) => {
+            records.row_before(tables, number, row);
+            Some(number)
+        }
     }
 }

@@ -1,8 +1,8 @@
 // A session: a checked program, its tables, its pool of kits, and the records that its runs have left.
 ghost use Rattle.std.specs.Prelude.{◌≡◌, ◌<◌, [], true, false, All, Ok, length, map, option_copied, IfOk, IfErr, OnOk, OnErr};
 ghost use Rattle.linked_program.specs.TableNames.{columned_of};
-ghost use Rattle.rerun_records.specs.Record.{doubtless};
-ghost use Rattle.rerun_records.specs.Doubted.{IsInStep};
+ghost use Rattle.rerun_records.specs.Record.{as_made};
+ghost use Rattle.rerun_records.specs.InStep.{IsInStep};
 ghost use Rattle.rerun_records.specs.Commits.{put_records};
 ghost use Rattle.rerun_records.specs.Named.{looked_up, HaveValues};
 ghost use Rattle.numbered_runs.specs.Sound.{AreSoundFor};
@@ -87,16 +87,16 @@ impl<V: View> Session<V> {
     }
 
     /// Edits the tables or the program, as the definitions have it. A refused edit changes nothing, and no edit changes the
-    /// records, each of which stays sound, but for what is in doubt of them.
+    /// records, each of which stays sound, but for how many of their readings don't hold.
     pub fn apply(&mut self, alloc: Global, edit: &Edit<'_>) -> Result<(), ApplyError>
         ensures applied { OnOk result
             (edited (standing_of self.old) (said edit.now) ≡ Ok (standing_of self.new)) }
         ensures refused { IfErr result
             (IsApplyCause (said edit.now) (edited (standing_of self.old) (said edit.now))) }
         ensures same { OnErr result (self.new ≡ self.old) }
-        ensures rest { self.new
+        ensures others { self.new
             ≡ record self.old { checked = self.new.checked; tables = self.new.tables; records = self.new.records } }
-        ensures records { map doubtless self.new.records ≡ map doubtless self.old.records }
+        ensures records { map as_made self.new.records ≡ map as_made self.old.records }
     {
         match edit {
             Edit::Put { table, row, values } => self.put(alloc, table, *row, values),
@@ -133,7 +133,7 @@ impl<V: View> Session<V> {
     /// at no table, and takes no memory. Of a record with 4,294,967,295 readings or more it may tell another number.
     pub fn stale(&self, key: &Key) -> Option<usize>
         ensures stale { IsStale self.now.checked.revisions self.now.tables.tables
-            (record_for self.now.checked (map doubtless self.now.records) key.now) result }
+            (record_for self.now.checked (map as_made self.now.records) key.now) result }
     {
         // What the program's type keeps: so the procedures' numbers are the places of their names.
         self.checked.revised();
@@ -180,7 +180,7 @@ impl<V: View> Session<V> {
 
     /// What the type keeps: the tables have the names that the program was checked against, the kits are of its reducers' kinds,
     /// and the records are sound for it and in step with the tables.
-    pub fn kept(&self)
+    pub fn upheld(&self)
         ensures sound { AreSoundFor self.now.checked self.now.records }
         ensures values { HaveValues self.now.checked.kinds self.now.records }
         ensures columns { self.now.checked.tables ≡ columned_of self.now.tables.tables }
@@ -221,8 +221,8 @@ impl<V: View> Session<V> {
         requires new { AreNewFor self.old.checked self.old.tables made.items }
         ensures settled { OnOk result (self.new
             ≡ record self.old { kits = pool; records = self.new.records }) }
-        ensures records { OnOk result (map doubtless self.new.records
-            ≡ put_records (map doubtless self.old.records) made.items) }
+        ensures records { OnOk result (map as_made self.new.records
+            ≡ put_records (map as_made self.old.records) made.items) }
         ensures refused { OnErr result (self.new ≡ record self.old { kits = pool }) }
     {
         // What the types of the program, the tables and the records keep: so the values are of the reducers' kinds.
@@ -251,16 +251,15 @@ impl<V: View> Session<V> {
     }
 
     /// Makes blocks of the records that runs have put in since that was done last, and of those whose blocks edits have dropped: a
-    /// block answers for all its records in later runs. Nothing that can be told of the records changes but what is in doubt of
-    /// them; where memory is refused there are fewer blocks.
+    /// block answers for all its records in later runs. Nothing that can be told of the session changes; where memory is refused there
+    /// are fewer blocks.
     pub fn gather(&mut self, alloc: Global)
-        ensures rest { self.new ≡ record self.old { records = self.new.records } }
-        ensures records { map doubtless self.new.records ≡ map doubtless self.old.records }
+        ensures same { self.new ≡ self.old }
     {
         // What the program's type keeps: so its reducers are monoids.
         self.checked.clean();
         self.checked.linked();
         self.checked.revised();
-        self.records.gather(alloc, &self.tables, &self.checked);
+        self.records.gather(alloc, &self.checked);
     }
 }

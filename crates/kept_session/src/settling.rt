@@ -2,9 +2,9 @@
 ghost use Rattle.std.specs.Prelude.{◌≡◌, List, All, map, OnOk, OnErr};
 ghost use Rattle.monoid_laws.specs.declared.Kind.{Kind as PlainKind};
 ghost use Rattle.monoid_laws.specs.Kinds.{IsMonoid};
-ghost use Rattle.rerun_records.specs.Record.{doubtless};
+ghost use Rattle.rerun_records.specs.Record.{as_made};
 ghost use Rattle.rerun_records.specs.Commits.{put_records};
-ghost use Rattle.rerun_records.specs.Doubted.{ReadNow};
+ghost use Rattle.rerun_records.specs.InStep.{ReadNow};
 ghost use Rattle.rerun_records.specs.Named.{HaveValues, CommitsNamed};
 ghost use Rattle.record_index.specs.Indexed.{IsIndexed, EnteredNow};
 
@@ -30,7 +30,7 @@ pub(crate) fn keep(
     requires values { HaveValues program.now.kinds records.old.records }
     requires made_values { HaveValues program.now.kinds made.items }
     ensures committed { OnOk result
-        (map doubtless records.new.records ≡ put_records (map doubtless records.old.records) made.items) }
+        (map as_made records.new.records ≡ put_records (map as_made records.old.records) made.items) }
     ensures indexed { OnOk result (IsIndexed program.now.revisions tables.now.tables records.new) }
     ensures named { OnOk result (CommitsNamed program.now records.old.records made.items records.new.records) }
     ensures values { OnOk result ((kinds : List PlainKind) → HaveValues kinds records.old.records
@@ -42,6 +42,6 @@ pub(crate) fn keep(
     if !at_once {
         return Ok(());
     }
-    records.gather(alloc, tables, program);
+    records.gather(alloc, program);
     Ok(())
 }

@@ -16,8 +16,8 @@ use view_pool::{Kit, KitSource, View};
 pub fn send_home<V: View, K: KitSource<Kit<V>>>(kits: &mut K, kit: Kit<V>)
     requires fits { K.fits kit kits.old }
     ensures fitting { (k : List Kind) → K.fits k kits.old → K.fits k kits.new }
-    ensures kept { (k : List Kind) → K.gives k kits.new → K.gives k kits.old ⊎ kit ≡ k }
-    ensures given { K.free kits.old < K.total kits.old → K.free kits.new ≡ suc (K.free kits.old) }
+    ensures gives_known { (k : List Kind) → K.gives k kits.new → K.gives k kits.old ⊎ kit ≡ k }
+    ensures home { K.free kits.old < K.total kits.old → K.free kits.new ≡ suc (K.free kits.old) }
     ensures total { K.total kits.new ≡ K.total kits.old }
 {
     let _ = kits.give(kit);
@@ -35,8 +35,8 @@ pub fn close_all<V: View, K: KitSource<Kit<V>>>(
     ensures none { lower.new.items ≡ [] }
     ensures same_kinds { layer.new.kinds ≡ layer.old.kinds }
     ensures fitting { (k : List Kind) → K.fits k kits.old → K.fits k kits.new }
-    ensures kept { (k : List Kind) → K.gives k kits.new → K.gives k kits.old ⊎ layer.old.kinds ≡ k }
-    ensures given { length lower.old.items + K.free kits.old ≤ K.total kits.old → K.free kits.new ≡ length lower.old.items + K.free kits.old }
+    ensures gives_known { (k : List Kind) → K.gives k kits.new → K.gives k kits.old ⊎ layer.old.kinds ≡ k }
+    ensures home { length lower.old.items + K.free kits.old ≤ K.total kits.old → K.free kits.new ≡ length lower.old.items + K.free kits.old }
     ensures total { K.total kits.new ≡ K.total kits.old }
 {
     while let Some(next) = lower.pop() {

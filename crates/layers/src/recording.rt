@@ -246,7 +246,7 @@ fn two_reads(alloc: Global, found: &[Reading]) -> Result<Readings, AllocError>
     Readings::new(alloc, own, Vec::new(alloc))
 }
 
-/// The same of any readings. Those of one instance alone are handed on as they are.
+/// A layer's own readings, each once, and then those that it shares, however many. Those of one instance alone are handed on as they are.
 #[inline(never)]
 fn all_reads(alloc: Global, notes: &Notes, shared: &[Readings]) -> Result<Readings, AllocError>
     ensures kept { IfOk result (λ r. r ≡ once notes.now ++ all_of shared.now) }

@@ -58,7 +58,7 @@ pub record AreSound (program : Revised) (names : List Columned) (kinds : List Ki
   pub stand : AreRecords program.tree names kinds kept records
   pub sound : Every (IsSound program) kept
 
--- the same, for a setting's program
+-- records that stand for sound ones of a setting's program
 abbrev pub AreSoundIn : Setting → List PlainRecord → Type 0
 AreSoundIn setting records = AreSound setting.program setting.names setting.kinds records
 

@@ -20,6 +20,7 @@ pub fn are_ready(program: &Checked, tables: &Tables)
     ensures checked { IsChecked program.now }
     ensures monoids { All IsMonoid program.now.kinds }
 {
+    // Each of these lends what the type of its argument keeps; the two laws at the end make the clauses of it.
     program.clean();
     program.linked();
     program.revised();

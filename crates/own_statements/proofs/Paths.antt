@@ -35,7 +35,7 @@ pub forget_stopped : {A B : Type 0} (view : B → A) (o : NumberedOut A) (l m : 
 forget_stopped view o l m (Fault k) h = forget_noted o.notes l m h.1
 forget_stopped view o l m NoMemory h = ap (λ (k : PlainLayer). record k { notes = take (length l.notes) k.notes }) h ∙ ap (λ xs. record l { notes = xs }) (take_all l.notes)
 
--- what stands at a place, for two instances with the same procedure and the same blocks around
+-- what stands at a position, for two instances with the same procedure and the same blocks around
 pub found_as : (codes : List Code) (a b : PlainActivation) (p : Position) → b.procedure ≡ a.procedure → b.outer ≡ a.outer
     → instruction_inside codes a.procedure (length a.outer) p ≡ instruction_inside codes b.procedure (length b.outer) p
 found_as codes a b p procedure outer =

@@ -52,7 +52,7 @@ OnNext Next P = P
 OnNext _ P = Unit {0}
 
 -- what was done of the statement at a place, with that meaning: nothing, or all of it. What the instance has left isn't looked at: it stands at
--- that place, or at the next one
+-- that position, or at the next one
 abbrev pub Does : Bool → Position → (Bool → PlainStrand → PlainStrand) → PlainActivation → PlainLayer → Did → PlainActivation → PlainLayer → Type 0
 Does passes p meaning a l Nothing b m = (b ≡ a) × (m ≡ l)
 Does passes p meaning a l Next b m = (s : PlainStrand) → MayPass passes s → (kit : Bool)

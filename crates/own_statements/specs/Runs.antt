@@ -19,7 +19,7 @@ IsBlock codes a block xs = (index : ℕ) → slice_get xs index ≡ instruction_
 abbrev pub IsBody : List Code → ℕ → List Instruction → Type 0
 IsBody codes p body = (index : ℕ) → slice_get body index ≡ instruction_inside codes p 0 (record { block = 0; index = index })
 
--- an instance comes so far in any strand, where syncs may be passed: to that place, to that value, or as far as it could
+-- an instance comes so far in any strand, where syncs may be passed: to that position, to that value, or as far as it could
 abbrev pub RunsTo : Setting → Bool → PlainActivation → PlainLayer → Ran → PlainActivation → PlainLayer → Type 0
 RunsTo setting passes a l (On p xs) b m = ComesTo setting passes a l None (at (Block p) b) m × IsBlock setting.codes b p.block xs.now
 RunsTo setting passes a l (Gave v) b m = ComesTo setting passes a l (Some v) b m

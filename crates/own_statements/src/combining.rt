@@ -32,11 +32,11 @@ pub fn combine_some<V: View>(
     top: &mut Activation,
     numbers: &mut Vec<i64>,
 ) -> bool
-    requires room { here.place.index + 1 < 2 ^ 64 }
+    requires room { here.position.index + 1 < 2 ^ 64 }
     requires kinds { layer.old.kinds ≡ setting.program.now.kinds }
-    ensures done { Does here.passes_syncs here.place (λ kit. evaluated here.statement
+    ensures done { Does here.passes_syncs here.position (λ kit. evaluated here.statement
         (values_at setting.entry.tables.now.tables top.old.slots (map plain expressions.now))
-        (combining (slice_get setting.entry.program.now.kinds reducer) here.statement here.place reducer))
+        (combining (slice_get setting.entry.program.now.kinds reducer) here.statement here.position reducer))
         top.old layer.old (if result then Next else Nothing) top.new layer.new }
     ensures same_block { OnNext (if result then Next else Nothing) (IsInBlock top.old top.new) }
     ensures kinds { layer.new.kinds ≡ layer.old.kinds }
@@ -94,11 +94,11 @@ fn combine_evaluated<V: View>(
     top: &mut Activation,
     numbers: &mut Vec<i64>,
 ) -> bool
-    requires room { here.place.index + 1 < 2 ^ 64 }
+    requires room { here.position.index + 1 < 2 ^ 64 }
     requires kinds { layer.old.kinds ≡ setting.program.now.kinds }
-    ensures done { Does here.passes_syncs here.place (λ kit. evaluated here.statement
+    ensures done { Does here.passes_syncs here.position (λ kit. evaluated here.statement
         (values_at setting.entry.tables.now.tables top.old.slots (map plain expressions.now))
-        (combining (slice_get setting.entry.program.now.kinds reducer) here.statement here.place reducer))
+        (combining (slice_get setting.entry.program.now.kinds reducer) here.statement here.position reducer))
         top.old layer.old (if result then Next else Nothing) top.new layer.new }
     ensures same_block { OnNext (if result then Next else Nothing) (IsInBlock top.old top.new) }
     ensures kinds { layer.new.kinds ≡ layer.old.kinds }
@@ -126,12 +126,12 @@ fn combine_one<V: View>(
     expression: &Expression,
     top: &mut Activation,
 ) -> bool
-    requires room { here.place.index + 1 < 2 ^ 64 }
+    requires room { here.position.index + 1 < 2 ^ 64 }
     requires takes { Takes setting.program.now.kinds reducer 1 }
     requires kinds { layer.old.kinds ≡ setting.program.now.kinds }
-    ensures done { Does here.passes_syncs here.place (λ kit. evaluated here.statement
+    ensures done { Does here.passes_syncs here.position (λ kit. evaluated here.statement
         (values_at setting.entry.tables.now.tables top.old.slots (plain expression.now ∷ []))
-        (combining (slice_get setting.entry.program.now.kinds reducer) here.statement here.place reducer))
+        (combining (slice_get setting.entry.program.now.kinds reducer) here.statement here.position reducer))
         top.old layer.old (if result then Next else Nothing) top.new layer.new }
     ensures same_block { OnNext (if result then Next else Nothing) (IsInBlock top.old top.new) }
     ensures kinds { layer.new.kinds ≡ layer.old.kinds }
@@ -162,12 +162,12 @@ fn combine_two<V: View>(
     second: &Expression,
     top: &mut Activation,
 ) -> bool
-    requires room { here.place.index + 1 < 2 ^ 64 }
+    requires room { here.position.index + 1 < 2 ^ 64 }
     requires takes { Takes setting.program.now.kinds reducer 2 }
     requires kinds { layer.old.kinds ≡ setting.program.now.kinds }
-    ensures done { Does here.passes_syncs here.place (λ kit. evaluated here.statement
+    ensures done { Does here.passes_syncs here.position (λ kit. evaluated here.statement
         (values_at setting.entry.tables.now.tables top.old.slots (plain first.now ∷ plain second.now ∷ []))
-        (combining (slice_get setting.entry.program.now.kinds reducer) here.statement here.place reducer))
+        (combining (slice_get setting.entry.program.now.kinds reducer) here.statement here.position reducer))
         top.old layer.old (if result then Next else Nothing) top.new layer.new }
     ensures same_block { OnNext (if result then Next else Nothing) (IsInBlock top.old top.new) }
     ensures kinds { layer.new.kinds ≡ layer.old.kinds }
@@ -198,11 +198,11 @@ fn combine_all<V: View>(
     top: &mut Activation,
     numbers: &mut Vec<i64>,
 ) -> bool
-    requires room { here.place.index + 1 < 2 ^ 64 }
+    requires room { here.position.index + 1 < 2 ^ 64 }
     requires kinds { layer.old.kinds ≡ setting.program.now.kinds }
-    ensures done { Does here.passes_syncs here.place (λ kit. evaluated here.statement
+    ensures done { Does here.passes_syncs here.position (λ kit. evaluated here.statement
         (values_at setting.entry.tables.now.tables top.old.slots (map plain expressions.now))
-        (combining (slice_get setting.entry.program.now.kinds reducer) here.statement here.place reducer))
+        (combining (slice_get setting.entry.program.now.kinds reducer) here.statement here.position reducer))
         top.old layer.old (if result then Next else Nothing) top.new layer.new }
     ensures same_block { OnNext (if result then Next else Nothing) (IsInBlock top.old top.new) }
     ensures kinds { layer.new.kinds ≡ layer.old.kinds }

@@ -81,7 +81,7 @@ fn on_row<V: View>(
     unnoted::row_at_once(operator, cells, slots, tables)
 }
 
-/// The same value; that of a number, or of a slot that has one, without a call.
+/// The value of an expression where it is found at once; that of a number, or of a slot that has one, without a call.
 #[inline(always)]
 #[tactic(auto, using(crate::proofs::AtOnce::pure_fills))]
 pub fn given_at_once<V: View>(

@@ -35,12 +35,12 @@ pub fn run<V: View>(
     ensures kinds { layer.new.kinds ≡ layer.old.kinds }
 {
     match ran_to(setting, top) {
-        Ran::On(place, statements) => {
+        Ran::On(position, statements) => {
             run_from(
                 layer,
                 setting,
                 passes_syncs,
-                place,
+                position,
                 statements,
                 top,
                 numbers,
@@ -74,100 +74,100 @@ pub fn call<V: View>(
     run_from(layer, setting, true, FIRST, body, child, numbers)
 }
 
-/// Does the statements from that place on, as `run` does; the block there has those statements. What the instance has left isn't
+/// Does the statements from that position on, as `run` does; the block there has those statements. What the instance has left isn't
 /// looked at.
 #[inline(always)]
 fn run_from<V: View>(
     layer: &mut Layer<V>,
     setting: Setting<'_>,
     passes_syncs: bool,
-    place: Position,
+    position: Position,
     statements: &[Instruction],
     top: &mut Activation,
     numbers: &mut Vec<i64>,
 ) -> Option<i64>
-    requires block { IsBlock setting.program.now.codes top.old place.block statements.now }
+    requires block { IsBlock setting.program.now.codes top.old position.block statements.now }
     requires kinds { layer.old.kinds ≡ setting.program.now.kinds }
-    ensures ahead { ComesTo (lent setting.entry) passes_syncs (at (Work.Block place) top.old) layer.old result top.new layer.new }
+    ensures ahead { ComesTo (lent setting.entry) passes_syncs (at (Work.Block position) top.old) layer.old result top.new layer.new }
     ensures kinds { layer.new.kinds ≡ layer.old.kinds }
 {
-    let (mut place, mut statements) = first(place, statements);
+    let (mut position, mut statements) = first(position, statements);
     for _ in 0..STRETCHES {
         match run_block(
             layer,
             setting,
             passes_syncs,
-            place,
+            position,
             statements,
             top,
             numbers,
         ) {
             Ran::On(next, others) => {
-                place = next;
+                position = next;
                 statements = others;
             }
             Ran::Gave(value) => return Some(value),
             Ran::Stopped => return None,
         }
     }
-    top.stand(place);
+    top.stand(position);
     None
 }
 
 // The block that is first.
 #[inline(always)]
-fn first(place: Position, statements: &[Instruction]) -> (Position, &[Instruction])
-    ensures place { result.0 ≡ place }
+fn first(position: Position, statements: &[Instruction]) -> (Position, &[Instruction])
+    ensures position { result.0 ≡ position }
     ensures statements { result.1.now ≡ statements.now }
 {
-    (place, statements)
+    (position, statements)
 }
 
-/// The statements from that place on, as far as the block's end or to one that leads elsewhere.
+/// The statements from that position on, as far as the block's end or to one that leads elsewhere.
 /// Updates call a view, so they stand apart: the machine code tests a flag behind each call that may come to one.
 #[inline(always)]
 fn run_block<'a, V: View>(
     layer: &mut Layer<V>,
     setting: Setting<'a>,
     passes_syncs: bool,
-    place: Position,
+    position: Position,
     statements: &'a [Instruction],
     top: &mut Activation,
     numbers: &mut Vec<i64>,
 ) -> Ran<'a>
-    requires block { IsBlock setting.program.now.codes top.old place.block statements.now }
+    requires block { IsBlock setting.program.now.codes top.old position.block statements.now }
     requires kinds { layer.old.kinds ≡ setting.program.now.kinds }
-    ensures ran { RunsTo (lent setting.entry) passes_syncs (at (Work.Block place) top.old) layer.old result top.new layer.new }
+    ensures ran { RunsTo (lent setting.entry) passes_syncs (at (Work.Block position) top.old) layer.old result top.new layer.new }
     ensures kinds { layer.new.kinds ≡ layer.old.kinds }
 {
-    let block = place.block;
-    let mut index = place.index;
+    let block = position.block;
+    let mut index = position.index;
     while index < statements.len() {
-        let place = Position { block, index };
+        let position = Position { block, index };
         let statement = &statements[index];
         if let Operation::Update(reducer, values) = &statement.operation {
             let here = Here {
                 statement: statement.number,
-                place,
+                position,
                 passes_syncs,
             };
             let values = values.as_slice();
             if !combine_some(layer, setting, here, *reducer, values, top, numbers) {
-                top.stand(place);
+                top.stand(position);
                 return Ran::Stopped;
             }
             index += 1;
             continue;
         }
-        match perform_alone(layer, setting, passes_syncs, place, statement, top) {
+        match perform_alone(layer, setting, passes_syncs, position, statement, top) {
             Did::Next => index += 1,
             Did::Moved => return ran_to(setting, top),
             Did::Nothing => {
-                top.stand(place);
+                top.stand(position);
                 return Ran::Stopped;
             }
             Did::Gave(value) => {
-                top.stand(place);
+                top.stand(position);
                 return Ran::Gave(value);
             }
         }
@@ -183,14 +183,14 @@ fn ran_to<'a>(setting: Setting<'a>, top: &Activation) -> Ran<'a>
 {
     match top.work() {
         Work::Over => Ran::Gave(0),
-        Work::Block(place) => {
+        Work::Block(position) => {
             let statements = instructions(
                 setting.program,
                 top.procedure(),
                 top.depth(),
-                place.block,
+                position.block,
             );
-            Ran::On(place, statements)
+            Ran::On(position, statements)
         }
         _ => Ran::Stopped,
     }

@@ -27,11 +27,11 @@ pub enum Did {
     Gave(i64),
 }
 
-/// Where an instance is: at that statement, which stands at that place, and whether it may pass a sync.
+/// Where an instance is: at that statement, which stands at that position, and whether it may pass a sync.
 #[derive(Clone, Copy)]
 pub struct Here {
     pub statement: u32,
-    pub place: Position,
+    pub position: Position,
     pub passes_syncs: bool,
 }
 
@@ -41,20 +41,20 @@ pub fn perform_alone<V: View>(
     layer: &mut Layer<V>,
     setting: Setting<'_>,
     passes_syncs: bool,
-    place: Position,
+    position: Position,
     instruction: &Instruction,
     top: &mut Activation,
 ) -> Did
-    requires room { place.index + 1 < 2 ^ 64 }
+    requires room { position.index + 1 < 2 ^ 64 }
     requires kinds { layer.old.kinds ≡ setting.program.now.kinds }
-    ensures done { Does passes_syncs place (λ kit. performed
-        (lent setting.entry) kit place instruction.now.number instruction.now.operation) top.old layer.old result top.new layer.new }
+    ensures done { Does passes_syncs position (λ kit. performed
+        (lent setting.entry) kit position instruction.now.number instruction.now.operation) top.old layer.old result top.new layer.new }
     ensures same_block { OnNext result (IsInBlock top.old top.new) }
     ensures kinds { layer.new.kinds ≡ layer.old.kinds }
 {
     let here = Here {
         statement: instruction.number,
-        place,
+        position,
         passes_syncs,
     };
     match &instruction.operation {
@@ -63,7 +63,7 @@ pub fn perform_alone<V: View>(
             choose(layer, setting.tables, here, condition, *first, *second, top)
         }
         Operation::Return(value) => { give(layer, setting.tables, here, value, top) }
-        Operation::Sync => pass_sync(layer, passes_syncs, place, top),
+        Operation::Sync => pass_sync(layer, passes_syncs, position, top),
         _ => Did::Nothing,
     }
 }
@@ -73,11 +73,11 @@ pub fn perform_alone<V: View>(
 fn pass_sync<V: View>(
     layer: &mut Layer<V>,
     passes_syncs: bool,
-    place: Position,
+    position: Position,
     top: &mut Activation,
 ) -> Did
-    requires room { place.index + 1 < 2 ^ 64 }
-    ensures done { Does passes_syncs place (λ kit s. if is_entry s then s else moved_on place s) top.old layer.old result top.new layer.new }
+    requires room { position.index + 1 < 2 ^ 64 }
+    ensures done { Does passes_syncs position (λ kit s. if is_entry s then s else moved_on position s) top.old layer.old result top.new layer.new }
     ensures same_block { OnNext result (IsInBlock top.old top.new) }
     ensures kinds { layer.new.kinds ≡ layer.old.kinds }
 {
@@ -100,9 +100,9 @@ fn bind<V: View>(
     expression: &Expression,
     top: &mut Activation,
 ) -> Did
-    requires room { here.place.index + 1 < 2 ^ 64 }
-    ensures done { Does here.passes_syncs here.place (λ kit. evaluated here.statement (value_at tables.now.tables top.old.slots (plain expression.now))
-        (binding here.place name)) top.old layer.old result top.new layer.new }
+    requires room { here.position.index + 1 < 2 ^ 64 }
+    ensures done { Does here.passes_syncs here.position (λ kit. evaluated here.statement (value_at tables.now.tables top.old.slots (plain expression.now))
+        (binding here.position name)) top.old layer.old result top.new layer.new }
     ensures same_block { OnNext result (IsInBlock top.old top.new) }
     ensures kinds { layer.new.kinds ≡ layer.old.kinds }
 {
@@ -125,9 +125,9 @@ fn bind_evaluated<V: View>(
     expression: &Expression,
     top: &mut Activation,
 ) -> Did
-    requires room { here.place.index + 1 < 2 ^ 64 }
-    ensures done { Does here.passes_syncs here.place (λ kit. evaluated here.statement (value_at tables.now.tables top.old.slots (plain expression.now))
-        (binding here.place name)) top.old layer.old result top.new layer.new }
+    requires room { here.position.index + 1 < 2 ^ 64 }
+    ensures done { Does here.passes_syncs here.position (λ kit. evaluated here.statement (value_at tables.now.tables top.old.slots (plain expression.now))
+        (binding here.position name)) top.old layer.old result top.new layer.new }
     ensures same_block { OnNext result (IsInBlock top.old top.new) }
     ensures kinds { layer.new.kinds ≡ layer.old.kinds }
 {
@@ -155,16 +155,16 @@ fn choose<V: View>(
     second: usize,
     top: &mut Activation,
 ) -> Did
-    requires room { here.place.index + 1 < 2 ^ 64 }
-    ensures done { Does here.passes_syncs here.place (λ kit. evaluated here.statement (value_at tables.now.tables top.old.slots (plain condition.now))
-        (choosing here.place first second)) top.old layer.old result top.new layer.new }
+    requires room { here.position.index + 1 < 2 ^ 64 }
+    ensures done { Does here.passes_syncs here.position (λ kit. evaluated here.statement (value_at tables.now.tables top.old.slots (plain condition.now))
+        (choosing here.position first second)) top.old layer.old result top.new layer.new }
     ensures same_block { OnNext result (IsInBlock top.old top.new) }
     ensures kinds { layer.new.kinds ≡ layer.old.kinds }
 {
     match value_at_once(layer, condition, top.slots(), tables) {
         Some(value) => {
             let block = if value == 0 { second } else { first };
-            if top.go_inside(block, here.place).is_err() {
+            if top.go_inside(block, here.position).is_err() {
                 return Did::Nothing;
             }
             Did::Moved
@@ -184,9 +184,9 @@ fn choose_evaluated<V: View>(
     second: usize,
     top: &mut Activation,
 ) -> Did
-    requires room { here.place.index + 1 < 2 ^ 64 }
-    ensures done { Does here.passes_syncs here.place (λ kit. evaluated here.statement (value_at tables.now.tables top.old.slots (plain condition.now))
-        (choosing here.place first second)) top.old layer.old result top.new layer.new }
+    requires room { here.position.index + 1 < 2 ^ 64 }
+    ensures done { Does here.passes_syncs here.position (λ kit. evaluated here.statement (value_at tables.now.tables top.old.slots (plain condition.now))
+        (choosing here.position first second)) top.old layer.old result top.new layer.new }
     ensures same_block { OnNext result (IsInBlock top.old top.new) }
     ensures kinds { layer.new.kinds ≡ layer.old.kinds }
 {
@@ -194,7 +194,7 @@ fn choose_evaluated<V: View>(
     match layer.value(condition, top.slots(), tables) {
         Ok(value) => {
             let block = if value == 0 { second } else { first };
-            if top.go_inside(block, here.place).is_err() {
+            if top.go_inside(block, here.position).is_err() {
                 layer.forget(before);
                 return Did::Nothing;
             }
@@ -216,7 +216,7 @@ fn give<V: View>(
     expression: &Expression,
     top: &mut Activation,
 ) -> Did
-    ensures done { Does here.passes_syncs here.place (λ kit. evaluated here.statement
+    ensures done { Does here.passes_syncs here.position (λ kit. evaluated here.statement
         (value_at tables.now.tables top.old.slots (plain expression.now)) giving) top.old layer.old result top.new layer.new }
     ensures same_block { OnNext result (IsInBlock top.old top.new) }
     ensures kinds { layer.new.kinds ≡ layer.old.kinds }
@@ -236,7 +236,7 @@ fn give_evaluated<V: View>(
     expression: &Expression,
     top: &mut Activation,
 ) -> Did
-    ensures done { Does here.passes_syncs here.place (λ kit. evaluated here.statement
+    ensures done { Does here.passes_syncs here.position (λ kit. evaluated here.statement
         (value_at tables.now.tables top.old.slots (plain expression.now)) giving) top.old layer.old result top.new layer.new }
     ensures same_block { OnNext result (IsInBlock top.old top.new) }
     ensures kinds { layer.new.kinds ≡ layer.old.kinds }

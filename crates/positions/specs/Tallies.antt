@@ -5,7 +5,7 @@ use Rattle.monoid_laws.specs.declared.Kind.{Kind}
 use Rattle.monoid_laws.specs.Worth.{Worth}
 use Rattle.monoid_laws.specs.Kinds.{identity_of}
 use Rattle.meaning.specs.Elision.{depth_limit}
-use Rattle.rerun_records.specs.Record.{PlainRecord, rows}
+use Rattle.rerun_records.specs.Record.{PlainRecord}
 use Rattle.positions.specs.Layers.{PlainLayer, kept_reads}
 use Rattle.positions.specs.Values.{same_worth}
 
@@ -75,7 +75,7 @@ record_by revisions o l v = record {
   reads = kept_reads l;
   entered = entries_from 0 revisions l.entered;
   height = suc l.deepest - (depth_limit - o.left);
-  doubted = rows [];
+  stale = 0;
 }
 
 -- the topmost open layer is that of the instance whose name is so long

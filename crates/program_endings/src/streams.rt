@@ -80,7 +80,7 @@ impl Failures {
             n ≡ 0 → 0 < length buffer.new → IsAtEnd (R.remaining reader.new))) }
         ensures interrupted { IfOk result (λ read.
             IfNone read (Keeps (R.remaining reader.old) (R.remaining reader.new))) }
-        ensures kept { OnErr result (Keeps (R.remaining reader.old) (R.remaining reader.new)) }
+        ensures grows { OnErr result (Keeps (R.remaining reader.old) (R.remaining reader.new)) }
         ensures refused { IfErr result IsReaderError }
         ensures noted { result ≡ Err SessionError.Read → self.new.input ≡ true }
         ensures unmarked { result ≢ Err SessionError.Read → self.new ≡ self.old }
@@ -99,7 +99,7 @@ impl Failures {
         ensures bound { IfOk result (λ n. n ≤ length bytes.now) }
         ensures written { IfOk result (λ n.
             Appends (W.contents writer.old) (W.contents writer.new) (take n bytes.now)) }
-        ensures kept { OnErr result (Keeps (W.contents writer.old) (W.contents writer.new)) }
+        ensures grows { OnErr result (Keeps (W.contents writer.old) (W.contents writer.new)) }
         ensures refused { IfErr result IsWriterError }
         ensures noted { result ≡ Err SessionError.Write → self.new.output ≡ true }
         ensures unmarked { result ≢ Err SessionError.Write → self.new ≡ self.old }
@@ -115,7 +115,7 @@ impl Failures {
 
     // One flush: whether it was done; not where it was interrupted.
     fn flush<W: Write>(&mut self, writer: &mut W) -> Result<bool, SessionError>
-        ensures kept { Keeps (W.contents writer.old) (W.contents writer.new) }
+        ensures grows { Keeps (W.contents writer.old) (W.contents writer.new) }
         ensures refused { IfErr result IsWriterError }
         ensures noted { result ≡ Err SessionError.Write → self.new.output ≡ true }
         ensures unmarked { result ≢ Err SessionError.Write → self.new ≡ self.old }
@@ -239,7 +239,7 @@ pub fn write_whole<W: Write>(
 
 /// Flushes a writer; refused where a flush fails, which is noted, or memory is wanted.
 pub fn flush<W: Write>(writer: &mut W, failures: &mut Failures) -> Result<(), SessionError>
-    ensures kept { Keeps (W.contents writer.old) (W.contents writer.new) }
+    ensures grows { Keeps (W.contents writer.old) (W.contents writer.new) }
     ensures refused { IfErr result IsWriterError }
     ensures noted { result ≡ Err SessionError.Write → failures.new.output ≡ true }
     ensures unmarked { result ≢ Err SessionError.Write → failures.new ≡ failures.old }

@@ -156,9 +156,24 @@ fn step(
             };
             turns(ground, depth, levels - 1, iterations, slots, asked)?;
         }
-        Operation::Return(value) => return Ok(Some(value_of(ground, value, slots, asked)?)),
+        Operation::Return(value) => return returned(ground, value, slots, asked),
     }
     Ok(None)
+}
+
+// What a statement that returns that value gives back.
+fn returned(
+    ground: Ground<'_>,
+    value: &Expression,
+    slots: &[Slot],
+    asked: &mut Asked,
+) -> Result<Option<i64>, Halt>
+    ensures absent { IfErr result (EndsAbsent ground.entry.tables.now.tables) }
+{
+    match value_of(ground, value, slots, asked) {
+        Ok(value) => Ok(Some(value)),
+        Err(halt) => Err(halt),
+    }
 }
 
 // Gives a slot its value, if there is one that takes it.

@@ -1,19 +1,19 @@
 -- What the edit of a row makes of records with their numbers.
-use Rattle.std.proofs.Common.{◌≡◌, ◌⊎◌, inl, inr, ℕ, ◌<◌, ℤ, true, not, List, [], ◌∷◌, ◌++◌, length, map, refl, sym, ap, ◌∙◌, subst}
+use Rattle.std.proofs.Common.{◌≡◌, ◌⊎◌, inl, inr, ℕ, ◌<◌, ℤ, true, not, List, [], ◌∷◌, ◌++◌, length, map, refl, sym, ap, ◌∙◌, subst, arith}
 use Rattle.std.proofs.lemmas.Bool.{and_from}
 use Rattle.meaning.specs.Tree.{Name}
 use Rattle.meaning.specs.Every.{every}
 use Rattle.meaning.specs.Tables.{Tables}
 use Rattle.evaluation.specs.declared.note.Note.{Note}
-use Rattle.rerun_records.specs.Record.{PlainRecord, doubtless}
+use Rattle.rerun_records.specs.Record.{PlainRecord, as_made}
 use Rattle.rerun_records.specs.Blocks.{is_apart}
-use Rattle.rerun_records.specs.Doubted.{IsInStep, IsSameBut}
+use Rattle.rerun_records.specs.InStep.{IsInStep, IsSameBut}
+use Rattle.rerun_records.specs.Numbers.{told_by}
 use Rattle.rerun_records.proofs.NodeNotes.{every_append}
 use Rattle.record_index.specs.Befores.{PlainBefore, IsBefore, held_only, now_of, sums_from, HasRoomFor}
-use Rattle.record_index.specs.Numbers.{numbers_then, AreNumbers}
 use Rattle.record_index.specs.Indexed.{PlainIndexed, IsIndexed, IsNoted, HaveSameColumns, AreTold}
 use Rattle.record_index.proofs.Befores.{held_is, held_distinct, held_rests, same_but_back}
-use Rattle.record_index.proofs.NumbersThen.{numbers_are_then}
+use Rattle.record_index.proofs.NumbersThen.{in_step_then}
 use Rattle.record_index.proofs.RowSums.{length_sums}
 
 -- ---- what is told rests on the row
@@ -30,45 +30,52 @@ all_rest tables a change lost won t r l w =
 
 -- ---- the numbers are right for the tables now
 
-pub right_now : (before now : Tables) (a : PlainBefore) (rs : List PlainRecord) (ns : List ℕ) → IsBefore before a → IsBefore now (now_of now a) → IsSameBut a.table a.row before now → AreNumbers before rs ns
-    → AreNumbers now rs (numbers_then (held_only a (now_of now a)) (held_only (now_of now a) a) ns rs)
-right_now before now a rs ns was is same h =
+right_now : (before now : Tables) (a : PlainBefore) (rs : List PlainRecord) → IsBefore before a → IsBefore now (now_of now a) → IsSameBut a.table a.row before now → IsInStep before rs
+    → IsInStep now (map (told_by (held_only a (now_of now a)) (held_only (now_of now a) a)) rs)
+right_now before now a rs was is same h =
     let wide : length a.sums ≡ length (sums_from now a.table 0 (length a.sums)) = sym (length_sums now a.table 0 (length a.sums)) in
-    numbers_are_then before now (held_only a (now_of now a)) (held_only (now_of now a) a) (held_is a (now_of now a) before now was is refl refl wide same)
-    (held_is (now_of now a) a now before is was refl refl (sym wide) (same_but_back a.table a.row before now same)) (held_distinct a (now_of now a)) (held_distinct (now_of now a) a) rs ns h
+    in_step_then before now (held_only a (now_of now a)) (held_only (now_of now a) a) (held_is a (now_of now a) before now was is refl refl wide same)
+    (held_is (now_of now a) a now before is was refl refl (sym wide) (same_but_back a.table a.row before now same)) (held_distinct a (now_of now a)) (held_distinct (now_of now a) a) rs h
 
-none_doubted : (rs : List PlainRecord) → map doubtless rs ≡ [] → rs ≡ []
-none_doubted [] e = refl
-none_doubted (r ∷ rs) e = absurd cc
+none_counted : (rs : List PlainRecord) → map as_made rs ≡ [] → rs ≡ []
+none_counted [] e = refl
+none_counted (r ∷ rs) e = absurd cc
 
--- records that differ in what is in doubt alone are none where the others are none
-pub still_room : (before now : Tables) (old new : List PlainRecord) (room : ℕ) → map doubtless new ≡ map doubtless old → HaveSameColumns before now
+-- records that differ in their numbers alone are none where the others are none
+still_room : (before now : Tables) (old new : List PlainRecord) (room : ℕ) → map as_made new ≡ map as_made old → HaveSameColumns before now
     → (old ≡ []) ⊎ HasRoomFor before room → (new ≡ []) ⊎ HasRoomFor now room
-still_room before now old new room e same (inl none) = inl (none_doubted new (e ∙ ap (map doubtless) none))
+still_room before now old new room e same (inl none) = inl (none_counted new (e ∙ ap (map as_made) none))
 still_room before now old new room e same (inr has) = inr (λ t. subst (λ k. k < room) (sym (same t)) (has t))
 
-pub indexed_then : (revisions : List (Name × ℕ)) (before now : Tables) (table : ℕ) (row : ℤ) (old new : PlainIndexed) (records : List PlainRecord) → IsNoted before table row old.was
-    → IsSameBut table row before now → HaveSameColumns before now → IsIndexed revisions before old → map doubtless records ≡ map doubtless old.records → IsInStep now records
-    → IsBefore now (now_of now old.was)
-    → new.numbers ≡ numbers_then (held_only old.was (now_of now old.was)) (held_only (now_of now old.was) old.was) old.numbers (map doubtless records)
-    → new ≡ (record old { records = records; numbers = new.numbers }) → IsIndexed revisions now new
-indexed_then revisions before now table row old new records noted same columns indexed doubts in_step is numbers new_is =
+pub indexed_then : (revisions : List (Name × ℕ)) (before now : Tables) (table : ℕ) (row : ℤ) (old : PlainIndexed) (records : List PlainRecord) (was : PlainBefore) (room : ℕ) (lost won : List Note)
+    → IsNoted before table row old.was → IsSameBut table row before now → HaveSameColumns before now → IsIndexed revisions before old → IsBefore now (now_of now old.was)
+    → lost ≡ held_only old.was (now_of now old.was) → won ≡ held_only (now_of now old.was) old.was → records ≡ map (told_by lost won) old.records → map as_made records ≡ map as_made old.records → room ≡ old.room
+    → IsIndexed revisions now (record { records = records; told = old.told; was = was; room = room })
+indexed_then revisions before now table row old records was room lost won noted same columns indexed is lost_is won_is told_is same_records same_room =
     let here : IsSameBut old.was.table old.was.row before now =
     subst (λ t. IsSameBut t old.was.row before now) (sym noted.table_is) (subst (λ r. IsSameBut table r before now) (sym noted.row_is) same) in
-    let right : AreNumbers now (map doubtless old.records) (numbers_then (held_only old.was (now_of now old.was)) (held_only (now_of now old.was) old.was) old.numbers (map doubtless old.records)) =
-    right_now before now old.was (map doubtless old.records) old.numbers noted.before is here indexed.counted in
-    subst (IsIndexed revisions now) (sym new_is)
-    (record {
-      in_step = in_step;
-      counted =
-          subst (AreNumbers now (map doubtless records)) (sym numbers)
-          (subst (λ rs. AreNumbers now rs (numbers_then (held_only old.was (now_of now old.was)) (held_only (now_of now old.was) old.was) old.numbers rs)) (sym doubts) right);
-      told = subst (AreTold revisions old.told) (sym doubts) indexed.told;
-      room = still_room before now old.records records old.room doubts columns indexed.room;
-    })
+    let right : IsInStep now (map (told_by (held_only old.was (now_of now old.was)) (held_only (now_of now old.was) old.was)) old.records) =
+    right_now before now old.was old.records noted.before is here indexed.in_step in
+    record {
+      in_step =
+          subst (IsInStep now) (sym told_is)
+          (subst (λ (xs : List Note). IsInStep now (map (told_by xs won) old.records)) (sym lost_is)
+          (subst (λ (xs : List Note). IsInStep now (map (told_by (held_only old.was (now_of now old.was)) xs) old.records)) (sym won_is) right));
+      told = subst (AreTold revisions old.told) (sym same_records) indexed.told;
+      room = subst (λ (n : ℕ). (records ≡ []) ⊎ HasRoomFor now n) (sym same_room) (still_room before now old.records records old.room same_records columns indexed.room);
+    }
 
--- where there are records, it is noted
-pub surely_noted : (before : Tables) (table : ℕ) (row : ℤ) (was : PlainBefore) (old new : List PlainRecord) → map doubtless new ≡ map doubtless old → (length new ≡ 0 → ⊥)
-    → (old ≡ []) ⊎ IsNoted before table row was → IsNoted before table row was
-surely_noted before table row was old new e some (inl none) = absurd (some (ap length (none_doubted new (e ∙ ap (map doubtless) none))))
-surely_noted before table row was old new e some (inr noted) = noted
+-- where there are no records, they stay in step
+pub none_indexed : (revisions : List (Name × ℕ)) (before now : Tables) (old : PlainIndexed) → length old.records ≡ 0 → IsIndexed revisions before old → IsIndexed revisions now old
+none_indexed revisions before now old none indexed =
+    let empty : old.records ≡ [] = no_records old.records none in
+    record { in_step = subst (IsInStep now) (sym empty) refl; told = indexed.told; room = inl empty }
+  where
+    no_records : (rs : List PlainRecord) → length rs ≡ 0 → rs ≡ []
+    no_records [] e = refl
+    no_records (r ∷ rs) e = absurd (omega (arith, e))
+
+-- where there are records, the row is noted
+pub surely_noted : (before : Tables) (table : ℕ) (row : ℤ) (was : PlainBefore) (records : List PlainRecord) → (length records ≡ 0 → ⊥) → (records ≡ []) ⊎ IsNoted before table row was → IsNoted before table row was
+surely_noted before table row was records some (inl none) = absurd (some (ap length none))
+surely_noted before table row was records some (inr noted) = noted

@@ -1,4 +1,4 @@
--- Records with their numbers, and what they are in step with.
+-- Records with what was told of the procedures and of a row, and what they are in step with.
 use Rattle.std.specs.Prelude.{◌≡◌, ◌⊎◌, ◌<◌, ℕ, ℤ, nat_lt, Bool, true, ◌&&◌, List, [], Option, Some, None, map, length, take, is_some}
 use Rattle.std.specs.List.{find}
 use Rattle.meaning.specs.Tree.{Name}
@@ -8,26 +8,25 @@ use Rattle.meaning.specs.Tables.{Tables}
 use Rattle.meaning.specs.Records.{Key}
 use Rattle.linked_program.specs.Checked.{PlainChecked, names_in}
 use Rattle.input_tables.specs.Edited.{columns_at}
-use Rattle.rerun_records.specs.Record.{PlainRecord, is_of, doubtless}
-use Rattle.rerun_records.specs.Doubted.{IsInStep}
+use Rattle.rerun_records.specs.Record.{PlainRecord, is_of, as_made}
+use Rattle.rerun_records.specs.InStep.{IsInStep}
+use Rattle.rerun_records.specs.Numbers.{most_number}
 use Rattle.rerun_records.specs.Named.{number_of}
 use Rattle.rerun_records.specs.Validity.{has_revision}
 use Rattle.record_index.specs.Counts.{stale_count}
 use Rattle.record_index.specs.Befores.{PlainBefore, IsBefore, HasRoomFor, no_row}
-use Rattle.record_index.specs.Numbers.{AreNumbers, most_number}
 
--- records, their numbers, the procedures' names with their revision numbers as they were told last, the row that was noted last before an
--- edit, and for how many columns there is room there
+-- records, the procedures' names with their revision numbers as they were told last, the row that was noted last before an edit, and for
+-- how many columns there is room there
 pub record PlainIndexed : Type 0 where
   pub records : List PlainRecord
-  pub numbers : List ℕ
   pub told : List (Name × ℕ)
   pub was : PlainBefore
   pub room : ℕ
 
 -- no records
 abbrev pub nothing_indexed : PlainIndexed
-nothing_indexed = record { records = []; numbers = []; told = []; was = no_row; room = 0 }
+nothing_indexed = record { records = []; told = []; was = no_row; room = 0 }
 
 -- the record's procedure and those that it entered are among so many
 abbrev pub is_within : ℕ → PlainRecord → Bool
@@ -38,11 +37,10 @@ pub record AreTold (revisions : List (Name × ℕ)) (told : List (Name × ℕ)) 
   pub first : told ≡ take (length told) revisions
   pub within : every (is_within (length told)) records ≡ true
 
--- each number is right for the program and the tables
+-- what was counted and told is right for the program and the tables
 pub record IsIndexed (revisions : List (Name × ℕ)) (tables : Tables) (x : PlainIndexed) : Type 0 where
   pub in_step : IsInStep tables x.records
-  pub counted : AreNumbers tables (map doubtless x.records) x.numbers
-  pub told : AreTold revisions x.told (map doubtless x.records)
+  pub told : AreTold revisions x.told (map as_made x.records)
   pub room : (x.records ≡ []) ⊎ HasRoomFor tables x.room
 
 -- the row that was noted last is that one, as these tables have it

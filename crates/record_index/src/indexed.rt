@@ -1,27 +1,22 @@
-//! Records with their numbers.
-ghost use Rattle.std.specs.Prelude.{◌≡◌, ◌⊎◌, ◌<◌, ◌≤◌, ◌+◌, ◌++◌, ◌∷◌, [], ℕ, List, All, Some, true};
-ghost use Rattle.std.specs.Prelude.{map, length, take, slice_get, IfOk, IfSome, IfNone, OnOk, OnErr, option_copied, vec_capacity};
+//! Records with what was told of the program and of edits.
+ghost use Rattle.std.specs.Prelude.{◌≡◌, ◌⊎◌, ◌<◌, ◌≤◌, ◌+◌, [], ℕ, List, All, Some};
+ghost use Rattle.std.specs.Prelude.{map, length, take, slice_get, IfOk, IfSome, IfNone, OnOk, OnErr, option_copied};
 ghost use Rattle.linked_program.specs.Checked.{PlainChecked};
 ghost use Rattle.meaning.specs.Tables.{Tables as PlainTables};
 ghost use Rattle.meaning.specs.Tree.{Name};
 ghost use Rattle.meaning.specs.TreeView.{tree};
 ghost use Rattle.monoid_laws.specs.declared.Kind.{Kind as PlainKind};
 ghost use Rattle.monoid_laws.specs.Kinds.{IsMonoid};
-ghost use Rattle.rerun_records.specs.Record.{PlainRecord, doubtless};
+ghost use Rattle.rerun_records.specs.Record.{PlainRecord, as_made};
 ghost use Rattle.rerun_records.specs.Commits.{put_records};
-ghost use Rattle.rerun_records.specs.Doubted.{IsInStep, ReadNow, IsSameBut, reads_agree};
+ghost use Rattle.rerun_records.specs.InStep.{ReadNow, IsSameBut};
 ghost use Rattle.rerun_records.specs.Named.{looked_up, FindsNamed, CommitsNamed, HaveValues, IsInOrder};
 ghost use Rattle.input_tables.specs.Edited.{columns_at};
-ghost use Rattle.rerun_records.specs.Validity.{valid_at};
 ghost use Rattle.record_index.specs.Counts.{outdated_count};
-ghost use Rattle.record_index.specs.Befores.{IsBefore, HasRoomFor, held_only, now_of};
-ghost use Rattle.record_index.specs.Numbers.{AreNumbers, numbers_then, all_cleared, up_to};
-ghost use Rattle.record_index.specs.Puts.{ArePlaces};
+ghost use Rattle.record_index.specs.Befores.{HasRoomFor};
 ghost use Rattle.record_index.specs.Indexed.{nothing_indexed, IsIndexed, IsNoted, IsBeside, HaveSameColumns, IsLonger, EnteredNow, IsStale, record_for};
 
 use crate::before::Before;
-use crate::covers::Covers;
-use crate::numbers::{clear, fill, tell};
 use crate::told::Told;
 use gathered_records::gathering::gather;
 use input_tables::Tables;
@@ -32,40 +27,27 @@ use rerun_records::records::Records;
 use std::alloc::{AllocError, Global};
 use std::marker::Model;
 
-/// Room for one more number is made for so many.
-const RECORDS_A_SPARE: usize = 64;
-
-/// Records, and beside each of them the number of its different readings that don't hold now, with what was told of the procedures.
-/// They are brought up to date with each edit, so that to ask takes no look at the tables.
+/// Records with what was told of the procedures, and a row as it was before its edit: so they are brought up to date with each edit, and
+/// to ask takes no look at the tables.
 #[derive(Drop)]
 pub struct IndexedRecords {
     records: Records,
-    // By the records' places.
-    numbers: Vec<u32>,
     told: Told,
     // The row that is edited next, or was last.
     before: Before,
-    // By which an edit finds the records that may have read its row.
-    covers: Covers,
 }
 
 impl Model for IndexedRecords {
-    ghost use Rattle.std.specs.Prelude.{◌≡◌, map, length};
-    ghost use Rattle.rerun_records.specs.Record.{doubtless};
-    ghost use Rattle.record_index.specs.Covers.{AreCovered};
     ghost use Rattle.record_index.specs.Indexed.{PlainIndexed};
 
     ghost Value = { PlainIndexed };
 
     ghost view = { λ x. record {
       records = x.records;
-      numbers = x.numbers.items;
       told = x.told;
       was = x.before.was;
       room = x.before.room;
     } };
-
-    ghost invariant = { λ x. (length x.numbers.items ≡ length x.records) × AreCovered (map doubtless x.records) x.covers };
 }
 
 impl IndexedRecords {
@@ -75,10 +57,8 @@ impl IndexedRecords {
     {
         IndexedRecords {
             records: Records::new(alloc),
-            numbers: Vec::new(alloc),
             told: Told::new(alloc),
             before: Before::new(alloc),
-            covers: Covers::new(alloc),
         }
     }
 
@@ -104,11 +84,7 @@ impl IndexedRecords {
         ensures named { FindsNamed program.now tables.now.tables depth self.now.records key.now
             (option_copied result) }
     {
-        program.revised();
-        match program.procedure(key.procedure()) {
-            Some(procedure) => self.valid(procedure, key.arguments(), depth, tables, program),
-            None => None,
-        }
+        self.records.lookup(key, depth, tables, program)
     }
 
     /// How many different readings and revisions of a key's record don't hold now; none where there is no such record. It looks at no
@@ -117,7 +93,7 @@ impl IndexedRecords {
         ensures stale { (program : PlainChecked) (tables : PlainTables)
             → IsIndexed program.revisions tables self.now
             → IsInOrder (tree program.program) program.revisions
-            → IsStale program.revisions tables (record_for program (map doubtless self.now.records) key.now) result }
+            → IsStale program.revisions tables (record_for program (map as_made self.now.records) key.now) result }
     {
         self.records.single();
         match self.told.number(key.procedure()) {
@@ -141,38 +117,29 @@ impl IndexedRecords {
         requires read_now { ReadNow tables.now.tables made.items }
         requires entered_now { EnteredNow program.now.revisions made.items }
         ensures committed { OnOk result
-            (map doubtless self.new.records ≡ put_records (map doubtless self.old.records) made.items) }
+            (map as_made self.new.records ≡ put_records (map as_made self.old.records) made.items) }
         ensures indexed { OnOk result (IsIndexed program.now.revisions tables.now.tables self.new) }
         ensures named { OnOk result (CommitsNamed program.now self.old.records made.items self.new.records) }
         ensures values { OnOk result ((kinds : List PlainKind) → HaveValues kinds self.old.records
             → HaveValues kinds made.items → HaveValues kinds self.new.records) }
         ensures same { OnErr result (self.new ≡ self.old) }
     {
-        // What the type keeps: no procedure and arguments have two records, so each place that is found is the only one.
-        self.records.single();
         let alloc = *made.allocator();
-        let places = places_of(alloc, &self.records, &made)?;
-        self.numbers.reserve(with_spare(made.len()))?;
         let told = told_for(alloc, &self.told, program)?;
         let before = before_for(alloc, &self.before, tables)?;
         self.records.commit(made, tables, program)?;
         learn(&mut self.told, told);
         make_room(&mut self.before, before);
-        number(&mut self.numbers, self.records.len(), &places);
-        self.covers.put_all(self.records.as_slice(), &places);
-        self.covers.grow(alloc, self.records.as_slice());
         Ok(())
     }
 
     /// Makes blocks of the records, as `gathered_records` does.
-    pub fn gather(&mut self, alloc: Global, tables: &Tables, program: &Checked)
-        requires indexed { IsIndexed program.now.revisions tables.now.tables self.old }
+    pub fn gather(&mut self, alloc: Global, program: &Checked)
         requires monoids { All IsMonoid program.now.kinds }
         requires values { HaveValues program.now.kinds self.old.records }
-        ensures indexed { IsIndexed program.now.revisions tables.now.tables self.new }
-        ensures same { map doubtless self.new.records ≡ map doubtless self.old.records }
+        ensures same { self.new ≡ self.old }
     {
-        gather(&mut self.records, alloc, tables, program);
+        gather(&mut self.records, alloc, program);
     }
 
     /// Notes a row of the table of that number as it is before an edit. It takes no memory.
@@ -186,8 +153,8 @@ impl IndexedRecords {
         }
     }
 
-    /// Brings the numbers up to date after a row of the table of that number was changed, which `row_before` has noted. It takes no
-    /// memory but for one change that is listed, and is never refused.
+    /// Brings the records' numbers up to date after a row of the table of that number was changed, which `row_before` has noted. It takes
+    /// no memory.
     pub fn row_changed(&mut self, tables: &Tables, table: usize, row: i64)
         requires beside { (self.old.records ≡ [])
             ⊎ (IsBeside tables.now.tables table row self.old.was × (length self.old.was.sums < self.old.room)) }
@@ -195,12 +162,15 @@ impl IndexedRecords {
             → ((self.old.records ≡ []) ⊎ IsNoted before table row self.old.was)
             → IsSameBut table row before tables.now.tables → HaveSameColumns before tables.now.tables
             → IsIndexed revisions before self.old → IsIndexed revisions tables.now.tables self.new }
-        ensures same { map doubtless self.new.records ≡ map doubtless self.old.records }
+        ensures same { map as_made self.new.records ≡ map as_made self.old.records }
     {
-        self.records.row_changed(table, row);
-        if !self.records.is_empty() {
-            self.tell_change(tables);
+        if self.records.is_empty() {
+            return;
         }
+        self.before.compare(tables);
+        let change = self.before.change();
+        self.records
+            .tell(&change, self.before.lost(), self.before.won());
     }
 
     /// Brings what was told of the procedures up to date after some were defined: those that there were keep their places. It takes no
@@ -214,93 +184,13 @@ impl IndexedRecords {
         self.told.tell(program);
     }
 
-    // The record of the procedure of that number with these arguments that is valid now for an instance at that depth.
-    fn valid(
-        &self,
-        procedure: usize,
-        arguments: &[i64],
-        depth: u32,
-        tables: &Tables,
-        program: &Checked,
-    ) -> Option<&Record>
-        requires indexed { IsIndexed program.now.revisions tables.now.tables self.now }
-        ensures valid { option_copied result ≡ valid_at program.now.revisions tables.now.tables depth
-            self.now.records procedure arguments.now }
-    {
-        self.records.single();
-        match self.records.place_of(procedure, arguments) {
-            Some((place, record)) => {
-                if !self.agrees(place, record, tables) || !record.is_allowed(depth, program) {
-                    return None;
-                }
-                Some(record)
-            }
-            None => None,
-        }
-    }
-
-    // Whether the tables hold what the record at that place has read, as its number tells. A record with more readings than can be
-    // counted may keep the greatest number when they hold again, so it is compared.
-    fn agrees(&self, place: usize, record: &Record, tables: &Tables) -> bool
-        requires counted { AreNumbers tables.now.tables (map doubtless self.now.records) self.now.numbers }
-        requires there { slice_get (map doubtless self.now.records) place ≡ Some record.now }
-        ensures agree { result ≡ reads_agree tables.now.tables record.now }
-    {
-        let number = self.numbers[place];
-        if number == u32::MAX {
-            return record.reads().agree(tables);
-        }
-        number == 0
-    }
-
     // How many different readings and revisions of the record at that place don't hold.
     fn stale_at(&self, place: usize, record: &Record) -> usize
-        requires there { slice_get (map doubtless self.now.records) place ≡ Some record.now }
-        ensures number { (n : ℕ) → slice_get self.now.numbers place ≡ Some n
-            → result ≡ n + outdated_count self.now.told record.now.entered }
+        ensures number { (r : PlainRecord) → slice_get self.now.records place ≡ Some r
+            → result ≡ r.stale + outdated_count self.now.told record.now.entered }
     {
-        self.numbers[place] as usize + self.told.outdated(record.entered())
+        self.records.number(place) + self.told.outdated(record.entered())
     }
-
-    // Tells the records that may have read it what was changed of the row that was noted.
-    fn tell_change(&mut self, tables: &Tables)
-        requires wide { length self.old.was.sums ≡ length (columns_at tables.now.tables self.old.was.table) }
-        requires room { length self.old.was.sums < self.old.room }
-        ensures now { IsBefore tables.now.tables (now_of tables.now.tables self.old.was) }
-        ensures told { self.new.numbers ≡ numbers_then
-            (held_only self.old.was (now_of tables.now.tables self.old.was))
-            (held_only (now_of tables.now.tables self.old.was) self.old.was)
-            self.old.numbers (map doubtless self.old.records) }
-        ensures same { self.new ≡ record self.old { numbers = self.new.numbers } }
-    {
-        self.before.compare(tables);
-        let change = self.before.change();
-        tell(
-            &mut self.numbers,
-            self.records.as_slice(),
-            &self.covers,
-            &change,
-            self.before.lost(),
-            self.before.won(),
-        );
-    }
-}
-
-// Room for so many records, and for those of some runs behind: else the first edit after a large run would move all numbers.
-fn with_spare(records: usize) -> usize
-    ensures room { records ≤ result }
-{
-    records.saturating_add(records / RECORDS_A_SPARE)
-}
-
-// Has the records at these places numbers of their own anew, and so many records in all: of none of those something is stale.
-fn number(numbers: &mut Vec<u32>, count: usize, places: &[usize])
-    requires more { length numbers.old.items ≤ count }
-    requires room { count ≤ vec_capacity numbers.old }
-    ensures numbered { numbers.new.items ≡ up_to count (all_cleared numbers.old.items places.now) }
-{
-    clear(numbers, places);
-    fill(numbers, count);
 }
 
 // Takes over what was told of more procedures, where that was made.
@@ -321,37 +211,6 @@ fn make_room(before: &mut Before, made: Option<Before>)
 {
     match made {
         Some(made) => *before = made,
-        None => {}
-    }
-}
-
-// The places of the records of the same procedures and arguments as these, of those that are there.
-fn places_of(alloc: Global, records: &Records, made: &[Record]) -> Result<Vec<usize>, AllocError>
-    ensures places { IfOk result (λ places. ArePlaces (map doubtless records.now) made.now places.items) }
-{
-    let mut places = Vec::new(alloc);
-    // A first run puts all its records in anew: without records there is nothing to hash for.
-    if records.is_empty() {
-        return Ok(places);
-    }
-    places.reserve_exact(made.len())?;
-    for record in made {
-        put_place(&mut places, records, record);
-    }
-    Ok(places)
-}
-
-// Adds the place of the record of the same procedure and arguments, where there is one; there is room for it.
-fn put_place(places: &mut Vec<usize>, records: &Records, record: &Record)
-    requires room { length places.old.items < vec_capacity places.old }
-    ensures places { (made : List PlainRecord) → ArePlaces (map doubtless records.now) made places.old.items
-        → ArePlaces (map doubtless records.now) (made ++ record.now ∷ []) places.new.items }
-    ensures few { length places.new.items ≤ length places.old.items + 1 }
-    ensures room { vec_capacity places.new ≡ vec_capacity places.old }
-{
-    records.single();
-    match records.place_of(record.procedure(), record.arguments()) {
-        Some((place, _)) => places.push_reserved(place),
         None => {}
     }
 }

@@ -2,7 +2,5 @@
 #![tactic(auto)]
 
 mod before;
-mod covers;
 pub mod indexed;
-mod numbers;
 mod told;

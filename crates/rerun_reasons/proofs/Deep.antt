@@ -10,7 +10,7 @@ use Rattle.meaning.specs.Tables.{Tables}
 use Rattle.input_tables.specs.Edited.{cell_at, has_at, limit_at, sum_at}
 use Rattle.evaluation.specs.declared.note.Note.{Note}
 use Rattle.evaluation.specs.declared.note.Note.TheVariants as note
-use Rattle.rerun_records.specs.Record.{PlainRecord, is_of, doubtless}
+use Rattle.rerun_records.specs.Record.{PlainRecord, is_of, as_made}
 use Rattle.rerun_records.specs.Validity.{has_revision, note_agrees, only_valid, record_holds}
 use Rattle.rerun_records.proofs.Members.{left_is, right_is}
 use Rattle.rerun_reasons.specs.Reasons.{cell_change, change_of, first_change, first_defined, or_deep, or_else, reason_by, reason_for}
@@ -142,19 +142,19 @@ module _ (revisions : List (Name × ℕ)) (tables : Tables) (depth : ℕ) where
       (all_current revisions r.entered (first_none (first_defined revisions r.entered) (first_change tables r.reads) none)) in
       (holds, unfit (record_holds revisions tables r) (nat_le (depth + r.height) (suc depth_limit)) _ holds v)
 
--- ---- what is in doubt of records says nothing here
+-- ---- the numbers of records say nothing here
 
 module _ (revisions : List (Name × ℕ)) (tables : Tables) (procedure : ℕ) (arguments : List ℤ) where
-  doubtless_reason : (rs : List PlainRecord) → reason_by revisions tables (find (is_of procedure arguments) (map doubtless rs)) ≡ reason_for revisions tables rs procedure arguments
-  doubtless_reason [] = refl
-  doubtless_reason (r ∷ rs) =
-      elim (is_of procedure arguments r) as (λ b. reason_by revisions tables (cond b (Some (doubtless r)) (find (is_of procedure arguments) (map doubtless rs)))
+  as_made_reason : (rs : List PlainRecord) → reason_by revisions tables (find (is_of procedure arguments) (map as_made rs)) ≡ reason_for revisions tables rs procedure arguments
+  as_made_reason [] = refl
+  as_made_reason (r ∷ rs) =
+      elim (is_of procedure arguments r) as (λ b. reason_by revisions tables (cond b (Some (as_made r)) (find (is_of procedure arguments) (map as_made rs)))
       ≡ reason_by revisions tables (cond b (Some r) (find (is_of procedure arguments) rs))) [
         | true ↦ refl
-        | false ↦ doubtless_reason rs
+        | false ↦ as_made_reason rs
       ]
 
-  pub found_reason : (rs lent : List PlainRecord) (asked : List ℤ) (found : Option PlainRecord) → asked ≡ arguments → lent ≡ map doubtless rs → found ≡ find (is_of procedure asked) lent
+  pub found_reason : (rs lent : List PlainRecord) (asked : List ℤ) (found : Option PlainRecord) → asked ≡ arguments → lent ≡ map as_made rs → found ≡ find (is_of procedure asked) lent
       → reason_by revisions tables found ≡ reason_for revisions tables rs procedure arguments
   found_reason rs lent asked found a l f =
-      ap (reason_by revisions tables) (f ∙ ap (λ xs. find (is_of procedure xs) lent) a ∙ ap (find (is_of procedure arguments)) l) ∙ doubtless_reason rs
+      ap (reason_by revisions tables) (f ∙ ap (λ xs. find (is_of procedure xs) lent) a ∙ ap (find (is_of procedure arguments)) l) ∙ as_made_reason rs

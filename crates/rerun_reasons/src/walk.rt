@@ -10,6 +10,7 @@ use crate::setting::Setting;
 use crate::values::{Halt, ask, ask_update, put, range_of, slots_of, value_of};
 use evaluation::ranges::LoopRange;
 use evaluation::slot::Slot;
+use input_tables::Tables;
 use linked_program::checked::Checked;
 use linked_program::code::{CodeBlock, Expression, Operation};
 use meaning::DEPTH_LIMIT;
@@ -221,9 +222,17 @@ fn step(
             };
             turns(setting, left, iterations, slots, found)?;
         }
-        Operation::Return(value) => return Ok(Some(value_of(setting.tables, value, slots)?)),
+        Operation::Return(value) => return returned(setting.tables, value, slots),
     }
     Ok(None)
+}
+
+// What a statement that returns that value gives back.
+fn returned(tables: &Tables, value: &Expression, slots: &[Slot]) -> Result<Option<i64>, Halt> {
+    match value_of(tables, value, slots) {
+        Ok(value) => Ok(Some(value)),
+        Err(halt) => Err(halt),
+    }
 }
 
 // Gives a slot its value, if there is one that takes it.

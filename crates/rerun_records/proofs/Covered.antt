@@ -1,7 +1,7 @@
 -- Spans of rows hold what was put into them.
 use Rattle.std.proofs.Common.{◌≡◌, ℕ, zero, suc, ◌<◌, ◌≤ℤ◌, ℤ, pos, Bool, true, false, true≢false, T, cond, List, [], ◌∷◌, ◌++◌, take, drop, length, map, refl, sym, ap, ◌∙◌, subst, arith}
 use Rattle.std.proofs.lemmas.Int.{ints, clamps}
-use Rattle.std.specs.Prelude.{◌&&◌, ◌||◌, not, nat_eq, int_le, get_or, slice_set}
+use Rattle.std.specs.Prelude.{◌&&◌, ◌||◌, nat_eq, int_le, get_or, slice_set}
 use Rattle.std.specs.Int.{int_min, int_max}
 use Rattle.std.specs.Int.Signed.{le_z_yes}
 use Rattle.std.specs.List.{list_any}
@@ -10,16 +10,13 @@ use Rattle.std.proofs.lemmas.Bool.Decides.{Decides-eqb, Decides-int_eq}
 use Rattle.evaluation.specs.declared.note.Note.{Note}
 use Rattle.evaluation.specs.declared.note.Note.TheVariants.{Cell, Has, Limit, Sum}
 use Rattle.meaning.specs.Every.{every}
-use Rattle.meaning.specs.Tables.{Tables}
 use Rattle.evaluation.specs.declared.reading.Reading.{Reading}
 use Rattle.evaluation.specs.declared.reading.Reading.TheVariants as r
 use Rattle.rerun_records.specs.declared.spans.Span.{Span}
-use Rattle.rerun_records.specs.Record.{rows}
 use Rattle.evaluation.specs.Short.{note_of}
-use Rattle.rerun_records.specs.Validity.{note_agrees}
 use Rattle.rerun_records.specs.Spans.{span_of, has_row, covers, is_covered_by, lies_in, is_touched, joined, put_span, put_spans}
-use Rattle.rerun_records.specs.Doubted.{rests_on, in_step}
-use Rattle.rerun_records.proofs.Members.{left_is, right_is, both, every_weaker}
+use Rattle.rerun_records.specs.InStep.{rests_on}
+use Rattle.rerun_records.proofs.Members.{left_is, right_is, both}
 
 -- ---- a span in its place
 
@@ -215,19 +212,3 @@ untouched (s ∷ ss) changes note h e =
       | true ↦ λ c f. none_rests note s changes c (left_not (list_any (λ c. lies_in c s) changes) (is_touched ss changes) h)
       | false ↦ λ c f. untouched ss changes note (right_not (list_any (λ c. lies_in c s) changes) (is_touched ss changes) h) f
     ] refl e
-
--- where the tables hold what no change may have changed, what is covered needn't be looked at
-pub passed_over : (tables : Tables) (spans : List Span) (changes : List (ℕ × ℤ)) (notes : List Note) → is_touched spans changes ≡ false
-    → every (is_covered_by spans) notes ≡ true → every (in_step tables (rows changes)) notes ≡ true → every (note_agrees tables) notes ≡ true
-passed_over tables spans changes [] h c s = refl
-passed_over tables spans changes (n ∷ ns) h c s =
-    let out = untouched spans changes n h (left_is (is_covered_by spans n) (every (is_covered_by spans) ns) c) in
-    both (note_agrees tables n) (every (note_agrees tables) ns)
-    (sym (ap (λ b. b || note_agrees tables n) out) ∙ left_is (in_step tables (rows changes) n) (every (in_step tables (rows changes)) ns) s)
-    (passed_over tables spans changes ns h (right_is (is_covered_by spans n) (every (is_covered_by spans) ns) c) (right_is (in_step tables (rows changes) n) (every (in_step tables (rows changes)) ns) s))
-
--- where nothing was changed, nothing needs to be looked at
-pub none_listed : (tables : Tables) (changes : List (ℕ × ℤ)) (notes : List Note) → nat_eq (length changes) 0 ≡ true
-    → every (in_step tables (rows changes)) notes ≡ true → every (note_agrees tables) notes ≡ true
-none_listed tables [] notes e s = s
-none_listed tables (c ∷ cs) notes e s = let none : suc (length cs) ≡ 0 = (Decides-eqb (suc (length cs)) 0).0 e in absurd (omega (arith, none))

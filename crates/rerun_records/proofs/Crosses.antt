@@ -14,6 +14,7 @@ use Rattle.rerun_records.specs.contracts.block.Block as Block
 use Rattle.rerun_records.specs.contracts.hull.Hull as Hull
 use Rattle.rerun_records.specs.contracts.level.Level as Level
 use Rattle.rerun_records.specs.contracts.blocks.Blocks as Blocks
+use Rattle.rerun_records.specs.contracts.covers.Covers as Covers
 use Rattle.rerun_records.proofs.readings.Below.TheLaws.TheKnot.{both_send-Node, both_sync-Node}
 
 node_send : IsSend (Node.the_field).row
@@ -61,10 +62,10 @@ hull_sync : IsSync (Hull.the_field).row
 hull_sync = search (sendable, crosses, spans.the_sync) depth 20
 
 level_send : IsSend (Level.the_field).row
-level_send = let s = block_send in let h = hull_send in search (sendable, crosses) depth 20
+level_send = let s = block_send in search (sendable, crosses) depth 20
 
 level_sync : IsSync (Level.the_field).row
-level_sync = let y = block_sync in let h = hull_sync in search (sendable, crosses) depth 20
+level_sync = let y = block_sync in search (sendable, crosses) depth 20
 
 blocks_send : IsSend (Blocks.the_field).row
 blocks_send = let s = level_send in search (sendable, crosses, kinds.the_send) depth 20
@@ -72,8 +73,14 @@ blocks_send = let s = level_send in search (sendable, crosses, kinds.the_send) d
 blocks_sync : IsSync (Blocks.the_field).row
 blocks_sync = let y = level_sync in search (sendable, crosses, kinds.the_sync) depth 20
 
+covers_send : IsSend (Covers.the_field).row
+covers_send = let s = hull_send in search (sendable, crosses) depth 20
+
+covers_sync : IsSync (Covers.the_field).row
+covers_sync = let y = hull_sync in search (sendable, crosses) depth 20
+
 pub records_send : IsSend (Records.the_field).row
-records_send = let s = record_send in let b = blocks_send in search (sendable, crosses, places.the_send) depth 20
+records_send = let s = record_send in let b = blocks_send in let h = covers_send in search (sendable, crosses, places.the_send) depth 20
 
 pub records_sync : IsSync (Records.the_field).row
-records_sync = let y = record_sync in let b = blocks_sync in search (sendable, crosses, places.the_sync) depth 20
+records_sync = let y = record_sync in let b = blocks_sync in let h = covers_sync in search (sendable, crosses, places.the_sync) depth 20

@@ -1,47 +1,89 @@
--- How a record is found among those that there are, and whether it is valid.
-use Rattle.std.proofs.Common.{◌≡◌, ℕ, ℤ, Bool, true, false, cond, List, [], ◌∷◌, Some, None, sym, ap, ◌∙◌, subst}
-use Rattle.std.specs.Prelude.{slice_get}
-use Rattle.std.specs.List.{find}
-use Rattle.meaning.specs.Tree.{Name}
-use Rattle.meaning.specs.Every.{every}
+-- Which record is found, and whether it is valid.
+use Rattle.std.proofs.Common.{◌≡◌, ℕ, zero, suc, ℤ, Bool, true, false, cond, List, [], ◌∷◌, length, map, Option, Some, None, refl, sym, ap, ◌∙◌, subst, get_or}
+use Rattle.std.specs.Prelude.{◌&&◌, nat_eq, slice_get, option_map}
+use Rattle.std.proofs.lemmas.Option.{get_or_from_slice_get}
+use Rattle.std.specs.List.{find, IsDistinct}
 use Rattle.meaning.specs.Tables.{Tables}
-use Rattle.rerun_records.specs.Record.{PlainRecord, Doubts, is_of, doubtless}
+use Rattle.meaning.specs.Tree.{Name}
+use Rattle.rerun_records.specs.Record.{PlainRecord, is_of, as_made}
+use Rattle.rerun_records.specs.Commits.{AreSingle}
+use Rattle.rerun_records.specs.InStep.{IsInStep, reads_agree}
+use Rattle.rerun_records.specs.Numbers.{most_number, with_numbers}
 use Rattle.rerun_records.specs.Validity.{record_valid, only_valid, valid_at}
-use Rattle.rerun_records.specs.Doubted.{in_step, reads_in_step, IsInStep}
-use Rattle.rerun_records.specs.Moments.{doubts_at, doubted_by, with_doubts}
-use Rattle.rerun_records.proofs.Members.{left_is, right_is}
-use Rattle.rerun_records.proofs.Doubts.{none_trusted}
+use Rattle.rerun_records.proofs.InStep.{IsNumber, number_is, number_agrees, counted_at}
+use Rattle.rerun_records.proofs.Leaves.{there_at}
+use Rattle.rerun_records.proofs.WithNumbers.{number_at}
+use Rattle.rerun_records.proofs.Wholes.{of_itself, other_instance}
 
-pub passes_found : (p q : PlainRecord → Bool) (rs : List PlainRecord) (r : PlainRecord) → every q rs ≡ true → find p rs ≡ Some r → q r ≡ true
-passes_found p q [] r e f = absurd cc
-passes_found p q (x ∷ xs) r e f =
-    elim (p x) as (λ b. cond b (Some x) (find p xs) ≡ Some r → q r ≡ true) [
-      | true ↦ λ g. (let same : x ≡ r = cc (g) in subst (λ y. q y ≡ true) same (left_is (q x) (every q xs) e))
-      | false ↦ λ g. passes_found p q xs r (right_is (q x) (every q xs) e) g
-    ] f
+-- of a procedure and arguments, whatever is counted of them
+pub find_as_made : (procedure : ℕ) (arguments : List ℤ) (rs : List PlainRecord) → find (is_of procedure arguments) (map as_made rs) ≡ option_map as_made (find (is_of procedure arguments) rs)
+find_as_made procedure arguments [] = refl
+find_as_made procedure arguments (r ∷ rs) =
+    elim (is_of procedure arguments r) as (λ b. cond b (Some (as_made r)) (find (is_of procedure arguments) (map as_made rs)) ≡ option_map as_made (cond b (Some r) (find (is_of procedure arguments) rs))) [
+      | true ↦ refl
+      | false ↦ find_as_made procedure arguments rs
+    ]
 
-module _ (changes : List (ℕ × ℤ)) (ns : List ℕ) (rs : List PlainRecord) (procedure : ℕ) (arguments : List ℤ) where
-  module _ (place : ℕ) (k : PlainRecord) (found_so : find (is_of procedure arguments) (with_doubts changes ns rs) ≡ Some (doubted_by (doubts_at changes (slice_get ns place)) k)) where
-    pub found_in_step : (tables : Tables) (now : List PlainRecord) (doubts : Doubts) → with_doubts changes ns rs ≡ now → IsInStep tables now → doubts ≡ doubts_at changes (slice_get ns place)
-        → every (in_step tables doubts) k.reads ≡ true
-    found_in_step tables now doubts n h d =
-        rw d
-        (passes_found (is_of procedure arguments) (reads_in_step tables) (with_doubts changes ns rs) (doubted_by (doubts_at changes (slice_get ns place)) k)
-        (subst (IsInStep tables) (sym n) h) found_so)
+-- the record at a place is the one of its procedure and arguments
+pub found_there : (rs : List PlainRecord) (place : ℕ) (m : PlainRecord) → AreSingle rs → slice_get (map as_made rs) place ≡ Some m → option_map as_made (find (is_of m.procedure m.arguments) rs) ≡ Some m
+unfolding IsDistinct
+found_there [] place m single e = absurd cc
+found_there (r ∷ rs) zero m single e =
+    let there : as_made r ≡ m = cc (e) in
+    let found : is_of m.procedure m.arguments r ≡ true = subst (λ (x : PlainRecord). is_of x.procedure x.arguments r ≡ true) there (of_itself r) in
+    ap (λ b. option_map as_made (cond b (Some r) (find (is_of m.procedure m.arguments) rs))) found ∙ ap Some there
+found_there (r ∷ rs) (suc place) m single e =
+    ap (λ b. option_map as_made (cond b (Some r) (find (is_of m.procedure m.arguments) rs))) (other_instance r rs place m single.0 e)
+    ∙ found_there rs place m single.1 e
 
-    module _ (revisions : List (Name × ℕ)) (tables : Tables) (depth : ℕ) (now : List PlainRecord) (n : with_doubts changes ns rs ≡ now) where
-      pub found_stale : record_valid revisions tables depth k ≡ false → None ≡ valid_at revisions tables depth now procedure arguments
-      found_stale e =
-          subst (λ xs. None ≡ valid_at revisions tables depth xs procedure arguments) n
-          (rw found_so (ap (λ b. cond b (Some (doubtless k)) None) (sym e)))
+-- ---- valid records
 
-      pub found_valid : record_valid revisions tables depth k ≡ true → doubtless k ≡ k → Some k ≡ valid_at revisions tables depth now procedure arguments
-      found_valid e s =
-          subst (λ xs. Some k ≡ valid_at revisions tables depth xs procedure arguments) n
-          (rw found_so (ap Some (sym s) ∙ ap (λ b. cond b (Some (doubtless k)) None) (sym e)))
+module _ (revisions : List (Name × ℕ)) (tables : Tables) (depth : ℕ) where
+  valid_one : (o : Option PlainRecord) (m : PlainRecord) → option_map as_made o ≡ Some m → only_valid revisions tables depth o ≡ cond (record_valid revisions tables depth m) (Some m) None
+  valid_one None m e = absurd cc
+  valid_one (Some r) m e =
+      let there : as_made r ≡ m = cc (e) in
+      subst (λ (x : PlainRecord). cond (record_valid revisions tables depth r) (Some (as_made r)) None ≡ cond (record_valid revisions tables depth x) (Some x) None) there refl
 
-  pub found_none : (revisions : List (Name × ℕ)) (tables : Tables) (depth : ℕ) (now : List PlainRecord) → with_doubts changes ns rs ≡ now → None ≡ find (is_of procedure arguments) rs
-      → None ≡ valid_at revisions tables depth now procedure arguments
-  found_none revisions tables depth now n e =
-      subst (λ xs. None ≡ valid_at revisions tables depth xs procedure arguments) n
-      (ap (only_valid revisions tables depth) (sym (none_trusted changes procedure arguments ns rs (sym e))))
+  -- the record at a place is valid or not
+  valid_there : (rs : List PlainRecord) (place : ℕ) (m : PlainRecord) → AreSingle rs → slice_get (map as_made rs) place ≡ Some m
+      → valid_at revisions tables depth rs m.procedure m.arguments ≡ cond (record_valid revisions tables depth m) (Some m) None
+  valid_there rs place m single e = valid_one (find (is_of m.procedure m.arguments) rs) m (found_there rs place m single e)
+
+  -- the one that is asked for
+  pub valid_so : (rs : List PlainRecord) (place : ℕ) (m : PlainRecord) (valid : Bool) → AreSingle rs → slice_get (map as_made rs) place ≡ Some m → valid ≡ record_valid revisions tables depth m
+      → cond valid (Some m) None ≡ valid_at revisions tables depth rs m.procedure m.arguments
+  valid_so rs place m valid single there e = ap (λ b. cond b (Some m) None) e ∙ sym (valid_there rs place m single there)
+
+-- ---- a test of three parts
+
+pub three : (a b c : Bool) → (a && (b && c)) ≡ ((a && b) && c)
+three true b c = refl
+three false b c = refl
+
+-- ---- numbers by their places
+
+-- the number of the record at a place
+pub record HasNumber (tables : Tables) (ns : List ℕ) (place : ℕ) (m : PlainRecord) : Type 0 where
+  pub number : ℕ
+  pub there : slice_get ns place ≡ Some number
+  pub right : IsNumber tables m.reads number
+
+pub number_there : (tables : Tables) (ns : List ℕ) (rs now : List PlainRecord) (place : ℕ) (m : PlainRecord) → with_numbers ns rs ≡ now → length ns ≡ length rs → IsInStep tables now
+    → slice_get (map as_made now) place ≡ Some m → HasNumber tables ns place m
+number_there tables ns rs now place m view long h there =
+    let at = there_at now place m there in
+    let r = at.0 in
+    record {
+      number = r.stale;
+      there = number_at ns rs place r long (subst (λ (xs : List PlainRecord). slice_get xs place ≡ Some r) (sym view) at.1);
+      right = subst (λ (x : PlainRecord). IsNumber tables x.reads r.stale) (sym at.2) (number_is tables r (counted_at tables now place r h at.1));
+    }
+
+-- one that isn't the greatest is 0 where the tables hold all that the record has read, and only there
+pub number_asked : (tables : Tables) (ns : List ℕ) (rs now : List PlainRecord) (place n : ℕ) (m : PlainRecord) → with_numbers ns rs ≡ now → length ns ≡ length rs → IsInStep tables now
+    → slice_get (map as_made now) place ≡ Some m → n ≡ get_or ns place n → (n ≡ most_number → ⊥) → nat_eq n 0 ≡ reads_agree tables m
+number_asked tables ns rs now place n m view long h there is other =
+    let has = number_there tables ns rs now place m view long h there in
+    let same : n ≡ has.number = is ∙ get_or_from_slice_get ns place has.number n has.there in
+    number_agrees tables m.reads n (subst (IsNumber tables m.reads) (sym same) has.right) other

@@ -5,7 +5,7 @@ use Rattle.std.specs.List.{find, position_or_len, AllByRecursion, IsDistinct}
 use Rattle.std.proofs.lemmas.Bool.{cases_eq, cases_lt}
 use Rattle.place_chains.specs.Chains.{IsEndOf}
 use Rattle.place_chains.specs.Mixing.{number_of}
-use Rattle.rerun_records.specs.Record.{PlainRecord, is_of, same_instance, instance_number, NoneFrom, doubtless}
+use Rattle.rerun_records.specs.Record.{PlainRecord, is_of, same_instance, instance_number, NoneFrom, as_made}
 use Rattle.rerun_records.specs.Commits.{put_record, AreSingle}
 use Rattle.rerun_records.proofs.Homes.{false_if}
 use Rattle.rerun_records.proofs.Wholes.{of_itself, of_procedure, of_arguments, place_at_place}
@@ -69,7 +69,7 @@ module _ (procedure : ℕ) (arguments : List ℤ) where
         ]
 
 -- the place of the one that was found
-pub found_place : (rs : List PlainRecord) (made k : PlainRecord) (place : ℕ) → map doubtless rs ≡ rs → AreSingle rs → slice_get rs place ≡ Some k → is_of made.procedure made.arguments k ≡ true
+pub found_place : (rs : List PlainRecord) (made k : PlainRecord) (place : ℕ) → map as_made rs ≡ rs → AreSingle rs → slice_get rs place ≡ Some k → is_of made.procedure made.arguments k ≡ true
     → place ≡ position_or_len (same_instance made) rs
 found_place rs made k place s single there of =
     sym (ap (λ f. position_or_len (is_of f made.arguments) rs) (sym (of_procedure made.procedure made.arguments k of))

@@ -2,10 +2,12 @@ pub mod Members
 pub mod Absorbed
 pub mod Covered
 pub mod Puts
+pub mod Counts
+pub mod NumbersThen
+pub mod NumbersAt
 pub mod InStep
-pub mod Doubts
+pub mod WithNumbers
 pub mod Finding
-pub mod Marks
 pub mod Numbers
 pub mod Lookups
 pub mod Singles
@@ -13,7 +15,7 @@ pub mod NodeNotes
 pub mod Same
 pub mod Homes
 pub mod Touched
-pub mod Hulls
+pub mod Covering
 pub mod Leaves
 pub mod Wholes
 pub mod Instances

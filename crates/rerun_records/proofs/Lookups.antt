@@ -16,9 +16,9 @@ use Rattle.meaning.specs.Statements.{procedure_of}
 use Rattle.meaning.specs.Tables.{Tables, is_there}
 use Rattle.linked_program.specs.TableNames.{Columned, columned_of}
 use Rattle.evaluation.specs.Numbers.{numbered}
-use Rattle.rerun_records.specs.Record.{PlainRecord, is_of, same_instance, doubtless}
+use Rattle.rerun_records.specs.Record.{PlainRecord, is_of, same_instance, as_made}
 use Rattle.rerun_records.specs.Validity.{note_agrees, has_revision, record_valid, only_valid, valid_at}
-use Rattle.rerun_records.specs.Doubted.{reads_agree, ReadNow}
+use Rattle.rerun_records.specs.InStep.{reads_agree, ReadNow}
 use Rattle.rerun_records.specs.Commits.{put_record, put_records}
 use Rattle.rerun_records.specs.Named.{number_of, numbered_entry, IsRecord, AreRecords, IsAnswer, IsInOrder}
 use Rattle.rerun_records.proofs.Members.{every_member, every_mapped, left_is, right_is, both}
@@ -33,8 +33,8 @@ module _ (program : Revised) (names : List Columned) (kinds : List Kind) where
       ∙ ap (λ n. nat_eq (number_of program.tree f) n && pointwise int_eq args k.args) (sym h.procedure)
       ∙ ap (λ xs. nat_eq (number_of program.tree f) r.procedure && pointwise int_eq args xs) (sym h.arguments)
 
-  doubtless_is : (k : Kept) (r : PlainRecord) → IsRecord program.tree names kinds k r → IsRecord program.tree names kinds k (doubtless r)
-  doubtless_is k r h = record {
+  as_made_is : (k : Kept) (r : PlainRecord) → IsRecord program.tree names kinds k r → IsRecord program.tree names kinds k (as_made r)
+  as_made_is k r h = record {
     known = h.known;
     procedure = h.procedure;
     arguments = h.arguments;
@@ -75,8 +75,8 @@ module _ (program : Revised) (names : List Columned) (kinds : List Kind) where
         ∙ ap (λ b. (every (note_agrees tables) r.reads && b) && nat_le (depth + k.height) (suc depth_limit)) (revisions_hold k r h)
         ∙ ap (λ n. (every (note_agrees tables) r.reads && every (has_revision program.revisions) r.entered) && nat_le (depth + n) (suc depth_limit)) (sym h.height)
 
-    found_one : (b : Bool) (k : Kept) (r : PlainRecord) → IsRecord program.tree names kinds k r → IsAnswer program.tree names kinds (cond b (Some k) None) (cond b (Some (doubtless r)) None)
-    found_one true k r h = doubtless_is k r h
+    found_one : (b : Bool) (k : Kept) (r : PlainRecord) → IsRecord program.tree names kinds k r → IsAnswer program.tree names kinds (cond b (Some k) None) (cond b (Some (as_made r)) None)
+    found_one true k r h = as_made_is k r h
     found_one false k r h = tt
 
     valid_one : (depth : ℕ) (k : Kept) (r : PlainRecord) → IsRecord program.tree names kinds k r
@@ -96,8 +96,8 @@ module _ (program : Revised) (names : List Columned) (kinds : List Kind) where
           | false ↦ looks_up depth f args ks rs h.1
         ])
 
-  doubted_is : (k : Kept) (r : PlainRecord) → IsRecord program.tree names kinds k (doubtless r) → IsRecord program.tree names kinds k r
-  doubted_is k r h = record {
+  numbered_is : (k : Kept) (r : PlainRecord) → IsRecord program.tree names kinds k (as_made r) → IsRecord program.tree names kinds k r
+  numbered_is k r h = record {
     known = h.known;
     procedure = h.procedure;
     arguments = h.arguments;
@@ -109,21 +109,21 @@ module _ (program : Revised) (names : List Columned) (kinds : List Kind) where
     height = h.height;
   }
 
-  doubtless_all : (ks : List Kept) (rs : List PlainRecord) → AreRecords program.tree names kinds ks rs → AreRecords program.tree names kinds ks (map doubtless rs)
-  doubtless_all [] [] h = tt
-  doubtless_all [] (r ∷ rs) h = absurd h
-  doubtless_all (k ∷ ks) [] h = absurd h
-  doubtless_all (k ∷ ks) (r ∷ rs) h = (doubtless_is k r h.0, doubtless_all ks rs h.1)
+  as_made_all : (ks : List Kept) (rs : List PlainRecord) → AreRecords program.tree names kinds ks rs → AreRecords program.tree names kinds ks (map as_made rs)
+  as_made_all [] [] h = tt
+  as_made_all [] (r ∷ rs) h = absurd h
+  as_made_all (k ∷ ks) [] h = absurd h
+  as_made_all (k ∷ ks) (r ∷ rs) h = (as_made_is k r h.0, as_made_all ks rs h.1)
 
-  doubted_all : (ks : List Kept) (rs : List PlainRecord) → AreRecords program.tree names kinds ks (map doubtless rs) → AreRecords program.tree names kinds ks rs
-  doubted_all [] [] h = tt
-  doubted_all [] (r ∷ rs) h = absurd h
-  doubted_all (k ∷ ks) [] h = absurd h
-  doubted_all (k ∷ ks) (r ∷ rs) h = (doubted_is k r h.0, doubted_all ks rs h.1)
+  numbered_all : (ks : List Kept) (rs : List PlainRecord) → AreRecords program.tree names kinds ks (map as_made rs) → AreRecords program.tree names kinds ks rs
+  numbered_all [] [] h = tt
+  numbered_all [] (r ∷ rs) h = absurd h
+  numbered_all (k ∷ ks) [] h = absurd h
+  numbered_all (k ∷ ks) (r ∷ rs) h = (numbered_is k r h.0, numbered_all ks rs h.1)
 
-  -- what records stand for doesn't go by what is in doubt of them
-  pub same_but_doubts : (ks : List Kept) (rs ss : List PlainRecord) → map doubtless ss ≡ map doubtless rs → AreRecords program.tree names kinds ks rs → AreRecords program.tree names kinds ks ss
-  same_but_doubts ks rs ss e h = doubted_all ks ss (rw e (doubtless_all ks rs h))
+  -- what records stand for doesn't go by their numbers
+  pub same_but_numbers : (ks : List Kept) (rs ss : List PlainRecord) → map as_made ss ≡ map as_made rs → AreRecords program.tree names kinds ks rs → AreRecords program.tree names kinds ks ss
+  same_but_numbers ks rs ss e h = numbered_all ks ss (rw e (as_made_all ks rs h))
 
   none_of_name : (k : Kept) (r : PlainRecord) (f : Name) → IsRecord program.tree names kinds k r → is_there (procedure_of program.tree f) ≡ false → bytes_eq k.of f ≡ false
   none_of_name k r f h unknown =

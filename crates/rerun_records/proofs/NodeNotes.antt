@@ -1,5 +1,5 @@
 -- The notes of a node and of all below it, one level at a time.
-use Rattle.std.proofs.Common.{◌≡◌, Bool, true, false, List, [], ◌∷◌, map, ◌++◌, refl, sym, ap, ◌∙◌, append_assoc, subst, ℕ, ℤ, Option, Some, None, Result, Ok, Err, OnOk}
+use Rattle.std.proofs.Common.{◌≡◌, Bool, true, false, List, [], ◌∷◌, map, ◌++◌, refl, sym, ap, ◌∙◌, append_assoc, subst, Option, Some, None, Result, Ok, Err, OnOk}
 use Rattle.std.specs.Prelude.{◌&&◌, Box}
 use Rattle.std.specs.declared.alloc.Global.{Global}
 use Rattle.std.specs.declared.sync.Arc.{Arc}
@@ -16,13 +16,9 @@ use Rattle.evaluation.specs.declared.reading.Reading.{Reading}
 use Rattle.rerun_records.specs.declared.short_list.ShortList.{ShortList}
 use Rattle.rerun_records.specs.declared.spans.Span.{Span}
 use Rattle.rerun_records.specs.ShortLists.{items_in}
-use Rattle.meaning.specs.Tables.{Tables}
-use Rattle.rerun_records.specs.Spans.{is_covered_by, is_touched, span_of, put_spans}
-use Rattle.rerun_records.specs.Doubted.{in_step}
-use Rattle.rerun_records.specs.Record.{rows}
-use Rattle.rerun_records.specs.Validity.{note_agrees}
+use Rattle.rerun_records.specs.Spans.{is_covered_by, span_of, put_spans}
 use Rattle.rerun_records.proofs.Members.{left_is, right_is, both, every_mapped, every_weaker}
-use Rattle.rerun_records.proofs.Covered.{keeps_all, adds_all, adds_read, passed_over}
+use Rattle.rerun_records.proofs.Covered.{keeps_all, adds_all, adds_read}
 use Rattle.rerun_records.specs.Readings.{all_of, Told, node_step, below_step, node_told, below_told, node_notes, is_covered, shared_notes, is_covered_share, held_notes, is_covered_below}
 
 -- ---- one level of a fold
@@ -127,14 +123,6 @@ module _ (n : Node) where
   every_part p b e h =
       right_is (every p (map note_of (items_in (out-Node n).own))) (every p (flat_map shared_notes (out-Below b.value).parts.items))
       (sym (every_append p (map note_of (items_in (out-Node n).own)) (flat_map shared_notes (out-Below b.value).parts.items)) ∙ sym (ap (every p) (with_parts b e)) ∙ h)
-
-  -- where no change lies in the spans, the tables hold what the parts have read
-  pub every_passed_over : (tables : Tables) (changes : List (ℕ × ℤ)) (b : Box Below Global) → (out-Node n).below ≡ Some b → is_covered n ≡ true → is_touched (out-Below b.value).spans.items changes ≡ false
-      → every (in_step tables (rows changes)) (node_notes n) ≡ true → every (note_agrees tables) (map note_of (items_in (out-Node n).own)) ≡ true → every (note_agrees tables) (node_notes n) ≡ true
-  every_passed_over tables changes b e h t step own =
-      every_with_parts (note_agrees tables) b e own
-      ∙ passed_over tables (out-Below b.value).spans.items changes (flat_map shared_notes (out-Below b.value).parts.items) t (spans_cover b e h)
-      (every_part (in_step tables (rows changes)) b e step)
 
   -- ---- its notes are covered by spans that it is joined with
 

@@ -1,7 +1,7 @@
 -- A record that takes the place of another.
 use Rattle.std.proofs.Common.{◌≡◌, All, ℕ, suc, ◌+◌, ◌≤◌, ◌<◌, true, false, cond, List, [], ◌∷◌, length, map, refl, sym, ap, ◌∙◌, arith}
 use Rattle.std.proofs.lemmas.List.Elements.{All-cons, All-head, All-tail}
-use Rattle.rerun_records.specs.Record.{PlainRecord, same_instance, doubtless}
+use Rattle.rerun_records.specs.Record.{PlainRecord, same_instance, as_made}
 use Rattle.rerun_records.specs.Named.{HasValuesIfAnswers, HaveValues}
 use Rattle.monoid_laws.specs.declared.Kind.{Kind}
 use Rattle.rerun_records.specs.Commits.{put_record, put_records}
@@ -24,17 +24,17 @@ pub all_put_in : (P : PlainRecord → Type 0) (rs ss : List PlainRecord) → All
 all_put_in P rs [] a b = a
 all_put_in P rs (s ∷ ss) a b = all_put_in P (put_record rs s) ss (all_put P rs s a (All-head P s ss b)) (All-tail P s ss b)
 
--- a record is put among others that have nothing in doubt as it is among those that have
-doubtless_put : (rs : List PlainRecord) (r : PlainRecord) → map doubtless (put_record rs r) ≡ put_record (map doubtless rs) (doubtless r)
-doubtless_put [] r = refl
-doubtless_put (s ∷ ss) r =
-    elim (same_instance r s) as (λ b. map doubtless (cond b (r ∷ ss) (s ∷ put_record ss r)) ≡ cond b (doubtless r ∷ map doubtless ss) (doubtless s ∷ put_record (map doubtless ss) (doubtless r))) [
+-- a record is put among others with number 0 as it is among those with any
+as_made_put : (rs : List PlainRecord) (r : PlainRecord) → map as_made (put_record rs r) ≡ put_record (map as_made rs) (as_made r)
+as_made_put [] r = refl
+as_made_put (s ∷ ss) r =
+    elim (same_instance r s) as (λ b. map as_made (cond b (r ∷ ss) (s ∷ put_record ss r)) ≡ cond b (as_made r ∷ map as_made ss) (as_made s ∷ put_record (map as_made ss) (as_made r))) [
       | true ↦ refl
-      | false ↦ ap (λ xs. doubtless s ∷ xs) (doubtless_put ss r)
+      | false ↦ ap (λ xs. as_made s ∷ xs) (as_made_put ss r)
     ]
 
-pub still_doubtless : (before now : List PlainRecord) (r : PlainRecord) → map doubtless before ≡ before → now ≡ put_record before r → doubtless r ≡ r → map doubtless now ≡ now
-still_doubtless before now r b n s = ap (map doubtless) n ∙ doubtless_put before r ∙ ap (λ xs. put_record xs (doubtless r)) b ∙ ap (put_record before) s ∙ sym n
+pub still_as_made : (before now : List PlainRecord) (r : PlainRecord) → map as_made before ≡ before → now ≡ put_record before r → as_made r ≡ r → map as_made now ≡ now
+still_as_made before now r b n s = ap (map as_made) n ∙ as_made_put before r ∙ ap (λ xs. put_record xs (as_made r)) b ∙ ap (put_record before) s ∙ sym n
 
 pub place_before : (rest all : List PlainRecord) (r : PlainRecord) (places capacity : ℕ) → places + length all ≤ capacity → all ≡ r ∷ rest → places < capacity
 place_before rest all r places capacity l s = let e : length all ≡ suc (length rest) = ap length s in omega (arith, l, e)
@@ -42,19 +42,19 @@ place_before rest all r places capacity l s = let e : length all ≡ suc (length
 pub places_after : (rest all : List PlainRecord) (r : PlainRecord) (before after capacity same : ℕ) → before + length all ≤ capacity → all ≡ r ∷ rest → after ≤ before + 1 → same ≡ capacity → after + length rest ≤ same
 places_after rest all r before after capacity same l s m e = let long : length all ≡ suc (length rest) = ap length s in omega (arith, l, long, m, e)
 
-pub still_put_doubtless : (before now rest all whole : List PlainRecord) (r : PlainRecord)
-    → put_records (map doubtless before) all ≡ whole → all ≡ r ∷ rest → now ≡ put_record before r → doubtless r ≡ r → put_records (map doubtless now) rest ≡ whole
-still_put_doubtless before now rest all whole r e s n m =
-    still_put (map doubtless before) (map doubtless now) rest all whole r e s (ap (map doubtless) n ∙ doubtless_put before r ∙ ap (put_record (map doubtless before)) m)
+pub still_put_as_made : (before now rest all whole : List PlainRecord) (r : PlainRecord)
+    → put_records (map as_made before) all ≡ whole → all ≡ r ∷ rest → now ≡ put_record before r → as_made r ≡ r → put_records (map as_made now) rest ≡ whole
+still_put_as_made before now rest all whole r e s n m =
+    still_put (map as_made before) (map as_made now) rest all whole r e s (ap (map as_made) n ∙ as_made_put before r ∙ ap (put_record (map as_made before)) m)
 
--- a test of records that doesn't go by what is in doubt
-doubtless_pass : (P : PlainRecord → Type 0) → ((r : PlainRecord) → P r → P (doubtless r)) → (rs : List PlainRecord) → All P rs → All P (map doubtless rs)
-doubtless_pass P f [] a = a
-doubtless_pass P f (r ∷ rs) a = All-cons P (doubtless r) (map doubtless rs) (f r (All-head P r rs a)) (doubtless_pass P f rs (All-tail P r rs a))
+-- a test of records that doesn't go by their numbers
+as_made_pass : (P : PlainRecord → Type 0) → ((r : PlainRecord) → P r → P (as_made r)) → (rs : List PlainRecord) → All P rs → All P (map as_made rs)
+as_made_pass P f [] a = a
+as_made_pass P f (r ∷ rs) a = All-cons P (as_made r) (map as_made rs) (f r (All-head P r rs a)) (as_made_pass P f rs (All-tail P r rs a))
 
-doubted_pass : (P : PlainRecord → Type 0) → ((r : PlainRecord) → P (doubtless r) → P r) → (rs : List PlainRecord) → All P (map doubtless rs) → All P rs
-doubted_pass P f [] a = a
-doubted_pass P f (r ∷ rs) a = All-cons P r rs (f r (All-head P (doubtless r) (map doubtless rs) a)) (doubted_pass P f rs (All-tail P (doubtless r) (map doubtless rs) a))
+numbered_pass : (P : PlainRecord → Type 0) → ((r : PlainRecord) → P (as_made r) → P r) → (rs : List PlainRecord) → All P (map as_made rs) → All P rs
+numbered_pass P f [] a = a
+numbered_pass P f (r ∷ rs) a = All-cons P r rs (f r (All-head P (as_made r) (map as_made rs) a)) (numbered_pass P f rs (All-tail P (as_made r) (map as_made rs) a))
 
-pub same_values : (kinds : List Kind) (rs ss : List PlainRecord) → map doubtless ss ≡ map doubtless rs → HaveValues kinds rs → HaveValues kinds ss
-same_values kinds rs ss e h = doubted_pass (HasValuesIfAnswers kinds) (λ r v. v) ss (rw e (doubtless_pass (HasValuesIfAnswers kinds) (λ r v. v) rs h))
+pub same_values : (kinds : List Kind) (rs ss : List PlainRecord) → map as_made ss ≡ map as_made rs → HaveValues kinds rs → HaveValues kinds ss
+same_values kinds rs ss e h = numbered_pass (HasValuesIfAnswers kinds) (λ r v. v) ss (rw e (as_made_pass (HasValuesIfAnswers kinds) (λ r v. v) rs h))

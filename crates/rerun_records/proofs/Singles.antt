@@ -10,7 +10,7 @@ use Rattle.meaning.specs.Elision.{depth_limit}
 use Rattle.meaning.specs.Tables.{Tables}
 use Rattle.monoid_laws.specs.declared.Kind.{Kind}
 use Rattle.linked_program.specs.Checked.{PlainChecked}
-use Rattle.rerun_records.specs.Record.{PlainRecord, is_of, doubtless}
+use Rattle.rerun_records.specs.Record.{PlainRecord, is_of, as_made}
 use Rattle.rerun_records.specs.Validity.{record_holds, record_valid, only_valid, valid_at}
 use Rattle.rerun_records.specs.Named.{HasValuesIfAnswers, HaveValues, AreValuesFrom, SameMembers}
 use Rattle.rerun_records.specs.Sums.{IsSumOf}
@@ -43,10 +43,10 @@ low_enough : (limit depth height : ℕ) → 0 < depth → depth + height ≤ suc
 low_enough limit depth height deep l = omega (arith, deep, l)
 
 module _ (revisions : List (Name × ℕ)) (tables : Tables) where
-  only_has : (P : PlainRecord → Type 0) (depth : ℕ) (o : Option PlainRecord) (x : PlainRecord) → ((r : PlainRecord) → o ≡ Some r → record_valid revisions tables depth r ≡ true → P (doubtless r))
+  only_has : (P : PlainRecord → Type 0) (depth : ℕ) (o : Option PlainRecord) (x : PlainRecord) → ((r : PlainRecord) → o ≡ Some r → record_valid revisions tables depth r ≡ true → P (as_made r))
       → Some x ≡ only_valid revisions tables depth o → P x
   only_has P depth None x h e = absurd cc
-  only_has P depth (Some r) x h e = valid_has P (record_valid revisions tables depth r) (doubtless r) x (h r refl) e
+  only_has P depth (Some r) x h e = valid_has P (record_valid revisions tables depth r) (as_made r) x (h r refl) e
 
   -- a record that is valid at some depth is low enough to answer
   valid_low : (depth : ℕ) (r : PlainRecord) → 0 < depth → record_valid revisions tables depth r ≡ true → r.height ≤ depth_limit

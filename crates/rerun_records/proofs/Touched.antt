@@ -6,7 +6,7 @@ use Rattle.evaluation.specs.declared.note.Note.{Note}
 use Rattle.meaning.specs.Every.{every}
 use Rattle.rerun_records.specs.declared.spans.Span.{Span}
 use Rattle.rerun_records.specs.Spans.{is_covered_by, is_touched}
-use Rattle.rerun_records.specs.Doubted.{rests_on}
+use Rattle.rerun_records.specs.InStep.{rests_on}
 use Rattle.rerun_records.specs.Blocks.{is_apart}
 use Rattle.rerun_records.proofs.Covered.{untouched}
 use Rattle.rerun_records.proofs.Members.{both, every_weaker}

@@ -1,6 +1,6 @@
 -- What a block answers, its records answer one by one.
-use Rattle.std.proofs.Common.{◌≡◌, ℕ, zero, suc, ◌<◌, ◌≤◌, ◌+◌, ℤ, pos, Bool, true, false, true≢false, cond, not, List, [], ◌∷◌, map, length, Some, None, refl, sym, ap, ◌∙◌, subst, arith}
-use Rattle.std.specs.Prelude.{◌&&◌, ◌||◌, ◌+ℤ◌, max, nat_eq, nat_le, slice_get, slice_set}
+use Rattle.std.proofs.Common.{◌≡◌, ℕ, zero, suc, ◌<◌, ◌≤◌, ◌+◌, ℤ, pos, true, false, true≢false, cond, not, List, [], ◌∷◌, map, length, Some, None, refl, sym, ap, ◌∙◌, subst, arith}
+use Rattle.std.specs.Prelude.{◌&&◌, ◌+ℤ◌, max, nat_eq, nat_le, slice_get, slice_set}
 use Rattle.std.specs.Cmp.Lexicographic.{pointwise}
 use Rattle.std.specs.List.{find, flat_map, position_or_len, AllByRecursion, IsDistinct}
 use Rattle.std.specs.Ordering.{int_eq}
@@ -8,23 +8,22 @@ use Rattle.std.proofs.lemmas.Bool.{le-leb}
 use Rattle.std.proofs.lemmas.Bool.Decides.{Decides-eqb, Decides-int_eq}
 use Rattle.std.proofs.lemmas.Slice.Eq.{slice_eq-Decides}
 use Rattle.meaning.specs.Tree.{Name}
-use Rattle.evaluation.specs.declared.note.Note.{Note}
 use Rattle.linked_program.specs.Checked.{PlainChecked}
 use Rattle.meaning.specs.Elision.{depth_limit}
 use Rattle.meaning.specs.Every.{every}
 use Rattle.meaning.specs.Tables.{Tables}
-use Rattle.rerun_records.specs.Record.{PlainRecord, Doubts, is_of, same_instance, doubtless}
+use Rattle.rerun_records.specs.Record.{PlainRecord, is_of, same_instance, as_made}
 use Rattle.rerun_records.specs.Commits.{AreSingle}
-use Rattle.rerun_records.specs.Doubted.{is_doubted, in_step, reads_in_step, IsInStep}
-use Rattle.rerun_records.specs.Moments.{doubts_at, doubted_by, with_doubts}
+use Rattle.rerun_records.specs.Numbers.{is_counted}
+use Rattle.rerun_records.specs.InStep.{IsInStep}
 use Rattle.rerun_records.specs.Sums.{highest}
 use Rattle.rerun_records.specs.Validity.{note_agrees, has_revision, record_valid, only_valid, valid_at}
 use Rattle.rerun_records.specs.Batches.{AreValidFrom, IsBatch}
-use Rattle.rerun_records.specs.Blocks.{PlainBlock, is_trusted, is_trusted_at, AreLeaves, BlockFits, Answers}
+use Rattle.rerun_records.specs.Blocks.{PlainBlock, is_fresh, is_fresh_at, AreLeaves, BlockFits, Answers}
 use Rattle.rerun_records.proofs.Members.{left_is, right_is, both, every_member}
 use Rattle.rerun_records.proofs.NodeNotes.{every_append}
 use Rattle.rerun_records.proofs.Singles.{is_le, set_itself}
-use Rattle.rerun_records.proofs.Doubts.{found_trusted}
+use Rattle.rerun_records.proofs.InStep.{fresh_agrees}
 use Rattle.rerun_records.proofs.Homes.{false_if}
 
 -- ---- which record is of a procedure and arguments
@@ -46,57 +45,40 @@ pub of_arguments : (procedure : ℕ) (arguments : List ℤ) (r : PlainRecord) �
 of_arguments procedure arguments r e = sym (same_list arguments r.arguments (right_is (nat_eq procedure r.procedure) (pointwise int_eq arguments r.arguments) e))
 
 -- one behind another is of other arguments
-other_instance : (x : PlainRecord) (rs : List PlainRecord) (p : ℕ) (m : PlainRecord) → AllByRecursion (λ y. same_instance x y ≡ false) rs → slice_get (map doubtless rs) p ≡ Some m → is_of m.procedure m.arguments x ≡ false
+pub other_instance : (x : PlainRecord) (rs : List PlainRecord) (p : ℕ) (m : PlainRecord) → AllByRecursion (λ y. same_instance x y ≡ false) rs → slice_get (map as_made rs) p ≡ Some m → is_of m.procedure m.arguments x ≡ false
 other_instance x [] p m h e = absurd cc
 other_instance x (r ∷ rs) zero m h e =
     false_if (is_of m.procedure m.arguments x)
-    (λ t. (let there : doubtless r ≡ m = cc (e) in
+    (λ t. (let there : as_made r ≡ m = cc (e) in
     let same : same_instance x m ≡ true = subst (λ (f : ℕ). is_of f x.arguments m ≡ true) (sym (of_procedure m.procedure m.arguments x t)) (subst (λ (xs : List ℤ). is_of m.procedure xs m ≡ true) (sym (of_arguments m.procedure m.arguments x t)) (of_itself m)) in
     true≢false (sym same ∙ subst (λ (y : PlainRecord). same_instance x y ≡ false) there h.0)))
 other_instance x (r ∷ rs) (suc p) m h e = other_instance x rs p m h.1 e
 
--- ---- what is trusted agrees with the tables
-
-agree_all : (tables : Tables) (doubts : Doubts) (notes : List Note) → every (λ note. not (is_doubted doubts note)) notes ≡ true → every (in_step tables doubts) notes ≡ true → every (note_agrees tables) notes ≡ true
-agree_all tables doubts [] s h = refl
-agree_all tables doubts (n ∷ ns) s h =
-    both (note_agrees tables n) (every (note_agrees tables) ns)
-    (agrees_so (is_doubted doubts n) (note_agrees tables n)
-    (left_is (not (is_doubted doubts n)) (every (λ note. not (is_doubted doubts note)) ns) s)
-    (left_is (in_step tables doubts n) (every (in_step tables doubts) ns) h))
-    (agree_all tables doubts ns
-    (right_is (not (is_doubted doubts n)) (every (λ note. not (is_doubted doubts note)) ns) s)
-    (right_is (in_step tables doubts n) (every (in_step tables doubts) ns) h))
-  where
-    agrees_so : (d a : Bool) → not d ≡ true → d || a ≡ true → a ≡ true
-    agrees_so true a e f = absurd (true≢false (sym e))
-    agrees_so false a e f = f
-
--- ---- a trusted record is valid where its procedures and the depth allow it
+-- ---- a fresh record is valid where its procedures and the depth allow it
 
 module _ (revisions : List (Name × ℕ)) (tables : Tables) (depth : ℕ) where
-  valid_so : (r m : PlainRecord) → doubtless r ≡ m → is_trusted r ≡ true → reads_in_step tables r ≡ true → every (has_revision revisions) m.entered ≡ true → nat_le (depth + m.height) (suc depth_limit) ≡ true
+  valid_so : (r m : PlainRecord) → as_made r ≡ m → is_fresh r ≡ true → is_counted tables r ≡ true → every (has_revision revisions) m.entered ≡ true → nat_le (depth + m.height) (suc depth_limit) ≡ true
       → only_valid revisions tables depth (Some r) ≡ Some m
   valid_so r m e s h c f =
-      let reads = agree_all tables r.doubted r.reads s h in
+      let reads = fresh_agrees tables r h s in
       let entered : every (has_revision revisions) r.entered ≡ true = subst (λ (x : PlainRecord). every (has_revision revisions) x.entered ≡ true) (sym e) c in
       let deep : nat_le (depth + r.height) (suc depth_limit) ≡ true = subst (λ (x : PlainRecord). nat_le (depth + x.height) (suc depth_limit) ≡ true) (sym e) f in
       let valid : record_valid revisions tables depth r ≡ true =
       both (every (note_agrees tables) r.reads && every (has_revision revisions) r.entered) (nat_le (depth + r.height) (suc depth_limit)) (both (every (note_agrees tables) r.reads) (every (has_revision revisions) r.entered) reads entered) deep in
-      ap (λ b. cond b (Some (doubtless r)) None) valid ∙ ap Some e
+      ap (λ b. cond b (Some (as_made r)) None) valid ∙ ap Some e
 
-  pub leaf_valid : (rs : List PlainRecord) (p : ℕ) (m : PlainRecord) → AreSingle rs → IsInStep tables rs → slice_get (map doubtless rs) p ≡ Some m → is_trusted_at rs p ≡ true
+  pub leaf_valid : (rs : List PlainRecord) (p : ℕ) (m : PlainRecord) → AreSingle rs → IsInStep tables rs → slice_get (map as_made rs) p ≡ Some m → is_fresh_at rs p ≡ true
       → every (has_revision revisions) m.entered ≡ true → nat_le (depth + m.height) (suc depth_limit) ≡ true → valid_at revisions tables depth rs m.procedure m.arguments ≡ Some m
   unfolding IsDistinct
   leaf_valid [] p m single h e s c f = absurd cc
   leaf_valid (r ∷ rs) zero m single h e s c f =
-      let there : doubtless r ≡ m = cc (e) in
+      let there : as_made r ≡ m = cc (e) in
       let found : is_of m.procedure m.arguments r ≡ true = subst (λ (x : PlainRecord). is_of x.procedure x.arguments r ≡ true) there (of_itself r) in
       ap (λ b. only_valid revisions tables depth (cond b (Some r) (find (is_of m.procedure m.arguments) rs))) found
-      ∙ valid_so r m there s (left_is (reads_in_step tables r) (every (reads_in_step tables) rs) h) c f
+      ∙ valid_so r m there s (left_is (is_counted tables r) (every (is_counted tables) rs) h) c f
   leaf_valid (r ∷ rs) (suc p) m single h e s c f =
       ap (λ b. only_valid revisions tables depth (cond b (Some r) (find (is_of m.procedure m.arguments) rs))) (other_instance r rs p m single.0 e)
-      ∙ leaf_valid rs p m single.1 (right_is (reads_in_step tables r) (every (reads_in_step tables) rs) h) e s c f
+      ∙ leaf_valid rs p m single.1 (right_is (is_counted tables r) (every (is_counted tables) rs) h) e s c f
 
 lower : (a b c : ℕ) → b ≤ c → nat_le (a + c) (suc depth_limit) ≡ true → nat_le (a + b) (suc depth_limit) ≡ true
 lower a b c l e = let h = is_le (a + c) (suc depth_limit) e in le-leb (a + b) (suc depth_limit) (below (suc depth_limit) h)
@@ -111,7 +93,7 @@ right_max : (a b : ℕ) → b ≤ max a b
 right_max a b = omega arith
 
 module _ (program : PlainChecked) (tables : Tables) (depth : ℕ) (rs : List PlainRecord) (single : AreSingle rs) (h : IsInStep tables rs) where
-  valid_from : (procedure : ℕ) (arguments : List ℤ) (counted : ℕ) (v : ℤ) (ps : List ℕ) (ms : List PlainRecord) → AreLeaves (map doubtless rs) procedure arguments counted v ps ms → every (is_trusted_at rs) ps ≡ true
+  valid_from : (procedure : ℕ) (arguments : List ℤ) (counted : ℕ) (v : ℤ) (ps : List ℕ) (ms : List PlainRecord) → AreLeaves (map as_made rs) procedure arguments counted v ps ms → every (is_fresh_at rs) ps ≡ true
       → every (has_revision program.revisions) (flat_map (λ r. r.entered) ms) ≡ true → nat_le (depth + highest ms) (suc depth_limit) ≡ true
       → AreValidFrom program tables depth rs procedure arguments counted v ms
   valid_from procedure arguments counted v [] [] a s c f = tt
@@ -120,12 +102,12 @@ module _ (program : PlainChecked) (tables : Tables) (depth : ℕ) (rs : List Pla
   valid_from procedure arguments counted v (p ∷ ps) (m ∷ ms) a s c f =
       let entered : every (has_revision program.revisions) m.entered && every (has_revision program.revisions) (flat_map (λ r. r.entered) ms) ≡ true =
       sym (every_append (has_revision program.revisions) m.entered (flat_map (λ r. r.entered) ms)) ∙ c in
-      let one = leaf_valid program.revisions tables depth rs p m single h a.0.there (left_is (is_trusted_at rs p) (every (is_trusted_at rs) ps) s)
+      let one = leaf_valid program.revisions tables depth rs p m single h a.0.there (left_is (is_fresh_at rs p) (every (is_fresh_at rs) ps) s)
       (left_is (every (has_revision program.revisions) m.entered) (every (has_revision program.revisions) (flat_map (λ r. r.entered) ms)) entered)
       (lower depth m.height (max m.height (highest ms)) (left_max m.height (highest ms)) f) in (
         ap (λ (n : ℕ). valid_at program.revisions tables depth rs n (slice_set arguments counted v)) (sym a.0.procedure_is)
             ∙ ap (λ (xs : List ℤ). valid_at program.revisions tables depth rs m.procedure xs) (sym a.0.arguments_are) ∙ one,
-        valid_from procedure arguments counted (v +ℤ pos 1) ps ms a.1 (right_is (is_trusted_at rs p) (every (is_trusted_at rs) ps) s)
+        valid_from procedure arguments counted (v +ℤ pos 1) ps ms a.1 (right_is (is_fresh_at rs p) (every (is_fresh_at rs) ps) s)
             (right_is (every (has_revision program.revisions) m.entered) (every (has_revision program.revisions) (flat_map (λ r. r.entered) ms)) entered)
             (lower depth (highest ms) (max m.height (highest ms)) (right_max m.height (highest ms)) f),
       )
@@ -149,21 +131,21 @@ first_leaf rs procedure arguments counted v (p ∷ ps) (m ∷ ms) place k a e f 
     (ap (λ (r : PlainRecord). r.procedure) (sym leaf) ∙ a.0.procedure_is, ap (λ (r : PlainRecord). r.arguments) (sym leaf) ∙ a.0.arguments_are, omega arith)
 
 pub batch_of_block : (program : PlainChecked) (tables : Tables) (depth : ℕ) (rs : List PlainRecord) (place counted most : ℕ) (k : PlainRecord) (b : PlainBlock) → AreSingle rs → IsInStep tables rs
-    → slice_get (map doubtless rs) place ≡ Some k → BlockFits program.kinds rs b → Answers program depth place counted most b
+    → slice_get (map as_made rs) place ≡ Some k → BlockFits program.kinds rs b → Answers program depth place counted most b
     → IsBatch program tables depth rs k.procedure k.arguments counted most (length b.places) b.sum
 batch_of_block program tables depth rs place counted most k b single h there fits answers =
-    let begun = first_leaf (map doubtless rs) fits.procedure fits.arguments b.counted fits.first b.places fits.leaves place k fits.are_leaves answers.begins there in
+    let begun = first_leaf (map as_made rs) fits.procedure fits.arguments b.counted fits.first b.places fits.leaves place k fits.are_leaves answers.begins there in
     let same : k.arguments ≡ fits.arguments = begun.1 ∙ set_itself fits.arguments b.counted fits.first fits.first_is in
     let some : 0 < length b.places = begun.2 in
     let entered : every (has_revision program.revisions) (flat_map (λ r. r.entered) fits.leaves) ≡ true =
     sym (every_member (has_revision program.revisions) b.sum.entered (flat_map (λ r. r.entered) fits.leaves) fits.sum_is.entered) ∙ answers.current in
     let deep : nat_le (depth + highest fits.leaves) (suc depth_limit) ≡ true = ap (λ (n : ℕ). nat_le (depth + n) (suc depth_limit)) (sym fits.sum_is.height) ∙ answers.fits in
-    let valid = valid_from program tables depth rs single h fits.procedure fits.arguments b.counted fits.first b.places fits.leaves fits.are_leaves fits.trusted entered deep in
+    let valid = valid_from program tables depth rs single h fits.procedure fits.arguments b.counted fits.first b.places fits.leaves fits.are_leaves fits.fresh entered deep in
     record {
       first = fits.first;
       first_is = ap (λ (xs : List ℤ). slice_get xs counted) same ∙ ap (slice_get fits.arguments) (sym answers.counts) ∙ fits.first_is;
       members = fits.leaves;
-      count_is = as_many (map doubtless rs) fits.procedure fits.arguments b.counted fits.first b.places fits.leaves fits.are_leaves;
+      count_is = as_many (map as_made rs) fits.procedure fits.arguments b.counted fits.first b.places fits.leaves fits.are_leaves;
       some = some;
       few = answers.few;
       valid =
@@ -175,31 +157,26 @@ batch_of_block program tables depth rs place counted most k b single h there fit
 
 -- ---- a record at a place is the one that is found
 
-pub found_at_place : (rs : List PlainRecord) (p : ℕ) (k : PlainRecord) → map doubtless rs ≡ rs → AreSingle rs → slice_get rs p ≡ Some k → find (is_of k.procedure k.arguments) rs ≡ Some k
+pub found_at_place : (rs : List PlainRecord) (p : ℕ) (k : PlainRecord) → map as_made rs ≡ rs → AreSingle rs → slice_get rs p ≡ Some k → find (is_of k.procedure k.arguments) rs ≡ Some k
 unfolding IsDistinct
 found_at_place [] p k s single e = absurd cc
 found_at_place (r ∷ rs) zero k s single e =
     let there : r ≡ k = cc (e) in
     ap (λ b. cond b (Some r) (find (is_of k.procedure k.arguments) rs)) (subst (λ (x : PlainRecord). is_of x.procedure x.arguments r ≡ true) there (of_itself r)) ∙ ap Some there
 found_at_place (r ∷ rs) (suc p) k s single e =
-    let tails : map doubtless rs ≡ rs = cc (s) in
+    let tails : map as_made rs ≡ rs = cc (s) in
     ap (λ b. cond b (Some r) (find (is_of k.procedure k.arguments) rs)) (other_instance r rs p k single.0 (subst (λ (xs : List PlainRecord). slice_get xs p ≡ Some k) (sym tails) e)) ∙ found_at_place rs p k tails single.1 e
 
-pub place_at_place : (rs : List PlainRecord) (p : ℕ) (k : PlainRecord) → map doubtless rs ≡ rs → AreSingle rs → slice_get rs p ≡ Some k → position_or_len (is_of k.procedure k.arguments) rs ≡ p
+pub place_at_place : (rs : List PlainRecord) (p : ℕ) (k : PlainRecord) → map as_made rs ≡ rs → AreSingle rs → slice_get rs p ≡ Some k → position_or_len (is_of k.procedure k.arguments) rs ≡ p
 unfolding IsDistinct
 place_at_place [] p k s single e = absurd cc
 place_at_place (r ∷ rs) zero k s single e =
     let there : r ≡ k = cc (e) in ap (λ b. cond (not b) (1 + position_or_len (is_of k.procedure k.arguments) rs) 0) (subst (λ (x : PlainRecord). is_of x.procedure x.arguments r ≡ true) there (of_itself r))
 place_at_place (r ∷ rs) (suc p) k s single e =
-    let tails : map doubtless rs ≡ rs = cc (s) in
+    let tails : map as_made rs ≡ rs = cc (s) in
     let rest = place_at_place rs p k tails single.1 e in
     let other = other_instance r rs p k single.0 (subst (λ (xs : List PlainRecord). slice_get xs p ≡ Some k) (sym tails) e) in
     ap (λ b. cond (not b) (1 + position_or_len (is_of k.procedure k.arguments) rs) 0) other ∙ (let one : 1 + position_or_len (is_of k.procedure k.arguments) rs ≡ suc p = omega (arith, rest) in one)
-
--- what is in doubt of it goes by its place
-pub placed : (changes : List (ℕ × ℤ)) (ns : List ℕ) (rs : List PlainRecord) (place : ℕ) (k : PlainRecord) → map doubtless rs ≡ rs → AreSingle rs → slice_get rs place ≡ Some k
-    → find (is_of k.procedure k.arguments) (with_doubts changes ns rs) ≡ Some (doubted_by (doubts_at changes (slice_get ns place)) k)
-placed changes ns rs place k s single e = found_trusted changes k.procedure k.arguments ns rs place k (place_at_place rs place k s single e) (found_at_place rs place k s single e)
 
 pub found_of : (procedure : ℕ) (arguments : List ℤ) (rs : List PlainRecord) (r : PlainRecord) → find (is_of procedure arguments) rs ≡ Some r → is_of procedure arguments r ≡ true
 found_of procedure arguments [] r e = absurd cc

@@ -1,5 +1,5 @@
 -- Blocks: records of one procedure whose arguments go up by one in one place, with one record that has what theirs have together.
-use Rattle.std.specs.Prelude.{◌≡◌, ◌⊎◌, ◌≤◌, ◌<◌, ◌+◌, ◌*◌, ℕ, suc, nat_eq, nat_le, ℤ, pos, ◌+ℤ◌, Bool, true, false, not, List, [], ◌∷◌}
+use Rattle.std.specs.Prelude.{◌≡◌, ◌⊎◌, ◌≤◌, ◌+◌, ℕ, suc, nat_eq, nat_le, ℤ, pos, ◌+ℤ◌, Bool, true, false, not, List, [], ◌∷◌}
 use Rattle.std.specs.Prelude.{Option, Some, None, map, length, slice_get, slice_set}
 use Rattle.std.specs.List.{list_any}
 use Rattle.evaluation.specs.declared.note.Note.{Note}
@@ -7,11 +7,9 @@ use Rattle.linked_program.specs.Checked.{PlainChecked}
 use Rattle.meaning.specs.Elision.{depth_limit}
 use Rattle.meaning.specs.Every.{every}
 use Rattle.monoid_laws.specs.declared.Kind.{Kind}
-use Rattle.rerun_records.specs.Record.{PlainRecord, doubtless}
-use Rattle.rerun_records.specs.Doubted.{is_doubted, rests_on}
+use Rattle.rerun_records.specs.Record.{PlainRecord, as_made}
+use Rattle.rerun_records.specs.InStep.{rests_on}
 use Rattle.rerun_records.specs.Sums.{IsSumOf}
-use Rattle.rerun_records.specs.declared.spans.Span.{Span}
-use Rattle.rerun_records.specs.Spans.{is_covered_by, is_touched}
 use Rattle.rerun_records.specs.Validity.{has_revision}
 
 -- the places of records in order, which of their arguments counts up, and one record in the place of them all
@@ -24,17 +22,17 @@ pub record PlainBlock : Type 0 where
 abbrev pub is_apart : List (ℕ × ℤ) → Note → Bool
 is_apart changes note = not (list_any (rests_on note) changes)
 
--- nothing that was read is in doubt
-abbrev pub is_trusted : PlainRecord → Bool
-is_trusted r = every (λ note. not (is_doubted r.doubted note)) r.reads
+-- nothing that was read is counted as not held
+abbrev pub is_fresh : PlainRecord → Bool
+is_fresh r = nat_eq r.stale 0
 
-abbrev pub is_some_trusted : Option PlainRecord → Bool
-is_some_trusted None = false
-is_some_trusted (Some r) = is_trusted r
+abbrev pub is_some_fresh : Option PlainRecord → Bool
+is_some_fresh None = false
+is_some_fresh (Some r) = is_fresh r
 
--- a record is at that place, and nothing that it read is in doubt
-abbrev pub is_trusted_at : List PlainRecord → ℕ → Bool
-is_trusted_at records place = is_some_trusted (slice_get records place)
+-- a record is at that place, and nothing that it read is counted as not held
+abbrev pub is_fresh_at : List PlainRecord → ℕ → Bool
+is_fresh_at records place = is_some_fresh (slice_get records place)
 
 module _ (records : List PlainRecord) (procedure : ℕ) (arguments : List ℤ) (counted : ℕ) where
   -- a record at that place, of the procedure with that number in the counted argument
@@ -49,15 +47,15 @@ module _ (records : List PlainRecord) (procedure : ℕ) (arguments : List ℤ) (
   AreLeaves v (p ∷ ps) (r ∷ rs) = IsLeaf v p r × AreLeaves (v +ℤ pos 1) ps rs
   AreLeaves _ _ _ = ⊥
 
--- the records at a block's places go up by one, all are trusted, and the block's record has what they have together
+-- the records at a block's places go up by one, all are fresh, and the block's record has what they have together
 pub record BlockFits (kinds : List Kind) (records : List PlainRecord) (block : PlainBlock) : Type 0 where
   pub procedure : ℕ
   pub arguments : List ℤ
   pub first : ℤ
   pub first_is : slice_get arguments block.counted ≡ Some first
   pub leaves : List PlainRecord
-  pub are_leaves : AreLeaves (map doubtless records) procedure arguments block.counted first block.places leaves
-  pub trusted : every (is_trusted_at records) block.places ≡ true
+  pub are_leaves : AreLeaves (map as_made records) procedure arguments block.counted first block.places leaves
+  pub fresh : every (is_fresh_at records) block.places ≡ true
   pub sum_is : IsSumOf kinds leaves block.sum
 
 -- ---- blocks by numbers: some were dropped
@@ -101,19 +99,6 @@ is_home homes number place = is_number number (slice_get homes place)
 -- each block is the home of all its records
 abbrev pub AreHoused : List ℕ → List (Option PlainBlock) → Type 0
 AreHoused homes blocks = (n : ℕ) (b : PlainBlock) → live_at blocks n ≡ Some b → every (is_home homes n) b.places ≡ true
-
--- ---- hulls: spans of rows, each for so many blocks with numbers one after another
-
--- what blocks have read lies in the hull of their number
-abbrev pub AreHulled : List (List Span) → List (Option PlainBlock) → Type 0
-AreHulled hulls blocks =
-    (i n : ℕ) (h : List Span) (b : PlainBlock) → slice_get hulls i ≡ Some h → i * 64 ≤ n → n < i * 64 + 64 → live_at blocks n ≡ Some b
-    → every (is_covered_by h) b.sum.reads ≡ true
-
--- there is a hull, and none of the changes lies in it
-abbrev pub is_hull_apart : List (ℕ × ℤ) → Option (List Span) → Bool
-is_hull_apart changes None = false
-is_hull_apart changes (Some h) = not (is_touched h changes)
 
 -- ---- the blocks of four widths
 

@@ -4,10 +4,12 @@ pub mod Spans
 pub mod Readings
 pub mod Validity
 pub mod Commits
-pub mod Doubted
-pub mod Moments
+pub mod Counts
+pub mod Numbers
+pub mod InStep
 pub mod Named
 pub mod ShortLists
 pub mod Batches
 pub mod Sums
 pub mod Blocks
+pub mod Covers

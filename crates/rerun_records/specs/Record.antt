@@ -8,14 +8,9 @@ use Rattle.monoid_laws.specs.Kinds.{meaning}
 use Rattle.evaluation.specs.declared.note.Note.{Note}
 use Rattle.place_chains.specs.Mixing.{number_of}
 
--- which readings of a record may no longer agree with the tables: any, or those of rows that were changed, each with its table's number
-pub data Doubts : Type 0 where
-  everything : Doubts
-  rows : List (ℕ × ℤ) → Doubts
-
 -- of a memo instance that is over: its procedure and arguments, its value, what it made of each reducer that it touched, what it read,
 -- the procedures entered with their revision numbers, how many instances were nested in it at most, itself counted,
--- and which of its readings are in doubt
+-- and how many of its different readings the tables don't hold, as edits have counted them since
 pub record PlainRecord : Type 0 where
   pub procedure : ℕ
   pub arguments : List ℤ
@@ -24,7 +19,7 @@ pub record PlainRecord : Type 0 where
   pub reads : List Note
   pub entered : List (ℕ × ℕ)
   pub height : ℕ
-  pub doubted : Doubts
+  pub stale : ℕ
 
 -- a reducer's number and its value
 abbrev pub touched : ℕ × Val → ℕ × Worth
@@ -57,9 +52,9 @@ made_of procedure arguments value contribution reads entered height =
       reads = reads;
       entered = entered;
       height = height;
-      doubted = rows [];
+      stale = 0;
     }
 
--- the record with nothing in doubt
-abbrev pub doubtless : PlainRecord → PlainRecord
-doubtless r = record r { doubted = rows [] }
+-- the record of which nothing is counted
+abbrev pub as_made : PlainRecord → PlainRecord
+as_made r = record r { stale = 0 }

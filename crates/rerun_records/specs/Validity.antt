@@ -10,7 +10,7 @@ use Rattle.meaning.specs.Records.{same_number, same_bool}
 use Rattle.input_tables.specs.Edited.{cell_at, has_at, limit_at, sum_at}
 use Rattle.evaluation.specs.declared.note.Note.{Note}
 use Rattle.evaluation.specs.declared.note.Note.TheVariants.{Cell, Has, Limit, Sum}
-use Rattle.rerun_records.specs.Record.{PlainRecord, is_of, doubtless}
+use Rattle.rerun_records.specs.Record.{PlainRecord, is_of, as_made}
 
 -- the tables hold what was read
 abbrev pub note_agrees : Tables → Note → Bool
@@ -38,8 +38,8 @@ module _ (revisions : List (Name × ℕ)) (tables : Tables) where
 
   abbrev pub only_valid : ℕ → Option PlainRecord → Option PlainRecord
   only_valid depth None = None
-  only_valid depth (Some r) = cond (record_valid depth r) (Some (doubtless r)) None
+  only_valid depth (Some r) = cond (record_valid depth r) (Some (as_made r)) None
 
-  -- the record of a procedure and arguments, where it is valid at that depth; whether it is doesn't go by what is in doubt
+  -- the record of a procedure and arguments, where it is valid at that depth; whether it is doesn't go by its number
   abbrev pub valid_at : ℕ → List PlainRecord → ℕ → List ℤ → Option PlainRecord
   valid_at depth records procedure arguments = only_valid depth (find (is_of procedure arguments) records)

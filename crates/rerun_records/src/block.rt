@@ -1,7 +1,6 @@
 //! Records in a row that one record stands for.
-ghost use Rattle.std.specs.Prelude.{◌≡◌, Some, true, false, slice_get};
-ghost use Rattle.meaning.specs.Every.{every};
-ghost use Rattle.rerun_records.specs.Blocks.{is_apart, Answers};
+ghost use Rattle.std.specs.Prelude.{◌≡◌, Some, true, slice_get};
+ghost use Rattle.rerun_records.specs.Blocks.{Answers};
 
 use crate::record::Record;
 use crate::series::Series;
@@ -57,13 +56,6 @@ impl Block {
         ensures sum { result.now ≡ self.now.sum }
     {
         &self.sum
-    }
-
-    /// Whether one of these changes, each given by its table's number and the row, may have changed what was read.
-    pub(crate) fn is_touched(&self, changes: &[(usize, i64)]) -> bool
-        ensures apart { result ≡ false → every (is_apart changes.now) self.now.sum.reads ≡ true }
-    {
-        self.sum.reads().are_touched(changes)
     }
 
     /// Whether it begins at that place, counts that series' argument, has no more records than that, and its procedures and depth

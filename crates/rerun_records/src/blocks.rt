@@ -1,8 +1,6 @@
 //! The blocks of a session's records.
-ghost use Rattle.std.specs.Prelude.{◌≡◌, ◌⊎◌, ◌∷◌, ℕ, Some, List, [], IfSome, OnOk, true};
-ghost use Rattle.meaning.specs.Every.{every};
-ghost use Rattle.monoid_laws.specs.declared.Kind.{Kind as PlainKind};
-ghost use Rattle.rerun_records.specs.Blocks.{PlainBlock, PlainBlocks, BlocksRemain, IsFree, IsBlock, IsLive, live_at, is_apart, Answers};
+ghost use Rattle.std.specs.Prelude.{◌≡◌, ◌⊎◌, ℕ, Some, [], IfSome, OnOk, true};
+ghost use Rattle.rerun_records.specs.Blocks.{PlainBlock, PlainBlocks, BlocksRemain, IsFree, IsBlock, live_at, Answers};
 
 use crate::block::Block;
 use crate::due::Due;
@@ -12,13 +10,6 @@ use linked_program::checked::Checked;
 use monoid_laws::Kind;
 use std::alloc::{AllocError, Global};
 use std::marker::Model;
-use std::slice;
-
-/// So many rows are changed at least before all blocks are dropped, since each change is looked for in each block.
-const FEWEST: usize = 64;
-
-/// And one for so many blocks.
-const BLOCKS_A_CHANGE: usize = 2;
 
 /// The width of a block.
 #[derive(Clone, Copy)]
@@ -39,8 +30,6 @@ pub(crate) struct Blocks {
     vast: Level,
     // What was put in or dropped since blocks were made.
     due: Due,
-    // How many rows were changed since.
-    changes: usize,
 }
 
 impl Model for Blocks {
@@ -63,7 +52,6 @@ impl Blocks {
             wide: Level::new(alloc),
             vast: Level::new(alloc),
             due: Due::new(alloc),
-            changes: 0,
         }
     }
 
@@ -73,43 +61,20 @@ impl Blocks {
         ensures free { IsFree place self.new.fine × IsFree place self.new.middle × IsFree place self.new.wide
             × IsFree place self.new.vast }
     {
+        note(&mut self.due, place);
+        self.drop_at(place);
+    }
+
+    /// Drops the blocks that have the record at that place as part. It takes no memory.
+    pub(crate) fn drop_at(&mut self, place: usize)
+        ensures remain { BlocksRemain self.new self.old }
+        ensures free { IsFree place self.new.fine × IsFree place self.new.middle × IsFree place self.new.wide
+            × IsFree place self.new.vast }
+    {
         self.fine.drop_at(place, &mut self.due);
         self.middle.drop_at(place, &mut self.due);
         self.wide.drop_at(place, &mut self.due);
         self.vast.drop_at(place, &mut self.due);
-        match u32::try_from(place) {
-            Ok(place) => self.due.note(place),
-            Err(_) => {}
-        }
-    }
-
-    /// Drops the blocks that rest on a changed row, given by its table's number and its own; or all, where many rows were changed
-    /// since blocks were made.
-    pub(crate) fn row_changed(&mut self, table: usize, row: i64)
-        ensures remain { BlocksRemain self.new self.old }
-        ensures fine { (n : ℕ) (b : PlainBlock) → live_at self.new.fine n ≡ Some b
-            → every (is_apart ((table, row) ∷ [])) b.sum.reads ≡ true }
-        ensures middle { (n : ℕ) (b : PlainBlock) → live_at self.new.middle n ≡ Some b
-            → every (is_apart ((table, row) ∷ [])) b.sum.reads ≡ true }
-        ensures wide { (n : ℕ) (b : PlainBlock) → live_at self.new.wide n ≡ Some b
-            → every (is_apart ((table, row) ∷ [])) b.sum.reads ≡ true }
-        ensures vast { (n : ℕ) (b : PlainBlock) → live_at self.new.vast n ≡ Some b
-            → every (is_apart ((table, row) ∷ [])) b.sum.reads ≡ true }
-    {
-        self.changes = self.changes.saturating_add(1);
-        if self.changes > FEWEST && self.changes > self.fine.len() / BLOCKS_A_CHANGE {
-            self.clear();
-        } else {
-            let change = (table, row);
-            self.fine
-                .drop_touched(slice::from_ref(&change), &mut self.due);
-            self.middle
-                .drop_touched(slice::from_ref(&change), &mut self.due);
-            self.wide
-                .drop_touched(slice::from_ref(&change), &mut self.due);
-            self.vast
-                .drop_touched(slice::from_ref(&change), &mut self.due);
-        }
     }
 
     /// Drops all blocks.
@@ -218,12 +183,31 @@ impl Blocks {
         self.due.are_all()
     }
 
-    /// Takes out the places of records that may be put into blocks, and begins to count changes anew.
+    /// Takes out the places of records that may be put into blocks.
     pub(crate) fn take_due(&mut self, alloc: Global) -> Vec<u32>
         ensures same { self.new ≡ self.old }
     {
-        self.changes = 0;
-        self.due.take(alloc)
+        let places = self.due.take(alloc);
+        self.make_room(0);
+        places
+    }
+
+    /// Makes room to note that so many records are due, and one of each block that there is, as far as memory isn't refused.
+    pub(crate) fn make_room(&mut self, records: usize)
+        ensures same { self.new ≡ self.old }
+    {
+        let narrow = self.fine.len().saturating_add(self.middle.len());
+        let broad = self.wide.len().saturating_add(self.vast.len());
+        self.due
+            .make_room(records.saturating_add(narrow.saturating_add(broad)));
+    }
+}
+
+// Notes that the record at that place is due.
+fn note(due: &mut Due, place: usize) {
+    match u32::try_from(place) {
+        Ok(place) => due.note(place),
+        Err(_) => {}
     }
 }
 

@@ -2,7 +2,7 @@
 use std::alloc::Global;
 use std::mem;
 
-/// Places, maybe some twice; or all, where memory for one more was refused.
+/// Places, maybe some twice; or all, where there was no room for one more.
 #[derive(Drop)]
 pub(crate) struct Due {
     places: Vec<u32>,
@@ -18,9 +18,19 @@ impl Due {
         }
     }
 
-    /// Notes one more place.
+    /// Makes room for so many places more, as far as memory isn't refused.
+    pub(crate) fn make_room(&mut self, places: usize) {
+        let _ = self.places.reserve(places);
+    }
+
+    /// Notes one more place. It takes no memory.
     pub(crate) fn note(&mut self, place: u32) {
-        if !self.all && self.places.push(place).is_err() {
+        if self.all {
+            return;
+        }
+        if self.places.len() < self.places.capacity() {
+            self.places.push_reserved(place);
+        } else {
             self.note_all();
         }
     }

@@ -3,17 +3,15 @@ ghost use Rattle.std.specs.Prelude.{◌≡◌, ◌++◌, IfOk, OnOk, map, true, 
 ghost use Rattle.std.specs.List.{flat_map, list_any};
 ghost use Rattle.meaning.specs.Every.{every};
 ghost use Rattle.evaluation.specs.declared.note.Note.{Note as PlainNote};
-ghost use Rattle.rerun_records.specs.Record.{rows};
 ghost use Rattle.evaluation.specs.Short.{note_of};
 ghost use Rattle.rerun_records.specs.Spans.{is_covered_by};
 ghost use Rattle.rerun_records.specs.Readings.{all_of, node_notes, shared_notes, held_notes, is_covered, is_covered_share, is_covered_below};
 ghost use Rattle.rerun_records.specs.ShortLists.{items_in};
 ghost use Rattle.rerun_records.specs.Validity.{note_agrees};
-ghost use Rattle.rerun_records.specs.Doubted.{rests_on, in_step};
+ghost use Rattle.rerun_records.specs.InStep.{rests_on};
 ghost use Rattle.rerun_records.specs.Blocks.{is_apart};
 ghost use Rattle.rerun_records.specs.Same.{is_read, same_note};
 
-use crate::changes::is_among;
 use crate::short_list::ShortList;
 use crate::spans::{Span, are_touched, may_have, put_read, put_spans};
 use evaluation::note::Note;
@@ -22,9 +20,6 @@ use input_tables::Tables;
 use std::alloc::{AllocError, Global};
 use std::marker::Model;
 use std::sync::Arc;
-
-/// So many changes are looked through before the tables are asked.
-const FEW: usize = 8;
 
 // Most have nothing below, so that lies by itself.
 #[cycle(parts)]
@@ -95,18 +90,6 @@ impl Readings {
         ensures agree { result ≡ every (note_agrees tables.now.tables) self.now }
     {
         node_agrees(&self.node, tables)
-    }
-
-    /// Whether the tables hold what was read, where they hold each reading that those changes, each given by its table's number
-    /// and the row, don't put in doubt. It takes no memory, and passes over parts that read none of these rows.
-    pub(crate) fn still_agree(&self, changes: &[(usize, i64)], tables: &Tables) -> bool
-        requires in_step { every (in_step tables.now.tables (rows changes.now)) self.now ≡ true }
-        ensures agree { result ≡ every (note_agrees tables.now.tables) self.now }
-    {
-        if changes.is_empty() {
-            return true;
-        }
-        node_still_agrees(&self.node, changes, tables)
     }
 
     /// Whether one of these changes, each given by its table's number and the row, may have changed what was read, by its own
@@ -218,45 +201,6 @@ fn parts_agree(parts: &[Arc<Node>], tables: &Tables) -> bool
     true
 }
 
-// Whether the tables hold what was read there and below, where they hold what no change may have changed. Where no changed row lies
-// in the spans, the parts aren't asked.
-#[cycle(doubting)]
-fn node_still_agrees(node: &Node, changes: &[(usize, i64)], tables: &Tables) -> bool
-    requires covered { is_covered node.now ≡ true }
-    requires in_step { every (in_step tables.now.tables (rows changes.now)) (node_notes node.now) ≡ true }
-    ensures agrees { result ≡ every (note_agrees tables.now.tables) (node_notes node.now) }
-{
-    if !reads_still_agree(node.own.as_slice(), changes, tables) {
-        return false;
-    }
-    match &node.below {
-        Some(below) => {
-            if are_touched(&below.spans, changes) {
-                parts_still_agree(&below.parts, changes, tables)
-            } else {
-                true
-            }
-        }
-        None => true,
-    }
-}
-
-#[cycle(doubting)]
-fn parts_still_agree(parts: &[Arc<Node>], changes: &[(usize, i64)], tables: &Tables) -> bool
-    requires covered { every is_covered_share parts.now ≡ true }
-    requires in_step { every (in_step tables.now.tables (rows changes.now))
-        (flat_map shared_notes parts.now) ≡ true }
-    ensures agree { result
-        ≡ every (note_agrees tables.now.tables) (flat_map shared_notes parts.now) }
-{
-    for part in parts {
-        if !node_still_agrees(part, changes, tables) {
-            return false;
-        }
-    }
-    true
-}
-
 // Whether one of the changes may have changed what was read there or below.
 fn node_is_touched(node: &Node, changes: &[(usize, i64)]) -> bool
     requires covered { is_covered node.now ≡ true }
@@ -282,6 +226,32 @@ fn are_own_touched(own: &[Reading], changes: &[(usize, i64)]) -> bool
         }
     }
     false
+}
+
+// Whether one of the changes, each given by its table's number and the row, may have changed what is read so.
+fn is_among(reading: &Reading, changes: &[(usize, i64)]) -> bool
+    ensures among { result ≡ list_any (rests_on (note_of reading.now)) changes.now }
+{
+    for change in changes {
+        if rests_on(reading, change) {
+            return true;
+        }
+    }
+    false
+}
+
+// Whether the change may have changed what is read so.
+fn rests_on(reading: &Reading, change: &(usize, i64)) -> bool
+    ensures rests { result ≡ rests_on (note_of reading.now) change.now }
+{
+    match reading {
+        Reading::Cell { table, row, .. } => {
+            usize::from(*table) == change.0 && i64::from(*row) == change.1
+        }
+        Reading::Has { table, row, .. } => usize::from(*table) == change.0 && *row == change.1,
+        Reading::Limit { table, .. } => usize::from(*table) == change.0,
+        Reading::Sum { table, .. } => usize::from(*table) == change.0,
+    }
 }
 
 // Whether that was read there or below. Where its rows lie in no span, the parts aren't asked.
@@ -375,31 +345,6 @@ fn put_own(own: &[Reading], notes: &mut Vec<Note>) -> Result<(), AllocError>
         notes.push(reading.note())?;
     }
     Ok(())
-}
-
-// Whether the tables hold these readings, where they hold those that no change may have changed.
-fn reads_still_agree(reads: &[Reading], changes: &[(usize, i64)], tables: &Tables) -> bool
-    requires in_step { every (in_step tables.now.tables (rows changes.now)) (map note_of reads.now)
-        ≡ true }
-    ensures agree { result ≡ every (note_agrees tables.now.tables) (map note_of reads.now) }
-{
-    for reading in reads {
-        if !still_agrees(reading, changes, tables) {
-            return false;
-        }
-    }
-    true
-}
-
-// Whether the tables hold what was read so: few changes are looked through first, since that takes less than to ask the tables.
-fn still_agrees(reading: &Reading, changes: &[(usize, i64)], tables: &Tables) -> bool
-    requires in_step { in_step tables.now.tables (rows changes.now) (note_of reading.now) ≡ true }
-    ensures agrees { result ≡ note_agrees tables.now.tables (note_of reading.now) }
-{
-    if changes.len() <= FEW && !is_among(reading, changes) {
-        return true;
-    }
-    agrees(&reading.note(), tables)
 }
 
 // Whether the tables hold what was read.

@@ -1,5 +1,5 @@
 //! The record of a memo instance that is over.
-ghost use Rattle.std.specs.Prelude.{◌≡◌, ◌+◌, ◌&&◌, suc, map, nat_eq, nat_le, ◌++◌, true, option_copied};
+ghost use Rattle.std.specs.Prelude.{◌≡◌, ◌+◌, ◌&&◌, suc, map, nat_eq, nat_le, ◌++◌};
 ghost use Rattle.std.specs.Cmp.Lexicographic.{pointwise};
 ghost use Rattle.std.specs.Cmp.Rules.{comparing, hashing};
 ghost use Rattle.std.specs.Hash as fed;
@@ -7,11 +7,9 @@ ghost use Rattle.std.specs.Ordering.{on, eq_of_both, int_eq};
 ghost use Rattle.std.proofs.Common.{rules};
 ghost use Rattle.meaning.specs.Elision.{depth_limit};
 ghost use Rattle.meaning.specs.Every.{every};
-ghost use Rattle.rerun_records.specs.Record.{touched, made_of, doubtless, rows};
-ghost use Rattle.rerun_records.specs.Doubted.{in_step, reads_agree};
-ghost use Rattle.rerun_records.specs.Moments.{doubts_by};
+ghost use Rattle.rerun_records.specs.Record.{touched, made_of, as_made};
 ghost use Rattle.rerun_records.specs.ShortLists.{items_in};
-ghost use Rattle.rerun_records.specs.Validity.{note_agrees, has_revision, record_holds, record_valid};
+ghost use Rattle.rerun_records.specs.Validity.{has_revision, record_holds};
 
 use crate::readings::Readings;
 use crate::short_list::ShortList;
@@ -36,8 +34,8 @@ pub struct Record {
 }
 
 impl Model for Record {
-    ghost use Rattle.std.specs.Prelude.{[], map};
-    ghost use Rattle.rerun_records.specs.Record.{PlainRecord, rows, touched};
+    ghost use Rattle.std.specs.Prelude.{map};
+    ghost use Rattle.rerun_records.specs.Record.{PlainRecord, touched};
     ghost use Rattle.rerun_records.specs.ShortLists.{items_in};
 
     ghost Value = { PlainRecord };
@@ -50,7 +48,7 @@ impl Model for Record {
       reads = r.reads;
       entered = items_in r.entered;
       height = r.height;
-      doubted = rows [];
+      stale = 0;
     } };
 }
 
@@ -109,9 +107,9 @@ impl Record {
         }
     }
 
-    /// What the type keeps: nothing of a record on its own is in doubt.
-    pub fn doubtless(&self)
-        ensures doubtless { doubtless self.now ≡ self.now }
+    /// What the type keeps: nothing is counted of a record on its own.
+    pub fn as_made(&self)
+        ensures as_made { as_made self.now ≡ self.now }
     {
         let _ = &self.value;
     }
@@ -172,25 +170,6 @@ impl Record {
         self.reads.agree(tables) && are_current(self.entered(), program)
     }
 
-    /// Whether the record holds now, and an instance at that depth with as many nested in it stays within the limit, where the
-    /// tables hold each reading that those changes of rows, or any, don't put in doubt: those in doubt alone are compared.
-    pub(crate) fn stays_valid(
-        &self,
-        depth: u32,
-        changes: Option<&[(usize, i64)]>,
-        tables: &Tables,
-        program: &Checked,
-    ) -> bool
-        requires in_step { every (in_step tables.now.tables (doubts_by (option_copied changes)))
-            self.now.reads ≡ true }
-        ensures valid { result
-            ≡ record_valid program.now.revisions tables.now.tables depth self.now }
-    {
-        still_agree(&self.reads, changes, tables)
-            && are_current(self.entered(), program)
-            && fits(depth, self.height)
-    }
-
     /// Whether the procedures entered are as they were, and an instance at that depth with as many nested in it stays within the
     /// limit.
     pub fn is_allowed(&self, depth: u32, program: &Checked) -> bool
@@ -199,13 +178,6 @@ impl Record {
     {
         are_current(self.entered(), program) && fits(depth, self.height)
     }
-
-    /// Whether the tables hold what was read.
-    pub(crate) fn agrees(&self, tables: &Tables) -> bool
-        ensures agree { result ≡ reads_agree tables.now.tables self.now }
-    {
-        self.reads.agree(tables)
-    }
 }
 
 // Whether so many nested instances from that depth on stay within the limit.
@@ -213,18 +185,6 @@ fn fits(depth: u32, height: u32) -> bool
     ensures fits { result ≡ nat_le (depth + height) (suc depth_limit) }
 {
     u64::from(depth) + u64::from(height) <= u64::from(DEPTH_LIMIT) + 1
-}
-
-// Whether the tables hold what was read, where they held each reading that those changes of rows, or any, don't put in doubt.
-fn still_agree(reads: &Readings, changes: Option<&[(usize, i64)]>, tables: &Tables) -> bool
-    requires in_step { every (in_step tables.now.tables (doubts_by (option_copied changes)))
-        reads.now ≡ true }
-    ensures agree { result ≡ every (note_agrees tables.now.tables) reads.now }
-{
-    match changes {
-        Some(changes) => reads.still_agree(changes, tables),
-        None => reads.agree(tables),
-    }
 }
 
 // Whether these procedures have these revision numbers.

@@ -1,26 +1,28 @@
 //! The records of a session.
-ghost use Rattle.std.specs.Prelude.{◌≡◌, ◌↔◌, IsTrue, ℕ, List, [], length, ◌<◌, ◌≤◌, ◌+◌, Some, None, OnOk, OnErr, IfSome, IfNone};
-ghost use Rattle.std.specs.Prelude.{option_copied, map, true, slice_get, vec_capacity};
-ghost use Rattle.std.specs.List.{find, position_or_len};
-ghost use Rattle.place_chains.specs.Mixing.{number_of as mixed_number};
-ghost use Rattle.rerun_records.specs.Record.{is_of, same_instance, instance_number, doubtless, everything};
-ghost use Rattle.rerun_records.specs.Validity.{valid_at};
-ghost use Rattle.rerun_records.specs.Doubted.{IsInStep, ReadNow, IsSameBut};
-ghost use Rattle.rerun_records.specs.Moments.{with_doubts, HaveMoments, first_moment, doubted_by};
-ghost use Rattle.meaning.specs.Tables.{Tables as PlainTables};
-ghost use Rattle.rerun_records.specs.Commits.{put_record, put_records, AreSingle};
+ghost use Rattle.std.specs.Prelude.{◌≡◌, ◌↔◌, IsTrue, List, [], ◌∷◌, ◌++◌, length, ◌<◌, ◌≤◌, Some, None, OnOk, OnErr, IfSome, IfNone};
+ghost use Rattle.std.specs.Prelude.{option_copied, map, not, true, slice_get};
+ghost use Rattle.std.specs.List.{find};
+ghost use Rattle.meaning.specs.Every.{every};
+ghost use Rattle.rerun_records.specs.Record.{PlainRecord, is_of, instance_number, as_made};
+ghost use Rattle.rerun_records.specs.Validity.{record_valid, valid_at};
+ghost use Rattle.rerun_records.specs.InStep.{IsInStep, ReadNow, reads_agree};
+ghost use Rattle.rerun_records.specs.Numbers.{most_number, told_by};
+ghost use Rattle.rerun_records.specs.Commits.{put_records, AreSingle};
 ghost use Rattle.rerun_records.specs.Named.{looked_up, FindsNamed, CommitsNamed, HaveValues};
 ghost use Rattle.rerun_records.specs.Batches.{IsBatch};
-ghost use Rattle.rerun_records.specs.Blocks.{BlockFits, BlocksFit, is_trusted_at};
+ghost use Rattle.rerun_records.specs.Blocks.{BlockFits, is_apart, is_fresh_at};
 ghost use Rattle.monoid_laws.specs.declared.Kind.{Kind as PlainKind};
 
 use crate::batch::Batch;
 use crate::block::Block;
 use crate::blocks::{Blocks, Width};
-use crate::changes::{NEVER, changes_since, is_stamped, list_change, stamp, stamp_or_add};
+use crate::covers::Covers;
 use crate::key::Key;
+use crate::listing::{found_in, is_of, put_all, record_at};
 use crate::record::Record;
 use crate::series::Series;
+use crate::telling::tell;
+use evaluation::note::Note;
 use input_tables::Tables;
 use linked_program::checked::Checked;
 use monoid_laws::Kind;
@@ -29,43 +31,39 @@ use place_chains::places::Places;
 use std::alloc::{AllocError, Global};
 use std::marker::Model;
 
-/// So many changes of rows are listed at least before the records are compared anew and the changes forgotten.
-const FEWEST: usize = 1024;
-
-/// And one for so many records, since to compare them takes as long as there are many.
-const RECORDS_A_CHANGE: usize = 16;
-
 /// Room for one more record is made for so many.
 const RECORDS_A_SPARE: usize = 64;
 
-/// Records, at most one of each procedure and arguments, in the order in which those were first recorded. A row that is changed
-/// is listed, and of a record those readings are in doubt that rest on rows listed since it was trusted: they alone are compared.
+/// Records, at most one of each procedure and arguments, in the order in which those were first recorded. Beside each stands how many
+/// of its different readings the tables don't hold: to ask takes no look at them.
 #[derive(Drop)]
 pub struct Records {
     list: Vec<Record>,
     // Each record's place under the number of its procedure and arguments, by which it is found.
     places: Places,
-    // For each record how many changes there were when it was put in, or last compared.
-    moments: Vec<u32>,
-    // The rows that were changed, by their tables' numbers.
-    changes: Vec<(usize, i64)>,
-    // Records in a row that are trusted, so that what they have together answers them all.
+    // For each record how many of its different readings the tables don't hold.
+    numbers: Vec<u32>,
+    // Records in a row of which all readings are held, so that what they have together answers them all.
     blocks: Blocks,
+    // By which an edit finds the records that may have read its row.
+    covers: Covers,
 }
 
 impl Model for Records {
     ghost use Rattle.std.specs.Prelude.{◌≡◌, List, map};
     ghost use Rattle.rerun_records.specs.Record.{PlainRecord, instance_number};
-    ghost use Rattle.rerun_records.specs.Moments.{with_doubts, HaveMoments};
+    ghost use Rattle.rerun_records.specs.Numbers.{with_numbers, HaveNumbers};
     ghost use Rattle.rerun_records.specs.Blocks.{BlocksFit};
+    ghost use Rattle.rerun_records.specs.Covers.{AreCovered};
 
     ghost Value = { List PlainRecord };
 
-    ghost view = { λ r. with_doubts r.changes.items r.moments.items r.list.items };
+    ghost view = { λ r. with_numbers r.numbers.items r.list.items };
 
-    ghost invariant = { λ r. HaveMoments r.changes.items r.moments.items r.list.items
-        × BlocksFit (with_doubts r.changes.items r.moments.items r.list.items) r.blocks
-        × (r.places.numbers ≡ map instance_number r.list.items) };
+    ghost invariant = { λ r. HaveNumbers r.numbers.items r.list.items
+        × BlocksFit (with_numbers r.numbers.items r.list.items) r.blocks
+        × (r.places.numbers ≡ map instance_number r.list.items)
+        × AreCovered r.list.items r.covers };
 }
 
 impl Records {
@@ -76,9 +74,9 @@ impl Records {
         Records {
             list: Vec::new(alloc),
             places: Places::new(alloc),
-            moments: Vec::new(alloc),
-            changes: Vec::new(alloc),
+            numbers: Vec::new(alloc),
             blocks: Blocks::new(alloc),
+            covers: Covers::new(alloc),
         }
     }
 
@@ -98,7 +96,7 @@ impl Records {
 
     /// Lends the records.
     pub fn as_slice(&self) -> &[Record]
-        ensures records { result.now ≡ map doubtless self.now }
+        ensures records { result.now ≡ map as_made self.now }
     {
         &self.list
     }
@@ -111,7 +109,8 @@ impl Records {
     }
 
     /// The record of the procedure of that number with these arguments, where it is valid now for an instance at that depth. It
-    /// takes no memory, hashes the number and the arguments once, and then reads what the one record rests on.
+    /// takes no memory, hashes the number and the arguments once, and compares no readings unless the record has 4,294,967,295 of them
+    /// or more.
     pub fn valid(
         &self,
         procedure: usize,
@@ -137,7 +136,7 @@ impl Records {
     /// The record of the procedure of that number with these arguments, valid or not, and its place.
     pub fn place_of(&self, procedure: usize, arguments: &[i64]) -> Option<(usize, &Record)>
         ensures there { IfSome result (λ found.
-            slice_get (map doubtless self.now) found.0 ≡ Some found.1.now) }
+            slice_get (map as_made self.now) found.0 ≡ Some found.1.now) }
         ensures procedure { IfSome result (λ found. found.1.now.procedure ≡ procedure) }
         ensures arguments { IfSome result (λ found. found.1.now.arguments ≡ arguments.now) }
         ensures none { IfNone result (find (is_of procedure arguments.now) self.now ≡ None) }
@@ -157,7 +156,7 @@ impl Records {
         arguments: &[i64],
     ) -> Option<(usize, &Record)>
         ensures there { IfSome result (λ found.
-            slice_get (map doubtless self.now) found.0 ≡ Some found.1.now) }
+            slice_get (map as_made self.now) found.0 ≡ Some found.1.now) }
         ensures procedure { IfSome result (λ found. found.1.now.procedure ≡ procedure) }
         ensures arguments { IfSome result (λ found. found.1.now.arguments ≡ arguments.now) }
     {
@@ -170,7 +169,7 @@ impl Records {
     // The record at that place, where it is that of the procedure of that number with these arguments.
     fn found_at(&self, place: usize, procedure: usize, arguments: &[i64]) -> Option<&Record>
         ensures there { IfSome result (λ r.
-            slice_get (map doubtless self.now) place ≡ Some r.now) }
+            slice_get (map as_made self.now) place ≡ Some r.now) }
         ensures procedure { IfSome result (λ r. r.now.procedure ≡ procedure) }
         ensures arguments { IfSome result (λ r. r.now.arguments ≡ arguments.now) }
     {
@@ -195,16 +194,46 @@ impl Records {
         program: &Checked,
     ) -> Option<&'a Record>
         requires in_step { IsInStep tables.now.tables self.now }
-        requires there { slice_get (map doubtless self.now) place ≡ Some record.now }
+        requires there { slice_get (map as_made self.now) place ≡ Some record.now }
         ensures valid { option_copied result ≡ valid_at program.now.revisions tables.now.tables depth
             self.now record.now.procedure record.now.arguments }
     {
-        let changes = changes_since(&self.changes, &self.moments, place);
-        if !record.stays_valid(depth, changes, tables, program) {
+        // What the type keeps: no other record is of these arguments.
+        self.single();
+        if !self.is_valid(place, record, depth, tables, program) {
             return None;
         }
-        record.doubtless();
         Some(record)
+    }
+
+    // Whether the record at that place is valid now for an instance at that depth.
+    fn is_valid(
+        &self,
+        place: usize,
+        record: &Record,
+        depth: u32,
+        tables: &Tables,
+        program: &Checked,
+    ) -> bool
+        requires in_step { IsInStep tables.now.tables self.now }
+        requires there { slice_get (map as_made self.now) place ≡ Some record.now }
+        ensures valid { result ≡ record_valid program.now.revisions tables.now.tables depth record.now }
+    {
+        self.agrees(place, record, tables) && record.is_allowed(depth, program)
+    }
+
+    // Whether the tables hold what the record at that place has read, as its number tells. One with more readings than can be counted
+    // may keep the greatest number when they hold again, so it is compared.
+    fn agrees(&self, place: usize, record: &Record, tables: &Tables) -> bool
+        requires in_step { IsInStep tables.now.tables self.now }
+        requires there { slice_get (map as_made self.now) place ≡ Some record.now }
+        ensures agree { result ≡ reads_agree tables.now.tables record.now }
+    {
+        let number = self.numbers[place];
+        if number == u32::MAX {
+            return record.reads().agree(tables);
+        }
+        number == 0
     }
 
     /// Instances that records answer: that of the procedure of that number with these arguments, and those behind it in that
@@ -242,7 +271,7 @@ impl Records {
     ) -> Option<Batch<'a>>
         requires in_step { IsInStep tables.now.tables self.now }
         requires values { HaveValues program.now.kinds self.now }
-        requires there { slice_get (map doubtless self.now) place ≡ Some record.now }
+        requires there { slice_get (map as_made self.now) place ≡ Some record.now }
         requires counted { series.counted < length record.now.arguments }
         requires some { 0 < series.most }
         requires deep { 0 < series.depth }
@@ -266,7 +295,7 @@ impl Records {
     ) -> Option<Batch<'a>>
         requires in_step { IsInStep tables.now.tables self.now }
         requires values { HaveValues program.now.kinds self.now }
-        requires there { slice_get (map doubtless self.now) place ≡ Some record.now }
+        requires there { slice_get (map as_made self.now) place ≡ Some record.now }
         requires counted { series.counted < length record.now.arguments }
         requires some { 0 < series.most }
         requires deep { 0 < series.depth }
@@ -279,40 +308,23 @@ impl Records {
         }
     }
 
-    /// Trusts the record at that place from now on, where the tables hold what it read: whether they do.
-    pub fn trust(&mut self, place: usize, tables: &Tables) -> bool
-        requires in_step { IsInStep tables.now.tables self.old }
-        ensures in_step { IsInStep tables.now.tables self.new }
-        ensures same { map doubtless self.new ≡ map doubtless self.old }
-        ensures kept { (p : ℕ) → is_trusted_at self.old p ≡ true → is_trusted_at self.new p ≡ true }
-        ensures trusted { result ≡ true → is_trusted_at self.new place ≡ true }
+    /// How many of the different readings of the record at that place the tables don't hold; 0 where there is none.
+    pub fn number(&self, place: usize) -> usize
+        ensures number { (r : PlainRecord) → slice_get self.now place ≡ Some r → result ≡ r.stale }
+        ensures few { result ≤ most_number }
     {
-        self.is_trusted(place) || self.compare_one(place, tables)
+        match self.numbers.get(place) {
+            Some(number) => *number as usize,
+            None => 0,
+        }
     }
 
-    // Whether no row was changed since the record at that place was trusted.
-    fn is_trusted(&self, place: usize) -> bool
-        ensures trusted { result ≡ true → is_trusted_at self.now place ≡ true }
+    /// Whether there is a record at that place of which the tables hold all that was read.
+    pub fn is_fresh(&self, place: usize) -> bool
+        ensures fresh { result ≡ true → is_fresh_at self.now place ≡ true }
     {
-        is_stamped(&self.moments, place, self.changes.len())
-    }
-
-    // Compares the record at that place with the tables: where they agree with it, it is trusted from now on.
-    fn compare_one(&mut self, place: usize, tables: &Tables) -> bool
-        requires in_step { IsInStep tables.now.tables self.old }
-        ensures in_step { IsInStep tables.now.tables self.new }
-        ensures same { map doubtless self.new ≡ map doubtless self.old }
-        ensures kept { (p : ℕ) → is_trusted_at self.old p ≡ true → is_trusted_at self.new p ≡ true }
-        ensures trusted { result ≡ true → is_trusted_at self.new place ≡ true }
-    {
-        match record_at(&self.list, place) {
-            Some(record) => {
-                if !record.agrees(tables) {
-                    return false;
-                }
-                stamp(&mut self.moments, place, self.changes.len());
-                true
-            }
+        match self.numbers.get(place) {
+            Some(number) => *number == 0,
             None => false,
         }
     }
@@ -385,88 +397,48 @@ impl Records {
         requires in_step { IsInStep tables.now.tables self.old }
         requires read_now { ReadNow tables.now.tables records.items }
         ensures committed { OnOk result
-            (map doubtless self.new ≡ put_records (map doubtless self.old) records.items) }
+            (map as_made self.new ≡ put_records (map as_made self.old) records.items) }
         ensures in_step { OnOk result (IsInStep tables.now.tables self.new) }
         ensures named { OnOk result (CommitsNamed program.now self.old records.items self.new) }
         ensures values { OnOk result ((kinds : List PlainKind) → HaveValues kinds self.old
             → HaveValues kinds records.items → HaveValues kinds self.new) }
         ensures same { OnErr result (self.new ≡ self.old) }
     {
+        let alloc = *records.allocator();
         let room = with_spare(records.len());
         self.list.reserve(room)?;
         self.places.reserve(room)?;
-        self.moments.reserve(room)?;
+        self.numbers.reserve(room)?;
+        self.blocks.make_room(records.len());
         put_all(
             &mut self.list,
             &mut self.places,
-            &mut self.moments,
+            &mut self.numbers,
             &mut self.blocks,
-            &self.changes,
+            &mut self.covers,
             records,
         );
-        self.tidy(tables);
+        self.covers.grow(alloc, &self.list);
         Ok(())
     }
 
-    /// Notes that a row of the table of that number may have been changed. It takes memory for one change at most, and is
-    /// never refused.
-    pub fn row_changed(&mut self, table: usize, row: i64)
-        ensures marked { (before after : PlainTables) → IsSameBut table row before after
-            → IsInStep before self.old → IsInStep after self.new }
-        ensures same { map doubtless self.new ≡ map doubtless self.old }
+    /// Tells the records that the row of the table of that number was changed, each given by its number: these readings the tables don't
+    /// hold any more, and those they hold again. It takes no memory, and passes over most of the records that haven't read the row.
+    pub fn tell(&mut self, change: &(usize, i64), lost: &[Note], won: &[Note])
+        requires rest { every (λ n. not (is_apart (change.now ∷ []) n)) (lost.now ++ won.now) ≡ true }
+        ensures told { self.new ≡ map (told_by lost.now won.now) self.old }
+        ensures same { map as_made self.new ≡ map as_made self.old }
     {
-        if !list_change(&mut self.changes, table, row) {
-            self.doubt_all();
-        } else {
-            self.blocks.row_changed(table, row);
-        }
+        tell(
+            &mut self.numbers,
+            &mut self.blocks,
+            &self.list,
+            &self.covers,
+            change,
+            lost,
+            won,
+        );
     }
-
-    /// Puts all of each record in doubt, so that the tables may be any others from then on. It takes no memory.
-    pub fn doubt_all(&mut self)
-        ensures doubted { self.new ≡ map (doubted_by everything) self.old }
-        ensures in_step { (tables : PlainTables) → IsInStep tables self.new }
-        ensures same { map doubtless self.new ≡ map doubtless self.old }
-    {
-        self.blocks.clear();
-        self.changes.clear();
-        self.moments.fill(NEVER);
-    }
-
-    // Compares the records where many rows were changed since that was done.
-    fn tidy(&mut self, tables: &Tables)
-        requires in_step { IsInStep tables.now.tables self.old }
-        ensures in_step { IsInStep tables.now.tables self.new }
-        ensures same { map doubtless self.new ≡ map doubtless self.old }
-    {
-        if is_due(self.changes.len(), self.list.len()) {
-            self.compare(tables);
-        }
-    }
-
-    // Compares each record with the tables: one that they agree with has nothing in doubt then, the others all.
-    fn compare(&mut self, tables: &Tables)
-        ensures in_step { IsInStep tables.now.tables self.new }
-        ensures same { map doubtless self.new ≡ map doubtless self.old }
-    {
-        self.blocks.clear();
-        self.changes.clear();
-        compare_all(&self.list, &mut self.moments, tables);
-    }
-}
-
-// The record at that place.
-fn record_at(list: &[Record], place: usize) -> Option<&Record>
-    ensures at { option_copied result ≡ slice_get list.now place }
-{
-    list.get(place)
-}
-
-// Whether the record is that of the procedure of that number with these arguments.
-fn is_of(record: &Record, procedure: usize, arguments: &[i64]) -> bool
-    ensures of { result ≡ is_of procedure arguments.now record.now }
-{
-    procedure == record.procedure() && *arguments == *record.arguments()
 }
 
 // Room for so many records, and for those of some runs behind: else the first put after a large run would move all of them.
@@ -474,153 +446,4 @@ fn with_spare(records: usize) -> usize
     ensures room { records ≤ result }
 {
     records.saturating_add(records / RECORDS_A_SPARE)
-}
-
-// Whether it is time to compare that many records.
-fn is_due(changes: usize, records: usize) -> bool {
-    changes >= FEWEST && changes >= records / RECORDS_A_CHANGE
-}
-
-// Trusts each record since the beginning where it agrees with the tables, else since no moment.
-fn compare_all(records: &[Record], moments: &mut Vec<u32>, tables: &Tables)
-    requires places { length moments.old.items ≡ length records.now }
-    ensures moments { moments.new.items ≡ map (first_moment tables.now.tables) records.now }
-{
-    let mut place = 0;
-    while place < moments.len() {
-        moments[place] = first_moment(&records[place], tables);
-        place += 1;
-    }
-}
-
-// The beginning where the record agrees with the tables, else no moment.
-fn first_moment(record: &Record, tables: &Tables) -> u32
-    ensures moment { result ≡ first_moment tables.now.tables record.now }
-{
-    if record.agrees(tables) { 0 } else { NEVER }
-}
-
-// The record of the procedure of that number with these arguments, to which that number is given, and its place.
-#[inline(always)]
-fn found_in<'a>(
-    list: &'a [Record],
-    places: &Places,
-    number: u32,
-    procedure: usize,
-    arguments: &[i64],
-) -> Option<(usize, &'a Record)>
-    requires numbered { places.now.numbers ≡ map instance_number list.now }
-    requires number { number ≡ mixed_number procedure arguments.now }
-    ensures there { IfSome result (λ found. slice_get list.now found.0 ≡ Some found.1.now) }
-    ensures of { IfSome result (λ found. is_of procedure arguments.now found.1.now ≡ true) }
-    ensures none { IfNone result (find (is_of procedure arguments.now) list.now ≡ None) }
-{
-    let mut end = places.newest(number);
-    while end > 0 {
-        let place = end - 1;
-        let record = &list[place];
-        if is_of(record, procedure, arguments) {
-            return Some((place, record));
-        }
-        end = places.before(place);
-    }
-    None
-}
-
-// Puts records in, for which there is room.
-fn put_all(
-    list: &mut Vec<Record>,
-    places: &mut Places,
-    moments: &mut Vec<u32>,
-    blocks: &mut Blocks,
-    changes: &[(usize, i64)],
-    records: Vec<Record>,
-)
-    requires room { length list.old.items + length records.items ≤ vec_capacity list.old }
-    requires room_below { length list.old.items + length records.items ≤ places.old.room }
-    requires places { length moments.old.items + length records.items ≤ vec_capacity moments.old }
-    requires numbered { places.old.numbers ≡ map instance_number list.old.items }
-    requires moments { HaveMoments changes.now moments.old.items list.old.items }
-    requires fit { BlocksFit (with_doubts changes.now moments.old.items list.old.items) blocks.old }
-    ensures put { with_doubts changes.now moments.new.items list.new.items
-        ≡ put_records (with_doubts changes.now moments.old.items list.old.items) records.items }
-    ensures numbered { places.new.numbers ≡ map instance_number list.new.items }
-    ensures moments { HaveMoments changes.now moments.new.items list.new.items }
-    ensures fit { BlocksFit (with_doubts changes.now moments.new.items list.new.items) blocks.new }
-    ensures doubtless { map doubtless (with_doubts changes.now moments.new.items list.new.items)
-        ≡ put_records (map doubtless (with_doubts changes.now moments.old.items list.old.items))
-        records.items }
-{
-    for record in records {
-        put(list, places, moments, blocks, changes, record);
-    }
-}
-
-// Puts a record in, for which there is room.
-fn put(
-    list: &mut Vec<Record>,
-    places: &mut Places,
-    moments: &mut Vec<u32>,
-    blocks: &mut Blocks,
-    changes: &[(usize, i64)],
-    made: Record,
-)
-    requires room { length list.old.items < vec_capacity list.old }
-    requires room_below { length list.old.items < places.old.room }
-    requires place { length moments.old.items < vec_capacity moments.old }
-    requires numbered { places.old.numbers ≡ map instance_number list.old.items }
-    requires moments { HaveMoments changes.now moments.old.items list.old.items }
-    requires fit { BlocksFit (with_doubts changes.now moments.old.items list.old.items) blocks.old }
-    ensures put { with_doubts changes.now moments.new.items list.new.items
-        ≡ put_record (with_doubts changes.now moments.old.items list.old.items) made }
-    ensures count { length list.new.items ≤ length list.old.items + 1 }
-    ensures room { vec_capacity list.new ≡ vec_capacity list.old }
-    ensures room_below { places.new.room ≡ places.old.room }
-    ensures places { length moments.new.items ≤ length moments.old.items + 1 }
-    ensures capacity { vec_capacity moments.new ≡ vec_capacity moments.old }
-    ensures numbered { places.new.numbers ≡ map instance_number list.new.items }
-    ensures made { doubtless made ≡ made }
-    ensures moments { HaveMoments changes.now moments.new.items list.new.items }
-    ensures fit { BlocksFit (with_doubts changes.now moments.new.items list.new.items) blocks.new }
-{
-    made.doubtless();
-    let number = number_of(made.procedure(), made.arguments());
-    let place = place_for(list, places, number, &made);
-    put_at(list, places, number, place, made);
-    blocks.put_in(place);
-    stamp_or_add(moments, place, changes.len());
-}
-
-// The place of the record of the same procedure and arguments, or the one behind the others.
-fn place_for(list: &[Record], places: &Places, number: u32, made: &Record) -> usize
-    requires numbered { places.now.numbers ≡ map instance_number list.now }
-    requires number { number ≡ instance_number made.now }
-    requires doubtless { map doubtless list.now ≡ list.now }
-    requires single { AreSingle list.now }
-    ensures place { result ≡ position_or_len (same_instance made.now) list.now }
-{
-    match found_in(list, places, number, made.procedure(), made.arguments()) {
-        Some((place, _)) => place,
-        None => list.len(),
-    }
-}
-
-// Puts a record at its place, or behind the others, for which there is room.
-fn put_at(list: &mut Vec<Record>, places: &mut Places, number: u32, place: usize, made: Record)
-    requires room { length list.old.items < vec_capacity list.old }
-    requires room_below { length list.old.items < places.old.room }
-    requires numbered { places.old.numbers ≡ map instance_number list.old.items }
-    requires number { number ≡ instance_number made }
-    requires place { place ≡ position_or_len (same_instance made) list.old.items }
-    ensures put { list.new.items ≡ put_record list.old.items made }
-    ensures numbered { places.new.numbers ≡ map instance_number list.new.items }
-    ensures room { vec_capacity list.new ≡ vec_capacity list.old }
-    ensures room_below { places.new.room ≡ places.old.room }
-{
-    if place < list.len() {
-        list[place] = made;
-    } else {
-        list.push_reserved(made);
-        places.push(number);
-    }
 }

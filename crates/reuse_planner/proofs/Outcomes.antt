@@ -3,7 +3,7 @@ use Rattle.std.proofs.Common.{◌≡◌, ℕ, List, [], map, sym, ap, subst, ◌
 use Rattle.monoid_laws.specs.declared.Kind.{Kind}
 use Rattle.linked_program.specs.Checked.{PlainChecked}
 use Rattle.input_tables.specs.Edited.{Edited}
-use Rattle.rerun_records.specs.Record.{PlainRecord, doubtless}
+use Rattle.rerun_records.specs.Record.{PlainRecord, as_made}
 use Rattle.rerun_records.specs.Commits.{put_records}
 use Rattle.positions.specs.declared.answer.RunAnswer.{RunAnswer}
 use Rattle.positions.specs.declared.answer.RunAnswer.TheVariants as answer
@@ -54,18 +54,18 @@ module _ (s t : PlainSession) (same : t ≡ record s { kits = stock_of []; inlin
     noted_is : u ≡ record s { kits = stock_of []; inlined = n }
     noted_is = noted ∙ ap (λ (z : PlainSession). record z { inlined = n }) same
 
-    put_back : (new : List PlainRecord) → map doubtless new ≡ put_records (map doubtless u.records) made → map doubtless new ≡ put_records (map doubtless s.records) made
-    put_back new put = put ∙ ap (λ (z : PlainSession). put_records (map doubtless z.records) made) noted_is
+    put_back : (new : List PlainRecord) → map as_made new ≡ put_records (map as_made u.records) made → map as_made new ≡ put_records (map as_made s.records) made
+    put_back new put = put ∙ ap (λ (z : PlainSession). put_records (map as_made z.records) made) noted_is
 
     -- the new records may be put among the others
     pub news_back : AreSoundFor s.checked s.records → AreNewFor u.checked u.tables made
     news_back sound = subst (λ (z : PlainSession). AreNewFor z.checked z.tables made) (sym noted_is) (news_of s.checked s.tables s.records given made recorded_by sound)
 
-    pub recorded_back : (new : List PlainRecord) → map doubtless new ≡ put_records (map doubtless u.records) made → LeavesRecords s given new
+    pub recorded_back : (new : List PlainRecord) → map as_made new ≡ put_records (map as_made u.records) made → LeavesRecords s given new
     recorded_back new put = leaves_records s given made new recorded_by (put_back new put)
 
     pub quiet_back : AreSoundFor s.checked s.records → (v : PlainSession) (pool : Stock (List Kind)) → v ≡ record u { kits = pool; records = v.records }
-        → map doubtless v.records ≡ put_records (map doubtless u.records) made → IsQuietAfter given v
+        → map as_made v.records ≡ put_records (map as_made u.records) made → IsQuietAfter given v
     quiet_back sound v pool is put =
         let all : v ≡ record s { kits = pool; records = v.records; inlined = n } = is ∙ ap (λ (z : PlainSession). record z { kits = pool; records = v.records }) noted_is in
         quiet_after s.checked s.tables s.records given made sound recorded_by v (ap (λ (z : PlainSession). z.checked) all) (ap (λ (z : PlainSession). z.tables) all) (put_back v.records put)

@@ -1,4 +1,4 @@
--- Commands that are done one after another answer rest the edits before them have it.
+-- Commands that are done one after another answer as the edits before them have it.
 use Rattle.std.proofs.Common.{◌≡◌, ◌<◌, ◌≤◌, ◌+◌, ℕ, length, drop, get_or, List, [], ◌∷◌, ◌++◌, Result, Ok, Err, refl, sym, ap, subst, ◌∙◌}
 use Rattle.std.proofs.lemmas.List.{drop_more, drop_all, append_assoc, append-nil}
 use Rattle.meaning.specs.Edits.{Standing, or_same}
@@ -14,7 +14,7 @@ use Rattle.kept_session.specs.Sessions.{PlainSession, standing_of}
 use Rattle.kept_session.specs.Applied.{IsApplied}
 use Rattle.reuse_planner.specs.Played.{IsDone, AreDone, IsEdited, left_by, AnswerElision}
 
--- an edit is answered rest the definitions have it, and leaves what they leave
+-- an edit is answered as the definitions have it, and leaves what they leave
 is_edited : (s u : PlainSession) (e : Edit) (given : Result Unit ApplyError) → IsApplied s (said e) given u → IsEdited (standing_of s) (said e) given
 is_edited s u e (Ok x) h = (standing_of u, h.applied)
 is_edited s u e (Err error) h = h.refused

@@ -29,7 +29,7 @@ pub fn run_session<V: View>(
     ensures recorded { LeavesRecords session.old result session.new.records }
     // Where each execution was recorded, nothing is left to execute.
     ensures quiet { IsQuietAfter result session.new }
-    ensures rest { session.new ≡ record session.old {
+    ensures others { session.new ≡ record session.old {
       kits = session.new.kits;
       records = session.new.records;
       inlined = session.new.inlined;
@@ -41,7 +41,8 @@ pub fn run_session<V: View>(
     if session.has_no_kit() {
         return RunAnswer::NoKit;
     }
-    session.kept();
+    // The session's records are sound: so the run's answer is the elision's, and its new records may be put among them.
+    session.upheld();
     let pool = session.take_pool(alloc);
     let ended = run_on(
         alloc,

@@ -47,9 +47,9 @@ use Rattle.positions.specs.declared.answer.RunAnswer.{RunAnswer}
 use Rattle.positions.specs.declared.answer.RunAnswer.TheVariants as answer
 use Rattle.right_strands.specs.Remembering.{Remembers, recalling}
 use Rattle.right_strands.specs.Rightness.{sight, lookup, IsSound, IsRightBy, IsRightStrand}
-use Rattle.strand_list.specs.declared.rest.Rest.{Rest}
-use Rattle.strand_list.specs.declared.rest.Rest.TheVariants as rest
-use Rattle.right_strands.specs.Laid.{IsAtRest, IsElision, AnswersElision, IsGiven, tally_of, HasRecorded, ends_as}
+use Rattle.strand_list.specs.declared.laid_state.LaidState.{LaidState}
+use Rattle.strand_list.specs.declared.laid_state.LaidState.TheVariants as laid_state
+use Rattle.right_strands.specs.Laid.{IsPausedAs, IsElision, AnswersElision, IsGiven, tally_of, HasRecorded, ends_as}
 use Rattle.right_strands.proofs.Points.{HasFinished, finished_is, fault_is}
 use Rattle.right_strands.proofs.Recorded.{adds_here, records_of}
 use Rattle.right_strands.proofs.Cuts.{place_named, cut_of, sound_of}
@@ -257,11 +257,11 @@ module _ (setting : Setting) where
         recorded = none_counted f (lowest s.layer s.lower).worths s.tally s.tally.made given b;
       }
 
-  pub rest_ends : IsReady setting.program setting.tables setting.memory → IsNumbered setting.program → (r : Rest) (s : PlainStrand) → IsAtRest setting.codes r s → ends_as r s ≡ true → IsRightBy setting s → (given : RunAnswer) → IsAnswer (ending_of s) (lowest s.layer s.lower).worths s.tally given → Ended s given
-  rest_ends ready numbered rest.Finished s at e h given a = finished_ends ready numbered s (finished_is setting.codes s at.at) h given a
-  rest_ends ready numbered rest.Faulted s at e h given a = let f = fault_is setting.codes s at.at in faulted_ends ready s f.0 f.1 e h given a
-  rest_ends ready numbered rest.Ended s at e h given a = absurd cc
-  rest_ends ready numbered rest.Stalled s at e h given a = absurd cc
+  pub laid_ends : IsReady setting.program setting.tables setting.memory → IsNumbered setting.program → (r : LaidState) (s : PlainStrand) → IsPausedAs setting.codes r s → ends_as r s ≡ true → IsRightBy setting s → (given : RunAnswer) → IsAnswer (ending_of s) (lowest s.layer s.lower).worths s.tally given → Ended s given
+  laid_ends ready numbered laid_state.Finished s at e h given a = finished_ends ready numbered s (finished_is setting.codes s at.at) h given a
+  laid_ends ready numbered laid_state.Faulted s at e h given a = let f = fault_is setting.codes s at.at in faulted_ends ready s f.0 f.1 e h given a
+  laid_ends ready numbered laid_state.Ended s at e h given a = absurd cc
+  laid_ends ready numbered laid_state.Stalled s at e h given a = absurd cc
 
 -- ---- the same, whichever sound records by name there are
 
@@ -278,8 +278,8 @@ pub record PieceEnds (setting : Setting) (s : PlainStrand) (given : RunAnswer) :
   pub is_given : IsGiven given
   pub recorded : HasRecorded setting given s.tally.made
 
-pub piece_ends : (setting : Setting) → Remembers setting → ((k : Remembers setting) → IsReady setting.program setting.tables (recording_from k.kept)) → IsNumbered setting.program → (r : Rest) (was s : PlainStrand) → s ≡ was → IsAtRest setting.codes r was → ends_as r was ≡ true → IsRightStrand setting was → (given : RunAnswer)
+pub piece_ends : (setting : Setting) → Remembers setting → ((k : Remembers setting) → IsReady setting.program setting.tables (recording_from k.kept)) → IsNumbered setting.program → (r : LaidState) (was s : PlainStrand) → s ≡ was → IsPausedAs setting.codes r was → ends_as r was ≡ true → IsRightStrand setting was → (given : RunAnswer)
     → IsAnswer (ending_of s) (lowest s.layer s.lower).worths s.tally given → PieceEnds setting s given
 piece_ends setting sound ready numbered r was s same at e h given a =
-    let ends : (k : Remembers setting) → Ended (recalling setting k) s given = λ k. rest_ends (recalling setting k) (ready k) numbered r s (subst (IsAtRest setting.codes r) (sym same) at) (subst (λ s. ends_as r s ≡ true) (sym same) e) (subst (IsRightBy (recalling setting k)) (sym same) (h k)) given a in
+    let ends : (k : Remembers setting) → Ended (recalling setting k) s given = λ k. laid_ends (recalling setting k) (ready k) numbered r s (subst (IsPausedAs setting.codes r) (sym same) at) (subst (λ s. ends_as r s ≡ true) (sym same) e) (subst (IsRightBy (recalling setting k)) (sym same) (h k)) given a in
     record { elision = (ends sound).elision; is_given = (ends sound).is_given; recorded = recorded_all setting given s.tally.made (λ k. (ends k).recorded) }

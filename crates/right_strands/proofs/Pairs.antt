@@ -12,9 +12,9 @@ use Rattle.positions.specs.Strands.{PlainStrand}
 use Rattle.activations.specs.Waiting.{leaves_none}
 use Rattle.right_strands.specs.Remembering.{Remembers, recalling}
 use Rattle.right_strands.specs.Rightness.{IsRightBy, IsRightStrand}
-use Rattle.strand_list.specs.declared.rest.Rest.{Rest}
-use Rattle.strand_list.specs.declared.rest.Rest.TheVariants as rest
-use Rattle.right_strands.specs.Laid.{PlainPiece, IsAtRest}
+use Rattle.strand_list.specs.declared.laid_state.LaidState.{LaidState}
+use Rattle.strand_list.specs.declared.laid_state.LaidState.TheVariants as laid_state
+use Rattle.right_strands.specs.Laid.{PlainPiece, IsPausedAs}
 use Rattle.right_strands.specs.Pairs.{StopsBroken, IsPair, IsPairFrom, is_over, is_waiting, frees, may_follow, may_pair}
 use Rattle.right_strands.proofs.Points.{fault_is}
 use Rattle.right_strands.proofs.Waiting.{waiting_decided}
@@ -22,55 +22,55 @@ use Rattle.right_strands.proofs.Joins.{stalled_alone}
 
 -- ---- what two pieces that may be joined by their names know of them
 
-both_of : (l r : PlainPiece) → may_pair l r ≡ true → l.rest ≡ rest.Ended → (same_name (place_of r.strand.start r.strand.path) l.strand.path && frees r.rest l.strand r.strand) ≡ true
+both_of : (l r : PlainPiece) → may_pair l r ≡ true → l.state ≡ laid_state.Ended → (same_name (place_of r.strand.start r.strand.path) l.strand.path && frees r.state l.strand r.strand) ≡ true
 both_of l r h e = sym (ap (λ q. may_follow q l r) e) ∙ h
 
-named_by : (l r : PlainPiece) → may_pair l r ≡ true → l.rest ≡ rest.Ended → same_name (place_of r.strand.start r.strand.path) l.strand.path ≡ true
-named_by l r h e = (both_are (same_name (place_of r.strand.start r.strand.path) l.strand.path) (frees r.rest l.strand r.strand) (both_of l r h e)).0
+named_by : (l r : PlainPiece) → may_pair l r ≡ true → l.state ≡ laid_state.Ended → same_name (place_of r.strand.start r.strand.path) l.strand.path ≡ true
+named_by l r h e = (both_are (same_name (place_of r.strand.start r.strand.path) l.strand.path) (frees r.state l.strand r.strand) (both_of l r h e)).0
 
-freed_by : (l r : PlainPiece) → may_pair l r ≡ true → l.rest ≡ rest.Ended → r.rest ≡ rest.Stalled → leaves_none l.strand r.strand ≡ true
-freed_by l r h e f = sym (ap (λ q. frees q l.strand r.strand) f) ∙ (both_are (same_name (place_of r.strand.start r.strand.path) l.strand.path) (frees r.rest l.strand r.strand) (both_of l r h e)).1
+freed_by : (l r : PlainPiece) → may_pair l r ≡ true → l.state ≡ laid_state.Ended → r.state ≡ laid_state.Stalled → leaves_none l.strand r.strand ≡ true
+freed_by l r h e f = sym (ap (λ q. frees q l.strand r.strand) f) ∙ (both_are (same_name (place_of r.strand.start r.strand.path) l.strand.path) (frees r.state l.strand r.strand) (both_of l r h e)).1
 
 module _ (setting : Setting) where
-  left_over : (r : Rest) (s : PlainStrand) → is_over r ≡ true → IsAtRest setting.codes r s → (pause_of setting.codes s ≡ paused.Returned) ⊎ StopsBroken s
-  left_over rest.Ended s e h = inl h.at
-  left_over rest.Faulted s e h = inr (fault_is setting.codes s h.at)
-  left_over rest.Stalled s e h = absurd cc
-  left_over rest.Finished s e h = absurd cc
+  left_over : (r : LaidState) (s : PlainStrand) → is_over r ≡ true → IsPausedAs setting.codes r s → (pause_of setting.codes s ≡ paused.Returned) ⊎ StopsBroken s
+  left_over laid_state.Ended s e h = inl h.at
+  left_over laid_state.Faulted s e h = inr (fault_is setting.codes s h.at)
+  left_over laid_state.Stalled s e h = absurd cc
+  left_over laid_state.Finished s e h = absurd cc
 
-  right_waits : (r : Rest) (s : PlainStrand) → is_waiting r ≡ true → IsAtRest setting.codes r s → (pause_of setting.codes s ≡ paused.AtSync) ⊎ StopsBroken s
-  right_waits rest.Stalled s e h = inl h.at
-  right_waits rest.Faulted s e h = inr (fault_is setting.codes s h.at)
-  right_waits rest.Ended s e h = absurd cc
-  right_waits rest.Finished s e h = absurd cc
+  right_waits : (r : LaidState) (s : PlainStrand) → is_waiting r ≡ true → IsPausedAs setting.codes r s → (pause_of setting.codes s ≡ paused.AtSync) ⊎ StopsBroken s
+  right_waits laid_state.Stalled s e h = inl h.at
+  right_waits laid_state.Faulted s e h = inr (fault_is setting.codes s h.at)
+  right_waits laid_state.Ended s e h = absurd cc
+  right_waits laid_state.Finished s e h = absurd cc
 
-  right_alone : (r : Rest) (s : PlainStrand) → is_waiting r ≡ true → IsAtRest setting.codes r s → IsRightBy setting s → s.lower ≡ []
-  right_alone rest.Stalled s e h k = stalled_alone setting s h.at k
-  right_alone rest.Faulted s e h k = h.layers
-  right_alone rest.Ended s e h k = absurd cc
-  right_alone rest.Finished s e h k = absurd cc
+  right_alone : (r : LaidState) (s : PlainStrand) → is_waiting r ≡ true → IsPausedAs setting.codes r s → IsRightBy setting s → s.lower ≡ []
+  right_alone laid_state.Stalled s e h k = stalled_alone setting s h.at k
+  right_alone laid_state.Faulted s e h k = h.layers
+  right_alone laid_state.Ended s e h k = absurd cc
+  right_alone laid_state.Finished s e h k = absurd cc
 
   -- a left strand that leaves has ended
-  ends_when : (r : Rest) (s : PlainStrand) (v : ℤ) → is_over r ≡ true → IsAtRest setting.codes r s → s.phase ≡ Leaving v → r ≡ rest.Ended
-  ends_when rest.Ended s v e h q = refl
-  ends_when rest.Faulted s v e h q = let f = fault_is setting.codes s h.at in absurd (let c : Leaving v ≡ Broken f.0 = sym q ∙ f.1 in cc)
-  ends_when rest.Stalled s v e h q = absurd cc
-  ends_when rest.Finished s v e h q = absurd cc
+  ends_when : (r : LaidState) (s : PlainStrand) (v : ℤ) → is_over r ≡ true → IsPausedAs setting.codes r s → s.phase ≡ Leaving v → r ≡ laid_state.Ended
+  ends_when laid_state.Ended s v e h q = refl
+  ends_when laid_state.Faulted s v e h q = let f = fault_is setting.codes s h.at in absurd (let c : Leaving v ≡ Broken f.0 = sym q ∙ f.1 in cc)
+  ends_when laid_state.Stalled s v e h q = absurd cc
+  ends_when laid_state.Finished s v e h q = absurd cc
 
   -- a right strand at a sync is stalled
-  stalls_when : (r : Rest) (s : PlainStrand) → is_waiting r ≡ true → IsAtRest setting.codes r s → pause_of setting.codes s ≡ paused.AtSync → r ≡ rest.Stalled
-  stalls_when rest.Stalled s e h q = refl
-  stalls_when rest.Faulted s e h q = absurd (let c : paused.AtSync ≡ paused.Faulted = sym q ∙ h.at in cc)
-  stalls_when rest.Ended s e h q = absurd cc
-  stalls_when rest.Finished s e h q = absurd cc
+  stalls_when : (r : LaidState) (s : PlainStrand) → is_waiting r ≡ true → IsPausedAs setting.codes r s → pause_of setting.codes s ≡ paused.AtSync → r ≡ laid_state.Stalled
+  stalls_when laid_state.Stalled s e h q = refl
+  stalls_when laid_state.Faulted s e h q = absurd (let c : paused.AtSync ≡ paused.Faulted = sym q ∙ h.at in cc)
+  stalls_when laid_state.Ended s e h q = absurd cc
+  stalls_when laid_state.Finished s e h q = absurd cc
 
   -- a piece: what its type keeps
   pub record Lies (p : PlainPiece) : Type 0 where
     pub right : IsRightBy setting p.strand
-    pub rests : IsAtRest setting.codes p.rest p.strand
+    pub paused_so : IsPausedAs setting.codes p.state p.strand
     pub kinds : p.strand.layer.kinds ≡ setting.kinds
 
-  pair_there : (l r : PlainPiece) → Lies l → Lies r → is_over l.rest ≡ true → is_waiting r.rest ≡ true → may_pair l r ≡ true → IsPair setting l.strand r.strand
+  pair_there : (l r : PlainPiece) → Lies l → Lies r → is_over l.state ≡ true → is_waiting r.state ≡ true → may_pair l r ≡ true → IsPair setting l.strand r.strand
   pair_there l r hl hr over waits may = record {
     left_worths = l.strand.layer.worths;
     right_worths = r.strand.layer.worths;
@@ -79,23 +79,23 @@ module _ (setting : Setting) where
     product = refl;
     left_kinds = hl.kinds;
     right_kinds = hr.kinds;
-    one_layer = right_alone r.rest r.strand waits hr.rests hr.right;
-    over = left_over l.rest l.strand over hl.rests;
-    waits = right_waits r.rest r.strand waits hr.rests;
-    behind = λ v e. named_by l r may (ends_when l.rest l.strand v over hl.rests e);
-    free = λ v e q x y t u w i k. waiting_decided setting l.strand r.strand v e q x y t u w i k ∙ freed_by l r may (ends_when l.rest l.strand v over hl.rests e) (stalls_when r.rest r.strand waits hr.rests q);
+    one_layer = right_alone r.state r.strand waits hr.paused_so hr.right;
+    over = left_over l.state l.strand over hl.paused_so;
+    waits = right_waits r.state r.strand waits hr.paused_so;
+    behind = λ v e. named_by l r may (ends_when l.state l.strand v over hl.paused_so e);
+    free = λ v e q x y t u w i k. waiting_decided setting l.strand r.strand v e q x y t u w i k ∙ freed_by l r may (ends_when l.state l.strand v over hl.paused_so e) (stalls_when r.state r.strand waits hr.paused_so q);
   }
 
 -- a piece: what its type keeps
 pub record LiesFor (setting : Setting) (p : PlainPiece) : Type 0 where
   pub right : IsRightStrand setting p.strand
-  pub rests : IsAtRest setting.codes p.rest p.strand
+  pub paused_so : IsPausedAs setting.codes p.state p.strand
   pub kinds : p.strand.layer.kinds ≡ setting.kinds
 
 lies_at : (setting : Setting) (k : Remembers setting) (p : PlainPiece) → LiesFor setting p → Lies (recalling setting k) p
-lies_at setting k p h = record { right = h.right k; rests = h.rests; kinds = h.kinds }
+lies_at setting k p h = record { right = h.right k; paused_so = h.paused_so; kinds = h.kinds }
 
-pub pair_of : (setting : Setting) (l r : PlainPiece) (s t : PlainStrand) (start : Start) → s ≡ l.strand → t ≡ r.strand → start ≡ l.strand.start → LiesFor setting l → LiesFor setting r → is_over l.rest ≡ true → is_waiting r.rest ≡ true → may_pair l r ≡ true → IsPairFrom setting start s t
+pub pair_of : (setting : Setting) (l r : PlainPiece) (s t : PlainStrand) (start : Start) → s ≡ l.strand → t ≡ r.strand → start ≡ l.strand.start → LiesFor setting l → LiesFor setting r → is_over l.state ≡ true → is_waiting r.state ≡ true → may_pair l r ≡ true → IsPairFrom setting start s t
 pair_of setting l r s t start a b c hl hr over waits may = record {
   pair = λ k. subst (λ s. IsPair (recalling setting k) s t) (sym a) (subst (IsPair (recalling setting k) l.strand) (sym b) (pair_there (recalling setting k) l r (lies_at setting k l hl) (lies_at setting k r hr) over waits may));
   begins = c ∙ ap (λ (s : PlainStrand). s.start) (sym a);

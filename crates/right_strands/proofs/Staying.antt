@@ -21,7 +21,7 @@ use Rattle.right_strands.proofs.Steps.{step_right, along, first_right}
 use Rattle.right_strands.proofs.Ways.{on_way}
 use Rattle.right_strands.proofs.Moves.{inlined_right, detached_right, task_right, stolen_right, resumed_right}
 use Rattle.right_strands.proofs.Joins.{over_joined}
-use Rattle.right_strands.proofs.Ends.{rest_ends}
+use Rattle.right_strands.proofs.Ends.{laid_ends}
 
 module _ (setting : Setting) where
   put_back : (s t u : PlainStrand) (task : PlainTask) → s.phase ≡ AtSpawn → s.below ≡ task.top ∷ task.below → t ≡ moves.detached s → u ≡ moves.attached task t → IsRightBy setting s → IsRightBy setting u
@@ -86,6 +86,6 @@ module _ (setting : Setting) where
     closes = λ s t e is h. subst (IsRightBy setting) (sym is) (alone_right setting s e h);
     rest = rest_of;
     whole = λ s w all. record { named = w.named; tally = w.tally; stands = w.stands; left = all_left setting ready w.named w.tally w.owns all };
-    ends = λ r s given at e a h. (rest_ends setting ready numbered r s at e h given a).elision;
+    ends = λ r s given at e a h. (laid_ends setting ready numbered r s at e h given a).elision;
     makes = λ s w. record { kept = w.tally.made; stand = w.stands.tally.made; news = w.owns.tallied.made };
   }

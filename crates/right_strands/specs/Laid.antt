@@ -18,45 +18,45 @@ use Rattle.numbered_runs.specs.News.{HasCounted, HaveNews}
 use Rattle.positions.specs.declared.answer.RunAnswer.{RunAnswer}
 use Rattle.positions.specs.declared.answer.RunAnswer.TheVariants as answer
 use Rattle.right_strands.specs.Remembering.{Remembers, recalling}
-use Rattle.strand_list.specs.declared.rest.Rest.{Rest}
-use Rattle.strand_list.specs.declared.rest.Rest.TheVariants as rest
+use Rattle.strand_list.specs.declared.laid_state.LaidState.{LaidState}
+use Rattle.strand_list.specs.declared.laid_state.LaidState.TheVariants as laid_state
 
 -- a strand that is laid down, and as what
 pub record PlainPiece : Type 0 where
   pub strand : PlainStrand
-  pub rest : Rest
+  pub state : LaidState
 
 -- the point at which it is
-abbrev pub paused_as : Rest → Paused
-paused_as rest.Ended = paused.Returned
-paused_as rest.Stalled = paused.AtSync
-paused_as rest.Faulted = paused.Faulted
-paused_as rest.Finished = paused.Finished
+abbrev pub paused_as : LaidState → Paused
+paused_as laid_state.Ended = paused.Returned
+paused_as laid_state.Stalled = paused.AtSync
+paused_as laid_state.Faulted = paused.Faulted
+paused_as laid_state.Finished = paused.Finished
 
 -- a strand with a fault keeps its lowest layer alone
-abbrev pub HasLayersOf : Rest → PlainStrand → Type 0
-HasLayersOf rest.Faulted s = s.lower ≡ []
+abbrev pub HasLayersOf : LaidState → PlainStrand → Type 0
+HasLayersOf laid_state.Faulted s = s.lower ≡ []
 HasLayersOf _ s = Unit {0}
 
-pub record IsAtRest (codes : List Code) (r : Rest) (s : PlainStrand) : Type 0 where
+pub record IsPausedAs (codes : List Code) (r : LaidState) (s : PlainStrand) : Type 0 where
   pub at : pause_of codes s ≡ paused_as r
   pub layers : HasLayersOf r s
 
 -- what is laid down of a strand
-abbrev pub laid_as : Rest → PlainStrand → PlainStrand
-laid_as rest.Faulted s = lowest_alone s
+abbrev pub laid_as : LaidState → PlainStrand → PlainStrand
+laid_as laid_state.Faulted s = lowest_alone s
 laid_as _ s = s
 
 -- ---- the last piece
 
-abbrev pub ends_as : Rest → PlainStrand → Bool
-ends_as rest.Finished s = true
-ends_as rest.Faulted s = same_name (place_of s.start s.path) []
+abbrev pub ends_as : LaidState → PlainStrand → Bool
+ends_as laid_state.Finished s = true
+ends_as laid_state.Faulted s = same_name (place_of s.start s.path) []
 ends_as _ s = false
 
 -- main is over, or the run's first fault is there
 abbrev pub ends_run : PlainPiece → Bool
-ends_run p = ends_as p.rest p.strand
+ends_run p = ends_as p.state p.strand
 
 -- memory was refused, or it is the answer of a run that is over
 abbrev pub IsGiven : RunAnswer → Type 0

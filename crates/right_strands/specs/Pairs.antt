@@ -15,8 +15,8 @@ use Rattle.strand_moves.specs.Joins.{with_worths}
 use Rattle.activations.specs.Waiting.{leaves_none}
 use Rattle.right_strands.specs.Remembering.{Remembers, recalling}
 use Rattle.right_strands.specs.Rightness.{IsRightBy}
-use Rattle.strand_list.specs.declared.rest.Rest.{Rest}
-use Rattle.strand_list.specs.declared.rest.Rest.TheVariants as rest
+use Rattle.strand_list.specs.declared.laid_state.LaidState.{LaidState}
+use Rattle.strand_list.specs.declared.laid_state.LaidState.TheVariants as laid_state
 use Rattle.right_strands.specs.Laid.{PlainPiece}
 use Rattle.right_strands.specs.Waiting.{DecidesWaiting}
 
@@ -32,29 +32,29 @@ pub record IsStill (old new : PlainPair) : Type 0 where
   pub product : operate_all old.left.layer.kinds new.left.layer.worths new.right.layer.worths
       ≡ operate_all old.left.layer.kinds old.left.layer.worths old.right.layer.worths
 
-abbrev pub is_over : Rest → Bool
-is_over rest.Ended = true
-is_over rest.Faulted = true
+abbrev pub is_over : LaidState → Bool
+is_over laid_state.Ended = true
+is_over laid_state.Faulted = true
 is_over _ = false
 
-abbrev pub is_waiting : Rest → Bool
-is_waiting rest.Stalled = true
-is_waiting rest.Faulted = true
+abbrev pub is_waiting : LaidState → Bool
+is_waiting laid_state.Stalled = true
+is_waiting laid_state.Faulted = true
 is_waiting _ = false
 
 -- the right one waits at a sync: joined, no name of it would wait for a child that ends after the left one's beginning
-abbrev pub frees : Rest → PlainStrand → PlainStrand → Bool
-frees rest.Stalled l r = leaves_none l r
+abbrev pub frees : LaidState → PlainStrand → PlainStrand → Bool
+frees laid_state.Stalled l r = leaves_none l r
 frees _ l r = true
 
 -- the left one has ended: it names the child behind which the right one begins, and leaves no name of it waiting
-abbrev pub may_follow : Rest → PlainPiece → PlainPiece → Bool
-may_follow rest.Ended l r = same_name (place_of r.strand.start r.strand.path) l.strand.path && frees r.rest l.strand r.strand
+abbrev pub may_follow : LaidState → PlainPiece → PlainPiece → Bool
+may_follow laid_state.Ended l r = same_name (place_of r.strand.start r.strand.path) l.strand.path && frees r.state l.strand r.strand
 may_follow _ l r = true
 
 -- by their names two pieces may become one strand
 abbrev pub may_pair : PlainPiece → PlainPiece → Bool
-may_pair l r = may_follow l.rest l r
+may_pair l r = may_follow l.state l r
 
 abbrev pub StopsBroken : PlainStrand → Type 0
 StopsBroken s = (f : Fault) × (s.phase ≡ Broken f)

@@ -8,7 +8,7 @@ use Rattle.linked_program.specs.TableNames.{columned_of}
 use Rattle.linked_program.specs.Checked.{PlainChecked, nothing}
 use Rattle.input_tables.specs.Edited.{Edited}
 use Rattle.rerun_records.specs.Record.{PlainRecord}
-use Rattle.rerun_records.specs.Doubted.{IsInStep}
+use Rattle.rerun_records.specs.InStep.{IsInStep}
 use Rattle.rerun_records.specs.Named.{HaveValues}
 use Rattle.positions.specs.Setting.{Setting, setting_with}
 use Rattle.right_strands.specs.Remembering.{Remembers}

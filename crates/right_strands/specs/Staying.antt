@@ -32,10 +32,10 @@ use Rattle.frames.specs.Answers.{ending_of, IsAnswer}
 use Rattle.frames.specs.Paths.{IsPathOf}
 use Rattle.positions.specs.declared.answer.RunAnswer.{RunAnswer}
 use Rattle.numbered_runs.specs.News.{StandForKept}
-use Rattle.strand_list.specs.declared.rest.Rest.{Rest}
+use Rattle.strand_list.specs.declared.laid_state.LaidState.{LaidState}
 use Rattle.right_strands.specs.Rightness.{sight, lookup, Pushed, FitsHere, IsSound, IsRightBy, IsRightTaskBy}
 use Rattle.right_strands.specs.Waiting.{DecidesWaiting}
-use Rattle.right_strands.specs.Laid.{IsAtRest, ends_as, AnswersElision}
+use Rattle.right_strands.specs.Laid.{IsPausedAs, ends_as, AnswersElision}
 use Rattle.right_strands.specs.Pairs.{StopsBroken}
 
 -- the whole run is in that strand: it began with the run, main is at its bottom, and no name waits for a child of another one
@@ -122,6 +122,6 @@ module _ (setting : Setting) where
     pub rest : (s : PlainStrand) → IsSound setting s → HasRest s
     pub whole : (s : PlainStrand) (w : IsSound setting s) → HasAll w.named → LeavesAll s
     -- and at the end the answer is the elision's
-    pub ends : (r : Rest) (s : PlainStrand) (given : RunAnswer) → IsAtRest setting.codes r s → ends_as r s ≡ true
+    pub ends : (r : LaidState) (s : PlainStrand) (given : RunAnswer) → IsPausedAs setting.codes r s → ends_as r s ≡ true
         → IsAnswer (ending_of s) (lowest s.layer s.lower).worths s.tally given → IsRightBy setting s → AnswersElision setting given
     pub makes : (s : PlainStrand) → IsSound setting s → AreMade s.tally.made

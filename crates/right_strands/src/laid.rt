@@ -7,7 +7,7 @@ ghost use Rattle.positions.specs.Advance.{pause_of};
 ghost use Rattle.positions.specs.Moves.{lowest_alone};
 ghost use Rattle.positions.specs.Simulation.{place_of};
 ghost use Rattle.right_strands.specs.Rightness.{IsRightStrand};
-ghost use Rattle.right_strands.specs.Laid.{IsAtRest, laid_as, AnswersElision, IsGiven, HasRecorded, ends_run};
+ghost use Rattle.right_strands.specs.Laid.{IsPausedAs, laid_as, AnswersElision, IsGiven, HasRecorded, ends_run};
 
 use crate::run::{Run, Scene};
 use crate::strand::RightStrand;
@@ -18,25 +18,25 @@ use positions::start::Start;
 use rerun_records::record::Record;
 use std::alloc::{AllocError, Global};
 use std::marker::Model;
-pub use strand_list::rest::Rest;
+pub use strand_list::laid_state::LaidState;
 use view_pool::{Kit, KitSource, View};
 
 /// A strand that is right for the run J, and at the point as which it is laid down; one with a fault has one layer.
 #[derive(Drop)]
 pub struct Piece<J: Run, V: View = Box<dyn View>> {
     pub(crate) strand: RightStrand<J, V>,
-    pub(crate) rest: Rest,
+    pub(crate) state: LaidState,
 }
 
 impl<J: Run, V: View> Model for Piece<J, V> {
     ghost use Rattle.std.specs.Prelude.{◌≡◌, false};
-    ghost use Rattle.right_strands.specs.Laid.{PlainPiece, IsAtRest};
+    ghost use Rattle.right_strands.specs.Laid.{PlainPiece, IsPausedAs};
 
     ghost Value = { PlainPiece };
 
-    ghost view = { λ p. record { strand = p.strand.strand; rest = p.rest } };
+    ghost view = { λ p. record { strand = p.strand.strand; state = p.state } };
 
-    ghost invariant = { λ p. (p.strand.failed ≡ false) × IsAtRest J.setting.codes p.rest p.strand.strand };
+    ghost invariant = { λ p. (p.strand.failed ≡ false) × IsPausedAs J.setting.codes p.state p.strand.strand };
 }
 
 impl<J: Run, V: View> Piece<J, V> {
@@ -48,10 +48,10 @@ impl<J: Run, V: View> Piece<J, V> {
         kits: &mut K,
     ) -> Result<Piece<J, V>, RightStrand<J, V>>
         requires fits { K.fits J.setting.kinds kits.old }
-        ensures laid { IfOk result (λ p. p.strand ≡ laid_as p.rest strand.strand) }
+        ensures laid { IfOk result (λ p. p.strand ≡ laid_as p.state strand.strand) }
         ensures back { IfErr result (λ s. s ≡ strand) }
         ensures fitting { (k : List Kind) → K.fits k kits.old → K.fits k kits.new }
-        ensures kept { (k : List Kind) → K.gives k kits.new
+        ensures gives_known { (k : List Kind) → K.gives k kits.new
             → K.gives k kits.old ⊎ J.setting.kinds ≡ k }
         ensures home { length strand.strand.lower + K.free kits.old ≤ K.total kits.old
             → IfOk result (λ p. K.free kits.new + length p.strand.lower
@@ -63,21 +63,21 @@ impl<J: Run, V: View> Piece<J, V> {
             return Err(strand);
         }
         match strand.pause(scene) {
-            Paused::Returned => Ok(Piece::at(strand, Rest::Ended)),
-            Paused::AtSync => Ok(Piece::at(strand, Rest::Stalled)),
-            Paused::Finished => Ok(Piece::at(strand, Rest::Finished)),
+            Paused::Returned => Ok(Piece::at(strand, LaidState::Ended)),
+            Paused::AtSync => Ok(Piece::at(strand, LaidState::Stalled)),
+            Paused::Finished => Ok(Piece::at(strand, LaidState::Finished)),
             Paused::Faulted => Ok(Piece::faulted(strand, kits)),
             _ => Err(strand),
         }
     }
 
     /// The strand laid down at that point.
-    fn at(strand: RightStrand<J, V>, rest: Rest) -> Piece<J, V>
+    fn at(strand: RightStrand<J, V>, state: LaidState) -> Piece<J, V>
         requires going { strand.failed ≡ false }
-        requires rests { IsAtRest J.setting.codes rest strand.strand }
-        ensures laid { result ≡ record { strand = strand.strand; rest = rest } }
+        requires paused_so { IsPausedAs J.setting.codes state strand.strand }
+        ensures laid { result ≡ record { strand = strand.strand; state = state } }
     {
-        Piece { strand, rest }
+        Piece { strand, state }
     }
 
     /// The strand with a fault, laid down with its lowest layer alone.
@@ -86,34 +86,34 @@ impl<J: Run, V: View> Piece<J, V> {
         requires faulted { pause_of J.setting.codes strand.strand ≡ Paused.Faulted }
         requires fits { K.fits J.setting.kinds kits.old }
         ensures laid { result
-            ≡ record { strand = lowest_alone strand.strand; rest = Rest.Faulted } }
+            ≡ record { strand = lowest_alone strand.strand; state = LaidState.Faulted } }
         ensures fitting { (k : List Kind) → K.fits k kits.old → K.fits k kits.new }
-        ensures kept { (k : List Kind) → K.gives k kits.new
+        ensures gives_known { (k : List Kind) → K.gives k kits.new
             → K.gives k kits.old ⊎ J.setting.kinds ≡ k }
-        ensures given { length strand.strand.lower + K.free kits.old ≤ K.total kits.old
+        ensures home { length strand.strand.lower + K.free kits.old ≤ K.total kits.old
             → K.free kits.new ≡ length strand.strand.lower + K.free kits.old }
         ensures total { K.total kits.new ≡ K.total kits.old }
     {
         strand.close_upper(kits);
         Piece {
             strand,
-            rest: Rest::Faulted,
+            state: LaidState::Faulted,
         }
     }
 
     /// As what it is laid down.
-    pub fn rest(&self) -> Rest
-        ensures rest { result ≡ self.now.rest }
+    pub fn state(&self) -> LaidState
+        ensures state { result ≡ self.now.state }
     {
-        self.rest
+        self.state
     }
 
     /// What the type keeps.
-    pub fn kept(&self)
+    pub fn upheld(&self)
         ensures right { IsRightStrand J.setting self.now.strand }
-        ensures rests { IsAtRest J.setting.codes self.now.rest self.now.strand }
+        ensures paused_so { IsPausedAs J.setting.codes self.now.state self.now.strand }
     {
-        self.strand.kept();
+        self.strand.upheld();
     }
 
     /// Where the strand begins.
@@ -151,10 +151,10 @@ impl<J: Run, V: View> Piece<J, V> {
     pub fn ends_run(&self) -> bool
         ensures ends { result ≡ ends_run self.now }
     {
-        match self.rest {
-            Rest::Finished => true,
-            Rest::Faulted => self.strand.is_behind(&[]),
-            Rest::Ended | Rest::Stalled => false,
+        match self.state {
+            LaidState::Finished => true,
+            LaidState::Faulted => self.strand.is_behind(&[]),
+            LaidState::Ended | LaidState::Stalled => false,
         }
     }
 
@@ -174,13 +174,14 @@ impl<J: Run, V: View> Piece<J, V> {
         ensures values { HaveValues J.setting.kinds result.1.items }
         ensures records { result.1.items ≡ self.strand.tally.made }
         ensures fitting { (k : List Kind) → K.fits k kits.old → K.fits k kits.new }
-        ensures kept { (k : List Kind) → K.gives k kits.new
+        ensures gives_known { (k : List Kind) → K.gives k kits.new
             → K.gives k kits.old ⊎ J.setting.kinds ≡ k }
         ensures home { suc (length self.strand.lower) + K.free kits.old ≤ K.total kits.old
             → K.free kits.new ≡ suc (length self.strand.lower) + K.free kits.old }
         ensures total { K.total kits.new ≡ K.total kits.old }
     {
-        scene.kept();
+        // The setting's records are sound, and the strand has a layer for each open instance: so what it ends with is the elision's.
+        scene.upheld();
         let strand = self.into_strand();
         strand.layered();
         strand.end(alloc, kits)
@@ -190,10 +191,10 @@ impl<J: Run, V: View> Piece<J, V> {
     pub fn into_strand(self) -> Strand<V>
         ensures strand { result ≡ self.strand }
         ensures right { IsRightStrand J.setting self.strand }
-        ensures rests { IsAtRest J.setting.codes self.rest self.strand }
+        ensures paused_so { IsPausedAs J.setting.codes self.state self.strand }
         ensures kinds { self.strand.layer.kinds ≡ J.setting.kinds }
     {
-        let Piece { strand, rest: _ } = self;
+        let Piece { strand, state: _ } = self;
         strand.into_strand()
     }
 }

@@ -3,7 +3,7 @@ ghost use Rattle.std.specs.Prelude.{◌≡◌, [], true, false, IfOk, IfErr};
 ghost use Rattle.positions.specs.Moves.{joined};
 ghost use Rattle.right_strands.specs.Pairs.{IsStill, is_over, is_waiting, frees, may_pair};
 
-use crate::laid::{Piece, Rest};
+use crate::laid::{LaidState, Piece};
 use crate::run::{Run, Scene};
 use crate::strand::RightStrand;
 use frames::strand::Strand;
@@ -35,16 +35,16 @@ impl<J: Run, V: View> Model for Pair<J, V> {
 impl<J: Run, V: View> Piece<J, V> {
     /// Whether the strand may be the left one of two.
     pub fn is_over(&self) -> bool
-        ensures over { result ≡ is_over self.now.rest }
+        ensures over { result ≡ is_over self.now.state }
     {
-        matches!(self.rest, Rest::Ended | Rest::Faulted)
+        matches!(self.state, LaidState::Ended | LaidState::Faulted)
     }
 
     /// Whether the strand may be the right one of two.
     pub fn is_waiting(&self) -> bool
-        ensures waits { result ≡ is_waiting self.now.rest }
+        ensures waits { result ≡ is_waiting self.now.state }
     {
-        matches!(self.rest, Rest::Stalled | Rest::Faulted)
+        matches!(self.state, LaidState::Stalled | LaidState::Faulted)
     }
 
     /// Whether the strand and that one to its right may be joined by their names. One that has ended has to name the child behind
@@ -52,18 +52,18 @@ impl<J: Run, V: View> Piece<J, V> {
     pub fn may_join(&self, right: &Piece<J, V>) -> bool
         ensures may { result ≡ may_pair self.now right.now }
     {
-        match self.rest {
-            Rest::Ended => right.is_behind(self.name()) && right.is_freed_by(self),
+        match self.state {
+            LaidState::Ended => right.is_behind(self.name()) && right.is_freed_by(self),
             _ => true,
         }
     }
 
     /// Whether no name of a strand at its entry's sync is left waiting, if it is joined to the left one, which has ended.
     fn is_freed_by(&self, left: &Piece<J, V>) -> bool
-        ensures freed { result ≡ frees self.now.rest left.now.strand self.now.strand }
+        ensures freed { result ≡ frees self.now.state left.now.strand self.now.strand }
     {
-        match self.rest {
-            Rest::Stalled => self.strand.leaves_none_waiting(&left.strand),
+        match self.state {
+            LaidState::Stalled => self.strand.leaves_none_waiting(&left.strand),
             _ => true,
         }
     }
@@ -72,8 +72,8 @@ impl<J: Run, V: View> Piece<J, V> {
 impl<J: Run, V: View> Pair<J, V> {
     /// Two pieces that may become one strand.
     pub fn new(left: Piece<J, V>, right: Piece<J, V>) -> Pair<J, V>
-        requires over { is_over left.rest ≡ true }
-        requires waits { is_waiting right.rest ≡ true }
+        requires over { is_over left.state ≡ true }
+        requires waits { is_waiting right.state ≡ true }
         requires may { may_pair left right ≡ true }
         ensures pair { result ≡ record { left = left.strand; right = right.strand } }
     {
@@ -100,7 +100,8 @@ impl<J: Run, V: View> Pair<J, V> {
         ensures one_layer { IfOk result (λ r. self.right.lower ≡ []) }
         ensures still { IfErr result (λ e. IsStill self e.1) }
     {
-        scene.kept();
+        // The setting's records are sound: so the two are neighbours that may become one.
+        scene.upheld();
         let Pair {
             mut left,
             right,

@@ -5,7 +5,7 @@ ghost use Rattle.trail_theory.specs.OpenLayers.{IsNumbered};
 ghost use Rattle.strand_theory.specs.Ready.{IsReady};
 ghost use Rattle.linked_program.specs.Checked.{revised_of};
 ghost use Rattle.linked_program.specs.TableNames.{columned_of};
-ghost use Rattle.rerun_records.specs.Doubted.{IsInStep};
+ghost use Rattle.rerun_records.specs.InStep.{IsInStep};
 ghost use Rattle.rerun_records.specs.Named.{HaveValues};
 ghost use Rattle.positions.specs.Setting.{setting_with};
 ghost use Rattle.meaning.specs.Schedules.{recording_from};
@@ -53,7 +53,7 @@ impl<'a, J: Run> Model for Scene<'a, J> {
 
 impl<'a, J: Run> Scene<'a, J> {
     /// What the type keeps.
-    pub fn kept(&self)
+    pub fn upheld(&self)
         ensures sound { Remembers J.setting }
         ensures ready { (k : Remembers J.setting)
             → IsReady J.setting.program J.setting.tables (recording_from k.kept) }

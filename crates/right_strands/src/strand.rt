@@ -8,7 +8,7 @@ ghost use Rattle.positions.specs.Simulation.{IsFirst, place_of};
 ghost use Rattle.answered_loops.specs.Ways.{IsWay};
 ghost use Rattle.strand_moves.specs.Joins.{HasFault};
 ghost use Rattle.own_statements.specs.Paths.{IsPath};
-ghost use Rattle.small_steps.specs.Steps.{GivesNone, HoldsBy};
+ghost use Rattle.small_steps.specs.Steps.{HoldsFor};
 ghost use Rattle.activations.specs.Waiting.{leaves_none};
 ghost use Rattle.right_strands.specs.Rightness.{FitsHere, IsRightStrand, WasDetached};
 
@@ -110,7 +110,7 @@ impl<J: Run, V: View> RightStrand<J, V> {
         requires given_kinds { (k : List Kind) → K.gives k kits.old → k ≡ J.setting.kinds }
         requires fits { K.fits J.setting.kinds kits.old }
         ensures pause { IfOk result (λ paused. paused ≡ pause_of J.setting.codes self.old.strand) }
-        ensures advanced { OnOk result (HoldsBy (K.lacks kits.old) (GivesNone K.gives kits.old)
+        ensures advanced { OnOk result (HoldsFor K.KitSource kits.old
             (λ kit. self.new.strand ≡ advanced J.setting kit self.old.strand)) }
         ensures going { OnOk result (self.new.failed ≡ self.old.failed) }
         ensures failed { OnErr result (self.new.failed ≡ true) }
@@ -175,7 +175,7 @@ impl<J: Run, V: View> RightStrand<J, V> {
     }
 
     /// What the type keeps.
-    pub fn kept(&self)
+    pub fn upheld(&self)
         ensures right { self.now.failed ≡ false → IsRightStrand J.setting self.now.strand }
         ensures kinds { self.now.strand.layer.kinds ≡ J.setting.kinds }
     {
@@ -258,9 +258,9 @@ impl<J: Run, V: View> RightStrand<J, V> {
         requires fits { K.fits J.setting.kinds kits.old }
         ensures alone { self.new ≡ record self.old { strand = lowest_alone self.old.strand } }
         ensures fitting { (k : List Kind) → K.fits k kits.old → K.fits k kits.new }
-        ensures kept { (k : List Kind) → K.gives k kits.new
+        ensures gives_known { (k : List Kind) → K.gives k kits.new
             → K.gives k kits.old ⊎ J.setting.kinds ≡ k }
-        ensures given { length self.old.strand.lower + K.free kits.old ≤ K.total kits.old
+        ensures home { length self.old.strand.lower + K.free kits.old ≤ K.total kits.old
             → K.free kits.new ≡ length self.old.strand.lower + K.free kits.old }
         ensures total { K.total kits.new ≡ K.total kits.old }
     {

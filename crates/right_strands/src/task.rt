@@ -41,7 +41,7 @@ impl<J: Run> RightTask<J> {
     }
 
     /// What the type keeps.
-    pub fn kept(&self)
+    pub fn upheld(&self)
         ensures right { IsRightTask J.setting self.now }
     {
         let _ = &self.since;

@@ -22,7 +22,7 @@ pub record IsAhead (setting : Setting) (s t : PlainStrand) : Type 0 where
 abbrev pub GoesAhead : Setting → (PlainStrand → PlainStrand) → PlainStrand → PlainStrand → Type 0
 GoesAhead setting meaning s t = ((kit : Bool) → meaning s ≡ advanced setting kit s) → IsAhead setting s t
 
--- the same, of a meaning that a free kit may matter for
+-- the strand goes ahead where its next small step has that meaning, for which a free kit may matter
 abbrev pub GoesAheadBy : Setting → (Bool → PlainStrand → PlainStrand) → PlainStrand → PlainStrand → Type 0
 GoesAheadBy setting meaning s t = ((kit : Bool) → meaning kit s ≡ advanced setting kit s) → IsAhead setting s t
 
@@ -49,7 +49,7 @@ topped_child child a l s = record s { layer = l; path = s.path ++ a.children ∷
 abbrev pub TurnsOn : Setting → PlainActivation → PlainLayer → PlainActivation → PlainLayer → Type 0
 TurnsOn setting a l b m = (s : PlainStrand) → ComeBack s → IsAhead setting (topped Running a l s) (topped Running b m s)
 
--- the same, where the last one may stand on top
+-- a loop's instance and its layer come so far by iterations, and the last one may stand on top
 abbrev pub TurnsTo : Setting → Came → PlainActivation → PlainLayer → PlainActivation → PlainActivation → PlainLayer → Type 0
 TurnsTo setting Nowhere a l child b m = TurnsOn setting a l b m
 TurnsTo setting Back a l child b m = TurnsOn setting a l b m

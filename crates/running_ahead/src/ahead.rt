@@ -37,7 +37,7 @@ use view_pool::View;
 const STRETCHES: u32 = 1024;
 
 /// An instance that is to be called: of that procedure, with those arguments; its value goes into that slot, and the one that calls
-/// it stands at that place then.
+/// it stands at that position then.
 #[derive(Clone, Copy)]
 struct Callee<'a> {
     procedure: usize,
@@ -194,33 +194,33 @@ fn call_ahead<V: View>(machine: &mut Machine<V>, alloc: Global, setting: Setting
     ensures running { machine.new.phase ≡ Phase.Running }
 {
     match machine.top.work() {
-        Work::Block(place) => match instruction(
+        Work::Block(position) => match instruction(
             setting.program,
             machine.top.procedure(),
             machine.top.depth(),
-            place,
+            position,
         ) {
-            Some(instruction) => enter_ahead(machine, alloc, setting, place, instruction),
+            Some(instruction) => enter_ahead(machine, alloc, setting, position, instruction),
             None => Came::Nowhere,
         },
         _ => Came::Nowhere,
     }
 }
 
-/// Does the statement at that place, where it calls an instance of a procedure that isn't marked memo.
+/// Does the statement at that position, where it calls an instance of a procedure that isn't marked memo.
 #[inline(always)]
 fn enter_ahead<V: View>(
     machine: &mut Machine<V>,
     alloc: Global,
     setting: Setting<'_>,
-    place: Position,
+    position: Position,
     instruction: &Instruction,
 ) -> Came
-    requires room { place.index + 1 < 2 ^ 64 }
+    requires room { position.index + 1 < 2 ^ 64 }
     requires kinds { machine.old.layer.kinds ≡ setting.program.now.kinds }
     requires running { machine.old.phase ≡ Phase.Running }
     ensures ahead { GoesAheadBy (lent setting.entry)
-        (λ kit. performed (lent setting.entry) kit place instruction.now.number instruction.now.operation) machine.old machine.new }
+        (λ kit. performed (lent setting.entry) kit position instruction.now.number instruction.now.operation) machine.old machine.new }
     ensures running { machine.new.phase ≡ Phase.Running }
 {
     match &instruction.operation {
@@ -230,7 +230,7 @@ fn enter_ahead<V: View>(
                 procedure: *callee,
                 arguments,
                 into: *into,
-                next: next_of(place),
+                next: next_of(position),
             };
             enter_by(machine, alloc, setting, instruction.number, *way, callee)
         }

@@ -308,7 +308,8 @@ fn run_once<V: View, N: Notes, T: Threads + Wait + Sync, G: Gate>(
     ensures notes_stay { result ≢ Err SessionError.Notes
         → N.failed notes.new ≡ N.failed notes.old }
 {
-    session.kept();
+    // The session's records are in step with its tables, as notes of a run ask for.
+    session.upheld();
     notes.begin(session.checked(), session.tables(), session.records());
     let (answer, history) = run_threads(
         runner.rt,
@@ -368,7 +369,7 @@ fn tell_fault<N: Notes>(
     checked: &Checked,
     tables: &Tables,
 )
-    ensures kept { N.failed notes.new ≡ N.failed notes.old }
+    ensures same { N.failed notes.new ≡ N.failed notes.old }
 {
     if let RunAnswer::Fault(fault) = answer {
         notes.explain(Cause::Fault(number, fault), checked, tables);

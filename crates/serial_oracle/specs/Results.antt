@@ -54,20 +54,20 @@ Gives (Ok a) s o = o ≡ (Ok a, s)
 Gives (Err (stop.Fault f)) s o = o ≡ (Err (fault_plain f), s)
 Gives (Err stop.NoMemory) s o = Unit {0}
 
--- the same where there is no answer
+-- code that gives no answer had that result and summary, unless memory ran out
 abbrev pub Does : Result (Unit {0}) Stop → Summary → Result (Unit {0}) Fault × Summary → Type 0
 Does (Ok a) s o = o ≡ (Ok tt, s)
 Does (Err (stop.Fault f)) s o = o ≡ (Err (fault_plain f), s)
 Does (Err stop.NoMemory) s o = Unit {0}
 
--- the same of a block, with the values of the names after it
+-- a block gave a value back or went on, with that summary and with these values of the names, unless memory ran out
 abbrev pub GivesNext : Result (Option ℤ) Stop → Env → Summary → Result Next Fault × Summary → Type 0
 GivesNext (Ok None) env s o = o ≡ (Ok (On env), s)
 GivesNext (Ok (Some v)) env s o = o ≡ (Ok (Back v), s)
 GivesNext (Err (stop.Fault f)) env s o = o ≡ (Err (fault_plain f), s)
 GivesNext (Err stop.NoMemory) env s o = Unit {0}
 
--- the same of an update, before its statement is known
+-- an update, whose statement isn't known yet, had that result and left these accumulators, unless memory ran out
 abbrev pub Notes : Result (Unit {0}) Trouble → Accumulators → Result (Unit {0}) FaultKind × Accumulators → Type 0
 Notes (Ok a) acc o = o ≡ (Ok tt, acc)
 Notes (Err (trouble.Fault kind)) acc o = o ≡ (Err kind, acc)
@@ -82,7 +82,7 @@ IsTrouble (trouble.Fault kind) f n (stop.Fault e) = fault_plain e ≡ record { k
 IsTrouble trouble.NoMemory f n stop.NoMemory = Unit {0}
 IsTrouble _ f n e = ⊥
 
--- the same of values
+-- expressions had these values or that fault, unless memory ran out
 abbrev pub EvaluatesAll : Result (Vec ℤ) Trouble → Result (List ℤ) FaultKind → Type 0
 EvaluatesAll (Ok v) r = r ≡ Ok v.items
 EvaluatesAll (Err (trouble.Fault kind)) r = r ≡ Err kind

@@ -37,7 +37,7 @@ abbrev pub noted : Tree → List Kept → List Change → Log
 noted program records [] = []
 noted program records (c ∷ cs) = change_log program records c ++ noted program records cs
 
--- the same in a scope
+-- the updates that changes note, in a scope
 abbrev pub noted_in : Scope → List Change → Log
 noted_in s changes = noted (tree_in s) (records_in s) changes
 

@@ -177,7 +177,7 @@ fn add_at(
     requires of_kinds { AreWorths kinds.now (map meaning values.old.items) }
     requires the_kind { slice_get kinds.now n ≡ Some kind }
     ensures after { OnOk result (map meaning values.new.items ≡ after (noticed (Some kind) n numbers.now) (map meaning values.old.items)) }
-    ensures kept { OnOk result (AreWorths kinds.now (map meaning values.new.items)) }
+    ensures worths { OnOk result (AreWorths kinds.now (map meaning values.new.items)) }
 {
     if !is_element(kind, numbers) {
         return Ok(());
@@ -198,7 +198,7 @@ fn apply_update(
 ) -> Result<(), AllocError>
     requires of_kinds { AreWorths kinds.now (map meaning values.old.items) }
     ensures after { OnOk result (map meaning values.new.items ≡ after (noticed (slice_get kinds.now n) n numbers.now) (map meaning values.old.items)) }
-    ensures kept { OnOk result (AreWorths kinds.now (map meaning values.new.items)) }
+    ensures worths { OnOk result (AreWorths kinds.now (map meaning values.new.items)) }
 {
     match kinds.get(n) {
         None => Ok(()),
@@ -219,7 +219,7 @@ fn combine_at(
     requires rights_of_kinds { AreWorths kinds.now (map meaning rights.now) }
     ensures combined { OnOk result (combined_from (suc i) kinds.now (map meaning values.new.items) (map meaning rights.now)
         ≡ combined_from i kinds.now (map meaning values.old.items) (map meaning rights.now)) }
-    ensures kept { OnOk result (AreWorths kinds.now (map meaning values.new.items)) }
+    ensures worths { OnOk result (AreWorths kinds.now (map meaning values.new.items)) }
 {
     let kind = kinds[i];
     let right = copy_of(alloc, &rights[i])?;
@@ -236,7 +236,7 @@ fn combine_all(
     requires of_kinds { AreWorths kinds.now (map meaning values.old.items) }
     requires rights_of_kinds { AreWorths kinds.now (map meaning rights.now) }
     ensures combined { OnOk result (map meaning values.new.items ≡ operate_all kinds.now (map meaning values.old.items) (map meaning rights.now)) }
-    ensures kept { OnOk result (AreWorths kinds.now (map meaning values.new.items)) }
+    ensures worths { OnOk result (AreWorths kinds.now (map meaning values.new.items)) }
 {
     for i in 0..kinds.len() {
         combine_at(alloc, kinds, values, rights, i)?;
@@ -256,7 +256,7 @@ fn apply_record(
     requires of_kinds { AreWorths kinds.now (map meaning values.old.items) }
     ensures after { OnOk result (map meaning values.new.items
         ≡ after (reused_log (reducers (tree_in scope.now)) (slice_get (records_in scope.now) place)) (map meaning values.old.items)) }
-    ensures kept { OnOk result (AreWorths kinds.now (map meaning values.new.items)) }
+    ensures worths { OnOk result (AreWorths kinds.now (map meaning values.new.items)) }
 {
     match scope.records.get(place) {
         None => Ok(()),
@@ -276,7 +276,7 @@ fn apply(
     requires of_kinds { AreWorths kinds.now (map meaning values.old.items) }
     ensures after { OnOk result (map meaning values.new.items
         ≡ after (change_log (tree_in scope.now) (records_in scope.now) change.now) (map meaning values.old.items)) }
-    ensures kept { OnOk result (AreWorths kinds.now (map meaning values.new.items)) }
+    ensures worths { OnOk result (AreWorths kinds.now (map meaning values.new.items)) }
 {
     match change {
         Change::Update(n, numbers) => apply_update(scope.alloc, kinds, values, *n, numbers),

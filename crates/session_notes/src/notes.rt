@@ -1,7 +1,7 @@
 // Who is told of a session's runs.
 ghost use Rattle.std.specs.Prelude.{◌≡◌, Bool, true, false};
 ghost use Rattle.numbered_runs.specs.Come.{HasEnded};
-ghost use Rattle.rerun_records.specs.Doubted.{IsInStep};
+ghost use Rattle.rerun_records.specs.InStep.{IsInStep};
 
 use crate::explained::Cause;
 use input_tables::Tables;
@@ -31,13 +31,13 @@ pub trait Notes {
     /// Tells that a run begins, with the program, the tables and the records as they are then. That it isn't noted is no failure.
     fn begin(&mut self, _checked: &Checked, _tables: &Tables, _records: &Records)
         requires in_step { IsInStep _tables.now.tables _records.now }
-        ensures kept { failed self.new ≡ failed self.old }
+        ensures same { failed self.new ≡ failed self.old }
     {}
 
     /// Tells of an edit or a line that is refused, or of a run's fault, with the program and the tables as they are then.
     /// That it isn't explained is no failure.
     fn explain(&mut self, _cause: Cause<'_>, _checked: &Checked, _tables: &Tables)
-        ensures kept { failed self.new ≡ failed self.old }
+        ensures same { failed self.new ≡ failed self.old }
     {}
 }
 

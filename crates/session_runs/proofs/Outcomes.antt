@@ -8,7 +8,7 @@ use Rattle.trail_theory.specs.OpenLayers.{IsNewRecord}
 use Rattle.trail_theory.proofs.Contributions.{commits_sound}
 use Rattle.linked_program.specs.Checked.{PlainChecked, revised_of}
 use Rattle.input_tables.specs.Edited.{Edited}
-use Rattle.rerun_records.specs.Record.{PlainRecord, doubtless}
+use Rattle.rerun_records.specs.Record.{PlainRecord, as_made}
 use Rattle.rerun_records.specs.Named.{AreKept}
 use Rattle.rerun_records.specs.Commits.{put_records}
 use Rattle.rerun_records.proofs.Lookups.{put_all}
@@ -20,30 +20,30 @@ use Rattle.numbered_runs.specs.Recorded.{HasRecordedBy, tally_of}
 use Rattle.kept_session.specs.Sessions.{PlainSession, AreNewFor}
 use Rattle.kept_session.proofs.Keeping.{none_new}
 use Rattle.kept_session.proofs.News.{are_new}
-use Rattle.kept_session.proofs.Doubts.{twice, stand_so}
+use Rattle.kept_session.proofs.AsMade.{twice, stand_so}
 use Rattle.session_runs.specs.Runs.{LeavesRecords, NeedsNothing, IsQuietAfter}
 
 -- the records of the session after it
-pub leaves_records : (s : PlainSession) (given : RunAnswer) (made records : List PlainRecord) → HasRecordedBy s.checked s.tables s.records given made → map doubtless records ≡ put_records (map doubtless s.records) made → LeavesRecords s given records
+pub leaves_records : (s : PlainSession) (given : RunAnswer) (made records : List PlainRecord) → HasRecordedBy s.checked s.tables s.records given made → map as_made records ≡ put_records (map as_made s.records) made → LeavesRecords s given records
 leaves_records s (answer.Finished v ws n m k) made records h e = (made, h, e)
-leaves_records s answer.NoMemory made records h e = e ∙ ap (put_records (map doubtless s.records)) h
-leaves_records s answer.NoKit made records h e = e ∙ ap (put_records (map doubtless s.records)) h
-leaves_records s answer.Unfinished made records h e = e ∙ ap (put_records (map doubtless s.records)) h
-leaves_records s (answer.Fault f) made records h e = e ∙ ap (put_records (map doubtless s.records)) h
+leaves_records s answer.NoMemory made records h e = e ∙ ap (put_records (map as_made s.records)) h
+leaves_records s answer.NoKit made records h e = e ∙ ap (put_records (map as_made s.records)) h
+leaves_records s answer.Unfinished made records h e = e ∙ ap (put_records (map as_made s.records)) h
+leaves_records s (answer.Fault f) made records h e = e ∙ ap (put_records (map as_made s.records)) h
 
 news_sound : (program : Revised) (tables : Tables) (ks : List Kept) → Every (IsNewRecord program tables) ks → Every (IsSound program) ks
 news_sound program tables [] h = tt
 news_sound program tables (k ∷ ks) h = (h.0.sound, news_sound program tables ks h.1)
 
 needs_nothing : (program : PlainChecked) (tables : Edited) (records made : List PlainRecord) (sound : AreSoundFor program records) (n m : ℕ) → HaveNews (setting_by program tables records sound) (tally_of n m 0 made)
-    → (s : PlainSession) → s.checked ≡ program → s.tables ≡ tables → map doubtless s.records ≡ put_records (map doubtless records) made → NeedsNothing s
+    → (s : PlainSession) → s.checked ≡ program → s.tables ≡ tables → map as_made s.records ≡ put_records (map as_made records) made → NeedsNothing s
 needs_nothing program tables records made sound n m news s p t r =
     let all : List Kept = committed sound.kept news.kept in
     let new : AreSoundFor program s.records = record {
       kept = all;
-      stand = stand_so program all (map doubtless s.records) s.records (sym (twice s.records))
+      stand = stand_so program all (map as_made s.records) s.records (sym (twice s.records))
           (subst (AreKept program all) (sym r)
-          (put_all (revised_of program) program.tables program.kinds sound.kept news.kept (map doubtless records) made (stand_so program sound.kept records (map doubtless records) (twice records) sound.stand) news.stand));
+          (put_all (revised_of program) program.tables program.kinds sound.kept news.kept (map as_made records) made (stand_so program sound.kept records (map as_made records) (twice records) sound.stand) news.stand));
       sound = commits_sound (revised_of program) sound.kept news.kept sound.sound (news_sound (revised_of program) tables.tables news.kept news.news);
     } in
     subst (λ (z : PlainSession). NeedsNothing z)
@@ -51,7 +51,7 @@ needs_nothing program tables records made sound n m news s p t r =
     (record { sound = new; nothing = news.complete refl })
 
 pub quiet_after : (program : PlainChecked) (tables : Edited) (records : List PlainRecord) (given : RunAnswer) (made : List PlainRecord) → AreSoundFor program records → HasRecordedBy program tables records given made
-    → (s : PlainSession) → s.checked ≡ program → s.tables ≡ tables → map doubtless s.records ≡ put_records (map doubtless records) made → IsQuietAfter given s
+    → (s : PlainSession) → s.checked ≡ program → s.tables ≡ tables → map as_made s.records ≡ put_records (map as_made records) made → IsQuietAfter given s
 quiet_after program tables records (answer.Finished v ws n m k) made sound h s p t r =
     λ zero. needs_nothing program tables records made sound n m (subst (λ (u : ℕ). HaveNews (setting_by program tables records sound) (tally_of n m u made)) zero (h sound).1) s p t r
 quiet_after program tables records answer.NoMemory made sound h s p t r = tt

@@ -7,7 +7,7 @@ use Rattle.meaning.specs.Elision as elision
 use Rattle.meaning.specs.Elision.{from_scratch}
 use Rattle.meaning.specs.Records.{needed, executed}
 use Rattle.linked_program.specs.Checked.{revised_of}
-use Rattle.rerun_records.specs.Record.{PlainRecord, doubtless}
+use Rattle.rerun_records.specs.Record.{PlainRecord, as_made}
 use Rattle.rerun_records.specs.Commits.{put_records}
 use Rattle.positions.specs.Stands.{fault_in}
 use Rattle.positions.specs.declared.answer.RunAnswer.{RunAnswer}
@@ -22,12 +22,12 @@ IsFromScratch s (answer.Finished v values n m k) = from_scratch s.program.tree s
 IsFromScratch s (answer.Fault f) = from_scratch s.program.tree s.tables ≡ elision.Faulted (fault_in s.program.tree f)
 IsFromScratch s _ = Unit {0}
 
--- after a run that has finished the records are those before with its own put in, else those before; but for what is in doubt of them
+-- after a run that has finished the records are those before with its own put in, else those before; but for their numbers
 abbrev pub LeavesRecords : PlainSession → RunAnswer → List PlainRecord → Type 0
 LeavesRecords s (answer.Finished v values n m k) records =
     (made : List PlainRecord) × HasRecordedBy s.checked s.tables s.records (answer.Finished v values n m k) made
-    × (map doubtless records ≡ put_records (map doubtless s.records) made)
-LeavesRecords s _ records = map doubtless records ≡ map doubtless s.records
+    × (map as_made records ≡ put_records (map as_made s.records) made)
+LeavesRecords s _ records = map as_made records ≡ map as_made s.records
 
 -- by records that the session's stand for nothing is left to execute
 pub record NeedsNothing (s : PlainSession) : Type 0 where

@@ -8,8 +8,8 @@ ghost use Rattle.linked_program.specs.Initials.{all_elements, are_elements, is_i
 ghost use Rattle.linked_program.specs.Declarations.{repeats, reducer_rules, main_rules, procedure_rules};
 ghost use Rattle.linked_program.specs.Violations.{noted, at};
 
+use crate::location::{Location, note_if};
 use crate::names::{arity, has_name, kind_of, parameters_of};
-use crate::place::{Place, note_if};
 use linked_program::violation::{Rule, Violation};
 use meaning::tree::{Declaration, Procedure, Reducer};
 use monoid_laws::{Kind, Table, TableAnswer};
@@ -87,25 +87,29 @@ fn is_initial(kind: &Kind, numbers: &[i64]) -> bool
 #[tactic(auto, using(crate::proofs::Noting::noted_more))]
 pub fn note_reducer(
     first: Option<Violation>,
-    place: Place,
+    location: Location,
     before: &[Declaration],
     reducer: &Reducer,
 ) -> Option<Violation>
-    ensures { result ≡ noted first (at place.declaration place.line (reducer_rules (map decl before.now) (red reducer.now))) }
+    ensures { result ≡ noted first (at location.declaration location.line (reducer_rules (map decl before.now) (red reducer.now))) }
 {
     let is_second = kind_of(before, reducer.name.as_str()).is_some();
-    let first = note_if(first, is_second, place, Rule::Twice);
-    let first = note_if(first, !is_monoid(&reducer.kind), place, Rule::Monoid);
+    let first = note_if(first, is_second, location, Rule::Twice);
+    let first = note_if(first, !is_monoid(&reducer.kind), location, Rule::Monoid);
     let begins = is_initial(&reducer.kind, &reducer.initial);
-    note_if(first, !begins, place, Rule::Initial)
+    note_if(first, !begins, location, Rule::Initial)
 }
 
 // The first violation so far, or that of a `main` that is recorded or has parameters.
-fn note_main(first: Option<Violation>, place: Place, procedure: &Procedure) -> Option<Violation>
-    ensures { result ≡ noted first (at place.declaration place.line (main_rules (proc procedure.now))) }
+fn note_main(
+    first: Option<Violation>,
+    location: Location,
+    procedure: &Procedure,
+) -> Option<Violation>
+    ensures { result ≡ noted first (at location.declaration location.line (main_rules (proc procedure.now))) }
 {
     let broken = procedure.name.as_str() == "main" && (procedure.memo || procedure.parameters > 0);
-    note_if(first, broken, place, Rule::Main)
+    note_if(first, broken, location, Rule::Main)
 }
 
 // Whether a name is that of two parameters.
@@ -120,14 +124,14 @@ fn repeats_parameter(procedure: &Procedure) -> bool
 #[tactic(auto, using(crate::proofs::Noting::noted_more))]
 pub fn note_head(
     first: Option<Violation>,
-    place: Place,
+    location: Location,
     before: &[Declaration],
     procedure: &Procedure,
 ) -> Option<Violation>
-    ensures { result ≡ noted first (at place.declaration place.line (procedure_rules (map decl before.now) (proc procedure.now))) }
+    ensures { result ≡ noted first (at location.declaration location.line (procedure_rules (map decl before.now) (proc procedure.now))) }
 {
     let is_second = parameters_of(before, procedure.name.as_str()).is_some();
-    let first = note_if(first, is_second, place, Rule::Twice);
-    let first = note_if(first, repeats_parameter(procedure), place, Rule::Twice);
-    note_main(first, place, procedure)
+    let first = note_if(first, is_second, location, Rule::Twice);
+    let first = note_if(first, repeats_parameter(procedure), location, Rule::Twice);
+    note_main(first, location, procedure)
 }

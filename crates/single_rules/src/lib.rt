@@ -4,8 +4,8 @@
 pub mod heads;
 pub mod keeping;
 pub mod lines;
+pub mod location;
 pub mod names;
-pub mod place;
 pub mod scope;
 pub mod setting;
 pub mod statements;

@@ -6,7 +6,7 @@ ghost use Rattle.linked_program.specs.Rules.{use_rules};
 ghost use Rattle.linked_program.specs.declared.knowledge.Knowledge.TheVariants.{Ended};
 ghost use Rattle.linked_program.specs.Violations.{noted, at};
 
-use crate::place::{Place, note, note_if};
+use crate::location::{Location, note, note_if};
 use linked_program::knowledge::{Knowledge, Moment};
 use linked_program::violation::{Rule, Violation};
 use std::alloc::{AllocError, Global};
@@ -109,16 +109,21 @@ impl Scope {
     }
 
     /// The first violation so far or that of the name's use in an expression.
-    pub fn note_use(&self, first: Option<Violation>, place: Place, name: usize) -> Option<Violation>
-        ensures noted { result ≡ noted first (at place.declaration place.line
+    pub fn note_use(
+        &self,
+        first: Option<Violation>,
+        location: Location,
+        name: usize,
+    ) -> Option<Violation>
+        ensures noted { result ≡ noted first (at location.declaration location.line
             (use_rules self.now.synced (slice_get self.now.names name))) }
     {
         match self.names.get(name) {
             Some(Knowledge::Known { since, spawned }) => {
                 let waits = *spawned && precedes(self.synced, *since);
-                note_if(first, waits, place, Rule::Waiting)
+                note_if(first, waits, location, Rule::Waiting)
             }
-            _ => note(first, place, Rule::Unknown),
+            _ => note(first, location, Rule::Unknown),
         }
     }
 

@@ -1,7 +1,7 @@
 //! What the statements of a procedure are checked against.
 
 use crate::lines::LineTable;
-use crate::place::Place;
+use crate::location::Location;
 use linked_program::tables::TableNames;
 use meaning::tree::Declaration;
 

@@ -5,8 +5,8 @@ ghost use Rattle.linked_program.specs.TableNames.{columned};
 ghost use Rattle.linked_program.specs.Rules.{term_rules, terms_rules, table_rules, column_rules};
 ghost use Rattle.linked_program.specs.Violations.{noted, at};
 
+use crate::location::{Location, note, note_if};
 use crate::names::{has_name, table_of};
-use crate::place::{Place, note, note_if};
 use crate::scope::Scope;
 use linked_program::tables::TableNames;
 use linked_program::violation::{Rule, Violation};
@@ -15,13 +15,13 @@ use meaning::tree::Expr;
 // The first violation so far or that of the use of a table.
 fn note_table(
     first: Option<Violation>,
-    place: Place,
+    location: Location,
     table: Option<&TableNames>,
 ) -> Option<Violation>
-    ensures { result ≡ noted first (at place.declaration place.line (table_rules (option_map columned (option_copied table.entry)))) }
+    ensures { result ≡ noted first (at location.declaration location.line (table_rules (option_map columned (option_copied table.entry)))) }
 {
     match table {
-        None => note(first, place, Rule::Table),
+        None => note(first, location, Rule::Table),
         Some(_) => first,
     }
 }
@@ -29,15 +29,20 @@ fn note_table(
 // The first violation so far, or that of the use of a table's column.
 fn note_column(
     first: Option<Violation>,
-    place: Place,
+    location: Location,
     table: Option<&TableNames>,
     column: &str,
 ) -> Option<Violation>
-    ensures { result ≡ noted first (at place.declaration place.line (column_rules (option_map columned (option_copied table.entry)) column.now)) }
+    ensures { result ≡ noted first (at location.declaration location.line (column_rules (option_map columned (option_copied table.entry)) column.now)) }
 {
     match table {
-        None => note(first, place, Rule::Table),
-        Some(table) => note_if(first, !has_name(&table.columns, column), place, Rule::Table),
+        None => note(first, location, Rule::Table),
+        Some(table) => note_if(
+            first,
+            !has_name(&table.columns, column),
+            location,
+            Rule::Table,
+        ),
     }
 }
 
@@ -45,35 +50,35 @@ fn note_column(
 #[tactic(auto, using(crate::proofs::Noting::noted_more))]
 pub fn note_term(
     first: Option<Violation>,
-    place: Place,
+    location: Location,
     tables: &[TableNames],
     scope: &Scope,
     expr: &Expr,
 ) -> Option<Violation>
-    ensures { result ≡ noted first (at place.declaration place.line
+    ensures { result ≡ noted first (at location.declaration location.line
         (term_rules (map columned tables.now) scope.now (term expr.now))) }
 {
     match expr {
         Expr::Number(_) => first,
-        Expr::Name(name) => scope.note_use(first, place, *name),
+        Expr::Name(name) => scope.note_use(first, location, *name),
         Expr::Cell(table, row, column) => {
             let found = table_of(tables, table.as_str());
-            let first = note_column(first, place, found, column.as_str());
-            note_term(first, place, tables, scope, row)
+            let first = note_column(first, location, found, column.as_str());
+            note_term(first, location, tables, scope, row)
         }
         Expr::Has(table, row) => {
-            let first = note_table(first, place, table_of(tables, table.as_str()));
-            note_term(first, place, tables, scope, row)
+            let first = note_table(first, location, table_of(tables, table.as_str()));
+            note_term(first, location, tables, scope, row)
         }
-        Expr::Limit(table) => note_table(first, place, table_of(tables, table.as_str())),
+        Expr::Limit(table) => note_table(first, location, table_of(tables, table.as_str())),
         Expr::Sum(table, column) => {
             let found = table_of(tables, table.as_str());
-            note_column(first, place, found, column.as_str())
+            note_column(first, location, found, column.as_str())
         }
-        Expr::Negate(inner) => note_term(first, place, tables, scope, inner),
+        Expr::Negate(inner) => note_term(first, location, tables, scope, inner),
         Expr::Binary(_, left, right) => {
-            let first = note_term(first, place, tables, scope, left);
-            note_term(first, place, tables, scope, right)
+            let first = note_term(first, location, tables, scope, left);
+            note_term(first, location, tables, scope, right)
         }
     }
 }
@@ -82,17 +87,17 @@ pub fn note_term(
 #[tactic(auto, using(crate::proofs::Noting::noted_more))]
 pub fn note_terms(
     first: Option<Violation>,
-    place: Place,
+    location: Location,
     tables: &[TableNames],
     scope: &Scope,
     exprs: &[Expr],
 ) -> Option<Violation>
-    ensures { result ≡ noted first (at place.declaration place.line
+    ensures { result ≡ noted first (at location.declaration location.line
         (terms_rules (map columned tables.now) scope.now (map term exprs.now))) }
 {
     let mut found = first;
     for expr in exprs {
-        found = note_term(found, place, tables, scope, expr);
+        found = note_term(found, location, tables, scope, expr);
     }
     found
 }

@@ -102,6 +102,10 @@ abbrev pub IsSuppliedBy : {S : Type 0} → Source S (List Kind) → Lent → S �
 IsSuppliedBy source setting kits s =
     IsSupplied source.fits source.gives source.free source.total setting.program.now.kinds kits setting.records.now s.layer.kinds s.lower
 
+-- it holds of a step with a free kit of that source or of one without, by what the source says of itself
+abbrev pub HoldsFor : {S : Type 0} → Source S (List Kind) → S → (Bool → Type 0) → Type 0
+HoldsFor source kits P = HoldsBy (source.lacks kits) (GivesNone source.gives kits) P
+
 -- from the strand before a step to that after it no kit is lost
 abbrev pub KeepsAllKits : {S : Type 0} → Source S (List Kind) → List Kind → S → S → PlainStrand → PlainStrand → Type 0
 KeepsAllKits source kinds old new s t = KeepsKits source.fits source.gives source.free source.total kinds old new s.lower t.lower

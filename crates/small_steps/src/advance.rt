@@ -4,7 +4,7 @@ ghost use Rattle.rerun_records.specs.Named.{HaveValues};
 ghost use Rattle.positions.specs.Strands.{IsLayered};
 ghost use Rattle.positions.specs.Advance.{performed, gone, worked, left_to, advanced, pause_of, next_statement, is_sync};
 ghost use Rattle.activations.specs.Given.{lent};
-ghost use Rattle.small_steps.specs.Steps.{GivesNone, HoldsBy, IsSuppliedBy, IsValued, KeepsAllKits};
+ghost use Rattle.small_steps.specs.Steps.{HoldsFor, IsSuppliedBy, IsValued, KeepsAllKits};
 
 use crate::machine::Machine;
 use crate::remembering::Entrance;
@@ -61,11 +61,11 @@ impl<V: View> Machine<V> {
         ensures found { option_copied result ≡ next_statement program.now.codes self.now }
     {
         match self.top.work() {
-            Work::Block(place) => instruction(
+            Work::Block(position) => instruction(
                 program,
                 self.top.procedure(),
                 self.top.depth(),
-                place,
+                position,
             ),
             _ => None,
         }
@@ -94,7 +94,7 @@ impl<V: View> Machine<V> {
     ) -> Result<(), AllocError>
         requires layered { IsLayered self.old }
         requires supplied { IsSuppliedBy K.KitSource setting kits.old self.old }
-        ensures advanced { OnOk result (HoldsBy (K.lacks kits.old) (GivesNone K.gives kits.old)
+        ensures advanced { OnOk result (HoldsFor K.KitSource kits.old
             (λ kit. self.new ≡ advanced (lent setting.entry) kit self.old)) }
         ensures made { HaveValues self.old.layer.kinds self.old.tally.made → HaveValues self.old.layer.kinds self.new.tally.made }
         ensures refused { OnErr result (IsValued self.old self.new) }
@@ -121,13 +121,13 @@ impl<V: View> Machine<V> {
     ) -> Result<(), AllocError>
         requires running { self.old.phase ≡ Phase.Running }
         requires supplied { IsSuppliedBy K.KitSource setting kits.old self.old }
-        ensures worked { OnOk result (HoldsBy (K.lacks kits.old) (GivesNone K.gives kits.old)
+        ensures worked { OnOk result (HoldsFor K.KitSource kits.old
             (λ kit. self.new ≡ worked (lent setting.entry) kit self.old.top.work self.old)) }
         ensures refused { OnErr result (IsValued self.old self.new) }
         ensures kits { KeepsAllKits K.KitSource setting.entry.program.now.kinds kits.old kits.new self.old self.new }
     {
         match self.top.work() {
-            Work::Block(place) => self.go(alloc, setting, place, kits),
+            Work::Block(position) => self.go(alloc, setting, position, kits),
             Work::Over => {
                 self.phase = Phase::Returning(0);
                 Ok(())
@@ -144,18 +144,18 @@ impl<V: View> Machine<V> {
         }
     }
 
-    /// The statement at that place, or the block's end.
+    /// The statement at that position, or the block's end.
     fn go<K: KitSource<Kit<V>>>(
         &mut self,
         alloc: Global,
         setting: Setting<'_>,
-        place: Position,
+        position: Position,
         kits: &mut K,
     ) -> Result<(), AllocError>
         requires running { self.old.phase ≡ Phase.Running }
         requires supplied { IsSuppliedBy K.KitSource setting kits.old self.old }
-        ensures gone { OnOk result (HoldsBy (K.lacks kits.old) (GivesNone K.gives kits.old)
-            (λ kit. self.new ≡ gone (lent setting.entry) kit place self.old)) }
+        ensures gone { OnOk result (HoldsFor K.KitSource kits.old
+            (λ kit. self.new ≡ gone (lent setting.entry) kit position self.old)) }
         ensures refused { OnErr result (IsValued self.old self.new) }
         ensures kits { KeepsAllKits K.KitSource setting.entry.program.now.kinds kits.old kits.new self.old self.new }
     {
@@ -163,13 +163,13 @@ impl<V: View> Machine<V> {
             setting.program,
             self.top.procedure(),
             self.top.depth(),
-            place,
+            position,
         ) {
             None => {
                 self.top.go_outside();
                 Ok(())
             }
-            Some(instruction) => self.perform(alloc, setting, place, instruction, kits),
+            Some(instruction) => self.perform(alloc, setting, position, instruction, kits),
         }
     }
 
@@ -178,46 +178,52 @@ impl<V: View> Machine<V> {
         &mut self,
         alloc: Global,
         setting: Setting<'_>,
-        place: Position,
+        position: Position,
         instruction: &Instruction,
         kits: &mut K,
     ) -> Result<(), AllocError>
-        requires room { place.index + 1 < 2 ^ 64 }
+        requires room { position.index + 1 < 2 ^ 64 }
         requires running { self.old.phase ≡ Phase.Running }
         requires supplied { IsSuppliedBy K.KitSource setting kits.old self.old }
-        ensures performed { OnOk result (HoldsBy (K.lacks kits.old) (GivesNone K.gives kits.old)
-            (λ kit. self.new ≡ performed (lent setting.entry) kit place instruction.now.number instruction.now.operation self.old)) }
+        ensures performed { OnOk result (HoldsFor K.KitSource kits.old
+            (λ kit. self.new ≡ performed (lent setting.entry) kit position instruction.now.number instruction.now.operation self.old)) }
         ensures refused { OnErr result (IsValued self.old self.new) }
         ensures kits { KeepsAllKits K.KitSource setting.entry.program.now.kinds kits.old kits.new self.old self.new }
     {
         let number = instruction.number;
         match &instruction.operation {
-            Operation::Bind(name, value) => self.bind(setting.tables, number, place, *name, value),
+            Operation::Bind(name, value) => self.bind(
+                setting.tables,
+                number,
+                position,
+                *name,
+                value,
+            ),
             Operation::Enter(into, way, callee, arguments) => {
                 let arguments = arguments.as_slice();
                 let entrance = Entrance {
                     statement: number,
                     way: *way,
                     into: *into,
-                    work: Work::Block(next_of(place)),
+                    work: Work::Block(next_of(position)),
                     callee: *callee,
                 };
                 self.enter(alloc, setting, entrance, arguments, kits)
             }
-            Operation::Read(name, reducer) => self.read(place, *name, *reducer),
+            Operation::Read(name, reducer) => self.read(position, *name, *reducer),
             Operation::Sync => {
-                self.sync(place);
+                self.sync(position);
                 Ok(())
             }
             Operation::Update(reducer, values) => {
                 let values = values.as_slice();
-                self.update(alloc, setting, number, place, *reducer, values)
+                self.update(alloc, setting, number, position, *reducer, values)
             }
             Operation::If(condition, first, second) => {
-                self.choose(setting.tables, number, place, condition, *first, *second)
+                self.choose(setting.tables, number, position, condition, *first, *second)
             }
             Operation::Loop(_, low, high, _, _, _) => {
-                self.repeat(alloc, setting.tables, number, place, low, high)
+                self.repeat(alloc, setting.tables, number, position, low, high)
             }
             Operation::Return(value) => self.give(setting.tables, number, value),
         }

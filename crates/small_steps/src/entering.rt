@@ -5,7 +5,7 @@ ghost use Rattle.evaluation.specs.Values.{entry_at};
 ghost use Rattle.positions.specs.Activations.{WorkFits};
 ghost use Rattle.positions.specs.Advance.{evaluated, called};
 ghost use Rattle.activations.specs.Given.{lent};
-ghost use Rattle.small_steps.specs.Steps.{GivesNone, HoldsBy, IsSuppliedBy, IsValued, KeepsAllKits, nested_plain};
+ghost use Rattle.small_steps.specs.Steps.{HoldsFor, IsSuppliedBy, IsValued, KeepsAllKits, nested_plain};
 
 use crate::machine::Machine;
 use crate::remembering::Entrance;
@@ -33,7 +33,7 @@ impl<V: View> Machine<V> {
         requires fits { WorkFits entrance.work }
         requires running { self.old.phase ≡ Phase.Running }
         requires supplied { IsSuppliedBy K.KitSource setting kits.old self.old }
-        ensures called { OnOk result (HoldsBy (K.lacks kits.old) (GivesNone K.gives kits.old)
+        ensures called { OnOk result (HoldsFor K.KitSource kits.old
             (λ kit. self.new ≡ called (lent setting.entry) kit entrance.statement entrance.way entrance.into entrance.work entrance.callee
             (map plain arguments.now) self.old.top.slots self.old)) }
         ensures refused { OnErr result (IsValued self.old self.new) }

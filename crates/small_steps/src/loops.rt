@@ -8,7 +8,7 @@ ghost use Rattle.positions.specs.Advance.{evaluated, looping, split, halved, sec
 ghost use Rattle.activations.specs.Given.{lent, loop_of};
 ghost use Rattle.small_steps.specs.Ends.{Evaluates, TakesNumber};
 ghost use Rattle.layers.specs.Ends.{HasNoted};
-ghost use Rattle.small_steps.specs.Steps.{GivesNone, HoldsBy, IsSuppliedBy, IsValued, KeepsAllKits, nested_plain};
+ghost use Rattle.small_steps.specs.Steps.{HoldsFor, IsSuppliedBy, IsValued, KeepsAllKits, nested_plain};
 
 use crate::machine::Machine;
 use crate::remembering::Entrance;
@@ -53,18 +53,18 @@ impl<V: View> Machine<V> {
         alloc: Global,
         tables: &Tables,
         statement: u32,
-        place: Position,
+        position: Position,
         low: &Expression,
         high: &Expression,
     ) -> Result<(), AllocError>
-        requires room { place.index + 1 < 2 ^ 64 }
+        requires room { position.index + 1 < 2 ^ 64 }
         ensures looped { OnOk result (self.new ≡ evaluated statement
-            (bounds_at tables.now.tables self.old.top.slots (plain low.now) (plain high.now)) (looping place) self.old) }
+            (bounds_at tables.now.tables self.old.top.slots (plain low.now) (plain high.now)) (looping position) self.old) }
         ensures unchanged { OnErr result (self.new ≡ self.old) }
     {
         let before = self.layer.readings();
         match self.bounds(tables, statement, low, high)? {
-            Some(range) => match self.push_loop(alloc, place, range) {
+            Some(range) => match self.push_loop(alloc, position, range) {
                 Ok(()) => Ok(()),
                 Err(AllocError) => {
                     self.forget(before);
@@ -79,18 +79,18 @@ impl<V: View> Machine<V> {
     fn push_loop(
         &mut self,
         alloc: Global,
-        place: Position,
+        position: Position,
         range: LoopRange,
     ) -> Result<(), AllocError>
-        requires room { place.index + 1 < 2 ^ 64 }
-        ensures looped { OnOk result (self.new ≡ looping place (range.low, range.count) self.old) }
+        requires room { position.index + 1 < 2 ^ 64 }
+        ensures looped { OnOk result (self.new ≡ looping position (range.low, range.count) self.old) }
         ensures unchanged { OnErr result (self.new ≡ self.old) }
     {
         let room = self.spares.slots(alloc);
         let slots = self.top.copied_slots(room)?;
         let site = Loop {
-            block: place.block,
-            index: place.index,
+            block: position.block,
+            index: position.index,
             low: range.low,
         };
         let whole = Share {
@@ -101,7 +101,7 @@ impl<V: View> Machine<V> {
         let procedure = self.top.procedure();
         let places = self.spares.places(alloc);
         let child = Activation::new(procedure, slots, places, work, self.top.left());
-        self.push_called(child, Work::Block(next_of(place)), None, Phase::Running)
+        self.push_called(child, Work::Block(next_of(position)), None, Phase::Running)
     }
 
     /// Spawns the first half of the iterations, or goes over to iterations one by one.
@@ -190,7 +190,7 @@ impl<V: View> Machine<V> {
         requires fits { ShareFits site share }
         requires running { self.old.phase ≡ Phase.Running }
         requires supplied { IsSuppliedBy K.KitSource setting kits.old self.old }
-        ensures turned { OnOk result (HoldsBy (K.lacks kits.old) (GivesNone K.gives kits.old)
+        ensures turned { OnOk result (HoldsFor K.KitSource kits.old
             (λ kit. self.new ≡ turned (lent setting.entry) kit site share self.old)) }
         ensures refused { OnErr result (IsValued self.old self.new) }
         ensures kits { KeepsAllKits K.KitSource setting.entry.program.now.kinds kits.old kits.new self.old self.new }
@@ -217,7 +217,7 @@ impl<V: View> Machine<V> {
         requires more { 0 < turns.share.count }
         requires running { self.old.phase ≡ Phase.Running }
         requires supplied { IsSuppliedBy K.KitSource setting kits.old self.old }
-        ensures turned { OnOk result (HoldsBy (K.lacks kits.old) (GivesNone K.gives kits.old)
+        ensures turned { OnOk result (HoldsFor K.KitSource kits.old
             (λ kit. self.new ≡ turn_by (lent setting.entry) kit (loop_of code.entry) turns.site turns.share self.old)) }
         ensures refused { OnErr result (IsValued self.old self.new) }
         ensures kits { KeepsAllKits K.KitSource setting.entry.program.now.kinds kits.old kits.new self.old self.new }
@@ -283,7 +283,7 @@ impl<V: View> Machine<V> {
         requires running { self.old.phase ≡ Phase.Running }
         requires memo { memo_of setting.program.now.codes code.callee ≡ true }
         requires supplied { IsSuppliedBy K.KitSource setting kits.old self.old }
-        ensures turned { OnOk result (HoldsBy (K.lacks kits.old) (GivesNone K.gives kits.old)
+        ensures turned { OnOk result (HoldsFor K.KitSource kits.old
             (λ kit. self.new ≡ evaluated code.entry.number
             (values_at setting.entry.tables.now.tables (turn_slots (loop_of code.entry) turns.site turns.share self.old)
             (map plain code.entry.arguments.now)) (nested_memo (lent setting.entry) kit code.entry.number Way.Call None
@@ -312,7 +312,7 @@ impl<V: View> Machine<V> {
         requires running { self.old.phase ≡ Phase.Running }
         requires memo { memo_of setting.program.now.codes code.callee ≡ true }
         requires supplied { IsSuppliedBy K.KitSource setting kits.old self.old }
-        ensures turned { OnOk result (HoldsBy (K.lacks kits.old) (GivesNone K.gives kits.old)
+        ensures turned { OnOk result (HoldsFor K.KitSource kits.old
             (λ kit. self.new ≡ evaluated code.entry.number
             (values_at setting.entry.tables.now.tables (turn_slots (loop_of code.entry) turns.site turns.share self.old)
             (map plain code.entry.arguments.now)) (nested_memo (lent setting.entry) kit code.entry.number Way.Call None
@@ -366,7 +366,7 @@ impl<V: View> Machine<V> {
         self.turn_values_by(tables, code, turns, numbers)
     }
 
-    /// The same by the values of the expressions.
+    /// The arguments of the next iteration, by the values of the expressions.
     #[inline(never)]
     fn turn_values_by(
         &mut self,
@@ -405,7 +405,7 @@ impl<V: View> Machine<V> {
         ensures notes { HasNoted (λ u. numbers.new.items)
             (values_at tables.now.tables (slice_set self.old.top.slots variable number) (map plain arguments.now))
             self.old.layer self.new.layer result }
-        ensures rest { self.new ≡ record self.old { layer = self.new.layer } }
+        ensures others { self.new ≡ record self.old { layer = self.new.layer } }
     {
         let held = self.top.exchange(variable, number);
         let outcome = self
@@ -454,7 +454,7 @@ impl<V: View> Machine<V> {
     ) -> Result<Vec<Slot>, Stop>
         ensures notes { HasNoted (λ v. v.items) (entry_at tables.now.tables (slice_set self.old.top.slots variable number) size
             (map plain arguments.now)) self.old.layer self.new.layer result }
-        ensures rest { self.new ≡ record self.old { layer = self.new.layer } }
+        ensures others { self.new ≡ record self.old { layer = self.new.layer } }
     {
         let room = self.spares.slots(alloc);
         let held = self.top.exchange(variable, number);

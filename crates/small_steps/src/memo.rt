@@ -5,7 +5,7 @@ ghost use Rattle.monoid_laws.specs.Kinds.{IsMonoid};
 ghost use Rattle.rerun_records.specs.Named.{AreValuesFrom, HaveValues};
 ghost use Rattle.positions.specs.Advance.{reused, passed, opened_of, answer_for, recalled, started, closed, synced};
 ghost use Rattle.activations.specs.Given.{lent};
-ghost use Rattle.small_steps.specs.Steps.{GivesNone, HoldsBy, IsSuppliedBy, IsValued, KeepsAllKits, opened_in, revalued};
+ghost use Rattle.small_steps.specs.Steps.{GivesNone, HoldsFor, IsSuppliedBy, IsValued, KeepsAllKits, opened_in, revalued};
 
 use crate::machine::Machine;
 use activations::setting::Setting;
@@ -30,7 +30,7 @@ impl<V: View> Machine<V> {
     ) -> Result<(), AllocError>
         requires entering { self.old.phase ≡ Phase.Entering }
         requires supplied { IsSuppliedBy K.KitSource setting kits.old self.old }
-        ensures started { OnOk result (HoldsBy (K.lacks kits.old) (GivesNone K.gives kits.old)
+        ensures started { OnOk result (HoldsFor K.KitSource kits.old
             (λ kit. self.new ≡ started (lent setting.entry) kit self.old)) }
         ensures refused { OnErr result (IsValued self.old self.new) }
         ensures kits { KeepsAllKits K.KitSource setting.entry.program.now.kinds kits.old kits.new self.old self.new }
@@ -61,7 +61,7 @@ impl<V: View> Machine<V> {
     ) -> Result<(), AllocError>
         requires entering { self.old.phase ≡ Phase.Entering }
         requires supplied { IsSuppliedBy K.KitSource setting kits.old self.old }
-        ensures recalled { OnOk result (HoldsBy (K.lacks kits.old) (GivesNone K.gives kits.old)
+        ensures recalled { OnOk result (HoldsFor K.KitSource kits.old
             (λ kit. self.new ≡ recalled (lent setting.entry) kit (answer_for (lent setting.entry) self.old) self.old)) }
         ensures refused { OnErr result (IsValued self.old self.new) }
         ensures kits { KeepsAllKits K.KitSource setting.entry.program.now.kinds kits.old kits.new self.old self.new }

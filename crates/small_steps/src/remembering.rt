@@ -6,7 +6,7 @@ ghost use Rattle.evaluation.specs.Values.{values_at};
 ghost use Rattle.positions.specs.Activations.{WorkFits};
 ghost use Rattle.positions.specs.Advance.{answer_for, evaluated, nested, nested_memo, pushed, recalled};
 ghost use Rattle.activations.specs.Given.{lent};
-ghost use Rattle.small_steps.specs.Steps.{GivesNone, HoldsBy, IsSuppliedBy, IsValued, KeepsAllKits, took_back};
+ghost use Rattle.small_steps.specs.Steps.{HoldsFor, IsSuppliedBy, IsValued, KeepsAllKits, took_back};
 
 use crate::machine::Machine;
 use activations::activation::{Activation, FIRST, Waiting};
@@ -61,7 +61,7 @@ impl<V: View> Machine<V> {
         requires running { self.old.phase ≡ Phase.Running }
         requires memo { memo_of setting.program.now.codes entrance.callee ≡ true }
         requires supplied { IsSuppliedBy K.KitSource setting kits.old self.old }
-        ensures entered { OnOk result (HoldsBy (K.lacks kits.old) (GivesNone K.gives kits.old)
+        ensures entered { OnOk result (HoldsFor K.KitSource kits.old
             (λ kit. self.new ≡ evaluated entrance.statement
             (values_at setting.entry.tables.now.tables self.old.top.slots (map plain arguments.now))
             (nested_memo (lent setting.entry) kit entrance.statement entrance.way entrance.into entrance.work entrance.callee)
@@ -89,7 +89,7 @@ impl<V: View> Machine<V> {
         requires running { self.old.phase ≡ Phase.Running }
         requires memo { memo_of setting.program.now.codes entrance.callee ≡ true }
         requires supplied { IsSuppliedBy K.KitSource setting kits.old self.old }
-        ensures entered { OnOk result (HoldsBy (K.lacks kits.old) (GivesNone K.gives kits.old)
+        ensures entered { OnOk result (HoldsFor K.KitSource kits.old
             (λ kit. self.new ≡ evaluated entrance.statement
             (values_at setting.entry.tables.now.tables self.old.top.slots (map plain arguments.now))
             (nested_memo (lent setting.entry) kit entrance.statement entrance.way entrance.into entrance.work entrance.callee)
@@ -124,7 +124,7 @@ impl<V: View> Machine<V> {
         requires running { self.old.phase ≡ Phase.Running }
         requires memo { memo_of setting.program.now.codes entrance.callee ≡ true }
         requires supplied { IsSuppliedBy K.KitSource setting kits.old self.old }
-        ensures nested { OnOk result (HoldsBy (K.lacks kits.old) (GivesNone K.gives kits.old)
+        ensures nested { OnOk result (HoldsFor K.KitSource kits.old
             (λ kit. self.new ≡ nested_memo (lent setting.entry)
             kit entrance.statement entrance.way entrance.into entrance.work entrance.callee numbers.old.items self.old)) }
         ensures refused { OnErr result (IsValued self.old self.new) }
@@ -156,7 +156,7 @@ impl<V: View> Machine<V> {
         requires running { self.old.phase ≡ Phase.Running }
         requires memo { memo_of setting.program.now.codes entrance.callee ≡ true }
         requires supplied { IsSuppliedBy K.KitSource setting kits.old self.old }
-        ensures nested { OnOk result (HoldsBy (K.lacks kits.old) (GivesNone K.gives kits.old)
+        ensures nested { OnOk result (HoldsFor K.KitSource kits.old
             (λ kit. self.new ≡ nested (lent setting.entry)
             kit entrance.statement entrance.way entrance.into entrance.work entrance.callee slots.items self.old)) }
         ensures refused { OnErr result (IsValued self.old self.new) }
@@ -188,7 +188,7 @@ impl<V: View> Machine<V> {
         requires fits { WorkFits entrance.work }
         requires running { self.old.phase ≡ Phase.Running }
         requires supplied { IsSuppliedBy K.KitSource setting kits.old self.old }
-        ensures recalled { OnOk result (HoldsBy (K.lacks kits.old) (GivesNone K.gives kits.old)
+        ensures recalled { OnOk result (HoldsFor K.KitSource kits.old
             (λ kit. self.new ≡ recalled (lent setting.entry) kit
             (answer_for (lent setting.entry) (pushed child false entrance.into entrance.work Phase.Entering self.old))
             (pushed child false entrance.into entrance.work Phase.Entering self.old))) }

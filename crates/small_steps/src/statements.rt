@@ -21,21 +21,21 @@ use std::alloc::{AllocError, Global};
 use view_pool::View;
 
 impl<V: View> Machine<V> {
-    /// Goes on behind the instruction at that place.
-    pub(crate) fn pass(&mut self, place: Position)
-        requires room { place.index + 1 < 2 ^ 64 }
-        ensures passed { self.new ≡ moved_on place self.old }
+    /// Goes on behind the instruction at that position.
+    pub(crate) fn pass(&mut self, position: Position)
+        requires room { position.index + 1 < 2 ^ 64 }
+        ensures passed { self.new ≡ moved_on position self.old }
     {
-        self.top.set_work(Work::Block(next_of(place)));
+        self.top.set_work(Work::Block(next_of(position)));
     }
 
-    /// Puts a value into a slot, and goes on behind the instruction at that place.
-    pub(crate) fn set(&mut self, place: Position, name: usize, value: i64)
-        requires room { place.index + 1 < 2 ^ 64 }
-        ensures set { self.new ≡ binding place name value self.old }
+    /// Puts a value into a slot, and goes on behind the instruction at that position.
+    pub(crate) fn set(&mut self, position: Position, name: usize, value: i64)
+        requires room { position.index + 1 < 2 ^ 64 }
+        ensures set { self.new ≡ binding position name value self.old }
     {
         self.top.bind(Some(name), Slot::Has(value));
-        self.top.set_work(Work::Block(next_of(place)));
+        self.top.set_work(Work::Block(next_of(position)));
     }
 
     /// Puts the value of an expression into a slot, or is faulted at that statement.
@@ -43,17 +43,17 @@ impl<V: View> Machine<V> {
         &mut self,
         tables: &Tables,
         statement: u32,
-        place: Position,
+        position: Position,
         name: usize,
         expression: &Expression,
     ) -> Result<(), AllocError>
-        requires room { place.index + 1 < 2 ^ 64 }
+        requires room { position.index + 1 < 2 ^ 64 }
         ensures bound { OnOk result (self.new ≡ evaluated statement (value_at tables.now.tables self.old.top.slots (plain expression.now))
-            (binding place name) self.old) }
+            (binding position name) self.old) }
         ensures unchanged { OnErr result (self.new ≡ self.old) }
     {
         match self.value(tables, statement, expression)? {
-            Some(value) => self.set(place, name, value),
+            Some(value) => self.set(position, name, value),
             None => {}
         }
         Ok(())
@@ -72,26 +72,26 @@ impl<V: View> Machine<V> {
     /// Puts the number of a reducer's value into a slot; refused for want of memory alone.
     pub(crate) fn read(
         &mut self,
-        place: Position,
+        position: Position,
         name: usize,
         reducer: usize,
     ) -> Result<(), AllocError>
-        requires room { place.index + 1 < 2 ^ 64 }
-        ensures read { OnOk result (self.new ≡ binding place name (reading reducer self.old) self.old) }
+        requires room { position.index + 1 < 2 ^ 64 }
+        ensures read { OnOk result (self.new ≡ binding position name (reading reducer self.old) self.old) }
         ensures unchanged { OnErr result (self.new ≡ self.old) }
     {
         let value = self.lowest().number(reducer)?;
-        self.set(place, name, value);
+        self.set(position, name, value);
         Ok(())
     }
 
     /// Passes a sync, but not in the instance in which the strand begins.
-    pub(crate) fn sync(&mut self, place: Position)
-        requires room { place.index + 1 < 2 ^ 64 }
-        ensures synced { self.new ≡ (if is_entry self.old then self.old else moved_on place self.old) }
+    pub(crate) fn sync(&mut self, position: Position)
+        requires room { position.index + 1 < 2 ^ 64 }
+        ensures synced { self.new ≡ (if is_entry self.old then self.old else moved_on position self.old) }
     {
         if !self.is_entry() {
-            self.pass(place);
+            self.pass(position);
         }
     }
 
@@ -100,21 +100,21 @@ impl<V: View> Machine<V> {
         &mut self,
         tables: &Tables,
         statement: u32,
-        place: Position,
+        position: Position,
         condition: &Expression,
         first: usize,
         second: usize,
     ) -> Result<(), AllocError>
-        requires room { place.index + 1 < 2 ^ 64 }
+        requires room { position.index + 1 < 2 ^ 64 }
         ensures chosen { OnOk result (self.new ≡ evaluated statement (value_at tables.now.tables self.old.top.slots (plain condition.now))
-            (choosing place first second) self.old) }
+            (choosing position first second) self.old) }
         ensures unchanged { OnErr result (self.new ≡ self.old) }
     {
         let before = self.layer.readings();
         match self.value(tables, statement, condition)? {
             Some(value) => {
                 let block = if value == 0 { second } else { first };
-                match self.top.go_inside(block, place) {
+                match self.top.go_inside(block, position) {
                     Ok(()) => Ok(()),
                     Err(AllocError) => {
                         self.forget(before);

@@ -23,22 +23,22 @@ impl<V: View> Machine<V> {
         alloc: Global,
         setting: Setting<'_>,
         statement: u32,
-        place: Position,
+        position: Position,
         reducer: usize,
         expressions: &[Expression],
     ) -> Result<(), AllocError>
-        requires room { place.index + 1 < 2 ^ 64 }
+        requires room { position.index + 1 < 2 ^ 64 }
         requires kinds { self.old.layer.kinds ≡ setting.program.now.kinds }
         ensures updated { OnOk result (self.new ≡ evaluated statement
             (values_at setting.entry.tables.now.tables self.old.top.slots (map plain expressions.now))
-            (combining (slice_get setting.entry.program.now.kinds reducer) statement place reducer) self.old) }
+            (combining (slice_get setting.entry.program.now.kinds reducer) statement position reducer) self.old) }
         ensures unchanged { OnErr result (self.new ≡ self.old) }
     {
         let mut numbers = mem::replace(&mut self.numbers, Vec::new(alloc));
         let outcome = self.update_by(
             setting,
             statement,
-            place,
+            position,
             reducer,
             expressions,
             &mut numbers,
@@ -52,21 +52,21 @@ impl<V: View> Machine<V> {
         &mut self,
         setting: Setting<'_>,
         statement: u32,
-        place: Position,
+        position: Position,
         reducer: usize,
         expressions: &[Expression],
         numbers: &mut Vec<i64>,
     ) -> Result<(), AllocError>
-        requires room { place.index + 1 < 2 ^ 64 }
+        requires room { position.index + 1 < 2 ^ 64 }
         requires kinds { self.old.layer.kinds ≡ setting.program.now.kinds }
         ensures updated { OnOk result (self.new ≡ evaluated statement
             (values_at setting.entry.tables.now.tables self.old.top.slots (map plain expressions.now))
-            (combining (slice_get setting.entry.program.now.kinds reducer) statement place reducer) self.old) }
+            (combining (slice_get setting.entry.program.now.kinds reducer) statement position reducer) self.old) }
         ensures unchanged { OnErr result (self.new ≡ self.old) }
     {
         let before = self.layer.readings();
         match self.values(setting.tables, statement, expressions, numbers)? {
-            Some(()) => match self.combine(setting.program, statement, place, reducer, numbers) {
+            Some(()) => match self.combine(setting.program, statement, position, reducer, numbers) {
                 Ok(()) => Ok(()),
                 Err(AllocError) => {
                     self.forget(before);
@@ -82,20 +82,20 @@ impl<V: View> Machine<V> {
         &mut self,
         program: &Checked,
         statement: u32,
-        place: Position,
+        position: Position,
         reducer: usize,
         numbers: &mut Vec<i64>,
     ) -> Result<(), AllocError>
-        requires room { place.index + 1 < 2 ^ 64 }
+        requires room { position.index + 1 < 2 ^ 64 }
         requires kinds { self.old.layer.kinds ≡ program.now.kinds }
-        ensures combined { OnOk result (self.new ≡ combining (slice_get program.now.kinds reducer) statement place reducer numbers.old.items self.old) }
+        ensures combined { OnOk result (self.new ≡ combining (slice_get program.now.kinds reducer) statement position reducer numbers.old.items self.old) }
         ensures unchanged { OnErr result (self.new ≡ self.old) }
     {
         match program.kinds().get(reducer) {
-            None => self.pass(place),
+            None => self.pass(position),
             Some(kind) => {
                 if self.layer.update(kind, reducer, numbers)? {
-                    self.pass(place);
+                    self.pass(position);
                 } else {
                     self.fault(statement, FaultKind::BadElement);
                 }

@@ -11,8 +11,8 @@ use linked_program::violation::{Rule, Violation};
 use meaning::tree::{Declaration, Procedure};
 use single_rules::heads::{note_head, note_reducer};
 use single_rules::lines::LineTable;
+use single_rules::location::{Location, note_if};
 use single_rules::names::parameters_of;
-use single_rules::place::{Place, note_if};
 use single_rules::scope::Scope;
 use single_rules::setting::Setting;
 use std::alloc::{AllocError, Global};
@@ -60,18 +60,18 @@ fn note_declaration(
     let before = &declarations[..number];
     match declaration {
         Declaration::Reducer(reducer) => {
-            let place = Place {
+            let location = Location {
                 declaration: number + 1,
                 line: reducer.line,
             };
-            Ok(note_reducer(first, place, before, reducer))
+            Ok(note_reducer(first, location, before, reducer))
         }
         Declaration::Procedure(procedure) => {
-            let place = Place {
+            let location = Location {
                 declaration: number + 1,
                 line: procedure.line,
             };
-            let first = note_head(first, place, before, procedure);
+            let first = note_head(first, location, before, procedure);
             note_body(alloc, first, declarations, tables, number + 1, procedure)
         }
     }
@@ -81,12 +81,12 @@ fn note_declaration(
 fn note_missing(declarations: &[Declaration]) -> Option<Violation>
     ensures { result ≡ first_of (missing_main (map decl declarations.now)) }
 {
-    let place = Place {
+    let location = Location {
         declaration: 0,
         line: 0,
     };
     let is_missing = parameters_of(declarations, "main").is_none();
-    note_if(None, is_missing, place, Rule::Main)
+    note_if(None, is_missing, location, Rule::Main)
 }
 
 /// The first violation of declarations, by the names of these tables.

@@ -13,7 +13,7 @@ use crate::quiet::is_quiet;
 use linked_program::knowledge::Moment;
 use linked_program::violation::{Rule, Violation};
 use meaning::tree::{Action, Block, Statement};
-use single_rules::place::{Place, note_if};
+use single_rules::location::{Location, note_if};
 use single_rules::scope::Scope;
 use single_rules::setting::Setting;
 use single_rules::statements::note_own;
@@ -87,14 +87,14 @@ fn note_here(
         (deed_rules (plain setting.now) now scope.old (deed (block blocks.now levels) statement.now.action))) }
     ensures after { scope.new ≡ after_own now scope.old (deed (block blocks.now levels) statement.now.action) }
 {
-    let place = Place {
+    let location = Location {
         declaration: setting.declaration,
         line: setting.lines.line_of(statement.number),
     };
     let action = &statement.action;
     let late = is_late(setting, scope, now, blocks, levels, action);
-    let first = note_if(first, late, place, Rule::Read);
-    note_own(setting, first, place, scope, now, action)
+    let first = note_if(first, late, location, Rule::Read);
+    note_own(setting, first, location, scope, now, action)
 }
 
 // The first violation so far or that of a branch, a block of this depth; what is known after it.

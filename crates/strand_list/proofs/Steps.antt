@@ -6,9 +6,9 @@ use Rattle.std.proofs.lemmas.List.{map-append, reverse-append}
 use Rattle.meaning.specs.Every.{every}
 use Rattle.meaning.specs.Outcome.{Place}
 use Rattle.meaning.specs.Strands.{Held, Line, Split, Fold, Book, is_free, may_fold, becomes, splits, folds, if_allowed}
-use Rattle.strand_list.specs.Laying.{rest_step, may_rest, state_as}
-use Rattle.strand_list.specs.declared.rest.Rest.{Rest}
-use Rattle.strand_list.specs.declared.rest.Rest.TheVariants as rest
+use Rattle.strand_list.specs.Laying.{laying_step, may_lay, state_as}
+use Rattle.strand_list.specs.declared.laid_state.LaidState.{LaidState}
+use Rattle.strand_list.specs.declared.laid_state.LaidState.TheVariants as laid_state
 use Rattle.strand_list.specs.Pages.{items_of, is_unused, removes, Apart}
 use Rattle.strand_list.specs.Steps.{Takes, may_split}
 use Rattle.strand_list.proofs.Lists.{folds_apart}
@@ -48,17 +48,17 @@ split_taken b c v n w e f h = taken (may_split b v n w) (splits b.lines v n w) (
 pub split_refused : (b c : Book) (v n : Place) (w : ℕ) → may_split b v n w ≡ false → c ≡ b → Takes b (Split v n w) false c
 split_refused b c v n w e f = (not_taken (may_split b v n w) (splits b.lines v n w) (n ∷ b.split_off) e, f)
 
-pub rest_taken : (b c : Book) (r : Rest) (p : Place) → may_rest r p b.lines ≡ true → c.lines ≡ becomes (state_as r) b.lines p → c.split_off ≡ b.split_off → Takes b (rest_step r p) true c
-rest_taken b c rest.Ended p e f h = taken _ _ _ c e f h
-rest_taken b c rest.Stalled p e f h = taken _ _ _ c e f h
-rest_taken b c rest.Faulted p e f h = taken _ _ _ c e f h
-rest_taken b c rest.Finished p e f h = taken _ _ _ c e f h
+pub laying_taken : (b c : Book) (r : LaidState) (p : Place) → may_lay r p b.lines ≡ true → c.lines ≡ becomes (state_as r) b.lines p → c.split_off ≡ b.split_off → Takes b (laying_step r p) true c
+laying_taken b c laid_state.Ended p e f h = taken _ _ _ c e f h
+laying_taken b c laid_state.Stalled p e f h = taken _ _ _ c e f h
+laying_taken b c laid_state.Faulted p e f h = taken _ _ _ c e f h
+laying_taken b c laid_state.Finished p e f h = taken _ _ _ c e f h
 
-pub rest_refused : (b c : Book) (r : Rest) (p : Place) → may_rest r p b.lines ≡ false → c ≡ b → Takes b (rest_step r p) false c
-rest_refused b c rest.Ended p e f = (not_taken _ _ _ e, f)
-rest_refused b c rest.Stalled p e f = (not_taken _ _ _ e, f)
-rest_refused b c rest.Faulted p e f = (not_taken _ _ _ e, f)
-rest_refused b c rest.Finished p e f = (not_taken _ _ _ e, f)
+pub laying_refused : (b c : Book) (r : LaidState) (p : Place) → may_lay r p b.lines ≡ false → c ≡ b → Takes b (laying_step r p) false c
+laying_refused b c laid_state.Ended p e f = (not_taken _ _ _ e, f)
+laying_refused b c laid_state.Stalled p e f = (not_taken _ _ _ e, f)
+laying_refused b c laid_state.Faulted p e f = (not_taken _ _ _ e, f)
+laying_refused b c laid_state.Finished p e f = (not_taken _ _ _ e, f)
 
 pub fold_taken : (b c : Book) (l r : Place) (w : ℕ) → Apart b.lines → (may_fold b.lines l r && is_free b.lines w) ≡ true → c.lines ≡ becomes (Held w) (removes b.lines r) l → c.split_off ≡ b.split_off → Takes b (Fold l r w) true c
 fold_taken b c l r w a e f h = taken (may_fold b.lines l r && is_free b.lines w) (folds b.lines l r w) b.split_off c e (f ∙ sym (folds_apart l r w b.lines a)) h

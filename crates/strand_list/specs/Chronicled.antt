@@ -2,9 +2,9 @@
 use Rattle.std.specs.Prelude.{◌≡◌, ◌++◌, ℕ, Bool, true, false, List, [], ◌∷◌, Option, Some, None}
 use Rattle.meaning.specs.Outcome.{Place}
 use Rattle.meaning.specs.Strands.{BookStep, Book, Split, first_book, is_held_at, stepped}
-use Rattle.strand_list.specs.Laying.{rest_step}
+use Rattle.strand_list.specs.Laying.{laying_step}
 use Rattle.strand_list.specs.Pages.{has_strand}
-use Rattle.strand_list.specs.declared.rest.Rest.{Rest}
+use Rattle.strand_list.specs.declared.laid_state.LaidState.{LaidState}
 use Rattle.strand_list.specs.declared.error.BookError.{BookError}
 use Rattle.strand_list.specs.declared.error.BookError.TheVariants as error
 
@@ -40,8 +40,10 @@ unless_allowed None = Some error.NotThere
 abbrev pub split_refusal : Book → Place → Place → ℕ → Option BookError
 split_refusal b v n w = unless (has_strand v b.lines) error.NoStrand (unless_allowed (stepped b (Split v n w)))
 
-abbrev pub rest_refusal : Book → Rest → Place → Option BookError
-rest_refusal b r p = unless (has_strand p b.lines) error.NoStrand (unless (is_held_at b.lines p) error.AlreadyLaid (unless_allowed (stepped b (rest_step r p))))
+abbrev pub laying_refusal : Book → LaidState → Place → Option BookError
+laying_refusal b r p =
+    unless (has_strand p b.lines) error.NoStrand
+    (unless (is_held_at b.lines p) error.AlreadyLaid (unless_allowed (stepped b (laying_step r p))))
 
 -- for want of memory, or for that reason
 abbrev pub IsRefusedBy : Option BookError → BookError → Type 0

@@ -4,8 +4,8 @@ ghost use Rattle.numbered_runs.specs.Named.{book_step};
 ghost use Rattle.meaning.specs.Strands.{Split, Fold};
 
 use crate::error::BookError;
+use crate::laid_state::{LaidState, noted};
 use crate::page::Page;
-use crate::rest::{Rest, noted};
 use numbered_runs::step::{BookStep, Place, StrandLine};
 use std::alloc::{AllocError, Global};
 
@@ -49,8 +49,8 @@ impl Chronicle {
     ghost use Rattle.meaning.specs.Strands.{Split, Fold, is_free, may_fold, stepped};
     ghost use Rattle.numbered_runs.specs.Named.{book_step};
     ghost use Rattle.strand_list.specs.Pages.{shown, position, has_strand, are_neighbours, Apart};
-    ghost use Rattle.strand_list.specs.Laying.{rest_step};
-    ghost use Rattle.strand_list.specs.Chronicled.{Took, Notes, IsRefusedBy, first_chronicle, unless_allowed, split_refusal, rest_refusal};
+    ghost use Rattle.strand_list.specs.Laying.{laying_step};
+    ghost use Rattle.strand_list.specs.Chronicled.{Took, Notes, IsRefusedBy, first_chronicle, unless_allowed, split_refusal, laying_refusal};
     ghost use Rattle.strand_list.specs.Chronicles.{told};
 
     /// The first strand, held by worker 0, with no history.
@@ -160,10 +160,10 @@ impl Chronicle {
     }
 
     /// The strand of that place is laid down so.
-    pub fn lay(&mut self, alloc: Global, rest: Rest, place: &[usize]) -> Result<(), BookError>
+    pub fn lay(&mut self, alloc: Global, state: LaidState, place: &[usize]) -> Result<(), BookError>
         requires apart { Apart self.old.page.lines }
-        ensures taken { OnOk result (Took (told self.old) (rest_step rest place.now) (told self.new)) }
-        ensures refused { IfErr result (IsRefusedBy (rest_refusal self.old.page rest place.now)) }
+        ensures taken { OnOk result (Took (told self.old) (laying_step state place.now) (told self.new)) }
+        ensures refused { IfErr result (IsRefusedBy (laying_refusal self.old.page state place.now)) }
         ensures same { OnErr result (told self.new ≡ told self.old) }
     {
         if !self.page.has_strand(place) {
@@ -173,7 +173,7 @@ impl Chronicle {
             return Err(BookError::AlreadyLaid);
         }
         match Vec::from_slice(alloc, place) {
-            Ok(place) => self.take(alloc, noted(rest, place)),
+            Ok(place) => self.take(alloc, noted(state, place)),
             Err(AllocError) => Err(BookError::NoMemory),
         }
     }

@@ -6,7 +6,7 @@ use view_pool::Pool;
 /// Puts a kit among the free ones.
 pub fn give_back<K: Drop>(kit: K, pool: &mut Pool<K>)
     requires room { length pool.old.kits < pool.old.total }
-    ensures given { pool.new.kits ≡ pool.old.kits ++ kit ∷ [] }
+    ensures put { pool.new.kits ≡ pool.old.kits ++ kit ∷ [] }
     ensures total { pool.new.total ≡ pool.old.total }
 {
     let _ = pool.give(kit);

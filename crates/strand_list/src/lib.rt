@@ -5,7 +5,7 @@ pub mod chronicle;
 pub mod error;
 pub mod history;
 pub mod kits;
+pub mod laid_state;
 pub mod lines;
 pub mod page;
-pub mod rest;
 pub mod waiting;

@@ -1,9 +1,9 @@
 //! The list of strands with the places that were split off, and the steps that it allows.
+use crate::laid_state::{LaidState, state_of};
 use crate::lines::{
     are_neighbours, find, has_strand, is_alone, is_free, is_held_at, is_root, is_unused, may_fold,
     put_behind, set_state, take_out,
 };
-use crate::rest::{Rest, state_of};
 use numbered_runs::step::{BookStep, Place, State, StrandLine};
 use std::alloc::{AllocError, Global};
 use std::marker::Model;
@@ -30,7 +30,7 @@ impl Page {
     ghost use Rattle.meaning.specs.Strands.{Held, Split, Fold, first_book, is_free, is_held_at, may_fold, splits};
     ghost use Rattle.numbered_runs.specs.Named.{book_step};
     ghost use Rattle.strand_list.specs.Pages.{shown, position, is_unused, has_strand, are_neighbours, Apart};
-    ghost use Rattle.strand_list.specs.Laying.{rest_step, may_rest};
+    ghost use Rattle.strand_list.specs.Laying.{laying_step, may_lay};
     ghost use Rattle.strand_list.specs.Steps.{Takes, may_split};
 
     /// The first strand, held by worker 0.
@@ -147,25 +147,25 @@ impl Page {
     }
 
     /// Whether the strand of that place may be laid down so.
-    fn may_rest(&self, rest: Rest, place: &[usize]) -> bool
-        ensures may { result ≡ may_rest rest place.now self.now.lines }
+    fn may_lay(&self, state: LaidState, place: &[usize]) -> bool
+        ensures may { result ≡ may_lay state place.now self.now.lines }
     {
         let held = is_held_at(&self.lines, place);
-        match rest {
-            Rest::Ended | Rest::Faulted => held,
-            Rest::Stalled => held && !is_root(place),
-            Rest::Finished => held && is_root(place) && is_alone(&self.lines),
+        match state {
+            LaidState::Ended | LaidState::Faulted => held,
+            LaidState::Stalled => held && !is_root(place),
+            LaidState::Finished => held && is_root(place) && is_alone(&self.lines),
         }
     }
 
     /// The strand of that place is laid down so, where that is allowed.
-    fn lay(&mut self, rest: Rest, place: &[usize]) -> bool
-        ensures taken { Takes self.old (rest_step rest place.now) result self.new }
+    fn lay(&mut self, state: LaidState, place: &[usize]) -> bool
+        ensures taken { Takes self.old (laying_step state place.now) result self.new }
     {
-        if !self.may_rest(rest, place) {
+        if !self.may_lay(state, place) {
             return false;
         }
-        set_state(&mut self.lines, place, state_of(rest));
+        set_state(&mut self.lines, place, state_of(state));
         true
     }
 
@@ -197,10 +197,10 @@ impl Page {
     {
         match step {
             BookStep::Split(victim, new, thief) => self.split(alloc, victim, new, *thief),
-            BookStep::End(place) => Ok(self.lay(Rest::Ended, place)),
-            BookStep::Stall(place) => Ok(self.lay(Rest::Stalled, place)),
-            BookStep::Fault(place) => Ok(self.lay(Rest::Faulted, place)),
-            BookStep::Finish(place) => Ok(self.lay(Rest::Finished, place)),
+            BookStep::End(place) => Ok(self.lay(LaidState::Ended, place)),
+            BookStep::Stall(place) => Ok(self.lay(LaidState::Stalled, place)),
+            BookStep::Fault(place) => Ok(self.lay(LaidState::Faulted, place)),
+            BookStep::Finish(place) => Ok(self.lay(LaidState::Finished, place)),
             BookStep::Fold(left, right, worker) => Ok(self.fold(left, right, *worker)),
         }
     }

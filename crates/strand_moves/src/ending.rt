@@ -17,8 +17,8 @@ pub fn close_upper<V: View, K: KitSource<Kit<V>>>(machine: &mut Machine<V>, kits
     ensures alone { machine.new ≡ lowest_alone machine.old }
     ensures kinds { machine.new.layer.kinds ≡ machine.old.layer.kinds }
     ensures fitting { (k : List Kind) → K.fits k kits.old → K.fits k kits.new }
-    ensures kept { (k : List Kind) → K.gives k kits.new → K.gives k kits.old ⊎ machine.old.layer.kinds ≡ k }
-    ensures given { length machine.old.lower + K.free kits.old ≤ K.total kits.old → K.free kits.new ≡ length machine.old.lower + K.free kits.old }
+    ensures gives_known { (k : List Kind) → K.gives k kits.new → K.gives k kits.old ⊎ machine.old.layer.kinds ≡ k }
+    ensures home { length machine.old.lower + K.free kits.old ≤ K.total kits.old → K.free kits.new ≡ length machine.old.lower + K.free kits.old }
     ensures total { K.total kits.new ≡ K.total kits.old }
 {
     close_all(&mut machine.layer, &mut machine.lower, kits);
@@ -29,8 +29,8 @@ pub fn let_go<V: View, K: KitSource<Kit<V>>>(machine: Machine<V>, kits: &mut K) 
     requires fits { K.fits machine.layer.kinds kits.old }
     ensures records { result.items ≡ machine.tally.made }
     ensures fitting { (k : List Kind) → K.fits k kits.old → K.fits k kits.new }
-    ensures kept { (k : List Kind) → K.gives k kits.new → K.gives k kits.old ⊎ machine.layer.kinds ≡ k }
-    ensures given { K.free kits.old < K.total kits.old → K.free kits.new ≡ suc (K.free kits.old) }
+    ensures gives_known { (k : List Kind) → K.gives k kits.new → K.gives k kits.old ⊎ machine.layer.kinds ≡ k }
+    ensures home { K.free kits.old < K.total kits.old → K.free kits.new ≡ suc (K.free kits.old) }
     ensures total { K.total kits.new ≡ K.total kits.old }
 {
     let Machine {

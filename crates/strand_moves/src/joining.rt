@@ -13,16 +13,16 @@ use std::alloc::AllocError;
 use view_pool::{Kit, View};
 
 /// Gives the value of the child behind which the strand begins to the slots that wait for it.
-fn settle<V: View>(machine: &mut Machine<V>, value: i64)
+fn give_child<V: View>(machine: &mut Machine<V>, value: i64)
     ensures settled { machine.new ≡ settled_by machine.old.start value machine.old }
 {
     if let Start::Behind { depth, child } = machine.start {
         let above = machine.path.len().saturating_sub(depth);
         if above == 0 {
-            machine.top.settle(child, value);
+            machine.top.give_child(child, value);
         } else if above <= machine.below.len() {
             let place = machine.below.len() - above;
-            machine.below[place].settle(child, value);
+            machine.below[place].give_child(child, value);
         }
     }
 }
@@ -106,7 +106,7 @@ fn join_ended<V: View>(
         .join(&mut right.tally, &mut machine.layer, &mut right.layer)
     {
         Ok(()) => {
-            settle(&mut right, value);
+            give_child(&mut right, value);
             Ok(go_on_as(machine, right))
         }
         Err(error) => Err((error, right)),

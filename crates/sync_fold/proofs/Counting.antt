@@ -10,9 +10,9 @@ use Rattle.positions.specs.Moves.{joined, joined_at, joined_after}
 use Rattle.positions.specs.Strands.{PlainStrand}
 use Rattle.right_strands.specs.Laid.{PlainPiece}
 use Rattle.right_strands.specs.Pairs.{PlainPair}
-use Rattle.strand_list.specs.declared.rest.Rest.{Rest}
-use Rattle.strand_list.specs.declared.rest.Rest.TheVariants as rest
-use Rattle.strand_list.specs.Laying.{state_as, rest_step}
+use Rattle.strand_list.specs.declared.laid_state.LaidState.{LaidState}
+use Rattle.strand_list.specs.declared.laid_state.LaidState.TheVariants as laid_state
+use Rattle.strand_list.specs.Laying.{state_as, laying_step}
 use Rattle.strand_list.specs.Pages.{position}
 use Rattle.strand_list.specs.Chronicled.{PlainChronicle, Took}
 use Rattle.sync_fold.specs.Books.{PlainLaid, FitsLine, Fits, IsBook, ArePair, IsPairOf, BeginWithPair, ends_alone, folded}
@@ -33,16 +33,16 @@ split_counts k ds es e = subst (HoldsMore ds) (sym e) (held_inserted k ds)
 
 -- ---- a strand that is laid down
 
-never_held : (r : Rest) (w : State) → w ≡ state_as r → is_held w ≡ true → ⊥
-never_held rest.Ended w e h = cc
-never_held rest.Stalled w e h = cc
-never_held rest.Faulted w e h = cc
-never_held rest.Finished w e h = cc
+never_held : (r : LaidState) (w : State) → w ≡ state_as r → is_held w ≡ true → ⊥
+never_held laid_state.Ended w e h = cc
+never_held laid_state.Stalled w e h = cc
+never_held laid_state.Faulted w e h = cc
+never_held laid_state.Finished w e h = cc
 
 -- nothing is kept of the strand of a line that a worker holds
 held_line : (p : Place) (s : State) (d : PlainLaid) → FitsLine (p, s) d → is_held s ≡ true → d ≡ Nothing
 held_line p s Nothing f h = refl
-held_line p s (Whole q) f h = absurd (never_held q.rest s f.0 h)
+held_line p s (Whole q) f h = absurd (never_held q.state s f.0 h)
 held_line p s (Half q r) f h = absurd (never_held r s f.0 h)
 held_line p s (Paired r) f h = absurd (never_held r s f h)
 
@@ -72,18 +72,18 @@ if_held : (g : Bool) (ls : List Line) (used : List Place) (c : Book) → if_allo
 if_held true ls used c e = refl
 if_held false ls used c e = absurd cc
 
-rest_held : (b c : Book) (r : Rest) (p : Place) → stepped b (rest_step r p) ≡ Some c → is_held_at b.lines p ≡ true
-rest_held b c rest.Ended p e = if_held (is_held_at b.lines p) (becomes Ended b.lines p) b.split_off c e
-rest_held b c rest.Faulted p e = if_held (is_held_at b.lines p) (becomes Faulted b.lines p) b.split_off c e
-rest_held b c rest.Stalled p e =
+laying_held : (b c : Book) (r : LaidState) (p : Place) → stepped b (laying_step r p) ≡ Some c → is_held_at b.lines p ≡ true
+laying_held b c laid_state.Ended p e = if_held (is_held_at b.lines p) (becomes Ended b.lines p) b.split_off c e
+laying_held b c laid_state.Faulted p e = if_held (is_held_at b.lines p) (becomes Faulted b.lines p) b.split_off c e
+laying_held b c laid_state.Stalled p e =
     (both_are (is_held_at b.lines p) _ (if_held (is_held_at b.lines p && not (is_root p)) (becomes Stalled b.lines p) b.split_off c e)).0
-rest_held b c rest.Finished p e =
+laying_held b c laid_state.Finished p e =
     (both_are (is_held_at b.lines p) (is_root p) (both_are (is_held_at b.lines p && is_root p) (is_alone b.lines) (if_held (is_held_at b.lines p && is_root p && is_alone b.lines) (becomes Finished b.lines p) b.split_off c e)).0).0
 
-pub lay_counts : (b c : PlainChronicle) (ds es : List PlainLaid) (r : Rest) (p : Place) (q : PlainPiece) (k : ℕ) → IsBook b ds → Took b (rest_step r p) c → k ≡ position p b.page.lines → es ≡ slice_set ds k (Whole q)
+pub lay_counts : (b c : PlainChronicle) (ds es : List PlainLaid) (r : LaidState) (p : Place) (q : PlainPiece) (k : ℕ) → IsBook b ds → Took b (laying_step r p) c → k ≡ position p b.page.lines → es ≡ slice_set ds k (Whole q)
     → LaysDown q.strand ds es
 lay_counts b c ds es r p q k h t at e =
-    subst (LaysDown q.strand ds) (sym (e ∙ ap (λ k. slice_set ds k (Whole q)) at)) (set_counts p q b.page.lines ds (rest_held b.page c.page r p t.allowed) h.fits)
+    subst (LaysDown q.strand ds) (sym (e ∙ ap (λ k. slice_set ds k (Whole q)) at)) (set_counts p q b.page.lines ds (laying_held b.page c.page r p t.allowed) h.fits)
 
 -- ---- a fold
 

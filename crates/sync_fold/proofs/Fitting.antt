@@ -10,13 +10,13 @@ use Rattle.positions.specs.Simulation.{place_of}
 use Rattle.positions.specs.Strands.{PlainStrand}
 use Rattle.right_strands.specs.Laid.{PlainPiece, ends_as}
 use Rattle.right_strands.specs.Pairs.{PlainPair, IsStill, is_over, is_waiting}
-use Rattle.strand_list.specs.declared.rest.Rest.{Rest}
-use Rattle.strand_list.specs.declared.rest.Rest.TheVariants as rest
+use Rattle.strand_list.specs.declared.laid_state.LaidState.{LaidState}
+use Rattle.strand_list.specs.declared.laid_state.LaidState.TheVariants as laid_state
 use Rattle.strand_list.specs.Laying.{state_as}
 use Rattle.strand_list.specs.Pages.{position, removes, Apart, is_pair, begins_pair, begins_with}
 use Rattle.strand_list.specs.Replays.{LeavesRootAlone}
 use Rattle.strand_list.specs.Chronicled.{PlainChronicle}
-use Rattle.sync_fold.specs.Books.{PlainLaid, FitsLine, Fits, IsBook, may_be_one, may_touch, RestsAs, ArePair, BeginWithPair, IsPairOf, IsMadeOf, BeginAsPair, BeginAt, folded, halved, IsHalved, ends_alone}
+use Rattle.sync_fold.specs.Books.{PlainLaid, FitsLine, Fits, IsBook, may_be_one, may_touch, LiesAs, ArePair, BeginWithPair, IsPairOf, IsMadeOf, BeginAsPair, BeginAt, folded, halved, IsHalved, ends_alone}
 use Rattle.sync_fold.specs.declared.laid.Laid.TheVariants.{Nothing, Whole, Half, Paired}
 
 -- ---- lengths, and what is left behind a line
@@ -147,23 +147,23 @@ held_not_waits Stalled e f = cc
 held_not_waits Faulted e f = cc
 held_not_waits Finished e f = cc
 
-over_done : (r : Rest) → is_over r ≡ done (state_as r)
-over_done rest.Ended = refl
-over_done rest.Stalled = refl
-over_done rest.Faulted = refl
-over_done rest.Finished = refl
+over_done : (r : LaidState) → is_over r ≡ done (state_as r)
+over_done laid_state.Ended = refl
+over_done laid_state.Stalled = refl
+over_done laid_state.Faulted = refl
+over_done laid_state.Finished = refl
 
-waiting_waits : (r : Rest) → is_waiting r ≡ waits (state_as r)
-waiting_waits rest.Ended = refl
-waiting_waits rest.Stalled = refl
-waiting_waits rest.Faulted = refl
-waiting_waits rest.Finished = refl
+waiting_waits : (r : LaidState) → is_waiting r ≡ waits (state_as r)
+waiting_waits laid_state.Ended = refl
+waiting_waits laid_state.Stalled = refl
+waiting_waits laid_state.Faulted = refl
+waiting_waits laid_state.Finished = refl
 
 -- two neighbours of which the list says that they may be folded
 are_pair : (x y : Line) (d e : PlainLaid) → FitsLine x d → FitsLine y e → done x.1 ≡ true → waits y.1 ≡ true → may_be_one d e ≡ true → ArePair d e
 are_pair x y Nothing e f g a b m = absurd (held_not_done x.1 f a)
 are_pair x y (Whole p) Nothing f g a b m = absurd (held_not_waits y.1 g b)
-are_pair x y (Whole p) (Whole q) f g a b m = (over_done p.rest ∙ ap done (sym f.0) ∙ a, waiting_waits q.rest ∙ ap waits (sym g.0) ∙ b, m)
+are_pair x y (Whole p) (Whole q) f g a b m = (over_done p.state ∙ ap done (sym f.0) ∙ a, waiting_waits q.state ∙ ap waits (sym g.0) ∙ b, m)
 are_pair x y (Whole p) (Half q r) f g a b m = absurd cc
 are_pair x y (Whole p) (Paired r) f g a b m = absurd cc
 are_pair x y (Half q r) Nothing f g a b m = absurd (held_not_waits y.1 g b)
@@ -200,11 +200,11 @@ pair_within zero (d ∷ e ∷ ds) h = omega arith
 pair_within (suc k) [] h = absurd h
 pair_within (suc k) (d ∷ ds) h = let i = pair_within k ds h in omega arith
 
-rests_fit : (p : Place) (s : State) (d : PlainLaid) (r : Rest) → FitsLine (p, s) d → RestsAs d r → s ≡ state_as r
-rests_fit p s Nothing r f e = absurd e
-rests_fit p s (Whole q) r f e = f.0 ∙ ap state_as (sym e)
-rests_fit p s (Half q t) r f e = f.0 ∙ ap state_as (sym e)
-rests_fit p s (Paired t) r f e = f ∙ ap state_as (sym e)
+lies_fitting : (p : Place) (s : State) (d : PlainLaid) (r : LaidState) → FitsLine (p, s) d → LiesAs d r → s ≡ state_as r
+lies_fitting p s Nothing r f e = absurd e
+lies_fitting p s (Whole q) r f e = f.0 ∙ ap state_as (sym e)
+lies_fitting p s (Half q t) r f e = f.0 ∙ ap state_as (sym e)
+lies_fitting p s (Paired t) r f e = f ∙ ap state_as (sym e)
 
 -- a pair is at the place of its left strand
 made_fits : (x : Line) (d e : PlainLaid) (pair : PlainPair) → FitsLine x d → IsMadeOf d e pair → place_of pair.left.start pair.left.path ≡ x.0
@@ -217,7 +217,7 @@ made_fits x (Half q r) e pair f m = ap (λ (s : PlainStrand). place_of s.start s
 made_fits x (Paired r) e pair f m = absurd m
 
 -- a fold that was refused
-pub fits_halved : (k : ℕ) (pair : PlainPair) (over waiting : Rest) (ls : List Line) (ds : List PlainLaid) → BeginAt (drop k ds) over waiting → BeginAsPair (drop k ds) pair → Fits ls ds → Fits ls (halved k pair over waiting ds)
+pub fits_halved : (k : ℕ) (pair : PlainPair) (over waiting : LaidState) (ls : List Line) (ds : List PlainLaid) → BeginAt (drop k ds) over waiting → BeginAsPair (drop k ds) pair → Fits ls ds → Fits ls (halved k pair over waiting ds)
 fits_halved zero pair over waiting [] ds b m h = fits_none ds b h
   where
     fits_none : (ds : List PlainLaid) → BeginAt ds over waiting → Fits [] ds → Fits [] (halved 0 pair over waiting ds)
@@ -226,7 +226,7 @@ fits_halved zero pair over waiting [] ds b m h = fits_none ds b h
 fits_halved zero pair over waiting (x ∷ ls) [] b m h = absurd h
 fits_halved zero pair over waiting (x ∷ ls) (d ∷ []) b m h = absurd b
 fits_halved zero pair over waiting (x ∷ []) (d ∷ e ∷ ds) b m h = absurd h.1
-fits_halved zero pair over waiting (x ∷ y ∷ ls) (d ∷ e ∷ ds) b m h = ((rests_fit x.0 x.1 d over h.0 b.0, made_fits x d e pair h.0 m), (rests_fit y.0 y.1 e waiting h.1.0 b.1, h.1.1))
+fits_halved zero pair over waiting (x ∷ y ∷ ls) (d ∷ e ∷ ds) b m h = ((lies_fitting x.0 x.1 d over h.0 b.0, made_fits x d e pair h.0 m), (lies_fitting y.0 y.1 e waiting h.1.0 b.1, h.1.1))
 fits_halved (suc k) pair over waiting ls [] b m h = absurd b
 fits_halved (suc k) pair over waiting [] (d ∷ ds) b m h = absurd h
 fits_halved (suc k) pair over waiting (x ∷ ls) (d ∷ ds) b m h = (h.0, fits_halved k pair over waiting ls ds b m h.1)
@@ -243,11 +243,11 @@ made_of (Paired r) e pair new p s = absurd p
 
 -- ---- the end
 
-root_named : (r : Rest) (p : PlainPiece) (q : Place) → p.rest ≡ r → ends_as r p.strand ≡ true → FitsLine (q, state_as r) (Whole p) → q ≡ []
-root_named rest.Ended p q e f h = absurd cc
-root_named rest.Stalled p q e f h = absurd cc
-root_named rest.Faulted p q e f h = sym h.1 ∙ same_name_true (place_of p.strand.start p.strand.path) [] f
-root_named rest.Finished p q e f h = h.2 refl
+root_named : (r : LaidState) (p : PlainPiece) (q : Place) → p.state ≡ r → ends_as r p.strand ≡ true → FitsLine (q, state_as r) (Whole p) → q ≡ []
+root_named laid_state.Ended p q e f h = absurd cc
+root_named laid_state.Stalled p q e f h = absurd cc
+root_named laid_state.Faulted p q e f h = sym h.1 ∙ same_name_true (place_of p.strand.start p.strand.path) [] f
+root_named laid_state.Finished p q e f h = h.2 refl
 
 ended_alone : (steps : List BookStep) (lines : List Line) (used : List Place) (ds : List PlainLaid) → replayed steps ≡ Some (record { lines = lines; split_off = used }) → Fits lines ds → ends_alone ds ≡ true → LeavesRootAlone steps
 ended_alone steps lines used [] e h f = absurd cc
@@ -261,7 +261,7 @@ ended_alone steps ((q, s) ∷ []) used (Whole p ∷ []) e h f = record {
   book = record { lines = (q, s) ∷ []; split_off = used };
   state = s;
   legal = e;
-  alone = ap (λ q. (q, s) ∷ []) (root_named p.rest p q refl f (subst (λ t. FitsLine (q, t) (Whole p)) h.0.0 h.0));
+  alone = ap (λ q. (q, s) ∷ []) (root_named p.state p q refl f (subst (λ t. FitsLine (q, t) (Whole p)) h.0.0 h.0));
 }
 
 pub leaves_root_alone : (b : PlainChronicle) (ds : List PlainLaid) → IsBook b ds → ends_alone ds ≡ true → LeavesRootAlone b.history
@@ -296,13 +296,13 @@ pub folded_taken : (k : ℕ) (ds es : List PlainLaid) → es ≡ slice_set (slic
 folded_taken k ds es e =
     ap (λ xs. remove xs (k + 1)) e ∙ ap (λ n. remove (slice_set (slice_set ds k Nothing) n Nothing) n) (next k) ∙ remove_again k ds Nothing
 
-pub halved_taken : (k : ℕ) (pair : PlainPair) (over waiting : Rest) (ds es fs : List PlainLaid) (x y : PlainLaid) → drop k ds ≡ x ∷ y ∷ drop (suc (suc k)) ds → RestsAs x over → RestsAs y waiting → IsMadeOf x y pair
+pub halved_taken : (k : ℕ) (pair : PlainPair) (over waiting : LaidState) (ds es fs : List PlainLaid) (x y : PlainLaid) → drop k ds ≡ x ∷ y ∷ drop (suc (suc k)) ds → LiesAs x over → LiesAs y waiting → IsMadeOf x y pair
     → es ≡ slice_set (slice_set ds k Nothing) (k + 1) Nothing → fs ≡ slice_set (slice_set es k (Half pair over)) (k + 1) (Paired waiting) → IsHalved k ds fs
 halved_taken k pair over waiting ds es fs x y t o w m e f = record {
   pair = pair;
   over = over;
   waiting = waiting;
-  rests = subst (λ xs. BeginAt xs over waiting) (sym t) (o, w);
+  lies = subst (λ xs. BeginAt xs over waiting) (sym t) (o, w);
   made = subst (λ xs. BeginAsPair xs pair) (sym t) m;
   are = f ∙ ap (λ xs. slice_set (slice_set xs k (Half pair over)) (k + 1) (Paired waiting)) e ∙ ap (λ n. slice_set (slice_set (slice_set (slice_set ds k Nothing) n Nothing) k (Half pair over)) n (Paired waiting)) (next k)
       ∙ set_again k ds Nothing (Half pair over) (Paired waiting);

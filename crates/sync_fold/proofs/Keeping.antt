@@ -8,11 +8,11 @@ use Rattle.strand_theory.proofs.Books.{replayed_append}
 use Rattle.positions.specs.Simulation.{place_of}
 use Rattle.positions.specs.Strands.{PlainStrand}
 use Rattle.right_strands.specs.Laid.{PlainPiece}
-use Rattle.strand_list.specs.declared.rest.Rest.{Rest}
-use Rattle.strand_list.specs.declared.rest.Rest.TheVariants as rest
-use Rattle.strand_list.specs.Laying.{state_as, rest_step}
+use Rattle.strand_list.specs.declared.laid_state.LaidState.{LaidState}
+use Rattle.strand_list.specs.declared.laid_state.LaidState.TheVariants as laid_state
+use Rattle.strand_list.specs.Laying.{state_as, laying_step}
 use Rattle.strand_list.specs.Pages.{position, has_strand, is_unused, are_neighbours, Apart}
-use Rattle.strand_list.specs.Chronicled.{PlainChronicle, Took, unless, unless_allowed, split_refusal, rest_refusal}
+use Rattle.strand_list.specs.Chronicled.{PlainChronicle, Took, unless, unless_allowed, split_refusal, laying_refusal}
 use Rattle.sync_fold.specs.Books.{PlainLaid, PlainBook, IsBook, Fits, BeginWithPair, IsHalved, may_touch, touch, folded, first_fold, fold_refusal, BecomeOne, FirstBecome, FirstStay, KeepsFrom, KeepsStrands, IsWhole, ends_alone}
 use Rattle.strand_list.specs.declared.error.BookError.{BookError}
 use Rattle.strand_list.specs.declared.error.BookError.TheVariants as error
@@ -77,21 +77,21 @@ root_is : (p : Place) → is_root p ≡ true → p ≡ []
 root_is [] e = refl
 root_is (n ∷ p) e = absurd cc
 
-rest_lines : (b c : Book) (r : Rest) (p : Place) → stepped b (rest_step r p) ≡ Some c → (c.lines ≡ becomes (state_as r) b.lines p) × (state_as r ≡ Finished → p ≡ [])
-rest_lines b c rest.Ended p e = ((if_lines (is_held_at b.lines p) (becomes Ended b.lines p) b.split_off c e).1, λ f. absurd cc)
-rest_lines b c rest.Faulted p e = ((if_lines (is_held_at b.lines p) (becomes Faulted b.lines p) b.split_off c e).1, λ f. absurd cc)
-rest_lines b c rest.Stalled p e = ((if_lines (is_held_at b.lines p && not (is_root p)) (becomes Stalled b.lines p) b.split_off c e).1, λ f. absurd cc)
-rest_lines b c rest.Finished p e =
+laying_lines : (b c : Book) (r : LaidState) (p : Place) → stepped b (laying_step r p) ≡ Some c → (c.lines ≡ becomes (state_as r) b.lines p) × (state_as r ≡ Finished → p ≡ [])
+laying_lines b c laid_state.Ended p e = ((if_lines (is_held_at b.lines p) (becomes Ended b.lines p) b.split_off c e).1, λ f. absurd cc)
+laying_lines b c laid_state.Faulted p e = ((if_lines (is_held_at b.lines p) (becomes Faulted b.lines p) b.split_off c e).1, λ f. absurd cc)
+laying_lines b c laid_state.Stalled p e = ((if_lines (is_held_at b.lines p && not (is_root p)) (becomes Stalled b.lines p) b.split_off c e).1, λ f. absurd cc)
+laying_lines b c laid_state.Finished p e =
     let l = if_lines (is_held_at b.lines p && is_root p && is_alone b.lines) (becomes Finished b.lines p) b.split_off c e in
     (l.1, λ f. root_is p (both_are (is_held_at b.lines p) (is_root p) (both_are (is_held_at b.lines p && is_root p) (is_alone b.lines) l.0).0).1)
 
-pub lay_keeps : (b c : PlainChronicle) (ds es : List PlainLaid) (r : Rest) (p : Place) (q : PlainPiece) (k : ℕ) → IsBook b ds → Took b (rest_step r p) c → r ≡ q.rest → p ≡ place_of q.strand.start q.strand.path
+pub lay_keeps : (b c : PlainChronicle) (ds es : List PlainLaid) (r : LaidState) (p : Place) (q : PlainPiece) (k : ℕ) → IsBook b ds → Took b (laying_step r p) c → r ≡ q.state → p ≡ place_of q.strand.start q.strand.path
     → k ≡ position p b.page.lines → k < length b.page.lines → es ≡ slice_set ds k (Whole q) → IsBook c es
 lay_keeps b c ds es r p q k h t e f at i g =
     let ls = b.page.lines in
-    let l = rest_lines b.page c.page r p t.allowed in
+    let l = laying_lines b.page c.page r p t.allowed in
     record {
-      legal = legal_next b c (rest_step r p) h.legal t;
+      legal = legal_next b c (laying_step r p) h.legal t;
       fits = subst (λ ls. Fits ls es) (sym l.0) (subst (Fits (becomes (state_as r) ls p)) (sym (g ∙ ap (λ k. slice_set ds k (Whole q)) at))
           (fits_becomes p (state_as r) (Whole q) ls ds (subst (λ k. k < length ls) at i) (ap state_as e, sym f, l.1) h.fits));
     }
@@ -121,7 +121,7 @@ fold_keeps b c ds es l r w k h t at e =
 pub halve_keeps : (b c : PlainChronicle) (ds es : List PlainLaid) (k : ℕ) → IsBook b ds → c ≡ b → IsHalved k ds es → IsBook c es
 halve_keeps b c ds es k h e i = subst (λ c. IsBook c es) (sym e) (record {
   legal = h.legal;
-  fits = subst (Fits b.page.lines) (sym i.are) (fits_halved k i.pair i.over i.waiting b.page.lines ds i.rests i.made h.fits);
+  fits = subst (Fits b.page.lines) (sym i.are) (fits_halved k i.pair i.over i.waiting b.page.lines ds i.lies i.made h.fits);
 })
 
 -- ---- refusals
@@ -134,8 +134,8 @@ missing p (l ∷ ls) e = by (bytes_eq l.0 p) e (λ f. missing p ls f)
     by true f r = absurd (omega arith)
     by false f r = r (omega arith)
 
-pub lay_missing : (b : Book) (r : Rest) (p : Place) → position p b.lines ≡ length b.lines → rest_refusal b r p ≡ Some error.NoStrand
-lay_missing b r p e = ap (λ t. unless t error.NoStrand (unless (is_held_at b.lines p) error.AlreadyLaid (unless_allowed (stepped b (rest_step r p))))) (missing p b.lines e)
+pub lay_missing : (b : Book) (r : LaidState) (p : Place) → position p b.lines ≡ length b.lines → laying_refusal b r p ≡ Some error.NoStrand
+lay_missing b r p e = ap (λ t. unless t error.NoStrand (unless (is_held_at b.lines p) error.AlreadyLaid (unless_allowed (stepped b (laying_step r p))))) (missing p b.lines e)
 
 pub split_missing : (b : Book) (v n : Place) (w : ℕ) → position v b.lines ≡ length b.lines → split_refusal b v n w ≡ Some error.NoStrand
 split_missing b v n w e = ap (λ t. unless t error.NoStrand (unless_allowed (stepped b (Split v n w)))) (missing v b.lines e)

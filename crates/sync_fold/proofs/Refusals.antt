@@ -6,10 +6,10 @@ use Rattle.meaning.specs.Strands.{Line, Book, Split, Fold, done, waits, is_held_
 use Rattle.strand_theory.proofs.Names.{both_are}
 use Rattle.strand_theory.proofs.Books.{NoneAt}
 use Rattle.right_strands.specs.Laid.{PlainPiece}
-use Rattle.strand_list.specs.declared.rest.Rest.{Rest}
-use Rattle.strand_list.specs.Laying.{rest_step}
+use Rattle.strand_list.specs.declared.laid_state.LaidState.{LaidState}
+use Rattle.strand_list.specs.Laying.{laying_step}
 use Rattle.strand_list.specs.Pages.{has_strand, position, held_place, begins_with, are_neighbours, Apart}
-use Rattle.strand_list.specs.Chronicled.{PlainChronicle, Took, IsRefusedBy, unless, unless_allowed, split_refusal, rest_refusal}
+use Rattle.strand_list.specs.Chronicled.{PlainChronicle, Took, IsRefusedBy, unless, unless_allowed, split_refusal, laying_refusal}
 use Rattle.strand_list.specs.declared.error.BookError.{BookError}
 use Rattle.strand_list.specs.declared.error.BookError.TheVariants as error
 use Rattle.sync_fold.specs.Books.{PlainLaid, PlainBook, IsBook, begins_at, lay_refusal, may_touch, touch, folds_here, fold_among, first_fold, fold_refusal}
@@ -81,11 +81,11 @@ held_passes b v n w e = by (held_place v b.lines) e
     by None f = cc
     by (Some from) f = split_passes b from n w f
 
-rest_passes : (b : Book) (r : Rest) (p : Place) → rest_refusal b r p ≡ Some error.NotNeighbour → ⊥
-rest_passes b r p e = by (has_strand p b.lines) (is_held_at b.lines p) e
+laying_passes : (b : Book) (r : LaidState) (p : Place) → laying_refusal b r p ≡ Some error.NotNeighbour → ⊥
+laying_passes b r p e = by (has_strand p b.lines) (is_held_at b.lines p) e
   where
-    by : (t u : Bool) → unless t error.NoStrand (unless u error.AlreadyLaid (unless_allowed (stepped b (rest_step r p)))) ≡ Some error.NotNeighbour → ⊥
-    by true true f = allowed (stepped b (rest_step r p)) f
+    by : (t u : Bool) → unless t error.NoStrand (unless u error.AlreadyLaid (unless_allowed (stepped b (laying_step r p)))) ≡ Some error.NotNeighbour → ⊥
+    by true true f = allowed (stepped b (laying_step r p)) f
     by true false f = cc
     by false u f = cc
 
@@ -105,7 +105,7 @@ held_all_near b v n w (Ok a) h = tt
 held_all_near b v n w (Err e) h = held_near b v n w e h
 
 pub lay_near : (b : PlainBook) (p : PlainPiece) (e : BookError) → IsRefusedBy (lay_refusal b p) e → is_apart e ≡ false
-lay_near b p e r = near e (lay_refusal b p) (rest_passes b.chronicle.page p.rest (begins_at p)) r
+lay_near b p e r = near e (lay_refusal b p) (laying_passes b.chronicle.page p.state (begins_at p)) r
 
 -- ---- the first two that may be folded touch
 

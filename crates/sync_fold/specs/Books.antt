@@ -9,10 +9,10 @@ use Rattle.positions.specs.Simulation.{place_of}
 use Rattle.positions.specs.Strands.{PlainStrand}
 use Rattle.right_strands.specs.Laid.{PlainPiece, ends_run}
 use Rattle.right_strands.specs.Pairs.{PlainPair, IsStill, is_over, is_waiting, may_pair}
-use Rattle.strand_list.specs.declared.rest.Rest.{Rest}
+use Rattle.strand_list.specs.declared.laid_state.LaidState.{LaidState}
 use Rattle.strand_list.specs.Laying.{state_as}
 use Rattle.strand_list.specs.Pages.{has_strand, position, are_neighbours}
-use Rattle.strand_list.specs.Chronicled.{PlainChronicle, Took, IsRefusedBy, unless, unless_allowed, rest_refusal}
+use Rattle.strand_list.specs.Chronicled.{PlainChronicle, Took, IsRefusedBy, unless, unless_allowed, laying_refusal}
 use Rattle.sync_fold.specs.declared.laid.Laid.{Laid}
 use Rattle.sync_fold.specs.declared.laid.Laid.TheVariants.{Nothing, Whole, Half, Paired}
 use Rattle.strand_list.specs.declared.error.BookError.{BookError}
@@ -35,7 +35,7 @@ pub record PlainBook : Type 0 where
 -- it fits the line of the strand: while a worker holds it nothing is kept, and a piece is at its place, a pair at that of its left one
 abbrev pub FitsLine : Line → PlainLaid → Type 0
 FitsLine (p, s) Nothing = is_held s ≡ true
-FitsLine (p, s) (Whole q) = (s ≡ state_as q.rest) × (begins_at q ≡ p) × (s ≡ Finished → p ≡ [])
+FitsLine (p, s) (Whole q) = (s ≡ state_as q.state) × (begins_at q ≡ p) × (s ≡ Finished → p ≡ [])
 FitsLine (p, s) (Half q r) = (s ≡ state_as r) × (place_of q.left.start q.left.path ≡ p)
 FitsLine (p, s) (Paired r) = s ≡ state_as r
 
@@ -101,11 +101,11 @@ IsPairOf (Half q r) e pair = pair ≡ q
 IsPairOf _ _ pair = ⊥
 
 -- as what the strand was laid down
-abbrev pub RestsAs : PlainLaid → Rest → Type 0
-RestsAs Nothing r = ⊥
-RestsAs (Whole p) r = r ≡ p.rest
-RestsAs (Half q s) r = r ≡ s
-RestsAs (Paired s) r = r ≡ s
+abbrev pub LiesAs : PlainLaid → LaidState → Type 0
+LiesAs Nothing r = ⊥
+LiesAs (Whole p) r = r ≡ p.state
+LiesAs (Half q s) r = r ≡ s
+LiesAs (Paired s) r = r ≡ s
 
 abbrev pub IsWhole : {P Q : Type 0} → Laid P Q → Type 0
 IsWhole (Whole p) = Unit {0}
@@ -117,7 +117,7 @@ IsPaired _ = ⊥
 
 -- two strands that may become one
 abbrev pub ArePair : PlainLaid → PlainLaid → Type 0
-ArePair (Whole p) (Whole q) = (is_over p.rest ≡ true) × (is_waiting q.rest ≡ true) × (may_pair p q ≡ true)
+ArePair (Whole p) (Whole q) = (is_over p.state ≡ true) × (is_waiting q.state ≡ true) × (may_pair p q ≡ true)
 ArePair (Half q r) (Paired t) = Unit {0}
 ArePair _ _ = ⊥
 
@@ -130,7 +130,7 @@ abbrev pub folded : ℕ → List PlainLaid → List PlainLaid
 folded k ds = remove (slice_set ds k Nothing) (suc k)
 
 -- the strand of that number and the next one are kept as a pair
-abbrev pub halved : ℕ → PlainPair → Rest → Rest → List PlainLaid → List PlainLaid
+abbrev pub halved : ℕ → PlainPair → LaidState → LaidState → List PlainLaid → List PlainLaid
 halved k q r t ds = slice_set (slice_set ds k (Half q r)) (suc k) (Paired t)
 
 -- the pair is made of these two strands, but for reducers' values that have moved from the right one to the left
@@ -143,16 +143,16 @@ abbrev pub BeginAsPair : List PlainLaid → PlainPair → Type 0
 BeginAsPair (d ∷ e ∷ ds) pair = IsMadeOf d e pair
 BeginAsPair _ pair = ⊥
 
-abbrev pub BeginAt : List PlainLaid → Rest → Rest → Type 0
-BeginAt (d ∷ e ∷ ds) over waiting = RestsAs d over × RestsAs e waiting
+abbrev pub BeginAt : List PlainLaid → LaidState → LaidState → Type 0
+BeginAt (d ∷ e ∷ ds) over waiting = LiesAs d over × LiesAs e waiting
 BeginAt _ over waiting = ⊥
 
 -- the strand of that number and the next one have become a pair
 pub record IsHalved (k : ℕ) (ds es : List PlainLaid) : Type 0 where
   pub pair : PlainPair
-  pub over : Rest
-  pub waiting : Rest
-  pub rests : BeginAt (drop k ds) over waiting
+  pub over : LaidState
+  pub waiting : LaidState
+  pub lies : BeginAt (drop k ds) over waiting
   pub made : BeginAsPair (drop k ds) pair
   pub are : es ≡ halved k pair over waiting ds
 
@@ -175,7 +175,7 @@ is_ended b = ends_alone b.laid
 -- ---- why a step is refused
 
 abbrev pub lay_refusal : PlainBook → PlainPiece → Option BookError
-lay_refusal b p = rest_refusal b.chronicle.page p.rest (begins_at p)
+lay_refusal b p = laying_refusal b.chronicle.page p.state (begins_at p)
 
 -- neighbours that may be one strand
 abbrev pub touch : PlainBook → Place → Place → Bool

@@ -46,9 +46,9 @@ impl<J: Run, V: View> Book<J, V> {
     ghost use Rattle.right_strands.specs.Laid.{PlainPiece, AnswersElision, IsGiven, HasRecorded};
     ghost use Rattle.sync_fold.specs.declared.laid.Laid.TheVariants.{Whole};
     ghost use Rattle.strand_list.specs.Pages.{shown, position, held_place};
-    ghost use Rattle.strand_list.specs.Laying.{rest_step};
+    ghost use Rattle.strand_list.specs.Laying.{laying_step};
     ghost use Rattle.strand_list.specs.Replays.{LeavesRootAlone};
-    ghost use Rattle.strand_list.specs.Chronicled.{Took, IsRefusedBy, unless_allowed, first_chronicle, split_refusal, rest_refusal};
+    ghost use Rattle.strand_list.specs.Chronicled.{Took, IsRefusedBy, unless_allowed, first_chronicle, split_refusal, laying_refusal};
     ghost use Rattle.sync_fold.specs.Refusals.{HoldsNone, TookHeld, held_refusal, is_apart};
     ghost use Rattle.sync_fold.specs.Books.{IsBook, FirstBecome, FirstStay, FoldsAny, FoldsFirst, PlacesAt, first_fold, touch, BecomeOne};
     ghost use Rattle.sync_fold.specs.Books.{KeepsStrands, begins_at, lay_refusal, is_ended, fold_refusal};
@@ -69,8 +69,8 @@ impl<J: Run, V: View> Book<J, V> {
     }
 
     /// What the type keeps.
-    pub fn kept(&self)
-        ensures kept { IsBook self.now.chronicle self.now.laid }
+    pub fn upheld(&self)
+        ensures book { IsBook self.now.chronicle self.now.laid }
     {
         let _ = &self.laid;
     }
@@ -121,7 +121,8 @@ impl<J: Run, V: View> Book<J, V> {
             (IsRefusedBy (split_refusal self.old.chronicle.page victim.now new.now thief)) }
         ensures same { OnErr result (self.new ≡ self.old) }
     {
-        self.kept();
+        // What the type keeps: so a refusal is one that a call of a book gives.
+        self.upheld();
         match self.try_split(alloc, victim, new, thief) {
             Ok(()) => Ok(()),
             Err(error) => Err(Refusal::of(error)),
@@ -144,7 +145,8 @@ impl<J: Run, V: View> Book<J, V> {
         ensures near { IfErr result (λ e. is_apart e ≡ false) }
         ensures same { OnErr result (self.new ≡ self.old) }
     {
-        self.kept();
+        // What the type keeps: so a refusal is one that a call of a book gives.
+        self.upheld();
         match self.place_held(alloc, victim) {
             Ok(from) => self.split(alloc, &from, new, thief),
             Err(error) => Err(Refusal::of(error)),
@@ -221,7 +223,7 @@ impl<J: Run, V: View> Book<J, V> {
     /// The strand that a worker holds is laid down; it is handed back with a refusal.
     pub fn lay(&mut self, alloc: Global, piece: Piece<J, V>) -> Result<(), (Refusal, Piece<J, V>)>
         ensures taken { OnOk result
-            (Took self.old.chronicle (rest_step piece.rest (begins_at piece)) self.new.chronicle) }
+            (Took self.old.chronicle (laying_step piece.state (begins_at piece)) self.new.chronicle) }
         ensures counted { OnOk result (LaysDown piece.strand self.old.laid self.new.laid) }
         ensures refused { IfErr result
             (λ e. IsRefusedBy (lay_refusal self.old piece) e.0) }
@@ -229,7 +231,8 @@ impl<J: Run, V: View> Book<J, V> {
         ensures same { OnErr result (self.new ≡ self.old) }
         ensures back { IfErr result (λ e. e.1 ≡ piece) }
     {
-        self.kept();
+        // What the type keeps: so a refusal is one that a call of a book gives.
+        self.upheld();
         match self.try_lay(alloc, piece) {
             Ok(()) => Ok(()),
             Err((error, piece)) => Err((Refusal::of(error), piece)),
@@ -239,7 +242,7 @@ impl<J: Run, V: View> Book<J, V> {
     /// The strand that a worker holds is laid down, or a plain refusal says why not.
     fn try_lay(&mut self, alloc: Global, piece: Piece<J, V>) -> Result<(), (BookError, Piece<J, V>)>
         ensures taken { OnOk result
-            (Took self.old.chronicle (rest_step piece.rest (begins_at piece)) self.new.chronicle) }
+            (Took self.old.chronicle (laying_step piece.state (begins_at piece)) self.new.chronicle) }
         ensures counted { OnOk result (LaysDown piece.strand self.old.laid self.new.laid) }
         ensures refused { IfErr result
             (λ e. IsRefusedBy (lay_refusal self.old piece) e.0) }
@@ -261,10 +264,10 @@ impl<J: Run, V: View> Book<J, V> {
     ) -> Result<(), (BookError, Piece<J, V>)>
         requires place { place.now ≡ begins_at piece }
         ensures taken { OnOk result
-            (Took self.old.chronicle (rest_step piece.rest place.now) self.new.chronicle) }
+            (Took self.old.chronicle (laying_step piece.state place.now) self.new.chronicle) }
         ensures counted { OnOk result (LaysDown piece.strand self.old.laid self.new.laid) }
         ensures refused { IfErr result
-            (λ e. IsRefusedBy (rest_refusal self.old.chronicle.page piece.rest place.now) e.0) }
+            (λ e. IsRefusedBy (laying_refusal self.old.chronicle.page piece.state place.now) e.0) }
         ensures same { OnErr result (self.new ≡ self.old) }
         ensures back { IfErr result (λ e. e.1 ≡ piece) }
     {
@@ -272,7 +275,7 @@ impl<J: Run, V: View> Book<J, V> {
             Some(k) => k,
             None => return Err((BookError::NoStrand, piece)),
         };
-        match self.chronicle.lay(alloc, piece.rest(), place) {
+        match self.chronicle.lay(alloc, piece.state(), place) {
             Ok(()) => {
                 keep(&mut self.laid, k, piece);
                 Ok(())
@@ -314,7 +317,8 @@ impl<J: Run, V: View> Book<J, V> {
         ensures kept { IfErr result
             (λ e. KeepsStrands self.old left.now e self.new) }
     {
-        self.kept();
+        // What the type keeps: so a refusal is one that a call of a book gives.
+        self.upheld();
         match self.try_fold_pair(alloc, scene, left, right, worker) {
             Ok(joined) => Ok(joined),
             Err(error) => Err(Refusal::of(error)),
@@ -437,7 +441,8 @@ impl<J: Run, V: View> Book<J, V> {
         ensures near { IfErr result (λ e. is_apart e ≡ false) }
         ensures same { OnErr result (self.new.chronicle ≡ self.old.chronicle) }
     {
-        self.kept();
+        // What the type keeps: so the first two that may be folded lie beside each other.
+        self.upheld();
         match places_at(alloc, self.chronicle.strands(), k) {
             Ok((left, right)) => self.fold_pair(alloc, scene, &left, &right, worker),
             Err(AllocError) => Err(Refusal::without_memory()),
@@ -468,7 +473,7 @@ impl<J: Run, V: View> Book<J, V> {
         ensures history { steps_of result.2.items ≡ self.chronicle.history }
         ensures legal { LeavesRootAlone self.chronicle.history }
         ensures fitting { (k : List Kind) → K.fits k kits.old → K.fits k kits.new }
-        ensures kept { (k : List Kind) → K.gives k kits.new
+        ensures gives_known { (k : List Kind) → K.gives k kits.new
             → K.gives k kits.old ⊎ J.setting.kinds ≡ k }
         ensures home { (p : PlainPiece) → self.laid ≡ Whole p ∷ []
             → suc (length p.strand.lower) + K.free kits.old ≤ K.total kits.old

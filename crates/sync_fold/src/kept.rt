@@ -4,7 +4,7 @@ ghost use Rattle.std.specs.List.{insert, remove};
 ghost use Rattle.sync_fold.specs.declared.laid.Laid.TheVariants.{Nothing, Whole, Half, Paired};
 
 use crate::laid::Laid;
-use right_strands::laid::Rest;
+use right_strands::laid::LaidState;
 use std::alloc::AllocError;
 use std::mem;
 
@@ -56,8 +56,8 @@ pub(crate) fn keep_pair<P: Drop, Q: Drop>(
     laid: &mut Vec<Laid<P, Q>>,
     k: usize,
     pair: Q,
-    over: Rest,
-    waiting: Rest,
+    over: LaidState,
+    waiting: LaidState,
 )
     requires within { k + 1 < length laid.old.items }
     ensures kept { laid.new.items ≡ slice_set (slice_set laid.old.items k (Half pair over)) (k + 1) (Paired waiting) }

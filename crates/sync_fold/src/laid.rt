@@ -1,10 +1,10 @@
 //! What the book keeps of a line's strand.
 ghost use Rattle.std.specs.Prelude.{◌≡◌, ◌<◌, ◌∷◌, [], length, drop, true, false, IfOk, IfErr};
-ghost use Rattle.sync_fold.specs.Books.{AreOne, ArePair, IsPaired, IsMadeOf, IsPairOf, IsWhole, RestsAs, ends_alone, may_be_one, may_touch};
+ghost use Rattle.sync_fold.specs.Books.{AreOne, ArePair, IsPaired, IsMadeOf, IsPairOf, IsWhole, LiesAs, ends_alone, may_be_one, may_touch};
 ghost use Rattle.sync_fold.specs.Counts.{HaveOneMore};
 ghost use Rattle.sync_fold.specs.declared.laid.Laid.TheVariants.{Whole};
 
-use right_strands::laid::{Piece, Rest};
+use right_strands::laid::{LaidState, Piece};
 use right_strands::pair::Pair;
 use right_strands::run::{Run, Scene};
 use right_strands::strand::RightStrand;
@@ -16,8 +16,8 @@ use view_pool::{Kit, View};
 pub enum Laid<P, Q> {
     Nothing,
     Whole(P),
-    Half(Q, Rest),
-    Paired(Rest),
+    Half(Q, LaidState),
+    Paired(LaidState),
 }
 
 /// What is kept of the strands of a run.
@@ -97,16 +97,19 @@ pub(crate) fn into_alone<J: Run, V: View>(mut laid: Vec<LaidOf<J, V>>) -> Piece<
 }
 
 /// A piece and what is kept of the strand on its right as a pair, and as what both were laid down.
-fn pair_pieces<J: Run, V: View>(left: Piece<J, V>, right: LaidOf<J, V>) -> (Pair<J, V>, Rest, Rest)
+fn pair_pieces<J: Run, V: View>(
+    left: Piece<J, V>,
+    right: LaidOf<J, V>,
+) -> (Pair<J, V>, LaidState, LaidState)
     requires pair { ArePair (Whole left) right }
     ensures pair { IsPairOf (Whole left) right result.0 }
-    ensures over { RestsAs (Whole left) result.1 }
-    ensures waiting { RestsAs right result.2 }
+    ensures over { LiesAs (Whole left) result.1 }
+    ensures waiting { LiesAs right result.2 }
 {
     match right {
         Laid::Whole(right) => {
-            let over = left.rest();
-            let waiting = right.rest();
+            let over = left.state();
+            let waiting = right.state();
             (Pair::new(left, right), over, waiting)
         }
         Laid::Nothing | Laid::Half(..) | Laid::Paired(_) => unreachable!(),
@@ -114,9 +117,9 @@ fn pair_pieces<J: Run, V: View>(left: Piece<J, V>, right: LaidOf<J, V>) -> (Pair
 }
 
 /// As what a strand that has gone into a pair was laid down.
-fn paired_as<J: Run, V: View>(right: LaidOf<J, V>) -> Rest
+fn paired_as<J: Run, V: View>(right: LaidOf<J, V>) -> LaidState
     requires paired { IsPaired right }
-    ensures rest { RestsAs right result }
+    ensures state { LiesAs right result }
 {
     match right {
         Laid::Paired(waiting) => waiting,
@@ -125,11 +128,14 @@ fn paired_as<J: Run, V: View>(right: LaidOf<J, V>) -> Rest
 }
 
 /// What is kept of two neighbours that may become one, as a pair, and as what both were laid down.
-fn pair_up<J: Run, V: View>(left: LaidOf<J, V>, right: LaidOf<J, V>) -> (Pair<J, V>, Rest, Rest)
+fn pair_up<J: Run, V: View>(
+    left: LaidOf<J, V>,
+    right: LaidOf<J, V>,
+) -> (Pair<J, V>, LaidState, LaidState)
     requires pair { ArePair left right }
     ensures pair { IsPairOf left right result.0 }
-    ensures over { RestsAs left result.1 }
-    ensures waiting { RestsAs right result.2 }
+    ensures over { LiesAs left result.1 }
+    ensures waiting { LiesAs right result.2 }
 {
     match left {
         Laid::Whole(left) => pair_pieces(left, right),
@@ -144,15 +150,15 @@ pub(crate) fn join_up<J: Run, V: View>(
     scene: &Scene<'_, J>,
     left: LaidOf<J, V>,
     right: LaidOf<J, V>,
-) -> Result<(RightStrand<J, V>, Kit<V>), (Pair<J, V>, Rest, Rest)>
+) -> Result<(RightStrand<J, V>, Kit<V>), (Pair<J, V>, LaidState, LaidState)>
     requires pair { ArePair left right }
     ensures joined { IfOk result (λ r. AreOne left right r.0.strand) }
     ensures going { IfOk result (λ r. r.0.failed ≡ false) }
     ensures kit { IfOk result (λ r. r.1 ≡ J.setting.kinds) }
     ensures counted { IfOk result (λ r. HaveOneMore left right r.0.strand) }
     ensures made { IfErr result (λ e. IsMadeOf left right e.0) }
-    ensures over { IfErr result (λ e. RestsAs left e.1) }
-    ensures waiting { IfErr result (λ e. RestsAs right e.2) }
+    ensures over { IfErr result (λ e. LiesAs left e.1) }
+    ensures waiting { IfErr result (λ e. LiesAs right e.2) }
 {
     let (pair, over, waiting) = pair_up(left, right);
     match pair.join(scene) {

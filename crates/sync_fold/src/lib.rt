@@ -11,4 +11,4 @@ pub use book::Book;
 pub use refusal::{Mismatch, Refusal};
 pub use strand_list::error::{BookError, ReplayError};
 pub use strand_list::history::replay;
-pub use strand_list::rest::Rest;
+pub use strand_list::laid_state::LaidState;

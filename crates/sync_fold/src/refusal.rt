@@ -45,7 +45,7 @@ impl Refusal {
     }
 
     /// What the type keeps.
-    pub fn kept(&self)
+    pub fn upheld(&self)
         ensures given { WasGiven self.now }
     {
         let _ = &self.error;

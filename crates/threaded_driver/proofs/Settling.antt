@@ -2,7 +2,7 @@
 use Rattle.std.proofs.Common.{◌≡◌, List, [], map, sym, ap, subst, ◌∙◌}
 use Rattle.monoid_laws.specs.declared.Kind.{Kind}
 use Rattle.view_pool.specs.Stock.{Stock}
-use Rattle.rerun_records.specs.Record.{PlainRecord, doubtless}
+use Rattle.rerun_records.specs.Record.{PlainRecord, as_made}
 use Rattle.rerun_records.specs.Commits.{put_records}
 use Rattle.positions.specs.Setting.{Setting, setting_with}
 use Rattle.positions.specs.declared.answer.RunAnswer.{RunAnswer}
@@ -34,14 +34,14 @@ pub leaves_whatever_kits : (s t : PlainSession) (kits : Stock (List Kind)) (give
     → t ≡ record s { kits = kits } → LeavesRecords t given records → LeavesRecords s given records
 leaves_whatever_kits s t kits (answer.Finished v values n m k) records is h =
     subst (λ (x : PlainSession). LeavesRecords x (answer.Finished v values n m k) records) is h
-leaves_whatever_kits s t kits (answer.Fault f) records is h = h ∙ ap (λ (x : PlainSession). map doubtless x.records) is
-leaves_whatever_kits s t kits answer.Unfinished records is h = h ∙ ap (λ (x : PlainSession). map doubtless x.records) is
-leaves_whatever_kits s t kits answer.NoMemory records is h = h ∙ ap (λ (x : PlainSession). map doubtless x.records) is
-leaves_whatever_kits s t kits answer.NoKit records is h = h ∙ ap (λ (x : PlainSession). map doubtless x.records) is
+leaves_whatever_kits s t kits (answer.Fault f) records is h = h ∙ ap (λ (x : PlainSession). map as_made x.records) is
+leaves_whatever_kits s t kits answer.Unfinished records is h = h ∙ ap (λ (x : PlainSession). map as_made x.records) is
+leaves_whatever_kits s t kits answer.NoMemory records is h = h ∙ ap (λ (x : PlainSession). map as_made x.records) is
+leaves_whatever_kits s t kits answer.NoKit records is h = h ∙ ap (λ (x : PlainSession). map as_made x.records) is
 
 pub quiet_whatever_kits : (s t : PlainSession) (kits : Stock (List Kind)) (given : RunAnswer) (made : List PlainRecord)
     → AreSoundFor s.checked s.records → HasRecordedBy s.checked s.tables s.records given made
-    → t ≡ record s { kits = kits; records = t.records } → map doubtless t.records ≡ put_records (map doubtless s.records) made → IsQuietAfter given t
+    → t ≡ record s { kits = kits; records = t.records } → map as_made t.records ≡ put_records (map as_made s.records) made → IsQuietAfter given t
 quiet_whatever_kits s t kits given made sound recorded is put =
     quiet_after s.checked s.tables s.records given made sound recorded t
     (ap (λ (x : PlainSession). x.checked) is) (ap (λ (x : PlainSession). x.tables) is) put

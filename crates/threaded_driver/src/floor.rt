@@ -2,7 +2,7 @@
 ghost use Rattle.std.specs.Prelude.{◌≡◌, ◌+◌, ◌<◌, [], true, false, None, Some, All, length, IfOk, IfErr, IfSome, IfNone, OnOk};
 ghost use Rattle.linked_program.specs.Checked.{revised_of};
 ghost use Rattle.linked_program.specs.TableNames.{columned_of};
-ghost use Rattle.rerun_records.specs.Doubted.{IsInStep};
+ghost use Rattle.rerun_records.specs.InStep.{IsInStep};
 ghost use Rattle.rerun_records.specs.Named.{HaveValues};
 ghost use Rattle.positions.specs.Setting.{setting_with};
 ghost use Rattle.numbered_runs.specs.Named.{history};
@@ -306,9 +306,10 @@ impl<J: Run + Ledger + Stocked + Send, D: Deques, V: View> Floor<'_, J, D, V> {
         ensures bound { IsBoundTo seat.new.here (spot_of strand.new.strand) }
         ensures lower { strand.new.strand.lower ≡ strand.old.strand.lower }
     {
-        self.scene.kept();
+        // The run's records are sound and the task is a strand's: so the strand may go on with it where it comes back.
+        self.scene.upheld();
         let task = strand.detach(self.alloc);
-        task.kept();
+        task.upheld();
         match seat.push(self.alloc, task) {
             Ok(()) => {
                 self.bell.ring();

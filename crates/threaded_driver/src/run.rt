@@ -2,7 +2,7 @@
 ghost use Rattle.std.specs.Prelude.{◌≡◌, ◌↔◌, ◌<◌, ◌≤◌, [], true, false, All, length, IfOk, IfErr, OnErr};
 ghost use Rattle.linked_program.specs.Checked.{revised_of};
 ghost use Rattle.linked_program.specs.TableNames.{columned_of};
-ghost use Rattle.rerun_records.specs.Doubted.{IsInStep};
+ghost use Rattle.rerun_records.specs.InStep.{IsInStep};
 ghost use Rattle.rerun_records.specs.Named.{HaveValues};
 ghost use Rattle.positions.specs.Setting.{setting_with};
 ghost use Rattle.numbered_runs.specs.Named.{history};
@@ -67,14 +67,14 @@ pub fn run_threads<V: View + Send, R: Threads + Wait + Sync, G: Gate>(
     ensures recorded { IfOk result (λ r. LeavesRecords session.old r.0 session.new.records) }
     // Where each execution was recorded, nothing is left to execute.
     ensures quiet { IfOk result (λ r. IsQuietAfter r.0 session.new) }
-    ensures kept { OnErr result (session.new.records ≡ session.old.records) }
+    ensures same { OnErr result (session.new.records ≡ session.old.records) }
     ensures no_kit { IfOk result (λ r. r.0 ≡ RunAnswer.NoKit ↔ session.old.kits.kits ≡ []) }
     ensures history { IfOk result (λ r. HasHistory r.0 (history r.1.items)) }
     ensures mismatch { IfErr result (λ m. ¬ (m.refusal ≡ error.NoMemory)) }
     // The refusal is one that a call of the list gave.
     ensures refused { IfErr result (λ m. WasRefused m.refusal) }
     ensures near { IfErr result (λ m. ¬ (m.refusal ≡ error.NotNeighbour)) }
-    ensures rest { session.new
+    ensures others { session.new
         ≡ record session.old { kits = session.new.kits; records = session.new.records } }
     ensures home { IfOk result (λ r.
         HasEnded r.0 → length session.new.kits.kits ≡ length session.old.kits.kits) }
@@ -83,7 +83,8 @@ pub fn run_threads<V: View + Send, R: Threads + Wait + Sync, G: Gate>(
     if session.has_no_kit() {
         return Ok((RunAnswer::NoKit, Vec::new(alloc)));
     }
-    session.kept();
+    // What the type keeps of its records, tables and kits: so a run may begin with them.
+    session.upheld();
     let pool = session.take_pool(alloc);
     let borrowed = Borrowed {
         program: session.checked(),
@@ -125,9 +126,10 @@ fn give_back<V: View>(
     ensures begun { ¬ (result.0 ≡ RunAnswer.NoKit) }
     ensures history { HasHistory result.0 (history result.1.items) }
     ensures ended { HasEnded result.0 → HasEnded ended.answer }
-    ensures rest { session.new ≡ record session.old { kits = pool; records = session.new.records } }
+    ensures others { session.new ≡ record session.old { kits = pool; records = session.new.records } }
 {
-    session.kept();
+    // The session's records are sound: so the run's new ones may be put among them.
+    session.upheld();
     let Ended {
         answer,
         made,
@@ -324,7 +326,7 @@ where
     }
 }
 
-/// The same beside the second half of the others, if there are any.
+/// Lives at a seat, and starts the second half of the other workers beside it, if there are any.
 fn live_beside_half<J, D, V, R, G>(
     rt: &R,
     floor: &Floor<'_, J, D, V>,

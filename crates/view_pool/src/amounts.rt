@@ -84,7 +84,7 @@ fn merge_in_last(
     requires { suc last ≡ length pieces.old.items }
     ensures merged { result ≡ true → merged (map (λ p. p.items) pieces.new.items) ≡ merge (merged (map (λ p. p.items) pieces.old.items)) right.now }
     ensures rising { result ≡ true → IsRising right.now }
-    ensures kept { result ≡ false → pieces.new ≡ pieces.old }
+    ensures same { result ≡ false → pieces.new ≡ pieces.old }
 {
     let piece = &pieces[last];
     if !may_merge(piece, right) {
@@ -103,7 +103,7 @@ fn merge_in_last(
 fn merge_behind(alloc: Global, pieces: &mut Vec<Vec<(i64, i64)>>, right: &[(i64, i64)]) -> bool
     ensures merged { result ≡ true → merged (map (λ p. p.items) pieces.new.items) ≡ merge (merged (map (λ p. p.items) pieces.old.items)) right.now }
     ensures rising { result ≡ true → IsRising right.now }
-    ensures kept { result ≡ false → pieces.new ≡ pieces.old }
+    ensures same { result ≡ false → pieces.new ≡ pieces.old }
 {
     let count = pieces.len();
     if count == 0 {

@@ -96,7 +96,7 @@ pub(crate) fn add_number(alloc: Global, value: &mut Val, number: i64) -> Result<
 fn extend_in_last(pieces: &mut Vec<Vec<i64>>, last: usize, more: &[i64]) -> bool
     requires { suc last ≡ length pieces.old.items }
     ensures joined { result ≡ true → joined (map (λ p. p.items) pieces.new.items) ≡ joined (map (λ p. p.items) pieces.old.items) ++ more.now }
-    ensures kept { result ≡ false → joined (map (λ p. p.items) pieces.new.items) ≡ joined (map (λ p. p.items) pieces.old.items) }
+    ensures same { result ≡ false → joined (map (λ p. p.items) pieces.new.items) ≡ joined (map (λ p. p.items) pieces.old.items) }
 {
     let piece = &mut pieces[last];
     match piece.extend_from_slice(more) {
@@ -108,7 +108,7 @@ fn extend_in_last(pieces: &mut Vec<Vec<i64>>, last: usize, more: &[i64]) -> bool
 /// Puts numbers into the last piece, if there is one with room for them.
 fn extend_pieces(pieces: &mut Vec<Vec<i64>>, more: &[i64]) -> bool
     ensures joined { result ≡ true → joined (map (λ p. p.items) pieces.new.items) ≡ joined (map (λ p. p.items) pieces.old.items) ++ more.now }
-    ensures kept { result ≡ false → joined (map (λ p. p.items) pieces.new.items) ≡ joined (map (λ p. p.items) pieces.old.items) }
+    ensures same { result ≡ false → joined (map (λ p. p.items) pieces.new.items) ≡ joined (map (λ p. p.items) pieces.old.items) }
 {
     let count = pieces.len();
     if count == 0 || more.len() > FULL || pieces[count - 1].len() > FULL - more.len() {
@@ -120,7 +120,7 @@ fn extend_pieces(pieces: &mut Vec<Vec<i64>>, more: &[i64]) -> bool
 /// Puts a whole list into the last piece of a list in pieces, if there is room for it.
 pub(crate) fn extend_last(left: &mut Val, right: &Val) -> bool
     ensures joined { result ≡ true → meaning left.new ≡ items (the_items (meaning left.old) ++ the_items (meaning right.now)) }
-    ensures kept { result ≡ false → meaning left.new ≡ meaning left.old }
+    ensures same { result ≡ false → meaning left.new ≡ meaning left.old }
 {
     match right {
         Val::List(more) => match left {

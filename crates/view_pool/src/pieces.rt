@@ -50,7 +50,7 @@ fn split_for(alloc: Global, kind: &Kind, left: &mut Val, right: &Val)
 /// Puts a short list into the last piece of another one, if there is room.
 fn join_short(kind: &Kind, left: &mut Val, right: &Val) -> bool
     ensures joined { result ≡ true → meaning left.new ≡ operate kind.now (meaning left.old) (meaning right.now) }
-    ensures kept { result ≡ false → meaning left.new ≡ meaning left.old }
+    ensures same { result ≡ false → meaning left.new ≡ meaning left.old }
 {
     match kind {
         Kind::List => extend_last(left, right),

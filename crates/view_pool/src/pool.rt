@@ -22,9 +22,9 @@ pub trait KitSource<K> {
 
     /// A free kit, if there is one.
     fn take(&mut self) -> Option<K>
-        ensures given { IfSome result (λ k. gives k self.old) }
+        ensures known { IfSome result (λ k. gives k self.old) }
         ensures fitting { (k : K) → fits k self.old → fits k self.new }
-        ensures kept { (k : K) → gives k self.new → gives k self.old }
+        ensures gives_known { (k : K) → gives k self.new → gives k self.old }
         ensures taken { IfSome result (λ k. free self.old ≡ suc (free self.new)) }
         ensures untaken { IsNone result → free self.new ≡ free self.old }
         ensures none { IsNone result → lacks self.old }
@@ -34,7 +34,7 @@ pub trait KitSource<K> {
     fn give(&mut self, kit: K) -> Result<(), K>
         requires fits { fits kit self.old }
         ensures fitting { (k : K) → fits k self.old → fits k self.new }
-        ensures kept { (k : K) → gives k self.new → gives k self.old ⊎ kit ≡ k }
+        ensures gives_known { (k : K) → gives k self.new → gives k self.old ⊎ kit ≡ k }
         ensures handed_back { IfErr result (λ k. k ≡ kit) }
         ensures room { free self.old < total self.old → IsOk result }
         ensures home { OnOk result (free self.new ≡ suc (free self.old)) }
@@ -94,7 +94,7 @@ impl<K> Pool<K> {
 
     /// Puts a kit among the free ones, or hands it back where all are there already.
     pub fn give(&mut self, kit: K) -> Result<(), K>
-        ensures given { OnOk result (self.new.kits ≡ self.old.kits ++ kit ∷ []) }
+        ensures put { OnOk result (self.new.kits ≡ self.old.kits ++ kit ∷ []) }
         ensures full { IsOk result ↔ (length self.old.kits < self.old.total) }
         ensures unchanged { OnErr result (self.new.kits ≡ self.old.kits) }
         ensures handed_back { IfErr result (λ k. k ≡ kit) }
@@ -120,9 +120,9 @@ impl<K> KitSource<K> for Pool<K> {
     ghost lacks = { λ s. s.kits ≡ [] };
 
     fn take(&mut self) -> Option<K>
-        ensures given { IfSome result (λ k. Contains self.old.kits k) }
+        ensures known { IfSome result (λ k. Contains self.old.kits k) }
         ensures fitting { (k : K) → Unit {0} → Unit {0} }
-        ensures kept { (k : K) → Contains self.new.kits k → Contains self.old.kits k }
+        ensures gives_known { (k : K) → Contains self.new.kits k → Contains self.old.kits k }
         ensures taken { IfSome result (λ k. length self.old.kits ≡ suc (length self.new.kits)) }
         ensures untaken { IsNone result → length self.new.kits ≡ length self.old.kits }
         ensures one { self.old.kits ≡ self.new.kits ++ option_to_list result }
@@ -134,12 +134,12 @@ impl<K> KitSource<K> for Pool<K> {
 
     fn give(&mut self, kit: K) -> Result<(), K>
         ensures fitting { (k : K) → Unit {0} → Unit {0} }
-        ensures kept { (k : K) → Contains self.new.kits k → Contains self.old.kits k ⊎ kit ≡ k }
+        ensures gives_known { (k : K) → Contains self.new.kits k → Contains self.old.kits k ⊎ kit ≡ k }
         ensures handed_back { IfErr result (λ k. k ≡ kit) }
         ensures room { length self.old.kits < self.old.total → IsOk result }
         ensures home { OnOk result (length self.new.kits ≡ suc (length self.old.kits)) }
         ensures away { OnErr result (length self.new.kits ≡ length self.old.kits) }
-        ensures given { OnOk result (self.new.kits ≡ self.old.kits ++ kit ∷ []) }
+        ensures put { OnOk result (self.new.kits ≡ self.old.kits ++ kit ∷ []) }
         ensures full { IsOk result ↔ (length self.old.kits < self.old.total) }
         ensures unchanged { OnErr result (self.new.kits ≡ self.old.kits) }
         ensures total { self.new.total ≡ self.old.total }

@@ -2,7 +2,7 @@ pub mod Names
 pub mod Finding
 pub mod Working
 pub mod Moving
-pub mod Resting
+pub mod LaidStates
 pub mod Thefts
 pub mod Neighbours
 pub mod Shares

@@ -7,7 +7,7 @@ use Rattle.meaning.specs.Schedules.{RunState, end_of}
 use Rattle.linked_program.specs.Checked.{PlainChecked, IsChecked}
 use Rattle.input_tables.specs.Edited.{Edited}
 use Rattle.rerun_records.specs.Record.{PlainRecord}
-use Rattle.rerun_records.specs.Doubted.{IsInStep}
+use Rattle.rerun_records.specs.InStep.{IsInStep}
 use Rattle.rerun_records.specs.Named.{HaveValues}
 use Rattle.rerun_records.specs.Commits.{put_records}
 use Rattle.positions.specs.Setting.{Setting}

@@ -54,25 +54,25 @@ LeavesPool Work NoMemory k l = length l.kits ≡ length k.kits
 LeavesPool _ _ k l = l ≡ k
 
 -- as what a strand is laid down at a point, with those continuations on the deque
-abbrev pub rest_at : Paused → List PlainTask → Option State
-rest_at paused.Faulted ks = Some state.Faulted
-rest_at paused.AtSync [] = Some state.Stalled
-rest_at paused.Returned [] = Some state.Ended
-rest_at paused.Finished [] = Some state.Finished
-rest_at _ ks = None
+abbrev pub laid_at : Paused → List PlainTask → Option State
+laid_at paused.Faulted ks = Some state.Faulted
+laid_at paused.AtSync [] = Some state.Stalled
+laid_at paused.Returned [] = Some state.Ended
+laid_at paused.Finished [] = Some state.Finished
+laid_at _ ks = None
 
 -- only a strand with a fault is laid down as faulted
-abbrev pub MayRest : State → Phase → Type 0
-MayRest state.Faulted ph = HasFault ph
-MayRest _ ph = Unit {0}
+abbrev pub MayLay : State → Phase → Type 0
+MayLay state.Faulted ph = HasFault ph
+MayLay _ ph = Unit {0}
 
 -- what the history notes where a strand is laid down so
-abbrev pub rest_noted : State → Place → strands.BookStep
-rest_noted (state.Held w) p = strands.Stall p
-rest_noted state.Stalled p = strands.Stall p
-rest_noted state.Ended p = strands.End p
-rest_noted state.Faulted p = strands.Fault p
-rest_noted state.Finished p = strands.Finish p
+abbrev pub laying_noted : State → Place → strands.BookStep
+laying_noted (state.Held w) p = strands.Stall p
+laying_noted state.Stalled p = strands.Stall p
+laying_noted state.Ended p = strands.End p
+laying_noted state.Faulted p = strands.Fault p
+laying_noted state.Finished p = strands.Finish p
 
 -- there is a continuation to take
 abbrev pub has_tasks : List PlainTask → Bool

@@ -17,7 +17,7 @@ use Rattle.numbered_runs.specs.declared.refusal.Refusal.{Refusal}
 use Rattle.numbered_runs.specs.declared.refusal.Refusal.TheVariants.{NotThere, NoMemory}
 use Rattle.stepped_runs.specs.Pieces.{PlainPiece, place_of, is_held_by, stolen_of}
 use Rattle.stepped_runs.specs.Runs.{PlainRun, among}
-use Rattle.worker_core.specs.Moves.{IsFit, has_tasks, rest_at, rest_noted}
+use Rattle.worker_core.specs.Moves.{IsFit, has_tasks, laid_at, laying_noted}
 
 -- the pieces in serial order, the free kits by their kinds, how many kits there are in all, and the history
 pub record PlainStrands : Type 0 where
@@ -78,9 +78,9 @@ IsRobbed setting thief i s t =
     ≡ Ok (record { pieces = t.pieces; kits = kits; history = t.history })
 
 -- what a strand that is laid down so keeps: a faulted one its lowest layer alone
-abbrev pub rested_strand : State → PlainStrand → PlainStrand
-rested_strand state.Faulted s = lowest_alone s
-rested_strand _ s = s
+abbrev pub laid_strand : State → PlainStrand → PlainStrand
+laid_strand state.Faulted s = lowest_alone s
+laid_strand _ s = s
 
 -- so many kits come home then
 abbrev pub freed : State → PlainPiece → ℕ
@@ -88,14 +88,14 @@ freed state.Faulted p = length p.strand.lower
 freed _ p = 0
 
 -- the strand laid down so
-abbrev pub rested : State → PlainPiece → PlainPiece
-rested state p = record { strand = rested_strand state p.strand; deque = []; state = named_state state }
+abbrev pub laid_down : State → PlainPiece → PlainPiece
+laid_down state p = record { strand = laid_strand state p.strand; deque = []; state = named_state state }
 
 -- the strand of that number, which is p, is laid down so
 pub record IsLaidDown (i : ℕ) (state : State) (p : PlainPiece) (s t : PlainStrands) : Type 0 where
-  pub pieces : t.pieces ≡ slice_set s.pieces i (rested state p)
+  pub pieces : t.pieces ≡ slice_set s.pieces i (laid_down state p)
   pub kits : length t.kits ≡ length s.kits + freed state p
-  pub history : t.history ≡ s.history ++ rest_noted state (place_of p) ∷ []
+  pub history : t.history ≡ s.history ++ laying_noted state (place_of p) ∷ []
 
 abbrev pub LaysDown : Option State → ℕ → PlainPiece → PlainStrands → PlainStrands → Type 0
 LaysDown None i p s t = ⊥
@@ -104,7 +104,7 @@ LaysDown (Some state) i p s t = IsLaidDown i state p s t
 -- the strand of that number is laid down as what its holder leaves it
 abbrev pub IsLaid : List Code → ℕ → PlainStrands → PlainStrands → Type 0
 IsLaid codes i s t =
-    (d : PlainPiece) → LaysDown (rest_at (pause_of codes (slice_index_or s.pieces i d).strand) (slice_index_or s.pieces i d).deque) i
+    (d : PlainPiece) → LaysDown (laid_at (pause_of codes (slice_index_or s.pieces i d).strand) (slice_index_or s.pieces i d).deque) i
     (slice_index_or s.pieces i d) s t
 
 -- memory is refused where the strand was to be laid down

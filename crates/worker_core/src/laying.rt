@@ -8,8 +8,8 @@ ghost use Rattle.positions.specs.Advance.{pause_of};
 ghost use Rattle.numbered_runs.specs.Named.{named_state, book_step};
 ghost use Rattle.stepped_runs.specs.Pieces.{PlainPiece, stalled};
 ghost use Rattle.stepped_runs.specs.Runs.{changed};
-ghost use Rattle.worker_core.specs.Moves.{RefusedAs, MayRest, rest_at, rest_noted};
-ghost use Rattle.worker_core.specs.Strands.{run_of, kits_in, AreFit, rested, freed, layers_of, IsLaidDown, IsLaid, IsLayingRefused};
+ghost use Rattle.worker_core.specs.Moves.{RefusedAs, MayLay, laid_at, laying_noted};
+ghost use Rattle.worker_core.specs.Strands.{run_of, kits_in, AreFit, laid_down, freed, layers_of, IsLaidDown, IsLaid, IsLayingRefused};
 
 use crate::piece::Piece;
 use crate::strands::{Strands, held_at};
@@ -22,7 +22,7 @@ use view_pool::{Kit, Pool, View};
 
 /// What the history notes where the strand of that place is laid down so.
 fn noted(state: State, place: Place) -> BookStep
-    ensures noted { book_step result ≡ rest_noted state place.items }
+    ensures noted { book_step result ≡ laying_noted state place.items }
 {
     match state {
         State::Held(_) | State::Stalled => BookStep::Stall(place),
@@ -34,9 +34,9 @@ fn noted(state: State, place: Place) -> BookStep
 
 impl<V: View> Piece<V> {
     /// As what the strand is laid down; none where its holder has something to do with it.
-    fn rest(&self, program: &Checked) -> Option<State>
-        ensures rest { result ≡ rest_at (pause_of program.now.codes self.now.strand) self.now.deque }
-        ensures phase { IfSome result (λ state. MayRest state self.now.strand.phase) }
+    fn laid_state(&self, program: &Checked) -> Option<State>
+        ensures laid { result ≡ laid_at (pause_of program.now.codes self.now.strand) self.now.deque }
+        ensures phase { IfSome result (λ state. MayLay state self.now.strand.phase) }
     {
         match self.strand.pause(program) {
             Paused::Faulted => Some(State::Faulted),
@@ -49,9 +49,9 @@ impl<V: View> Piece<V> {
 
     /// Lays the strand down, and gives up its deque; the kits of a faulted one's upper layers go home. It takes no memory.
     fn lay(&mut self, state: State, pool: &mut Pool<Kit<V>>)
-        requires faulted { MayRest state self.old.strand.phase }
+        requires faulted { MayLay state self.old.strand.phase }
         requires room { length pool.old.kits + layers_of self.old ≤ pool.old.total }
-        ensures laid { self.new ≡ rested state self.old }
+        ensures laid { self.new ≡ laid_down state self.old }
         ensures kinds { self.new.strand.layer.kinds ≡ self.old.strand.layer.kinds }
         ensures free { (kinds : List Kind) → self.old.strand.layer.kinds ≡ kinds → All (λ k. k ≡ kinds) pool.old.kits → All (λ k. k ≡ kinds) pool.new.kits }
         ensures home { length pool.new.kits ≡ length pool.old.kits + freed state self.old }
@@ -96,14 +96,14 @@ impl<V: View> Strands<V> {
         requires number { number < length self.old.pieces }
         ensures taken { OnOk result (IsLaid program.now.codes number self.old self.new) }
         ensures refused { IfErr result (λ e. (d : PlainPiece)
-            → IsLayingRefused (rest_at (pause_of program.now.codes (slice_index_or self.old.pieces number d).strand)
+            → IsLayingRefused (laid_at (pause_of program.now.codes (slice_index_or self.old.pieces number d).strand)
             (slice_index_or self.old.pieces number d).deque) e) }
         ensures unchanged { OnErr result (self.new ≡ self.old) }
         ensures fit { (kinds : List Kind) → AreFit kinds self.old → AreFit kinds self.new }
         ensures total { self.new.total ≡ self.old.total }
         ensures kits { kits_in self.new ≡ kits_in self.old }
     {
-        match self.pieces[number].rest(program) {
+        match self.pieces[number].laid_state(program) {
             None => Err(Refusal::NotThere),
             Some(state) => self.lay_at(alloc, number, state),
         }
@@ -112,7 +112,7 @@ impl<V: View> Strands<V> {
     /// Lays the strand of that number down so; refused for want of memory alone, and then nothing has changed.
     fn lay_at(&mut self, alloc: Global, number: usize, state: State) -> Result<(), Refusal>
         requires number { number < length self.old.pieces }
-        requires faulted { (d : PlainPiece) → MayRest state (slice_index_or self.old.pieces number d).strand.phase }
+        requires faulted { (d : PlainPiece) → MayLay state (slice_index_or self.old.pieces number d).strand.phase }
         ensures laid { OnOk result ((d : PlainPiece) → IsLaidDown number state (slice_index_or self.old.pieces number d) self.old self.new) }
         ensures cause { IfErr result (λ e. e ≡ Refusal.NoMemory) }
         ensures unchanged { OnErr result (self.new ≡ self.old) }

@@ -4,7 +4,7 @@ ghost use Rattle.numbered_runs.specs.Named.{run_step, book_step, line};
 ghost use Rattle.stepped_runs.specs.Runs.{are_workers, line_of};
 ghost use Rattle.worker_core.specs.Moves.{RefusedAs};
 ghost use Rattle.worker_core.specs.Strands.{run_of, kits_in};
-ghost use Rattle.rerun_records.specs.Doubted.{IsInStep};
+ghost use Rattle.rerun_records.specs.InStep.{IsInStep};
 ghost use Rattle.rerun_records.specs.Named.{HaveValues};
 ghost use Rattle.linked_program.specs.TableNames.{columned_of};
 ghost use Rattle.worker_core.specs.Going.{GoesOn};
@@ -156,8 +156,8 @@ impl<'a, V: View> Core<'a, V> {
 
     /// What the type keeps: until the run has failed it stands for one of the definitions, of which the elision's answer from
     /// scratch is left to do.
-    pub fn kept(&self)
-        ensures rest { self.now.failed ≡ false → LeavesElision self.now }
+    pub fn upheld(&self)
+        ensures leaves { self.now.failed ≡ false → LeavesElision self.now }
     {
         let _ = &self.strands;
     }

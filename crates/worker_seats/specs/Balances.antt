@@ -19,7 +19,7 @@ pub record PlainDepot : Type 0 where
 abbrev pub Balances : PlainDepot → List PlainLaid → Type 0
 Balances d laid = (d.free + (d.out + kits_laid laid) ≡ d.begun) × (d.parts + held_among laid ≡ most)
 
--- the same but for a kit that was taken for a strand
+-- a depot balances but for a kit that was taken for a strand
 abbrev pub LacksOne : PlainDepot → List PlainLaid → Type 0
 LacksOne d laid = (suc (d.free + (d.out + kits_laid laid)) ≡ d.begun) × (d.parts + held_among laid ≡ most)
 
@@ -27,7 +27,7 @@ LacksOne d laid = (suc (d.free + (d.out + kits_laid laid)) ≡ d.begun) × (d.pa
 abbrev pub LacksPart : PlainDepot → List PlainLaid → Type 0
 LacksPart d laid = (suc (d.free + (d.out + kits_laid laid)) ≡ d.begun) × (d.parts + held_among laid ≡ suc most)
 
--- the same but for a strand that a worker holds, whose kits aren't counted yet and which has no part
+-- a depot balances but for a strand that a worker holds, whose kits aren't counted yet and which has no part
 abbrev pub Lacks : PlainStrand → PlainDepot → List PlainLaid → Type 0
 Lacks s d laid = (d.free + (d.out + (kits_of s + kits_laid laid)) ≡ d.begun) × (d.parts + held_among laid ≡ suc most)
 

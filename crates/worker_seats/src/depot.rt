@@ -57,7 +57,7 @@ impl<P: Stock<K> + Ledger, K> Depot<P, K> {
     pub fn take(&mut self) -> Option<K>
         ensures fits { IfSome result P.fits }
         ensures taken { OnSome result (self.old.free ≡ suc self.new.free) }
-        ensures rest { self.new ≡ record self.old { free = self.new.free } }
+        ensures others { self.new ≡ record self.old { free = self.new.free } }
         ensures none { IsNone result → self.new ≡ self.old }
     {
         self.pool.take()
@@ -79,7 +79,7 @@ impl<P: Stock<K> + Ledger, K> Depot<P, K> {
         requires one { 0 < share.old.parts }
         ensures fits { IfSome result P.fits }
         ensures taken { OnSome result (self.old.free ≡ suc self.new.free) }
-        ensures rest { OnSome result (self.new
+        ensures others { OnSome result (self.new
             ≡ record self.old { free = self.new.free; out = suc self.old.out }) }
         ensures counted { OnSome result (share.new.amount ≡ suc share.old.amount) }
         ensures none { IsNone result → self.new ≡ self.old }

@@ -17,7 +17,7 @@ pub enum Failure {
 pub fn failure_of(refusal: Refusal) -> Failure
     ensures right { is_right result ≡ true }
     ensures near { is_apart refusal ≡ false → is_far result ≡ false }
-    ensures kept { is_refusal refusal ≡ true → result ≡ reason.Refused refusal }
+    ensures same { is_refusal refusal ≡ true → result ≡ reason.Refused refusal }
 {
     match refusal.error() {
         BookError::NoMemory => Failure::NoMemory,
@@ -47,7 +47,7 @@ pub fn mismatch_of(failure: Failure) -> Option<Mismatch>
 fn was_refused(refusal: Refusal)
     ensures refused { is_refusal refusal ≡ true → WasRefused refusal }
 {
-    refusal.kept();
+    refusal.upheld();
 }
 
 /// Whether a run is over that has given up for this reason, if for any, or that is at its end.

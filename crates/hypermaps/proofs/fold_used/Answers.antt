@@ -28,7 +28,7 @@ returns-in_err-fold_at-clause-right_layer g c =
     let ks : List Kind = map g.V.View.kind_of c.loop-place.right.items in
     let ws : List Worth = map g.V.View.worth_of c.loop-place.right.items in
     let us = c.args.used.now in
-    rw (c.fold_at.ensures.right_kinds, c.in_err-fold_at.ensures.kept)
+    rw (c.fold_at.ensures.right_kinds, c.in_err-fold_at.ensures.same)
     (IsLayer-more ks ws us c.loop-place.place c.loop-place.invariant.right_layer
     (subst (λ (cs : List Kind). All (λ i. i < length cs) us) (sym c.loop-place.invariant.right_kinds) c.requires.right_layer.below))
 

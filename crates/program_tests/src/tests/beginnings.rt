@@ -9,7 +9,7 @@ use std::alloc::Global;
 use std::process::Abort;
 
 /// Three rows of a quantity and a price.
-pub const SALES: &str =
+const SALES: &str =
     "[sales]\ncolumns = [\"qty\", \"price\"]\nrows = [[1, 2, 5], [2, 3, 7], [3, 1, 100]]\n";
 
 /// Two tables; `sales` is the second one.

@@ -77,7 +77,8 @@ const NO_SUMS: [Look; 2] = [Sum(0, 0, 0), Sum(0, 1, 0)];
 
 /// Edits two rows and takes the first one out; and then the others.
 fn edit(rt: &impl Abort, alloc: Global, tables: &mut Tables) {
-    tables.put(alloc, "sales", 2, &[-1, 9]).expect(rt, "a row");
+    let sales = tables.table("sales").expect(rt, "a table");
+    tables.put_at(sales, 2, &[-1, 9]).expect(rt, "a row");
     tables
         .put(alloc, "sales", 100, &[i64::MAX, 2])
         .expect(rt, "a row");
@@ -86,7 +87,9 @@ fn edit(rt: &impl Abort, alloc: Global, tables: &mut Tables) {
 }
 
 fn delete_all(rt: &impl Abort, tables: &mut Tables) {
-    for row in [2, 100, 4, 3] {
+    let sales = tables.table("sales").expect(rt, "a table");
+    tables.delete_at(sales, 2).expect(rt, "a row");
+    for row in [100, 4, 3] {
         tables.delete("sales", row).expect(rt, "a row");
     }
 }

@@ -190,7 +190,7 @@ fn let_go<V: View, W: View>(
 )
     requires kits { All (λ k. k ≡ session.now.checked.kinds) pool.kits }
 {
-    session.kept();
+    session.upheld();
     let (program, tables, records) = (session.checked(), session.tables(), session.records());
     let Ok(mut core) = Core::start(alloc, program, tables, records, pool, 2) else {
         panic!(rt; "not started");

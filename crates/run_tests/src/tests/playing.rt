@@ -95,13 +95,13 @@ pub fn play_over<V: View, W: View>(
     requires kits { All (λ k. k ≡ session.now.checked.kinds) pool.kits }
     ensures kits { All (λ k. k ≡ session.now.checked.kinds) result.1.kits }
 {
-    session.kept();
+    session.upheld();
     let (program, tables, records) = (session.checked(), session.tables(), session.records());
     let Ok(mut core) = Core::start(alloc, program, tables, records, pool, workers) else {
         panic!(rt; "not started");
     };
     let refused = take_all(rt, alloc, &mut core, line);
-    core.kept();
+    core.upheld();
     let (strands, history) = state_of(alloc, &core).expect(rt, "memory");
     let is_over = core.is_over();
     let (answer, pool, _) = core.finish(alloc);
@@ -125,7 +125,7 @@ fn play_in<V: View>(
     line: &str,
 ) -> Played {
     let before = session.kits();
-    session.kept();
+    session.upheld();
     let pool = session.take_pool(alloc);
     let (played, pool) = play_over(rt, alloc, session, pool, workers, line);
     session.put_back(pool);

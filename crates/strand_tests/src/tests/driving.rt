@@ -38,6 +38,7 @@ fn no_kits(rt: &impl Abort, alloc: Global) -> Pool<Kit<PlainView>>
 pub fn are_monoids(program: &Checked)
     ensures monoids { All IsMonoid program.now.kinds }
 {
+    // What the program's type keeps: it breaks no rule, so the law makes the clause of it.
     program.clean();
     program.linked();
     program.revised();
@@ -78,6 +79,7 @@ pub fn parent(rt: &impl Abort, alloc: Global, strand: &mut Strand<PlainView>) ->
 {
     match strand.phase() {
         Phase::AtSpawn => {
+            // At a spawn a parent waits, so there is one to take out.
             strand.ready();
             strand.detach(alloc)
         }

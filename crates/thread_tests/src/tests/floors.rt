@@ -2,7 +2,7 @@
 ghost use Rattle.std.specs.Prelude.{◌≡◌, ◌<◌, ◌≤◌, [], All, length};
 ghost use Rattle.linked_program.specs.Checked.{revised_of};
 ghost use Rattle.linked_program.specs.TableNames.{columned_of};
-ghost use Rattle.rerun_records.specs.Doubted.{IsInStep};
+ghost use Rattle.rerun_records.specs.InStep.{IsInStep};
 ghost use Rattle.rerun_records.specs.Named.{HaveValues};
 ghost use Rattle.positions.specs.Setting.{setting_with};
 ghost use Rattle.numbered_runs.specs.News.{AreSound};
@@ -97,7 +97,7 @@ fn given_up(
 ) -> Option<usize>
     requires workers { (0 < workers) × (workers ≤ 16) }
 {
-    session.kept();
+    session.upheld();
     let pool = session.take_pool(alloc);
     let borrowed = Borrowed {
         program: session.checked(),

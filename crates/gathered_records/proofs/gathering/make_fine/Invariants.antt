@@ -1,10 +1,5 @@
-use Rattle.std.proofs.Common.{◌≡◌, map}
-use Rattle.rerun_records.specs.Record.{doubtless}
-use Rattle.rerun_records.specs.Doubted.{IsInStep}
+use Rattle.std.proofs.Common.{◌≡◌}
 use Rattle.gathered_records.proofs.gathering.make_fine.Given as goal
 
 abbrev pub invariant-loop-place : goal.invariant-loop-place
-invariant-loop-place l = record {
-  in_step : IsInStep l.tables.tables l.records;
-  same : map doubtless l.records ≡ map doubtless l.fn.records;
-}
+invariant-loop-place l = l.records ≡ l.fn.records

@@ -1,12 +1,18 @@
-use Rattle.rerun_records.proofs.Puts.{same_values}
-use Rattle.meaning.specs.Commits.{committed}
-use Rattle.kept_session.proofs.Doubts.{stand_so}
+use Rattle.std.proofs.Common.{ap, map, sym, subst, ◌∙◌}
+use Rattle.rerun_records.specs.Record.{as_made}
+use Rattle.rerun_records.specs.Named.{HaveValues, CommitsNamed}
+use Rattle.record_index.specs.Indexed.{PlainIndexed, IsIndexed}
 use Rattle.kept_session.proofs.settling.keep.Goals as goal
 
+pub returns-clause-committed : goal.returns-clause-committed
+returns-clause-committed c = ap (λ (x : PlainIndexed). map as_made x.records) c.gather.ensures.same ∙ c.in_ok-commit.ensures.committed
+
+pub returns-clause-indexed : goal.returns-clause-indexed
+returns-clause-indexed c = subst (IsIndexed c.args.program.now.revisions c.args.tables.now.tables) (sym c.gather.ensures.same) c.in_ok-commit.ensures.indexed
+
 pub returns-clause-named : goal.returns-clause-named
-returns-clause-named c = λ ks js h i.
-    stand_so c.args.program.now (committed ks js) c.commit.new.self.records c.gather.new.self.records c.gather.ensures.same (c.in_ok-commit.ensures.named ks js h i)
+returns-clause-named c =
+    subst (λ (x : PlainIndexed). CommitsNamed c.args.program.now c.args.records.now.records c.args.made.items x.records) (sym c.gather.ensures.same) c.in_ok-commit.ensures.named
 
 pub returns-clause-values : goal.returns-clause-values
-returns-clause-values c = λ kinds h i.
-    same_values kinds c.commit.new.self.records c.gather.new.self.records c.gather.ensures.same (c.in_ok-commit.ensures.values kinds h i)
+returns-clause-values c = λ kinds h i. subst (λ (x : PlainIndexed). HaveValues kinds x.records) (sym c.gather.ensures.same) (c.in_ok-commit.ensures.values kinds h i)

@@ -10,8 +10,8 @@ invariant-loop-next g l = record {
   same : l.layer.kinds ≡ l.fn.layer.kinds;
   fits : g.K.KitSource.fits l.fn.layer.kinds l.kits;
   fitting : (k : List Kind) → g.K.KitSource.fits k l.fn.kits → g.K.KitSource.fits k l.kits;
-  kept : (k : List Kind) → g.K.KitSource.gives k l.kits → g.K.KitSource.gives k l.fn.kits ⊎ l.fn.layer.kinds ≡ k;
-  given : length l.fn.lower.items + g.K.KitSource.free l.fn.kits ≤ g.K.KitSource.total l.fn.kits → length l.lower.items + g.K.KitSource.free l.kits ≡ length l.fn.lower.items + g.K.KitSource.free l.fn.kits;
+  gives_known : (k : List Kind) → g.K.KitSource.gives k l.kits → g.K.KitSource.gives k l.fn.kits ⊎ l.fn.layer.kinds ≡ k;
+  home : length l.fn.lower.items + g.K.KitSource.free l.fn.kits ≤ g.K.KitSource.total l.fn.kits → length l.lower.items + g.K.KitSource.free l.kits ≡ length l.fn.lower.items + g.K.KitSource.free l.fn.kits;
   total : g.K.KitSource.total l.kits ≡ g.K.KitSource.total l.fn.kits;
 }
 

@@ -17,7 +17,7 @@ pub returns-then-takes-clause-done : goal.returns-then-takes-clause-done
 returns-then-takes-clause-done g c =
     let S = lent c.args.setting in
     let n = c.args.here.statement in
-    let p = c.args.here.place in
+    let p = c.args.here.position in
     let r = c.args.reducer in
     let a = c.args.top.now in
     let xs = c.args.expressions.now in
@@ -32,7 +32,7 @@ pub returns-then-takes-2-clause-done : goal.returns-then-takes-2-clause-done
 returns-then-takes-2-clause-done g c =
     let S = lent c.args.setting in
     let n = c.args.here.statement in
-    let p = c.args.here.place in
+    let p = c.args.here.position in
     let r = c.args.reducer in
     let a = c.args.top.now in
     let xs = c.args.expressions.now in

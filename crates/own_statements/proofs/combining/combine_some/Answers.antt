@@ -23,7 +23,7 @@ returns-in-Some-one_number-clause-done g c =
     ap (λ (xs : List Kind). slice_get xs r) (sym c.kinds.ensures.kinds) ∙ slice_get_read ks (length ks) r kind refl c.in-Some.ensures.lookup.3.0 c.in-Some.ensures.lookup.1 in
     let updated : OnOk c.update_fitting.result (c.update_fitting.new.self ≡ updating r kind (v ∷ []) c.args.layer.now) = search rules in
     let named : OnOk c.update_fitting.result (names_element kind (v ∷ []) ≡ true) = search rules in
-    does_at_once c.args.here.passes_syncs c.args.here.place c.args.here.statement r kind (v ∷ []) c.args.top.now c.args.layer.now c.update_fitting.new.self
+    does_at_once c.args.here.passes_syncs c.args.here.position c.args.here.statement r kind (v ∷ []) c.args.top.now c.args.layer.now c.update_fitting.new.self
     c.update_fitting.result (if c.is_ok.result then Next else Nothing) (values_at ts slots es) (slice_get c.args.setting.program.now.kinds r) is
     (ap (λ (xs : List Slot). values_at ts xs es) (sym c.slots.ensures.slots) ∙ c.in-Some-one_number.ensures.value ts)
     (ap (λ (b : Bool). if b then Next else Nothing) c.is_ok.ensures.value)
@@ -42,7 +42,7 @@ returns-in-Some-two_numbers-clause-done g c =
     ap (λ (xs : List Kind). slice_get xs r) (sym c.kinds.ensures.kinds) ∙ slice_get_read ks (length ks) r kind refl c.in-Some.ensures.lookup.3.0 c.in-Some.ensures.lookup.1 in
     let updated : OnOk c.update_fitting-in-Some-two_numbers.result (c.update_fitting-in-Some-two_numbers.new.self ≡ updating r kind (pair.0 ∷ pair.1 ∷ []) c.args.layer.now) = search rules in
     let named : OnOk c.update_fitting-in-Some-two_numbers.result (names_element kind (pair.0 ∷ pair.1 ∷ []) ≡ true) = search rules in
-    does_at_once c.args.here.passes_syncs c.args.here.place c.args.here.statement r kind (pair.0 ∷ pair.1 ∷ []) c.args.top.now c.args.layer.now c.update_fitting-in-Some-two_numbers.new.self
+    does_at_once c.args.here.passes_syncs c.args.here.position c.args.here.statement r kind (pair.0 ∷ pair.1 ∷ []) c.args.top.now c.args.layer.now c.update_fitting-in-Some-two_numbers.new.self
     c.update_fitting-in-Some-two_numbers.result (if c.is_ok-in-Some-two_numbers.result then Next else Nothing) (values_at ts slots es) (slice_get c.args.setting.program.now.kinds r) is
     (ap (λ (xs : List Slot). values_at ts xs es) (sym c.slots-in-None-one_number.ensures.slots) ∙ c.in-Some-two_numbers.ensures.value ts)
     (ap (λ (b : Bool). if b then Next else Nothing) c.is_ok-in-Some-two_numbers.ensures.value)

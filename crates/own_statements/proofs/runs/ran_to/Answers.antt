@@ -19,7 +19,7 @@ returns-in-Block c =
     record {
       runs = λ passes l. (
         λ s may. subst (λ (w : Work). IsPath S (topped Running a l s) (topped Running (at w a) l s)) (sym c.in-Block.ensures.work) here,
-        block_found S.codes a c.in-Block.place.block c.procedure.result c.depth.result c.instructions-statements.result.now c.procedure.ensures.procedure c.depth.ensures.depth c.instructions-statements.ensures.found,
+        block_found S.codes a c.in-Block.position.block c.procedure.result c.depth.result c.instructions-statements.result.now c.procedure.ensures.procedure c.depth.ensures.depth c.instructions-statements.ensures.found,
       );
     }
 

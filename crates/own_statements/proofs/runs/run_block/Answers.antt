@@ -20,11 +20,11 @@ loop-index-init g c = record { kinds = refl; same = (refl, refl); come = λ s ma
 pub loop-index-preserved : goal.loop-index-preserved
 loop-index-preserved g c =
     let S = lent c.args.setting in
-    let a = at (Block c.args.place) c.args.top.now in
+    let a = at (Block c.args.position) c.args.top.now in
     let xs = c.args.statements.now in
     let index = c.loop-index.index in
     let i = c.index-statements-index.result in
-    let p : Position = record { block = c.args.place.block; index = index } in
+    let p : Position = record { block = c.args.position.block; index = index } in
     let b = c.loop-index.top in
     let there : index < length xs = search rules in
     let found : Some i ≡ instruction_inside S.codes b.procedure (length b.outer) p =
@@ -39,11 +39,11 @@ loop-index-preserved g c =
 pub loop-index-preserved-in-Update : goal.loop-index-preserved-in-Update
 loop-index-preserved-in-Update g c =
     let S = lent c.args.setting in
-    let a = at (Block c.args.place) c.args.top.now in
+    let a = at (Block c.args.position) c.args.top.now in
     let xs = c.args.statements.now in
     let index = c.loop-index.index in
     let i = c.index-statements-index.result in
-    let p : Position = record { block = c.args.place.block; index = index } in
+    let p : Position = record { block = c.args.position.block; index = index } in
     let b = c.loop-index.top in
     let there : index < length xs = search rules in
     let found : Some i ≡ instruction_inside S.codes b.procedure (length b.outer) p =
@@ -68,11 +68,11 @@ loop-index-preserved-in-Update g c =
 pub returns-then-not-combine_some-clause-ran : goal.returns-then-not-combine_some-clause-ran
 returns-then-not-combine_some-clause-ran g c =
     let S = lent c.args.setting in
-    let a = at (Block c.args.place) c.args.top.now in
+    let a = at (Block c.args.position) c.args.top.now in
     let xs = c.args.statements.now in
     let index = c.loop-index.index in
     let i = c.index-statements-index.result in
-    let p : Position = record { block = c.args.place.block; index = index } in
+    let p : Position = record { block = c.args.position.block; index = index } in
     let b = c.loop-index.top in
     let there : index < length xs = search rules in
     let found : Some i ≡ instruction_inside S.codes b.procedure (length b.outer) p =
@@ -93,11 +93,11 @@ returns-then-not-combine_some-clause-ran g c =
 pub returns-in-Moved-clause-ran : goal.returns-in-Moved-clause-ran
 returns-in-Moved-clause-ran g c =
     let S = lent c.args.setting in
-    let a = at (Block c.args.place) c.args.top.now in
+    let a = at (Block c.args.position) c.args.top.now in
     let xs = c.args.statements.now in
     let index = c.loop-index.index in
     let i = c.index-statements-index.result in
-    let p : Position = record { block = c.args.place.block; index = index } in
+    let p : Position = record { block = c.args.position.block; index = index } in
     let b = c.loop-index.top in
     let there : index < length xs = search rules in
     let found : Some i ≡ instruction_inside S.codes b.procedure (length b.outer) p =
@@ -110,11 +110,11 @@ returns-in-Moved-clause-ran g c =
 pub returns-in-Nothing-clause-ran : goal.returns-in-Nothing-clause-ran
 returns-in-Nothing-clause-ran g c =
     let S = lent c.args.setting in
-    let a = at (Block c.args.place) c.args.top.now in
+    let a = at (Block c.args.position) c.args.top.now in
     let xs = c.args.statements.now in
     let index = c.loop-index.index in
     let i = c.index-statements-index.result in
-    let p : Position = record { block = c.args.place.block; index = index } in
+    let p : Position = record { block = c.args.position.block; index = index } in
     let b = c.loop-index.top in
     let there : index < length xs = search rules in
     let found : Some i ≡ instruction_inside S.codes b.procedure (length b.outer) p =
@@ -126,11 +126,11 @@ returns-in-Nothing-clause-ran g c =
 pub returns-in-Gave-clause-ran : goal.returns-in-Gave-clause-ran
 returns-in-Gave-clause-ran g c =
     let S = lent c.args.setting in
-    let a = at (Block c.args.place) c.args.top.now in
+    let a = at (Block c.args.position) c.args.top.now in
     let xs = c.args.statements.now in
     let index = c.loop-index.index in
     let i = c.index-statements-index.result in
-    let p : Position = record { block = c.args.place.block; index = index } in
+    let p : Position = record { block = c.args.position.block; index = index } in
     let b = c.loop-index.top in
     let there : index < length xs = search rules in
     let found : Some i ≡ instruction_inside S.codes b.procedure (length b.outer) p =
@@ -144,10 +144,10 @@ returns-in-Gave-clause-ran g c =
 pub returns-clause-ran : goal.returns-clause-ran
 returns-clause-ran g c =
     let S = lent c.args.setting in
-    let a = at (Block c.args.place) c.args.top.now in
+    let a = at (Block c.args.position) c.args.top.now in
     let xs = c.args.statements.now in
     let index = c.loop-index.index in
-    let p : Position = record { block = c.args.place.block; index = index } in
+    let p : Position = record { block = c.args.position.block; index = index } in
     let b = c.loop-index.top in
     let past : length xs ≤ index = search rules in
     let found : None ≡ instruction_inside S.codes b.procedure (length b.outer) p =

@@ -9,7 +9,7 @@ abbrev pub invariant-loop-index : goal.invariant-loop-index
 invariant-loop-index g l = record {
   kinds : l.layer.kinds ≡ l.fn.layer.kinds;
   same : IsInBlock l.fn.top l.top;
-  come : ComesTo (lent l.setting) l.passes_syncs (at (Block l.fn.place) l.fn.top) l.fn.layer None (at (Block (record { block = l.block; index = l.index })) l.top) l.layer;
+  come : ComesTo (lent l.setting) l.passes_syncs (at (Block l.fn.position) l.fn.top) l.fn.layer None (at (Block (record { block = l.block; index = l.index })) l.top) l.layer;
 }
 
 abbrev pub decreases-loop-index : goal.decreases-loop-index

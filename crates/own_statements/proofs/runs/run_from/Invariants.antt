@@ -9,6 +9,6 @@ use Rattle.own_statements.proofs.runs.run_from.Given as goal
 abbrev pub invariant-loop : goal.invariant-loop
 invariant-loop g l = record {
   kinds : l.layer.kinds ≡ l.fn.layer.kinds;
-  block : IsBlock l.setting.program.now.codes l.top l.place.block l.statements;
-  come : ComesTo (lent l.setting) l.passes_syncs (at (Block l.fn.place) l.fn.top) l.fn.layer None (at (Block l.place) l.top) l.layer;
+  block : IsBlock l.setting.program.now.codes l.top l.position.block l.statements;
+  come : ComesTo (lent l.setting) l.passes_syncs (at (Block l.fn.position) l.fn.top) l.fn.layer None (at (Block l.position) l.top) l.layer;
 }

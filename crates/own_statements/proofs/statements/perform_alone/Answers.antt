@@ -14,7 +14,7 @@ pub returns-in-Bind-clause-done : goal.returns-in-Bind-clause-done
 returns-in-Bind-clause-done g c =
     let S = lent c.args.setting in
     let n = c.args.instruction.now.number in
-    let p = c.args.place in
+    let p = c.args.position in
     let a = c.args.top.now in
     subst (λ (op : Operation). Does c.args.passes_syncs p (λ kit. performed S kit p n op) a c.args.layer.now c.bind.result c.bind.new.top c.bind.new.layer) (sym c.in-Bind.is)
     (does_as S c.args.passes_syncs p (λ (kit : Bool). evaluated n (value_at S.tables a.slots (expression c.in-Bind.value)) (binding p c.in-Bind.name)) (λ kit. performed S kit p n (o.Bind c.in-Bind.name c.in-Bind.value)) a c.args.layer.now c.bind.result c.bind.new.top c.bind.new.layer (λ kit s. refl) c.bind.ensures.done)
@@ -23,7 +23,7 @@ pub returns-in-If-clause-done : goal.returns-in-If-clause-done
 returns-in-If-clause-done g c =
     let S = lent c.args.setting in
     let n = c.args.instruction.now.number in
-    let p = c.args.place in
+    let p = c.args.position in
     let a = c.args.top.now in
     subst (λ (op : Operation). Does c.args.passes_syncs p (λ kit. performed S kit p n op) a c.args.layer.now c.choose.result c.choose.new.top c.choose.new.layer) (sym c.in-If.is)
     (does_as S c.args.passes_syncs p (λ (kit : Bool). evaluated n (value_at S.tables a.slots (expression c.in-If.condition)) (choosing p c.in-If.first c.in-If.second)) (λ kit. performed S kit p n (o.If c.in-If.condition c.in-If.first c.in-If.second)) a c.args.layer.now c.choose.result c.choose.new.top c.choose.new.layer (λ kit s. refl) c.choose.ensures.done)
@@ -32,7 +32,7 @@ pub returns-in-Return-clause-done : goal.returns-in-Return-clause-done
 returns-in-Return-clause-done g c =
     let S = lent c.args.setting in
     let n = c.args.instruction.now.number in
-    let p = c.args.place in
+    let p = c.args.position in
     let a = c.args.top.now in
     subst (λ (op : Operation). Does c.args.passes_syncs p (λ kit. performed S kit p n op) a c.args.layer.now c.give.result c.give.new.top c.give.new.layer) (sym c.in-Return.is)
     (does_as S c.args.passes_syncs p (λ (kit : Bool). evaluated n (value_at S.tables a.slots (expression c.in-Return.value)) giving) (λ kit. performed S kit p n (o.Return c.in-Return.value)) a c.args.layer.now c.give.result c.give.new.top c.give.new.layer (λ kit s. refl) c.give.ensures.done)
@@ -41,7 +41,7 @@ pub returns-in-Sync-clause-done : goal.returns-in-Sync-clause-done
 returns-in-Sync-clause-done g c =
     let S = lent c.args.setting in
     let n = c.args.instruction.now.number in
-    let p = c.args.place in
+    let p = c.args.position in
     let a = c.args.top.now in
     subst (λ (op : Operation). Does c.args.passes_syncs p (λ kit. performed S kit p n op) a c.args.layer.now c.pass_sync.result c.pass_sync.new.top c.pass_sync.new.layer) (sym c.in-Sync.is)
     (does_as S c.args.passes_syncs p (λ (kit : Bool). (λ s. if is_entry s then s else moved_on p s)) (λ kit. performed S kit p n (o.Sync)) a c.args.layer.now c.pass_sync.result c.pass_sync.new.top c.pass_sync.new.layer (λ kit s. refl) c.pass_sync.ensures.done)

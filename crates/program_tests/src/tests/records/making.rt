@@ -1,7 +1,7 @@
 //! Programs, tables and records that the tests speak of.
 ghost use Rattle.std.specs.Prelude.{◌≡◌};
 ghost use Rattle.meaning.specs.Every.{every};
-ghost use Rattle.rerun_records.specs.Doubted.{IsInStep};
+ghost use Rattle.rerun_records.specs.InStep.{IsInStep};
 ghost use Rattle.rerun_records.specs.Validity.{record_holds};
 
 use evaluation::note::Note;
@@ -9,7 +9,6 @@ use evaluation::reading::readings;
 use input_tables::Tables;
 use linked_program::checked::Checked;
 use monoid_laws::Val;
-use rerun_records::key::Key;
 use rerun_records::readings::Readings;
 use rerun_records::record::Record;
 use rerun_records::records::Records;
@@ -115,25 +114,4 @@ fn commit_all(
         panic!(rt; "a record that doesn't hold");
     }
     records.commit(made, tables, program).expect(rt, "memory");
-}
-
-/// The value that is looked up for a procedure and one argument at a depth.
-pub fn found(
-    rt: &impl Abort,
-    alloc: Global,
-    records: &Records,
-    instance: (&str, i64),
-    depth: u32,
-    tables: &Tables,
-    program: &Checked,
-) -> Option<i64>
-    requires in_step { IsInStep tables.now.tables records.now }
-{
-    let name = String::from_str(alloc, instance.0).expect(rt, "memory");
-    let arguments = Vec::from_slice(alloc, &[instance.1]).expect(rt, "memory");
-    let key = Key::new(name, arguments);
-    match records.lookup(&key, depth, tables, program) {
-        Some(record) => Some(record.value()),
-        None => None,
-    }
 }

@@ -1,5 +1,5 @@
 //! What a record gives back.
-ghost use Rattle.rerun_records.specs.Doubted.{IsInStep};
+ghost use Rattle.rerun_records.specs.InStep.{IsInStep};
 
 use super::super::beginnings::{checked_on, sales};
 use super::making::{LINES, cell, committed, reads_of, second_line};

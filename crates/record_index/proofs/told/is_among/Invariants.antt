@@ -1,5 +1,6 @@
 use Rattle.std.proofs.Common.{◌≡◌, drop}
-use Rattle.record_index.specs.Counts.{is_among, same_revision}
+use Rattle.rerun_records.specs.Counts.{is_among}
+use Rattle.record_index.specs.Counts.{same_revision}
 use Rattle.record_index.proofs.told.is_among.Given as goal
 
 abbrev pub invariant-loop-other : goal.invariant-loop-other

@@ -1,9 +1,7 @@
 use Rattle.std.proofs.Common.{rules, ◌≡◌, inr, true, refl, subst}
 use Rattle.meaning.specs.Every.{every}
-use Rattle.rerun_records.specs.Spans.{is_covered_by}
 use Rattle.rerun_records.specs.Blocks.{is_home}
 use Rattle.rerun_records.proofs.Homes.{remain_then, dropped_remain, put_added, put_housed}
-use Rattle.rerun_records.proofs.Hulls.{hulled_remain, put_hulled}
 use Rattle.rerun_records.proofs.level.put_block.Goals as goal
 
 pub returns-clause-added : goal.returns-clause-added
@@ -14,28 +12,6 @@ returns-clause-added c =
     let before = c.args.blocks.now.items in
     put_added _ mid before c.in_ok-number.number c.args.block refl
     (remain_then mid dropped before c.move_all.ensures.remain (remain_then dropped numbered before (dropped_remain dropped numbered c.in_ok-number.number c.drop_numbered.ensures.dropped) c.number_for.ensures.remain))
-
-pub returns-clause-hulled : goal.returns-clause-hulled
-returns-clause-hulled c =
-    let mid = c.move_all.new.blocks.items in
-    let dropped = c.drop_numbered.new.blocks.items in
-    let numbered = c.number_for.new.blocks.items in
-    let hulls = c.put_rows.new.hulls.items in
-    let reads : c.reads.result.now ≡ c.args.block.sum.reads = search rules in
-    put_hulled hulls _ mid c.in_ok-number.number c.args.block refl
-    (λ i h at from upto. subst (λ notes. every (is_covered_by h) notes ≡ true) reads (c.in_ok-put_rows.ensures.held i h at from upto))
-    (hulled_remain hulls mid numbered
-    (remain_then mid dropped numbered c.move_all.ensures.remain (dropped_remain dropped numbered c.in_ok-number.number c.drop_numbered.ensures.dropped))
-    (c.put_rows.ensures.kept numbered c.number_for.ensures.hulled))
-
-pub returns-in_err-move_all-clause-hulled : goal.returns-in_err-move_all-clause-hulled
-returns-in_err-move_all-clause-hulled c =
-    let mid = c.move_all.new.blocks.items in
-    let dropped = c.drop_numbered.new.blocks.items in
-    let numbered = c.number_for.new.blocks.items in
-    hulled_remain c.put_rows.new.hulls.items mid numbered
-    (remain_then mid dropped numbered c.move_all.ensures.remain (dropped_remain dropped numbered c.in_ok-number.number c.drop_numbered.ensures.dropped))
-    (c.put_rows.ensures.kept numbered c.number_for.ensures.hulled)
 
 pub returns-in_err-move_all-clause-added : goal.returns-in_err-move_all-clause-added
 returns-in_err-move_all-clause-added c =

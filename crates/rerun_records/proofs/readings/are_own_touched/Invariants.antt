@@ -1,7 +1,7 @@
 use Rattle.std.proofs.Common.{◌≡◌, drop, map}
 use Rattle.std.specs.List.{list_any}
 use Rattle.evaluation.specs.Short.{note_of}
-use Rattle.rerun_records.specs.Doubted.{rests_on}
+use Rattle.rerun_records.specs.InStep.{rests_on}
 use Rattle.rerun_records.proofs.readings.are_own_touched.Given as goal
 
 abbrev pub invariant-loop-reading : goal.invariant-loop-reading

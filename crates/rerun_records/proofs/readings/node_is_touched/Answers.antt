@@ -3,7 +3,7 @@ use Rattle.rerun_records.specs.declared.readings.Below.{out-Below}
 use Rattle.rerun_records.specs.declared.readings.Node.{out-Node}
 use Rattle.evaluation.specs.Short.{note_of}
 use Rattle.std.specs.List.{list_any}
-use Rattle.rerun_records.specs.Doubted.{rests_on}
+use Rattle.rerun_records.specs.InStep.{rests_on}
 use Rattle.rerun_records.specs.Spans.{is_touched}
 use Rattle.rerun_records.specs.Blocks.{is_apart}
 use Rattle.rerun_records.specs.ShortLists.{items_in}

@@ -1,5 +1,5 @@
 use Rattle.std.proofs.Common.{◌≡◌, ◌≤◌, ℕ, [], length, map, sym, ap, subst, ◌∙◌}
-use Rattle.rerun_records.specs.Record.{doubtless}
+use Rattle.rerun_records.specs.Record.{as_made}
 use Rattle.rerun_records.specs.Commits.{put_records}
 use Rattle.numbered_runs.specs.Sound.{AreSoundFor}
 use Rattle.kept_session.specs.Sessions.{PlainSession, stock_of}
@@ -13,7 +13,7 @@ settle-requires-clause-new g c κs within =
     let t = c.take_pool-pool.new.self in
     let same : t ≡ record s { kits = stock_of []; inlined = 0 } = c.take_pool-pool.ensures.left ∙ ap (λ (z : PlainSession). record z { kits = stock_of [] }) c.note_inlined.ensures.noted in
     news_back s t same c.checked.result.now c.tables.result.now c.records.result.now c.checked.ensures.checked c.tables.ensures.tables c.records.ensures.records c.note_inlined-2.new.self c.run_on-ended.result.inlined c.note_inlined-2.ensures.noted
-    c.run_on-ended.result.answer c.run_on-ended.result.made.items c.run_on-ended.ensures.recorded (subst (λ (z : PlainSession). AreSoundFor z.checked z.records) c.note_inlined.ensures.noted c.kept.ensures.sound)
+    c.run_on-ended.result.answer c.run_on-ended.result.made.items c.run_on-ended.ensures.recorded (subst (λ (z : PlainSession). AreSoundFor z.checked z.records) c.note_inlined.ensures.noted c.upheld.ensures.sound)
 
 pub returns-clause-elision : goal.returns-clause-elision
 returns-clause-elision g c =
@@ -44,8 +44,8 @@ returns-clause-recorded g c =
     let s = c.args.session.now in
     let t = c.take_pool-pool.new.self in
     let same : t ≡ record s { kits = stock_of []; inlined = 0 } = c.take_pool-pool.ensures.left ∙ ap (λ (z : PlainSession). record z { kits = stock_of [] }) c.note_inlined.ensures.noted in
-    let put : map doubtless c.settle.new.self.records ≡ put_records (map doubtless c.note_inlined-2.new.self.records) c.run_on-ended.result.made.items =
-    where_ok c.settle.result (map doubtless c.settle.new.self.records ≡ put_records (map doubtless c.note_inlined-2.new.self.records) c.run_on-ended.result.made.items) (sym c.is_err.ensures.value ∙ c.if-is_err.false) c.settle.ensures.records in
+    let put : map as_made c.settle.new.self.records ≡ put_records (map as_made c.note_inlined-2.new.self.records) c.run_on-ended.result.made.items =
+    where_ok c.settle.result (map as_made c.settle.new.self.records ≡ put_records (map as_made c.note_inlined-2.new.self.records) c.run_on-ended.result.made.items) (sym c.is_err.ensures.value ∙ c.if-is_err.false) c.settle.ensures.records in
     recorded_back s t same c.checked.result.now c.tables.result.now c.records.result.now c.checked.ensures.checked c.tables.ensures.tables c.records.ensures.records c.note_inlined-2.new.self c.run_on-ended.result.inlined c.note_inlined-2.ensures.noted
     c.run_on-ended.result.answer c.run_on-ended.result.made.items c.run_on-ended.ensures.recorded c.settle.new.self.records put
 
@@ -54,9 +54,9 @@ returns-clause-quiet g c =
     let s = c.args.session.now in
     let t = c.take_pool-pool.new.self in
     let same : t ≡ record s { kits = stock_of []; inlined = 0 } = c.take_pool-pool.ensures.left ∙ ap (λ (z : PlainSession). record z { kits = stock_of [] }) c.note_inlined.ensures.noted in
-    let put : map doubtless c.settle.new.self.records ≡ put_records (map doubtless c.note_inlined-2.new.self.records) c.run_on-ended.result.made.items =
-    where_ok c.settle.result (map doubtless c.settle.new.self.records ≡ put_records (map doubtless c.note_inlined-2.new.self.records) c.run_on-ended.result.made.items) (sym c.is_err.ensures.value ∙ c.if-is_err.false) c.settle.ensures.records in
+    let put : map as_made c.settle.new.self.records ≡ put_records (map as_made c.note_inlined-2.new.self.records) c.run_on-ended.result.made.items =
+    where_ok c.settle.result (map as_made c.settle.new.self.records ≡ put_records (map as_made c.note_inlined-2.new.self.records) c.run_on-ended.result.made.items) (sym c.is_err.ensures.value ∙ c.if-is_err.false) c.settle.ensures.records in
     let after : PlainSession = record c.note_inlined-2.new.self { kits = c.run_on-ended.result.pool; records = c.settle.new.self.records } in
     let settled : c.settle.new.self ≡ after = where_ok c.settle.result (c.settle.new.self ≡ after) (sym c.is_err.ensures.value ∙ c.if-is_err.false) c.settle.ensures.settled in
     quiet_back s t same c.checked.result.now c.tables.result.now c.records.result.now c.checked.ensures.checked c.tables.ensures.tables c.records.ensures.records c.note_inlined-2.new.self c.run_on-ended.result.inlined c.note_inlined-2.ensures.noted
-    c.run_on-ended.result.answer c.run_on-ended.result.made.items c.run_on-ended.ensures.recorded (subst (λ (z : PlainSession). AreSoundFor z.checked z.records) c.note_inlined.ensures.noted c.kept.ensures.sound) c.settle.new.self c.run_on-ended.result.pool settled put
+    c.run_on-ended.result.answer c.run_on-ended.result.made.items c.run_on-ended.ensures.recorded (subst (λ (z : PlainSession). AreSoundFor z.checked z.records) c.note_inlined.ensures.noted c.upheld.ensures.sound) c.settle.new.self c.run_on-ended.result.pool settled put

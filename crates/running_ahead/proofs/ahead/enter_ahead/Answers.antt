@@ -17,7 +17,7 @@ returns-in-Enter-clause-ahead g c e =
     let by = λ (kit : Bool) (p : Position) (es : List Expression). called S kit n c.in-Enter.way c.in-Enter.into (Block p) c.in-Enter.callee (map plain es) s.top.slots s in
     c.enter_by.ensures.ahead
     (λ kit. ap (by kit c.next_of.result) c.as_slice-arguments.ensures.value ∙ ap (λ (p : Position). by kit p c.in-Enter.arguments.items) c.next_of.ensures.next
-    ∙ sym (ap (λ (o : Operation). performed S kit c.args.place n o s) c.in-Enter.is) ∙ e kit)
+    ∙ sym (ap (λ (o : Operation). performed S kit c.args.position n o s) c.in-Enter.is) ∙ e kit)
 
 pub returns-in_default-clause-ahead : goal.returns-in_default-clause-ahead
 returns-in_default-clause-ahead g c e = ahead_here (lent c.args.setting) c.args.machine.now

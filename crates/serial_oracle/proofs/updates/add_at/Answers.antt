@@ -12,6 +12,6 @@ pub returns-in-Some-clause-after : goal.returns-in-Some-clause-after
 returns-in-Some-clause-after c =
     on_ok c.add.result _ _ (added_after c.args.values.now.items c.args.n c.args.kind c.args.numbers.now c.in-Some.value.now c.add.new.value c.in-Some.ensures.item.3.0 c.in-Some.ensures.value (sym c.if-not-is_element.ensures)) c.add.ensures.combined
 
-pub returns-in-Some-clause-kept : goal.returns-in-Some-clause-kept
-returns-in-Some-clause-kept c =
+pub returns-in-Some-clause-worths : goal.returns-in-Some-clause-worths
+returns-in-Some-clause-worths c =
     on_ok c.add.result _ _ (added_kept c.args.kinds.now c.args.values.now.items c.args.n c.args.kind c.add.new.value c.requires.of_kinds c.requires.the_kind) c.add.ensures.of_kind

@@ -21,6 +21,6 @@ returns-clause-combined c =
     (λ m. combined_in c.args.kinds.now c.args.values.now.items c.args.rights.now c.args.i c.index-kinds-i.result c.index_mut.result.now c.combine_into.new.left c.index-rights-i.result c.requires.of_kinds c.requires.rights_of_kinds c.requires.within c.index-kinds-i.is c.index_mut.ensures.value c.index-rights-i.is (m ∙ ap (operate c.index-kinds-i.result (meaning c.index_mut.result.now)) c.in_ok-right.ensures))
     c.combine_into.ensures.combined
 
-pub returns-clause-kept : goal.returns-clause-kept
-returns-clause-kept c =
+pub returns-clause-worths : goal.returns-clause-worths
+returns-clause-worths c =
     on_ok c.combine_into.result _ _ (kept_in c.args.kinds.now c.args.values.now.items c.args.i c.index-kinds-i.result c.combine_into.new.left c.requires.of_kinds c.requires.within c.index-kinds-i.is) c.combine_into.ensures.of_kind

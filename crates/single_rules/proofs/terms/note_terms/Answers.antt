@@ -11,6 +11,6 @@ pub loop-expr-preserved : goal.loop-expr-preserved
 loop-expr-preserved c =
     let tables = map columned c.args.tables.now in
     c.loop-expr.invariant
-    ∙ ap (λ xs. noted c.loop-expr.found (at c.args.place.declaration c.args.place.line (terms_rules tables c.args.scope.now (map term xs)))) (item_here c.args.exprs.now c.loop-expr.expr-index c.expr-item.result c.loop-expr-test.true c.expr-item.is)
-    ∙ noted_more c.args.place.declaration c.args.place.line c.loop-expr.found (term_rules tables c.args.scope.now (term c.expr-item.result)) (terms_rules tables c.args.scope.now (map term (drop (c.loop-expr.expr-index + 1) c.args.exprs.now)))
-    ∙ ap (λ first. noted first (at c.args.place.declaration c.args.place.line (terms_rules tables c.args.scope.now (map term (drop (c.loop-expr.expr-index + 1) c.args.exprs.now))))) (sym c.note_term-found.ensures)
+    ∙ ap (λ xs. noted c.loop-expr.found (at c.args.location.declaration c.args.location.line (terms_rules tables c.args.scope.now (map term xs)))) (item_here c.args.exprs.now c.loop-expr.expr-index c.expr-item.result c.loop-expr-test.true c.expr-item.is)
+    ∙ noted_more c.args.location.declaration c.args.location.line c.loop-expr.found (term_rules tables c.args.scope.now (term c.expr-item.result)) (terms_rules tables c.args.scope.now (map term (drop (c.loop-expr.expr-index + 1) c.args.exprs.now)))
+    ∙ ap (λ first. noted first (at c.args.location.declaration c.args.location.line (terms_rules tables c.args.scope.now (map term (drop (c.loop-expr.expr-index + 1) c.args.exprs.now))))) (sym c.note_term-found.ensures)

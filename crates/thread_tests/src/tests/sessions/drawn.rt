@@ -154,7 +154,7 @@ pub fn any_steps<V: View>(
 ) -> Vec<Step>
     requires { 0 < workers }
 {
-    session.kept();
+    session.upheld();
     let (program, tables, records) = (session.checked(), session.tables(), session.records());
     let kits = kits(alloc, program.kinds(), session.kits().0).expect(rt, "kits");
     let Ok(mut core) = Core::start(alloc, program, tables, records, Pool::new(kits), workers) else {

@@ -38,7 +38,7 @@ fn any_run<V: View>(
 ) -> Run
     requires workers { 0 < workers }
 {
-    session.kept();
+    session.upheld();
     let (program, tables, records) = (session.checked(), session.tables(), session.records());
     let pool = Pool::new(kits(alloc, program.kinds(), count).expect(rt, "kits"));
     let Ok(mut core) = Core::start(alloc, program, tables, records, pool, workers) else {

@@ -9,8 +9,8 @@ returns-in-Ok-clause-joined c =
     let e : c.extend_from_slice.new.self.items ≡ piece.items ++ c.args.more.now = search rules in
     λ _. joined_last (λ p. p.items) c.args.pieces.now.items c.args.last piece c.extend_from_slice.new.self c.args.more.now c.requires c.index_mut-piece.ensures.value e
 
-pub returns-in-Err-clause-kept : goal.returns-in-Err-clause-kept
-returns-in-Err-clause-kept c =
+pub returns-in-Err-clause-same : goal.returns-in-Err-clause-same
+returns-in-Err-clause-same c =
     let piece = c.index_mut-piece.result.now in
     let e : c.extend_from_slice.new.self.items ≡ piece.items = search rules in
     λ _. ap joined (same_last (λ p. p.items) c.args.pieces.now.items c.args.last piece c.extend_from_slice.new.self c.index_mut-piece.ensures.value e)

@@ -1,23 +1,34 @@
-use Rattle.std.proofs.Common.{◌≡◌, ◌<◌, Some, length, refl, subst, sym, ◌∙◌, ap, w64}
-use Rattle.std.specs.Prelude.{slice_get}
-use Rattle.std.proofs.lemmas.Option.{slice_get_read}
+use Rattle.std.proofs.Common.{Ok, refl, ap, sym, subst, ◌∙◌, w64}
+use Rattle.std.specs.Prelude.{IsOk}
 use Rattle.std.proofs.lemmas.Int.{to_z-of_z}
-use Rattle.input_tables.specs.Edited.{Edited, row_into, columns_at}
-use Rattle.input_tables.proofs.Numbered.{set_at, columns_at-there}
+use Rattle.std.proofs.lemmas.Result.{err_from_is_err_and}
+use Rattle.meaning.specs.Edits.{put_in}
+use Rattle.input_tables.specs.Edited.{beside, row_into}
+use Rattle.input_tables.proofs.Accepted.{edited_by_number}
+use Rattle.input_tables.proofs.Numbered.{table_of-number}
 use Rattle.input_tables.proofs.tables.Tables.put_at.Goals as goal
 
-pub put-requires-clause-wide : goal.put-requires-clause-wide
-put-requires-clause-wide c =
-    let ts = c.self.inside.listed.items in
-    let within : c.args.number < length ts = subst (λ (e : Edited). c.args.number < length e.tables) (sym c.self.view_is) c.requires.within in
-    let there : slice_get ts c.args.number ≡ Some c.index_mut-table.result.now = slice_get_read ts _ c.args.number _ refl within c.index_mut-table.ensures.value in
-    let wide = subst (λ (e : Edited). length c.args.values.now ≡ length (columns_at e.tables c.args.number)) (sym c.self.view_is) c.requires.wide in
-    wide ∙ ap length (columns_at-there ts c.args.number c.index_mut-table.result.now there)
+pub returns-in_ok-put_row-in-Ok-clause-put : goal.returns-in_ok-put_row-in-Ok-clause-put
+returns-in_ok-put_row-in-Ok-clause-put c = λ t place program lines.
+    let old = c.args.self.now in
+    let vs = c.args.values.now in
+    let allowed = rw (to_z-of_z w64 _ c.ranges.row) at (c.in-Ok.ensures.allowed t program lines vs refl) in
+    let tables = rw (to_z-of_z w64 _ c.ranges.row) at c.in_ok-put_row-in-Ok.ensures.tables in
+    sym (ap (put_in (beside program lines old) t c.args.row vs) (table_of-number old.tables t c.args.number place)) ∙ allowed
+    ∙ ap (λ e. Ok (beside program lines e)) (edited_by_number (row_into c.args.row vs) old c.put_row.new.self t c.args.number place tables c.in_ok-put_row-in-Ok.ensures.edits)
 
-pub returns-clause-tables : goal.returns-clause-tables
-returns-clause-tables c =
-    let within : c.args.number < length c.self.inside.listed.items = subst (λ (e : Edited). c.args.number < length e.tables) (sym c.self.view_is) c.requires.within in
-    let there : slice_get c.self.inside.listed.items c.args.number ≡ Some c.index_mut-table.result.now =
-    slice_get_read c.self.inside.listed.items _ c.args.number _ refl within c.index_mut-table.ensures.value in
-    rw (← c.self.view_is) (c.count_edit.ensures.tables ∙ set_at (row_into c.args.row c.args.values.now) c.self.inside.listed.items c.args.number c.index_mut-table.result.now c.put.new.self there
-    (rw (to_z-of_z w64 _ c.ranges.row) at c.in_ok-put.ensures.put))
+pub returns-in_err-put_row-in-Ok-clause-refused : goal.returns-in_err-put_row-in-Ok-clause-refused
+returns-in_err-put_row-in-Ok-clause-refused c =
+    let old = c.args.self.now in
+    let vs = c.args.values.now in
+    let p = err_from_is_err_and c.from_residual.result c.from_residual.ensures.1 in
+    rw (p.1, p.2) (λ t place program lines.
+    let allowed = rw (to_z-of_z w64 _ c.ranges.row) at (c.in-Ok.ensures.allowed t program lines vs refl) in
+    subst IsOk (ap (put_in (beside program lines old) t c.args.row vs) (table_of-number old.tables t c.args.number place)) (subst IsOk (sym allowed) refl))
+
+pub returns-in-Err-clause-refused : goal.returns-in-Err-clause-refused
+returns-in-Err-clause-refused c = λ t place program lines.
+    let old = c.args.self.now in
+    let vs = c.args.values.now in
+    sym (ap (put_in (beside program lines old) t c.args.row vs) (table_of-number old.tables t c.args.number place))
+    ∙ rw (to_z-of_z w64 _ c.ranges.row) at (c.in-Err.ensures.refused t program lines vs refl)

@@ -1,7 +1,8 @@
+use Rattle.std.proofs.Common.{sym, subst}
 use Rattle.linked_program.specs.Checked.{IsChecked}
 use Rattle.rules_theory.proofs.Monoids.{checked_monoids}
-use Rattle.rerun_records.proofs.Puts.{same_values}
-use Rattle.kept_session.proofs.Doubts.{kept_so}
+use Rattle.record_index.specs.Indexed.{PlainIndexed, IsIndexed}
+use Rattle.kept_session.specs.Sessions.{KeepsSession}
 use Rattle.kept_session.proofs.session.Session.gather.Goals as goal
 
 pub gather-requires : goal.gather-requires
@@ -16,19 +17,10 @@ gather-requires g c =
       each = c.revised.ensures.each;
       below = c.revised.ensures.below;
     } in
-    record { indexed = c.self.invariant.1; monoids = checked_monoids s.checked is; values = c.self.invariant.0.values }
+    record { monoids = checked_monoids s.checked is; values = c.self.invariant.0.values }
 
 pub invariant_of-self : goal.invariant_of-self
 invariant_of-self g c =
     let s = c.self.inside in
-    let keeps = c.self.invariant.0 in
-    let now = c.gather.new.self in (
-      record {
-        kept = kept_so s.checked s.records.records now.records c.gather.ensures.same keeps.kept;
-        values = same_values s.checked.kinds s.records.records now.records c.gather.ensures.same keeps.values;
-        columns = keeps.columns;
-        kinds = keeps.kinds;
-        in_step = c.gather.ensures.indexed.in_step;
-      },
-      c.gather.ensures.indexed,
-    )
+    subst (λ (x : PlainIndexed). KeepsSession (record { checked = s.checked; tables = s.tables; kits = s.kits; records = x.records; inlined = s.inlined }) × IsIndexed s.checked.revisions s.tables.tables x)
+    (sym c.gather.ensures.same) c.self.invariant

@@ -4,7 +4,7 @@ use Rattle.linked_program.specs.Checked.{IsChecked}
 use Rattle.rules_theory.proofs.Monoids.{checked_monoids}
 use Rattle.rerun_records.specs.Record.{PlainRecord}
 use Rattle.kept_session.specs.Sessions.{PlainSession, AreNewFor}
-use Rattle.kept_session.proofs.Doubts.{made_read_now}
+use Rattle.kept_session.proofs.AsMade.{made_read_now}
 use Rattle.kept_session.proofs.Keeping.{settled_keeps, settled_values}
 use Rattle.kept_session.proofs.Procedures.{made_entered_now, stay_indexed, unchanged_if_refused}
 use Rattle.kept_session.proofs.Values.{new_have_values}

@@ -4,7 +4,7 @@ use Rattle.std.specs.List.{find}
 use Rattle.meaning.specs.Tables.{index_of}
 use Rattle.meaning.specs.Tree.{Name}
 use Rattle.linked_program.specs.Checked.{names_in}
-use Rattle.rerun_records.specs.Record.{is_of, doubtless}
+use Rattle.rerun_records.specs.Record.{is_of, as_made}
 use Rattle.rerun_records.specs.Commits.{AreSingle}
 use Rattle.record_index.specs.Indexed.{PlainIndexed}
 use Rattle.record_index.proofs.Asking.{stale_there, stale_none, stale_untold}
@@ -19,8 +19,8 @@ returns-in-Some-place_of c =
     let single : AreSingle x.records = subst (λ (s : PlainIndexed). AreSingle s.records) c.self.view_is c.single.ensures.single in
     let told : n < length x.told = subst (λ (s : PlainIndexed). n < length s.told) c.self.view_is c.in-Some.ensures.there in
     let first : n ≡ index_of (names_in x.told) name = c.in-Some.ensures.first ∙ ap (index_of (names_in c.self.inside.told)) c.procedure.ensures.procedure ∙ ap (λ (s : PlainIndexed). index_of (names_in s.told) name) c.self.view_is in
-    let there : slice_get (map doubtless x.records) c.in-Some-place_of.place ≡ Some c.in-Some-place_of.record.now =
-    ap (λ (s : PlainIndexed). slice_get (map doubtless s.records) c.in-Some-place_of.place) (sym c.self.view_is) ∙ found.there in
+    let there : slice_get (map as_made x.records) c.in-Some-place_of.place ≡ Some c.in-Some-place_of.record.now =
+    ap (λ (s : PlainIndexed). slice_get (map as_made s.records) c.in-Some-place_of.place) (sym c.self.view_is) ∙ found.there in
     record {
       stale = λ program tables indexed listed.
           stale_there program tables x name c.args.key.now.1 indexed listed n c.in-Some-place_of.place c.in-Some-place_of.record.now c.stale_at.result single told first there found.procedure

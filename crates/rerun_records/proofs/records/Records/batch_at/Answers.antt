@@ -1,7 +1,7 @@
 use Rattle.std.proofs.Common.{subst}
 use Rattle.rerun_records.specs.Commits.{AreSingle}
 use Rattle.rerun_records.specs.Blocks.{BlocksFit}
-use Rattle.rerun_records.proofs.Doubts.{single_with_doubts}
+use Rattle.rerun_records.proofs.WithNumbers.{single_with_numbers}
 use Rattle.rerun_records.proofs.Leaves.{found_fits}
 use Rattle.rerun_records.proofs.Wholes.{batch_of_block}
 use Rattle.rerun_records.proofs.records.Records.batch_at.Goals as goal
@@ -11,7 +11,7 @@ returns-in-Some c =
     let P = c.args.program.now in
     let T = c.args.tables.now.tables in
     let records = c.args.self.now in
-    let single = subst AreSingle c.self.view_is (single_with_doubts c.self.inside.changes.items c.self.inside.moments.items c.self.inside.list.items c.self.invariant.0.single) in
+    let single = subst AreSingle c.self.view_is (single_with_numbers c.self.inside.numbers.items c.self.inside.list.items c.self.invariant.0.single) in
     let fits = found_fits P.kinds records c.self.inside.blocks c.in-Some.block.now (subst (λ rs. BlocksFit rs c.self.inside.blocks) c.self.view_is c.self.invariant.1) c.in-Some.ensures.block in
     record {
       batch =

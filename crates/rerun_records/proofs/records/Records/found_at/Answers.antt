@@ -1,14 +1,14 @@
 use Rattle.std.proofs.Common.{◌≡◌, List, map, ap, sym, ◌∙◌, true}
 use Rattle.std.specs.Prelude.{slice_get}
-use Rattle.rerun_records.specs.Record.{PlainRecord, is_of, doubtless}
-use Rattle.rerun_records.proofs.Doubts.{same_without_doubts}
+use Rattle.rerun_records.specs.Record.{PlainRecord, is_of, as_made}
+use Rattle.rerun_records.proofs.WithNumbers.{same_without_numbers}
 use Rattle.rerun_records.proofs.Wholes.{of_procedure, of_arguments}
 use Rattle.rerun_records.proofs.records.Records.found_at.Goals as goal
 
 pub returns-else-not-is_of-clause-there : goal.returns-else-not-is_of-clause-there
 returns-else-not-is_of-clause-there c =
     ap (λ (xs : List PlainRecord). slice_get xs c.args.place)
-    (sym (ap (map doubtless) c.self.view_is) ∙ same_without_doubts c.self.inside.changes.items c.self.inside.moments.items c.self.inside.list.items ∙ c.self.invariant.0.doubtless_are ∙ sym c.deref.ensures.value)
+    (sym (ap (map as_made) c.self.view_is) ∙ same_without_numbers c.self.inside.numbers.items c.self.inside.list.items ∙ c.self.invariant.0.as_made_are ∙ sym c.deref.ensures.value)
     ∙ sym c.in-Some.ensures.at
 
 pub returns-else-not-is_of-clause-procedure : goal.returns-else-not-is_of-clause-procedure

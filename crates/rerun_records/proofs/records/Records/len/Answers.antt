@@ -1,10 +1,10 @@
 use Rattle.std.proofs.Common.{rules, ◌≡◌, sym, ap, ◌∙◌, length}
-use Rattle.rerun_records.proofs.Doubts.{length_with_doubts}
+use Rattle.rerun_records.proofs.WithNumbers.{length_with_numbers}
 use Rattle.rerun_records.proofs.records.Records.len.Goals as goal
 
 pub returns : goal.returns
 returns c =
     let long : c.len.result ≡ length c.self.inside.list.items = search rules in
     record {
-      count = long ∙ sym (length_with_doubts c.self.inside.changes.items c.self.inside.moments.items c.self.inside.list.items) ∙ ap length c.self.view_is;
+      count = long ∙ sym (length_with_numbers c.self.inside.numbers.items c.self.inside.list.items) ∙ ap length c.self.view_is;
     }

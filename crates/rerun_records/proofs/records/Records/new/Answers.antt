@@ -1,17 +1,18 @@
 use Rattle.std.proofs.Common.{◌∙◌, ap, sym, map, List}
 use Rattle.rerun_records.specs.Record.{PlainRecord, instance_number}
-use Rattle.rerun_records.specs.Moments.{with_doubts}
+use Rattle.rerun_records.specs.Numbers.{with_numbers}
 use Rattle.rerun_records.specs.Blocks.{PlainBlocks}
-use Rattle.rerun_records.proofs.Doubts.{none_stand}
+use Rattle.rerun_records.proofs.WithNumbers.{none_numbers}
 use Rattle.rerun_records.proofs.Leaves.{none_fit}
 use Rattle.rerun_records.proofs.records.Records.new.Goals as goal
 
 pub invariant_of-result : goal.invariant_of-result
 invariant_of-result c =
-    let blocks = c.new-5.result in
-    let none = c.new-5.ensures.none in (
-      none_stand c.new-4.result.items c.new-3.result.items c.new.result.items c.new-4.ensures.items c.new-3.ensures.items c.new.ensures.items,
-      none_fit (with_doubts c.new-4.result.items c.new-3.result.items c.new.result.items) blocks (ap (λ (b : PlainBlocks). b.fine) none) (ap (λ (b : PlainBlocks). b.middle) none) (ap (λ (b : PlainBlocks). b.wide) none)
+    let blocks = c.new-4.result in
+    let none = c.new-4.ensures.none in (
+      none_numbers c.new-3.result.items c.new.result.items c.new-3.ensures.items c.new.ensures.items,
+      none_fit (with_numbers c.new-3.result.items c.new.result.items) blocks (ap (λ (b : PlainBlocks). b.fine) none) (ap (λ (b : PlainBlocks). b.middle) none) (ap (λ (b : PlainBlocks). b.wide) none)
           (ap (λ (b : PlainBlocks). b.vast) none),
       c.new-2.ensures.none ∙ sym (ap (λ (rs : List PlainRecord). map instance_number rs) c.new.ensures.items),
+      c.new-5.ensures.none c.new.result.items,
     )

@@ -6,4 +6,4 @@ invariant_of-result g c =
     let l = c.into_strand-left.ensures in
     let r = c.into_strand-right.ensures in
     pair_of g.J.Run.setting c.args.left c.args.right c.into_strand-left.result c.into_strand-right.result c.start-start.result l.strand r.strand c.start-start.ensures.start
-    (record { right = l.right; rests = l.rests; kinds = l.kinds }) (record { right = r.right; rests = r.rests; kinds = r.kinds }) c.requires.over c.requires.waits c.requires.may
+    (record { right = l.right; paused_so = l.paused_so; kinds = l.kinds }) (record { right = r.right; paused_so = r.paused_so; kinds = r.kinds }) c.requires.over c.requires.waits c.requires.may

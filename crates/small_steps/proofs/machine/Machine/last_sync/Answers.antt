@@ -17,4 +17,4 @@ returns-clause-kits g c =
     let some : 0 < length s.lower = owned_lies s.tally.opened s.lower (length s.path) own c.requires.layered in
     one_home g.K.KitSource.fits g.K.KitSource.gives g.K.KitSource.free g.K.KitSource.total c.args.setting.program.now.kinds c.in_ok-kit.kit c.args.kits.now c.send_home.new.kits
     s.lower c.close_top.new.self.lower some low c.in_ok-kit.ensures.kit
-    c.send_home.ensures.fitting c.send_home.ensures.kept c.send_home.ensures.given c.send_home.ensures.total supplied.given
+    c.send_home.ensures.fitting c.send_home.ensures.gives_known c.send_home.ensures.home c.send_home.ensures.total supplied.given

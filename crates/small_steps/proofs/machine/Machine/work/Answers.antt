@@ -9,9 +9,9 @@ use Rattle.small_steps.proofs.machine.Machine.work.Goals as goal
 pub returns-in-Block-clause-worked : goal.returns-in-Block-clause-worked
 returns-in-Block-clause-worked g c =
     let s = c.args.self.now in
-    let work : s.top.work ≡ Block c.in-Block.place = search rules in
+    let work : s.top.work ≡ Block c.in-Block.position = search rules in
     holds_on (g.K.KitSource.lacks c.args.kits.now) (GivesNone g.K.KitSource.gives c.args.kits.now)
-    (λ kit. c.go.new.self ≡ gone (lent c.args.setting) kit c.in-Block.place s)
+    (λ kit. c.go.new.self ≡ gone (lent c.args.setting) kit c.in-Block.position s)
     (λ kit. c.go.new.self ≡ worked (lent c.args.setting) kit s.top.work s)
     (λ kit h. h ∙ sym (ap (λ w. worked (lent c.args.setting) kit w s) work))
     c.go.result c.go.ensures.gone

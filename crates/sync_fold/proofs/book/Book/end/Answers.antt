@@ -27,7 +27,7 @@ returns g c = record {
   legal = subst (λ (b : PlainBook). LeavesRootAlone b.chronicle.history) c.self.view_is
       (leaves_root_alone (told c.self.inside.chronicle) c.self.inside.laid.items c.self.invariant (subst (λ (b : PlainBook). ends_alone b.laid ≡ true) (sym c.self.view_is) c.requires.ended));
   fitting = c.end-answer.ensures.fitting;
-  kept = c.end-answer.ensures.kept;
+  gives_known = c.end-answer.ensures.gives_known;
   home = λ p e h.
       let same : c.into_alone.result ≡ p = whole_same c.into_alone.result p c.self.inside.laid.items c.into_alone.ensures.alone (ap (λ (b : PlainBook). b.laid) c.self.view_is ∙ e) in
       subst (λ (q : PlainPiece). suc (length q.strand.lower) + g.K.KitSource.free c.args.kits.now ≤ g.K.KitSource.total c.args.kits.now → g.K.KitSource.free c.end-answer.new.kits ≡ suc (length q.strand.lower) + g.K.KitSource.free c.args.kits.now)

@@ -36,7 +36,7 @@ returns-in-Ok g c =
       going = c.fold_pair.ensures.going;
       kit = c.fold_pair.ensures.kit;
       counted = c.fold_pair.ensures.counted;
-      near = first_near b c.in-Ok.left.items c.in-Ok.right.items c.args.worker c.fold_pair.result c.kept.ensures.kept first refused;
+      near = first_near b c.in-Ok.left.items c.in-Ok.right.items c.args.worker c.fold_pair.result c.upheld.ensures.book first refused;
       same = c.fold_pair.ensures.same;
     }
 

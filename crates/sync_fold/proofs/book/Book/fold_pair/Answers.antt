@@ -6,7 +6,7 @@ use Rattle.sync_fold.proofs.Refusals.{given}
 use Rattle.sync_fold.proofs.book.Book.fold_pair.Goals as goal
 
 pub of-requires : goal.of-requires
-of-requires g c = record { given = given c.args.self.now c.kept.ensures.kept (Folds c.args.left.now c.args.right.now c.args.worker) c.in-Err.error c.in-Err.ensures.refused }
+of-requires g c = record { given = given c.args.self.now c.upheld.ensures.book (Folds c.args.left.now c.args.right.now c.args.worker) c.in-Err.error c.in-Err.ensures.refused }
 
 pub returns-in-Err : goal.returns-in-Err
 returns-in-Err g c = record {

@@ -1,6 +1,6 @@
 use Rattle.std.proofs.Common.{◌<◌, refl, ap, sym, ◌∙◌, subst}
-use Rattle.strand_list.specs.Laying.{rest_step}
-use Rattle.strand_list.specs.Chronicled.{PlainChronicle, Took, IsRefusedBy, rest_refusal}
+use Rattle.strand_list.specs.Laying.{laying_step}
+use Rattle.strand_list.specs.Chronicled.{PlainChronicle, Took, IsRefusedBy, laying_refusal}
 use Rattle.sync_fold.specs.Books.{PlainBook}
 use Rattle.sync_fold.specs.Counts.{LaysDown}
 use Rattle.sync_fold.proofs.Counting.{lay_counts}
@@ -17,8 +17,8 @@ keep-requires g c = record { within = subst (λ n. c.in-Some.k < n) (sym (long_o
 
 pub invariant_of-self : goal.invariant_of-self
 invariant_of-self g c =
-    lay_keeps (told c.self.inside.chronicle) (told c.lay.new.self) c.self.inside.laid.items c.keep.new.laid.items c.rest.result c.args.place.now c.args.piece c.in-Some.k c.self.invariant c.in-Ok.ensures.taken
-    c.rest.ensures.rest c.requires.place c.in-Some.ensures.0 c.in-Some.ensures.1 c.keep.ensures.kept
+    lay_keeps (told c.self.inside.chronicle) (told c.lay.new.self) c.self.inside.laid.items c.keep.new.laid.items c.state.result c.args.place.now c.args.piece c.in-Some.k c.self.invariant c.in-Ok.ensures.taken
+    c.state.ensures.state c.requires.place c.in-Some.ensures.0 c.in-Some.ensures.1 c.keep.ensures.kept
 
 pub invariant_of-self-in-Err : goal.invariant_of-self-in-Err
 invariant_of-self-in-Err g c = same_keeps (told c.self.inside.chronicle) (told c.lay.new.self) c.self.inside.laid.items c.self.inside.laid.items c.self.invariant c.in-Err.ensures.same refl
@@ -27,18 +27,18 @@ pub returns-in-Err : goal.returns-in-Err
 returns-in-Err g c = record {
   taken = tt;
   counted = tt;
-  refused = subst (λ (b : PlainBook). IsRefusedBy (rest_refusal b.chronicle.page c.args.piece.rest c.args.place.now) c.in-Err.error) c.self.view_is
-      (subst (λ r. IsRefusedBy (rest_refusal c.self.inside.chronicle.page r c.args.place.now) c.in-Err.error) c.rest.ensures.rest c.in-Err.ensures.refused);
+  refused = subst (λ (b : PlainBook). IsRefusedBy (laying_refusal b.chronicle.page c.args.piece.state c.args.place.now) c.in-Err.error) c.self.view_is
+      (subst (λ r. IsRefusedBy (laying_refusal c.self.inside.chronicle.page r c.args.place.now) c.in-Err.error) c.state.ensures.state c.in-Err.ensures.refused);
   same = ap (λ (x : PlainChronicle). book_of x c.self.inside.laid.items) c.in-Err.ensures.same ∙ c.self.view_is;
   back = refl;
 }
 
 pub returns-in-Ok : goal.returns-in-Ok
 returns-in-Ok g c = record {
-  taken = subst (λ (b : PlainBook). Took b.chronicle (rest_step c.args.piece.rest c.args.place.now) (told c.lay.new.self)) c.self.view_is
-      (subst (λ r. Took (told c.self.inside.chronicle) (rest_step r c.args.place.now) (told c.lay.new.self)) c.rest.ensures.rest c.in-Ok.ensures.taken);
+  taken = subst (λ (b : PlainBook). Took b.chronicle (laying_step c.args.piece.state c.args.place.now) (told c.lay.new.self)) c.self.view_is
+      (subst (λ r. Took (told c.self.inside.chronicle) (laying_step r c.args.place.now) (told c.lay.new.self)) c.state.ensures.state c.in-Ok.ensures.taken);
   counted = subst (λ (b : PlainBook). LaysDown c.args.piece.strand b.laid c.keep.new.laid.items) c.self.view_is
-      (lay_counts (told c.self.inside.chronicle) (told c.lay.new.self) c.self.inside.laid.items c.keep.new.laid.items c.rest.result c.args.place.now c.args.piece c.in-Some.k c.self.invariant c.in-Ok.ensures.taken
+      (lay_counts (told c.self.inside.chronicle) (told c.lay.new.self) c.self.inside.laid.items c.keep.new.laid.items c.state.result c.args.place.now c.args.piece c.in-Some.k c.self.invariant c.in-Ok.ensures.taken
       c.in-Some.ensures.0 c.keep.ensures.kept);
   refused = tt;
   same = tt;
@@ -49,7 +49,7 @@ pub returns-in-None : goal.returns-in-None
 returns-in-None g c = record {
   taken = tt;
   counted = tt;
-  refused = subst (λ (b : PlainBook). IsRefusedBy (rest_refusal b.chronicle.page c.args.piece.rest c.args.place.now) error.NoStrand) c.self.view_is (lay_missing c.self.inside.chronicle.page c.args.piece.rest c.args.place.now c.in-None.ensures);
+  refused = subst (λ (b : PlainBook). IsRefusedBy (laying_refusal b.chronicle.page c.args.piece.state c.args.place.now) error.NoStrand) c.self.view_is (lay_missing c.self.inside.chronicle.page c.args.piece.state c.args.place.now c.in-None.ensures);
   same = refl;
   back = refl;
 }

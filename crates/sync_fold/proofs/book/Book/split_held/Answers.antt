@@ -10,7 +10,7 @@ pub of-requires : goal.of-requires
 of-requires g c =
     let b = c.args.self.now in
     record {
-      given = given b c.kept.ensures.kept (SplitsHeld c.args.victim c.args.new.now c.args.thief) c.in-Err.error
+      given = given b c.upheld.ensures.book (SplitsHeld c.args.victim c.args.new.now c.args.thief) c.in-Err.error
           (none_held b.chronicle.page c.args.victim c.args.new.now c.args.thief c.in-Err.error c.in-Err.ensures.none);
     }
 

@@ -7,7 +7,7 @@ use Rattle.threaded_driver.proofs.Binding.{spawned_at, attached_bound, task_goes
 use Rattle.threaded_driver.proofs.floor.Floor.push.Goals as goal
 
 pub push-requires-clause-goes_on : goal.push-requires-clause-goes_on
-push-requires-clause-goes_on g c κs within = task_goes_on g.J.Run.setting c.detach-task.result c.kept.ensures.sound c.kept-2.ensures.right
+push-requires-clause-goes_on g c κs within = task_goes_on g.J.Run.setting c.detach-task.result c.upheld.ensures.sound c.upheld-2.ensures.right
 
 pub push-requires-clause-bound : goal.push-requires-clause-bound
 push-requires-clause-bound g c κs within =

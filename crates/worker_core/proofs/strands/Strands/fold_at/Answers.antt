@@ -18,7 +18,7 @@ fold-requires-clause-one_layer g c κs ends =
 pub returns-in-Ok-fold-clause-folded : goal.returns-in-Ok-fold-clause-folded
 returns-in-Ok-fold-clause-folded g c =
     let within : c.args.number + 1 < length c.self.inside.pieces.items = subst (λ (s : PlainStrands). c.args.number + 1 < length s.pieces) (sym c.self.view_is) c.requires.number in
-    let more = ap length c.give_back.ensures.given ∙ length_push c.self.inside.pool.kits c.in-Ok-fold.kit in
+    let more = ap length c.give_back.ensures.put ∙ length_push c.self.inside.pool.kits c.in-Ok-fold.kit in
     let noted : map book_step c.push_reserved.new.self.items ≡ map book_step c.self.inside.history.items ++ Fold c.in-Ok.left.items c.in-Ok-place.right.items c.args.worker ∷ [] =
     ap (map book_step) c.push_reserved.ensures.items ∙ map_push book_step c.reserve.new.self.items (book.Fold c.in-Ok.left c.in-Ok-place.right c.args.worker)
     ∙ ap (λ hs. map book_step hs ++ Fold c.in-Ok.left.items c.in-Ok-place.right.items c.args.worker ∷ []) c.reserve.ensures.items in
@@ -36,7 +36,7 @@ returns-in-Ok-fold-clause-fit g c =
       pieces = folds_fit c.args.worker c.args.number c.self.inside.pieces.items c.remove-taken.new.self.items c.index_mut.result.now c.remove-taken.result within c.remove-taken.ensures.items c.index_mut.ensures.value c.remove-taken.ensures.value
           c.fold.new.self c.in-Ok-fold.ensures.folded c.args.program.now.kinds fit.pieces;
       kits = home_fits c.args.worker c.args.number c.self.inside.pieces.items c.remove-taken.new.self.items c.index_mut.result.now c.remove-taken.result within c.remove-taken.ensures.items c.index_mut.ensures.value c.remove-taken.ensures.value
-          c.args.program.now.kinds c.self.inside.pool.kits c.give_back.new.pool.kits c.in-Ok-fold.kit fit.pieces fit.kits c.give_back.ensures.given c.in-Ok-fold.ensures.kit;
+          c.args.program.now.kinds c.self.inside.pool.kits c.give_back.new.pool.kits c.in-Ok-fold.kit fit.pieces fit.kits c.give_back.ensures.put c.in-Ok-fold.ensures.kit;
     }
 
 pub returns-in-Err-clause-kept : goal.returns-in-Err-clause-kept
@@ -76,7 +76,7 @@ invariant_of-self-in-Ok-fold g c =
     let bare = right_bare c.args.worker c.args.number c.self.inside.pieces.items c.remove-taken.new.self.items c.index_mut.result.now c.remove-taken.result within c.remove-taken.ensures.items c.index_mut.ensures.value c.remove-taken.ensures.value (subst (λ (s : PlainStrands). MayFoldAt c.args.number s.pieces) (sym c.self.view_is) c.requires.may)
     (subst (λ (s : PlainStrands). All HasOneLayer s.pieces) (sym c.self.view_is) c.requires.layered) in
     let fewer = folds_layers c.args.worker c.args.number c.self.inside.pieces.items c.remove-taken.new.self.items c.index_mut.result.now c.remove-taken.result within c.remove-taken.ensures.items c.index_mut.ensures.value c.remove-taken.ensures.value c.fold.new.self c.in-Ok-fold.ensures.folded bare in
-    let more = ap length c.give_back.ensures.given ∙ length_push c.self.inside.pool.kits c.in-Ok-fold.kit in
+    let more = ap length c.give_back.ensures.put ∙ length_push c.self.inside.pool.kits c.in-Ok-fold.kit in
     omega (arith, fewer, more, c.give_back.ensures.total, c.self.invariant)
 
 pub returns-in-Ok-fold-clause-kits : goal.returns-in-Ok-fold-clause-kits
@@ -85,7 +85,7 @@ returns-in-Ok-fold-clause-kits g c =
     let bare = right_bare c.args.worker c.args.number c.self.inside.pieces.items c.remove-taken.new.self.items c.index_mut.result.now c.remove-taken.result within c.remove-taken.ensures.items c.index_mut.ensures.value c.remove-taken.ensures.value (subst (λ (s : PlainStrands). MayFoldAt c.args.number s.pieces) (sym c.self.view_is) c.requires.may)
     (subst (λ (s : PlainStrands). All HasOneLayer s.pieces) (sym c.self.view_is) c.requires.layered) in
     let fewer = folds_layers c.args.worker c.args.number c.self.inside.pieces.items c.remove-taken.new.self.items c.index_mut.result.now c.remove-taken.result within c.remove-taken.ensures.items c.index_mut.ensures.value c.remove-taken.ensures.value c.fold.new.self c.in-Ok-fold.ensures.folded bare in
-    let more = ap length c.give_back.ensures.given ∙ length_push c.self.inside.pool.kits c.in-Ok-fold.kit in
+    let more = ap length c.give_back.ensures.put ∙ length_push c.self.inside.pool.kits c.in-Ok-fold.kit in
     let kept : length c.give_back.new.pool.kits + layers_in (slice_set c.remove-taken.new.self.items c.args.number c.fold.new.self) ≡ length c.self.inside.pool.kits + layers_in c.self.inside.pieces.items = omega (arith, fewer, more) in
     kept ∙ ap kits_in c.self.view_is
 

@@ -1,0 +1,23 @@
+use Rattle.std.proofs.Common.{◌≡◌, ◌<◌, Some, length, refl, subst, sym, ◌∙◌, ap, w64}
+use Rattle.std.specs.Prelude.{slice_get}
+use Rattle.std.proofs.lemmas.Option.{slice_get_read}
+use Rattle.std.proofs.lemmas.Int.{to_z-of_z}
+use Rattle.input_tables.specs.Edited.{Edited, row_into, columns_at}
+use Rattle.input_tables.proofs.Numbered.{set_at, columns_at-there}
+use Rattle.input_tables.proofs.tables.Tables.put_row.Goals as goal
+
+pub put-requires-clause-wide : goal.put-requires-clause-wide
+put-requires-clause-wide c =
+    let ts = c.self.inside.listed.items in
+    let within : c.args.number < length ts = subst (λ (e : Edited). c.args.number < length e.tables) (sym c.self.view_is) c.requires.within in
+    let there : slice_get ts c.args.number ≡ Some c.index_mut-table.result.now = slice_get_read ts _ c.args.number _ refl within c.index_mut-table.ensures.value in
+    let wide = subst (λ (e : Edited). length c.args.values.now ≡ length (columns_at e.tables c.args.number)) (sym c.self.view_is) c.requires.wide in
+    wide ∙ ap length (columns_at-there ts c.args.number c.index_mut-table.result.now there)
+
+pub returns-clause-tables : goal.returns-clause-tables
+returns-clause-tables c =
+    let within : c.args.number < length c.self.inside.listed.items = subst (λ (e : Edited). c.args.number < length e.tables) (sym c.self.view_is) c.requires.within in
+    let there : slice_get c.self.inside.listed.items c.args.number ≡ Some c.index_mut-table.result.now =
+    slice_get_read c.self.inside.listed.items _ c.args.number _ refl within c.index_mut-table.ensures.value in
+    rw (← c.self.view_is) (c.count_edit.ensures.tables ∙ set_at (row_into c.args.row c.args.values.now) c.self.inside.listed.items c.args.number c.index_mut-table.result.now c.put.new.self there
+    (rw (to_z-of_z w64 _ c.ranges.row) at c.in_ok-put.ensures.put))

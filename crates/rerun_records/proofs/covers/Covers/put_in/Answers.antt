@@ -1,0 +1,24 @@
+use Rattle.std.proofs.Common.{◌≡◌, List, Some, [], ◌∷◌, subst, sym, ◌∙◌}
+use Rattle.std.specs.Prelude.{slice_get}
+use Rattle.rerun_records.specs.Record.{PlainRecord}
+use Rattle.rerun_records.specs.Covers.{PlainLevel, AreCoveredBut}
+use Rattle.rerun_records.proofs.Covering.{covered_but, past_covered, there_is}
+use Rattle.rerun_records.proofs.covers.Covers.put_in.Goals as goal
+
+pub returns-then-place-list : goal.returns-then-place-list
+returns-then-place-list c = record {
+  held = λ before h same.
+      past_covered c.args.list.now c.args.place [] c.args.self.now c.if-place-list.true (covered_but (c.args.place ∷ []) before c.args.list.now c.args.self.now same h);
+}
+
+pub returns : goal.returns
+returns c =
+    let list = c.args.list.now in
+    let place = c.args.place in
+    let is : (r : PlainRecord) → slice_get list place ≡ Some r → r.reads ≡ c.reads-reads.result.now =
+    λ r there. there_is list place r c.index-list-place.result there c.index-list-place.is ∙ sym c.reads-reads.ensures.reads in
+    record {
+      held = λ before h same.
+          let covered = subst (λ (ls : List PlainLevel). AreCoveredBut (place ∷ []) list ls) (sym c.self.view_is) (covered_but (place ∷ []) before list c.args.self.now same h) in
+          (c.put_in.ensures.held list [] covered.0 is, (c.put_in-2.ensures.held list [] covered.1.0 is, (c.put_in-3.ensures.held list [] covered.1.1.0 is, tt)));
+    }

@@ -1,0 +1,30 @@
+use Rattle.std.proofs.Common.{rules, ◌∙◌, ◌<◌, ◌≤◌, [], ◌∷◌, length, sym, subst}
+use Rattle.rerun_records.specs.Covers.{AreCovered, AreSameBut}
+use Rattle.rerun_records.proofs.Covering.{set_same_but, appended_covered}
+use Rattle.rerun_records.proofs.Instances.{set_is_put, set_numbers, push_is_put}
+use Rattle.rerun_records.proofs.listing.put_at.Goals as goal
+
+pub returns-then-place-len-clause-put : goal.returns-then-place-len-clause-put
+returns-then-place-len-clause-put c =
+    let within : c.args.place < length c.args.list.now.items = search rules in
+    set_is_put c.args.list.now.items c.args.made c.args.place c.requires.place within
+
+pub returns-then-place-len-clause-numbered : goal.returns-then-place-len-clause-numbered
+returns-then-place-len-clause-numbered c =
+    let within : c.args.place < length c.args.list.now.items = search rules in
+    c.requires.numbered ∙ sym (set_numbers c.args.list.now.items c.args.made c.args.place c.requires.place within)
+
+pub returns-else-place-len-clause-put : goal.returns-else-place-len-clause-put
+returns-else-place-len-clause-put c =
+    let behind : length c.args.list.now.items ≤ c.args.place = search rules in
+    c.push_reserved.ensures.items ∙ push_is_put c.args.list.now.items c.args.made c.args.place c.requires.place behind
+
+pub returns-then-place-len-clause-covered : goal.returns-then-place-len-clause-covered
+returns-then-place-len-clause-covered c =
+    subst (λ rs. AreCovered rs c.put_in.new.self) c.deref.ensures.value
+    (c.put_in.ensures.held c.args.list.now.items c.requires.covered
+    (subst (AreSameBut (c.args.place ∷ []) c.args.list.now.items) (sym c.deref.ensures.value) (set_same_but c.args.list.now.items c.args.place c.args.made)))
+
+pub returns-else-place-len-clause-covered : goal.returns-else-place-len-clause-covered
+returns-else-place-len-clause-covered c =
+    subst (λ rs. AreCovered rs c.args.covers.now) (sym c.push_reserved.ensures.items) (appended_covered c.args.list.now.items (c.args.made ∷ []) c.args.covers.now c.requires.covered)

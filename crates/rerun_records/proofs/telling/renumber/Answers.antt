@@ -1,0 +1,11 @@
+use Rattle.std.proofs.Common.{refl}
+use Rattle.rerun_records.proofs.Leaves.{zeroed_fits, dropped_fits}
+use Rattle.rerun_records.proofs.telling.renumber.Goals as goal
+
+pub returns-then-number-eq0-clause-fit : goal.returns-then-number-eq0-clause-fit
+returns-then-number-eq0-clause-fit c = zeroed_fits c.args.numbers.now _ c.args.list.now c.args.place c.args.number refl c.args.blocks.now c.if-number-eq0.true c.requires.fit
+
+pub returns-clause-fit : goal.returns-clause-fit
+returns-clause-fit c =
+    dropped_fits c.args.numbers.now _ c.args.list.now c.args.place c.args.number refl c.drop_at.new.self c.args.blocks.now c.requires.fit c.drop_at.ensures.remain c.drop_at.ensures.free.0 c.drop_at.ensures.free.1
+    c.drop_at.ensures.free.2 c.drop_at.ensures.free.3

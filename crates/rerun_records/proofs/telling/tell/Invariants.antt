@@ -1,0 +1,17 @@
+use Rattle.std.proofs.Common.{◌≡◌, ◌≤◌, ℕ, length, get_or}
+use Rattle.rerun_records.specs.Blocks.{BlocksFit}
+use Rattle.rerun_records.specs.Numbers.{most_number, numbers_then, with_numbers}
+use Rattle.rerun_records.proofs.NumbersAt.{told_to}
+use Rattle.rerun_records.proofs.telling.tell.Given as goal
+
+abbrev pub invariant-loop-place : goal.invariant-loop-place
+invariant-loop-place l = record {
+  within : l.end ≤ length l.list;
+  places : length l.numbers ≡ length l.list;
+  small : (i : ℕ) → get_or l.numbers i 0 ≤ most_number;
+  told : told_to l.lost l.won l.end l.numbers l.list ≡ numbers_then l.lost l.won l.fn.numbers l.list;
+  fit : BlocksFit (with_numbers l.numbers l.list) l.blocks;
+}
+
+abbrev pub decreases-loop-place : goal.decreases-loop-place
+decreases-loop-place l = l.end

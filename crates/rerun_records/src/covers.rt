@@ -1,0 +1,261 @@
+// Hulls over records by their places, so that an edit passes over those that have read none of its rows.
+ghost use Rattle.std.specs.Prelude.{◌≡◌, ◌≤◌, ◌<◌, ◌+◌, ◌*◌, [], ◌∷◌, ℕ, List, Some, IfSome, IfNone, OnOk};
+ghost use Rattle.std.specs.Prelude.{slice_get, length, option_copied, true, false};
+ghost use Rattle.evaluation.specs.declared.note.Note.{Note};
+ghost use Rattle.meaning.specs.Every.{every};
+ghost use Rattle.rerun_records.specs.Blocks.{is_apart};
+ghost use Rattle.rerun_records.specs.Record.{PlainRecord};
+ghost use Rattle.rerun_records.specs.Spans.{is_covered_by};
+ghost use Rattle.rerun_records.specs.declared.spans.Span.{Span};
+ghost use Rattle.rerun_records.specs.Covers.{CoversBut, CoversLevel, AreCovered, AreApart, AreSameBut, is_hull_apart};
+
+use crate::hull::Hull;
+use crate::listing::record_at;
+use crate::readings::Readings;
+use crate::record::Record;
+use std::alloc::{AllocError, Global};
+use std::marker::Model;
+use std::slice;
+
+/// The widths of hulls: so many records have one together.
+const WIDE: usize = 32_768;
+
+const MIDDLE: usize = 1_024;
+
+const NARROW: usize = 32;
+
+/// So many hulls of one width make one of the next.
+const TOGETHER: usize = 32;
+
+/// Hulls of three widths, each for so many places one after another.
+#[derive(Drop)]
+pub(crate) struct Covers {
+    wide: Vec<Hull>,
+    middle: Vec<Hull>,
+    narrow: Vec<Hull>,
+}
+
+impl Model for Covers {
+    ghost use Rattle.std.specs.Prelude.{List, [], ◌∷◌};
+    ghost use Rattle.rerun_records.specs.Covers.{PlainLevel};
+
+    ghost Value = { List PlainLevel };
+
+    ghost view = { λ c. record { width = 32768; hulls = c.wide.items }
+        ∷ record { width = 1024; hulls = c.middle.items }
+        ∷ record { width = 32; hulls = c.narrow.items } ∷ [] };
+}
+
+impl Covers {
+    /// No hulls; it takes no memory.
+    pub(crate) fn new(alloc: Global) -> Covers
+        ensures none { (records : List PlainRecord) → AreCovered records result }
+    {
+        Covers {
+            wide: Vec::new(alloc),
+            middle: Vec::new(alloc),
+            narrow: Vec::new(alloc),
+        }
+    }
+
+    // From which place on, up to that end, no record has read what the change may have changed: the beginning of the widest hull that
+    // ends there and in which the row doesn't lie, or that end.
+    fn apart_to(&self, end: usize, change: &(usize, i64)) -> usize
+        ensures within { result ≤ end }
+        ensures apart { (records : List PlainRecord) → AreCovered records self.now
+            → AreApart records change.now result end }
+    {
+        let first = apart_from(&self.wide, WIDE, end, change);
+        if first < end {
+            return first;
+        }
+        let first = apart_from(&self.middle, MIDDLE, end, change);
+        if first < end {
+            return first;
+        }
+        apart_from(&self.narrow, NARROW, end, change)
+    }
+
+    /// The last place before that end whose record may have read what the change of the row, given by its table's number and its own,
+    /// may have changed. It takes no memory, and passes over hulls in which the row doesn't lie.
+    pub(crate) fn next_touched(
+        &self,
+        list: &[Record],
+        end: usize,
+        change: &(usize, i64),
+    ) -> Option<usize>
+        requires covered { AreCovered list.now self.now }
+        ensures none { IfNone result (AreApart list.now change.now 0 end) }
+        ensures before { IfSome result (λ place. place < end) }
+        ensures apart { IfSome result (λ place. AreApart list.now change.now (place + 1) end) }
+    {
+        let mut last = end;
+        while last > 0 {
+            let first = self.apart_to(last, change);
+            if first < last {
+                last = first;
+            } else {
+                last -= 1;
+                if is_touched(record_at(list, last), change) {
+                    return Some(last);
+                }
+            }
+        }
+        None
+    }
+
+    /// Has the hulls of that place hold what the record there has read, which took another's place, as far as memory isn't refused.
+    pub(crate) fn put_in(&mut self, list: &[Record], place: usize)
+        ensures held { (before : List PlainRecord) → AreCovered before self.old
+            → AreSameBut (place ∷ []) before list.now → AreCovered list.now self.new }
+    {
+        if place >= list.len() {
+            return;
+        }
+        let reads = list[place].reads();
+        put_in(&mut self.wide, WIDE, place, reads);
+        put_in(&mut self.middle, MIDDLE, place, reads);
+        put_in(&mut self.narrow, NARROW, place, reads);
+    }
+
+    /// Makes hulls of the records whose places have none and are enough for one, as far as memory isn't refused. Only the narrowest
+    /// are made of the records, and each wider one of those that lie in it: so each record is looked at once.
+    pub(crate) fn grow(&mut self, alloc: Global, list: &[Record])
+        requires held { AreCovered list.now self.old }
+        ensures held { AreCovered list.now self.new }
+    {
+        add_all(alloc, &mut self.narrow, NARROW, list);
+        join_all(alloc, &mut self.middle, &self.narrow);
+        join_all(alloc, &mut self.wide, &self.middle);
+    }
+}
+
+// From which place on, up to that end, no record has read what the change may have changed, by the hull of that width which ends
+// there: its first place, or that end, where there is none or the change lies in it.
+fn apart_from(hulls: &[Hull], width: usize, end: usize, change: &(usize, i64)) -> usize
+    requires some { 0 < width }
+    ensures within { result ≤ end }
+    ensures apart { (records : List PlainRecord)
+        → CoversLevel records (record { width = width; hulls = hulls.now })
+        → AreApart records change.now result end }
+{
+    if end < width {
+        return end;
+    }
+    let first = end - width;
+    if first % width == 0 && is_hull_apart(hulls, first / width, change) {
+        first
+    } else {
+        end
+    }
+}
+
+// Whether the record, where there is one, may have read what the change may have changed.
+fn is_touched(record: Option<&Record>, change: &(usize, i64)) -> bool
+    ensures apart { result ≡ false → (r : PlainRecord) → option_copied record.entry ≡ Some r
+        → every (is_apart (change.now ∷ [])) r.reads ≡ true }
+{
+    match record {
+        Some(record) => record.reads().are_touched(slice::from_ref(change)),
+        None => false,
+    }
+}
+
+// Has the hull of that place hold what was read, if there is one. Where memory is refused that hull and those behind it are dropped.
+fn put_in(hulls: &mut Vec<Hull>, width: usize, place: usize, reads: &Readings)
+    requires some { 0 < width }
+    ensures held { (list : List PlainRecord) (rest : List ℕ)
+        → CoversBut (place ∷ rest) list (record { width = width; hulls = hulls.old.items })
+        → ((r : PlainRecord) → slice_get list place ≡ Some r → r.reads ≡ reads.now)
+        → CoversBut rest list (record { width = width; hulls = hulls.new.items }) }
+{
+    widen(hulls, place / width, reads);
+}
+
+// Whether there is a hull of that number, and the change doesn't lie in it.
+fn is_hull_apart(hulls: &[Hull], number: usize, change: &(usize, i64)) -> bool
+    ensures apart { result ≡ is_hull_apart (change.now ∷ []) (slice_get hulls.now number) }
+{
+    match hulls.get(number) {
+        Some(hull) => !hull.is_touched(slice::from_ref(change)),
+        None => false,
+    }
+}
+
+// Has the hull of that number hold what was read too, if there is one. Where memory is refused it and those behind it are dropped, as
+// it may then hold a part of what was read alone.
+fn widen(hulls: &mut Vec<Hull>, number: usize, reads: &Readings)
+    ensures fewer { length hulls.new.items ≤ length hulls.old.items }
+    ensures held { (h : List Span) → slice_get hulls.new.items number ≡ Some h
+        → every (is_covered_by h) reads.now ≡ true }
+    ensures kept { (i : ℕ) (h : List Span) (notes : List Note) → slice_get hulls.new.items i ≡ Some h
+        → ((g : List Span) → slice_get hulls.old.items i ≡ Some g → every (is_covered_by g) notes ≡ true)
+        → every (is_covered_by h) notes ≡ true }
+{
+    if number >= hulls.len() {
+        return;
+    }
+    if hulls[number].widen(reads).is_err() {
+        hulls.truncate(number);
+    }
+}
+
+// Makes the hulls of places that have none and are enough for one of that width.
+fn add_all(alloc: Global, hulls: &mut Vec<Hull>, width: usize, list: &[Record])
+    requires some { 0 < width }
+    requires held { CoversLevel list.now (record { width = width; hulls = hulls.old.items }) }
+    ensures held { CoversLevel list.now (record { width = width; hulls = hulls.new.items }) }
+{
+    while width <= list.len() - hulls.len() * width {
+        if add(alloc, hulls, width, list).is_err() {
+            return;
+        }
+    }
+}
+
+// Makes the hull of the first places that have none.
+fn add(
+    alloc: Global,
+    hulls: &mut Vec<Hull>,
+    width: usize,
+    list: &[Record],
+) -> Result<(), AllocError>
+    requires room { length hulls.old.items * width + width ≤ length list.now }
+    ensures held { CoversLevel list.now (record { width = width; hulls = hulls.old.items })
+        → CoversLevel list.now (record { width = width; hulls = hulls.new.items }) }
+    ensures more { OnOk result (length hulls.new.items ≡ length hulls.old.items + 1) }
+{
+    let first = hulls.len() * width;
+    let hull = Hull::of(alloc, &list[first..first + width])?;
+    hulls.push(hull)?;
+    Ok(())
+}
+
+// Makes the wider hulls that are missing, of those that lie in them, as far as these are there and memory isn't refused.
+fn join_all(alloc: Global, wide: &mut Vec<Hull>, hulls: &[Hull])
+    ensures held { (list : List PlainRecord) (width wider : ℕ) → wider ≡ width * 32
+        → CoversLevel list (record { width = width; hulls = hulls.now })
+        → CoversLevel list (record { width = wider; hulls = wide.old.items })
+        → CoversLevel list (record { width = wider; hulls = wide.new.items }) }
+{
+    while wide.len() < hulls.len() / TOGETHER {
+        if join(alloc, wide, hulls).is_err() {
+            return;
+        }
+    }
+}
+
+// Makes the first of the wider hulls that are missing, of those that lie in it.
+fn join(alloc: Global, wide: &mut Vec<Hull>, hulls: &[Hull]) -> Result<(), AllocError>
+    requires room { length wide.old.items * 32 + 32 ≤ length hulls.now }
+    ensures held { (list : List PlainRecord) (width wider : ℕ) → wider ≡ width * 32
+        → CoversLevel list (record { width = width; hulls = hulls.now })
+        → CoversLevel list (record { width = wider; hulls = wide.old.items })
+        → CoversLevel list (record { width = wider; hulls = wide.new.items }) }
+    ensures more { OnOk result (length wide.new.items ≡ length wide.old.items + 1) }
+{
+    let first = wide.len() * TOGETHER;
+    let hull = Hull::joined(alloc, &hulls[first..first + TOGETHER])?;
+    wide.push(hull)?;
+    Ok(())
+}
