@@ -11,4 +11,5 @@ pub mod reading;
 pub mod slot;
 pub mod stop;
 pub mod unnoted;
+pub mod unread;
 pub mod values;

@@ -337,7 +337,7 @@ fn both_at_once(
     Some((left, right))
 }
 
-// The same one cell after the other.
+// The value of an operator on two cells of one row, one cell after the other.
 #[inline(never)]
 fn cells_in_turn(
     operator: Operator,

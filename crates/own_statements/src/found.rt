@@ -7,8 +7,8 @@ ghost use Rattle.evaluation.specs.Values.{pure, value_at};
 ghost use Rattle.own_statements.specs.Fills.{Fills};
 
 use evaluation::slot::Slot;
-use evaluation::unnoted;
 use evaluation::values::number_in;
+use evaluation::{unnoted, unread};
 use input_tables::Tables;
 use layers::layer::Layer;
 use linked_program::code::{Expression, RowCells};
@@ -115,9 +115,10 @@ fn computed(expression: &Expression, slots: &[Slot], tables: &Tables) -> Option<
     }
 }
 
-/// The value of an expression over a layer that keeps no readings, if it has one. It calls others, so it is compiled by itself too.
+/// The value of an expression that reads nothing, or of any over a layer that keeps no readings, if it has one. It calls others, so it
+/// is compiled by itself too.
 #[inline(never)]
-#[tactic(auto, using(crate::proofs::AtOnce::unkept_fills))]
+#[tactic(auto, using(crate::proofs::AtOnce::unkept_fills, crate::proofs::AtOnce::pure_fills))]
 fn found<V: View>(
     layer: &Layer<V>,
     expression: &Expression,
@@ -127,7 +128,7 @@ fn found<V: View>(
     ensures value { IfSome result (λ v. Fills (value_at tables.now.tables slots.now (plain expression.now)) v layer.now layer.now) }
 {
     if layer.keeps {
-        return None;
+        return unread::value(expression, slots);
     }
     unnoted_value(expression, slots, tables)
 }

@@ -20,10 +20,10 @@ IsBlank (amounts es) = es ≡ []
 IsBlank _ = ⊥
 
 -- what the kind keeps of a list
-abbrev pub kept : Kind → List ℤ → List ℤ
-kept (k.First n) xs = take n xs
-kept (k.Last n) xs = last_of n xs
-kept _ xs = xs
+abbrev pub trimmed : Kind → List ℤ → List ℤ
+trimmed (k.First n) xs = take n xs
+trimmed (k.Last n) xs = last_of n xs
+trimmed _ xs = xs
 
 -- the kinds whose values are lists
 abbrev pub IsListKind : Kind → Type 0

@@ -2,7 +2,7 @@
 ghost use Rattle.std.specs.Prelude.{◌≡◌, ℕ, ℤ, OnOk, IfErr, IfOk, IsOk, IfSome, OnSome, IsNone, true, false, length, ◌∷◌, []};
 ghost use Rattle.monoid_laws.specs.Worth.{items, amounts, element};
 ghost use Rattle.monoid_laws.specs.Kinds.{element_of, meaning, IsWorth, arity, names_element, refusal};
-ghost use Rattle.reducer_values.specs.Forms.{is_fixed, kept};
+ghost use Rattle.reducer_values.specs.Forms.{is_fixed, trimmed};
 ghost use Rattle.monoid_laws.specs.declared.Kind.TheVariants as kinds;
 
 use crate::joining::keep;
@@ -23,7 +23,7 @@ fn table_element(table: Table, number: i64) -> Option<u8>
 
 /// The list of one number, as the kind keeps it.
 pub(crate) fn one_number(alloc: Global, kind: Kind, number: i64) -> Result<Val, AllocError>
-    ensures { IfOk result (λ v. meaning v ≡ items (kept kind (number ∷ []))) }
+    ensures { IfOk result (λ v. meaning v ≡ items (trimmed kind (number ∷ []))) }
 {
     let mut list = Vec::new(alloc);
     list.push(number)?;

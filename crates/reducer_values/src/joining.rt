@@ -2,7 +2,7 @@
 ghost use Rattle.std.specs.Prelude.{◌≡◌, ℕ, OnOk, OnErr, IfErr, IsOk, IfOk, ◌++◌, [], take, map};
 ghost use Rattle.monoid_laws.specs.Worth.{items, the_items};
 ghost use Rattle.monoid_laws.specs.Kinds.{last_of, joined, meaning};
-ghost use Rattle.reducer_values.specs.Forms.{kept};
+ghost use Rattle.reducer_values.specs.Forms.{trimmed};
 
 use crate::{Kind, Val};
 use std::alloc::{AllocError, Global};
@@ -127,7 +127,7 @@ pub(crate) fn combine_lists(left: &mut Val, right: Val) -> Result<(), Val>
 
 /// Keeps what a kind keeps of a list: the first numbers, the last ones, or all.
 pub(crate) fn keep(kind: &Kind, list: &mut Vec<i64>)
-    ensures { list.new.items ≡ kept kind.now list.old.items }
+    ensures { list.new.items ≡ trimmed kind.now list.old.items }
 {
     match kind {
         Kind::First(n) => list.truncate(*n as usize),
@@ -138,7 +138,7 @@ pub(crate) fn keep(kind: &Kind, list: &mut Vec<i64>)
 
 /// Joins a value to a list and keeps what the kind keeps, or hands the value back.
 fn join_kept(kind: &Kind, list: &mut Vec<i64>, right: Val) -> Result<(), Val>
-    ensures joined { OnOk result (list.new.items ≡ kept kind.now (list.old.items ++ the_items (meaning right))) }
+    ensures joined { OnOk result (list.new.items ≡ trimmed kind.now (list.old.items ++ the_items (meaning right))) }
     ensures refused { OnErr result (list.new.items ≡ list.old.items) }
     ensures handed_back { IfErr result (λ v. v ≡ right) }
 {
@@ -161,7 +161,7 @@ pub(crate) fn combine_kept(
     left: &mut Val,
     right: Val,
 ) -> Result<(), Val>
-    ensures joined { OnOk result (meaning left.new ≡ items (kept kind.now (the_items (meaning left.old) ++ the_items (meaning right)))) }
+    ensures joined { OnOk result (meaning left.new ≡ items (trimmed kind.now (the_items (meaning left.old) ++ the_items (meaning right)))) }
     ensures refused { OnErr result (meaning left.new ≡ meaning left.old) }
     ensures handed_back { IfErr result (λ v. v ≡ right) }
 {

@@ -4,7 +4,7 @@ ghost use Rattle.monoid_laws.specs.Worth.{items, amounts, best, the_amounts, the
 ghost use Rattle.monoid_laws.specs.Kinds.{last_of, merge, meaning, operate, element_of, arity, names_element, refusal, IsWorth, IsAmounts, IsNumberKind};
 ghost use Rattle.monoid_laws.specs.Kinds.{better};
 ghost use Rattle.monoid_laws.specs.declared.Kind.TheVariants as kinds;
-ghost use Rattle.reducer_values.specs.Forms.{kept, is_fixed, IsListKind};
+ghost use Rattle.reducer_values.specs.Forms.{trimmed, is_fixed, IsListKind};
 
 use crate::adding::add_amount;
 use crate::elements::{one_amount, one_number};
@@ -50,7 +50,7 @@ fn push_last(list: &mut Vec<i64>, n: usize, number: i64) -> Result<(), AllocErro
 /// Puts a number behind a list and keeps what the kind keeps.
 fn push_kept(kind: &Kind, list: &mut Vec<i64>, number: i64) -> Result<(), AllocError>
     requires { IsWorth kind.now (items list.old.items) }
-    ensures pushed { OnOk result (list.new.items ≡ kept kind.now (list.old.items ++ kept kind.now (number ∷ []))) }
+    ensures pushed { OnOk result (list.new.items ≡ trimmed kind.now (list.old.items ++ trimmed kind.now (number ∷ []))) }
     ensures refused { OnErr result (list.new.items ≡ list.old.items) }
 {
     match kind {
@@ -150,7 +150,7 @@ fn add_fixed(
 #[inline(always)]
 fn add_to_sum(value: &mut Val, number: i64) -> bool
     ensures added { result ≡ true → meaning value.new ≡ operate kinds.Add (meaning value.old) (element_of kinds.Add (number ∷ [])) }
-    ensures kept { result ≡ false → value.new ≡ value.old }
+    ensures same { result ≡ false → value.new ≡ value.old }
 {
     match value {
         Val::Int(held) => {
@@ -165,7 +165,7 @@ fn add_to_sum(value: &mut Val, number: i64) -> bool
 #[inline(always)]
 fn add_to_best(value: &mut Val, measure: i64, row: i64) -> bool
     ensures added { result ≡ true → meaning value.new ≡ best (better (the_best (meaning value.old)) (Some (measure, row))) }
-    ensures kept { result ≡ false → value.new ≡ value.old }
+    ensures same { result ≡ false → value.new ≡ value.old }
 {
     match value {
         Val::Arg(held) => {
@@ -200,7 +200,7 @@ pub fn add_at_once(kind: &Kind, value: &mut Val, numbers: &[i64]) -> bool
         ≡ operate kind.now (meaning value.old) (element_of kind.now numbers.now) }
     ensures element { result ≡ true → IsWorth kind.now (element_of kind.now numbers.now) }
     ensures named { result ≡ true → names_element kind.now numbers.now ≡ true }
-    ensures kept { result ≡ false → value.new ≡ value.old }
+    ensures same { result ≡ false → value.new ≡ value.old }
 {
     match kind {
         Kind::Add => add_to_sum(value, numbers[0]),

@@ -2,7 +2,7 @@
 use Rattle.std.proofs.Common.{◌≡◌, ℕ, zero, suc, Bool, true, false, cond, ◌==◌, List, [], ◌∷◌, Option, Some, None, slice_get, slice_set, replicate, length, ◌⊎◌, inl, inr, refl, ap, sym, ◌∙◌, subst}
 use Rattle.std.proofs.lemmas.Bool.{eqb-true, eqb-false}
 use Rattle.linked_program.specs.Bodies.{line_of}
-use Rattle.single_rules.specs.Filled.{is_free, kept, filled, indexed}
+use Rattle.single_rules.specs.Filled.{is_free, with_line, filled, indexed}
 
 get_set_same : {A : Type 0} → (t : List A) (n : ℕ) (x y : A) → slice_get t n ≡ Some y → slice_get (slice_set t n x) n ≡ Some x
 get_set_same [] n x y e = cc
@@ -54,7 +54,7 @@ filled_line t [] n l e = inl e
 filled_line t (p ∷ ps) n l e =
     let at = kept_at t p.0 p.1 n (is_free (slice_get t p.0)) (p.0 == n) refl refl in
     solve (p.0 == n) (slice_get t n) p.1 l (line_of ps n)
-    (subst (λ o. (o ≡ Some (Some l)) ⊎ ((is_free o ≡ true) × (line_of ps n ≡ l))) at (filled_line (kept t p.0 p.1) ps n l e))
+    (subst (λ o. (o ≡ Some (Some l)) ⊎ ((is_free o ≡ true) × (line_of ps n ≡ l))) at (filled_line (with_line t p.0 p.1) ps n l e))
 
 none_yet : (k n l : ℕ) → slice_get (replicate k None) n ≡ Some (Some l) → ⊥
 none_yet zero n l e = cc

@@ -8,7 +8,7 @@ use Rattle.meaning.specs.Edits.{same_proc}
 use Rattle.linked_program.specs.Procedures.{procedures}
 use Rattle.linked_program.specs.Checked.{names_in, number_in}
 use Rattle.linked_program.proofs.Named.{bytes_turned, revision_found}
-use Rattle.single_rules.specs.Kept.{kept}
+use Rattle.single_rules.specs.Kept.{kept_revision}
 
 -- a procedure that there is has a number
 pub number_there : (t : Tree) (ns : List (Name × ℕ)) (f : Name) (q : Proc) → names_in ns ≡ map (λ p. p.called) (procedures t) → procedure_of t f ≡ Some q → (n : ℕ) × (number_in ns f ≡ Some n)
@@ -25,7 +25,7 @@ number_there (procedure p ∷ rest) ((g, k) ∷ ns) f q e there =
     ] there)
 
 -- what the code finds
-pub kept_is : (old : Revised) (p q : Proc) (o : Option ℕ) → names_in old.revisions ≡ map (λ p. p.called) (procedures old.tree) → Some q ≡ procedure_of old.tree p.called → true ≡ same_proc q p → o ≡ number_in old.revisions p.called → o ≡ kept old p
+pub kept_is : (old : Revised) (p q : Proc) (o : Option ℕ) → names_in old.revisions ≡ map (λ p. p.called) (procedures old.tree) → Some q ≡ procedure_of old.tree p.called → true ≡ same_proc q p → o ≡ number_in old.revisions p.called → o ≡ kept_revision old p
 kept_is old p q o each found same number =
     let n = number_there old.tree old.revisions p.called q each (sym found) in
     rw (← found, ← same) (number ∙ n.1 ∙ ap Some (revision_found old.revisions p.called n.0 n.1))

@@ -6,5 +6,5 @@ use Rattle.meaning.specs.Statements.{procedure_of}
 use Rattle.meaning.specs.Edits.{is_same, revision_of}
 
 -- the revision number of a procedure that is as it was
-abbrev pub kept : Revised → Proc → Option ℕ
-kept old p = cond (is_same (procedure_of old.tree p.called) p) (Some (revision_of old.revisions p.called)) None
+abbrev pub kept_revision : Revised → Proc → Option ℕ
+kept_revision old p = cond (is_same (procedure_of old.tree p.called) p) (Some (revision_of old.revisions p.called)) None

@@ -3,7 +3,7 @@ ghost use Rattle.std.specs.Prelude.{◌≡◌, nat_eq};
 ghost use Rattle.meaning.specs.TreeView.{proc};
 ghost use Rattle.meaning.specs.Edits.{most};
 ghost use Rattle.linked_program.specs.Checked.{revised_of};
-ghost use Rattle.single_rules.specs.Kept.{kept};
+ghost use Rattle.single_rules.specs.Kept.{kept_revision};
 
 use crate::names::find_procedure;
 use linked_program::checked::Checked;
@@ -12,7 +12,7 @@ use tree_equality::same_procedure;
 
 /// The revision number of a procedure that is as it was.
 pub fn kept_revision(old: &Checked, procedure: &Procedure) -> Option<u64>
-    ensures { result ≡ kept (revised_of old.now) (proc procedure.now) }
+    ensures { result ≡ kept_revision (revised_of old.now) (proc procedure.now) }
 {
     old.revised();
     match find_procedure(&old.program().declarations, procedure.name.as_str()) {

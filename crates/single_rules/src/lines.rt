@@ -2,7 +2,7 @@
 ghost use Rattle.std.specs.Prelude.{◌≡◌, ◌++◌, IfOk, OnOk};
 ghost use Rattle.meaning.specs.TreeView.{block_lines, statement_lines};
 ghost use Rattle.linked_program.specs.Bodies.{line_of};
-ghost use Rattle.single_rules.specs.Filled.{kept, indexed};
+ghost use Rattle.single_rules.specs.Filled.{with_line, indexed};
 
 use meaning::tree::{Block, Statement};
 use std::alloc::{AllocError, Global};
@@ -62,7 +62,7 @@ fn push_lines(pairs: &mut Vec<(u32, u32)>, statements: &[Statement]) -> Result<(
 
 // Keeps the line of a number that has none yet.
 fn keep(lines: &mut Vec<Option<u32>>, number: u32, line: u32)
-    ensures { lines.new.items ≡ kept lines.old.items number line }
+    ensures { lines.new.items ≡ with_line lines.old.items number line }
 {
     let place = number as usize;
     if place < lines.len() && lines[place].is_none() {

@@ -5,7 +5,7 @@ use Rattle.std.specs.Option.{option_map}
 use Rattle.std.proofs.lemmas.Slice.Eq.{bytes_eq-Decides}
 use Rattle.meaning.specs.Tree.{Name}
 use Rattle.token_scanner.specs.Words.{for_some}
-use Rattle.source_tree.specs.Lowering.{found_index, kept}
+use Rattle.source_tree.specs.Lowering.{found_index, with_index}
 
 on_bool : (b : Bool) → (b ≡ true) ⊎ (b ≡ false)
 on_bool true = inl refl
@@ -37,8 +37,8 @@ same None = refl
 same (Some k) = refl
 
 module _ (places : Name → Option ℕ) (y : Name) (n : ℕ) (x : Name) where
-  pub kept_new : is_some (places y) ≡ false → cond (bytes_eq y x) (Some n) (places x) ≡ kept places y n x
-  kept_new u =
+  pub index_new : is_some (places y) ≡ false → cond (bytes_eq y x) (Some n) (places x) ≡ with_index places y n x
+  index_new u =
       elim (on_bool (bytes_eq y x)) [
         | inl t ↦
             let e : y ≡ x = (bytes_eq-Decides y x).0 t in
@@ -53,8 +53,8 @@ module _ (places : Name → Option ℕ) (y : Name) (n : ℕ) (x : Name) where
             rw (f, q) (sym (same (places x)))
       ]
 
-  pub kept_old : is_some (places y) ≡ true → places x ≡ kept places y n x
-  kept_old u =
+  pub index_old : is_some (places y) ≡ true → places x ≡ with_index places y n x
+  index_old u =
       elim (on_option (places x)) [
         | inr (k, e) ↦ rw e refl
         | inl e ↦

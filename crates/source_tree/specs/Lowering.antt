@@ -23,8 +23,8 @@ found_index x [] = None
 found_index x (y ∷ ys) = if bytes_eq x y then Some 0 else option_map (λ n. suc n) (found_index x ys)
 
 -- the indices of names, with that of one more, where it has none
-abbrev pub kept : (Name → Option ℕ) → Name → ℕ → Name → Option ℕ
-kept places y n x = for_some (places x) (if bytes_eq x y then Some n else None) (λ k. Some k)
+abbrev pub with_index : (Name → Option ℕ) → Name → ℕ → Name → Option ℕ
+with_index places y n x = for_some (places x) (if bytes_eq x y then Some n else None) (λ k. Some k)
 
 -- the number of a name in a pool, where a new one is put last
 abbrev pub numbered : List Name → Name → List Name × ℕ

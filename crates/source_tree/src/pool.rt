@@ -2,7 +2,7 @@
 
 ghost use Rattle.std.specs.Prelude.{◌≡◌, ℕ, List, OnOk, OnErr};
 ghost use Rattle.std.specs.BTreeMap.{get_by_text};
-ghost use Rattle.source_tree.specs.Lowering.{kept};
+ghost use Rattle.source_tree.specs.Lowering.{with_index};
 
 use std::alloc::{AllocError, Global};
 use std::collections::BTreeMap;
@@ -35,7 +35,7 @@ fn keep(
     name: &str,
     place: usize,
 ) -> Result<(), AllocError>
-    ensures kept { OnOk result ((x : List ℕ) → get_by_text places.new x ≡ kept (λ y. get_by_text places.old y) name.now place x) }
+    ensures indexed { OnOk result ((x : List ℕ) → get_by_text places.new x ≡ with_index (λ y. get_by_text places.old y) name.now place x) }
     ensures same { OnErr result ((x : List ℕ) → get_by_text places.new x ≡ get_by_text places.old x) }
 {
     if places.get(name).is_some() {

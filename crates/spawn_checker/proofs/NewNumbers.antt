@@ -15,7 +15,7 @@ use Rattle.spawn_checker.specs.declared.violation.CheckError.{CheckError}
 use Rattle.spawn_checker.specs.declared.violation.CheckError.TheVariants.{NoMemory, Check, Exhausted}
 use Rattle.spawn_checker.specs.Refused.{IsRefused}
 use Rattle.single_rules.proofs.NumberThere.{number_there}
-use Rattle.single_rules.specs.Kept.{kept}
+use Rattle.single_rules.specs.Kept.{kept_revision}
 use Rattle.spawn_checker.specs.Renumbered.{IsRefusedAnew, AreKeptOrNew, behind}
 
 abbrev pub Numbered : Type 0
@@ -37,10 +37,10 @@ numbers_new old p rest next true e = absurd cc
 numbers_new old p rest next false e = refl
 
 -- a procedure that keeps its number, and one that gets a new one
-pub revised_kept : (old : Revised) (p : Proc) (rest : Tree) (next k : ℕ) → kept old p ≡ Some k → revised old (procedure p ∷ rest) next ≡ with_number p.called k (revised old rest next)
+pub revised_kept : (old : Revised) (p : Proc) (rest : Tree) (next k : ℕ) → kept_revision old p ≡ Some k → revised old (procedure p ∷ rest) next ≡ with_number p.called k (revised old rest next)
 revised_kept old p rest next k e = numbers_kept old p rest next k (is_same (procedure_of old.tree p.called) p) e
 
-pub revised_new : (old : Revised) (p : Proc) (rest : Tree) (next : ℕ) → kept old p ≡ None → revised old (procedure p ∷ rest) next ≡ with_number p.called next (revised old rest (suc next))
+pub revised_new : (old : Revised) (p : Proc) (rest : Tree) (next : ℕ) → kept_revision old p ≡ None → revised old (procedure p ∷ rest) next ≡ with_number p.called next (revised old rest (suc next))
 revised_new old p rest next e = numbers_new old p rest next (is_same (procedure_of old.tree p.called) p) e
 
 pub revised_names : (old : Revised) (t : Tree) (next : ℕ) → names_in (revised old t next).0 ≡ map (λ p. p.called) (procedures t)
@@ -116,7 +116,7 @@ module _ (old : Revised) (each : names_in old.revisions ≡ map (λ p. p.called)
   revised_below t ns counter e = subst AreBelow (sym e) (numbers_below t old.counter (omega arith))
 
 -- a new procedure where the counter stands at its greatest number
-pub exhausted_at : (old : Revised) (p : Proc) (rest : Tree) (first : List (Name × ℕ)) (n all : ℕ) → all ≡ (behind first (revised old (procedure p ∷ rest) n)).1 → kept old p ≡ None → n ≡ most → most < all
+pub exhausted_at : (old : Revised) (p : Proc) (rest : Tree) (first : List (Name × ℕ)) (n all : ℕ) → all ≡ (behind first (revised old (procedure p ∷ rest) n)).1 → kept_revision old p ≡ None → n ≡ most → most < all
 exhausted_at old p rest first n all is new full =
     let more = counter_grows old rest (suc n) in
     let here : all ≡ (revised old rest (suc n)).1 = is ∙ ap (λ (m : Numbered). m.1) (revised_new old p rest n new) in

@@ -3,7 +3,7 @@ use Rattle.std.proofs.Common.{◌≡◌, ℕ, suc, ◌+◌, List, [], ◌∷◌,
 use Rattle.meaning.specs.Tree.{Name, Proc, procedure, Tree}
 use Rattle.meaning.specs.Records.{Revised}
 use Rattle.meaning.specs.Edits.{revised}
-use Rattle.single_rules.specs.Kept.{kept}
+use Rattle.single_rules.specs.Kept.{kept_revision}
 use Rattle.spawn_checker.specs.Renumbered.{behind}
 use Rattle.spawn_checker.proofs.NewNumbers.{Numbered, revised_kept, revised_new}
 
@@ -17,9 +17,9 @@ module _ (old : Revised) (all : Numbered) (ns ms : List (Name × ℕ)) (p : Proc
   behind_put n m is = ap (λ (xs : List (Name × ℕ)). (xs, m.1)) (sym (append_assoc ns ((p.called, n) ∷ []) m.0)) ∙ ap (λ (xs : List (Name × ℕ)). behind xs m) (sym is)
 
   -- where a procedure keeps its number, and where it gets a new one
-  pub kept_one : (n : ℕ) → kept old p ≡ Some n → ms ≡ ns ++ (p.called, n) ∷ [] → Going old all ms next rest
+  pub kept_one : (n : ℕ) → kept_revision old p ≡ Some n → ms ≡ ns ++ (p.called, n) ∷ [] → Going old all ms next rest
   kept_one n e is = going ∙ ap (behind ns) (revised_kept old p rest next n e) ∙ behind_put n (revised old rest next) is
 
-  pub new_one : (n : ℕ) → kept old p ≡ None → ms ≡ ns ++ (p.called, next) ∷ [] → n ≡ next + 1 → Going old all ms n rest
+  pub new_one : (n : ℕ) → kept_revision old p ≡ None → ms ≡ ns ++ (p.called, next) ∷ [] → n ≡ next + 1 → Going old all ms n rest
   new_one n e is more =
       going ∙ ap (behind ns) (revised_new old p rest next e) ∙ behind_put next (revised old rest (suc next)) is ∙ ap (λ (k : ℕ). behind ms (revised old rest k)) (sym (more ∙ add-one next))

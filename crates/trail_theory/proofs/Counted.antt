@@ -7,7 +7,7 @@ use Rattle.meaning.specs.Layers.{Notes}
 use Rattle.meaning.specs.SmallStep.{Frame, leaving}
 use Rattle.meaning.specs.Tallies.{Opened, Tally, executions, passed_all, opened_all, record_by, closed_by, tallies_joined}
 use Rattle.trail_theory.specs.Order.{In, Every}
-use Rattle.trail_theory.specs.Counts.{reuses, HasRecord, IsKept, IsCounted}
+use Rattle.trail_theory.specs.Counts.{reuses, HasRecord, HasRecordOrLayer, IsCounted}
 use Rattle.trail_theory.proofs.Places.{every_append}
 use Rattle.trail_theory.proofs.Keys.{executions_append, reuses_append}
 
@@ -34,16 +34,16 @@ record_left a b key h = record { it = h.it; is_in = in_left h.it a b h.is_in; na
 record_right : (a b : List Kept) (key : Key) → HasRecord b key → HasRecord (a ++ b) key
 record_right a b key h = record { it = h.it; is_in = in_right h.it a b h.is_in; named = h.named; called = h.called }
 
-kept_left : (a b : List Kept) (os : List Opened) (key : Key) → IsKept a os key → IsKept (a ++ b) os key
+kept_left : (a b : List Kept) (os : List Opened) (key : Key) → HasRecordOrLayer a os key → HasRecordOrLayer (a ++ b) os key
 kept_left a b os key (inl h) = inl (record_left a b key h)
 kept_left a b os key (inr h) = inr h
 
 -- where no layer is open
-pub kept_made : (ks : List Kept) (os : List Opened) (key : Key) → os ≡ [] → IsKept ks os key → HasRecord ks key
+pub kept_made : (ks : List Kept) (os : List Opened) (key : Key) → os ≡ [] → HasRecordOrLayer ks os key → HasRecord ks key
 kept_made ks os key e (inl h) = h
 kept_made ks os key e (inr h) = absurd (subst (In h.it) e h.is_in)
 
-kept_under : (ks : List Kept) (o : Opened) (os : List Opened) (key : Key) → IsKept ks os key → IsKept ks (o ∷ os) key
+kept_under : (ks : List Kept) (o : Opened) (os : List Opened) (key : Key) → HasRecordOrLayer ks os key → HasRecordOrLayer ks (o ∷ os) key
 kept_under ks o os key (inl h) = inl h
 kept_under ks o os key (inr h) = inr (record { it = h.it; is_in = inr h.is_in; named = h.named; called = h.called })
 
@@ -57,11 +57,11 @@ counted_more y z es fs h a b m o =
       executed_are = a ∙ ap (λ n. n + length (executions fs)) h.executed_are ∙ sym (ap length (executions_append es fs) ∙ length-append (executions es) (executions fs));
       reused_are = b ∙ ap (λ n. n + length (reuses fs)) h.reused_are ∙ sym (ap length (reuses_append es fs) ∙ length-append (reuses es) (reuses fs));
       room = omega (arith, a, r, lm, lo);
-      kept = λ q.
+      recorded = λ q.
           let none : executions fs ≡ [] = empty (executions fs) (omega (arith, a, r, lm, lo, q)) in
-          let old : Every (IsKept y.made y.opened) (executions es) = h.kept (omega (arith, a, r, lm, lo, q)) in
-          let now : Every (IsKept z.made z.opened) (executions es) = subst (λ w. Every (IsKept w z.opened) (executions es)) (sym m) (subst (λ w. Every (IsKept y.made w) (executions es)) (sym o) old) in
-          subst (Every (IsKept z.made z.opened)) (sym (executions_append es fs ∙ ap (λ w. executions es ++ w) none ∙ append-nil (executions es))) now;
+          let old : Every (HasRecordOrLayer y.made y.opened) (executions es) = h.recorded (omega (arith, a, r, lm, lo, q)) in
+          let now : Every (HasRecordOrLayer z.made z.opened) (executions es) = subst (λ w. Every (HasRecordOrLayer w z.opened) (executions es)) (sym m) (subst (λ w. Every (HasRecordOrLayer y.made w) (executions es)) (sym o) old) in
+          subst (Every (HasRecordOrLayer z.made z.opened)) (sym (executions_append es fs ∙ ap (λ w. executions es ++ w) none ∙ append-nil (executions es))) now;
     }
 
 -- no more
@@ -87,11 +87,11 @@ counted_opened fr f vs y es fs h a b =
       executed_are = omega (arith, e, l, both);
       reused_are = omega (arith, u, n, answered);
       room = omega (arith, r, lo);
-      kept = λ q.
-          let old : Every (IsKept y.made y.opened) (executions es) = h.kept (omega (arith, q, lo)) in
-          let first : IsKept y.made (o ∷ y.opened) (f, vs) = inr (record { it = o; is_in = inl refl; named = refl; called = refl }) in
-          subst (Every (IsKept y.made (o ∷ y.opened))) (sym (executions_append es fs ∙ ap (λ w. executions es ++ w) a))
-          (every_append (IsKept y.made (o ∷ y.opened)) (executions es) ((f, vs) ∷ []) (every_as (IsKept y.made y.opened) (IsKept y.made (o ∷ y.opened)) (executions es) (λ key k. kept_under y.made o y.opened key k) old) (first, tt));
+      recorded = λ q.
+          let old : Every (HasRecordOrLayer y.made y.opened) (executions es) = h.recorded (omega (arith, q, lo)) in
+          let first : HasRecordOrLayer y.made (o ∷ y.opened) (f, vs) = inr (record { it = o; is_in = inl refl; named = refl; called = refl }) in
+          subst (Every (HasRecordOrLayer y.made (o ∷ y.opened))) (sym (executions_append es fs ∙ ap (λ w. executions es ++ w) a))
+          (every_append (HasRecordOrLayer y.made (o ∷ y.opened)) (executions es) ((f, vs) ∷ []) (every_as (HasRecordOrLayer y.made y.opened) (HasRecordOrLayer y.made (o ∷ y.opened)) (executions es) (λ key k. kept_under y.made o y.opened key k) old) (first, tt));
     }
 
 pub counted_join : (y z : Tally) (es fs : Log) → IsCounted y es → IsCounted z fs → IsCounted (tallies_joined y z) (es ++ fs)
@@ -109,14 +109,14 @@ counted_join y z es fs h k =
       executed_are = omega (arith, both, e, e');
       reused_are = omega (arith, answered, u, u');
       room = omega (arith, l, ry, rz);
-      kept = λ q.
+      recorded = λ q.
           let none : z.opened ≡ [] = empty z.opened (omega (arith, q, l, ry, rz)) in
-          let a = h.kept (omega (arith, q, l, ry, rz)) in
-          let b = k.kept (omega (arith, q, l, ry, rz)) in
+          let a = h.recorded (omega (arith, q, l, ry, rz)) in
+          let b = k.recorded (omega (arith, q, l, ry, rz)) in
           let all = y.made ++ z.made in
-          subst (Every (IsKept all y.opened)) (sym (executions_append es fs)) (every_append (IsKept all y.opened) (executions es) (executions fs)
-          (every_as (IsKept y.made y.opened) (IsKept all y.opened) (executions es) (λ key i. kept_left y.made z.made y.opened key i) a)
-          (every_as (IsKept z.made z.opened) (IsKept all y.opened) (executions fs) (λ key i. inl (record_right y.made z.made key (kept_made z.made z.opened key none i))) b));
+          subst (Every (HasRecordOrLayer all y.opened)) (sym (executions_append es fs)) (every_append (HasRecordOrLayer all y.opened) (executions es) (executions fs)
+          (every_as (HasRecordOrLayer y.made y.opened) (HasRecordOrLayer all y.opened) (executions es) (λ key i. kept_left y.made z.made y.opened key i) a)
+          (every_as (HasRecordOrLayer z.made z.opened) (HasRecordOrLayer all y.opened) (executions fs) (λ key i. inl (record_right y.made z.made key (kept_made z.made z.opened key none i))) b));
     }
 
 pub passed_executed : (ks : List Key) (t : Tally) → (passed_all ks t).executed ≡ t.executed + length ks
@@ -131,11 +131,11 @@ passed_reused [] t = refl
 passed_reused (k ∷ ks) t = passed_reused ks _
 
 module _ (program : Revised) where
-  closed_kept : (o : Opened) (os : List Opened) (l : Notes) (v : ℤ) (made : List Kept) (key : Key) → IsKept made (o ∷ os) key → IsKept (made ++ record_by program o l v ∷ []) os key
+  closed_kept : (o : Opened) (os : List Opened) (l : Notes) (v : ℤ) (made : List Kept) (key : Key) → HasRecordOrLayer made (o ∷ os) key → HasRecordOrLayer (made ++ record_by program o l v ∷ []) os key
   closed_kept o os l v made key (inl h) = inl (record_left made (record_by program o l v ∷ []) key h)
   closed_kept o os l v made key (inr h) = by_place h.is_in
     where
-      by_place : In h.it (o ∷ os) → IsKept (made ++ record_by program o l v ∷ []) os key
+      by_place : In h.it (o ∷ os) → HasRecordOrLayer (made ++ record_by program o l v ∷ []) os key
       by_place (inl e) = inl (record { it = record_by program o l v; is_in = in_right (record_by program o l v) made (record_by program o l v ∷ []) (inl refl); named = ap (λ (i : Opened). i.of) (sym e) ∙ h.named; called = ap (λ (i : Opened). i.args) (sym e) ∙ h.called })
       by_place (inr there) = inr (record { it = h.it; is_in = there; named = h.named; called = h.called })
 
@@ -152,5 +152,5 @@ module _ (program : Revised) where
         executed_are = g.executed_are;
         reused_are = g.reused_are;
         room = omega (arith, r, lo, lm);
-        kept = λ q. every_as (IsKept y.made (o ∷ os)) (IsKept (y.made ++ record_by program o l v ∷ []) os) (executions (es ++ fs)) (λ key k. closed_kept o os l v y.made key k) (subst (λ w. Every (IsKept y.made w) (executions (es ++ fs))) e (g.kept (omega (arith, q, lo, lm))));
+        recorded = λ q. every_as (HasRecordOrLayer y.made (o ∷ os)) (HasRecordOrLayer (y.made ++ record_by program o l v ∷ []) os) (executions (es ++ fs)) (λ key k. closed_kept o os l v y.made key k) (subst (λ w. Every (HasRecordOrLayer y.made w) (executions (es ++ fs))) e (g.recorded (omega (arith, q, lo, lm))));
       }

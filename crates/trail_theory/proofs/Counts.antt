@@ -11,7 +11,7 @@ use Rattle.trail_theory.specs.Order.{Every}
 use Rattle.trail_theory.specs.ReadsAtEnd.{ReadsAtMainsEnd}
 use Rattle.trail_theory.specs.Right.{stretch, RecordedAreSound}
 use Rattle.trail_theory.specs.ElisionBeside.{first_fault, before_fault}
-use Rattle.trail_theory.specs.Counts.{reuses, HasRecord, IsKept, IsCounted, MarksAreNeeded}
+use Rattle.trail_theory.specs.Counts.{reuses, HasRecord, HasRecordOrLayer, IsCounted, MarksAreNeeded}
 use Rattle.trail_theory.specs.TalliedTheorems.{IsTalliedNow, EndCountsNeeded}
 use Rattle.trail_theory.proofs.FirstFaults.{quiet_first, inside_none}
 use Rattle.trail_theory.proofs.Ends.{at_end}
@@ -71,4 +71,4 @@ module _ (program : Revised) (tables : Tables) (records : List Kept) (ruled : Re
       let m = end_marks s t v a b c d h in
       let r : length t.made + length t.opened ≤ t.executed = m.counted.room in
       let none : t.opened ≡ [] = empty t.opened (omega (arith, r, e)) in
-      subst (Every (HasRecord t.made)) m.executed_are (every_as (IsKept t.made t.opened) (HasRecord t.made) (executions m.here) (λ key k. kept_made t.made t.opened key none k) (m.counted.kept (omega (arith, e))))
+      subst (Every (HasRecord t.made)) m.executed_are (every_as (HasRecordOrLayer t.made t.opened) (HasRecord t.made) (executions m.here) (λ key k. kept_made t.made t.opened key none k) (m.counted.recorded (omega (arith, e))))

@@ -57,7 +57,7 @@ module _ (program : Revised) (tables : Tables) (sight : Accumulators) (lookup : 
 
   pub first_tallied : Whole (first_layered P) no_tally
   unfolding first_right
-  first_tallied = record { right = first_right P tables sight lookup; opens = tt; high = tt; shallow = (omega arith, (tt, tt)); counted = counted_on no_tally no_tally [] (beginning P) (record { executed_are = refl; reused_are = refl; room = omega arith; kept = λ q. tt }) (told_executed (beginning P) (beginning_told P)) (told_reuses (beginning P) (beginning_told P)) refl refl refl refl; made = tt }
+  first_tallied = record { right = first_right P tables sight lookup; opens = tt; high = tt; shallow = (omega arith, (tt, tt)); counted = counted_on no_tally no_tally [] (beginning P) (record { executed_are = refl; reused_are = refl; room = omega arith; recorded = λ q. tt }) (told_executed (beginning P) (beginning_told P)) (told_reuses (beginning P) (beginning_told P)) refl refl refl refl; made = tt }
 
   inline_at : (m : Start) (ls : List Notes) (fr : Frame) (t : List Parent) (y : Tally) (d : ℕ) (x : Option ℕ) (child : Child) (todo : Todo) → At m ls fr (spawning d x child todo) t y
       → Whole (inlined P (record { start = m; layers = ls; frame = fr; phase = spawning d x child todo; under = t }) d x child todo) y
@@ -79,7 +79,7 @@ module _ (program : Revised) (tables : Tables) (sight : Accumulators) (lookup : 
 
   pub steal_tallied : (k : Continuation) → IsRightContinuation P tables sight lookup k → IsShallowContinuation k → Whole (stolen P k) no_tally
   unfolding steal_right
-  steal_tallied k h shallow = record { right = steal_right P tables sight lookup k h; opens = tt; high = tt; shallow = (shallow.0, (tt, shallow.1)); counted = record { executed_are = refl; reused_are = refl; room = omega arith; kept = λ q. tt }; made = tt }
+  steal_tallied k h shallow = record { right = steal_right P tables sight lookup k h; opens = tt; high = tt; shallow = (shallow.0, (tt, shallow.1)); counted = record { executed_are = refl; reused_are = refl; room = omega arith; recorded = λ q. tt }; made = tt }
 
   join_tallied_at : StretchesMultiply P tables sight lookup → (s : Start) (ls : List Notes) (frl : Frame) (v : ℤ) (m : Place) (k : ℕ) (lr : Notes) (fr : Frame) (ph : Phase) (t : List Parent) (y z : Tally)
       → At s ls frl (leaving v) [] y → At (behind m k) (lr ∷ []) fr ph t z → frl.instance ≡ child_of m k → NoneWaits s (settled_frame frl.instance v fr) → NoneWaitsUnder s (settled_under frl.instance v t)
@@ -91,7 +91,7 @@ module _ (program : Revised) (tables : Tables) (sight : Accumulators) (lookup : 
         opens = open_any P tables sight lookup ph hl.right.before y.opened _ (grown_open P tables sight lookup hl.right.before y.opened hl.right.segments _ hl.opens);
         high = hl.high;
         shallow = (hr.shallow.0, (hr.shallow.1.0, shallow_settled frl.instance v t hr.shallow.1.1));
-        counted = subst (IsCounted (tallies_joined y z)) (sym (stretch_grown P tables sight lookup hl.right.segments (Leaves frl.instance (Ok v) ∷ stretch hr.right.segments) hl.right.layered)) (counted_join y z (stretch hl.right.segments) (Leaves frl.instance (Ok v) ∷ stretch hr.right.segments) hl.counted (record { executed_are = hr.counted.executed_are; reused_are = hr.counted.reused_are; room = hr.counted.room; kept = hr.counted.kept }));
+        counted = subst (IsCounted (tallies_joined y z)) (sym (stretch_grown P tables sight lookup hl.right.segments (Leaves frl.instance (Ok v) ∷ stretch hr.right.segments) hl.right.layered)) (counted_join y z (stretch hl.right.segments) (Leaves frl.instance (Ok v) ∷ stretch hr.right.segments) hl.counted (record { executed_are = hr.counted.executed_are; reused_are = hr.counted.reused_are; room = hr.counted.room; recorded = hr.counted.recorded }));
         made = every_append (IsNewRecord program tables) y.made z.made hl.made hr.made;
       }
 

@@ -37,15 +37,15 @@ pub record HasOpened (layers : List Opened) (key : Key) : Type 0 where
   pub named : it.of ≡ key.0
   pub called : it.args ≡ key.1
 
-abbrev pub IsKept : List Kept → List Opened → Key → Type 0
-IsKept made layers key = HasRecord made key ⊎ HasOpened layers key
+abbrev pub HasRecordOrLayer : List Kept → List Opened → Key → Type 0
+HasRecordOrLayer made layers key = HasRecord made key ⊎ HasOpened layers key
 
 -- a tally has counted the marks of a stretch of the trail; where it has as many new records and open layers as executions, each execution has one
 pub record IsCounted (t : Tally) (es : Log) : Type 0 where
   pub executed_are : t.executed ≡ length (executions es)
   pub reused_are : t.reused ≡ length (reuses es)
   pub room : length t.made + length t.opened ≤ t.executed
-  pub kept : t.executed ≤ length t.made + length t.opened → Every (IsKept t.made t.opened) (executions es)
+  pub recorded : t.executed ≤ length t.made + length t.opened → Every (HasRecordOrLayer t.made t.opened) (executions es)
 
 -- up to its first fault the trail marks the instances that are needed
 abbrev pub MarksAreNeeded : Revised → Tables → List Kept → Accumulators → Type 0

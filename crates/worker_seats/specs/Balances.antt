@@ -32,6 +32,6 @@ abbrev pub Lacks : PlainStrand → PlainDepot → List PlainLaid → Type 0
 Lacks s d laid = (d.free + (d.out + (kits_of s + kits_laid laid)) ≡ d.begun) × (d.parts + held_among laid ≡ suc most)
 
 -- a kit that lies beside the lock, or none
-abbrev pub kept : {K : Type 0} → Option K → ℕ
-kept None = 0
-kept (Some k) = 1
+abbrev pub spare_count : {K : Type 0} → Option K → ℕ
+spare_count None = 0
+spare_count (Some k) = 1

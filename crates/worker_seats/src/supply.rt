@@ -1,6 +1,6 @@
 //! Kits for the strand of one worker, while the others go on.
 ghost use Rattle.std.specs.Prelude.{◌≡◌, ◌+◌, ◌<◌, suc, None, IfSome, OnSome, IsNone};
-ghost use Rattle.worker_seats.specs.Balances.{kept, most};
+ghost use Rattle.worker_seats.specs.Balances.{spare_count, most};
 
 use crate::spare::Spare;
 use std::marker::PhantomData;
@@ -49,7 +49,7 @@ pub struct Supply<'a, D: Shelf<K, L>, K, L: Ledger, R: Wait> {
     free: usize,
     of: PhantomData<K>,
     ghost one: { share.parts ≡ 1 },
-    ghost counted: { free + share.amount ≡ most + kept spare },
+    ghost counted: { free + share.amount ≡ most + spare_count spare },
 }
 
 /// Puts a kit among the free ones under the lock that counted for that share.

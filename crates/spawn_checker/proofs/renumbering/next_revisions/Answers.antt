@@ -4,7 +4,7 @@ use Rattle.meaning.specs.Tree.{Tree, procedure, reducer}
 use Rattle.meaning.specs.TreeView.{decl, proc, red}
 use Rattle.meaning.specs.Edits.{most, revised}
 use Rattle.linked_program.specs.Checked.{revised_of, numbers_in}
-use Rattle.single_rules.specs.Kept.{kept}
+use Rattle.single_rules.specs.Kept.{kept_revision}
 use Rattle.single_rules.proofs.Lists.{item_here}
 use Rattle.spawn_checker.proofs.NewNumbers.{Numbered, exhausted_at}
 use Rattle.spawn_checker.proofs.NewRevisions.{Going, kept_one, new_one}
@@ -21,7 +21,7 @@ returns-then-is_last_number-clause-exhausted c =
     let p = proc c.in-Procedure.procedure in
     let rest = drop (i + 1) ds in
     let here = item_here ds i c.declaration-item.result c.loop-declaration-test.true c.declaration-item.is ∙ ap (λ y. y ∷ rest) c.in-Procedure.is in
-    let new : kept old p ≡ None = sym c.kept_revision.ensures ∙ c.in-None.is in
+    let new : kept_revision old p ≡ None = sym c.kept_revision.ensures ∙ c.in-None.is in
     let all = revised old (map decl ds) old.counter in
     exhausted_at old p (map decl rest) ns n all.1 (ap (λ (m : Numbered). m.1) c.loop-declaration.invariant ∙ ap (λ xs. (revised old (map decl xs) n).1) here) new (eqb-true n most (sym c.is_last_number.ensures ∙ c.if-is_last_number.true))
 

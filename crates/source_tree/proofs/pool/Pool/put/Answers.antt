@@ -13,5 +13,5 @@ invariant_of-self-2 c = λ x.
     let p : texts c.push.new.self.items ≡ pool ++ c.args.name.now ∷ [] = rw (i1, i2, map_push, i3) refl in
     let l : c.len.result ≡ length c.reserve.new.self.items = search rules in
     let n : c.len.result ≡ length pool = rw (l, i2) (sym (length-map c.self.inside.names.items _)) in
-    let k = c.in_ok-keep.ensures.kept x in
+    let k = c.in_ok-keep.ensures.indexed x in
     k ∙ rw (c.self.invariant x, n, p) (sym (place_push x c.args.name.now pool))
