@@ -1,6 +1,7 @@
 //! The values of code's expressions over an instance's slots and the tables, with what was read on the way.
 #![tactic(auto)]
 
+pub mod at_once;
 pub mod entry;
 pub mod laws;
 pub mod note;

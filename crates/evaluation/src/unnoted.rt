@@ -6,6 +6,7 @@ ghost use Rattle.evaluation.specs.Ends.{Answers};
 ghost use Rattle.input_tables.specs.Edited as read;
 ghost use Rattle.evaluation.specs.Values.{value_at, values_at, entry_at, slot_by, looked, applied as applied_to};
 
+use crate::at_once::operand;
 use crate::operators::{apply, one_if};
 use crate::slot::Slot;
 use crate::stop::Stop;
@@ -15,35 +16,15 @@ use linked_program::code::{Expression, RowCells};
 use meaning::FaultKind;
 use meaning::tree::Operator;
 
-/// The value of an expression, or its fault; that of a form without boxes without a call of `evaluate`.
+/// The value of an expression, or its fault. Most have a value, which is found in a way that leaves faults aside.
 #[inline(always)]
-#[cycle(evaluate)]
 pub fn value(expression: &Expression, slots: &[Slot], tables: &Tables) -> Result<i64, Stop>
     ensures answer { Answers (λ v. v) (value_at tables.now.tables slots.now (plain expression.now))
         result }
 {
-    match expression {
-        Expression::Number(number) => Ok(*number),
-        Expression::Slot(number) => Ok(number_in(slots, *number)),
-        Expression::Slots(operator, left, right) => {
-            applied(*operator, number_in(slots, *left), number_in(slots, *right))
-        }
-        Expression::SlotAndNumber(operator, left, right) => {
-            applied(*operator, number_in(slots, *left), *right)
-        }
-        Expression::NumberAndSlot(operator, left, right) => {
-            applied(*operator, *left, number_in(slots, *right))
-        }
-        Expression::SlotCell(table, slot, column) => {
-            cell(tables, *table, number_in(slots, *slot), *column)
-        }
-        Expression::OnRow(operator, cells) => {
-            match cells_at_once(*operator, cells, slots, tables) {
-                Some(value) => Ok(value),
-                None => evaluate(expression, slots, tables),
-            }
-        }
-        _ => evaluate(expression, slots, tables),
+    match operand(expression, slots, tables) {
+        Some(value) => Ok(value),
+        None => evaluate(expression, slots, tables),
     }
 }
 
@@ -158,7 +139,7 @@ fn put_values(
     Ok(())
 }
 
-// The value of an expression, or its fault.
+// The value of an expression, or its fault, operand by operand.
 #[cycle(evaluate)]
 fn evaluate(expression: &Expression, slots: &[Slot], tables: &Tables) -> Result<i64, Stop>
     ensures answer { Answers (λ v. v) (value_at tables.now.tables slots.now (plain expression.now)) result }
@@ -166,22 +147,22 @@ fn evaluate(expression: &Expression, slots: &[Slot], tables: &Tables) -> Result<
     match expression {
         Expression::Number(number) => Ok(*number),
         Expression::Slot(number) => Ok(number_in(slots, *number)),
-        Expression::Cell(table, row, column) => match value(row, slots, tables) {
+        Expression::Cell(table, row, column) => match evaluate(row, slots, tables) {
             Ok(row) => cell(tables, *table, row, *column),
             Err(stop) => Err(stop),
         },
-        Expression::Has(table, row) => match value(row, slots, tables) {
+        Expression::Has(table, row) => match evaluate(row, slots, tables) {
             Ok(row) => Ok(one_if(tables.has(*table, row))),
             Err(stop) => Err(stop),
         },
         Expression::Limit(table) => Ok(tables.limit(*table)),
         Expression::Sum(table, column) => Ok(tables.sum(*table, *column)),
-        Expression::Negate(inner) => match value(inner, slots, tables) {
+        Expression::Negate(inner) => match evaluate(inner, slots, tables) {
             Ok(number) => Ok(number.wrapping_neg()),
             Err(stop) => Err(stop),
         },
-        Expression::Binary(operator, left, right) => match value(left, slots, tables) {
-            Ok(left) => match value(right, slots, tables) {
+        Expression::Binary(operator, left, right) => match evaluate(left, slots, tables) {
+            Ok(left) => match evaluate(right, slots, tables) {
                 Ok(right) => applied(*operator, left, right),
                 Err(stop) => Err(stop),
             },
@@ -221,7 +202,7 @@ pub fn row_at_once(
 
 // The value of an operator on two cells of one row, where the row is found at once and the operator has a value, compiled by itself.
 #[inline(never)]
-fn cells_at_once(
+pub(crate) fn cells_at_once(
     operator: Operator,
     cells: &RowCells,
     slots: &[Slot],

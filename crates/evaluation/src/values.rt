@@ -240,9 +240,9 @@ pub(crate) fn evaluated(
     }
 }
 
-// The value of a number, of a slot, or of an operator on two of them, where it has one; none of any other expression.
+/// The value of a number, of a slot, or of an operator on two of them, where it has one; none of any other expression.
 #[inline(always)]
-pub(crate) fn without_reading(expression: &Expression, slots: &[Slot]) -> Option<i64>
+pub fn without_reading(expression: &Expression, slots: &[Slot]) -> Option<i64>
     ensures value { IfSome result (λ v. (all : TableList) → value_at all slots.now (plain expression.now) ≡ pure v) }
 {
     match expression {

@@ -44,32 +44,6 @@ pub unkept_fills : (o : NumberedOut ℤ) (res : Option ℤ) (l : PlainLayer) →
 unkept_fills o None l h e = tt
 unkept_fills o (Some v) l h e = (h, ap (λ (xs : List Note). record l { notes = xs }) (not_kept l.keeps l.notes o.notes e))
 
--- an operator on slots and numbers reads nothing
-module _ (ts : Tables) (slots : List Slot) (op : Operator) (x : Expression) where
-  abbrev pub HasAnswer : Option ℤ → Type 0
-  HasAnswer res = IfSome res (λ v. (value_at ts slots (expression x)).answer ≡ Ok v)
-
-  abbrev pub IsPure : Option ℤ → Type 0
-  IsPure res = IfSome res (λ v. (all : Tables) → value_at all slots (expression x) ≡ pure v)
-
-  abbrev with_answer : Result ℤ FaultKind → NumberedOut ℤ
-  with_answer r = record { notes = []; answer = r }
-
-  pub of_slots : (i j : ℕ) (res : Option ℤ) → x ≡ e.Slots op i j → HasAnswer res → IsPure res
-  of_slots i j None is h = tt
-  of_slots i j (Some v) is h = λ all.
-      ap (λ (y : Expression). value_at all slots (expression y)) is ∙ ap (λ (r : Result ℤ FaultKind). with_answer r) (ap (λ (y : Expression). (value_at ts slots (expression y)).answer) (sym is) ∙ h)
-
-  pub of_slot_and_number : (i : ℕ) (n : ℤ) (res : Option ℤ) → x ≡ e.SlotAndNumber op i n → HasAnswer res → IsPure res
-  of_slot_and_number i n None is h = tt
-  of_slot_and_number i n (Some v) is h = λ all.
-      ap (λ (y : Expression). value_at all slots (expression y)) is ∙ ap (λ (r : Result ℤ FaultKind). with_answer r) (ap (λ (y : Expression). (value_at ts slots (expression y)).answer) (sym is) ∙ h)
-
-  pub of_number_and_slot : (n : ℤ) (i : ℕ) (res : Option ℤ) → x ≡ e.NumberAndSlot op n i → HasAnswer res → IsPure res
-  of_number_and_slot n i None is h = tt
-  of_number_and_slot n i (Some v) is h = λ all.
-      ap (λ (y : Expression). value_at all slots (expression y)) is ∙ ap (λ (r : Result ℤ FaultKind). with_answer r) (ap (λ (y : Expression). (value_at ts slots (expression y)).answer) (sym is) ∙ h)
-
 module _ (passes : Bool) (p : Position) (n r : ℕ) (kind : Kind) (vs : List ℤ) (a : PlainActivation) (l m : PlainLayer) where
   combined : names_element kind vs ≡ true → m ≡ updating r kind vs l → Does passes p (λ kit. evaluated n (pure vs) (combining (Some kind) n p r)) a l Next a m
   combined named e s may kit =

@@ -1,5 +1,5 @@
 //! Values of expressions that are found at once, with nothing to note for them.
-ghost use Rattle.std.specs.Prelude.{◌≡◌, IfSome, Ok, Some, slice_get};
+ghost use Rattle.std.specs.Prelude.{◌≡◌, IfSome, Some, slice_get};
 ghost use Rattle.meaning.specs.Tables.{Tables as TableList};
 ghost use Rattle.linked_program.specs.CodeView.{expression as plain, on_row as row_of};
 ghost use Rattle.evaluation.specs.declared.slot.Slot.TheVariants.{Has};
@@ -7,8 +7,8 @@ ghost use Rattle.evaluation.specs.Values.{pure, value_at};
 ghost use Rattle.own_statements.specs.Fills.{Fills};
 
 use evaluation::slot::Slot;
-use evaluation::values::number_in;
-use evaluation::{unnoted, unread};
+use evaluation::values::without_reading;
+use evaluation::{at_once, unnoted, unread};
 use input_tables::Tables;
 use layers::layer::Layer;
 use linked_program::code::{Expression, RowCells};
@@ -56,7 +56,7 @@ pub fn value_at_once<V: View>(
     if let Expression::OnRow(operator, cells) = expression {
         return on_row(layer, *operator, cells, slots, tables);
     }
-    match computed(expression, slots, tables) {
+    match without_reading(expression, slots) {
         Some(value) => Some(value),
         None => found(layer, expression, slots, tables),
     }
@@ -98,23 +98,6 @@ pub fn given_at_once<V: View>(
     }
 }
 
-/// The value of a number, of a slot, or of an operator on two of them, where it has one; none of any other expression. Each form
-/// has an arm of its own, so that what finds the value of any expression comes down to that form there.
-#[inline(always)]
-#[tactic(auto, using(crate::proofs::AtOnce::of_slots, crate::proofs::AtOnce::of_slot_and_number, crate::proofs::AtOnce::of_number_and_slot))]
-fn computed(expression: &Expression, slots: &[Slot], tables: &Tables) -> Option<i64>
-    ensures value { IfSome result (λ v. (all : TableList) → value_at all slots.now (plain expression.now) ≡ pure v) }
-{
-    match expression {
-        Expression::Number(number) => Some(*number),
-        Expression::Slot(number) => Some(number_in(slots, *number)),
-        Expression::Slots(_, _, _) => unnoted_value(expression, slots, tables),
-        Expression::SlotAndNumber(_, _, _) => unnoted_value(expression, slots, tables),
-        Expression::NumberAndSlot(_, _, _) => unnoted_value(expression, slots, tables),
-        _ => None,
-    }
-}
-
 /// The value of an expression that reads nothing, or of any over a layer that keeps no readings, if it has one. It calls others, so it
 /// is compiled by itself too.
 #[inline(never)]
@@ -130,16 +113,5 @@ fn found<V: View>(
     if layer.keeps {
         return unread::value(expression, slots);
     }
-    unnoted_value(expression, slots, tables)
-}
-
-/// The value of an expression, if it has one.
-#[inline(always)]
-fn unnoted_value(expression: &Expression, slots: &[Slot], tables: &Tables) -> Option<i64>
-    ensures answer { IfSome result (λ v. (value_at tables.now.tables slots.now (plain expression.now)).answer ≡ Ok v) }
-{
-    match unnoted::value(expression, slots, tables) {
-        Ok(value) => Some(value),
-        Err(_) => None,
-    }
+    at_once::value(expression, slots, tables)
 }
