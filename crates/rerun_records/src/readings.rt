@@ -3,6 +3,7 @@ ghost use Rattle.std.specs.Prelude.{◌≡◌, ◌++◌, IfOk, OnOk, map, true, 
 ghost use Rattle.std.specs.List.{flat_map, list_any};
 ghost use Rattle.meaning.specs.Every.{every};
 ghost use Rattle.evaluation.specs.declared.note.Note.{Note as PlainNote};
+ghost use Rattle.evaluation.specs.declared.note.Note.TheVariants.{Cell};
 ghost use Rattle.evaluation.specs.Short.{note_of};
 ghost use Rattle.rerun_records.specs.Spans.{is_covered_by};
 ghost use Rattle.rerun_records.specs.Readings.{all_of, node_notes, shared_notes, held_notes, is_covered, is_covered_share, is_covered_below};
@@ -20,6 +21,9 @@ use input_tables::Tables;
 use std::alloc::{AllocError, Global};
 use std::marker::Model;
 use std::sync::Arc;
+
+/// So many own readings at most are looked through one by one. More of them lie below by themselves, to be passed over by their rows.
+const FEW: usize = 4;
 
 // Most have nothing below, so that lies by itself.
 #[cycle(parts)]
@@ -67,6 +71,35 @@ impl Readings {
         ensures made { IfOk result (λ r. r ≡ map note_of (items_in own) ++ all_of parts.items) }
     {
         own.shrink_to_fit();
+        if own.as_slice().len() > FEW {
+            return Readings::of_many(alloc, own, parts);
+        }
+        Readings::of(alloc, own, parts)
+    }
+
+    // Many own readings as the first of the parts, whose rows the spans hold.
+    #[inline(never)]
+    fn of_many(
+        alloc: Global,
+        own: ShortList<Reading>,
+        mut parts: Vec<Readings>,
+    ) -> Result<Readings, AllocError>
+        ensures made { IfOk result (λ r. r ≡ map note_of (items_in own) ++ all_of parts.items) }
+    {
+        let first = Readings::of(alloc, own, Vec::new(alloc))?;
+        parts.insert(0, first)?;
+        Readings::of(alloc, ShortList::new(Vec::new(alloc)), parts)
+    }
+
+    // These as a node's own readings, with the parts below it.
+    #[inline(always)]
+    fn of(
+        alloc: Global,
+        own: ShortList<Reading>,
+        parts: Vec<Readings>,
+    ) -> Result<Readings, AllocError>
+        ensures made { IfOk result (λ r. r ≡ map note_of (items_in own) ++ all_of parts.items) }
+    {
         let node = Node {
             own,
             below: make_below(alloc, parts)?,
@@ -300,11 +333,41 @@ fn has_own(own: &[Reading], note: &Note) -> bool
     false
 }
 
-// Whether the reading is that one.
+// Whether the reading is that one. Most are of cells, and no note is made of these.
 fn is_of(reading: &Reading, note: &Note) -> bool
     ensures of { result ≡ same_note note.now (note_of reading.now) }
 {
-    is_same(note, &reading.note())
+    match reading {
+        Reading::Cell {
+            column,
+            table,
+            row,
+            value,
+        } => is_cell(
+            note,
+            usize::from(*table),
+            i64::from(*row),
+            usize::from(*column),
+            *value,
+        ),
+        _ => is_same(note, &reading.note()),
+    }
+}
+
+// Whether the note is that of a cell with that value.
+#[inline(always)]
+fn is_cell(note: &Note, table: usize, row: i64, column: usize, value: i64) -> bool
+    ensures same { result ≡ same_note note.now (Cell table row column value) }
+{
+    match note {
+        Note::Cell {
+            table: of,
+            row: at,
+            column: under,
+            value: held,
+        } => *of == table && (*at == row && (*under == column && *held == value)),
+        _ => false,
+    }
 }
 
 // Whether two readings are the same.
