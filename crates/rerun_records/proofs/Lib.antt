@@ -13,6 +13,7 @@ pub mod Lookups
 pub mod Singles
 pub mod NodeNotes
 pub mod Same
+pub mod Narrowed
 pub mod Homes
 pub mod Touched
 pub mod Covering

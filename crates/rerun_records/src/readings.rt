@@ -1,5 +1,5 @@
 //! What instances have read, each by reference to what the instances below it have.
-ghost use Rattle.std.specs.Prelude.{◌≡◌, ◌++◌, IfOk, OnOk, map, true, false};
+ghost use Rattle.std.specs.Prelude.{◌≡◌, ◌≤◌, ◌++◌, ◌∷◌, [], IfOk, OnOk, length, map, not, take, true, false};
 ghost use Rattle.std.specs.List.{flat_map, list_any};
 ghost use Rattle.meaning.specs.Every.{every};
 ghost use Rattle.evaluation.specs.declared.note.Note.{Note as PlainNote};
@@ -11,6 +11,7 @@ ghost use Rattle.rerun_records.specs.ShortLists.{items_in};
 ghost use Rattle.rerun_records.specs.Validity.{note_agrees};
 ghost use Rattle.rerun_records.specs.InStep.{rests_on};
 ghost use Rattle.rerun_records.specs.Blocks.{is_apart};
+ghost use Rattle.rerun_records.specs.Counts.{how_many};
 ghost use Rattle.rerun_records.specs.Same.{is_read, same_note};
 
 use crate::short_list::ShortList;
@@ -20,6 +21,7 @@ use evaluation::reading::Reading;
 use input_tables::Tables;
 use std::alloc::{AllocError, Global};
 use std::marker::Model;
+use std::slice;
 use std::sync::Arc;
 
 /// So many own readings at most are looked through one by one. More of them lie below by themselves, to be passed over by their rows.
@@ -138,6 +140,21 @@ impl Readings {
         ensures has { result ≡ is_read self.now note.now }
     {
         node_has(&self.node, note)
+    }
+
+    /// How many of these readings and how many of those were read, all of which rest on the change. It takes no memory, and looks for
+    /// them in the lowest instance that has read all that the change may have changed.
+    pub(crate) fn how_many(&self, change: &(usize, i64), lost: &[Note], won: &[Note]) -> (u64, u64)
+        requires rest { every (λ n. not (is_apart (change.now ∷ []) n)) (lost.now ++ won.now) ≡ true }
+        ensures lost { result.0 ≡ how_many same_note lost.now self.now }
+        ensures won { result.1 ≡ how_many same_note won.now self.now }
+        ensures few { result.0 ≤ length lost.now }
+    {
+        let lowest = lowest(&self.node, change);
+        (
+            how_many(lowest, change, lost),
+            how_many(lowest, change, won),
+        )
     }
 
     /// Joins spans with the rows of what was read.
@@ -285,6 +302,124 @@ fn rests_on(reading: &Reading, change: &(usize, i64)) -> bool
         Reading::Limit { table, .. } => usize::from(*table) == change.0,
         Reading::Sum { table, .. } => usize::from(*table) == change.0,
     }
+}
+
+// The lowest node, there or below, that has all that was read there and rests on the change.
+#[cycle(narrowing)]
+fn lowest<'a>(node: &'a Node, change: &(usize, i64)) -> &'a Node
+    requires covered { is_covered node.now ≡ true }
+    ensures covered { is_covered result.now ≡ true }
+    ensures same { (note : PlainNote) → is_apart (change.now ∷ []) note ≡ false
+        → is_read (node_notes result.now) note ≡ is_read (node_notes node.now) note }
+{
+    if are_own_touched(node.own.as_slice(), slice::from_ref(change)) {
+        return node;
+    }
+    match &node.below {
+        Some(below) => lowest_of(&below.parts, node, change),
+        None => node,
+    }
+}
+
+// The lowest node in the one part that the change may have changed; the node that has the parts, where it isn't one.
+#[cycle(narrowing)]
+fn lowest_of<'a>(parts: &'a [Arc<Node>], node: &'a Node, change: &(usize, i64)) -> &'a Node
+    requires covered { is_covered node.now ≡ true }
+    requires parts { every is_covered_share parts.now ≡ true }
+    requires below { (note : PlainNote) → is_apart (change.now ∷ []) note ≡ false
+        → is_read (node_notes node.now) note ≡ is_read (flat_map shared_notes parts.now) note }
+    ensures covered { is_covered result.now ≡ true }
+    ensures same { (note : PlainNote) → is_apart (change.now ∷ []) note ≡ false
+        → is_read (node_notes result.now) note ≡ is_read (node_notes node.now) note }
+{
+    let place = first_touched(parts, change);
+    if place >= parts.len() {
+        return node;
+    }
+    if !are_apart(&parts[place + 1..], change) {
+        return node;
+    }
+    lowest(&parts[place], change)
+}
+
+// The place of the first of the parts that the change may have changed, or how many they are.
+fn first_touched(parts: &[Arc<Node>], change: &(usize, i64)) -> usize
+    requires covered { every is_covered_share parts.now ≡ true }
+    ensures apart { every (is_apart (change.now ∷ [])) (flat_map shared_notes (take result parts.now))
+        ≡ true }
+{
+    for place in 0..parts.len() {
+        if node_is_touched(&parts[place], slice::from_ref(change)) {
+            return place;
+        }
+    }
+    parts.len()
+}
+
+// Whether the change has changed nothing that was read in these parts.
+fn are_apart(parts: &[Arc<Node>], change: &(usize, i64)) -> bool
+    requires covered { every is_covered_share parts.now ≡ true }
+    ensures apart { result ≡ true
+        → every (is_apart (change.now ∷ [])) (flat_map shared_notes parts.now) ≡ true }
+{
+    for part in parts {
+        if node_is_touched(part, slice::from_ref(change)) {
+            return false;
+        }
+    }
+    true
+}
+
+// How many of these readings, which rest on the change, were read there or below.
+fn how_many(node: &Node, change: &(usize, i64), notes: &[Note]) -> u64
+    requires covered { is_covered node.now ≡ true }
+    requires rest { every (λ n. not (is_apart (change.now ∷ []) n)) notes.now ≡ true }
+    ensures many { result ≡ how_many same_note notes.now (node_notes node.now) }
+    ensures few { result ≤ length notes.now }
+{
+    match &node.below {
+        Some(_) => how_many_in(node, notes),
+        None => how_many_own(touched_on(node.own.as_slice(), change), notes),
+    }
+}
+
+fn how_many_in(node: &Node, notes: &[Note]) -> u64
+    requires covered { is_covered node.now ≡ true }
+    ensures many { result ≡ how_many same_note notes.now (node_notes node.now) }
+    ensures few { result ≤ length notes.now }
+{
+    let mut count = 0;
+    for note in notes {
+        if node_has(node, note) {
+            count += 1;
+        }
+    }
+    count
+}
+
+fn how_many_own(own: &[Reading], notes: &[Note]) -> u64
+    ensures many { result ≡ how_many same_note notes.now (map note_of own.now) }
+    ensures few { result ≤ length notes.now }
+{
+    let mut count = 0;
+    for note in notes {
+        if has_own(own, note) {
+            count += 1;
+        }
+    }
+    count
+}
+
+// These readings from the first on that rests on the change.
+fn touched_on<'a>(own: &'a [Reading], change: &(usize, i64)) -> &'a [Reading]
+    ensures same { (note : PlainNote) → is_apart (change.now ∷ []) note ≡ false
+        → is_read (map note_of result.now) note ≡ is_read (map note_of own.now) note }
+{
+    let mut first = 0;
+    while first < own.len() && !rests_on(&own[first], change) {
+        first += 1;
+    }
+    &own[first..]
 }
 
 // Whether that was read there or below. Where its rows lie in no span, the parts aren't asked.

@@ -2,10 +2,8 @@
 ghost use Rattle.std.specs.Prelude.{◌≡◌, ◌≤◌, ◌<◌, ◌++◌, ◌∷◌, [], length, min, not, true, slice_set, Some};
 ghost use Rattle.meaning.specs.Every.{every};
 ghost use Rattle.rerun_records.specs.Blocks.{BlocksFit, is_apart};
-ghost use Rattle.rerun_records.specs.Counts.{how_many};
 ghost use Rattle.rerun_records.specs.Covers.{AreCovered};
 ghost use Rattle.rerun_records.specs.Numbers.{most_number, number_then, numbers_then, with_numbers};
-ghost use Rattle.rerun_records.specs.Same.{same_note};
 
 use crate::blocks::Blocks;
 use crate::covers::Covers;
@@ -35,7 +33,7 @@ pub(crate) fn tell(
 {
     let mut end = list.len();
     while let Some(place) = covers.next_touched(list, end, change) {
-        let number = told(numbers[place], list[place].reads(), lost, won);
+        let number = told(numbers[place], list[place].reads(), change, lost, won);
         renumber(numbers, blocks, list, place, number);
         end = place;
     }
@@ -57,28 +55,16 @@ fn renumber(numbers: &mut [u32], blocks: &mut Blocks, list: &[Record], place: us
 }
 
 // The number that a record has then.
-fn told(number: u32, reads: &Readings, lost: &[Note], won: &[Note]) -> u32
+fn told(number: u32, reads: &Readings, change: &(usize, i64), lost: &[Note], won: &[Note]) -> u32
+    requires rest { every (λ n. not (is_apart (change.now ∷ []) n)) (lost.now ++ won.now) ≡ true }
     ensures told { result ≡ number_then lost.now won.now number reads.now }
 {
     if number == u32::MAX {
         return number;
     }
-    let gone = u64::from(number) + how_many(lost, reads);
-    capped(gone.saturating_sub(how_many(won, reads)))
-}
-
-// How many of these were read.
-fn how_many(notes: &[Note], reads: &Readings) -> u64
-    ensures many { result ≡ how_many same_note notes.now reads.now }
-    ensures few { result ≤ length notes.now }
-{
-    let mut count = 0;
-    for note in notes {
-        if reads.has(note) {
-            count += 1;
-        }
-    }
-    count
+    let (more, fewer) = reads.how_many(change, lost, won);
+    let gone = u64::from(number) + more;
+    capped(gone.saturating_sub(fewer))
 }
 
 // The number in four bytes; the greatest of these where it has none.

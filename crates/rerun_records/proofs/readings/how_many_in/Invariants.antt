@@ -1,10 +1,11 @@
 use Rattle.std.proofs.Common.{◌≡◌, ◌+◌, ◌≤◌, drop}
 use Rattle.rerun_records.specs.Same.{same_note}
 use Rattle.rerun_records.specs.Counts.{how_many}
-use Rattle.rerun_records.proofs.telling.how_many.Given as goal
+use Rattle.rerun_records.specs.Readings.{node_notes}
+use Rattle.rerun_records.proofs.readings.how_many_in.Given as goal
 
 abbrev pub invariant-loop-note : goal.invariant-loop-note
 invariant-loop-note l = record {
-  counted : l.count + how_many same_note (drop l.note-index l.notes) l.reads ≡ how_many same_note l.notes l.reads;
+  counted : l.count + how_many same_note (drop l.note-index l.notes) (node_notes l.node) ≡ how_many same_note l.notes (node_notes l.node);
   few : l.count ≤ l.note-index;
 }
