@@ -15,12 +15,12 @@ use Rattle.rerun_records.specs.Spans.{is_covered_by, is_touched}
 use Rattle.rerun_records.specs.Blocks.{is_apart}
 use Rattle.rerun_records.proofs.Members.{left_is, right_is, every_weaker}
 use Rattle.rerun_records.proofs.Touched.{spans_apart}
-use Rattle.rerun_records.specs.Covers.{PlainLevel, CoversBut, CoversLevel, AreCoveredBut, AreCovered, AreApart, AreSameBut, is_hull_apart}
+use Rattle.rerun_records.specs.Covers.{PlainLevel, CoversBut, CoversLevel, AreLevelsBut, AreApart, AreSameBut, is_hull_apart}
 
 -- ---- numbers of hulls and places
 
 -- the hull of a place is the place by the width
-hull_of : (width i p : ℕ) → i * width ≤ p → p < i * width + width → p / width ≡ i
+pub hull_of : (width i p : ℕ) → i * width ≤ p → p < i * width + width → p / width ≡ i
 hull_of width i p from upto =
     let behind : p - i * width < width = omega (arith, from, upto) in
     let whole : p ≡ i * width + (p - i * width) = omega (arith, from) in
@@ -53,7 +53,7 @@ below (suc n) (suc k) =
 
 -- ---- tests
 
-neither : (a b : Bool) → a ≡ false → b ≡ false → a || b ≡ false
+pub neither : (a b : Bool) → a ≡ false → b ≡ false → a || b ≡ false
 neither true b e f = absurd (true≢false e)
 neither false b e f = f
 
@@ -69,7 +69,7 @@ reads_of r = r.reads
 
 -- what follows for each level follows for all
 each_level : (old new : List ℕ) (before now : List PlainRecord) → ((level : PlainLevel) → CoversBut old before level → CoversBut new now level)
-    → (levels : List PlainLevel) → AreCoveredBut old before levels → AreCoveredBut new now levels
+    → (levels : List PlainLevel) → AreLevelsBut old before levels → AreLevelsBut new now levels
 each_level old new before now step [] h = tt
 each_level old new before now step (l ∷ ls) h = (step l h.0, each_level old new before now step ls h.1)
 
@@ -131,8 +131,8 @@ past_level records place rest level past c = record {
       ] refl;
 }
 
-pub past_covered : (records : List PlainRecord) (place : ℕ) (rest : List ℕ) (levels : List PlainLevel) → length records ≤ place → AreCoveredBut (place ∷ rest) records levels → AreCoveredBut rest records levels
-past_covered records place rest levels past = each_level (place ∷ rest) rest records records (λ level. past_level records place rest level past) levels
+pub past_levels : (records : List PlainRecord) (place : ℕ) (rest : List ℕ) (levels : List PlainLevel) → length records ≤ place → AreLevelsBut (place ∷ rest) records levels → AreLevelsBut rest records levels
+past_levels records place rest levels past = each_level (place ∷ rest) rest records records (λ level. past_level records place rest level past) levels
 
 -- with other records at these places and more behind, hulls hold what the others have read
 same_level : (places : List ℕ) (before now : List PlainRecord) (level : PlainLevel) → AreSameBut places before now → CoversLevel before level → CoversBut places now level
@@ -146,8 +146,8 @@ same_level places before now level s c = record {
       c.held i p h r at from upto refl (s.same p r old other there);
 }
 
-pub covered_but : (places : List ℕ) (before now : List PlainRecord) (levels : List PlainLevel) → AreSameBut places before now → AreCovered before levels → AreCoveredBut places now levels
-covered_but places before now levels s = each_level [] places before now (λ level. same_level places before now level s) levels
+pub levels_but : (places : List ℕ) (before now : List PlainRecord) (levels : List PlainLevel) → AreSameBut places before now → AreLevelsBut [] before levels → AreLevelsBut places now levels
+levels_but places before now levels s = each_level [] places before now (λ level. same_level places before now level s) levels
 
 -- the record at a place is the one that is read there
 pub there_is : (records : List PlainRecord) (place : ℕ) (r x : PlainRecord) → slice_get records place ≡ Some r → x ≡ get_or records place x → r.reads ≡ x.reads
@@ -196,7 +196,7 @@ taken_passes q (suc n) zero (x ∷ xs) r l e at = (let s : x ≡ r = cc (at) in 
 taken_passes q (suc n) (suc p) (x ∷ xs) r l e at = taken_passes q n p xs r (omega (arith, l)) (right_is (q x) (every q (take n xs)) e) at
 
 -- what holds of a stretch of records holds of one in it
-stretch_passes : (q : PlainRecord → Bool) (first count p : ℕ) (records : List PlainRecord) (r : PlainRecord) → first ≤ p → p < first + count → every q (take count (drop first records)) ≡ true
+pub stretch_passes : (q : PlainRecord → Bool) (first count p : ℕ) (records : List PlainRecord) (r : PlainRecord) → first ≤ p → p < first + count → every q (take count (drop first records)) ≡ true
     → slice_get records p ≡ Some r → q r ≡ true
 stretch_passes q zero count p records r from upto e at = taken_passes q count p records r (omega (arith, upto)) e at
 stretch_passes q (suc first) count p [] r from upto e at = absurd cc
@@ -298,12 +298,11 @@ got_within [] more p r w e = absurd (omega (arith, w))
 got_within (x ∷ xs) more zero r w e = e
 got_within (x ∷ xs) more (suc p) r w e = got_within xs more p r (omega (arith, w)) e
 
-pub appended_covered : (records more : List PlainRecord) (levels : List PlainLevel) → AreCovered records levels → AreCovered (records ++ more) levels
-appended_covered records more levels =
-    covered_but [] records (records ++ more) levels (record {
-      no_fewer = (let long = length-append records more in omega (arith, long));
-      same = λ p r w other there. got_within records more p r w there;
-    })
+pub appended_same_but : (records more : List PlainRecord) → AreSameBut [] records (records ++ more)
+appended_same_but records more = record {
+  no_fewer = (let long = length-append records more in omega (arith, long));
+  same = λ p r w other there. got_within records more p r w there;
+}
 
 left_not : (a b : Bool) → a || b ≡ false → a ≡ false
 left_not true b e = absurd (true≢false e)

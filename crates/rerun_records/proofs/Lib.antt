@@ -17,6 +17,7 @@ pub mod Narrowed
 pub mod Homes
 pub mod Touched
 pub mod Covering
+pub mod Stretches
 pub mod Leaves
 pub mod Wholes
 pub mod Instances

@@ -25,15 +25,41 @@ pub record CoversBut (places : List ℕ) (records : List PlainRecord) (level : P
       → list_any (nat_eq p) places ≡ false → slice_get records p ≡ Some r → every (is_covered_by h) r.reads ≡ true
 
 -- so it is on each level
-abbrev pub AreCoveredBut : List ℕ → List PlainRecord → List PlainLevel → Type 0
-AreCoveredBut places records [] = Unit {0}
-AreCoveredBut places records (level ∷ levels) = CoversBut places records level × AreCoveredBut places records levels
+abbrev pub AreLevelsBut : List ℕ → List PlainRecord → List PlainLevel → Type 0
+AreLevelsBut places records [] = Unit {0}
+AreLevelsBut places records (level ∷ levels) = CoversBut places records level × AreLevelsBut places records levels
 
 -- at all places
 abbrev pub CoversLevel : List PlainRecord → PlainLevel → Type 0
 CoversLevel = CoversBut []
 
-abbrev pub AreCovered : List PlainRecord → List PlainLevel → Type 0
+-- a hull of the records from a place up to another
+pub record PlainStretch : Type 0 where
+  pub first : ℕ
+  pub until : ℕ
+  pub hull : List Span
+
+-- the stretch of each number lies among the 32 places of that number, and what the records at its places have read lies in its hull, but
+-- maybe for those at these places
+pub record HoldBut (places : List ℕ) (records : List PlainRecord) (stretches : List PlainStretch) : Type 0 where
+  pub begins : (i : ℕ) (s : PlainStretch) → slice_get stretches i ≡ Some s → i * 32 ≤ s.first
+  pub ends : (i : ℕ) (s : PlainStretch) → slice_get stretches i ≡ Some s → s.until ≤ i * 32 + 32
+  pub full : (i : ℕ) (s : PlainStretch) → slice_get stretches i ≡ Some s → s.until ≤ length records
+  pub held :
+      (i p : ℕ) (s : PlainStretch) (r : PlainRecord) → slice_get stretches i ≡ Some s → s.first ≤ p → p < s.until
+      → list_any (nat_eq p) places ≡ false → slice_get records p ≡ Some r → every (is_covered_by s.hull) r.reads ≡ true
+
+-- hulls by levels, and beside the narrowest ones those of their first and of their last places
+pub record PlainCovers : Type 0 where
+  pub levels : List PlainLevel
+  pub left : List PlainStretch
+  pub right : List PlainStretch
+
+abbrev pub AreCoveredBut : List ℕ → List PlainRecord → PlainCovers → Type 0
+AreCoveredBut places records covers =
+    AreLevelsBut places records covers.levels × (HoldBut places records covers.left × HoldBut places records covers.right)
+
+abbrev pub AreCovered : List PlainRecord → PlainCovers → Type 0
 AreCovered = AreCoveredBut []
 
 -- from that place on up to another no record has read what the change of the row may have changed

@@ -7,12 +7,13 @@ ghost use Rattle.rerun_records.specs.Blocks.{is_apart};
 ghost use Rattle.rerun_records.specs.Record.{PlainRecord};
 ghost use Rattle.rerun_records.specs.Spans.{is_covered_by};
 ghost use Rattle.rerun_records.specs.declared.spans.Span.{Span};
-ghost use Rattle.rerun_records.specs.Covers.{CoversBut, CoversLevel, AreCovered, AreApart, AreSameBut, is_hull_apart};
+ghost use Rattle.rerun_records.specs.Covers.{CoversBut, CoversLevel, HoldBut, AreCovered, AreApart, AreSameBut, is_hull_apart};
 
 use crate::hull::Hull;
 use crate::listing::record_at;
 use crate::readings::Readings;
 use crate::record::Record;
+use crate::stretch::{self, Stretch, apart_by, part};
 use std::alloc::{AllocError, Global};
 use std::marker::Model;
 use std::slice;
@@ -22,7 +23,7 @@ const WIDE: usize = 32_768;
 
 const MIDDLE: usize = 1_024;
 
-const NARROW: usize = 32;
+pub(crate) const NARROW: usize = 32;
 
 /// So many hulls of one width make one of the next.
 const TOGETHER: usize = 32;
@@ -33,17 +34,25 @@ pub(crate) struct Covers {
     wide: Vec<Hull>,
     middle: Vec<Hull>,
     narrow: Vec<Hull>,
+    // Where records reach far beyond the others of a narrow hull, as those of instances that have many below them do: hulls of the places
+    // before them and of those behind, by the narrow hull's number. No others have any.
+    left: Vec<Stretch>,
+    right: Vec<Stretch>,
 }
 
 impl Model for Covers {
     ghost use Rattle.std.specs.Prelude.{List, [], ◌∷◌};
-    ghost use Rattle.rerun_records.specs.Covers.{PlainLevel};
+    ghost use Rattle.rerun_records.specs.Covers.{PlainCovers};
 
-    ghost Value = { List PlainLevel };
+    ghost Value = { PlainCovers };
 
-    ghost view = { λ c. record { width = 32768; hulls = c.wide.items }
-        ∷ record { width = 1024; hulls = c.middle.items }
-        ∷ record { width = 32; hulls = c.narrow.items } ∷ [] };
+    ghost view = { λ c. record {
+      levels = record { width = 32768; hulls = c.wide.items }
+          ∷ record { width = 1024; hulls = c.middle.items }
+          ∷ record { width = 32; hulls = c.narrow.items } ∷ [];
+      left = c.left.items;
+      right = c.right.items;
+    } };
 }
 
 impl Covers {
@@ -55,11 +64,13 @@ impl Covers {
             wide: Vec::new(alloc),
             middle: Vec::new(alloc),
             narrow: Vec::new(alloc),
+            left: Vec::new(alloc),
+            right: Vec::new(alloc),
         }
     }
 
-    // From which place on, up to that end, no record has read what the change may have changed: the beginning of the widest hull that
-    // ends there and in which the row doesn't lie, or that end.
+    // From which place on, up to that end, no record has read what the change may have changed: the beginning of the widest hull or stretch
+    // that ends there and in which the row doesn't lie, or that end.
     fn apart_to(&self, end: usize, change: &(usize, i64)) -> usize
         ensures within { result ≤ end }
         ensures apart { (records : List PlainRecord) → AreCovered records self.now
@@ -73,7 +84,15 @@ impl Covers {
         if first < end {
             return first;
         }
-        apart_from(&self.narrow, NARROW, end, change)
+        let first = apart_from(&self.narrow, NARROW, end, change);
+        if first < end {
+            return first;
+        }
+        let first = apart_by(&self.right, end, change);
+        if first < end {
+            return first;
+        }
+        apart_by(&self.left, end, change)
     }
 
     /// The last place before that end whose record may have read what the change of the row, given by its table's number and its own,
@@ -116,17 +135,29 @@ impl Covers {
         put_in(&mut self.wide, WIDE, place, reads);
         put_in(&mut self.middle, MIDDLE, place, reads);
         put_in(&mut self.narrow, NARROW, place, reads);
+        stretch::put_in(&mut self.left, place, reads);
+        stretch::put_in(&mut self.right, place, reads);
     }
 
     /// Makes hulls of the records whose places have none and are enough for one, as far as memory isn't refused. Only the narrowest
-    /// are made of the records, and each wider one of those that lie in it: so each record is looked at once.
+    /// are made of the records, and each wider one of those that lie in it: so each record is looked at once, and once more where its hull
+    /// reaches over the one before it.
     pub(crate) fn grow(&mut self, alloc: Global, list: &[Record])
         requires held { AreCovered list.now self.old }
         ensures held { AreCovered list.now self.new }
     {
+        let known = self.narrow.len();
         add_all(alloc, &mut self.narrow, NARROW, list);
         join_all(alloc, &mut self.middle, &self.narrow);
         join_all(alloc, &mut self.wide, &self.middle);
+        part_all(
+            alloc,
+            &mut self.left,
+            &mut self.right,
+            &self.narrow,
+            known,
+            list,
+        );
     }
 }
 
@@ -229,6 +260,26 @@ fn add(
     let hull = Hull::of(alloc, &list[first..first + width])?;
     hulls.push(hull)?;
     Ok(())
+}
+
+// Makes stretches beside the narrow hulls from that number on that reach over the one before them.
+fn part_all(
+    alloc: Global,
+    left: &mut Vec<Stretch>,
+    right: &mut Vec<Stretch>,
+    narrow: &[Hull],
+    known: usize,
+    list: &[Record],
+)
+    requires full { length narrow.now * 32 ≤ length list.now }
+    ensures left { HoldBut [] list.now left.old.items → HoldBut [] list.now left.new.items }
+    ensures right { HoldBut [] list.now right.old.items → HoldBut [] list.now right.new.items }
+{
+    for number in known..narrow.len() {
+        if number > 0 && narrow[number].reaches_over(&narrow[number - 1]) {
+            part(alloc, left, right, list, number, &narrow[number - 1]);
+        }
+    }
 }
 
 // Makes the wider hulls that are missing, of those that lie in them, as far as these are there and memory isn't refused.

@@ -7,7 +7,7 @@ ghost use Rattle.rerun_records.specs.Spans.{is_covered_by, is_touched};
 
 use crate::readings::Readings;
 use crate::record::Record;
-use crate::spans::{Span, are_touched, put_spans};
+use crate::spans::{Span, are_touched, put_spans, reach};
 use std::alloc::{AllocError, Global};
 use std::marker::Model;
 
@@ -61,6 +61,16 @@ impl Hull {
         ensures put { OnOk result (every (is_covered_by self.new) reads.now ≡ true) }
     {
         reads.put_rows(&mut self.spans)
+    }
+
+    /// Whether it has a row with which the other begins.
+    pub(crate) fn reaches_over(&self, before: &Hull) -> bool {
+        before.is_reached_by(&self.spans)
+    }
+
+    /// Whether these spans have a row with which it begins.
+    pub(crate) fn is_reached_by(&self, spans: &[Span]) -> bool {
+        reach(spans, &self.spans)
     }
 
     /// Whether one of these changes, each given by its table's number and the row, lies in it.

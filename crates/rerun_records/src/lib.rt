@@ -17,4 +17,5 @@ pub mod records;
 pub mod series;
 pub mod short_list;
 mod spans;
+mod stretch;
 mod telling;

@@ -14,6 +14,7 @@ ghost use Rattle.rerun_records.specs.Blocks.{is_apart};
 ghost use Rattle.rerun_records.specs.Counts.{how_many};
 ghost use Rattle.rerun_records.specs.Same.{is_read, same_note};
 
+use crate::hull::Hull;
 use crate::short_list::ShortList;
 use crate::spans::{Span, are_touched, may_have, put_read, put_spans};
 use evaluation::note::Note;
@@ -140,6 +141,14 @@ impl Readings {
         ensures has { result ≡ is_read self.now note.now }
     {
         node_has(&self.node, note)
+    }
+
+    /// Whether what instances below have read reaches over the rows with which that hull begins.
+    pub(crate) fn reach_over(&self, hull: &Hull) -> bool {
+        match &self.node.below {
+            Some(below) => hull.is_reached_by(&below.spans),
+            None => false,
+        }
     }
 
     /// How many of these readings and how many of those were read, all of which rest on the change. It takes no memory, and looks for

@@ -6,6 +6,7 @@ ghost use Rattle.rerun_records.specs.Spans.{span_of, has_row, covers, lies_in, j
 use evaluation::note::Note;
 use evaluation::reading::Reading;
 use std::alloc::AllocError;
+use std::slice;
 
 /// The rows of a table from the lowest that was read to the greatest; all of them, where its limit or a sum was.
 #[derive(Clone, Copy)]
@@ -140,6 +141,17 @@ pub(crate) fn are_touched(spans: &[Span], changes: &[(usize, i64)]) -> bool
 {
     for span in spans {
         if has_one(span, changes) {
+            return true;
+        }
+    }
+    false
+}
+
+/// Whether these have a row with which one of the others begins.
+pub(crate) fn reach(spans: &[Span], others: &[Span]) -> bool {
+    for other in others {
+        let begin = (usize::from(other.table), other.low);
+        if !other.whole && are_touched(spans, slice::from_ref(&begin)) {
             return true;
         }
     }

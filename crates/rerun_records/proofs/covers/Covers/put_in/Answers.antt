@@ -1,8 +1,9 @@
-use Rattle.std.proofs.Common.{◌≡◌, List, Some, [], ◌∷◌, subst, sym, ◌∙◌}
+use Rattle.std.proofs.Common.{◌≡◌, Some, [], ◌∷◌, subst, sym, ◌∙◌}
 use Rattle.std.specs.Prelude.{slice_get}
 use Rattle.rerun_records.specs.Record.{PlainRecord}
-use Rattle.rerun_records.specs.Covers.{PlainLevel, AreCoveredBut}
-use Rattle.rerun_records.proofs.Covering.{covered_but, past_covered, there_is}
+use Rattle.rerun_records.specs.Covers.{PlainCovers, AreCoveredBut}
+use Rattle.rerun_records.proofs.Covering.{there_is}
+use Rattle.rerun_records.proofs.Stretches.{covered_but, past_covered}
 use Rattle.rerun_records.proofs.covers.Covers.put_in.Goals as goal
 
 pub returns-then-place-list : goal.returns-then-place-list
@@ -19,6 +20,8 @@ returns c =
     λ r there. there_is list place r c.index-list-place.result there c.index-list-place.is ∙ sym c.reads-reads.ensures.reads in
     record {
       held = λ before h same.
-          let covered = subst (λ (ls : List PlainLevel). AreCoveredBut (place ∷ []) list ls) (sym c.self.view_is) (covered_but (place ∷ []) before list c.args.self.now same h) in
-          (c.put_in.ensures.held list [] covered.0 is, (c.put_in-2.ensures.held list [] covered.1.0 is, (c.put_in-3.ensures.held list [] covered.1.1.0 is, tt)));
+          let covered = subst (λ (cs : PlainCovers). AreCoveredBut (place ∷ []) list cs) (sym c.self.view_is) (covered_but (place ∷ []) before list c.args.self.now same h) in (
+            (c.put_in.ensures.held list [] covered.0.0 is, (c.put_in-2.ensures.held list [] covered.0.1.0 is, (c.put_in-3.ensures.held list [] covered.0.1.1.0 is, tt))),
+            (c.put_in-4.ensures.held list [] covered.1.0 is, c.put_in-5.ensures.held list [] covered.1.1 is),
+          );
     }

@@ -1,5 +1,4 @@
-use Rattle.std.proofs.Common.{◌≡◌, false, [], ◌∷◌, ap, ◌∙◌}
-use Rattle.evaluation.specs.declared.note.Note.{Note}
+use Rattle.std.proofs.Common.{[], ◌∷◌, ap, ◌∙◌}
 use Rattle.rerun_records.specs.Blocks.{is_apart}
 use Rattle.rerun_records.specs.Readings.{node_notes}
 use Rattle.rerun_records.specs.Same.{is_read}
