@@ -1,5 +1,5 @@
 -- Readings that a change may have changed, found by going past those that it can't have.
-use Rattle.std.proofs.Common.{◌≡◌, ℕ, zero, suc, ◌<◌, ◌+◌, ◌-◌, ℤ, Bool, true, false, true≢false, cond, not, List, [], ◌∷◌, ◌++◌, Some, None, length, map, take, drop, refl, sym, ap, ◌∙◌, subst, arith, get_or}
+use Rattle.std.proofs.Common.{◌≡◌, ℕ, zero, suc, ◌<◌, ◌≤◌, ◌+◌, ◌-◌, ℤ, Bool, true, false, true≢false, cond, not, List, [], ◌∷◌, ◌++◌, Some, None, length, map, take, drop, refl, sym, ap, ◌∙◌, subst, arith, get_or}
 use Rattle.std.proofs.lemmas.List.{take_rest}
 use Rattle.std.specs.Prelude.{◌||◌, Box}
 use Rattle.std.specs.declared.alloc.Global.{Global}
@@ -17,7 +17,7 @@ use Rattle.rerun_records.specs.Counts.{how_many}
 use Rattle.rerun_records.specs.InStep.{rests_on}
 use Rattle.rerun_records.specs.Readings.{node_notes, shared_notes}
 use Rattle.rerun_records.specs.Same.{same_note, is_read}
-use Rattle.rerun_records.proofs.Members.{left_is, right_is, both}
+use Rattle.rerun_records.proofs.Members.{left_is, right_is}
 use Rattle.rerun_records.proofs.NodeNotes.{every_append, alone}
 use Rattle.rerun_records.proofs.Same.{note_is, read_append, read_in_parts}
 use Rattle.rerun_records.proofs.Touched.{own_apart}
@@ -35,7 +35,7 @@ other q note x false h e s = refl
 other q note x true h e s = absurd (true≢false (sym e ∙ ap q (sym (note_is note x s)) ∙ h))
 
 -- where all of some pass a test that a note doesn't, it is none of these
-pub none_of : (q : Note → Bool) (ns : List Note) (note : Note) → every q ns ≡ true → q note ≡ false → is_read ns note ≡ false
+none_of : (q : Note → Bool) (ns : List Note) (note : Note) → every q ns ≡ true → q note ≡ false → is_read ns note ≡ false
 none_of q [] note e h = refl
 none_of q (x ∷ ns) note e h =
     ap (λ b. b || is_read ns note) (other q note x (same_note note x) h (left_is (q x) (every q ns) e) refl)
@@ -75,42 +75,26 @@ only_part q parts k x note l at before behind h =
     let next : k + 1 ≡ suc k = omega arith in
     only_there q parts k x note l at before (subst (λ (n : ℕ). every q (flat_map shared_notes (drop n parts)) ≡ true) next behind) h
 
-one_more : (q : Note → Bool) (parts : List (Arc Node Global)) (k : ℕ) (x : Arc Node Global) → k < length parts → x ≡ get_or parts k x → every q (flat_map shared_notes (take k parts)) ≡ true
-    → every q (shared_notes x) ≡ true → every q (flat_map shared_notes (take (suc k) parts)) ≡ true
-one_more q [] k x l at so_far e = absurd (omega (arith, l))
-one_more q (p ∷ ps) zero x l at so_far e = every_append q (shared_notes p) [] ∙ both (every q (shared_notes p)) true (ap (λ y. every q (shared_notes y)) (sym at) ∙ e) refl
-one_more q (p ∷ ps) (suc k) x l at so_far e =
-    let each = sym (every_append q (shared_notes p) (flat_map shared_notes (take k ps))) ∙ so_far in
-    every_append q (shared_notes p) (flat_map shared_notes (take (suc k) ps))
-    ∙ both (every q (shared_notes p)) (every q (flat_map shared_notes (take (suc k) ps))) (left_is (every q (shared_notes p)) (every q (flat_map shared_notes (take k ps))) each)
-    (one_more q ps k x (omega (arith, l)) at (right_is (every q (shared_notes p)) (every q (flat_map shared_notes (take k ps))) each) e)
-
--- one more of the first parts
-pub one_more_part : (q : Note → Bool) (parts : List (Arc Node Global)) (k : ℕ) (x : Arc Node Global) → k < length parts → x ≡ get_or parts k x → every q (flat_map shared_notes (take k parts)) ≡ true
-    → every q (shared_notes x) ≡ true → every q (flat_map shared_notes (take (k + 1) parts)) ≡ true
-one_more_part q parts k x l at so_far e =
-    let next : suc k ≡ k + 1 = omega arith in
-    subst (λ (n : ℕ). every q (flat_map shared_notes (take n parts)) ≡ true) next (one_more q parts k x l at so_far e)
-
--- ---- readings from the first on that rests on a change
+-- ---- readings up to the last that rests on a change
 
 apart_if : (change : ℕ × ℤ) (x : Note) → rests_on x change ≡ false → is_apart (change ∷ []) x ≡ true
 apart_if change x e = ap (λ b. not (b || false)) e
 
-later : (change : ℕ × ℤ) (own : List Reading) (k : ℕ) (x : Reading) (note : Note) → k < length own → x ≡ get_or own k x → rests_on (note_of x) change ≡ false → is_apart (change ∷ []) note ≡ false
-    → is_read (map note_of (drop (suc k) own)) note ≡ is_read (map note_of (drop k own)) note
-later change [] k x note l at e h = absurd (omega (arith, l))
-later change (r ∷ rs) zero x note l at e h =
+sooner : (change : ℕ × ℤ) (own : List Reading) (k : ℕ) (x : Reading) (note : Note) → k < length own → x ≡ get_or own k x → rests_on (note_of x) change ≡ false → is_apart (change ∷ []) note ≡ false
+    → is_read (map note_of (take k own)) note ≡ is_read (map note_of (take (suc k) own)) note
+sooner change [] k x note l at e h = absurd (omega (arith, l))
+sooner change (r ∷ rs) zero x note l at e h =
     let apart : is_apart (change ∷ []) (note_of r) ≡ true = apart_if change (note_of r) (ap (λ y. rests_on (note_of y) change) (sym at) ∙ e) in
-    sym (ap (λ b. b || is_read (map note_of rs) note) (other (is_apart (change ∷ [])) note (note_of r) (same_note note (note_of r)) h apart refl))
-later change (r ∷ rs) (suc k) x note l at e h = later change rs k x note (omega (arith, l)) at e h
+    sym (ap (λ b. b || false) (other (is_apart (change ∷ [])) note (note_of r) (same_note note (note_of r)) h apart refl))
+sooner change (r ∷ rs) (suc k) x note l at e h = ap (λ b. same_note note (note_of r) || b) (sooner change rs k x note (omega (arith, l)) at e h)
 
--- one that doesn't rest on it is passed over
-pub passed_over : (change : ℕ × ℤ) (own : List Reading) (k : ℕ) (x : Reading) (note : Note) → k < length own → x ≡ get_or own k x → rests_on (note_of x) change ≡ false → is_apart (change ∷ []) note ≡ false
-    → is_read (map note_of (drop (k + 1) own)) note ≡ is_read (map note_of (drop k own)) note
-passed_over change own k x note l at e h =
-    let next : suc k ≡ k + 1 = omega arith in
-    subst (λ (n : ℕ). is_read (map note_of (drop n own)) note ≡ is_read (map note_of (drop k own)) note) next (later change own k x note l at e h)
+-- the same from the end on
+pub one_fewer : (change : ℕ × ℤ) (own : List Reading) (end : ℕ) (x : Reading) → 0 < end → end ≤ length own → x ≡ get_or own (end - 1) x → rests_on (note_of x) change ≡ false
+    → ((note : Note) → is_apart (change ∷ []) note ≡ false → is_read (map note_of (take end own)) note ≡ is_read (map note_of own) note)
+    → (note : Note) → is_apart (change ∷ []) note ≡ false → is_read (map note_of (take (end - 1) own)) note ≡ is_read (map note_of own) note
+one_fewer change own end x some within at e so_far note h =
+    let next : suc (end - 1) ≡ end = omega (arith, some) in
+    subst (λ (n : ℕ). is_read (map note_of (take (end - 1) own)) note ≡ is_read (map note_of (take n own)) note) next (sooner change own (end - 1) x note (omega (arith, some, within)) at e h) ∙ so_far note h
 
 -- ---- a node by its own readings, or by its parts
 

@@ -159,11 +159,7 @@ impl Readings {
         ensures won { result.1 ≡ how_many same_note won.now self.now }
         ensures few { result.0 ≤ length lost.now }
     {
-        let lowest = lowest(&self.node, change);
-        (
-            how_many(lowest, change, lost),
-            how_many(lowest, change, won),
-        )
+        how_many(lowest(&self.node, change), change, lost, won)
     }
 
     /// Joins spans with the rows of what was read.
@@ -379,16 +375,20 @@ fn are_apart(parts: &[Arc<Node>], change: &(usize, i64)) -> bool
     true
 }
 
-// How many of these readings, which rest on the change, were read there or below.
-fn how_many(node: &Node, change: &(usize, i64), notes: &[Note]) -> u64
+// How many of these readings and how many of those were read there or below, all of which rest on the change.
+fn how_many(node: &Node, change: &(usize, i64), lost: &[Note], won: &[Note]) -> (u64, u64)
     requires covered { is_covered node.now ≡ true }
-    requires rest { every (λ n. not (is_apart (change.now ∷ []) n)) notes.now ≡ true }
-    ensures many { result ≡ how_many same_note notes.now (node_notes node.now) }
-    ensures few { result ≤ length notes.now }
+    requires rest { every (λ n. not (is_apart (change.now ∷ []) n)) (lost.now ++ won.now) ≡ true }
+    ensures lost { result.0 ≡ how_many same_note lost.now (node_notes node.now) }
+    ensures won { result.1 ≡ how_many same_note won.now (node_notes node.now) }
+    ensures few { result.0 ≤ length lost.now }
 {
     match &node.below {
-        Some(_) => how_many_in(node, notes),
-        None => how_many_own(touched_on(node.own.as_slice(), change), notes),
+        Some(_) => (how_many_in(node, lost), how_many_in(node, won)),
+        None => {
+            let own = touched_to(touched_on(node.own.as_slice(), change), change);
+            (how_many_own(own, lost), how_many_own(own, won))
+        }
     }
 }
 
@@ -429,6 +429,19 @@ fn touched_on<'a>(own: &'a [Reading], change: &(usize, i64)) -> &'a [Reading]
         first += 1;
     }
     &own[first..]
+}
+
+// These readings up to the last one that rests on the change.
+#[tactic(auto, using(crate::proofs::Narrowed::one_fewer))]
+fn touched_to<'a>(own: &'a [Reading], change: &(usize, i64)) -> &'a [Reading]
+    ensures same { (note : PlainNote) → is_apart (change.now ∷ []) note ≡ false
+        → is_read (map note_of result.now) note ≡ is_read (map note_of own.now) note }
+{
+    let mut end = own.len();
+    while end > 0 && !rests_on(&own[end - 1], change) {
+        end -= 1;
+    }
+    &own[..end]
 }
 
 // Whether that was read there or below. Where its rows lie in no span, the parts aren't asked.

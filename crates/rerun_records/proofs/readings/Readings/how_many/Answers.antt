@@ -8,13 +8,13 @@ use Rattle.rerun_records.proofs.readings.Readings.how_many.Goals as goal
 pub returns-clause-lost : goal.returns-clause-lost
 returns-clause-lost c =
     let q = is_apart (c.args.change.now ∷ []) in
-    c.how_many.ensures.many
-    ∙ same_many q c.args.lost.now (node_notes c.lowest-lowest.result.now) c.args.self.now (left_rest q c.args.lost.now c.args.won.now c.requires.rest)
-    (λ note h. c.lowest-lowest.ensures.same note h ∙ ap (λ n. is_read (node_notes n) note) c.deref.ensures ∙ ap (λ ns. is_read ns note) c.self.view_is)
+    c.how_many.ensures.lost
+    ∙ same_many q c.args.lost.now (node_notes c.lowest.result.now) c.args.self.now (left_rest q c.args.lost.now c.args.won.now c.requires.rest)
+    (λ note h. c.lowest.ensures.same note h ∙ ap (λ n. is_read (node_notes n) note) c.deref.ensures ∙ ap (λ ns. is_read ns note) c.self.view_is)
 
 pub returns-clause-won : goal.returns-clause-won
 returns-clause-won c =
     let q = is_apart (c.args.change.now ∷ []) in
-    c.how_many-2.ensures.many
-    ∙ same_many q c.args.won.now (node_notes c.lowest-lowest.result.now) c.args.self.now (right_rest q c.args.lost.now c.args.won.now c.requires.rest)
-    (λ note h. c.lowest-lowest.ensures.same note h ∙ ap (λ n. is_read (node_notes n) note) c.deref.ensures ∙ ap (λ ns. is_read ns note) c.self.view_is)
+    c.how_many.ensures.won
+    ∙ same_many q c.args.won.now (node_notes c.lowest.result.now) c.args.self.now (right_rest q c.args.lost.now c.args.won.now c.requires.rest)
+    (λ note h. c.lowest.ensures.same note h ∙ ap (λ n. is_read (node_notes n) note) c.deref.ensures ∙ ap (λ ns. is_read ns note) c.self.view_is)
