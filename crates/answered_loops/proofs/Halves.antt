@@ -18,7 +18,7 @@ use Rattle.positions.specs.Strands.{PlainStrand}
 use Rattle.positions.specs.Advance.{in_phase, giving, with_top, split, left_of, right_of, turn_by, worked, closed, owns_top}
 use Rattle.positions.specs.Moves.{inlined}
 use Rattle.answered_loops.specs.Ways.{IsNext, IsWay, here, on, as_call}
-use Rattle.answered_loops.specs.Answered.{IsOfMemo, IsAnswer, AreAnswers, iteration_depth, absorbed, answered_more, behind_turns, turned_to, halved_to, is_by_turns, ended_by, ended, HasAnswers, with_answers, with_work, half_answered, turns_answered, IsInside}
+use Rattle.answered_loops.specs.Answered.{IsOfMemo, IsAnswer, AreAnswers, iteration_depth, absorbed, answered_more, behind_turns, turned_to, halved_to, is_by_turns, ended_by, ended, HasAnswers, with_answers, with_work, half_answered, first_answered, turns_answered, IsInside}
 use Rattle.answered_loops.proofs.Ways.{way_join}
 use Rattle.answered_loops.proofs.Turns.{path_back, turns_way}
 
@@ -90,6 +90,22 @@ module _ (setting : Setting) (l : Loop) where
       let both = inside s.path (omega arith) in
       sym (ap (λ c. if c then x else if owns_top x then closed setting v x else in_phase (Leaving v) x) both.0 ∙ ap (λ c. if c then closed setting v x else in_phase (Leaving v) x) both.1)
 
+  -- one by one: the first ones are answered
+  module _ (k : ℕ) (h : Share) (a : PlainActivation) (s : PlainStrand) (rs : List PlainRecord) (is : IsOfMemo setting (loop_at setting.codes a.procedure l) a.left) (fits : length rs ≤ h.count)
+      (answers : AreAnswers setting (loop_at setting.codes a.procedure l) a.slots a.left l.low h.first rs) where
+    abbrev turns_now : PlainStrand
+    turns_now = with_work (Halves l k h) a s
+
+    abbrev goes_by : Bool → PlainStrand
+    goes_by b = (if b then with_top (at (Turns l h) turns_now.top) turns_now else split l (k - 1) h turns_now)
+
+    turns_begin : is_by_turns setting.codes a l k h.count ≡ true → IsWay setting turns_now (record (with_answers (iteration_depth a) rs s) { top = turned_to (length rs) l h a; phase = Running })
+    turns_begin e =
+        let begin = with_work (Turns l h) a s in
+        let to : IsNext setting turns_now begin = λ kit. sym (ap goes_by e) in
+        way_join setting turns_now begin (record (with_answers (iteration_depth a) rs s) { top = turned_to (length rs) l h a; phase = Running }) (on turns_now begin here to) (turns_way setting l rs h a s is fits answers)
+
+  -- all of them
   module _ (k : ℕ) (h : Share) (a : PlainActivation) (s : PlainStrand) (rs : List PlainRecord) (inside : IsInside s) (is : IsOfMemo setting (loop_at setting.codes a.procedure l) a.left) (all : length rs ≡ h.count)
       (answers : AreAnswers setting (loop_at setting.codes a.procedure l) a.slots a.left l.low h.first rs) where
     abbrev here_now : PlainStrand
@@ -98,27 +114,70 @@ module _ (setting : Setting) (l : Loop) where
     abbrev d : ℕ
     d = iteration_depth a
 
-    abbrev goes_by : Bool → PlainStrand
-    goes_by b = (if b then with_top (at (Turns l h) here_now.top) here_now else split l (k - 1) h here_now)
-
-    -- one by one
     one_by_one : is_by_turns setting.codes a l k h.count ≡ true → IsWay setting here_now (leaves_with d rs (ended setting.codes l k h a) s)
     one_by_one e =
-        let begin = with_work (Turns l h) a s in
-        let to : IsNext setting here_now begin = λ kit. sym (ap goes_by e) in
         let b = turned_to (length rs) l h a in
         let done = record (with_answers d rs s) { top = b; phase = Running } in
-        let turns : IsWay setting begin done = turns_way setting l rs h a s is (let fits : length rs ≤ h.count = omega arith in fits) answers in
+        let turns : IsWay setting here_now done = turns_begin k h a s rs is (let fits : length rs ≤ h.count = omega arith in fits) answers e in
         let none : h.count - length rs ≡ 0 = omega arith in
         let over : IsNext setting done (giving (pos 0) done) = λ kit. sym (ap (λ w. worked setting kit w done) (turned_work (length rs) l h a)
         ∙ ap (λ c. if c then giving (pos 0) done else turn_by setting kit (loop_at setting.codes b.procedure l) l (behind_turns (length rs) h) done) (ap (λ n. n == 0) none)) in
         let leaves : IsNext setting (giving (pos 0) done) (leaves_with d rs b s) = syncs (pos 0) done inside in
         let way : IsWay setting here_now (leaves_with d rs b s) =
-        on (giving (pos 0) done) (leaves_with d rs b s) (on done (giving (pos 0) done) (way_join setting here_now begin done (on here_now begin here to) turns) over) leaves in
+        on (giving (pos 0) done) (leaves_with d rs b s) (on done (giving (pos 0) done) turns over) leaves in
         let same : b ≡ ended setting.codes l k h a = ap (λ n. turned_to n l h a) all ∙ sym (ap (λ c. ended_by c l h a) e) in
         subst (λ (x : PlainActivation). IsWay setting here_now (leaves_with d rs x s)) same way
 
-  -- halved once more
+  -- ---- halved once more
+
+  abbrev child_of_half : ℕ → PlainActivation → Share → PlainActivation
+  child_of_half k a j = made a.procedure a.slots (Halves l k j) a.left
+
+  -- the instance under its first half
+  abbrev under_first : ℕ → Share → PlainActivation → PlainActivation
+  under_first k h a = waiting true None (Second l k (right_of h)) a
+
+  -- the first half is answered: the second one is next
+  module _ (k : ℕ) (again : IsAnswered k) (h : Share) (a : PlainActivation) (s : PlainStrand) (rs : List PlainRecord) (inside : IsInside s) (is : IsOfMemo setting (loop_at setting.codes a.procedure l) a.left) (half : length rs ≡ h.count / 2)
+      (answers : AreAnswers setting (loop_at setting.codes a.procedure l) a.slots a.left l.low h.first rs) where
+    abbrev both_now : PlainStrand
+    both_now = with_work (Halves l (suc k) h) a s
+
+    abbrev beside_first : PlainStrand
+    beside_first = record s { path = s.path ++ (a.children + 1) ∷ []; below = under_first k h a ∷ s.below }
+
+    abbrev spawned : PlainStrand
+    spawned = split l k h both_now
+
+    abbrev at_first : PlainStrand
+    at_first = with_work (Halves l k (left_of h)) (child_of_half k a (left_of h)) beside_first
+
+    abbrev first_leaves : PlainStrand
+    first_leaves = leaves_with (iteration_depth a) rs (ended setting.codes l k (left_of h) (child_of_half k a (left_of h))) beside_first
+
+    abbrev first_over : PlainStrand
+    first_over = with_work (Second l k (right_of h)) (under_first k h a) (with_answers (iteration_depth a) rs s)
+
+    spawns : is_by_turns setting.codes a l (suc k) h.count ≡ false → IsNext setting both_now spawned
+    spawns e kit =
+        let less : suc k - 1 ≡ k = omega arith in
+        sym (ap (λ b. if b then with_top (at (Turns l h) both_now.top) both_now else split l (suc k - 1) h both_now) e ∙ ap (λ n. split l n h both_now) less)
+
+    enters : IsNext setting (inlined spawned) at_first
+    enters kit = refl
+
+    first_back : IsNext setting first_leaves first_over
+    first_back kit = ap (λ p. record first_over { path = p }) (sym (path_back s.path (a.children + 1)))
+
+    first_way : IsWay setting at_first first_leaves
+    first_way = again (left_of h) (child_of_half k a (left_of h)) beside_first rs (λ path long. inside path (inside_longer s (a.children + 1) inside path long)) is half answers
+
+    first_by : is_by_turns setting.codes a l (suc k) h.count ≡ false → IsWay setting both_now first_over
+    first_by e =
+        let to_first : IsWay setting both_now at_first = on (inlined spawned) at_first (as_call spawned (inlined spawned) (on both_now spawned here (spawns e)) refl refl) enters in
+        on first_leaves first_over (way_join setting both_now at_first first_leaves to_first first_way) first_back
+
+  -- both are
   module _ (k : ℕ) (again : IsAnswered k) (h : Share) (a : PlainActivation) (s : PlainStrand) (rs : List PlainRecord) (inside : IsInside s) (is : IsOfMemo setting (loop_at setting.codes a.procedure l) a.left) (all : length rs ≡ h.count)
       (answers : AreAnswers setting (loop_at setting.codes a.procedure l) a.slots a.left l.low h.first rs) where
     abbrev whole_now : PlainStrand
@@ -133,18 +192,15 @@ module _ (setting : Setting) (l : Loop) where
     abbrev ys : List PlainRecord
     ys = drop (h.count / 2) rs
 
-    -- the instance under its first half, and under its second half
-    abbrev under_first : PlainActivation
-    under_first = waiting true None (Second l k (right_of h)) a
-
+    -- the instance under its second half
     abbrev under_second : PlainActivation
-    under_second = waiting false None Over (record under_first { slots = [] })
-
-    abbrev beside_first : PlainStrand
-    beside_first = record s { path = s.path ++ (a.children + 1) ∷ []; below = under_first ∷ s.below }
+    under_second = waiting false None Over (record (under_first k h a) { slots = [] })
 
     abbrev first_done : PlainStrand
     first_done = with_answers depth xs s
+
+    abbrev between : PlainStrand
+    between = with_work (Second l k (right_of h)) (under_first k h a) first_done
 
     abbrev beside_second : PlainStrand
     beside_second = record first_done { path = s.path ++ ((a.children + 1) + 1) ∷ []; below = under_second ∷ s.below }
@@ -152,40 +208,14 @@ module _ (setting : Setting) (l : Loop) where
     abbrev both_done : PlainStrand
     both_done = with_answers depth ys first_done
 
-    abbrev child_of_half : Share → PlainActivation
-    child_of_half j = made a.procedure a.slots (Halves l k j) a.left
-
-    abbrev spawned : PlainStrand
-    spawned = split l k h whole_now
-
-    abbrev at_first : PlainStrand
-    at_first = with_work (Halves l k (left_of h)) (child_of_half (left_of h)) beside_first
-
     abbrev at_second : PlainStrand
-    at_second = with_work (Halves l k (right_of h)) (child_of_half (right_of h)) beside_second
-
-    abbrev first_leaves : PlainStrand
-    first_leaves = leaves_with depth xs (ended setting.codes l k (left_of h) (child_of_half (left_of h))) beside_first
-
-    abbrev between : PlainStrand
-    between = with_work (Second l k (right_of h)) under_first first_done
+    at_second = with_work (Halves l k (right_of h)) (child_of_half k a (right_of h)) beside_second
 
     abbrev second_leaves : PlainStrand
-    second_leaves = leaves_with depth ys (ended setting.codes l k (right_of h) (child_of_half (right_of h))) beside_second
+    second_leaves = leaves_with depth ys (ended setting.codes l k (right_of h) (child_of_half k a (right_of h))) beside_second
 
     abbrev behind : PlainStrand
     behind = with_work Over under_second both_done
-
-    spawns : is_by_turns setting.codes a l (suc k) h.count ≡ false → IsNext setting whole_now spawned
-    spawns e kit =
-        let less : suc k - 1 ≡ k = omega arith in
-        sym (ap (λ b. if b then with_top (at (Turns l h) whole_now.top) whole_now else split l (suc k - 1) h whole_now) e ∙ ap (λ n. split l n h whole_now) less)
-
-    enters : IsNext setting (inlined spawned) at_first
-    enters kit = refl
-
-    first_back : IsNext setting first_leaves between
-    first_back kit = ap (λ p. record between { path = p }) (sym (path_back s.path (a.children + 1)))
 
     second_begins : IsNext setting between at_second
     second_begins kit = refl
@@ -196,20 +226,19 @@ module _ (setting : Setting) (l : Loop) where
     gives : IsNext setting behind (giving (pos 0) behind)
     gives kit = refl
 
-    first_way : IsWay setting at_first first_leaves
-    first_way =
+    to_between : is_by_turns setting.codes a l (suc k) h.count ≡ false → IsWay setting whole_now between
+    to_between e =
         let half : length (take (h.count / 2) rs) ≡ h.count / 2 = length-take-le (h.count / 2) rs (let fits : h.count / 2 ≤ length rs = omega arith in fits) in
-        again (left_of h) (child_of_half (left_of h)) beside_first xs (λ path long. inside path (inside_longer s (a.children + 1) inside path long)) is half (answers_take setting (loop_at setting.codes a.procedure l) a.slots a.left l.low (h.count / 2) h.first rs answers)
+        first_by k again h a s xs inside is half (answers_take setting (loop_at setting.codes a.procedure l) a.slots a.left l.low (h.count / 2) h.first rs answers) e
 
     second_way : IsWay setting at_second second_leaves
     second_way =
         let half : length (drop (h.count / 2) rs) ≡ h.count - h.count / 2 = length-drop (h.count / 2) rs ∙ ap (λ n. n - h.count / 2) all in
-        again (right_of h) (child_of_half (right_of h)) beside_second ys (λ path long. inside path (inside_longer s ((a.children + 1) + 1) inside path long)) is half (answers_drop setting (loop_at setting.codes a.procedure l) a.slots a.left l.low (h.count / 2) h.first rs answers)
+        again (right_of h) (child_of_half k a (right_of h)) beside_second ys (λ path long. inside path (inside_longer s ((a.children + 1) + 1) inside path long)) is half (answers_drop setting (loop_at setting.codes a.procedure l) a.slots a.left l.low (h.count / 2) h.first rs answers)
 
     by_halves : is_by_turns setting.codes a l (suc k) h.count ≡ false → IsWay setting whole_now (leaves_with depth rs (ended setting.codes l (suc k) h a) s)
     by_halves e =
-        let to_first : IsWay setting whole_now at_first = on (inlined spawned) at_first (as_call spawned (inlined spawned) (on whole_now spawned here (spawns e)) refl refl) enters in
-        let to_second : IsWay setting whole_now at_second = on between at_second (on first_leaves between (way_join setting whole_now at_first first_leaves to_first first_way) first_back) second_begins in
+        let to_second : IsWay setting whole_now at_second = on between at_second (to_between e) second_begins in
         let end = leaves_with depth ys (halved_to a) first_done in
         let two : (a.children + 1) + 1 ≡ a.children + 2 = omega arith in
         let leaves : IsNext setting (giving (pos 0) behind) (leaves_with depth ys under_second first_done) = syncs (pos 0) behind inside in
@@ -240,6 +269,26 @@ module _ (setting : Setting) where
       → IsWay setting s (half_answered setting.codes l k h rs s)
   half_answers s l k h rs running there inside all has =
       subst (λ (x : PlainStrand). IsWay setting x (half_answered setting.codes l k h rs s)) (is_with_work l (Halves l k h) s running there) (half_way setting l k h s.top s rs inside has.of_memo all has.answers)
+
+  -- the first half alone
+  first_with : (k : ℕ) (l : Loop) (h : Share) (s : PlainStrand) (rs : List PlainRecord) → is_by_turns setting.codes s.top l k h.count ≡ false → IsInside s → length rs ≡ h.count / 2 → HasAnswers setting l s.top h.first rs
+      → IsWay setting (with_work (Halves l k h) s.top s) (first_answered l (k - 1) h rs s)
+  first_with zero l h s rs halved inside half has = absurd (let wrong : true ≡ false = halved in cc)
+  first_with (suc k) l h s rs halved inside half has =
+      let less : k ≡ suc k - 1 = omega arith in
+      subst (λ n. IsWay setting (with_work (Halves l (suc k) h) s.top s) (first_answered l n h rs s)) less
+      (first_by setting l k (half_way setting l k) h s.top s rs inside has.of_memo half has.answers halved)
+
+  pub first_answers : (s : PlainStrand) (l : Loop) (k : ℕ) (h : Share) (rs : List PlainRecord) → s.phase ≡ Running → s.top.work ≡ Halves l k h → is_by_turns setting.codes s.top l k h.count ≡ false → IsInside s → length rs ≡ h.count / 2
+      → HasAnswers setting l s.top h.first rs → IsWay setting s (first_answered l (k - 1) h rs s)
+  first_answers s l k h rs running there halved inside half has =
+      subst (λ (x : PlainStrand). IsWay setting x (first_answered l (k - 1) h rs s)) (is_with_work l (Halves l k h) s running there) (first_with k l h s rs halved inside half has)
+
+  -- those that are done one by one
+  pub begun_answers : (s : PlainStrand) (l : Loop) (k : ℕ) (h : Share) (rs : List PlainRecord) → s.phase ≡ Running → s.top.work ≡ Halves l k h → is_by_turns setting.codes s.top l k h.count ≡ true → length rs ≤ h.count
+      → HasAnswers setting l s.top h.first rs → IsWay setting s (turns_answered l h rs s)
+  begun_answers s l k h rs running there turns fits has =
+      subst (λ (x : PlainStrand). IsWay setting x (turns_answered l h rs s)) (is_with_work l (Halves l k h) s running there) (turns_begin setting l k h s.top s rs has.of_memo fits has.answers turns)
 
   pub turns_answer : (s : PlainStrand) (l : Loop) (h : Share) (rs : List PlainRecord) → s.phase ≡ Running → s.top.work ≡ Turns l h → length rs ≤ h.count → HasAnswers setting l s.top h.first rs
       → IsWay setting s (turns_answered l h rs s)

@@ -12,15 +12,15 @@ use Rattle.rerun_records.specs.Sums.{arguments_of_last}
 use Rattle.positions.specs.declared.work.Loop.{Loop}
 use Rattle.positions.specs.declared.work.Share.{Share}
 use Rattle.positions.specs.declared.work.Work.{Work}
-use Rattle.positions.specs.declared.work.Work.TheVariants.{Over, Turns}
+use Rattle.positions.specs.declared.work.Work.TheVariants.{Over, Second, Turns}
 use Rattle.positions.specs.declared.phase.Phase.TheVariants.{Running, Leaving}
 use Rattle.positions.specs.Setting.{Setting}
-use Rattle.positions.specs.Activations.{PlainActivation, at}
+use Rattle.positions.specs.Activations.{PlainActivation, at, waiting}
 use Rattle.positions.specs.Code.{PlainLoop, loop_at}
 use Rattle.positions.specs.Layers.{PlainLayer, absorbing}
 use Rattle.positions.specs.Tallies.{PlainTally, is_own}
 use Rattle.positions.specs.Strands.{PlainStrand, entry_by}
-use Rattle.positions.specs.Advance.{record_for}
+use Rattle.positions.specs.Advance.{record_for, right_of}
 
 -- ---- the records
 
@@ -97,6 +97,10 @@ with_work w a s = record s { top = at w a; phase = Running }
 -- a half that records answer: it leaves
 abbrev pub half_answered : List Code → Loop → ℕ → Share → List PlainRecord → PlainStrand → PlainStrand
 half_answered codes l k h rs s = record (with_answers (iteration_depth s.top) rs s) { top = ended codes l k h s.top; phase = Leaving (pos 0) }
+
+-- a half of which records answer the first half: the second one is next, which may be halved so many times
+abbrev pub first_answered : Loop → ℕ → Share → List PlainRecord → PlainStrand → PlainStrand
+first_answered l k h rs s = record (with_answers (iteration_depth s.top) rs s) { top = waiting true None (Second l k (right_of h)) s.top; phase = Running }
 
 -- the first of the iterations that are left one by one are answered
 abbrev pub turns_answered : Loop → Share → List PlainRecord → PlainStrand → PlainStrand
