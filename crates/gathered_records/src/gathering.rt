@@ -19,6 +19,9 @@ use rerun_records::record::Record;
 use rerun_records::records::Records;
 use std::alloc::{AllocError, Global};
 
+/// There is room for so many places of a fine block at first.
+const ROOM: usize = 20;
+
 /// Vast blocks are made of so many records at least: an edit has one made again, which takes more than it saves among fewer.
 const MANY: usize = 250_000;
 
@@ -250,8 +253,9 @@ fn fresh_in_row(
 ) -> Result<Vec<u32>, AllocError>
     ensures row { IfOk result (λ places. AreInRow records.now row.new first places.items) }
 {
-    let mut places = Vec::new(alloc);
-    for _ in 0..bounds.count_from(first) {
+    let most = bounds.count_from(first);
+    let mut places = Vec::with_capacity(alloc, most.min(ROOM))?;
+    for _ in 0..most {
         match next_fresh(records, row, first, places.len()) {
             Some(place) => places.push(place)?,
             None => return Ok(places),

@@ -57,8 +57,8 @@ impl Model for Sum {
 }
 
 impl Sum {
-    /// Of no records, for reducers of these kinds.
-    pub(crate) fn new(alloc: Global, kinds: &[Kind]) -> Result<Sum, AllocError>
+    /// Of no records, for reducers of these kinds, with room for the readings of so many records.
+    pub(crate) fn new(alloc: Global, kinds: &[Kind], room: usize) -> Result<Sum, AllocError>
         ensures none { IfOk result (λ s. s ≡ nothing_summed kinds.now) }
     {
         Ok(Sum {
@@ -66,7 +66,7 @@ impl Sum {
             arguments: ShortList::new(Vec::new(alloc)),
             value: 0,
             worths: units(alloc, kinds)?,
-            reads: Vec::new(alloc),
+            reads: Vec::with_capacity(alloc, room)?,
             entered: ShortList::new(Vec::new(alloc)),
             height: 0,
         })
@@ -125,7 +125,7 @@ pub(crate) fn sum_at(
     requires some { 0 < length (at_places records.now places.now) }
     ensures sum { IfOk result (λ s. IsSumOf kinds.now (at_places records.now places.now) s) }
 {
-    let mut sum = Sum::new(alloc, kinds)?;
+    let mut sum = Sum::new(alloc, kinds, places.len())?;
     for place in places {
         add_record(&mut sum, alloc, kinds, records, *place as usize)?;
     }

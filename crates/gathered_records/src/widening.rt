@@ -19,6 +19,9 @@ use rerun_records::blocks::Width;
 use rerun_records::records::Records;
 use std::alloc::{AllocError, Global};
 
+/// There is room for so many blocks that are joined at first.
+const ROOM: usize = 8;
+
 /// The places of the records of blocks that are joined, what these records have together, and behind how many none begins.
 #[derive(Drop)]
 struct Joined {
@@ -132,7 +135,7 @@ fn widen_row(
     let first = lowest_part(records, width, row, bounds, kinds);
     let mut joined = Joined {
         places: Vec::new(alloc),
-        sum: Sum::new(alloc, kinds)?,
+        sum: Sum::new(alloc, kinds, ROOM)?,
         most: bounds.count_from(first),
     };
     join_parts(records, alloc, width, row, first, kinds, &mut joined)?;

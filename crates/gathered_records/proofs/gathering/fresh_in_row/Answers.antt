@@ -6,7 +6,7 @@ use Rattle.gathered_records.proofs.gathering.fresh_in_row.Goals as goal
 
 pub loop-init : goal.loop-init
 loop-init c =
-    let none : c.new-places.result.items ≡ [] = search rules in
+    let none : c.in_ok-places.places.items ≡ [] = search rules in
     subst (AreInRow c.args.records.now c.args.row.now _) (sym none) (none_in_row c.args.records.now c.args.row.now _)
 
 pub loop-preserved : goal.loop-preserved
