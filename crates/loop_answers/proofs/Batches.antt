@@ -1,6 +1,6 @@
 -- Batches: how more of them are known together, and that they leave what the records leave that they stand for.
-use Rattle.std.proofs.Common.{◌≡◌, ℕ, zero, suc, ◌+◌, ℤ, pos, ◌+ℤ◌, List, [], ◌∷◌, ◌++◌, length, refl, sym, ap, ◌∙◌, subst, arith, append_assoc}
-use Rattle.std.proofs.lemmas.List.{length-append, append-nil}
+use Rattle.std.proofs.Common.{◌≡◌, ℕ, zero, suc, ◌+◌, ◌<◌, ℤ, pos, ◌+ℤ◌, List, [], ◌∷◌, ◌++◌, length, take, drop, get_or, refl, sym, ap, ◌∙◌, subst, arith, append_assoc}
+use Rattle.std.proofs.lemmas.List.{length-append, append-nil, take_more}
 use Rattle.monoid_laws.specs.declared.Kind.{Kind}
 use Rattle.monoid_laws.specs.Kinds.{AreWorths, operate_all, identities}
 use Rattle.monoid_laws.proofs.Rows.{operate_all_right, AreWorths-identities}
@@ -9,15 +9,17 @@ use Rattle.rerun_records.specs.declared.batch.Batch.{Batch}
 use Rattle.rerun_records.specs.Record.{PlainRecord}
 use Rattle.rerun_records.specs.Named.{filled}
 use Rattle.rerun_records.specs.Sums.{IsSumOf, arguments_of_last}
+use Rattle.positions.specs.declared.work.Loop.{Loop}
 use Rattle.positions.specs.Setting.{Setting}
-use Rattle.positions.specs.Code.{PlainLoop}
+use Rattle.positions.specs.Activations.{PlainActivation}
+use Rattle.positions.specs.Code.{PlainLoop, loop_at}
 use Rattle.positions.specs.Layers.{PlainLayer, absorbing}
 use Rattle.positions.specs.Strands.{PlainStrand}
 use Rattle.rerun_records.proofs.Absorbed.{filled_right}
 use Rattle.answered_loops.specs.Answered.{AreAnswers, absorbed, answered_more, with_answers}
 use Rattle.answered_loops.proofs.Sums.{absorbing_sum}
 use Rattle.answered_loops.proofs.Halves.{absorbed_append, last_append, answers_behind}
-use Rattle.loop_answers.specs.Batches.{sums_of, SumsHaveValues, instances_in, AreSums, all_in, AreBatches, IsBatchFrom, with_batches}
+use Rattle.loop_answers.specs.Batches.{sums_of, SumsHaveValues, instances_in, AreSums, all_in, AreBatches, HasBatches, IsBatchFrom, with_batches}
 
 -- ---- lists
 
@@ -31,7 +33,19 @@ all_more : (parts : List (List PlainRecord)) (rs : List PlainRecord) → all_in 
 all_more [] rs = append-nil rs
 all_more (xs ∷ parts) rs = ap (λ ys. xs ++ ys) (all_more parts rs) ∙ sym (append_assoc xs (all_in parts) rs)
 
+all_split : (n : ℕ) (parts : List (List PlainRecord)) → all_in parts ≡ all_in (take n parts) ++ all_in (drop n parts)
+all_split zero parts = refl
+all_split (suc n) [] = refl
+all_split (suc n) (rs ∷ parts) = ap (λ ys. rs ++ ys) (all_split n parts) ∙ sym (append_assoc rs (all_in (take n parts)) (all_in (drop n parts)))
+
 module _ (kinds : List Kind) where
+  sums_first : (n : ℕ) (parts : List (List PlainRecord)) (bs : List Batch) → AreSums kinds parts bs → AreSums kinds (take n parts) (take n bs)
+  sums_first zero parts bs h = tt
+  sums_first (suc n) [] [] h = tt
+  sums_first (suc n) [] (b ∷ bs) h = absurd h
+  sums_first (suc n) (rs ∷ parts) [] h = absurd h
+  sums_first (suc n) (rs ∷ parts) (b ∷ bs) h = (h.0, h.1, sums_first n parts bs h.2)
+
   pub as_many : (parts : List (List PlainRecord)) (bs : List Batch) → AreSums kinds parts bs → length (all_in parts) ≡ instances_in bs
   as_many [] [] h = refl
   as_many [] (b ∷ bs) h = absurd h
@@ -66,6 +80,29 @@ module _ (setting : Setting) (j : PlainLoop) (slots : List Slot) (left : ℕ) (l
         answers = subst (AreAnswers setting j slots left low i) (sym (all_more h.parts one.members))
             (answers_behind setting j slots left low i (i + instances_in bs) (all_in h.parts) one.members behind h.answers (one.answers low (i + instances_in bs) at));
       }
+
+  -- those before others
+  answers_before : (m : ℕ) (xs ys : List PlainRecord) → AreAnswers setting j slots left low m (xs ++ ys) → AreAnswers setting j slots left low m xs
+  answers_before m [] ys h = tt
+  answers_before m (x ∷ xs) ys h = (h.0, answers_before (m + 1) xs ys h.1)
+
+  -- the first ones
+  pub batches_first : (n : ℕ) (bs : List Batch) → AreBatches setting j slots left low i bs → AreBatches setting j slots left low i (take n bs)
+  batches_first n bs h = record {
+    parts = take n h.parts;
+    sums = sums_first setting.kinds n h.parts bs h.sums;
+    answers = answers_before i (all_in (take n h.parts)) (all_in (drop n h.parts)) (subst (AreAnswers setting j slots left low i) (all_split n h.parts) h.answers);
+  }
+
+pub has_first : (setting : Setting) (l : Loop) (a : PlainActivation) (i n : ℕ) (bs : List Batch) → HasBatches setting l a i bs → HasBatches setting l a i (take n bs)
+has_first setting l a i n bs h = record { of_memo = h.of_memo; batches = batches_first setting (loop_at setting.codes a.procedure l) a.slots a.left l.low i n bs h.batches }
+
+-- so many together: one batch more
+pub first_more : (bs : List Batch) (i : ℕ) (b : Batch) (left rest count : ℕ) → i < length bs → b ≡ get_or bs i b → left ≡ rest + b.count → left + instances_in (take i bs) ≡ count → rest + instances_in (take (i + 1) bs) ≡ count
+first_more bs i b left rest count within at is so_far =
+    let next : take (i + 1) bs ≡ take i bs ++ b ∷ [] = take_more bs i b within ∙ ap (λ c. take i bs ++ c ∷ []) (sym at) in
+    let sum : instances_in (take (i + 1) bs) ≡ instances_in (take i bs) + b.count = ap instances_in next ∙ instances_more (take i bs) b in
+    omega arith
 
 -- ---- what they leave
 

@@ -1,5 +1,5 @@
 -- Iterations of a loop that batches of records answer: what is found, and the way from a strand to the one that it leaves.
-use Rattle.std.proofs.Common.{◌≡◌, ℕ, zero, suc, ◌+◌, ◌-◌, ◌<◌, ◌≤◌, ℤ, pos, ◌+ℤ◌, Bool, true, false, List, [], ◌∷◌, map, length, Option, Some, None, IfSome, Result, Ok, Err, IfOk, OnOk, slice_get, slice_set, refl, sym, ap, ◌∙◌, subst, arith}
+use Rattle.std.proofs.Common.{◌≡◌, ℕ, zero, suc, ◌+◌, ◌-◌, ◌/◌, ◌<◌, ◌≤◌, ℤ, pos, ◌+ℤ◌, Bool, true, false, List, [], ◌∷◌, map, length, Option, Some, None, IfSome, Result, Ok, Err, IfOk, OnOk, slice_get, slice_set, refl, sym, ap, ◌∙◌, subst, arith}
 use Rattle.std.proofs.Math.IntN.{+ℤ_assoc}
 use Rattle.monoid_laws.specs.declared.Kind.{Kind}
 use Rattle.monoid_laws.specs.Kinds.{AreWorths}
@@ -20,21 +20,21 @@ use Rattle.rerun_records.specs.Batches.{AreValidFrom, IsBatch}
 use Rattle.rerun_records.proofs.Singles.{sum_of_one, valid_values}
 use Rattle.positions.specs.declared.work.Loop.{Loop}
 use Rattle.positions.specs.declared.work.Share.{Share}
-use Rattle.positions.specs.declared.work.Work.TheVariants.{Halves, Turns}
+use Rattle.positions.specs.declared.work.Work.TheVariants.{Halves, Second, Turns}
 use Rattle.positions.specs.declared.phase.Phase.TheVariants.{Running, Leaving}
 use Rattle.positions.specs.Setting.{Setting, setting_with}
-use Rattle.positions.specs.Activations.{PlainActivation}
+use Rattle.positions.specs.Activations.{PlainActivation, waiting}
 use Rattle.positions.specs.Code.{PlainLoop}
 use Rattle.positions.specs.Layers.{PlainLayer, absorbing}
 use Rattle.positions.specs.Strands.{PlainStrand}
-use Rattle.positions.specs.Advance.{record_for}
+use Rattle.positions.specs.Advance.{record_for, right_of}
 use Rattle.answered_loops.specs.Ways.{IsWay, here}
-use Rattle.answered_loops.specs.Answered.{IsAnswer, AreAnswers, HasAnswers, IsInside, absorbed, ended_by, is_by_turns, half_answered, turns_answered, with_answers, iteration_depth, halved_to, turned_to}
+use Rattle.answered_loops.specs.Answered.{IsAnswer, AreAnswers, HasAnswers, IsInside, absorbed, ended_by, is_by_turns, half_answered, first_answered, turns_answered, with_answers, iteration_depth, halved_to, turned_to}
 use Rattle.answered_loops.proofs.Arguments.{counted_is, other_values}
 use Rattle.answered_loops.proofs.Found.{found_arguments}
-use Rattle.answered_loops.proofs.Halves.{half_answers, turns_answer}
+use Rattle.answered_loops.proofs.Halves.{half_answers, first_answers, begun_answers, turns_answer}
 use Rattle.loop_answers.specs.Ahead.{IsAnsweredAhead, DoneBy}
-use Rattle.loop_answers.specs.Batches.{SumsHaveValues, instances_in, AreSums, all_in, HasBatches, IsBatchFrom, CountsAt, with_batches, halves_left, turns_left}
+use Rattle.loop_answers.specs.Batches.{SumsHaveValues, instances_in, AreSums, all_in, HasBatches, IsBatchFrom, CountsAt, with_batches, halves_left, first_left, last_left, turns_left}
 use Rattle.loop_answers.proofs.Batches.{as_many, sums_values, batches_leave}
 
 module _ (setting : Setting) where
@@ -143,6 +143,12 @@ module _ (setting : Setting) where
     many : length rs ≡ instances_in bs
     many = as_many setting.kinds has.batches.parts bs has.batches.sums
 
+    turns_are : t ≡ turns_left l h bs m → t ≡ turns_answered l h rs s
+    turns_are e =
+        e ∙ ap (turns_left l h bs) same
+        ∙ ap (λ (x : PlainStrand). record x { top = turned_to (instances_in bs) l h s.top; phase = Running }) as_records
+        ∙ ap (λ n. record (with_answers (iteration_depth s.top) rs s) { top = turned_to n l h s.top; phase = Running }) (sym many)
+
     half_ends : (k : ℕ) (done : Bool) → s.top.work ≡ Halves l k h → IsInside s → instances_in bs ≡ h.count → is_by_turns setting.codes s.top l k h.count ≡ false
         → DoneBy done (t ≡ halves_left bs m) (t ≡ m) → IsAnsweredAhead setting s t
     half_ends k false there inside all halved e = answered_same s t (e ∙ same)
@@ -154,14 +160,40 @@ module _ (setting : Setting) where
         subst (λ (x : PlainStrand). IsAnsweredAhead setting s x) (sym is)
         (record { way = half_answers setting s l k h rs running there inside (many ∙ all) each; lower = refl; kinds = absorbed_kinds (iteration_depth s.top) rs s.layer; made = refl })
 
+    first_ends : (k : ℕ) (done : Bool) → s.top.work ≡ Halves l k h → IsInside s → instances_in bs ≡ h.count / 2 → is_by_turns setting.codes s.top l k h.count ≡ false
+        → DoneBy done (t ≡ first_left l (k - 1) h bs m) (t ≡ m) → IsAnsweredAhead setting s t
+    first_ends k false there inside half halved e = answered_same s t (e ∙ same)
+    first_ends k true there inside half halved e =
+        let u = first_answered l (k - 1) h rs s in
+        let is : t ≡ u = e ∙ ap (first_left l (k - 1) h bs) same
+        ∙ ap (λ (x : PlainStrand). record x { top = waiting true None (Second l (k - 1) (right_of h)) s.top; phase = Running }) as_records in
+        subst (λ (x : PlainStrand). IsAnsweredAhead setting s x) (sym is)
+        (record { way = first_answers setting s l k h rs running there halved inside (many ∙ half) each; lower = refl; kinds = absorbed_kinds (iteration_depth s.top) rs s.layer; made = refl })
+
+    last_ends : (k : ℕ) (done : Bool) → s.top.work ≡ Halves l k h → IsInside s → instances_in bs ≡ h.count → is_by_turns setting.codes s.top l k h.count ≡ true
+        → DoneBy done (t ≡ last_left l h bs m) (t ≡ m) → IsAnsweredAhead setting s t
+    last_ends k false there inside all turns e = answered_same s t (e ∙ same)
+    last_ends k true there inside all turns e =
+        let u = half_answered setting.codes l k h rs s in
+        let is : t ≡ u = e ∙ ap (last_left l h bs) same
+        ∙ ap (λ (x : PlainStrand). record x { top = turned_to (instances_in bs) l h s.top; phase = Leaving (pos 0) }) as_records
+        ∙ ap (λ n. record (with_answers (iteration_depth s.top) rs s) { top = turned_to n l h s.top; phase = Leaving (pos 0) }) all
+        ∙ ap (λ b. record (with_answers (iteration_depth s.top) rs s) { top = ended_by b l h s.top; phase = Leaving (pos 0) }) (sym turns) in
+        subst (λ (x : PlainStrand). IsAnsweredAhead setting s x) (sym is)
+        (record { way = half_answers setting s l k h rs running there inside (many ∙ all) each; lower = refl; kinds = absorbed_kinds (iteration_depth s.top) rs s.layer; made = refl })
+
+    -- the first ones, where all are done one by one
+    begun_ends : (k : ℕ) (done : Bool) → s.top.work ≡ Halves l k h → instances_in bs ≤ h.count → is_by_turns setting.codes s.top l k h.count ≡ true
+        → DoneBy done (t ≡ turns_left l h bs m) (t ≡ m) → IsAnsweredAhead setting s t
+    begun_ends k false there fits turns e = answered_same s t (e ∙ same)
+    begun_ends k true there fits turns e =
+        subst (λ (x : PlainStrand). IsAnsweredAhead setting s x) (sym (turns_are e))
+        (record { way = begun_answers setting s l k h rs running there turns (subst (λ n. n ≤ h.count) (sym many) fits) each; lower = refl; kinds = absorbed_kinds (iteration_depth s.top) rs s.layer; made = refl })
+
     turns_end : (done : Bool) → s.top.work ≡ Turns l h → instances_in bs ≤ h.count → DoneBy done (t ≡ turns_left l h bs m) (t ≡ m) → IsAnsweredAhead setting s t
     turns_end false there fits e = answered_same s t (e ∙ same)
     turns_end true there fits e =
-        let u = turns_answered l h rs s in
-        let is : t ≡ u = e ∙ ap (turns_left l h bs) same
-        ∙ ap (λ (x : PlainStrand). record x { top = turned_to (instances_in bs) l h s.top; phase = Running }) as_records
-        ∙ ap (λ n. record (with_answers (iteration_depth s.top) rs s) { top = turned_to n l h s.top; phase = Running }) (sym many) in
-        subst (λ (x : PlainStrand). IsAnsweredAhead setting s x) (sym is)
+        subst (λ (x : PlainStrand). IsAnsweredAhead setting s x) (sym (turns_are e))
         (record { way = turns_answer setting s l h rs running there (subst (λ n. n ≤ h.count) (sym many) fits) each; lower = refl; kinds = absorbed_kinds (iteration_depth s.top) rs s.layer; made = refl })
 
   -- ---- what a call came to
@@ -176,6 +208,25 @@ module _ (setting : Setting) where
   half_over (Ok done) s m t l h bs qs k same running kinds are has there inside all halved is e =
       half_ends s m t l h bs same running kinds are has k done there inside all halved (subst (λ cs. DoneBy done (t ≡ halves_left cs m) (t ≡ m)) is e)
   half_over (Err x) s m t l h bs qs k same running kinds are has there inside all halved is e = tt
+
+  pub first_over : {E : Type 0} (r : Result Bool E) (s m t : PlainStrand) (l : Loop) (h : Share) (bs qs : List Batch) (k : ℕ) → m ≡ s → s.phase ≡ Running → s.layer.kinds ≡ setting.kinds → AreWorths s.layer.kinds s.layer.worths
+      → HasBatches setting l s.top h.first bs → s.top.work ≡ Halves l k h → IsInside s → instances_in bs ≡ h.count / 2 → is_by_turns setting.codes s.top l k h.count ≡ false → qs ≡ bs
+      → IfOk r (λ done. DoneBy done (t ≡ first_left l (k - 1) h qs m) (t ≡ m)) → OnOk r (IsAnsweredAhead setting s t)
+  first_over (Ok done) s m t l h bs qs k same running kinds are has there inside half halved is e =
+      first_ends s m t l h bs same running kinds are has k done there inside half halved (subst (λ cs. DoneBy done (t ≡ first_left l (k - 1) h cs m) (t ≡ m)) is e)
+  first_over (Err x) s m t l h bs qs k same running kinds are has there inside half halved is e = tt
+
+  pub last_over : {E : Type 0} (r : Result Bool E) (s m t : PlainStrand) (l : Loop) (h : Share) (bs : List Batch) (k : ℕ) → m ≡ s → s.phase ≡ Running → s.layer.kinds ≡ setting.kinds → AreWorths s.layer.kinds s.layer.worths
+      → HasBatches setting l s.top h.first bs → s.top.work ≡ Halves l k h → IsInside s → instances_in bs ≡ h.count → is_by_turns setting.codes s.top l k h.count ≡ true
+      → IfOk r (λ done. DoneBy done (t ≡ last_left l h bs m) (t ≡ m)) → OnOk r (IsAnsweredAhead setting s t)
+  last_over (Ok done) s m t l h bs k same running kinds are has there inside all turns e = last_ends s m t l h bs same running kinds are has k done there inside all turns e
+  last_over (Err x) s m t l h bs k same running kinds are has there inside all turns e = tt
+
+  pub begun_over : {E : Type 0} (r : Result Bool E) (s m t : PlainStrand) (l : Loop) (h : Share) (bs : List Batch) (k : ℕ) → m ≡ s → s.phase ≡ Running → s.layer.kinds ≡ setting.kinds → AreWorths s.layer.kinds s.layer.worths
+      → HasBatches setting l s.top h.first bs → s.top.work ≡ Halves l k h → instances_in bs ≤ h.count → is_by_turns setting.codes s.top l k h.count ≡ true
+      → IfOk r (λ done. DoneBy done (t ≡ turns_left l h bs m) (t ≡ m)) → OnOk r (IsAnsweredAhead setting s t)
+  begun_over (Ok done) s m t l h bs k same running kinds are has there fits turns e = begun_ends s m t l h bs same running kinds are has k done there fits turns e
+  begun_over (Err x) s m t l h bs k same running kinds are has there fits turns e = tt
 
   pub turns_over : {E : Type 0} (r : Result Bool E) (s m t : PlainStrand) (l : Loop) (h : Share) (bs qs : List Batch) → m ≡ s → s.phase ≡ Running → s.layer.kinds ≡ setting.kinds → AreWorths s.layer.kinds s.layer.worths
       → HasBatches setting l s.top h.first bs → s.top.work ≡ Turns l h → instances_in bs ≤ h.count → qs ≡ bs → IfOk r (λ done. DoneBy done (t ≡ turns_left l h qs m) (t ≡ m)) → OnOk r (IsAnsweredAhead setting s t)

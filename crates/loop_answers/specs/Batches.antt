@@ -1,5 +1,5 @@
 -- Batches that answer a loop's iterations: the records that they stand for, and what they leave.
-use Rattle.std.specs.Prelude.{◌≡◌, ℕ, ◌+◌, ◌<◌, ◌≤◌, ℤ, pos, ◌+ℤ◌, true, List, [], ◌∷◌, map, length, slice_set, All}
+use Rattle.std.specs.Prelude.{◌≡◌, ℕ, ◌+◌, ◌<◌, ◌≤◌, ℤ, pos, ◌+ℤ◌, true, List, [], ◌∷◌, map, length, None, slice_set, All}
 use Rattle.std.specs.List.{flat_map}
 use Rattle.monoid_laws.specs.declared.Kind.{Kind}
 use Rattle.meaning.specs.Tables.{Tables}
@@ -13,11 +13,13 @@ use Rattle.rerun_records.specs.Named.{AreValuesFrom}
 use Rattle.rerun_records.specs.Sums.{IsSumOf, arguments_of_last}
 use Rattle.positions.specs.declared.work.Loop.{Loop}
 use Rattle.positions.specs.declared.work.Share.{Share}
+use Rattle.positions.specs.declared.work.Work.TheVariants.{Second}
 use Rattle.positions.specs.declared.phase.Phase.TheVariants.{Running, Leaving}
 use Rattle.positions.specs.Setting.{Setting}
-use Rattle.positions.specs.Activations.{PlainActivation}
+use Rattle.positions.specs.Activations.{PlainActivation, waiting}
 use Rattle.positions.specs.Code.{PlainLoop, loop_at}
 use Rattle.positions.specs.Strands.{PlainStrand}
+use Rattle.positions.specs.Advance.{right_of}
 use Rattle.answered_loops.specs.Answered.{IsOfMemo, AreAnswers, absorbed, answered_more, iteration_depth, turned_to, halved_to}
 use Rattle.answered_loops.specs.Arguments.{counts}
 
@@ -87,6 +89,14 @@ with_batches d bs s = record s {
 -- a half of a loop that is halved again and that they answer leaves
 abbrev pub halves_left : List Batch → PlainStrand → PlainStrand
 halves_left bs s = record (with_batches (iteration_depth s.top) bs s) { top = halved_to s.top; phase = Leaving (pos 0) }
+
+-- a half of which they answer the first half: the second one is next, which may be halved so many times
+abbrev pub first_left : Loop → ℕ → Share → List Batch → PlainStrand → PlainStrand
+first_left l k h bs s = record (with_batches (iteration_depth s.top) bs s) { top = waiting true None (Second l k (right_of h)) s.top; phase = Running }
+
+-- a half that isn't halved again and that they answer leaves
+abbrev pub last_left : Loop → Share → List Batch → PlainStrand → PlainStrand
+last_left l h bs s = record (with_batches (iteration_depth s.top) bs s) { top = turned_to (instances_in bs) l h s.top; phase = Leaving (pos 0) }
 
 -- the first of the iterations that are left one by one are answered
 abbrev pub turns_left : Loop → Share → List Batch → PlainStrand → PlainStrand

@@ -5,11 +5,12 @@ ghost use Rattle.rerun_records.specs.Named.{HaveValues};
 ghost use Rattle.positions.specs.Activations.{ShareFits};
 ghost use Rattle.positions.specs.Tallies.{is_own};
 ghost use Rattle.activations.specs.Given.{lent};
-ghost use Rattle.answered_loops.specs.Answered.{IsInside};
+ghost use Rattle.answered_loops.specs.Answered.{IsInside, is_by_turns};
+ghost use Rattle.loop_answers.specs.Batches.{HasBatches};
 ghost use Rattle.loop_answers.specs.Ahead.{IsAnsweredAhead, IsSameButAnswers};
 
-use crate::finding::{Wanted, answers};
-use crate::taking::{end_halves, end_turns};
+use crate::finding::{Found, Wanted, answers};
+use crate::taking::{batches_for, begin_turns, end_first, end_halves, end_last, end_turns};
 use activations::code::loop_code;
 use activations::setting::Setting;
 use activations::shares::Turns;
@@ -76,7 +77,7 @@ fn answer_half<V: View>(
     let code = loop_code(setting.program, machine.top.procedure(), site);
     let by_turns = goes_by_turns(halvings, share.count, code.grain);
     if by_turns {
-        return Ok(false);
+        return answer_last(machine, alloc, setting, site, halvings, share);
     }
     let wanted = Wanted {
         most: share.count,
@@ -87,13 +88,97 @@ fn answer_half<V: View>(
         return Ok(false);
     };
     if found.count != share.count {
-        return Ok(false);
+        return answer_first(machine, alloc, setting, &found, site, halvings, share);
     }
     if !is_inside(machine) {
         return Ok(false);
     }
     of_kinds(machine);
     end_halves(machine, alloc, &found.batches)
+}
+
+/// All iterations of the first half of a half that is halved again, where the first of these batches answer just those: then nothing
+/// is spawned, and the second half is next.
+#[tactic(auto, using(crate::proofs::Replays::answered_same))]
+fn answer_first<V: View>(
+    machine: &mut Machine<V>,
+    alloc: Global,
+    setting: Setting<'_>,
+    found: &Found<'_>,
+    site: Loop,
+    halvings: u32,
+    share: Share,
+) -> Result<bool, AllocError>
+    requires fits { ShareFits site share }
+    requires there { machine.old.top.work ≡ Work.Halves site halvings share }
+    requires running { machine.old.phase ≡ Phase.Running }
+    requires layered { length machine.old.tally.opened ≡ length machine.old.lower }
+    requires kinds { machine.old.layer.kinds ≡ setting.program.now.kinds }
+    requires monoids { All IsMonoid setting.program.now.kinds }
+    requires halved { is_by_turns setting.program.now.codes machine.old.top site halvings share.count ≡ false }
+    requires answers { HasBatches (lent setting) site machine.old.top share.first found.now.batches.items }
+    ensures ahead { OnOk result (IsAnsweredAhead (lent setting.entry) machine.old machine.new) }
+    ensures refused { OnErr result (IsSameButAnswers machine.old machine.new) }
+{
+    let batches = found.batches.as_slice();
+    let Some(count) = batches_for(batches, share.count / 2) else {
+        return Ok(false);
+    };
+    if !is_inside(machine) {
+        return Ok(false);
+    }
+    // (what the setting's type keeps is needed for the path of steps)
+    let _ = setting.program;
+    of_kinds(machine);
+    end_first(machine, alloc, &batches[..count], site, halvings, share)
+}
+
+/// A half that isn't halved again: all iterations where records answer them, else the first ones, and the others are done one by
+/// one.
+#[tactic(auto, using(crate::proofs::Replays::answered_same))]
+fn answer_last<V: View>(
+    machine: &mut Machine<V>,
+    alloc: Global,
+    setting: Setting<'_>,
+    site: Loop,
+    halvings: u32,
+    share: Share,
+) -> Result<bool, AllocError>
+    requires fits { ShareFits site share }
+    requires there { machine.old.top.work ≡ Work.Halves site halvings share }
+    requires running { machine.old.phase ≡ Phase.Running }
+    requires layered { length machine.old.tally.opened ≡ length machine.old.lower }
+    requires kinds { machine.old.layer.kinds ≡ setting.program.now.kinds }
+    requires monoids { All IsMonoid setting.program.now.kinds }
+    requires values { HaveValues setting.program.now.kinds setting.records.now }
+    requires turns { is_by_turns setting.program.now.codes machine.old.top site halvings share.count ≡ true }
+    ensures ahead { OnOk result (IsAnsweredAhead (lent setting.entry) machine.old machine.new) }
+    ensures refused { OnErr result (IsSameButAnswers machine.old machine.new) }
+{
+    let wanted = Wanted {
+        most: share.count,
+        all: false,
+    };
+    let code = loop_code(setting.program, machine.top.procedure(), site);
+    let turns = Turns { site, share };
+    let Some(found) = answers(machine, alloc, setting, code, turns, wanted) else {
+        return Ok(false);
+    };
+    of_kinds(machine);
+    let ends = ends_with(machine, found.count, share.count);
+    if ends {
+        return end_last(machine, alloc, &found, site, share);
+    }
+    begin_turns(machine, alloc, &found, site, share)
+}
+
+/// Whether so many iterations are all of them, and the half may leave then.
+fn ends_with<V: View>(machine: &Machine<V>, count: u32, all: u32) -> bool
+    requires layered { length machine.now.tally.opened ≡ length machine.now.lower }
+    ensures all { result ≡ true → count ≡ all }
+    ensures inside { result ≡ true → IsInside machine.now }
+{
+    count == all && is_inside(machine)
 }
 
 /// The first of the iterations that are left one by one, as many as records answer.

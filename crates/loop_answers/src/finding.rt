@@ -39,14 +39,16 @@ const SINGLES: u32 = 64;
 /// So many records go together where they can.
 const WIDTH: u32 = 16;
 
-/// There is room for so many batches at first.
-const FIRST_CAPACITY: usize = 64;
+/// There is room for so many batches at first: the allocator takes longer for more.
+const FIRST_CAPACITY: u32 = 32;
 
-/// Batches that answer a loop's iterations one after another, and how many iterations those are.
+/// Batches that answer a loop's iterations one after another, how many iterations those are, and whether these are all that were
+/// asked for.
 #[derive(Drop)]
 pub(crate) struct Found<'a> {
     pub(crate) batches: Vec<Batch<'a>>,
     pub(crate) count: u32,
+    is_through: bool,
 }
 
 /// How many iterations are asked for at most, and whether fewer are of no use.
@@ -98,7 +100,7 @@ pub(crate) fn answers<'a, V: View>(
     let mut numbers = mem::replace(&mut machine.numbers, Vec::new(alloc));
     let search = Search { wanted, tried };
     let found = answers_by(machine, alloc, setting, code, turns, search, &mut numbers);
-    if are_all(&found, wanted) {
+    if is_through(&found) {
         keep_number(&mut numbers, place, tried);
     }
     machine.numbers = numbers;
@@ -121,16 +123,16 @@ fn keep_number(numbers: &mut Vec<i64>, place: Option<usize>, number: Option<i64>
     }
 }
 
-/// Whether all iterations that are wanted were found.
-fn are_all(found: &Option<Found<'_>>, wanted: Wanted) -> bool {
+/// Whether all iterations that were asked for were found.
+fn is_through(found: &Option<Found<'_>>) -> bool {
     match found {
-        Some(found) => found.count == wanted.most,
+        Some(found) => found.is_through,
         None => false,
     }
 }
 
 /// What answers the wanted iterations, where `numbers` is for the arguments. The iteration of the number that was tried is asked first, since a half was
-/// searched in vain as far as to there.
+/// searched in vain as far as to there: where it is in the second half, the first half alone is looked up.
 fn answers_by<'a, V: View>(
     machine: &mut Machine<V>,
     alloc: Global,
@@ -159,21 +161,27 @@ fn answers_by<'a, V: View>(
         counted,
         near: 0,
     };
-    if is_stale(machine, alloc, setting, code, search, first, numbers) {
+    let is_stale = is_stale(machine, alloc, setting, code, search, first, numbers);
+    let most = most_asked(search, first, is_stale);
+    if most == 0 {
         return None;
     }
     let mut batches = Vec::new(alloc);
-    let _ = batches.reserve(FIRST_CAPACITY);
+    let _ = batches.reserve(most.min(FIRST_CAPACITY) as usize);
     let mut count = 0;
     let mut singles = 0;
     let mut near = 0;
     for _ in 0..BATCHES {
-        if count == search.wanted.most {
-            return Some(Found { batches, count });
+        if count == most {
+            return Some(Found {
+                batches,
+                count,
+                is_through: true,
+            });
         }
         let ahead = Ahead {
             number: number_behind(turns.site, turns.share, count),
-            most: search.wanted.most - count,
+            most: most - count,
             depth,
             counted,
             near,
@@ -182,18 +190,45 @@ fn answers_by<'a, V: View>(
             Some(batch) => {
                 singles = singles_with(singles, batch);
                 if is_in_vain(setting, search.wanted, ahead, batch, singles) {
-                    return Some(Found { batches, count });
+                    return Some(found_so_far(batches, count));
                 }
                 if batches.push(batch).is_err() {
-                    return Some(Found { batches, count });
+                    return Some(found_so_far(batches, count));
                 }
                 count += batch.count;
                 near = batch.next;
             }
-            None => return Some(Found { batches, count }),
+            None => return Some(found_so_far(batches, count)),
         }
     }
-    Some(Found { batches, count })
+    Some(found_so_far(batches, count))
+}
+
+/// These batches, behind which no more were found.
+fn found_so_far(batches: Vec<Batch<'_>>, count: u32) -> Found<'_>
+    ensures batches { result.batches ≡ batches.entry }
+    ensures count { result.count ≡ count }
+{
+    Found {
+        batches,
+        count,
+        is_through: false,
+    }
+}
+
+/// How many iterations are asked for: all that are wanted, or where that of the number that was tried isn't answered those of the
+/// first half, if it stands behind these; else none.
+fn most_asked(search: Search, first: Ahead, is_stale: bool) -> u32
+    ensures few { result ≤ search.wanted.most }
+{
+    let most = search.wanted.most;
+    if !is_stale {
+        return most;
+    }
+    match behind_first(search, first) {
+        Some((_, left)) if left.saturating_add(most / 2) <= most => most / 2,
+        _ => 0,
+    }
 }
 
 /// The depth of a loop's iterations, where some are wanted, their instances are recorded, and there is room to enter them.

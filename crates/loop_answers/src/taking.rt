@@ -1,14 +1,15 @@
 //! What batches that answer a loop's iterations leave of a strand.
-ghost use Rattle.std.specs.Prelude.{◌≡◌, ◌+◌, ◌-◌, ◌≤◌, ◌<◌, ◌^◌, All, OnErr, OnOk, IfOk};
+ghost use Rattle.std.specs.Prelude.{◌≡◌, ◌+◌, ◌-◌, ◌≤◌, ◌<◌, ◌^◌, length, take, All, OnErr, OnOk, IfOk, IfSome};
 ghost use Rattle.monoid_laws.specs.Kinds.{IsMonoid};
 ghost use Rattle.rerun_records.specs.Sums.{arguments_of_last};
 ghost use Rattle.positions.specs.Activations.{ShareFits, WorkFits};
 ghost use Rattle.answered_loops.specs.Answered.{absorbed, answered_more, iteration_depth, turned_to, halved_to};
 ghost use Rattle.loop_answers.specs.Ahead.{called_more, DoneBy, IsSameButAnswers};
-ghost use Rattle.loop_answers.specs.Batches.{sums_of, SumsHaveValues, instances_in, with_batches, halves_left, turns_left};
+ghost use Rattle.loop_answers.specs.Batches.{sums_of, SumsHaveValues, instances_in, with_batches, halves_left, first_left, last_left, turns_left};
 
 use crate::finding::Found;
 use activations::activation::Activation;
+use activations::shares::right_of;
 use layers::layer::{DEEPEST, Layer};
 use layers::tally::Tally;
 use positions::phase::Phase;
@@ -39,6 +40,62 @@ pub(crate) fn end_halves<V: View>(
     Ok(true)
 }
 
+/// Has these batches answer the first half of a half's iterations: the second one is next. Whether there is room for the number of
+/// the first.
+pub(crate) fn end_first<V: View>(
+    machine: &mut Machine<V>,
+    alloc: Global,
+    found: &[Batch<'_>],
+    site: Loop,
+    halvings: u32,
+    share: Share,
+) -> Result<bool, AllocError>
+    requires fits { ShareFits site share }
+    requires running { machine.old.phase ≡ Phase.Running }
+    requires monoids { All IsMonoid machine.old.layer.kinds }
+    requires values { SumsHaveValues machine.old.layer.kinds found.now }
+    ensures ended { IfOk result (λ done. DoneBy done (machine.new ≡ first_left site (halvings - 1) share found.now machine.old) (machine.new ≡ machine.old)) }
+    ensures refused { OnErr result (IsSameButAnswers machine.old machine.new) }
+{
+    if machine.top.children().checked_add(1).is_none() {
+        return Ok(false);
+    }
+    take_answers(machine, alloc, found)?;
+    let second = Work::Second(site, halvings.saturating_sub(1), right_of(site, share));
+    machine.top.wait(true, None, second);
+    Ok(true)
+}
+
+/// Has these batches answer all iterations of a half that isn't halved again, which leaves; whether there is room for their numbers.
+pub(crate) fn end_last<V: View>(
+    machine: &mut Machine<V>,
+    alloc: Global,
+    found: &Found<'_>,
+    site: Loop,
+    share: Share,
+) -> Result<bool, AllocError>
+    requires fits { ShareFits site share }
+    requires count { found.now.count ≡ instances_in found.now.batches.items }
+    requires few { found.now.count ≤ share.count }
+    requires monoids { All IsMonoid machine.old.layer.kinds }
+    requires values { SumsHaveValues machine.old.layer.kinds found.now.batches.items }
+    ensures ended { IfOk result (λ done. DoneBy done (machine.new ≡ last_left site share found.now.batches.items machine.old) (machine.new ≡ machine.old)) }
+    ensures refused { OnErr result (IsSameButAnswers machine.old machine.new) }
+{
+    if machine
+        .top
+        .children()
+        .checked_add(found.count as usize)
+        .is_none()
+    {
+        return Ok(false);
+    }
+    take_answers(machine, alloc, &found.batches)?;
+    call_turns(&mut machine.top, site, share, found.count);
+    machine.phase = Phase::Leaving(0);
+    Ok(true)
+}
+
 /// Has these batches answer the first of the iterations that are left one by one; whether there are such, and room for their
 /// numbers.
 pub(crate) fn end_turns<V: View>(
@@ -57,12 +114,35 @@ pub(crate) fn end_turns<V: View>(
     ensures ended { IfOk result (λ done. DoneBy done (machine.new ≡ turns_left site share found.now.batches.items machine.old) (machine.new ≡ machine.old)) }
     ensures refused { OnErr result (IsSameButAnswers machine.old machine.new) }
 {
-    if found.count == 0
-        || machine
-            .top
-            .children()
-            .checked_add(found.count as usize)
-            .is_none()
+    if found.count == 0 {
+        return Ok(false);
+    }
+    begin_turns(machine, alloc, found, site, share)
+}
+
+/// Has these batches answer the first of the iterations that are done one by one, and goes on with the others; whether there is room
+/// for their numbers.
+pub(crate) fn begin_turns<V: View>(
+    machine: &mut Machine<V>,
+    alloc: Global,
+    found: &Found<'_>,
+    site: Loop,
+    share: Share,
+) -> Result<bool, AllocError>
+    requires fits { ShareFits site share }
+    requires count { found.now.count ≡ instances_in found.now.batches.items }
+    requires few { found.now.count ≤ share.count }
+    requires running { machine.old.phase ≡ Phase.Running }
+    requires monoids { All IsMonoid machine.old.layer.kinds }
+    requires values { SumsHaveValues machine.old.layer.kinds found.now.batches.items }
+    ensures ended { IfOk result (λ done. DoneBy done (machine.new ≡ turns_left site share found.now.batches.items machine.old) (machine.new ≡ machine.old)) }
+    ensures refused { OnErr result (IsSameButAnswers machine.old machine.new) }
+{
+    if machine
+        .top
+        .children()
+        .checked_add(found.count as usize)
+        .is_none()
     {
         return Ok(false);
     }
@@ -128,9 +208,23 @@ fn call_halves(top: &mut Activation, alloc: Global)
     let _ = top.take_slots(alloc);
 }
 
-/// Has a loop's instance call so many more of its iterations.
-#[tactic(auto, using(crate::proofs::Calls::turned_is))]
+/// Has a loop's instance call so many more of its iterations, with the others left one by one.
 fn call_turns(top: &mut Activation, site: Loop, share: Share, count: u32)
+    requires room { top.old.children + count < 2 ^ 64 }
+    requires fits { ShareFits site share }
+    requires few { count ≤ share.count }
+    ensures turned { top.new ≡ turned_to count site share top.old }
+{
+    if count == 0 {
+        top.set_work(Work::Turns(site, share));
+        return;
+    }
+    call_some_turns(top, site, share, count);
+}
+
+/// The same where there are some.
+#[tactic(auto, using(crate::proofs::Calls::turned_is))]
+fn call_some_turns(top: &mut Activation, site: Loop, share: Share, count: u32)
     requires some { 0 < count }
     requires room { top.old.children + count < 2 ^ 64 }
     requires fits { ShareFits site share }
@@ -155,4 +249,22 @@ fn call_more(top: &mut Activation, count: u32, work: Work)
         top.wait(false, None, work);
         called += 1;
     }
+}
+
+/// How many of these batches, from the first on, answer just so many instances, where some do.
+pub(crate) fn batches_for(found: &[Batch<'_>], count: u32) -> Option<usize>
+    ensures within { IfSome result (λ n. n ≤ length found.now) }
+    ensures first { IfSome result (λ n. instances_in (take n found.now) ≡ count) }
+{
+    let mut left = count;
+    for n in 0..found.len() {
+        if left == 0 {
+            return Some(n);
+        }
+        match left.checked_sub(found[n].count) {
+            Some(rest) => left = rest,
+            None => return None,
+        }
+    }
+    if left == 0 { Some(found.len()) } else { None }
 }

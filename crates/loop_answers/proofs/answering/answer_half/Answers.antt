@@ -9,6 +9,32 @@ use Rattle.loop_answers.specs.Batches.{instances_in, HasBatches}
 use Rattle.loop_answers.proofs.Replays.{values_ready, half_over}
 use Rattle.loop_answers.proofs.answering.answer_half.Goals as goal
 
+pub answer_last-requires-clause-turns : goal.answer_last-requires-clause-turns
+answer_last-requires-clause-turns g c κs within =
+    let S = lent c.args.setting in
+    let s = c.args.machine.now in
+    let j : PlainLoop = loop_of c.loop_code-code.result in
+    let found : j ≡ loop_at S.codes s.top.procedure c.args.site = c.loop_code-code.ensures.found ∙ ap (λ f. loop_at S.codes f c.args.site) (c.procedure.ensures.procedure ∙ ap (λ (z : PlainStrand). z.top.procedure) c.machine.view_is) in
+    sym (c.goes_by_turns-by_turns.ensures.turns ∙ ap (λ (i : PlainLoop). (c.args.halvings == 0) || nat_le c.args.share.count i.grain) found) ∙ c.if-by_turns.true
+
+pub answer_first-requires-clause-layered : goal.answer_first-requires-clause-layered
+answer_first-requires-clause-layered g c κs within = subst (λ (z : PlainStrand). length z.tally.opened ≡ length z.lower) (sym c.answers.ensures.unchanged) c.requires.layered
+
+pub answer_first-requires-clause-halved : goal.answer_first-requires-clause-halved
+answer_first-requires-clause-halved g c κs within =
+    let S = lent c.args.setting in
+    let s = c.args.machine.now in
+    let j : PlainLoop = loop_of c.loop_code-code.result in
+    let found : j ≡ loop_at S.codes s.top.procedure c.args.site = c.loop_code-code.ensures.found ∙ ap (λ f. loop_at S.codes f c.args.site) (c.procedure.ensures.procedure ∙ ap (λ (z : PlainStrand). z.top.procedure) c.machine.view_is) in
+    let halved : is_by_turns S.codes s.top c.args.site c.args.halvings c.args.share.count ≡ false =
+    sym (c.goes_by_turns-by_turns.ensures.turns ∙ ap (λ (i : PlainLoop). (c.args.halvings == 0) || nat_le c.args.share.count i.grain) found) ∙ c.if-by_turns.false in
+    subst (λ (z : PlainStrand). is_by_turns S.codes z.top c.args.site c.args.halvings c.args.share.count ≡ false) (sym c.answers.ensures.unchanged) halved
+
+pub answer_first-requires-clause-answers : goal.answer_first-requires-clause-answers
+answer_first-requires-clause-answers g c κs within =
+    let S = lent c.args.setting in
+    subst (λ (z : PlainStrand). HasBatches S c.args.site z.top c.args.share.first c.in-Some.found.batches.items) (sym c.answers.ensures.unchanged) c.in-Some.ensures.answers
+
 pub is_inside-requires-clause-layered : goal.is_inside-requires-clause-layered
 is_inside-requires-clause-layered g c κs within = subst (λ (z : PlainStrand). length z.tally.opened ≡ length z.lower) (sym c.answers.ensures.unchanged) c.requires.layered
 
