@@ -4,7 +4,7 @@ use Rattle.positions.specs.declared.work.Loop.{Loop}
 use Rattle.positions.specs.declared.work.Share.{Share}
 use Rattle.positions.specs.declared.work.Work.{Work}
 use Rattle.positions.specs.declared.work.Work.TheVariants.{Turns}
-use Rattle.positions.specs.Activations.{PlainActivation, at, waiting}
+use Rattle.positions.specs.Activations.{PlainActivation, waiting}
 use Rattle.answered_loops.specs.Answered.{behind_turns, turned_to}
 use Rattle.loop_answers.specs.Ahead.{called_more}
 
@@ -29,6 +29,3 @@ room_then children called count most now e less room = omega arith
 pub turned_is : (n : ℕ) (l : Loop) (h : Share) (a : PlainActivation) → 0 < n → called_more n (Turns l (behind_turns n h)) a ≡ turned_to n l h a
 turned_is zero l h a some = absurd (let none : ⊥ = omega arith in none)
 turned_is (suc n) l h a some = refl
-
-pub turned_none : (n : ℕ) (l : Loop) (h : Share) (a : PlainActivation) → n ≡ 0 → at (Turns l h) a ≡ turned_to n l h a
-turned_none n l h a none = ap (λ m. turned_to m l h a) (sym none)

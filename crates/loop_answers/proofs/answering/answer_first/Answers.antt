@@ -1,10 +1,9 @@
 use Rattle.std.proofs.Common.{rules, ◌≡◌, ◌/◌, take, true, List, refl, sym, ap, ◌∙◌}
 use Rattle.monoid_laws.specs.Kinds.{AreWorths}
 use Rattle.rerun_records.specs.declared.batch.Batch.{Batch}
-use Rattle.positions.specs.Strands.{PlainStrand}
 use Rattle.activations.specs.Given.{lent}
 use Rattle.answered_loops.specs.Answered.{IsInside}
-use Rattle.loop_answers.specs.Batches.{instances_in, HasBatches}
+use Rattle.loop_answers.specs.Batches.{instances_in}
 use Rattle.loop_answers.proofs.Batches.{has_first}
 use Rattle.loop_answers.proofs.Replays.{values_ready, first_over}
 use Rattle.loop_answers.proofs.answering.answer_first.Goals as goal

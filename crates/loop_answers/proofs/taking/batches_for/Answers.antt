@@ -1,4 +1,4 @@
-use Rattle.std.proofs.Common.{rules, ◌≡◌, ◌+◌, ◌<◌, length, get_or, take}
+use Rattle.std.proofs.Common.{rules, ◌≡◌, ◌+◌, ◌<◌, length}
 use Rattle.rerun_records.specs.declared.batch.Batch.{Batch}
 use Rattle.loop_answers.proofs.Batches.{first_more}
 use Rattle.loop_answers.proofs.taking.batches_for.Goals as goal
