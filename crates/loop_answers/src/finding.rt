@@ -163,9 +163,6 @@ fn answers_by<'a, V: View>(
     };
     let is_stale = is_stale(machine, alloc, setting, code, search, first, numbers);
     let most = most_asked(search, first, is_stale);
-    if most == 0 {
-        return None;
-    }
     let mut batches = Vec::new(alloc);
     let _ = batches.reserve(most.min(FIRST_CAPACITY) as usize);
     let mut count = 0;
@@ -173,11 +170,7 @@ fn answers_by<'a, V: View>(
     let mut near = 0;
     for _ in 0..BATCHES {
         if count == most {
-            return Some(Found {
-                batches,
-                count,
-                is_through: true,
-            });
+            return Some(found_so_far(batches, count, true));
         }
         let ahead = Ahead {
             number: number_behind(turns.site, turns.share, count),
@@ -190,29 +183,29 @@ fn answers_by<'a, V: View>(
             Some(batch) => {
                 singles = singles_with(singles, batch);
                 if is_in_vain(setting, search.wanted, ahead, batch, singles) {
-                    return Some(found_so_far(batches, count));
+                    return Some(found_so_far(batches, count, false));
                 }
                 if batches.push(batch).is_err() {
-                    return Some(found_so_far(batches, count));
+                    return Some(found_so_far(batches, count, false));
                 }
                 count += batch.count;
                 near = batch.next;
             }
-            None => return Some(found_so_far(batches, count)),
+            None => return Some(found_so_far(batches, count, false)),
         }
     }
-    Some(found_so_far(batches, count))
+    Some(found_so_far(batches, count, false))
 }
 
-/// These batches, behind which no more were found.
-fn found_so_far(batches: Vec<Batch<'_>>, count: u32) -> Found<'_>
+/// These batches, and whether they are all that were asked for.
+fn found_so_far(batches: Vec<Batch<'_>>, count: u32, is_through: bool) -> Found<'_>
     ensures batches { result.batches ≡ batches.entry }
     ensures count { result.count ≡ count }
 {
     Found {
         batches,
         count,
-        is_through: false,
+        is_through,
     }
 }
 
