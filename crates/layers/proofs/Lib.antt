@@ -9,3 +9,5 @@ pub mod Marks
 pub mod Touches
 pub mod Homes
 pub mod Gatherings
+pub mod Ascending
+pub mod Few

@@ -22,7 +22,7 @@ first_touched : (b : Bool) (e : ℕ × Worth) (es : List (ℕ × Worth)) → con
 first_touched true e es = refl
 first_touched false e es = refl
 
-touched_step : (i : ℕ) (k : Kind) (ks : List Kind) (w : Worth) (ws : List Worth) → touched_from i (k ∷ ks) (w ∷ ws) ≡ touched_at i k w ++ touched_from (suc i) ks ws
+pub touched_step : (i : ℕ) (k : Kind) (ks : List Kind) (w : Worth) (ws : List Worth) → touched_from i (k ∷ ks) (w ∷ ws) ≡ touched_at i k w ++ touched_from (suc i) ks ws
 touched_step i k ks w ws = first_touched (same_worth w (identity_of k)) (i, w) (touched_from (suc i) ks ws)
 
 touched_on : (i : ℕ) (ks : List Kind) (ws : List Worth) (k : Kind) (w : Worth) → i < length ks → i < length ws → k ≡ get_or ks i k → w ≡ get_or ws i w

@@ -3,11 +3,13 @@
 
 mod absorbing;
 pub mod closing;
+mod few_values;
 mod gathered;
 mod identities;
 mod joining;
 pub mod layer;
 pub mod recording;
+mod rising;
 pub mod spares;
 pub mod tally;
 pub mod updating;

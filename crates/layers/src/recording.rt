@@ -15,9 +15,11 @@ ghost use Rattle.positions.specs.Tallies.{touched_from, entries_from};
 ghost use Rattle.layers.specs.Gatherings.{gathered_in};
 ghost use Rattle.layers.specs.Recordings.{recording_of, recorded, touched_at, entry_of};
 
+use crate::few_values::{value_of_one, values_of_two};
 use crate::gathered::Gathered;
 use crate::identities::is_identity;
 use crate::layer::{DEEPEST, Layer};
+use crate::rising::are_rising;
 use evaluation::note::Note;
 use evaluation::notes::Notes;
 use evaluation::reading::{Reading, readings};
@@ -163,8 +165,30 @@ impl<V: View> Layer<V> {
     }
 }
 
-/// Copies of the values that are not the identities, each with its reducer's number.
+/// Copies of the values that are not the identities, each with its reducer's number. Those of one reducer or two are put into their
+/// list at once.
+#[inline(always)]
 fn contribution<V: View>(
+    alloc: Global,
+    hypermap: &Hypermap<V>,
+    kinds: &[Kind],
+) -> Result<ShortList<(usize, Val)>, AllocError>
+    requires kinds { hypermap.now.kinds ≡ kinds.now }
+    ensures touched { IfOk result (λ c.
+        map touched (items_in c) ≡ touched_from 0 hypermap.now.kinds hypermap.now.worths) }
+    ensures values { IfOk result (λ c.
+        AreValuesFrom 0 hypermap.now.kinds (map touched (items_in c))) }
+{
+    match kinds.len() {
+        1 => value_of_one(alloc, hypermap, kinds),
+        2 => values_of_two(alloc, hypermap, kinds),
+        _ => contribution_of_many(alloc, hypermap, kinds),
+    }
+}
+
+/// Copies of the values that are not the identities, gathered one after another.
+#[inline(never)]
+fn contribution_of_many<V: View>(
     alloc: Global,
     hypermap: &Hypermap<V>,
     kinds: &[Kind],
@@ -275,6 +299,9 @@ fn shares(alloc: Global, shared: &[Readings]) -> Result<Vec<Readings>, AllocErro
 fn distinct_readings(alloc: Global, found: &[Reading]) -> Result<ShortList<Reading>, AllocError>
     ensures once { IfOk result (λ rs. map note_of (items_in rs) ≡ once (map note_of found.now)) }
 {
+    if are_rising(found) {
+        return ShortList::from_slice(alloc, found);
+    }
     if found.len() > FEW {
         let seen = distinct(alloc, found)?;
         let own = readings(alloc, seen.as_slice())?;

@@ -2,7 +2,7 @@ use Rattle.std.proofs.Common.{◌≡◌, ◌++◌, drop, map}
 use Rattle.rerun_records.specs.Record.{touched}
 use Rattle.layers.specs.Gatherings.{gathered_in}
 use Rattle.positions.specs.Tallies.{touched_from}
-use Rattle.layers.proofs.recording.contribution.Given as goal
+use Rattle.layers.proofs.recording.contribution_of_many.Given as goal
 
 abbrev pub invariant-loop-reducer : goal.invariant-loop-reducer
 invariant-loop-reducer g l =

@@ -6,7 +6,7 @@ use Rattle.layers.specs.Gatherings.{gathered_in}
 use Rattle.rerun_records.specs.Named.{AreValuesFrom}
 use Rattle.rerun_records.proofs.Absorbed.{each, there}
 use Rattle.layers.proofs.Touches.{touched_next, touched_all, touched_values}
-use Rattle.layers.proofs.recording.contribution.Goals as goal
+use Rattle.layers.proofs.recording.contribution_of_many.Goals as goal
 
 pub loop-reducer-preserved : goal.loop-reducer-preserved
 loop-reducer-preserved g c =

@@ -1,0 +1,30 @@
+-- What one reducer or two have for a record.
+use Rattle.std.proofs.Common.{◌≡◌, ℕ, suc, List, [], ◌∷◌, ◌++◌, length, ap, ◌∙◌, sym, arith, get_or}
+use Rattle.monoid_laws.specs.Worth.{Worth}
+use Rattle.monoid_laws.specs.declared.Kind.{Kind}
+use Rattle.positions.specs.Tallies.{touched_from}
+use Rattle.layers.specs.Recordings.{touched_at}
+use Rattle.layers.proofs.Touches.{touched_step}
+
+same_touched : (i : ℕ) (k l : Kind) (v w : Worth) → k ≡ l → v ≡ w → touched_at i k v ≡ touched_at i l w
+same_touched i k l v w e f = ap (λ x. touched_at i x v) e ∙ ap (touched_at i l) f
+
+pub one_touched : (ks : List Kind) (ws : List Worth) (k : Kind) (w : Worth) → length ks ≡ 1 → length ks ≡ length ws → k ≡ get_or ks 0 k → w ≡ get_or ws 0 w
+    → touched_at 0 k w ≡ touched_from 0 ks ws
+one_touched [] ws k w n l e f = absurd (omega (arith, n))
+one_touched (x ∷ y ∷ ks) ws k w n l e f = absurd (omega (arith, n))
+one_touched (x ∷ []) [] k w n l e f = absurd (omega (arith, l))
+one_touched (x ∷ []) (u ∷ v ∷ ws) k w n l e f = absurd (omega (arith, l))
+one_touched (x ∷ []) (u ∷ []) k w n l e f = same_touched 0 k x w u e f
+
+pub two_touched : (ks : List Kind) (ws : List Worth) (j k : Kind) (v w : Worth) → length ks ≡ 2 → length ks ≡ length ws
+    → j ≡ get_or ks 0 j → k ≡ get_or ks 1 k → v ≡ get_or ws 0 v → w ≡ get_or ws 1 w → touched_at 0 j v ++ touched_at 1 k w ≡ touched_from 0 ks ws
+two_touched [] ws j k v w n l e f g h = absurd (omega (arith, n))
+two_touched (x ∷ []) ws j k v w n l e f g h = absurd (omega (arith, n))
+two_touched (x ∷ y ∷ z ∷ ks) ws j k v w n l e f g h = absurd (omega (arith, n))
+two_touched (x ∷ y ∷ []) [] j k v w n l e f g h = absurd (omega (arith, l))
+two_touched (x ∷ y ∷ []) (a ∷ []) j k v w n l e f g h = absurd (omega (arith, l))
+two_touched (x ∷ y ∷ []) (a ∷ b ∷ c ∷ ws) j k v w n l e f g h = absurd (omega (arith, l))
+two_touched (x ∷ y ∷ []) (a ∷ b ∷ []) j k v w n l e f g h =
+    ap (λ es. es ++ touched_at 1 k w) (same_touched 0 j x v a e g) ∙ ap (λ es. touched_at 0 x a ++ es) (same_touched 1 k y w b f h)
+    ∙ sym (touched_step 0 x (y ∷ []) a (b ∷ []))
