@@ -76,8 +76,27 @@ fn combine_long(alloc: Global, kind: &Kind, left: &mut Val, right: Val) -> Resul
     combine(alloc, kind, left, right)
 }
 
-/// Makes `left` the two combined, left then right; where memory is refused, hands `right` back. Pieces stay pieces.
+/// Combines a number on the right of a sum, or a pair on the right of a best one; whether that was done.
 #[inline(always)]
+pub(crate) fn combine_at_once(kind: &Kind, left: &mut Val, right: &Val) -> bool
+    ensures combined { result ≡ true → meaning left.new ≡ operate kind.now (meaning left.old) (meaning right.now) }
+    ensures same { result ≡ false → meaning left.new ≡ meaning left.old }
+{
+    match kind {
+        Kind::Add => match right {
+            Val::Int(number) => add_at_once(kind, left, &[*number]),
+            _ => false,
+        },
+        Kind::Argmax => match right {
+            Val::Arg(Some((value, key))) => add_at_once(kind, left, &[*value, *key]),
+            _ => false,
+        },
+        _ => false,
+    }
+}
+
+/// Makes `left` the two combined, left then right; where memory is refused, hands `right` back. Pieces stay pieces.
+#[inline(never)]
 pub(crate) fn combine_in_pieces(
     alloc: Global,
     kind: &Kind,

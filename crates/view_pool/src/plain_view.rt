@@ -3,7 +3,7 @@ ghost use Rattle.std.specs.Prelude.{◌≡◌};
 ghost use Rattle.monoid_laws.specs.Kinds.{identity_of};
 
 use crate::View;
-use crate::pieces::{add_in_pieces, combine_in_pieces, copy_in_pieces};
+use crate::pieces::{add_in_pieces, combine_at_once, combine_in_pieces, copy_in_pieces};
 use monoid_laws::{InjectError, Kind, Val};
 use reducer_values::identity;
 use std::alloc::{AllocError, Global};
@@ -57,6 +57,9 @@ impl View for PlainView {
     }
 
     fn absorb(&mut self, value: Val) -> Result<(), Val> {
+        if combine_at_once(&self.kind, &mut self.value, &value) {
+            return Ok(());
+        }
         combine_in_pieces(self.alloc, &self.kind, &mut self.value, value)
     }
 
