@@ -172,21 +172,9 @@ fn add_by_kind(
     }
 }
 
-/// A value worth the same, in the same pieces. Want of memory is the only error. Numbers and best pairs are quickest.
-#[inline(always)]
-pub(crate) fn copy_in_pieces(alloc: Global, value: &Val) -> Result<Val, AllocError>
-    ensures { IfOk result (λ v. meaning v ≡ meaning value.now) }
-{
-    match value {
-        Val::Int(number) => Ok(Val::Int(*number)),
-        Val::Arg(best) => Ok(Val::Arg(*best)),
-        other => copied_in_pieces(alloc, other),
-    }
-}
-
 /// A value worth as much, in the same pieces, whatever its form. Want of memory is the only error.
 #[inline(never)]
-fn copied_in_pieces(alloc: Global, value: &Val) -> Result<Val, AllocError>
+pub(crate) fn copied_in_pieces(alloc: Global, value: &Val) -> Result<Val, AllocError>
     ensures { IfOk result (λ v. meaning v ≡ meaning value.now) }
 {
     match value {

@@ -3,7 +3,7 @@ ghost use Rattle.std.specs.Prelude.{◌≡◌};
 ghost use Rattle.monoid_laws.specs.Kinds.{identity_of};
 
 use crate::View;
-use crate::pieces::{add_in_pieces, combine_at_once, combine_in_pieces, copy_in_pieces};
+use crate::pieces::{add_in_pieces, combine_at_once, combine_in_pieces, copied_in_pieces};
 use monoid_laws::{InjectError, Kind, Val};
 use reducer_values::identity;
 use std::alloc::{AllocError, Global};
@@ -72,6 +72,10 @@ impl View for PlainView {
     }
 
     fn export(&self) -> Result<Val, AllocError> {
-        copy_in_pieces(self.alloc, &self.value)
+        match &self.value {
+            Val::Int(number) => Ok(Val::Int(*number)),
+            Val::Arg(best) => Ok(Val::Arg(*best)),
+            other => copied_in_pieces(self.alloc, other),
+        }
     }
 }
