@@ -1,5 +1,5 @@
 //! What is kept of a memo instance whose layer is open, and what a record keeps of the layer once it is over.
-ghost use Rattle.std.specs.Prelude.{true, false, ◌≡◌, ◌<◌, ◌++◌, IfOk, OnOk, length, map, slice_get};
+ghost use Rattle.std.specs.Prelude.{true, false, suc, ◌≡◌, ◌<◌, ◌++◌, IfOk, OnOk, length, map, slice_get};
 ghost use Rattle.std.specs.List.{list_any};
 ghost use Rattle.monoid_laws.specs.Worth.{Worth};
 ghost use Rattle.monoid_laws.specs.Kinds.{meaning};
@@ -10,6 +10,7 @@ ghost use Rattle.rerun_records.specs.Named.{AreValuesFrom};
 ghost use Rattle.rerun_records.specs.Readings.{all_of};
 ghost use Rattle.rerun_records.specs.ShortLists.{items_in};
 ghost use Rattle.rerun_records.specs.Same.{same_note};
+ghost use Rattle.positions.specs.Layers.{kept_reads as kept_reads_of};
 ghost use Rattle.positions.specs.Values.{once, put_note};
 ghost use Rattle.positions.specs.Tallies.{touched_from, entries_from};
 ghost use Rattle.layers.specs.Gatherings.{gathered_in};
@@ -103,6 +104,30 @@ impl Model for Recording {
 }
 
 impl Recording {
+    /// What a record keeps of that layer, of its parts. It takes no memory.
+    #[inline(always)]
+    pub(crate) fn new<V: View>(
+        _layer: &Layer<V>,
+        _program: &Checked,
+        contribution: ShortList<(usize, Val)>,
+        reads: Readings,
+        entered: ShortList<(usize, u64)>,
+        levels: u32,
+    ) -> Recording
+        requires touched { map touched (items_in contribution) ≡ touched_from 0 _layer.now.kinds _layer.now.worths }
+        requires kept { reads ≡ kept_reads_of _layer.now }
+        requires entries { items_in entered ≡ entries_from 0 _program.now.revisions _layer.now.entered }
+        requires levels { levels ≡ suc _layer.now.deepest }
+        ensures recording { result ≡ recording_of _program.now.revisions _layer.now }
+    {
+        Recording {
+            contribution,
+            reads,
+            entered,
+            levels,
+        }
+    }
+
     /// Lends what was read.
     pub(crate) fn reads(&self) -> &Readings
         ensures reads { result.now ≡ self.now.reads }
@@ -143,25 +168,52 @@ impl Recording {
 const FEW: usize = 16;
 
 impl<V: View> Layer<V> {
-    /// What a record keeps of the layer. It is refused for want of memory, or where a number is past what its form holds.
-    pub(crate) fn recording(
+    /// How many instances were nested at most, main counted; refused past the limit.
+    #[inline(always)]
+    pub(crate) fn levels(&self) -> Result<u32, AllocError>
+        ensures levels { IfOk result (λ n. n ≡ suc self.now.deepest) }
+    {
+        match self.deepest.checked_add(1) {
+            Some(levels) => Ok(levels),
+            None => Err(AllocError),
+        }
+    }
+
+    /// Copies of the values that are not the identities, each with its reducer's number.
+    #[inline(always)]
+    pub(crate) fn touched(
         &self,
         alloc: Global,
         program: &Checked,
-    ) -> Result<Recording, AllocError>
+    ) -> Result<ShortList<(usize, Val)>, AllocError>
         requires kinds { self.now.kinds ≡ program.now.kinds }
-        ensures recording { IfOk result (λ r. r ≡ recording_of program.now.revisions self.now) }
-        ensures values { IfOk result (λ r. AreValuesFrom 0 self.now.kinds r.contribution) }
+        ensures touched { IfOk result (λ c.
+            map touched (items_in c) ≡ touched_from 0 self.now.kinds self.now.worths) }
+        ensures values { IfOk result (λ c.
+            AreValuesFrom 0 self.now.kinds (map touched (items_in c))) }
     {
-        let Some(levels) = self.deepest.checked_add(1) else {
-            return Err(AllocError);
-        };
-        Ok(Recording {
-            contribution: contribution(alloc, &self.hypermap, program.kinds())?,
-            reads: kept_reads(alloc, &self.notes, &self.shared)?,
-            entered: entries(alloc, &self.entered, program)?,
-            levels,
-        })
+        contribution(alloc, &self.hypermap, program.kinds())
+    }
+
+    /// Its own readings, each once, and then those that it shares. Want of memory is the only error.
+    #[inline(always)]
+    pub(crate) fn reads(&self, alloc: Global) -> Result<Readings, AllocError>
+        ensures kept { IfOk result (λ r. r ≡ kept_reads_of self.now) }
+    {
+        kept_reads(alloc, &self.notes, &self.shared)
+    }
+
+    /// The numbers of the procedures that were entered, each with its revision number.
+    #[inline(always)]
+    pub(crate) fn entries(
+        &self,
+        alloc: Global,
+        program: &Checked,
+    ) -> Result<ShortList<(usize, u64)>, AllocError>
+        ensures entries { IfOk result (λ es.
+            items_in es ≡ entries_from 0 program.now.revisions self.now.entered) }
+    {
+        entries(alloc, &self.entered, program)
     }
 }
 

@@ -7,7 +7,7 @@ ghost use Rattle.positions.specs.Tallies.{no_tally, passing, answering, opening,
 ghost use Rattle.layers.specs.Folds.{IsSameButWorths, HasSameProduct, BothHaveValues};
 
 use crate::layer::Layer;
-use crate::recording::Opened;
+use crate::recording::{Opened, Recording};
 use linked_program::checked::Checked;
 use rerun_records::record::Record;
 use std::alloc::{AllocError, Global};
@@ -194,7 +194,11 @@ impl Tally {
         ensures product { OnErr result (HasSameProduct below.old top.old below.new top.new) }
     {
         make_room(&mut self.made)?;
-        let recording = top.recording(alloc, program)?;
+        let levels = top.levels()?;
+        let contribution = top.touched(alloc, program)?;
+        let reads = top.reads(alloc)?;
+        let entered = top.entries(alloc, program)?;
+        let recording = Recording::new(top, program, contribution, reads, entered, levels);
         below.cover(top, recording.reads())?;
         if let Some(opened) = self.opened.pop() {
             self.made.push_reserved(recording.record(opened, value));
