@@ -46,9 +46,43 @@ struct Callee<'a> {
     next: Position,
 }
 
-/// Does small steps of its instances.
-#[tactic(auto, using(crate::proofs::Paths::ahead_here, crate::proofs::Paths::ahead_join))]
+/// Does small steps of its instances. Where an iteration of a memo procedure is over, and its loop has another one, that is seen at
+/// once.
 pub fn run_ahead<V: View>(machine: &mut Machine<V>, alloc: Global, setting: Setting<'_>)
+    requires kinds { machine.old.layer.kinds ≡ setting.program.now.kinds }
+    ensures ahead { IsAhead (lent setting.entry) machine.old machine.new }
+{
+    if leaves_for_memo(machine, setting) {
+        return;
+    }
+    run_on(machine, alloc, setting);
+}
+
+/// The topmost instance's value goes to the one below it, where that comes next; whether a loop over a memo procedure goes on there,
+/// for which a kit may be needed.
+#[inline(always)]
+fn leaves_for_memo<V: View>(machine: &mut Machine<V>, setting: Setting<'_>) -> bool
+    ensures ahead { IsAhead (lent setting.entry) machine.old machine.new }
+{
+    match machine.phase {
+        Phase::Leaving(value) => leave_ahead(machine, value) && is_at_memo_turn(machine, setting),
+        _ => false,
+    }
+}
+
+/// Whether the topmost instance is a loop whose next iteration is one of a procedure that is marked memo.
+#[inline(always)]
+fn is_at_memo_turn<V: View>(machine: &Machine<V>, setting: Setting<'_>) -> bool {
+    match machine.top.work() {
+        Work::Turns(site, share) => share.count > 0 && is_of_memo(machine, setting, site),
+        _ => false,
+    }
+}
+
+/// Does small steps of its instances, one stretch after another.
+#[inline(never)]
+#[tactic(auto, using(crate::proofs::Paths::ahead_here, crate::proofs::Paths::ahead_join))]
+fn run_on<V: View>(machine: &mut Machine<V>, alloc: Global, setting: Setting<'_>)
     requires kinds { machine.old.layer.kinds ≡ setting.program.now.kinds }
     ensures ahead { IsAhead (lent setting.entry) machine.old machine.new }
 {

@@ -1,5 +1,12 @@
 use Rattle.std.proofs.Common.{◌∙◌}
+use Rattle.activations.specs.Given.{lent}
+use Rattle.running_ahead.proofs.Paths.{ahead_join}
 use Rattle.running_ahead.proofs.ahead.run_ahead.Goals as goal
 
-pub go_ahead-requires-clause-kinds : goal.go_ahead-requires-clause-kinds
-go_ahead-requires-clause-kinds g c κs within = c.loop.invariant.kinds ∙ c.requires.kinds
+pub run_on-requires-clause-kinds : goal.run_on-requires-clause-kinds
+run_on-requires-clause-kinds g c κs within = c.leaves_for_memo.ensures.ahead.kinds ∙ c.requires.kinds
+
+pub returns : goal.returns
+returns g c =
+    let S = lent c.args.setting in
+    record { ahead = ahead_join S c.args.machine.now c.leaves_for_memo.new.machine c.run_on.new.machine c.leaves_for_memo.ensures.ahead c.run_on.ensures.ahead }

@@ -1,6 +1,6 @@
 use Rattle.activations.specs.Given.{lent}
 use Rattle.running_ahead.specs.Ahead.{IsAhead}
-use Rattle.running_ahead.proofs.ahead.run_ahead.Given as goal
+use Rattle.running_ahead.proofs.ahead.run_on.Given as goal
 
 abbrev pub invariant-loop : goal.invariant-loop
 invariant-loop g l = IsAhead (lent l.setting) l.fn.machine l.machine
