@@ -79,14 +79,19 @@ class Session:
         return sum(int(total) for text in texts for total in re.findall(r"^totals: (\d+)", text, re.M))
 
 
+def begun(program, folder, report, rows):
+    """A session of that report over so many rows, with its files in that folder."""
+    for name, text in (("program", report), ("tables", tables(rows))):
+        with open(f"{folder}/{name}", "w", encoding="utf-8") as file:
+            file.write(text)
+    return Session(program, folder)
+
+
 def measure(program, report, rows):
     """Prints a line for each step of a session over so many rows."""
     reducers = report.count("reducer ")
     with tempfile.TemporaryDirectory() as folder:
-        for name, text in (("program", report), ("tables", tables(rows))):
-            with open(f"{folder}/{name}", "w", encoding="utf-8") as file:
-                file.write(text)
-        session = Session(program, folder)
+        session = begun(program, folder, report, rows)
         session.answer(["run"], reducers)
         session.settle()
         settling = session.counted([], reducers)

@@ -18,10 +18,7 @@ def measure(program, rows, title, chosen):
     """Prints what the first run, the puts and the run behind them take."""
     reducers = flat.REPORT.count("reducer ")
     with tempfile.TemporaryDirectory() as folder:
-        for name, text in (("program", flat.REPORT), ("tables", flat.tables(rows))):
-            with open(f"{folder}/{name}", "w", encoding="utf-8") as file:
-                file.write(text)
-        session = flat.Session(program, folder)
+        session = flat.begun(program, folder, flat.REPORT, rows)
         session.settle()
         settling = session.counted([], reducers)
         first = session.counted(["run"], reducers) - settling
