@@ -323,6 +323,7 @@ impl<V: View> Hypermap<V> {
 
     /// A copy of the value of a reducer that was used; none where it wasn't, and stands at its identity. Want of memory is the
     /// only error.
+    #[inline(always)]
     pub fn used_value(&self, reducer: usize) -> Result<Option<Val>, AllocError>
         requires reducer_is { reducer < length self.now.kinds }
         ensures used { IfOk result (λ v. IfSome v (λ v. IsAt self.now.worths reducer (meaning v))) }

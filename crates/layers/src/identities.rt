@@ -8,6 +8,7 @@ ghost use Rattle.layers.specs.Identities.{are_nil};
 use monoid_laws::{Kind, Val};
 
 /// Whether a value is its kind's identity. It looks at the value's form alone and takes no memory.
+#[inline(always)]
 pub(crate) fn is_identity(kind: &Kind, value: &Val) -> bool
     ensures same { result ≡ same_worth (meaning value.now) (identity_of kind.now) }
 {

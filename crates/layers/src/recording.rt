@@ -136,6 +136,7 @@ impl Recording {
     }
 
     /// The record of an instance that is over with that value. It takes no memory.
+    #[inline(always)]
     pub(crate) fn record(self, opened: Opened, value: i64) -> Record
         ensures record { result ≡ recorded self opened value }
     {
