@@ -21,4 +21,5 @@ pub mod Stretches
 pub mod Leaves
 pub mod Wholes
 pub mod Instances
+pub mod Moving
 pub mod Crosses

@@ -2,6 +2,7 @@
 use Rattle.std.proofs.Common.{◌≡◌, ℕ, zero, suc, ◌+◌, ◌≤◌, ◌<◌, ℤ, Bool, true, false, cond, not, List, [], ◌∷◌, ◌++◌, map, length, Some, None, refl, sym, ap, ◌∙◌, subst, arith}
 use Rattle.std.specs.Prelude.{nat_eq, slice_get, slice_set}
 use Rattle.std.specs.List.{find, position_or_len, AllByRecursion, IsDistinct}
+use Rattle.std.proofs.lemmas.List.{nil_from_length}
 use Rattle.rerun_records.specs.Record.{PlainRecord, same_instance, is_of, as_made}
 use Rattle.rerun_records.specs.Numbers.{numbered_by, with_numbers, HaveNumbers, cleared, told_by, numbers_then}
 use Rattle.rerun_records.specs.Commits.{put_record, put_records, AreSingle}
@@ -168,6 +169,12 @@ as_made_put_into ns ms news rs ss keys now made n r v p =
 pub none_numbers : (ns : List ℕ) (rs : List PlainRecord) → ns ≡ [] → rs ≡ [] → HaveNumbers ns rs
 unfolding IsDistinct
 none_numbers ns rs n r = rw (n, r) (record { single = tt; as_made_are = refl; places = refl })
+
+pub none_in_view : (ns : List ℕ) (rs now : List PlainRecord) → with_numbers ns rs ≡ now → length now ≡ 0 → rs ≡ []
+none_in_view ns rs now v n = nil_from_length rs (sym (length_with_numbers ns rs) ∙ ap length v ∙ n)
+
+pub none_counted : (ns : List ℕ) (rs : List PlainRecord) → length ns ≡ length rs → rs ≡ [] → ns ≡ []
+none_counted ns rs l n = nil_from_length ns (l ∙ ap length n)
 
 -- ---- how they are told
 

@@ -7,6 +7,7 @@ pub mod blocks;
 mod covers;
 mod due;
 mod hull;
+mod keeping;
 pub mod key;
 pub mod laws;
 mod level;

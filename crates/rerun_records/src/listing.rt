@@ -130,8 +130,9 @@ fn put(
     clear(numbers, place);
 }
 
-// The number at that place, or of one behind the others, for which there is room, is 0.
-fn clear(numbers: &mut Vec<u32>, place: usize)
+/// The number at that place, or of one behind the others, for which there is room, is 0.
+#[inline(always)]
+pub(crate) fn clear(numbers: &mut Vec<u32>, place: usize)
     requires within { place ≤ length numbers.old.items }
     requires room { length numbers.old.items < vec_capacity numbers.old }
     ensures cleared { numbers.new.items ≡ cleared numbers.old.items place }
@@ -144,8 +145,9 @@ fn clear(numbers: &mut Vec<u32>, place: usize)
     }
 }
 
-// The place of the record of the same procedure and arguments, or the one behind the others.
-fn place_for(list: &[Record], places: &Places, number: u32, made: &Record) -> usize
+/// The place of the record of the same procedure and arguments, or the one behind the others.
+#[inline(always)]
+pub(crate) fn place_for(list: &[Record], places: &Places, number: u32, made: &Record) -> usize
     requires numbered { places.now.numbers ≡ map instance_number list.now }
     requires number { number ≡ instance_number made.now }
     requires as_made { map as_made list.now ≡ list.now }

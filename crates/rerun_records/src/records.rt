@@ -11,12 +11,14 @@ ghost use Rattle.rerun_records.specs.Commits.{put_records, AreSingle};
 ghost use Rattle.rerun_records.specs.Named.{looked_up, FindsNamed, CommitsNamed, HaveValues};
 ghost use Rattle.rerun_records.specs.Batches.{IsBatch};
 ghost use Rattle.rerun_records.specs.Blocks.{BlockFits, is_apart, is_fresh_at};
+ghost use Rattle.meaning.specs.Tables.{Tables as PlainTables};
 ghost use Rattle.monoid_laws.specs.declared.Kind.{Kind as PlainKind};
 
 use crate::batch::Batch;
 use crate::block::Block;
 use crate::blocks::{Blocks, Width};
 use crate::covers::Covers;
+use crate::keeping::keep_last;
 use crate::key::Key;
 use crate::listing::{found_in, is_of, put_all, record_at};
 use crate::record::Record;
@@ -404,6 +406,60 @@ impl Records {
             → HaveValues kinds records.items → HaveValues kinds self.new) }
         ensures same { OnErr result (self.new ≡ self.old) }
     {
+        self.put(records)?;
+        Ok(())
+    }
+
+    // Puts records in. Where memory is refused nothing has changed.
+    fn put(&mut self, records: Vec<Record>) -> Result<(), AllocError>
+        ensures put { OnOk result (self.new ≡ put_records self.old records.items) }
+        ensures as_made { OnOk result (map as_made self.new ≡ put_records (map as_made self.old) records.items) }
+        ensures in_step { OnOk result ((tables : PlainTables) → IsInStep tables self.old → ReadNow tables records.items
+            → IsInStep tables self.new) }
+        ensures same { OnErr result (self.new ≡ self.old) }
+    {
+        if self.is_empty() {
+            return self.take_whole(records);
+        }
+        self.put_each(records)
+    }
+
+    // Has the list that holds the records be that of the session, where there are none yet: a large one needn't be copied.
+    fn take_whole(&mut self, mut records: Vec<Record>) -> Result<(), AllocError>
+        requires none { length self.old ≡ 0 }
+        ensures put { OnOk result (self.new ≡ put_records self.old records.items) }
+        ensures as_made { OnOk result (map as_made self.new ≡ put_records (map as_made self.old) records.items) }
+        ensures in_step { OnOk result ((tables : PlainTables) → IsInStep tables self.old → ReadNow tables records.items
+            → IsInStep tables self.new) }
+        ensures same { OnErr result (self.new ≡ self.old) }
+    {
+        let alloc = *records.allocator();
+        let count = records.len();
+        let room = with_spare(count);
+        records.reserve(room - count)?;
+        self.places.reserve(room)?;
+        self.numbers.reserve(room)?;
+        self.blocks.make_room(count);
+        keep_last(
+            &mut records,
+            &mut self.places,
+            &mut self.numbers,
+            &mut self.blocks,
+        );
+        give_back(&mut records);
+        self.list = records;
+        self.covers.grow(alloc, &self.list);
+        Ok(())
+    }
+
+    // Puts records in one by one.
+    fn put_each(&mut self, records: Vec<Record>) -> Result<(), AllocError>
+        ensures put { OnOk result (self.new ≡ put_records self.old records.items) }
+        ensures as_made { OnOk result (map as_made self.new ≡ put_records (map as_made self.old) records.items) }
+        ensures in_step { OnOk result ((tables : PlainTables) → IsInStep tables self.old → ReadNow tables records.items
+            → IsInStep tables self.new) }
+        ensures same { OnErr result (self.new ≡ self.old) }
+    {
         let alloc = *records.allocator();
         let room = with_spare(records.len());
         self.list.reserve(room)?;
@@ -438,6 +494,15 @@ impl Records {
             lost,
             won,
         );
+    }
+}
+
+// Gives back most of the room of a list that takes less than half of it, where many records were of the same instances.
+fn give_back(list: &mut Vec<Record>)
+    ensures same { list.new.items ≡ list.old.items }
+{
+    if list.len() < list.capacity() / 2 {
+        list.shrink_to(with_spare(list.len()));
     }
 }
 

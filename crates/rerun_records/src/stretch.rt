@@ -82,7 +82,7 @@ pub(crate) fn apart_by(stretches: &[Stretch], end: usize, change: &(usize, i64))
     apart_in(stretches, end.saturating_sub(1) / NARROW, end, change)
 }
 
-// The same by the stretch of that number.
+// From which place on, up to that end, no record has read what the change may have changed, by the stretch of that number.
 fn apart_in(stretches: &[Stretch], number: usize, end: usize, change: &(usize, i64)) -> usize
     ensures within { result ≤ end }
     ensures apart { (records : List PlainRecord) → HoldBut [] records stretches.now

@@ -1,0 +1,161 @@
+// A list of records that becomes that of a session: of those of one procedure and arguments the last is kept, where the first stands.
+ghost use Rattle.std.specs.Prelude.{◌≡◌, ◌<◌, ◌≤◌, ◌+◌, [], length, take, drop, map, Some, slice_get, vec_capacity};
+ghost use Rattle.std.specs.List.{position_or_len};
+ghost use Rattle.meaning.specs.Tables.{Tables as PlainTables};
+ghost use Rattle.rerun_records.specs.Record.{PlainRecord, same_instance, instance_number, as_made};
+ghost use Rattle.rerun_records.specs.Numbers.{with_numbers, HaveNumbers};
+ghost use Rattle.rerun_records.specs.InStep.{IsInStep, ReadNow};
+ghost use Rattle.rerun_records.specs.Commits.{put_record, put_records, AreSingle};
+ghost use Rattle.rerun_records.specs.Blocks.{BlocksFit};
+
+use crate::blocks::Blocks;
+use crate::listing::{clear, place_for};
+use crate::record::Record;
+use place_chains::mixing::number_of;
+use place_chains::places::Places;
+
+/// Has the list hold what putting its records in one after another comes to, where none were put in before. They stay in the memory
+/// in which they lie.
+pub(crate) fn keep_last(
+    list: &mut Vec<Record>,
+    places: &mut Places,
+    numbers: &mut Vec<u32>,
+    blocks: &mut Blocks,
+)
+    requires room_below { length list.old.items ≤ places.old.room }
+    requires room { length list.old.items ≤ vec_capacity numbers.old }
+    requires no_places { places.old.numbers ≡ [] }
+    requires no_numbers { numbers.old.items ≡ [] }
+    requires fit { BlocksFit [] blocks.old }
+    ensures put { with_numbers numbers.new.items list.new.items ≡ put_records [] list.old.items }
+    ensures numbered { places.new.numbers ≡ map instance_number list.new.items }
+    ensures numbers { HaveNumbers numbers.new.items list.new.items }
+    ensures fit { BlocksFit (with_numbers numbers.new.items list.new.items) blocks.new }
+    ensures as_made { map as_made (with_numbers numbers.new.items list.new.items) ≡ put_records [] list.old.items }
+    ensures in_step { (tables : PlainTables) → ReadNow tables list.old.items
+        → IsInStep tables (with_numbers numbers.new.items list.new.items) }
+{
+    let kept = keep_each(list, places, numbers, blocks);
+    list.truncate(kept);
+}
+
+// Moves those that are kept to the front of the list, and tells how many they are.
+fn keep_each(
+    list: &mut [Record],
+    places: &mut Places,
+    numbers: &mut Vec<u32>,
+    blocks: &mut Blocks,
+) -> usize
+    requires room_below { length list.old ≤ places.old.room }
+    requires room { length list.old ≤ vec_capacity numbers.old }
+    requires no_places { places.old.numbers ≡ [] }
+    requires no_numbers { numbers.old.items ≡ [] }
+    requires fit { BlocksFit [] blocks.old }
+    ensures put { with_numbers numbers.new.items (take result list.new) ≡ put_records [] list.old }
+    ensures numbered { places.new.numbers ≡ map instance_number (take result list.new) }
+    ensures numbers { HaveNumbers numbers.new.items (take result list.new) }
+    ensures fit { BlocksFit (with_numbers numbers.new.items (take result list.new)) blocks.new }
+    ensures as_made { map as_made (with_numbers numbers.new.items (take result list.new)) ≡ put_records [] list.old }
+    ensures in_step { (tables : PlainTables) → ReadNow tables list.old
+        → IsInStep tables (with_numbers numbers.new.items (take result list.new)) }
+{
+    let mut kept = 0;
+    for next in 0..list.len() {
+        kept = keep(list, places, numbers, blocks, kept, next);
+    }
+    kept
+}
+
+// Puts the next record in among the first ones, so many, that are kept, and tells how many they are then.
+#[inline(always)]
+fn keep(
+    list: &mut [Record],
+    places: &mut Places,
+    numbers: &mut Vec<u32>,
+    blocks: &mut Blocks,
+    kept: usize,
+    next: usize,
+) -> usize
+    requires within { next < length list.old }
+    requires kept { kept ≤ next }
+    requires room_below { length list.old ≤ places.old.room }
+    requires room { length list.old ≤ vec_capacity numbers.old }
+    requires numbered { places.old.numbers ≡ map instance_number (take kept list.old) }
+    requires numbers { HaveNumbers numbers.old.items (take kept list.old) }
+    requires fit { BlocksFit (with_numbers numbers.old.items (take kept list.old)) blocks.old }
+    ensures length { length list.new ≡ length list.old }
+    ensures kept { result ≤ next + 1 }
+    ensures room_below { places.new.room ≡ places.old.room }
+    ensures room { vec_capacity numbers.new ≡ vec_capacity numbers.old }
+    ensures put { put_records (with_numbers numbers.new.items (take result list.new)) (drop (next + 1) list.new)
+        ≡ put_records (with_numbers numbers.old.items (take kept list.old)) (drop next list.old) }
+    ensures numbered { places.new.numbers ≡ map instance_number (take result list.new) }
+    ensures numbers { HaveNumbers numbers.new.items (take result list.new) }
+    ensures fit { BlocksFit (with_numbers numbers.new.items (take result list.new)) blocks.new }
+    ensures as_made { put_records (map as_made (with_numbers numbers.new.items (take result list.new)))
+        (drop (next + 1) list.new)
+        ≡ put_records (map as_made (with_numbers numbers.old.items (take kept list.old)))
+        (drop next list.old) }
+    ensures in_step { (tables : PlainTables)
+        → IsInStep tables (with_numbers numbers.old.items (take kept list.old)) → ReadNow tables (drop next list.old)
+        → IsInStep tables (with_numbers numbers.new.items (take result list.new)) × ReadNow tables (drop (next + 1) list.new) }
+{
+    let (number, place) = place_of_next(list, places, kept, next);
+    blocks.put_in(place);
+    clear(numbers, place);
+    move_to(list, places, number, kept, next, place)
+}
+
+// The number of the next record's procedure and arguments, and the place of the record of these among the first ones, so many, or the
+// one behind them.
+#[inline(always)]
+fn place_of_next(list: &[Record], places: &Places, kept: usize, next: usize) -> (u32, usize)
+    requires within { next < length list.now }
+    requires kept { kept ≤ next }
+    requires numbered { places.now.numbers ≡ map instance_number (take kept list.now) }
+    requires as_made { map as_made (take kept list.now) ≡ take kept list.now }
+    requires single { AreSingle (take kept list.now) }
+    ensures number { (made : PlainRecord) → slice_get list.now next ≡ Some made → result.0 ≡ instance_number made }
+    ensures place { (made : PlainRecord) → slice_get list.now next ≡ Some made
+        → result.1 ≡ position_or_len (same_instance made) (take kept list.now) }
+    ensures as_made { (made : PlainRecord) → slice_get list.now next ≡ Some made → as_made made ≡ made }
+{
+    let record = &list[next];
+    record.as_made();
+    let number = number_of(record.procedure(), record.arguments());
+    (number, place_for(&list[..kept], places, number, record))
+}
+
+// Has the next record stand at that place among the first ones, so many, or behind them, and tells how many they are then.
+#[inline(always)]
+fn move_to(
+    list: &mut [Record],
+    places: &mut Places,
+    number: u32,
+    kept: usize,
+    next: usize,
+    place: usize,
+) -> usize
+    requires within { next < length list.old }
+    requires kept { kept ≤ next }
+    requires place { place ≤ kept }
+    requires room { length list.old ≤ places.old.room }
+    requires numbered { places.old.numbers ≡ map instance_number (take kept list.old) }
+    ensures length { length list.new ≡ length list.old }
+    ensures kept { result ≤ next + 1 }
+    ensures room { places.new.room ≡ places.old.room }
+    ensures rest { drop (next + 1) list.new ≡ drop (next + 1) list.old }
+    ensures put { (made : PlainRecord) → slice_get list.old next ≡ Some made
+        → place ≡ position_or_len (same_instance made) (take kept list.old)
+        → take result list.new ≡ put_record (take kept list.old) made }
+    ensures numbered { (made : PlainRecord) → slice_get list.old next ≡ Some made
+        → place ≡ position_or_len (same_instance made) (take kept list.old) → number ≡ instance_number made
+        → places.new.numbers ≡ map instance_number (take result list.new) }
+{
+    list.swap(place, next);
+    if place < kept {
+        return kept;
+    }
+    places.push(number);
+    kept + 1
+}
