@@ -6,6 +6,7 @@ pub mod Validity
 pub mod Commits
 pub mod Counts
 pub mod Numbers
+pub mod Put
 pub mod InStep
 pub mod Named
 pub mod ShortLists

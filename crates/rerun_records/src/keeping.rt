@@ -14,8 +14,8 @@ use crate::record::Record;
 use place_chains::mixing::number_of;
 use place_chains::places::Places;
 
-/// Has the list hold what putting its records in one after another comes to, where none were put in before. They stay in the memory
-/// in which they lie.
+/// Has the list hold what its records come to that are put in one after another, where there are no others: those that are kept are
+/// moved to its front. It takes no memory.
 pub(crate) fn keep_last(
     list: &mut Vec<Record>,
     places: &mut Places,
@@ -66,7 +66,7 @@ fn keep_each(
     kept
 }
 
-// Puts the next record in among the first ones, so many, that are kept, and tells how many they are then.
+// Puts the next record in among those that are kept, the first so many of the list, and tells how many they are then.
 #[inline(always)]
 fn keep(
     list: &mut [Record],
@@ -106,8 +106,8 @@ fn keep(
     move_to(list, places, number, kept, next, place)
 }
 
-// The number of the next record's procedure and arguments, and the place of the record of these among the first ones, so many, or the
-// one behind them.
+// The number of the next record's procedure and arguments, and its place among those that are kept: that of the one of the same
+// procedure and arguments, or the one behind them all.
 #[inline(always)]
 fn place_of_next(list: &[Record], places: &Places, kept: usize, next: usize) -> (u32, usize)
     requires within { next < length list.now }
@@ -126,7 +126,8 @@ fn place_of_next(list: &[Record], places: &Places, kept: usize, next: usize) -> 
     (number, place_for(&list[..kept], places, number, record))
 }
 
-// Has the next record stand at that place among the first ones, so many, or behind them, and tells how many they are then.
+// Moves the next record to that place among those that are kept, or behind them, and tells how many they are then. What stood there
+// isn't kept.
 #[inline(always)]
 fn move_to(
     list: &mut [Record],

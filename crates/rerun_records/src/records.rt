@@ -8,10 +8,10 @@ ghost use Rattle.rerun_records.specs.Validity.{record_valid, valid_at};
 ghost use Rattle.rerun_records.specs.InStep.{IsInStep, ReadNow, reads_agree};
 ghost use Rattle.rerun_records.specs.Numbers.{most_number, told_by};
 ghost use Rattle.rerun_records.specs.Commits.{put_records, AreSingle};
+ghost use Rattle.rerun_records.specs.Put.{ArePut};
 ghost use Rattle.rerun_records.specs.Named.{looked_up, FindsNamed, CommitsNamed, HaveValues};
 ghost use Rattle.rerun_records.specs.Batches.{IsBatch};
 ghost use Rattle.rerun_records.specs.Blocks.{BlockFits, is_apart, is_fresh_at};
-ghost use Rattle.meaning.specs.Tables.{Tables as PlainTables};
 ghost use Rattle.monoid_laws.specs.declared.Kind.{Kind as PlainKind};
 
 use crate::batch::Batch;
@@ -412,10 +412,7 @@ impl Records {
 
     // Puts records in. Where memory is refused nothing has changed.
     fn put(&mut self, records: Vec<Record>) -> Result<(), AllocError>
-        ensures put { OnOk result (self.new ≡ put_records self.old records.items) }
-        ensures as_made { OnOk result (map as_made self.new ≡ put_records (map as_made self.old) records.items) }
-        ensures in_step { OnOk result ((tables : PlainTables) → IsInStep tables self.old → ReadNow tables records.items
-            → IsInStep tables self.new) }
+        ensures put { OnOk result (ArePut self.old records.items self.new) }
         ensures same { OnErr result (self.new ≡ self.old) }
     {
         if self.is_empty() {
@@ -427,10 +424,7 @@ impl Records {
     // Has the list that holds the records be that of the session, where there are none yet: a large one needn't be copied.
     fn take_whole(&mut self, mut records: Vec<Record>) -> Result<(), AllocError>
         requires none { length self.old ≡ 0 }
-        ensures put { OnOk result (self.new ≡ put_records self.old records.items) }
-        ensures as_made { OnOk result (map as_made self.new ≡ put_records (map as_made self.old) records.items) }
-        ensures in_step { OnOk result ((tables : PlainTables) → IsInStep tables self.old → ReadNow tables records.items
-            → IsInStep tables self.new) }
+        ensures put { OnOk result (ArePut self.old records.items self.new) }
         ensures same { OnErr result (self.new ≡ self.old) }
     {
         let alloc = *records.allocator();
@@ -454,10 +448,7 @@ impl Records {
 
     // Puts records in one by one.
     fn put_each(&mut self, records: Vec<Record>) -> Result<(), AllocError>
-        ensures put { OnOk result (self.new ≡ put_records self.old records.items) }
-        ensures as_made { OnOk result (map as_made self.new ≡ put_records (map as_made self.old) records.items) }
-        ensures in_step { OnOk result ((tables : PlainTables) → IsInStep tables self.old → ReadNow tables records.items
-            → IsInStep tables self.new) }
+        ensures put { OnOk result (ArePut self.old records.items self.new) }
         ensures same { OnErr result (self.new ≡ self.old) }
     {
         let alloc = *records.allocator();
@@ -497,7 +488,7 @@ impl Records {
     }
 }
 
-// Gives back most of the room of a list that takes less than half of it, where many records were of the same instances.
+// Gives back room of which a list takes less than half: it may have grown fourfold, and many records may have been of the same instances.
 fn give_back(list: &mut Vec<Record>)
     ensures same { list.new.items ≡ list.old.items }
 {

@@ -9,8 +9,8 @@ use Rattle.rerun_records.proofs.records.Records.commit.Goals as goal
 pub returns-clause-named : goal.returns-clause-named
 returns-clause-named c = λ ks js kept made.
     let program = c.args.program.now in
-    subst (AreKept program (committed ks js)) (sym c.in_ok-put.ensures.put) (put_all (revised_of program) program.tables program.kinds ks js c.args.self.now c.args.records.items kept made)
+    subst (AreKept program (committed ks js)) (sym c.in_ok-put.ensures.put.put) (put_all (revised_of program) program.tables program.kinds ks js c.args.self.now c.args.records.items kept made)
 
 pub returns-clause-values : goal.returns-clause-values
 returns-clause-values c = λ kinds old made.
-    subst (HaveValues kinds) (sym c.in_ok-put.ensures.put) (all_put_in (HasValuesIfAnswers kinds) c.args.self.now c.args.records.items old made)
+    subst (HaveValues kinds) (sym c.in_ok-put.ensures.put.put) (all_put_in (HasValuesIfAnswers kinds) c.args.self.now c.args.records.items old made)

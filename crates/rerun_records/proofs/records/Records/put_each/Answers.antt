@@ -6,20 +6,18 @@ use Rattle.rerun_records.proofs.WithNumbers.{put_into, as_made_put_into, same_vi
 use Rattle.rerun_records.proofs.records.Records.put_each.Goals as goal
 
 pub returns-clause-put : goal.returns-clause-put
-returns-clause-put c =
-    put_into c.self.inside.numbers.items _ c.put_all.new.numbers.items c.self.inside.list.items _ c.put_all.new.list.items c.args.self.now c.args.records.items
-    c.reserve-3.ensures.items c.reserve.ensures.items c.self.view_is c.put_all.ensures.put
-
-pub returns-clause-as_made : goal.returns-clause-as_made
-returns-clause-as_made c =
-    as_made_put_into c.self.inside.numbers.items _ c.put_all.new.numbers.items c.self.inside.list.items _ c.put_all.new.list.items c.args.self.now c.args.records.items
-    c.reserve-3.ensures.items c.reserve.ensures.items c.self.view_is c.put_all.ensures.as_made
-
-pub returns-clause-in_step : goal.returns-clause-in_step
-returns-clause-in_step c = λ tables h n.
-    c.put_all.ensures.in_step tables
-    (subst (IsInStep tables) (sym (same_view c.self.inside.numbers.items _ c.self.inside.list.items _ c.args.self.now c.reserve-3.ensures.items c.reserve.ensures.items c.self.view_is)) h)
-    n
+returns-clause-put c = record {
+  put =
+      put_into c.self.inside.numbers.items _ c.put_all.new.numbers.items c.self.inside.list.items _ c.put_all.new.list.items c.args.self.now c.args.records.items
+      c.reserve-3.ensures.items c.reserve.ensures.items c.self.view_is c.put_all.ensures.put;
+  put_as_made =
+      as_made_put_into c.self.inside.numbers.items _ c.put_all.new.numbers.items c.self.inside.list.items _ c.put_all.new.list.items c.args.self.now c.args.records.items
+      c.reserve-3.ensures.items c.reserve.ensures.items c.self.view_is c.put_all.ensures.as_made;
+  in_step = λ tables h n.
+      c.put_all.ensures.in_step tables
+      (subst (IsInStep tables) (sym (same_view c.self.inside.numbers.items _ c.self.inside.list.items _ c.args.self.now c.reserve-3.ensures.items c.reserve.ensures.items c.self.view_is)) h)
+      n;
+}
 
 pub grow-requires : goal.grow-requires
 grow-requires c = record { held = subst (λ (rs : List PlainRecord). AreCovered rs c.put_all.new.covers) (sym c.deref.ensures.value) c.put_all.ensures.covered }
