@@ -12,6 +12,7 @@ pub mod key;
 pub mod laws;
 mod level;
 mod listing;
+mod narrowing;
 pub mod readings;
 pub mod record;
 pub mod records;

@@ -15,6 +15,7 @@ ghost use Rattle.rerun_records.specs.Counts.{how_many};
 ghost use Rattle.rerun_records.specs.Same.{is_read, same_note};
 
 use crate::hull::Hull;
+use crate::narrowing::{how_many, lowest};
 use crate::short_list::ShortList;
 use crate::spans::{Span, are_touched, may_have, put_read, put_spans};
 use evaluation::note::Note;
@@ -28,19 +29,19 @@ use std::sync::Arc;
 /// So many own readings at most are looked through one by one. More of them lie below by themselves, to be passed over by their rows.
 const FEW: usize = 4;
 
-// Most have nothing below, so that lies by itself.
+/// What an instance has read of its own, and what those below it have. Most have none below, so that lies by itself.
 #[cycle(parts)]
 #[derive(Drop)]
-struct Node {
-    own: ShortList<Reading>,
-    below: Option<Box<Below>>,
+pub(crate) struct Node {
+    pub(crate) own: ShortList<Reading>,
+    pub(crate) below: Option<Box<Below>>,
 }
 
-// The parts, which are some, and spans of rows that hold all that they and those below them have read.
+/// The parts, which are some, and spans of rows that hold all that they and those below them have read.
 #[cycle(parts)]
 #[derive(Drop)]
-struct Below {
-    parts: Vec<Arc<Node>>,
+pub(crate) struct Below {
+    pub(crate) parts: Vec<Arc<Node>>,
     spans: Vec<Span>,
 }
 
@@ -256,8 +257,8 @@ fn parts_agree(parts: &[Arc<Node>], tables: &Tables) -> bool
     true
 }
 
-// Whether one of the changes may have changed what was read there or below.
-fn node_is_touched(node: &Node, changes: &[(usize, i64)]) -> bool
+/// Whether one of the changes may have changed what was read there or below.
+pub(crate) fn node_is_touched(node: &Node, changes: &[(usize, i64)]) -> bool
     requires covered { is_covered node.now ≡ true }
     ensures apart { result ≡ false → every (is_apart changes.now) (node_notes node.now) ≡ true }
 {
@@ -270,8 +271,8 @@ fn node_is_touched(node: &Node, changes: &[(usize, i64)]) -> bool
     }
 }
 
-// Whether one of the changes may have changed one of these readings.
-fn are_own_touched(own: &[Reading], changes: &[(usize, i64)]) -> bool
+/// Whether one of the changes may have changed one of these readings.
+pub(crate) fn are_own_touched(own: &[Reading], changes: &[(usize, i64)]) -> bool
     ensures touched { result
         ≡ list_any (λ note. list_any (rests_on note) changes.now) (map note_of own.now) }
 {
@@ -295,8 +296,8 @@ fn is_among(reading: &Reading, changes: &[(usize, i64)]) -> bool
     false
 }
 
-// Whether the change may have changed what is read so.
-fn rests_on(reading: &Reading, change: &(usize, i64)) -> bool
+/// Whether the change may have changed what is read so.
+pub(crate) fn rests_on(reading: &Reading, change: &(usize, i64)) -> bool
     ensures rests { result ≡ rests_on (note_of reading.now) change.now }
 {
     match reading {
@@ -309,144 +310,9 @@ fn rests_on(reading: &Reading, change: &(usize, i64)) -> bool
     }
 }
 
-// The lowest node, there or below, that has all that was read there and rests on the change.
-#[cycle(narrowing)]
-fn lowest<'a>(node: &'a Node, change: &(usize, i64)) -> &'a Node
-    requires covered { is_covered node.now ≡ true }
-    ensures covered { is_covered result.now ≡ true }
-    ensures same { (note : PlainNote) → is_apart (change.now ∷ []) note ≡ false
-        → is_read (node_notes result.now) note ≡ is_read (node_notes node.now) note }
-{
-    if are_own_touched(node.own.as_slice(), slice::from_ref(change)) {
-        return node;
-    }
-    match &node.below {
-        Some(below) => lowest_of(&below.parts, node, change),
-        None => node,
-    }
-}
-
-// The lowest node in the one part that the change may have changed; the node that has the parts, where it isn't one.
-#[cycle(narrowing)]
-fn lowest_of<'a>(parts: &'a [Arc<Node>], node: &'a Node, change: &(usize, i64)) -> &'a Node
-    requires covered { is_covered node.now ≡ true }
-    requires parts { every is_covered_share parts.now ≡ true }
-    requires below { (note : PlainNote) → is_apart (change.now ∷ []) note ≡ false
-        → is_read (node_notes node.now) note ≡ is_read (flat_map shared_notes parts.now) note }
-    ensures covered { is_covered result.now ≡ true }
-    ensures same { (note : PlainNote) → is_apart (change.now ∷ []) note ≡ false
-        → is_read (node_notes result.now) note ≡ is_read (node_notes node.now) note }
-{
-    let place = first_touched(parts, change);
-    if place >= parts.len() {
-        return node;
-    }
-    if !are_apart(&parts[place + 1..], change) {
-        return node;
-    }
-    lowest(&parts[place], change)
-}
-
-// The place of the first of the parts that the change may have changed, or how many they are.
-fn first_touched(parts: &[Arc<Node>], change: &(usize, i64)) -> usize
-    requires covered { every is_covered_share parts.now ≡ true }
-    ensures apart { every (is_apart (change.now ∷ [])) (flat_map shared_notes (take result parts.now))
-        ≡ true }
-{
-    for place in 0..parts.len() {
-        if node_is_touched(&parts[place], slice::from_ref(change)) {
-            return place;
-        }
-    }
-    parts.len()
-}
-
-// Whether the change has changed nothing that was read in these parts.
-fn are_apart(parts: &[Arc<Node>], change: &(usize, i64)) -> bool
-    requires covered { every is_covered_share parts.now ≡ true }
-    ensures apart { result ≡ true
-        → every (is_apart (change.now ∷ [])) (flat_map shared_notes parts.now) ≡ true }
-{
-    for part in parts {
-        if node_is_touched(part, slice::from_ref(change)) {
-            return false;
-        }
-    }
-    true
-}
-
-// How many of these readings and how many of those were read there or below, all of which rest on the change.
-fn how_many(node: &Node, change: &(usize, i64), lost: &[Note], won: &[Note]) -> (u64, u64)
-    requires covered { is_covered node.now ≡ true }
-    requires rest { every (λ n. not (is_apart (change.now ∷ []) n)) (lost.now ++ won.now) ≡ true }
-    ensures lost { result.0 ≡ how_many same_note lost.now (node_notes node.now) }
-    ensures won { result.1 ≡ how_many same_note won.now (node_notes node.now) }
-    ensures few { result.0 ≤ length lost.now }
-{
-    match &node.below {
-        Some(_) => (how_many_in(node, lost), how_many_in(node, won)),
-        None => {
-            let own = touched_to(touched_on(node.own.as_slice(), change), change);
-            (how_many_own(own, lost), how_many_own(own, won))
-        }
-    }
-}
-
-fn how_many_in(node: &Node, notes: &[Note]) -> u64
-    requires covered { is_covered node.now ≡ true }
-    ensures many { result ≡ how_many same_note notes.now (node_notes node.now) }
-    ensures few { result ≤ length notes.now }
-{
-    let mut count = 0;
-    for note in notes {
-        if node_has(node, note) {
-            count += 1;
-        }
-    }
-    count
-}
-
-fn how_many_own(own: &[Reading], notes: &[Note]) -> u64
-    ensures many { result ≡ how_many same_note notes.now (map note_of own.now) }
-    ensures few { result ≤ length notes.now }
-{
-    let mut count = 0;
-    for note in notes {
-        if has_own(own, note) {
-            count += 1;
-        }
-    }
-    count
-}
-
-// These readings from the first on that rests on the change.
-fn touched_on<'a>(own: &'a [Reading], change: &(usize, i64)) -> &'a [Reading]
-    ensures same { (note : PlainNote) → is_apart (change.now ∷ []) note ≡ false
-        → is_read (map note_of result.now) note ≡ is_read (map note_of own.now) note }
-{
-    let mut first = 0;
-    while first < own.len() && !rests_on(&own[first], change) {
-        first += 1;
-    }
-    &own[first..]
-}
-
-// These readings up to the last one that rests on the change.
-#[tactic(auto, using(crate::proofs::Narrowed::one_fewer))]
-fn touched_to<'a>(own: &'a [Reading], change: &(usize, i64)) -> &'a [Reading]
-    ensures same { (note : PlainNote) → is_apart (change.now ∷ []) note ≡ false
-        → is_read (map note_of result.now) note ≡ is_read (map note_of own.now) note }
-{
-    let mut end = own.len();
-    while end > 0 && !rests_on(&own[end - 1], change) {
-        end -= 1;
-    }
-    &own[..end]
-}
-
-// Whether that was read there or below. Where its rows lie in no span, the parts aren't asked.
+/// Whether that was read there or below. Where its rows lie in no span, the parts aren't asked.
 #[cycle(having)]
-fn node_has(node: &Node, note: &Note) -> bool
+pub(crate) fn node_has(node: &Node, note: &Note) -> bool
     requires covered { is_covered node.now ≡ true }
     ensures has { result ≡ is_read (node_notes node.now) note.now }
 {
@@ -478,8 +344,8 @@ fn parts_have(parts: &[Arc<Node>], note: &Note) -> bool
     false
 }
 
-// Whether that is one of these readings.
-fn has_own(own: &[Reading], note: &Note) -> bool
+/// Whether that is one of these readings.
+pub(crate) fn has_own(own: &[Reading], note: &Note) -> bool
     ensures has { result ≡ is_read (map note_of own.now) note.now }
 {
     for reading in own {

@@ -3,7 +3,7 @@ use Rattle.evaluation.specs.declared.note.Note.{Note}
 use Rattle.evaluation.specs.Short.{note_of}
 use Rattle.rerun_records.specs.Blocks.{is_apart}
 use Rattle.rerun_records.specs.Same.{is_read}
-use Rattle.rerun_records.proofs.readings.touched_to.Given as goal
+use Rattle.rerun_records.proofs.narrowing.touched_to.Given as goal
 
 abbrev pub invariant-loop-end : goal.invariant-loop-end
 invariant-loop-end l = record {

@@ -10,7 +10,7 @@ use Rattle.rerun_records.specs.Readings.{node_notes, shared_notes, is_covered_sh
 use Rattle.rerun_records.specs.Same.{is_read}
 use Rattle.rerun_records.proofs.NodeNotes.{parts_covered}
 use Rattle.rerun_records.proofs.Narrowed.{below_is, only_part, every_behind, behind_is}
-use Rattle.rerun_records.proofs.readings.+narrowing.Goals as goal
+use Rattle.rerun_records.proofs.narrowing.+narrowing.Goals as goal
 
 pub lowest-lowest_of-requires : goal.lowest-lowest_of-requires
 lowest-lowest_of-requires t c =

@@ -3,7 +3,7 @@ use Rattle.std.specs.List.{flat_map}
 use Rattle.meaning.specs.Every.{every}
 use Rattle.rerun_records.specs.Blocks.{is_apart}
 use Rattle.rerun_records.specs.Readings.{shared_notes, is_covered_share}
-use Rattle.rerun_records.proofs.readings.are_apart.Given as goal
+use Rattle.rerun_records.proofs.narrowing.are_apart.Given as goal
 
 abbrev pub invariant-loop-part : goal.invariant-loop-part
 invariant-loop-part l = record {

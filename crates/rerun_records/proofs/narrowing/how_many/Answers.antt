@@ -4,7 +4,7 @@ use Rattle.rerun_records.specs.Blocks.{is_apart}
 use Rattle.rerun_records.specs.Readings.{node_notes}
 use Rattle.rerun_records.specs.Same.{is_read}
 use Rattle.rerun_records.proofs.Narrowed.{same_many, alone_is, left_rest, right_rest}
-use Rattle.rerun_records.proofs.readings.how_many.Goals as goal
+use Rattle.rerun_records.proofs.narrowing.how_many.Goals as goal
 
 pub returns-in-None-clause-lost : goal.returns-in-None-clause-lost
 returns-in-None-clause-lost c =

@@ -2,7 +2,7 @@ use Rattle.std.proofs.Common.{◌≡◌, ◌+◌, ◌≤◌, drop}
 use Rattle.rerun_records.specs.Same.{same_note}
 use Rattle.rerun_records.specs.Counts.{how_many}
 use Rattle.rerun_records.specs.Readings.{node_notes}
-use Rattle.rerun_records.proofs.readings.how_many_in.Given as goal
+use Rattle.rerun_records.proofs.narrowing.how_many_in.Given as goal
 
 abbrev pub invariant-loop-note : goal.invariant-loop-note
 invariant-loop-note l = record {

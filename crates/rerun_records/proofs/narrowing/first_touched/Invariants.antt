@@ -3,7 +3,7 @@ use Rattle.std.specs.List.{flat_map}
 use Rattle.meaning.specs.Every.{every}
 use Rattle.rerun_records.specs.Blocks.{is_apart}
 use Rattle.rerun_records.specs.Readings.{shared_notes}
-use Rattle.rerun_records.proofs.readings.first_touched.Given as goal
+use Rattle.rerun_records.proofs.narrowing.first_touched.Given as goal
 
 abbrev pub invariant-loop-place : goal.invariant-loop-place
 invariant-loop-place l = record {
