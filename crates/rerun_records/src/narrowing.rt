@@ -23,11 +23,13 @@ pub(crate) fn lowest<'a>(node: &'a Node, change: &(usize, i64)) -> &'a Node
     ensures same { (note : PlainNote) → is_apart (change.now ∷ []) note ≡ false
         → is_read (node_notes result.now) note ≡ is_read (node_notes node.now) note }
 {
-    if are_own_touched(node.own.as_slice(), slice::from_ref(change)) {
-        return node;
-    }
     match &node.below {
-        Some(below) => lowest_of(&below.parts, node, change),
+        Some(below) => {
+            if are_own_touched(node.own.as_slice(), slice::from_ref(change)) {
+                return node;
+            }
+            lowest_of(&below.parts, node, change)
+        }
         None => node,
     }
 }
@@ -53,18 +55,19 @@ fn lowest_of<'a>(parts: &'a [Arc<Node>], node: &'a Node, change: &(usize, i64)) 
     lowest(&parts[place], change)
 }
 
-// The place of the first of the parts that the change may have changed, or how many they are.
+// The place of the first of the parts that the change may have changed, or of the last: it needn't be asked, since it is gone down anyway.
 fn first_touched(parts: &[Arc<Node>], change: &(usize, i64)) -> usize
     requires covered { every is_covered_share parts.now ≡ true }
     ensures apart { every (is_apart (change.now ∷ [])) (flat_map shared_notes (take result parts.now))
         ≡ true }
 {
-    for place in 0..parts.len() {
+    let last = parts.len().saturating_sub(1);
+    for place in 0..last {
         if node_is_touched(&parts[place], slice::from_ref(change)) {
             return place;
         }
     }
-    parts.len()
+    last
 }
 
 // Whether the change has changed nothing that was read in these parts.

@@ -1,9 +1,10 @@
 //! What instances have read, each by reference to what the instances below it have.
-ghost use Rattle.std.specs.Prelude.{◌≡◌, ◌≤◌, ◌++◌, ◌∷◌, [], IfOk, OnOk, length, map, not, take, true, false};
+ghost use Rattle.std.specs.Prelude.{◌≡◌, ◌≤◌, ◌++◌, ◌∷◌, ◌&&◌, [], IfOk, OnOk, length, map, nat_eq, not, true, false};
 ghost use Rattle.std.specs.List.{flat_map, list_any};
+ghost use Rattle.std.specs.Ordering.{int_eq};
 ghost use Rattle.meaning.specs.Every.{every};
 ghost use Rattle.evaluation.specs.declared.note.Note.{Note as PlainNote};
-ghost use Rattle.evaluation.specs.declared.note.Note.TheVariants.{Cell};
+ghost use Rattle.evaluation.specs.declared.note.Note.TheVariants.{Cell, Sum};
 ghost use Rattle.evaluation.specs.Short.{note_of};
 ghost use Rattle.rerun_records.specs.Spans.{is_covered_by};
 ghost use Rattle.rerun_records.specs.Readings.{all_of, node_notes, shared_notes, held_notes, is_covered, is_covered_share, is_covered_below};
@@ -301,13 +302,22 @@ pub(crate) fn rests_on(reading: &Reading, change: &(usize, i64)) -> bool
     ensures rests { result ≡ rests_on (note_of reading.now) change.now }
 {
     match reading {
-        Reading::Cell { table, row, .. } => {
-            usize::from(*table) == change.0 && i64::from(*row) == change.1
-        }
-        Reading::Has { table, row, .. } => usize::from(*table) == change.0 && *row == change.1,
+        Reading::Cell { table, row, .. } => is_row(usize::from(*table), i64::from(*row), change),
+        Reading::Has { table, row, .. } => is_row(usize::from(*table), *row, change),
         Reading::Limit { table, .. } => usize::from(*table) == change.0,
         Reading::Sum { table, .. } => usize::from(*table) == change.0,
     }
+}
+
+// Whether that row of the table of that number is the changed one. Another row is read more often than another table, so it is asked first.
+#[inline(always)]
+fn is_row(table: usize, row: i64, change: &(usize, i64)) -> bool
+    ensures row { result ≡ (nat_eq table change.now.0 && int_eq row change.now.1) }
+{
+    if row != change.1 {
+        return false;
+    }
+    table == change.0
 }
 
 /// Whether that was read there or below. Where its rows lie in no span, the parts aren't asked.
@@ -348,47 +358,88 @@ fn parts_have(parts: &[Arc<Node>], note: &Note) -> bool
 pub(crate) fn has_own(own: &[Reading], note: &Note) -> bool
     ensures has { result ≡ is_read (map note_of own.now) note.now }
 {
+    match note {
+        Note::Cell {
+            table,
+            row,
+            column,
+            value,
+        } => have_cell(own, *table, *row, *column, *value),
+        Note::Sum {
+            table,
+            column,
+            value,
+        } => have_sum(own, *table, *column, *value),
+        _ => have_other(own, note),
+    }
+}
+
+// Whether one of these readings is of that cell with that value. No notes are made of them, here and below.
+fn have_cell(own: &[Reading], table: usize, row: i64, column: usize, value: i64) -> bool
+    ensures have { result ≡ is_read (map note_of own.now) (Cell table row column value) }
+{
     for reading in own {
-        if is_of(reading, note) {
+        if is_cell(reading, table, row, column, value) {
             return true;
         }
     }
     false
 }
 
-// Whether the reading is that one. Most are of cells, and no note is made of these.
-fn is_of(reading: &Reading, note: &Note) -> bool
-    ensures of { result ≡ same_note note.now (note_of reading.now) }
+// Whether one of these readings is of that sum.
+fn have_sum(own: &[Reading], table: usize, column: usize, value: i64) -> bool
+    ensures have { result ≡ is_read (map note_of own.now) (Sum table column value) }
+{
+    for reading in own {
+        if is_sum(reading, table, column, value) {
+            return true;
+        }
+    }
+    false
+}
+
+// Whether one of these readings is that one.
+fn have_other(own: &[Reading], note: &Note) -> bool
+    ensures have { result ≡ is_read (map note_of own.now) note.now }
+{
+    for reading in own {
+        if is_same(note, &reading.note()) {
+            return true;
+        }
+    }
+    false
+}
+
+// Whether the reading is of that cell with that value.
+#[inline(always)]
+fn is_cell(reading: &Reading, table: usize, row: i64, column: usize, value: i64) -> bool
+    ensures cell { result ≡ same_note (Cell table row column value) (note_of reading.now) }
 {
     match reading {
         Reading::Cell {
-            column,
-            table,
-            row,
-            value,
-        } => is_cell(
-            note,
-            usize::from(*table),
-            i64::from(*row),
-            usize::from(*column),
-            *value,
-        ),
-        _ => is_same(note, &reading.note()),
+            column: under,
+            table: of,
+            row: at,
+            value: held,
+        } => {
+            table == usize::from(*of)
+                && (row == i64::from(*at) && (column == usize::from(*under) && value == *held))
+        }
+        _ => false,
     }
 }
 
-// Whether the note is that of a cell with that value.
+// Whether the reading is of that sum.
 #[inline(always)]
-fn is_cell(note: &Note, table: usize, row: i64, column: usize, value: i64) -> bool
-    ensures same { result ≡ same_note note.now (Cell table row column value) }
+fn is_sum(reading: &Reading, table: usize, column: usize, value: i64) -> bool
+    ensures sum { result ≡ same_note (Sum table column value) (note_of reading.now) }
 {
-    match note {
-        Note::Cell {
-            table: of,
-            row: at,
+    match reading {
+        Reading::Sum {
             column: under,
+            table: of,
             value: held,
-        } => *of == table && (*at == row && (*under == column && *held == value)),
+        } => table == usize::from(*of) && (column == usize::from(*under) && value == *held),
         _ => false,
     }
 }

@@ -1,4 +1,4 @@
-use Rattle.std.proofs.Common.{◌≡◌, true, [], ◌∷◌, length, take}
+use Rattle.std.proofs.Common.{◌≡◌, ◌≤◌, true, [], ◌∷◌, length, take}
 use Rattle.std.specs.List.{flat_map}
 use Rattle.meaning.specs.Every.{every}
 use Rattle.rerun_records.specs.Blocks.{is_apart}
@@ -7,6 +7,6 @@ use Rattle.rerun_records.proofs.narrowing.first_touched.Given as goal
 
 abbrev pub invariant-loop-place : goal.invariant-loop-place
 invariant-loop-place l = record {
-  end : l.place-end ≡ length l.parts;
+  within : l.last ≤ length l.parts;
   apart : every (is_apart (l.change ∷ [])) (flat_map shared_notes (take l.place l.parts)) ≡ true;
 }
