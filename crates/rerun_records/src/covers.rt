@@ -70,29 +70,42 @@ impl Covers {
     }
 
     // From which place on, up to that end, no record has read what the change may have changed: the beginning of the widest hull or stretch
-    // that ends there and in which the row doesn't lie, or that end.
+    // that ends there and in which the row doesn't lie, or that end. Hulls end where a narrow one does, as stretches behind do, and those
+    // before only elsewhere: so at most places a single test is all.
+    #[inline(always)]
     fn apart_to(&self, end: usize, change: &(usize, i64)) -> usize
         ensures within { result ≤ end }
         ensures apart { (records : List PlainRecord) → AreCovered records self.now
             → AreApart records change.now result end }
     {
-        let first = apart_from(&self.wide, WIDE, end, change);
+        if end % NARROW != 0 {
+            return apart_by(&self.left, end, change);
+        }
+        let first = self.apart_by_hull(end, change);
         if first < end {
             return first;
         }
-        let first = apart_from(&self.middle, MIDDLE, end, change);
-        if first < end {
-            return first;
+        apart_by(&self.right, end, change)
+    }
+
+    // The same by the widest hull that ends there.
+    #[inline(always)]
+    fn apart_by_hull(&self, end: usize, change: &(usize, i64)) -> usize
+        ensures within { result ≤ end }
+        ensures apart { (records : List PlainRecord) → AreCovered records self.now
+            → AreApart records change.now result end }
+    {
+        if end % MIDDLE == 0 {
+            let first = apart_from(&self.wide, WIDE, end, change);
+            if first < end {
+                return first;
+            }
+            let first = apart_from(&self.middle, MIDDLE, end, change);
+            if first < end {
+                return first;
+            }
         }
-        let first = apart_from(&self.narrow, NARROW, end, change);
-        if first < end {
-            return first;
-        }
-        let first = apart_by(&self.right, end, change);
-        if first < end {
-            return first;
-        }
-        apart_by(&self.left, end, change)
+        apart_from(&self.narrow, NARROW, end, change)
     }
 
     /// The last place before that end whose record may have read what the change of the row, given by its table's number and its own,
