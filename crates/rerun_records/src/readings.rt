@@ -304,17 +304,9 @@ pub(crate) fn rests_on(reading: &Reading, change: &(usize, i64)) -> bool
     match reading {
         Reading::Cell { table, row, .. } => is_row(usize::from(*table), i64::from(*row), change),
         Reading::Has { table, row, .. } => is_row(usize::from(*table), *row, change),
-        Reading::Limit { table, .. } => is_total(*table, change),
-        Reading::Sum { table, .. } => is_total(*table, change),
+        Reading::Limit { table, .. } => usize::from(*table) == change.0,
+        Reading::Sum { table, .. } => usize::from(*table) == change.0,
     }
-}
-
-// Whether a total of the table of that number may have changed. It stays out of the loops over readings, of which few are totals.
-#[inline(never)]
-fn is_total(table: u16, change: &(usize, i64)) -> bool
-    ensures total { result ≡ nat_eq table change.now.0 }
-{
-    usize::from(table) == change.0
 }
 
 // Whether that row of the table of that number is the changed one. Another row is read more often than another table, so it is asked first.
