@@ -15,6 +15,7 @@ use Rattle.rerun_records.specs.ShortLists.{items_in}
 use Rattle.rerun_records.specs.Blocks.{is_apart}
 use Rattle.rerun_records.specs.Counts.{how_many}
 use Rattle.rerun_records.specs.InStep.{rests_on}
+use Rattle.rerun_records.specs.Numbers.{number_by, number_then}
 use Rattle.rerun_records.specs.Readings.{node_notes, shared_notes}
 use Rattle.rerun_records.specs.Same.{same_note, is_read}
 use Rattle.rerun_records.proofs.Members.{left_is, right_is}
@@ -53,6 +54,14 @@ left_rest q xs ys e = left_is (every (λ n. not (q n)) xs) (every (λ n. not (q 
 
 pub right_rest : (q : Note → Bool) (xs ys : List Note) → every (λ n. not (q n)) (xs ++ ys) ≡ true → every (λ n. not (q n)) ys ≡ true
 right_rest q xs ys e = right_is (every (λ n. not (q n)) xs) (every (λ n. not (q n)) ys) (sym (every_append (λ n. not (q n)) xs ys) ∙ e)
+
+-- so a number is the same by either
+pub same_number : (q : Note → Bool) (lost won xs zs : List Note) (number more fewer : ℕ) → every (λ n. not (q n)) (lost ++ won) ≡ true
+    → ((note : Note) → q note ≡ false → is_read xs note ≡ is_read zs note) → more ≡ how_many same_note lost xs → fewer ≡ how_many same_note won xs
+    → number_by number more fewer ≡ number_then lost won number zs
+same_number q lost won xs zs number more fewer r h m f =
+    ap (λ (k : ℕ). number_by number k fewer) (m ∙ same_many q lost xs zs (left_rest q lost won r) h)
+    ∙ ap (λ (k : ℕ). number_by number (how_many same_note lost zs) k) (f ∙ same_many q won xs zs (right_rest q lost won r) h)
 
 -- ---- the one part that has it
 
@@ -124,3 +133,21 @@ every_behind p n xs e = ap (every p) (take_rest xs n) ∙ every_dropped p n xs e
 
 pub behind_is : (q : Note → Bool) (n : ℕ) (parts : List (Arc Node Global)) → every q (flat_map shared_notes (take (length parts - n) (drop n parts))) ≡ true → every q (flat_map shared_notes (drop n parts)) ≡ true
 behind_is q n parts e = ap (λ ps. every q (flat_map shared_notes ps)) (sym (take_rest parts n)) ∙ e
+
+-- ---- readings one by one
+
+same_next : (k : ℕ) (xs ys : List Reading) (x y : Reading) → k < length xs → k < length ys → x ≡ get_or xs k x → y ≡ get_or ys k y → note_of x ≡ note_of y
+    → map note_of (take k xs) ≡ map note_of (take k ys) → map note_of (take (suc k) xs) ≡ map note_of (take (suc k) ys)
+same_next k [] ys x y l m e f n h = absurd (omega (arith, l))
+same_next k (a ∷ xs) [] x y l m e f n h = absurd (omega (arith, m))
+same_next zero (a ∷ xs) (b ∷ ys) x y l m e f n h = ap (λ z. z ∷ []) (ap note_of (sym e) ∙ n ∙ ap note_of f)
+same_next (suc k) (a ∷ xs) (b ∷ ys) x y l m e f n h =
+    let first : note_of a ≡ note_of b = cc in
+    let rest : map note_of (take k xs) ≡ map note_of (take k ys) = cc in
+    ap (λ z. z ∷ map note_of (take (suc k) xs)) first ∙ ap (λ zs. note_of b ∷ zs) (same_next k xs ys x y (omega (arith, l)) (omega (arith, m)) e f n rest)
+
+pub one_more_same : (k : ℕ) (xs ys : List Reading) (x y : Reading) → k < length xs → k < length ys → x ≡ get_or xs k x → y ≡ get_or ys k y → same_note (note_of x) (note_of y) ≡ true
+    → map note_of (take k xs) ≡ map note_of (take k ys) → map note_of (take (k + 1) xs) ≡ map note_of (take (k + 1) ys)
+one_more_same k xs ys x y l m e f n h =
+    let next : suc k ≡ k + 1 = omega arith in
+    subst (λ (i : ℕ). map note_of (take i xs) ≡ map note_of (take i ys)) next (same_next k xs ys x y l m e f (note_is (note_of x) (note_of y) n) h)

@@ -110,6 +110,7 @@ impl Covers {
 
     /// The last place before that end whose record may have read what the change of the row, given by its table's number and its own,
     /// may have changed. It takes no memory, and passes over hulls in which the row doesn't lie.
+    #[inline(always)]
     pub(crate) fn next_touched(
         &self,
         list: &[Record],

@@ -1,5 +1,5 @@
 // How often readings that rest on a change were read, looked for in the lowest instance that has read all that it may have changed.
-ghost use Rattle.std.specs.Prelude.{◌≡◌, ◌≤◌, ◌++◌, ◌∷◌, [], length, map, not, take, true, false};
+ghost use Rattle.std.specs.Prelude.{◌≡◌, ◌≤◌, ◌++◌, ◌∷◌, [], IfSome, length, map, not, take, true, false};
 ghost use Rattle.std.specs.List.{flat_map};
 ghost use Rattle.meaning.specs.Every.{every};
 ghost use Rattle.evaluation.specs.declared.note.Note.{Note as PlainNote};
@@ -106,6 +106,17 @@ pub(crate) fn how_many(
     }
 }
 
+/// The readings of its own from the first to the last that rests on the change; none where something lies below.
+pub(crate) fn touched_own<'a>(node: &'a Node, change: &(usize, i64)) -> Option<&'a [Reading]>
+    ensures same { IfSome result (λ own. (note : PlainNote) → is_apart (change.now ∷ []) note ≡ false
+        → is_read (map note_of own.now) note ≡ is_read (node_notes node.now) note) }
+{
+    match &node.below {
+        Some(_) => None,
+        None => Some(touched_to(touched_on(node.own.as_slice(), change), change)),
+    }
+}
+
 fn how_many_in(node: &Node, notes: &[Note]) -> u64
     requires covered { is_covered node.now ≡ true }
     ensures many { result ≡ how_many same_note notes.now (node_notes node.now) }
@@ -120,7 +131,8 @@ fn how_many_in(node: &Node, notes: &[Note]) -> u64
     count
 }
 
-fn how_many_own(own: &[Reading], notes: &[Note]) -> u64
+/// How many of these notes are among the readings.
+pub(crate) fn how_many_own(own: &[Reading], notes: &[Note]) -> u64
     ensures many { result ≡ how_many same_note notes.now (map note_of own.now) }
     ensures few { result ≤ length notes.now }
 {

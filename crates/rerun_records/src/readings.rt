@@ -1,5 +1,5 @@
 //! What instances have read, each by reference to what the instances below it have.
-ghost use Rattle.std.specs.Prelude.{◌≡◌, ◌≤◌, ◌++◌, ◌∷◌, ◌&&◌, [], IfOk, OnOk, length, map, nat_eq, not, true, false};
+ghost use Rattle.std.specs.Prelude.{◌≡◌, ◌≤◌, ◌++◌, ◌∷◌, ◌&&◌, [], IfOk, IfSome, OnOk, length, map, nat_eq, not, true, false};
 ghost use Rattle.std.specs.List.{flat_map, list_any};
 ghost use Rattle.std.specs.Ordering.{int_eq};
 ghost use Rattle.meaning.specs.Every.{every};
@@ -16,7 +16,7 @@ ghost use Rattle.rerun_records.specs.Counts.{how_many};
 ghost use Rattle.rerun_records.specs.Same.{is_read, same_note};
 
 use crate::hull::Hull;
-use crate::narrowing::{how_many, lowest};
+use crate::narrowing::{how_many, lowest, touched_own};
 use crate::short_list::ShortList;
 use crate::spans::{Span, are_touched, may_have, put_read, put_spans};
 use evaluation::note::Note;
@@ -162,6 +162,15 @@ impl Readings {
         ensures few { result.0 ≤ length lost.now }
     {
         how_many(lowest(&self.node, change), change, lost, won)
+    }
+
+    /// The readings from the first to the last that rests on the change, of the lowest instance that has read all that the change may have
+    /// changed; none, where instances below that one have read some of it. It takes no memory.
+    pub(crate) fn touched(&self, change: &(usize, i64)) -> Option<&[Reading]>
+        ensures same { IfSome result (λ own. (note : PlainNote) → is_apart (change.now ∷ []) note ≡ false
+            → is_read (map note_of own.now) note ≡ is_read self.now note) }
+    {
+        touched_own(lowest(&self.node, change), change)
     }
 
     /// Joins spans with the rows of what was read.
@@ -450,7 +459,44 @@ fn is_sum(reading: &Reading, table: usize, column: usize, value: i64) -> bool
     }
 }
 
-// Whether two readings are the same.
+/// Whether these readings are those, one by one.
+pub(crate) fn are_same(own: &[Reading], others: &[Reading]) -> bool
+    ensures same { result ≡ true → map note_of own.now ≡ map note_of others.now }
+{
+    if own.len() != others.len() {
+        return false;
+    }
+    for place in 0..own.len() {
+        if !is_like(&own[place], &others[place]) {
+            return false;
+        }
+    }
+    true
+}
+
+// Whether two readings are the same. Most are of cells, and no notes are made of these.
+#[inline(always)]
+fn is_like(reading: &Reading, other: &Reading) -> bool
+    ensures like { result ≡ same_note (note_of reading.now) (note_of other.now) }
+{
+    match reading {
+        Reading::Cell {
+            column,
+            table,
+            row,
+            value,
+        } => is_cell(
+            other,
+            usize::from(*table),
+            i64::from(*row),
+            usize::from(*column),
+            *value,
+        ),
+        _ => is_same(&reading.note(), &other.note()),
+    }
+}
+
+// Whether two notes are the same.
 #[tactic(auto, using(crate::proofs::Same::derived_same))]
 fn is_same(note: &Note, other: &Note) -> bool
     ensures same { result ≡ same_note note.now other.now }

@@ -1,55 +1,11 @@
-use Rattle.std.proofs.Common.{rules, ◌≡◌, ◌≤◌, ◌<◌, ◌+◌, ℕ, suc, List, None, IfNone, length, length-set, sym, ◌∙◌, ap, get_or, subst, arith}
-use Rattle.rerun_records.specs.Covers.{AreApart}
-use Rattle.rerun_records.specs.Numbers.{most_number, number_then}
-use Rattle.rerun_records.proofs.NumbersAt.{told_to, told_all, told_one, told_apart, small_set}
+use Rattle.std.proofs.Common.{rules, ◌≤◌, ◌∙◌, ℕ, length, arith, get_or}
+use Rattle.rerun_records.specs.Numbers.{most_number}
+use Rattle.rerun_records.proofs.NumbersAt.{told_all, told_apart}
 use Rattle.rerun_records.proofs.telling.tell.Goals as goal
 
-pub loop-place-init : goal.loop-place-init
-loop-place-init c =
-    let small : (i : ℕ) → get_or c.args.numbers.now i 0 ≤ most_number = λ i. (let fits = c.type_inv.numbers i in search rules) in
-    record {
-      within = omega arith;
-      places = c.requires.places;
-      small = small;
-      told = told_all c.args.lost.now c.args.won.now c.args.numbers.now c.args.list.now c.requires.places;
-      fit = c.requires.fit;
-    }
-
-pub loop-place-preserved : goal.loop-place-preserved
-loop-place-preserved c =
-    let l = c.loop-place in
+pub returns-in-None-clause-told : goal.returns-in-None-clause-told
+returns-in-None-clause-told c =
+    let numbers = c.args.numbers.now in
     let list = c.args.list.now in
-    let place = c.in-Some.place in
-    let number = c.told-number.result in
-    let before = c.in-Some.ensures.before in
-    let inside = l.invariant.within in
-    let many = l.invariant.places in
-    let there : place < length list = omega (arith, before, inside) in
-    let has_number : place < length l.numbers = omega (arith, there, many) in
-    let small : number ≤ most_number = search rules in
-    let next : place + 1 ≡ suc place = omega arith in
-    let numbered = c.renumber.ensures.numbered in
-    record {
-      within = omega (arith, there);
-      places = ap length numbered ∙ length-set l.numbers place number ∙ many;
-      small = subst (λ (ns : List ℕ). (i : ℕ) → get_or ns i 0 ≤ most_number) (sym numbered) (small_set l.numbers place number small l.invariant.small);
-      told = ap (λ ns. told_to c.args.lost.now c.args.won.now place ns list) numbered
-          ∙ told_one c.args.lost.now c.args.won.now place l.numbers list number c.index-list-place.result has_number there
-          (c.told-number.ensures.told ∙ ap (number_then c.args.lost.now c.args.won.now (get_or l.numbers place 0)) c.reads.ensures.reads) c.index-list-place.is
-          ∙ ap (λ k. told_to c.args.lost.now c.args.won.now k l.numbers list) (sym next)
-          ∙ told_apart c.args.change.now c.args.lost.now c.args.won.now (place + 1) l.end l.numbers list c.requires.rest l.invariant.small (omega (arith, before)) c.in-Some.ensures.apart
-          ∙ l.invariant.told;
-      fit = c.renumber.ensures.fit;
-    }
-
-pub returns : goal.returns
-returns c =
-    let l = c.loop-place in
-    let list = c.args.list.now in
-    let none : c.next_touched.result ≡ None = search rules in
-    let apart : AreApart list c.args.change.now 0 l.end = subst (λ o. IfNone o (AreApart list c.args.change.now 0 l.end)) none c.next_touched.ensures.none in
-    record {
-      told = told_apart c.args.change.now c.args.lost.now c.args.won.now 0 l.end l.numbers list c.requires.rest l.invariant.small (omega arith) apart ∙ l.invariant.told;
-      places = l.invariant.places;
-      fit = l.invariant.fit;
-    }
+    let small : (i : ℕ) → get_or numbers i 0 ≤ most_number = λ i. (let fits = c.type_inv.numbers i in search rules) in
+    told_apart c.args.change.now c.args.lost.now c.args.won.now 0 (length list) numbers list c.requires.rest small (omega arith) c.in-None.ensures.none ∙ told_all c.args.lost.now c.args.won.now numbers list c.requires.places

@@ -1,11 +1,25 @@
-use Rattle.std.proofs.Common.{rules, ◌≡◌}
-use Rattle.rerun_records.specs.Same.{same_note}
+use Rattle.std.proofs.Common.{[], ◌∷◌, map, ap, sym, ◌∙◌}
+use Rattle.evaluation.specs.Short.{note_of}
+use Rattle.rerun_records.specs.Blocks.{is_apart}
 use Rattle.rerun_records.specs.Counts.{how_many}
-use Rattle.rerun_records.specs.Numbers.{most_number}
-use Rattle.rerun_records.proofs.NumbersThen.{most_stays}
+use Rattle.rerun_records.specs.Same.{same_note}
+use Rattle.rerun_records.proofs.Narrowed.{same_number}
 use Rattle.rerun_records.proofs.telling.told.Goals as goal
 
-pub returns-then-number-eq4294967295 : goal.returns-then-number-eq4294967295
-returns-then-number-eq4294967295 c =
-    let is_most : c.args.number ≡ most_number = search rules in
-    record { told = most_stays c.args.number (how_many same_note c.args.lost.now c.args.reads.now) (how_many same_note c.args.won.now c.args.reads.now) is_most }
+pub returns-then-are_same : goal.returns-then-are_same
+returns-then-are_same c =
+    let lost = c.args.lost.now in
+    let won = c.args.won.now in
+    let same = sym (c.are_same.ensures.same c.if-are_same.true) in
+    record {
+      told = c.number_after.ensures.after
+          ∙ same_number (is_apart (c.args.change.now ∷ [])) lost won (map note_of c.in-Some.own.now) c.args.reads.now c.args.number c.args.known.more c.args.known.fewer c.requires.rest c.in-Some.ensures.same
+          (c.requires.own c.if-known.true ∙ ap (how_many same_note lost) same) (c.requires.own_fewer c.if-known.true ∙ ap (how_many same_note won) same);
+    }
+
+pub returns-else-known : goal.returns-else-known
+returns-else-known c = record {
+  told = c.number_after-in-Some.ensures.after
+      ∙ same_number (is_apart (c.args.change.now ∷ [])) c.args.lost.now c.args.won.now (map note_of c.in-Some.own.now) c.args.reads.now c.args.number c.how_many_own.result c.how_many_own-in-Some.result c.requires.rest
+      c.in-Some.ensures.same c.how_many_own.ensures.many c.how_many_own-in-Some.ensures.many;
+}

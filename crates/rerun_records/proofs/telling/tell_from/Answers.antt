@@ -1,0 +1,79 @@
+use Rattle.std.proofs.Common.{rules, ◌≡◌, ◌≤◌, ◌<◌, ◌+◌, ℕ, suc, List, None, IfNone, length, length-set, sym, ◌∙◌, ap, get_or, subst, arith}
+use Rattle.rerun_records.specs.Counts.{how_many}
+use Rattle.rerun_records.specs.Covers.{AreApart}
+use Rattle.rerun_records.specs.Numbers.{most_number, number_by, number_then}
+use Rattle.rerun_records.specs.Same.{same_note}
+use Rattle.rerun_records.proofs.NumbersAt.{told_to, told_all, told_one, told_apart, small_set}
+use Rattle.rerun_records.proofs.telling.tell_from.Goals as goal
+
+pub loop-place-init : goal.loop-place-init
+loop-place-init c =
+    let numbers = c.args.numbers.now in
+    let list = c.args.list.now in
+    let place = c.args.place in
+    let lost = c.args.lost.now in
+    let won = c.args.won.now in
+    let number = c.number_after-number.result in
+    let there : place < length list = c.requires.within in
+    let many = c.requires.places in
+    let has_number : place < length numbers = omega (arith, there, many) in
+    let before : (i : ℕ) → get_or numbers i 0 ≤ most_number = λ i. (let fits = c.type_inv.numbers i in search rules) in
+    let small : number ≤ most_number = search rules in
+    let next : place + 1 ≡ suc place = omega arith in
+    let numbered = c.renumber.ensures.numbered in
+    let counts = c.first_counts-known in
+    let is_then : number ≡ number_then lost won (get_or numbers place 0) c.index-list-place.result.reads =
+    c.number_after-number.ensures.after
+    ∙ ap (λ (m : ℕ). number_by (get_or numbers place 0) m counts.result.fewer) counts.ensures.more
+    ∙ ap (λ (m : ℕ). number_by (get_or numbers place 0) (how_many same_note lost c.reads.result.now) m) counts.ensures.fewer
+    ∙ ap (number_then lost won (get_or numbers place 0)) c.reads.ensures.reads in
+    record {
+      within = omega (arith, there);
+      places = ap length numbered ∙ length-set numbers place number ∙ many;
+      small = subst (λ (ns : List ℕ). (i : ℕ) → get_or ns i 0 ≤ most_number) (sym numbered) (small_set numbers place number small before);
+      told = ap (λ ns. told_to lost won place ns list) numbered
+          ∙ told_one lost won place numbers list number c.index-list-place.result has_number there is_then c.index-list-place.is
+          ∙ ap (λ k. told_to lost won k numbers list) (sym next)
+          ∙ told_apart c.args.change.now lost won (place + 1) (length list) numbers list c.requires.rest before (omega (arith, there)) c.requires.apart
+          ∙ told_all lost won numbers list many;
+      fit = c.renumber.ensures.fit;
+    }
+
+pub loop-place-preserved : goal.loop-place-preserved
+loop-place-preserved c =
+    let l = c.loop-place in
+    let list = c.args.list.now in
+    let place = c.in-Some.place in
+    let number = c.told-number.result in
+    let before = c.in-Some.ensures.before in
+    let inside = l.invariant.within in
+    let many = l.invariant.places in
+    let there : place < length list = omega (arith, before, inside) in
+    let has_number : place < length l.numbers = omega (arith, there, many) in
+    let small : number ≤ most_number = search rules in
+    let next : place + 1 ≡ suc place = omega arith in
+    let numbered = c.renumber-in-Some.ensures.numbered in
+    record {
+      within = omega (arith, there);
+      places = ap length numbered ∙ length-set l.numbers place number ∙ many;
+      small = subst (λ (ns : List ℕ). (i : ℕ) → get_or ns i 0 ≤ most_number) (sym numbered) (small_set l.numbers place number small l.invariant.small);
+      told = ap (λ ns. told_to c.args.lost.now c.args.won.now place ns list) numbered
+          ∙ told_one c.args.lost.now c.args.won.now place l.numbers list number c.index-list-place-in-Some.result has_number there
+          (c.told-number.ensures.told ∙ ap (number_then c.args.lost.now c.args.won.now (get_or l.numbers place 0)) c.reads-in-Some.ensures.reads) c.index-list-place-in-Some.is
+          ∙ ap (λ k. told_to c.args.lost.now c.args.won.now k l.numbers list) (sym next)
+          ∙ told_apart c.args.change.now c.args.lost.now c.args.won.now (place + 1) l.end l.numbers list c.requires.rest l.invariant.small (omega (arith, before)) c.in-Some.ensures.apart
+          ∙ l.invariant.told;
+      fit = c.renumber-in-Some.ensures.fit;
+    }
+
+pub returns : goal.returns
+returns c =
+    let l = c.loop-place in
+    let list = c.args.list.now in
+    let none : c.next_touched.result ≡ None = search rules in
+    let apart : AreApart list c.args.change.now 0 l.end = subst (λ o. IfNone o (AreApart list c.args.change.now 0 l.end)) none c.next_touched.ensures.none in
+    record {
+      told = told_apart c.args.change.now c.args.lost.now c.args.won.now 0 l.end l.numbers list c.requires.rest l.invariant.small (omega arith) apart ∙ l.invariant.told;
+      places = l.invariant.places;
+      fit = l.invariant.fit;
+    }
