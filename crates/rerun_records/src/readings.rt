@@ -268,6 +268,7 @@ fn parts_agree(parts: &[Arc<Node>], tables: &Tables) -> bool
 }
 
 /// Whether one of the changes may have changed what was read there or below.
+#[inline(always)]
 pub(crate) fn node_is_touched(node: &Node, changes: &[(usize, i64)]) -> bool
     requires covered { is_covered node.now ≡ true }
     ensures apart { result ≡ false → every (is_apart changes.now) (node_notes node.now) ≡ true }
@@ -282,6 +283,7 @@ pub(crate) fn node_is_touched(node: &Node, changes: &[(usize, i64)]) -> bool
 }
 
 /// Whether one of the changes may have changed one of these readings.
+#[inline(always)]
 pub(crate) fn are_own_touched(own: &[Reading], changes: &[(usize, i64)]) -> bool
     ensures touched { result
         ≡ list_any (λ note. list_any (rests_on note) changes.now) (map note_of own.now) }
