@@ -345,3 +345,10 @@ module _ (records : List PlainRecord) (change : ℕ × ℤ) where
         | inl more ↦ a p r (omega (arith, n, more)) upto there
         | inr less ↦ (let here : p ≡ place = omega (arith, less, from) in one r (subst (λ (k : ℕ). slice_get records k ≡ Some r) here there))
       ]
+
+-- one hull more in which the change doesn't lie, before those places
+pub one_hull_more : (records : List PlainRecord) (hulls : List (List Span)) (change : ℕ × ℤ) (number end : ℕ) → 0 < number → is_hull_apart (change ∷ []) (slice_get hulls (number - 1)) ≡ true
+    → CoversLevel records (record { width = 32; hulls = hulls }) → AreApart records change (number * 32) end → AreApart records change ((number - 1) * 32) end
+one_hull_more records hulls change number end some apart h rest =
+    let ends : (number - 1) * 32 + 32 ≡ number * 32 = omega (arith, some) in
+    apart_then records change ((number - 1) * 32) (number * 32) end (passed_apart records (record { width = 32; hulls = hulls }) change (number - 1) ((number - 1) * 32) (number * 32) h refl ends apart) rest

@@ -105,7 +105,7 @@ impl Covers {
                 return first;
             }
         }
-        apart_from(&self.narrow, NARROW, end, change)
+        apart_by_narrow(&self.narrow, end, change)
     }
 
     /// The last place before that end whose record may have read what the change of the row, given by its table's number and its own,
@@ -193,6 +193,27 @@ fn apart_from(hulls: &[Hull], width: usize, end: usize, change: &(usize, i64)) -
     } else {
         end
     }
+}
+
+// The same by narrow hulls, one before another, down to where a wider one may end.
+#[inline(always)]
+fn apart_by_narrow(hulls: &[Hull], end: usize, change: &(usize, i64)) -> usize
+    ensures within { result ≤ end }
+    ensures apart { (records : List PlainRecord)
+        → CoversLevel records (record { width = 32; hulls = hulls.now })
+        → AreApart records change.now result end }
+{
+    if end % NARROW != 0 {
+        return end;
+    }
+    let mut number = end / NARROW;
+    while number > 0 && is_hull_apart(hulls, number - 1, change) {
+        number -= 1;
+        if number % TOGETHER == 0 {
+            return number * NARROW;
+        }
+    }
+    number * NARROW
 }
 
 // Whether the record, where there is one, may have read what the change may have changed.
