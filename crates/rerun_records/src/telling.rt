@@ -97,7 +97,7 @@ fn renumber(numbers: &mut [u32], blocks: &mut Blocks, list: &[Record], place: us
     blocks.drop_at(place);
 }
 
-// How many of the lost and of the won readings a record has; where that is known so, all of them are among these readings.
+// How many of the lost and of the won readings a record has. Where it is known, they are so many of these readings of its lowest instance.
 #[derive(Clone, Copy)]
 struct Counted<'a> {
     own: &'a [Reading],
