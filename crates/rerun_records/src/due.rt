@@ -46,9 +46,23 @@ impl Due {
         self.all
     }
 
-    /// Takes the listed places out, and none is noted any more.
+    /// Takes the listed places out, and none is noted any more; where memory is refused all are noted, and none is listed.
     pub(crate) fn take(&mut self, alloc: Global) -> Vec<u32> {
         self.all = false;
-        mem::replace(&mut self.places, Vec::new(alloc))
+        if self.are_many() {
+            return mem::replace(&mut self.places, Vec::new(alloc));
+        }
+        // Few places behind an edit: they are copied, and the room is kept for the next one.
+        let mut taken = Vec::new(alloc);
+        if taken.extend_from_slice(&self.places).is_err() {
+            self.note_all();
+        }
+        self.places.clear();
+        taken
+    }
+
+    // Whether a good part of the room is listed.
+    fn are_many(&self) -> bool {
+        self.places.len() > self.places.capacity() / 4
     }
 }
