@@ -1,5 +1,5 @@
 -- Flags that are put up one by one.
-use Rattle.std.proofs.Common.{◌≡◌, ℕ, zero, suc, ◌+◌, ◌<◌, Bool, true, false, ◌||◌, List, [], ◌∷◌, length, slice_set, refl, sym, ap, ◌∙◌, subst, arith, add-one, get_or}
+use Rattle.std.proofs.Common.{◌≡◌, ℕ, zero, suc, ◌+◌, ◌<◌, Bool, true, false, ◌||◌, List, [], ◌∷◌, length, replicate, slice_set, refl, sym, ap, ◌∙◌, subst, arith, add-one, get_or}
 use Rattle.positions.specs.Layers.{either}
 use Rattle.layers.specs.Folds.{flag_at}
 
@@ -36,3 +36,34 @@ pub all_raised : (xs ys : List Bool) → raised (length xs) xs ys ≡ either xs 
 all_raised [] ys = refl
 all_raised (x ∷ xs) [] = ap (λ zs. x ∷ zs) (kept xs)
 all_raised (x ∷ xs) (y ∷ ys) = ap (λ zs. (x || y) ∷ zs) (all_raised xs ys)
+
+-- ---- flags that are put down one by one
+
+-- the first i flags are down
+abbrev pub lowered : ℕ → List Bool → List Bool
+lowered zero xs = xs
+lowered (suc i) [] = []
+lowered (suc i) (x ∷ xs) = false ∷ lowered i xs
+
+next_lowered : (i : ℕ) (xs : List Bool) → i < length xs → slice_set (lowered i xs) i false ≡ lowered (suc i) xs
+next_lowered i [] l = absurd (omega arith)
+next_lowered zero (x ∷ xs) l = refl
+next_lowered (suc i) (x ∷ xs) l = ap (λ zs. false ∷ zs) (next_lowered i xs (omega arith))
+
+pub lower_next : (i : ℕ) (xs : List Bool) → i < length xs → slice_set (lowered i xs) i false ≡ lowered (i + 1) xs
+lower_next i xs l = next_lowered i xs l ∙ ap (λ k. lowered k xs) (sym (add-one i))
+
+pub length_lowered : (i : ℕ) (xs : List Bool) → length (lowered i xs) ≡ length xs
+length_lowered zero xs = refl
+length_lowered (suc i) [] = refl
+length_lowered (suc i) (x ∷ xs) = ap suc (length_lowered i xs)
+
+pub all_lowered : (xs : List Bool) → lowered (length xs) xs ≡ replicate (length xs) false
+all_lowered [] = refl
+all_lowered (x ∷ xs) = ap (λ zs. false ∷ zs) (all_lowered xs)
+
+-- a flag that is down stays as it is
+pub lowered_already : (i : ℕ) (xs : List Bool) → i < length xs → get_or xs i false ≡ false → slice_set xs i false ≡ xs
+lowered_already i [] l e = absurd (omega arith)
+lowered_already zero (x ∷ xs) l e = ap (λ z. z ∷ xs) (sym e)
+lowered_already (suc i) (x ∷ xs) l e = ap (λ zs. x ∷ zs) (lowered_already i xs (omega arith) e)

@@ -1,5 +1,5 @@
 -- What a record keeps of a layer, gathered one number after another.
-use Rattle.std.proofs.Common.{◌≡◌, ℕ, zero, suc, ◌+◌, ◌<◌, ◌≤◌, Bool, true, false, cond, List, [], ◌∷◌, ◌++◌, length, drop, Option, Some, slice_get, refl, sym, ap, ◌∙◌, subst, arith, get_or, add-one}
+use Rattle.std.proofs.Common.{◌≡◌, ℕ, zero, suc, ◌+◌, ◌<◌, ◌≤◌, Bool, true, false, cond, List, [], ◌∷◌, ◌++◌, length, drop, Option, None, Some, slice_get, refl, sym, ap, ◌∙◌, subst, arith, get_or, add-one}
 use Rattle.std.proofs.lemmas.List.{append_assoc, append-nil, drop_all, drop_more}
 use Rattle.std.specs.Prelude.{IfSome}
 use Rattle.std.proofs.lemmas.List.Elements.{All-push}
@@ -13,7 +13,7 @@ use Rattle.monoid_laws.specs.Kinds.{identity_of, AreWorths}
 use Rattle.rerun_records.specs.Named.{IsValueAt, AreValuesFrom, HasValuesIfAnswers, HaveValues}
 use Rattle.positions.specs.Values.{same_worth}
 use Rattle.positions.specs.Tallies.{touched_from, entries_from}
-use Rattle.layers.specs.Recordings.{touched_at, entry_of}
+use Rattle.layers.specs.Recordings.{touched_at, entry_of, found_entry}
 use Rattle.rerun_records.proofs.Absorbed.{each, values_lower}
 
 -- ---- the values of reducers
@@ -111,6 +111,11 @@ module _ (xs : List (ℕ × ℕ)) (i : ℕ) (es : List (Name × ℕ)) (flags : L
   pub entries_all : length flags ≤ i → xs ≡ entries_from 0 es flags
   entries_all l =
       sym (append-nil xs) ∙ ap (λ zs. xs ++ zs) (sym (no_flags (drop i es))) ∙ ap (λ fs. xs ++ entries_from i (drop i es) fs) (sym (drop_all i flags l)) ∙ so_far
+
+-- the only procedure entered
+pub only_entry : (es : List (Name × ℕ)) (flags : List Bool) (o : Option ℕ) → found_entry es o ≡ entries_from 0 es flags → IfSome o (λ i. entries_from 0 es flags ≡ entry_of i (slice_get es i))
+only_entry es flags None e = tt
+only_entry es flags (Some i) e = sym e
 
 -- ---- the identities
 

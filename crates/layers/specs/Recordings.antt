@@ -1,5 +1,5 @@
 -- What a record keeps of a layer, before it is known which instance's record it is.
-use Rattle.std.specs.Prelude.{ℕ, suc, ◌-◌, ℤ, cond, List, [], ◌∷◌, Option, Some, None}
+use Rattle.std.specs.Prelude.{ℕ, suc, ◌-◌, ℤ, cond, List, [], ◌∷◌, Option, Some, None, slice_get}
 use Rattle.meaning.specs.Tree.{Name}
 use Rattle.monoid_laws.specs.Worth.{Worth}
 use Rattle.monoid_laws.specs.declared.Kind.{Kind}
@@ -47,3 +47,8 @@ touched_at i k w = cond (same_worth w (identity_of k)) [] ((i, w) ∷ [])
 abbrev pub entry_of : ℕ → Option (Name × ℕ) → List (ℕ × ℕ)
 entry_of i None = []
 entry_of i (Some e) = (i, e.1) ∷ []
+
+-- the entry of the procedure that was found to be the only one
+abbrev pub found_entry : List (Name × ℕ) → Option ℕ → List (ℕ × ℕ)
+found_entry es None = []
+found_entry es (Some i) = entry_of i (slice_get es i)

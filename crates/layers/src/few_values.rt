@@ -51,8 +51,19 @@ pub(crate) fn values_of_two<V: View>(
 {
     let _ = hypermap.len();
     let first = touched_value(hypermap, 0, &kinds[0])?;
-    let second = touched_value(hypermap, 1, &kinds[1])?;
-    Ok(both_listed(alloc, first, second))
+    match touched_value(hypermap, 1, &kinds[1]) {
+        Ok(second) => Ok(both_listed(alloc, first, second)),
+        Err(error) => {
+            let_go(first);
+            Err(error)
+        }
+    }
+}
+
+/// Lets a value go where no record is made after all. Its drop wants much room, which is kept out of who calls this.
+#[inline(never)]
+fn let_go(value: Option<(usize, Val)>) {
+    let _ = value.is_none();
 }
 
 /// A reducer's number with a copy of its value, unless that is the identity.

@@ -8,6 +8,7 @@ ghost use Rattle.evaluation.specs.Values.{value_at, values_at, entry_at, bounds_
 ghost use Rattle.positions.specs.Layers.{blank, entering};
 ghost use Rattle.layers.specs.Ends.{HasNoted, without_unkept};
 
+use crate::lowering::put_all_down;
 use crate::spares::SpareLists;
 use evaluation::entry::entry_slots;
 use evaluation::notes::Notes;
@@ -83,9 +84,27 @@ impl<V: View> Layer<V> {
         )
     }
 
-    /// A layer that has noted nothing, in those empty lists: the last one is for the reducers that will be used.
+    /// A layer that has noted nothing, in lists of one that was closed, where there are any; refused for want of memory alone, and
+    /// then the kit is handed back.
     #[inline(always)]
-    pub fn open_in(
+    pub fn open_from(
+        alloc: Global,
+        kit: Kit<V>,
+        keeps: bool,
+        procedures: usize,
+        spares: &mut SpareLists,
+    ) -> Result<Layer<V>, (AllocError, Kit<V>)>
+        ensures open { IfOk result (λ layer. layer ≡ blank keeps kit procedures) }
+        ensures handed_back { IfErr result (λ e. e.1 ≡ kit) }
+    {
+        let (notes, flags, used) = spares.take(alloc);
+        Layer::open_in(alloc, kit, keeps, procedures, notes, flags, used)
+    }
+
+    /// A layer that has noted nothing, in those lists: the last one is for the reducers that will be used. How the flags stand
+    /// doesn't matter.
+    #[inline(always)]
+    fn open_in(
         alloc: Global,
         kit: Kit<V>,
         keeps: bool,
@@ -95,12 +114,11 @@ impl<V: View> Layer<V> {
         used: Vec<usize>,
     ) -> Result<Layer<V>, (AllocError, Kit<V>)>
         requires no_notes { notes ≡ [] }
-        requires no_flags { entered.items ≡ [] }
         requires none_used { used.items ≡ [] }
         ensures open { IfOk result (λ layer. layer ≡ blank keeps kit procedures) }
         ensures handed_back { IfErr result (λ e. e.1 ≡ kit) }
     {
-        if entered.resize(procedures, false).is_err() {
+        if put_all_down(&mut entered, procedures).is_err() {
             return Err((AllocError, kit));
         }
         Ok(Layer {

@@ -8,6 +8,7 @@ mod gathered;
 mod identities;
 mod joining;
 pub mod layer;
+mod lowering;
 pub mod recording;
 mod rising;
 pub mod spares;

@@ -1,5 +1,6 @@
 //! What is kept of a memo instance whose layer is open, and what a record keeps of the layer once it is over.
-ghost use Rattle.std.specs.Prelude.{true, false, suc, ◌≡◌, ◌<◌, ◌++◌, IfOk, OnOk, length, map, slice_get};
+ghost use Rattle.std.specs.Prelude.{true, false, suc, ◌≡◌, ◌<◌, ◌++◌, ℕ, IfOk, IfSome, List, OnOk, length, map, slice_get};
+ghost use Rattle.meaning.specs.Tree.{Name};
 ghost use Rattle.std.specs.List.{list_any};
 ghost use Rattle.monoid_laws.specs.Worth.{Worth};
 ghost use Rattle.monoid_laws.specs.Kinds.{meaning};
@@ -133,6 +134,12 @@ impl Recording {
         ensures reads { result.now ≡ self.now.reads }
     {
         &self.reads
+    }
+
+    /// Lets go what would have been kept. That is rare, and its drop wants much room: so it is kept out of who calls this.
+    #[inline(never)]
+    pub(crate) fn let_go(self) {
+        let _ = self.levels;
     }
 
     /// The record of an instance that is over with that value. It takes no memory.
@@ -477,8 +484,53 @@ fn mark(seen: &mut IndexSet<Note>, note: Note) -> Result<(), AllocError>
     }
 }
 
-/// The numbers of the procedures whose flags are up, each with its revision number.
+/// The numbers of the procedures whose flags are up, each with its revision number. That of the only one is put into its list at once.
+#[inline(always)]
 fn entries(
+    alloc: Global,
+    flags: &[bool],
+    program: &Checked,
+) -> Result<ShortList<(usize, u64)>, AllocError>
+    ensures entries { IfOk result (λ es.
+        items_in es ≡ entries_from 0 program.now.revisions flags.now) }
+{
+    match only_up(flags) {
+        Some(procedure) => Ok(entry_of_one(alloc, procedure, program)),
+        None => entries_of_all(alloc, flags, program),
+    }
+}
+
+/// The number of the only flag that is up; none where there is none or another one.
+#[inline(always)]
+fn only_up(flags: &[bool]) -> Option<usize>
+    ensures only { (es : List (Name × ℕ)) → IfSome result (λ i. entries_from 0 es flags.now ≡ entry_of i (slice_get es i)) }
+{
+    let mut found = None;
+    for i in 0..flags.len() {
+        if flags[i] {
+            if found.is_some() {
+                return None;
+            }
+            found = Some(i);
+        }
+    }
+    found
+}
+
+/// The number of a procedure, where there is one, with its revision number, in a list. It takes no memory.
+#[inline(always)]
+fn entry_of_one(alloc: Global, procedure: usize, program: &Checked) -> ShortList<(usize, u64)>
+    ensures entry { items_in result ≡ entry_of procedure (slice_get program.now.revisions procedure) }
+{
+    match program.revision_at(procedure) {
+        Some(revision) => ShortList::One((procedure, revision)),
+        None => ShortList::new(Vec::new(alloc)),
+    }
+}
+
+/// The numbers of the procedures whose flags are up, however many, each with its revision number.
+#[inline(never)]
+fn entries_of_all(
     alloc: Global,
     flags: &[bool],
     program: &Checked,

@@ -18,16 +18,16 @@ impl SpareLists {
         }
     }
 
-    /// Empty lists of notes, of flags and of used reducers.
-    pub fn take(&mut self, alloc: Global) -> (Notes, Vec<bool>, Vec<usize>)
+    /// Lists of notes, of flags and of used reducers. The flags stand as they were left: there are mostly as many in the next layer,
+    /// and putting a few down is quicker than making them anew.
+    #[inline(always)]
+    pub(crate) fn take(&mut self, alloc: Global) -> (Notes, Vec<bool>, Vec<usize>)
         ensures no_notes { result.0 ≡ [] }
-        ensures no_flags { result.1.items ≡ [] }
         ensures none_used { result.2.items ≡ [] }
     {
         match self.lists.pop() {
-            Some((mut notes, mut flags, mut used)) => {
+            Some((mut notes, flags, mut used)) => {
                 notes.clear();
-                flags.clear();
                 used.clear();
                 (notes, flags, used)
             }

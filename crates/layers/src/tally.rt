@@ -195,13 +195,17 @@ impl Tally {
     {
         make_room(&mut self.made)?;
         let levels = top.levels()?;
-        let contribution = top.touched(alloc, program)?;
         let reads = top.reads(alloc)?;
         let entered = top.entries(alloc, program)?;
+        let contribution = top.touched(alloc, program)?;
         let recording = Recording::new(top, program, contribution, reads, entered, levels);
-        below.cover(top, recording.reads())?;
-        if let Some(opened) = self.opened.pop() {
-            self.made.push_reserved(recording.record(opened, value));
+        if below.cover(top, recording.reads()).is_err() {
+            recording.let_go();
+            return Err(AllocError);
+        }
+        match self.opened.pop() {
+            Some(opened) => self.made.push_reserved(recording.record(opened, value)),
+            None => recording.let_go(),
         }
         Ok(())
     }

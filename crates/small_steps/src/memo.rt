@@ -162,9 +162,8 @@ impl<V: View> Machine<V> {
             Ok(opened) => opened,
             Err(error) => return Err((error, kit)),
         };
-        let (notes, flags, used) = self.lists.take(alloc);
         let count = program.codes().len();
-        let layer = match Layer::open_in(alloc, kit, true, count, notes, flags, used) {
+        let layer = match Layer::open_from(alloc, kit, true, count, &mut self.lists) {
             Ok(layer) => layer,
             Err(refused) => return Err(refused),
         };

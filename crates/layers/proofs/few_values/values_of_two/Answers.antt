@@ -1,4 +1,4 @@
-use Rattle.std.proofs.Common.{◌≡◌, ◌<◌, ◌++◌, List, length, map, subst, sym, ap, ◌∙◌, arith, get_or}
+use Rattle.std.proofs.Common.{◌≡◌, ◌++◌, List, length, map, subst, sym, ap, ◌∙◌, arith, get_or}
 use Rattle.std.specs.Prelude.{option_to_list}
 use Rattle.std.proofs.lemmas.List.{map-append}
 use Rattle.monoid_laws.specs.Worth.{Worth}
@@ -11,8 +11,8 @@ use Rattle.layers.proofs.Touches.{touched_values}
 use Rattle.layers.proofs.Few.{two_touched}
 use Rattle.layers.proofs.few_values.values_of_two.Goals as goal
 
-pub returns-clause-touched : goal.returns-clause-touched
-returns-clause-touched g c =
+pub returns-in-Ok-clause-touched : goal.returns-in-Ok-clause-touched
+returns-in-Ok-clause-touched g c =
     let ks : List Kind = c.args.hypermap.now.kinds in
     let ws : List Worth = c.args.hypermap.now.worths in
     let both : length c.args.hypermap.now.kinds ≡ length c.args.hypermap.now.worths = each ks ws c.len.ensures.worths in
@@ -20,16 +20,16 @@ returns-clause-touched g c =
     let v : (x : Worth) × (x ≡ get_or ws 0 x) = there ws 0 (omega (arith, both, two)) in
     let w : (x : Worth) × (x ≡ get_or ws 1 x) = there ws 1 (omega (arith, both, two)) in
     ap (λ es. map touched es) c.both_listed.ensures.listed
-    ∙ map-append touched (option_to_list c.in_ok-first.first) (option_to_list c.in_ok-second.second)
-    ∙ ap (λ es. es ++ map touched (option_to_list c.in_ok-second.second)) (c.in_ok-first.ensures.touched v.0 v.1)
-    ∙ ap (λ es. touched_at 0 c.index-kinds-0.result v.0 ++ es) (c.in_ok-second.ensures.touched w.0 w.1)
+    ∙ map-append touched (option_to_list c.in_ok-first.first) (option_to_list c.in-Ok.second)
+    ∙ ap (λ es. es ++ map touched (option_to_list c.in-Ok.second)) (c.in_ok-first.ensures.touched v.0 v.1)
+    ∙ ap (λ es. touched_at 0 c.index-kinds-0.result v.0 ++ es) (c.in-Ok.ensures.touched w.0 w.1)
     ∙ two_touched ks ws c.index-kinds-0.result c.index-kinds-1.result v.0 w.0 two both
     (subst (λ (cs : List Kind). c.index-kinds-0.result ≡ get_or cs 0 c.index-kinds-0.result) (sym c.requires.kinds) c.index-kinds-0.is)
     (subst (λ (cs : List Kind). c.index-kinds-1.result ≡ get_or cs 1 c.index-kinds-1.result) (sym c.requires.kinds) c.index-kinds-1.is)
     v.1 w.1
 
-pub returns-clause-values : goal.returns-clause-values
-returns-clause-values g c =
+pub returns-in-Ok-clause-values : goal.returns-in-Ok-clause-values
+returns-in-Ok-clause-values g c =
     let ks : List Kind = c.args.hypermap.now.kinds in
     let ws : List Worth = c.args.hypermap.now.worths in
-    subst (AreValuesFrom 0 ks) (sym (returns-clause-touched g c)) (touched_values ks ws c.len.ensures.worths)
+    subst (AreValuesFrom 0 ks) (sym (returns-in-Ok-clause-touched g c)) (touched_values ks ws c.len.ensures.worths)

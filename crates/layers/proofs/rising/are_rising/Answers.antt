@@ -1,5 +1,4 @@
-use Rattle.std.proofs.Common.{◌<◌, arith, sym, subst}
-use Rattle.evaluation.specs.Short.{note_of}
+use Rattle.std.proofs.Common.{◌<◌, arith, subst}
 use Rattle.layers.specs.Ranks.{rank_of}
 use Rattle.layers.proofs.Ascending.{rising_next, all_before}
 use Rattle.layers.proofs.rising.are_rising.Goals as goal

@@ -16,9 +16,3 @@ returns-in-Some-clause-values g c = λ h.
     ∙ sym c.in_ok-contribution.ensures.touched in
     one_more_values c.args.top.now.kinds c.self.inside.made.items c.push_reserved.new.self.items c.record.result more
     (subst (AreValuesFrom 0 c.args.top.now.kinds) (sym same) c.in_ok-contribution.ensures.values) before
-
-pub returns-in_err-cover-clause-values : goal.returns-in_err-cover-clause-values
-returns-in_err-cover-clause-values g c = λ h.
-    let before : HaveValues c.args.top.now.kinds c.self.inside.made.items = subst (λ (t : PlainTally). HaveValues c.args.top.now.kinds t.made) (sym c.self.view_is) h in
-    let same : c.make_room.new.made.items ≡ c.self.inside.made.items = search rules in
-    subst (HaveValues c.args.top.now.kinds) (sym same) before
