@@ -7,3 +7,4 @@ pub mod Memos
 pub mod Nesting
 pub mod Leaving
 pub mod Turns
+pub mod Padding

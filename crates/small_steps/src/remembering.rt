@@ -1,7 +1,7 @@
 // Memo instances that are called and spawned: their arguments are kept, by which a record of them is looked up.
 ghost use Rattle.std.specs.Prelude.{◌≡◌, [], true, false, ◌<◌, OnErr, OnOk, IfOk, map};
 ghost use Rattle.linked_program.specs.CodeView.{expression as plain, memo_of};
-ghost use Rattle.evaluation.specs.Slots.{slots_for};
+ghost use Rattle.evaluation.specs.Slots.{padded, slots_for};
 ghost use Rattle.evaluation.specs.Values.{values_at};
 ghost use Rattle.positions.specs.Activations.{WorkFits};
 ghost use Rattle.positions.specs.Advance.{answer_for, evaluated, nested, nested_memo, pushed, recalled};
@@ -43,8 +43,33 @@ fn slots_with(room: Vec<Slot>, size: usize, values: &[i64]) -> Result<Vec<Slot>,
     for value in values {
         slots.push(Slot::Has(*value))?;
     }
-    slots.resize(size, Slot::Unset)?;
+    fill_up(&mut slots, size)?;
     Ok(slots)
+}
+
+/// Brings the slots to so many, those behind without a value. Most instances have few of these, which are put in one by one: that is
+/// quicker than a call.
+#[inline(always)]
+fn fill_up(slots: &mut Vec<Slot>, size: usize) -> Result<(), AllocError>
+    ensures padded { OnOk result (slots.new.items ≡ padded size slots.old.items) }
+{
+    put_unset(slots, size)?;
+    put_unset(slots, size)?;
+    if slots.len() == size {
+        return Ok(());
+    }
+    slots.resize(size, Slot::Unset)
+}
+
+/// Puts in a slot without a value, where there are fewer than so many.
+#[inline(always)]
+fn put_unset(slots: &mut Vec<Slot>, size: usize) -> Result<(), AllocError>
+    ensures same { OnOk result (padded size slots.new.items ≡ padded size slots.old.items) }
+{
+    if slots.len() < size {
+        slots.push(Slot::Unset)?;
+    }
+    Ok(())
 }
 
 impl<V: View> Machine<V> {
