@@ -55,7 +55,38 @@ pub fn run_ahead<V: View>(machine: &mut Machine<V>, alloc: Global, setting: Sett
     if leaves_for_memo(machine, setting) {
         return;
     }
+    if returns_to_record(machine, setting) {
+        return;
+    }
     run_on(machine, alloc, setting);
+}
+
+/// The statements of an instance with a layer of its own, where that comes next; whether it does them all by itself, so that its
+/// layer becomes a record now. Most such instances do, and need no more stretches.
+#[inline(always)]
+fn returns_to_record<V: View>(machine: &mut Machine<V>, setting: Setting<'_>) -> bool
+    requires kinds { machine.old.layer.kinds ≡ setting.program.now.kinds }
+    ensures ahead { IsAhead (lent setting.entry) machine.old machine.new }
+{
+    match machine.phase {
+        Phase::Running => {
+            if !machine.tally.is_own(machine.path.len()) {
+                return false;
+            }
+            returns_alone(machine, setting)
+        }
+        _ => false,
+    }
+}
+
+/// The statements that the topmost instance does by itself; whether the last one gives a value back.
+#[inline(never)]
+fn returns_alone<V: View>(machine: &mut Machine<V>, setting: Setting<'_>) -> bool
+    requires running { machine.old.phase ≡ Phase.Running }
+    requires kinds { machine.old.layer.kinds ≡ setting.program.now.kinds }
+    ensures ahead { IsAhead (lent setting.entry) machine.old machine.new }
+{
+    statements_ahead(machine, setting).is_some()
 }
 
 /// The topmost instance's value goes to the one below it, where that comes next; whether a loop over a memo procedure goes on there,
@@ -154,6 +185,7 @@ fn block_ahead<V: View>(machine: &mut Machine<V>, alloc: Global, setting: Settin
 }
 
 /// The statements that the topmost instance does by itself, as far as to the one that gives a value back.
+#[inline(always)]
 fn statements_ahead<V: View>(machine: &mut Machine<V>, setting: Setting<'_>) -> Option<i64>
     requires running { machine.old.phase ≡ Phase.Running }
     requires kinds { machine.old.layer.kinds ≡ setting.program.now.kinds }
