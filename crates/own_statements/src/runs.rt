@@ -23,6 +23,7 @@ const STRETCHES: u32 = 4096;
 
 /// Does the statements that the instance has left, as far as they enter no other instance, are no loop and no read, have
 /// no fault and take no memory that is refused; the value that the last one gives back, if it does.
+#[inline(always)]
 pub fn run<V: View>(
     layer: &mut Layer<V>,
     setting: Setting<'_>,
