@@ -80,6 +80,10 @@ impl<V: View> Machine<V> {
         if depth == 0 {
             return None;
         }
+        // In a first run there are none, and each memo instance asks.
+        if setting.records.is_empty() {
+            return None;
+        }
         setting.records.valid(
             self.top.procedure(),
             &self.arguments,
