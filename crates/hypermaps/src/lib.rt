@@ -52,6 +52,19 @@ fn is_in_order(used: &[usize], reducer: usize) -> bool
     }
 }
 
+/// Whether a reducer stands nowhere among the used ones, of which there is none, or one alone: so it is at the first uses in a layer
+/// of a memo instance.
+#[inline(always)]
+fn is_new_among_few(used: &[usize], reducer: usize) -> bool
+    ensures new { result ≡ true → list_any (nat_eq reducer) used.now ≡ false }
+{
+    match used.len() {
+        0 => true,
+        1 => used[0] != reducer,
+        _ => false,
+    }
+}
+
 /// Notes that a reducer is used.
 #[inline(always)]
 fn note_use(used: &mut Vec<usize>, reducer: usize) -> Result<(), AllocError>
@@ -61,7 +74,23 @@ fn note_use(used: &mut Vec<usize>, reducer: usize) -> Result<(), AllocError>
     if is_in_order(used, reducer) {
         return Ok(());
     }
+    if is_new_among_few(used, reducer) {
+        return push_use(used, reducer);
+    }
     note_anew(used, reducer)
+}
+
+/// Puts a reducer behind the used ones, among which it isn't.
+#[inline(always)]
+fn push_use(used: &mut Vec<usize>, reducer: usize) -> Result<(), AllocError>
+    requires new { list_any (nat_eq reducer) used.old.items ≡ false }
+    ensures keys { OnOk result (used.new.items ≡ used_also used.old.items reducer) }
+    ensures same { OnErr result (used.new.items ≡ used.old.items) }
+{
+    match used.push(reducer) {
+        Ok(()) => Ok(()),
+        Err(_) => Err(AllocError),
+    }
 }
 
 /// Notes that a reducer is used, by a look at all that are.
