@@ -1,5 +1,5 @@
 //! A layer of a strand: the views of a kit, and what was read and entered since they were opened.
-ghost use Rattle.std.specs.Prelude.{◌≡◌, ◌∷◌, [], ◌<◌, IfOk, IfErr, Some, true, false, length, map, take, slice_get};
+ghost use Rattle.std.specs.Prelude.{◌≡◌, ◌∷◌, [], ◌<◌, IfOk, IfErr, Some, true, false, length, map, replicate, take, slice_get};
 ghost use Rattle.monoid_laws.specs.declared.Kind.{Kind};
 ghost use Rattle.monoid_laws.specs.Kinds.{AreWorths, meaning};
 ghost use Rattle.linked_program.specs.CodeView.{expression as plain};
@@ -8,7 +8,6 @@ ghost use Rattle.evaluation.specs.Values.{value_at, values_at, entry_at, bounds_
 ghost use Rattle.positions.specs.Layers.{blank, entering};
 ghost use Rattle.layers.specs.Ends.{HasNoted, without_unkept};
 
-use crate::lowering::put_all_down;
 use crate::spares::SpareLists;
 use evaluation::entry::entry_slots;
 use evaluation::notes::Notes;
@@ -71,64 +70,40 @@ impl<V: View> Layer<V> {
         ensures open { IfOk result (λ layer. layer ≡ blank keeps kit procedures) }
         ensures handed_back { IfErr result (λ e. e.1 ≡ kit) }
     {
-        let notes = Notes::new(alloc);
-        let entered = Vec::new(alloc);
-        Layer::open_in(
-            alloc,
-            kit,
-            keeps,
-            procedures,
-            notes,
-            entered,
-            Vec::new(alloc),
-        )
-    }
-
-    /// A layer that has noted nothing, in lists of one that was closed, where there are any; refused for want of memory alone, and
-    /// then the kit is handed back.
-    #[inline(always)]
-    pub fn open_from(
-        alloc: Global,
-        kit: Kit<V>,
-        keeps: bool,
-        procedures: usize,
-        spares: &mut SpareLists,
-    ) -> Result<Layer<V>, (AllocError, Kit<V>)>
-        ensures open { IfOk result (λ layer. layer ≡ blank keeps kit procedures) }
-        ensures handed_back { IfErr result (λ e. e.1 ≡ kit) }
-    {
-        let (notes, flags, used) = spares.take(alloc);
-        Layer::open_in(alloc, kit, keeps, procedures, notes, flags, used)
-    }
-
-    /// A layer that has noted nothing, in those lists: the last one is for the reducers that will be used. How the flags stand
-    /// doesn't matter.
-    #[inline(always)]
-    fn open_in(
-        alloc: Global,
-        kit: Kit<V>,
-        keeps: bool,
-        procedures: usize,
-        notes: Notes,
-        mut entered: Vec<bool>,
-        used: Vec<usize>,
-    ) -> Result<Layer<V>, (AllocError, Kit<V>)>
-        requires no_notes { notes ≡ [] }
-        requires none_used { used.items ≡ [] }
-        ensures open { IfOk result (λ layer. layer ≡ blank keeps kit procedures) }
-        ensures handed_back { IfErr result (λ e. e.1 ≡ kit) }
-    {
-        if put_all_down(&mut entered, procedures).is_err() {
+        let mut entered = Vec::new(alloc);
+        if entered.resize(procedures, false).is_err() {
             return Err((AllocError, kit));
         }
-        Ok(Layer {
+        let notes = Notes::new(alloc);
+        let used = Vec::new(alloc);
+        Ok(Layer::in_lists(alloc, kit, keeps, procedures, notes, entered, used))
+    }
+
+    /// A layer that has noted nothing, in those lists: the flags are one for each of so many procedures, and the last list is for the
+    /// reducers that will be used. It takes no memory.
+    #[inline(always)]
+    pub fn in_lists(
+        alloc: Global,
+        kit: Kit<V>,
+        keeps: bool,
+        _procedures: usize,
+        notes: Notes,
+        entered: Vec<bool>,
+        used: Vec<usize>,
+    ) -> Layer<V>
+        requires no_notes { notes ≡ [] }
+        requires flags_down { entered.items ≡ replicate _procedures false }
+        requires none_used { used.items ≡ [] }
+        ensures open { result ≡ blank keeps kit _procedures }
+    {
+        Layer {
             keeps,
             deepest: 0,
             hypermap: Hypermap::open_in(kit, used),
             notes,
             shared: Vec::new(alloc),
             entered,
-        })
+        }
     }
 
     /// The kit, each view at its identity again.

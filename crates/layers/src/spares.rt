@@ -1,8 +1,9 @@
 //! Lists that layers which are closed no longer need, for those that are opened.
-ghost use Rattle.std.specs.Prelude.{◌≡◌, []};
+ghost use Rattle.std.specs.Prelude.{◌≡◌, [], IfOk, false, replicate};
 
+use crate::lowering::put_all_down;
 use evaluation::notes::Notes;
-use std::alloc::Global;
+use std::alloc::{AllocError, Global};
 
 /// Lists for layers to come: each of notes, of flags and of used reducers. What they held doesn't matter.
 #[derive(Drop)]
@@ -18,10 +19,26 @@ impl SpareLists {
         }
     }
 
+    /// Empty lists of notes and of used reducers, and so many flags, all of them down. Want of memory is the only error.
+    #[inline(always)]
+    pub fn take(
+        &mut self,
+        alloc: Global,
+        procedures: usize,
+    ) -> Result<(Notes, Vec<bool>, Vec<usize>), AllocError>
+        ensures no_notes { IfOk result (λ lists. lists.0 ≡ []) }
+        ensures flags_down { IfOk result (λ lists. lists.1.items ≡ replicate procedures false) }
+        ensures none_used { IfOk result (λ lists. lists.2.items ≡ []) }
+    {
+        let (notes, mut flags, used) = self.left(alloc);
+        put_all_down(&mut flags, procedures)?;
+        Ok((notes, flags, used))
+    }
+
     /// Lists of notes, of flags and of used reducers. The flags stand as they were left: there are mostly as many in the next layer,
     /// and putting a few down is quicker than making them anew.
     #[inline(always)]
-    pub(crate) fn take(&mut self, alloc: Global) -> (Notes, Vec<bool>, Vec<usize>)
+    fn left(&mut self, alloc: Global) -> (Notes, Vec<bool>, Vec<usize>)
         ensures no_notes { result.0 ≡ [] }
         ensures none_used { result.2.items ≡ [] }
     {

@@ -167,13 +167,14 @@ impl<V: View> Machine<V> {
             Err(error) => return Err((error, kit)),
         };
         let count = program.codes().len();
-        let layer = match Layer::open_from(alloc, kit, true, count, &mut self.lists) {
-            Ok(layer) => layer,
-            Err(refused) => return Err(refused),
+        let (notes, flags, used) = match self.lists.take(alloc, count) {
+            Ok(lists) => lists,
+            Err(error) => return Err((error, kit)),
         };
         if self.tally.open(opened).is_err() {
-            return Err((AllocError, layer.close()));
+            return Err((AllocError, kit));
         }
+        let layer = Layer::in_lists(alloc, kit, true, count, notes, flags, used);
         self.lower
             .push_reserved(mem::replace(&mut self.layer, layer));
         self.begin();
