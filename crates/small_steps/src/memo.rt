@@ -73,6 +73,7 @@ impl<V: View> Machine<V> {
     }
 
     /// The record that answers the topmost instance.
+    #[inline(always)]
     fn record_for<'a>(&self, setting: Setting<'a>) -> Option<&'a Record>
         ensures found { option_copied result ≡ answer_for (lent setting.entry) self.now }
     {
