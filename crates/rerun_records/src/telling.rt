@@ -37,12 +37,23 @@ pub(crate) fn tell(
     ensures fit { BlocksFit (with_numbers numbers.new list.now) blocks.new }
 {
     match covers.next_touched(list, list.len(), change) {
-        Some(place) => tell_from(numbers, blocks, list, covers, place, change, lost, won),
+        Some(place) => {
+            let edit = Edit { change, lost, won };
+            tell_from(numbers, blocks, list, covers, place, edit);
+        }
         None => {}
     }
 }
 
-// The same, where the last record that may have read the row is the one at that place.
+// A change of a row, with the readings that don't hold any more and those that hold again.
+#[derive(Clone, Copy)]
+struct Edit<'a> {
+    change: &'a (usize, i64),
+    lost: &'a [Note],
+    won: &'a [Note],
+}
+
+// Tells the records up to that place of an edit. The one there is the last that may have read the row.
 #[inline(always)]
 fn tell_from(
     numbers: &mut [u32],
@@ -50,31 +61,29 @@ fn tell_from(
     list: &[Record],
     covers: &Covers,
     place: usize,
-    change: &(usize, i64),
-    lost: &[Note],
-    won: &[Note],
+    edit: Edit<'_>,
 )
     requires within { place < length list.now }
     requires places { length numbers.old ≡ length list.now }
-    requires rest { every (λ n. not (is_apart (change.now ∷ []) n)) (lost.now ++ won.now) ≡ true }
+    requires rest { every (λ n. not (is_apart (edit.change.now ∷ []) n)) (edit.lost.now ++ edit.won.now) ≡ true }
     requires fit { BlocksFit (with_numbers numbers.old list.now) blocks.old }
     requires covered { AreCovered list.now covers.now }
-    requires apart { AreApart list.now change.now (place + 1) (length list.now) }
-    ensures told { numbers.new ≡ numbers_then lost.now won.now numbers.old list.now }
+    requires apart { AreApart list.now edit.change.now (place + 1) (length list.now) }
+    ensures told { numbers.new ≡ numbers_then edit.entry.lost.now edit.entry.won.now numbers.old list.now }
     ensures places { length numbers.new ≡ length list.now }
     ensures fit { BlocksFit (with_numbers numbers.new list.now) blocks.new }
 {
-    let known = first_counts(list[place].reads(), change, lost, won);
+    let known = first_counts(list[place].reads(), edit.change, edit.lost, edit.won);
     let number = number_after(numbers[place], known.more, known.fewer);
     renumber(numbers, blocks, list, place, number);
     let mut end = place;
-    while let Some(place) = covers.next_touched(list, end, change) {
+    while let Some(place) = covers.next_touched(list, end, edit.change) {
         let number = told(
             numbers[place],
             list[place].reads(),
-            change,
-            lost,
-            won,
+            edit.change,
+            edit.lost,
+            edit.won,
             known,
         );
         renumber(numbers, blocks, list, place, number);

@@ -11,8 +11,8 @@ loop-place-init c =
     let numbers = c.args.numbers.now in
     let list = c.args.list.now in
     let place = c.args.place in
-    let lost = c.args.lost.now in
-    let won = c.args.won.now in
+    let lost = c.args.edit.lost.now in
+    let won = c.args.edit.won.now in
     let number = c.number_after-number.result in
     let there : place < length list = c.requires.within in
     let many = c.requires.places in
@@ -34,7 +34,7 @@ loop-place-init c =
       told = ap (λ ns. told_to lost won place ns list) numbered
           ∙ told_one lost won place numbers list number c.index-list-place.result has_number there is_then c.index-list-place.is
           ∙ ap (λ k. told_to lost won k numbers list) (sym next)
-          ∙ told_apart c.args.change.now lost won (place + 1) (length list) numbers list c.requires.rest before (omega (arith, there)) c.requires.apart
+          ∙ told_apart c.args.edit.change.now lost won (place + 1) (length list) numbers list c.requires.rest before (omega (arith, there)) c.requires.apart
           ∙ told_all lost won numbers list many;
       fit = c.renumber.ensures.fit;
     }
@@ -57,11 +57,11 @@ loop-place-preserved c =
       within = omega (arith, there);
       places = ap length numbered ∙ length-set l.numbers place number ∙ many;
       small = subst (λ (ns : List ℕ). (i : ℕ) → get_or ns i 0 ≤ most_number) (sym numbered) (small_set l.numbers place number small l.invariant.small);
-      told = ap (λ ns. told_to c.args.lost.now c.args.won.now place ns list) numbered
-          ∙ told_one c.args.lost.now c.args.won.now place l.numbers list number c.index-list-place-in-Some.result has_number there
-          (c.told-number.ensures.told ∙ ap (number_then c.args.lost.now c.args.won.now (get_or l.numbers place 0)) c.reads-in-Some.ensures.reads) c.index-list-place-in-Some.is
-          ∙ ap (λ k. told_to c.args.lost.now c.args.won.now k l.numbers list) (sym next)
-          ∙ told_apart c.args.change.now c.args.lost.now c.args.won.now (place + 1) l.end l.numbers list c.requires.rest l.invariant.small (omega (arith, before)) c.in-Some.ensures.apart
+      told = ap (λ ns. told_to c.args.edit.lost.now c.args.edit.won.now place ns list) numbered
+          ∙ told_one c.args.edit.lost.now c.args.edit.won.now place l.numbers list number c.index-list-place-in-Some.result has_number there
+          (c.told-number.ensures.told ∙ ap (number_then c.args.edit.lost.now c.args.edit.won.now (get_or l.numbers place 0)) c.reads-in-Some.ensures.reads) c.index-list-place-in-Some.is
+          ∙ ap (λ k. told_to c.args.edit.lost.now c.args.edit.won.now k l.numbers list) (sym next)
+          ∙ told_apart c.args.edit.change.now c.args.edit.lost.now c.args.edit.won.now (place + 1) l.end l.numbers list c.requires.rest l.invariant.small (omega (arith, before)) c.in-Some.ensures.apart
           ∙ l.invariant.told;
       fit = c.renumber-in-Some.ensures.fit;
     }
@@ -71,9 +71,9 @@ returns c =
     let l = c.loop-place in
     let list = c.args.list.now in
     let none : c.next_touched.result ≡ None = search rules in
-    let apart : AreApart list c.args.change.now 0 l.end = subst (λ o. IfNone o (AreApart list c.args.change.now 0 l.end)) none c.next_touched.ensures.none in
+    let apart : AreApart list c.args.edit.change.now 0 l.end = subst (λ o. IfNone o (AreApart list c.args.edit.change.now 0 l.end)) none c.next_touched.ensures.none in
     record {
-      told = told_apart c.args.change.now c.args.lost.now c.args.won.now 0 l.end l.numbers list c.requires.rest l.invariant.small (omega arith) apart ∙ l.invariant.told;
+      told = told_apart c.args.edit.change.now c.args.edit.lost.now c.args.edit.won.now 0 l.end l.numbers list c.requires.rest l.invariant.small (omega arith) apart ∙ l.invariant.told;
       places = l.invariant.places;
       fit = l.invariant.fit;
     }

@@ -9,7 +9,7 @@ invariant-loop-place l = record {
   within : l.end ≤ length l.list;
   places : length l.numbers ≡ length l.list;
   small : (i : ℕ) → get_or l.numbers i 0 ≤ most_number;
-  told : told_to l.lost l.won l.end l.numbers l.list ≡ numbers_then l.lost l.won l.fn.numbers l.list;
+  told : told_to l.edit.lost.now l.edit.won.now l.end l.numbers l.list ≡ numbers_then l.edit.lost.now l.edit.won.now l.fn.numbers l.list;
   fit : BlocksFit (with_numbers l.numbers l.list) l.blocks;
 }
 
