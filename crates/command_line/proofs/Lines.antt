@@ -84,7 +84,7 @@ unfolding HasForm WantsHelp WantsVersion
 as_usage words error form unfit is =
     subst (IsRefusedFor (IsNoLine words) words) (sym is) (unfit, (λ help. absurd cc), (λ version. absurd cc))
 
--- the same of an error that is handed on
+-- nor do they where the error is handed on
 pub handed_on : {T : Type 0} (words : List (List ℕ)) (result : Result T OptionsError) (error : OptionsError) → IsErrAnd result (λ e. e ≡ error)
     → HasForm words → IsNoLine words → error ≡ Usage → IfErr result (IsRefusedFor (IsNoLine words) words)
 handed_on words (Ok t) error same form unfit is = absurd same

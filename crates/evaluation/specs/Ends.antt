@@ -24,7 +24,7 @@ Answers view o (Ok b) = o.answer ≡ Ok (view b)
 Answers view o (Err (Fault k)) = o.answer ≡ Err k
 Answers view o (Err NoMemory) = Unit {0}
 
--- the same as Ends, but where memory is refused the notes are the old ones and some more
+-- an evaluation ends as that, as by Ends, but where memory is refused the notes are the old ones and some more
 abbrev pub Stops : {A B : Type 0} → (B → A) → NumberedOut A → List Note → List Note → Result B Stop → Type 0
 Stops view o old new (Ok b) = (o.answer ≡ Ok (view b)) × (new ≡ old ++ o.notes)
 Stops view o old new (Err (Fault k)) = (o.answer ≡ Err k) × (new ≡ old ++ o.notes)

@@ -21,7 +21,7 @@ pub record NumberedOut (A : Type 0) : Type 0 where
   pub notes : List Note
   pub answer : Result A FaultKind
 
--- the same behind what was read before
+-- an outcome in front of which these notes were read
 abbrev pub behind : {A : Type 0} → List Note → NumberedOut A → NumberedOut A
 behind ns o = record { notes = ns ++ o.notes; answer = o.answer }
 
@@ -36,7 +36,7 @@ abbrev pub changed : {A B : Type 0} → (A → B) → Result A FaultKind → Res
 changed f (Ok a) = Ok (f a)
 changed f (Err k) = Err k
 
--- the same with another answer
+-- an outcome with its notes, and what a function makes of its answer
 abbrev pub mapped : {A B : Type 0} → (A → B) → NumberedOut A → NumberedOut B
 mapped f o = record { notes = o.notes; answer = changed f o.answer }
 

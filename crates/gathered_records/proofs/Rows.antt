@@ -73,7 +73,7 @@ module _ (rs : List PlainRecord) (procedure : ℕ) (arguments : List ℤ) (count
   leaves_append v (p ∷ ps) qs (x ∷ xs) ys h g =
       (h.0, leaves_append (v +ℤ pos 1) ps qs xs ys h.1 (subst (λ z. AreLeaves rs procedure arguments counted z qs ys) (one_further v (length ps)) g))
 
--- the same with other arguments, where these are the same but for the counted one
+-- leaves stay such with other arguments that are equal but for the counted one
 pub leaves_moved : (rs : List PlainRecord) (f g : ℕ) (a b : List ℤ) (counted : ℕ) (v : ℤ) (ps : List ℕ) (xs : List PlainRecord) → f ≡ g → ((z : ℤ) → slice_set a counted z ≡ slice_set b counted z)
     → AreLeaves rs f a counted v ps xs → AreLeaves rs g b counted v ps xs
 leaves_moved rs f g a b counted v [] [] e same h = tt
@@ -121,7 +121,7 @@ moved_set row other e z =
     let counts : other.counted ≡ row.counted = ap (λ r. r.counted) (sym (e z)) in
     ap (λ r. r.arguments) (e z) ∙ ap (λ n. slice_set other.arguments n z) counts
 
--- the same of a row that has gone on
+-- what is in a row is in it where the row has gone on
 pub in_row_moved : (rs : List PlainRecord) (row other : PlainRow) (first : ℤ) (ps : List ℕ) → ((z : ℤ) → moved_to row z ≡ moved_to other z) → AreInRow rs row first ps → AreInRow rs other first ps
 in_row_moved rs row other first ps e h =
     let counts : row.counted ≡ other.counted = ap (λ r. r.counted) (e first) in

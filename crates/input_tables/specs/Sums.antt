@@ -15,7 +15,7 @@ taken ss [] = ss
 taken [] (v ∷ vs) = []
 taken (s ∷ ss) (v ∷ vs) = int_wrap w64 (s -ℤ v) ∷ taken ss vs
 
--- the same of a row that may not be there
+-- the sums without a row, and as they are where the row isn't there
 abbrev pub without_row : Option (List ℤ) → List ℤ → List ℤ
 without_row None ss = ss
 without_row (Some vs) ss = taken ss vs

@@ -66,7 +66,7 @@ before_across u v w e f =
     (not_before u.declaration v.declaration (line_order u v) e)
     (not_before v.declaration w.declaration (line_order v w) f))
 
--- the same the other way round, where it is before it
+-- a number that isn't below another, and what holds where they are equal
 record IsAfter (a b : ℕ) (rest : Bool) : Type 0 where
   at_most : a ≤ b
   then : b ≡ a → rest ≡ true

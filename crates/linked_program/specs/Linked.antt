@@ -54,12 +54,12 @@ main_number t = procedure_number (procedures t) main
 abbrev pub kinds_of : Tree → List Kind
 kinds_of t = map (λ r. r.kind) (reducers t)
 
--- the same of a reducer
+-- the number of the first reducer of a name; that of none where there is no such reducer
 abbrev pub reducer_number : List Red → Name → ℕ
 reducer_number [] r = 0
 reducer_number (x ∷ xs) r = cond (bytes_eq x.called r) 0 (suc (reducer_number xs r))
 
--- the same of a table
+-- the number of the first table of a name; that of none where there is no such table
 abbrev pub table_number : List Columned → Name → ℕ
 table_number [] t = 0
 table_number (x ∷ xs) t = cond (bytes_eq x.called t) 0 (suc (table_number xs t))

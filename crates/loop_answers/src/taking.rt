@@ -222,7 +222,7 @@ fn call_turns(top: &mut Activation, site: Loop, share: Share, count: u32)
     call_some_turns(top, site, share, count);
 }
 
-/// The same where there are some.
+/// The topmost instance's loop has called so many turns more, at least one.
 #[tactic(auto, using(crate::proofs::Calls::turned_is))]
 fn call_some_turns(top: &mut Activation, site: Loop, share: Share, count: u32)
     requires some { 0 < count }

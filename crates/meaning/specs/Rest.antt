@@ -57,7 +57,7 @@ module _ (program : Tree) (tables : Tables) where
       blocks_left left (proc_of program f).called ((proc_of program f).body ∷ []) (fresh (proc_of program f).names vs)
   child_left left (half k job count i) = turns_left left job count i
 
-  -- the same, where its names have their values already
+  -- an instance that isn't entered yet, where its names have their values already
   abbrev pub entering_left : Frame → Child → Left
   entering_left fr (instance f vs) = blocks_left fr.left fr.here ((proc_of program f).body ∷ []) (values_of fr.env)
   entering_left fr (half k job count i) = turns_left fr.left job count i

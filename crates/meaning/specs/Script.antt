@@ -115,7 +115,7 @@ abbrev mutual
   commands_from n (line ∷ rest) =
       cond (are_only (codes "define") (words line)) (define_from n [] (n + 1) rest) (option_to_list (line_command n line) ++ commands_from (n + 1) rest)
 
-  -- the same in a define, by the number of its line and its text so far: without an `end` that line is no command, and the script ends
+  -- the commands from within a define on, by the number of its line and its text so far: without an `end` that line is no command, and the script ends
   pub define_from : ℕ → List ℕ → ℕ → List (List ℕ) → List Command
   define_from begun text n [] = Unknown begun ∷ []
   define_from begun text n (line ∷ rest) =

@@ -128,7 +128,7 @@ inner program look left f args = within look (answers look f args (depth_limit -
 abbrev pub most_halvings : ℕ
 most_halvings = 42
 
--- the same number, which doesn't unfold: the walk recurs on it
+-- that number, by a name that doesn't unfold: the walk recurs on it
 unfoldable pub halvings : ℕ
 halvings = most_halvings
 

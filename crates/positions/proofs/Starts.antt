@@ -14,7 +14,7 @@ use Rattle.positions.specs.declared.start.Start.TheVariants.{Root, Behind}
 use Rattle.positions.specs.Strands.{shorter, entry_by}
 use Rattle.positions.specs.Stands.{IsWithin, IsStart}
 
--- the same beginning, where what the instance does next allows it
+-- a strand keeps its beginning where what the instance does next allows it
 pub start_moved : (st : Start) (ph ph' : Phase) (path path' : Place) (m : NamedStart)
     → ((d : ℕ) → IsWithin ph d (length path) → (take d path ≡ take d path') × IsWithin ph' d (length path')) → IsStart st ph path m → IsStart st ph' path' m
 start_moved Root ph ph' path path' root f h = tt

@@ -295,7 +295,7 @@ behind_mark m P T ts h law =
     subst (λ (w : Words). LawAt (λ w. P (rest w)) T w) (sym s.2)
     (skip_at P (λ a vs ws. T a ((Sign m, s.0) ∷ vs) ws) T (Sign m, s.0) s.1 (λ a us vs p. p) (law s.0 s.1))
 
--- the same, for a reader that is told the mark's line
+-- what stands behind a mark that is there, for a reader that is told the mark's line
 pub behind_line : {A : Type 0} (m : Mark) (P : ℕ → Words → Read A) (T : Form A) (ts : Words) → starts m ts ≡ true → ((l : ℕ) (us : Words) → LawAt (P l) (λ a vs ws. T a ((Sign m, l) ∷ vs) ws) us) → LawAt (λ w. P (line_of w) (rest w)) T ts
 behind_line m P T ts h law =
     let s = starts_is m ts h in

@@ -103,7 +103,7 @@ module _ {A : Type 0} (P : Words → Read A) (R S : Form A) (t : Word × ℕ) wh
   pub skip_at : (ts : Words) → ((a : A) (us vs : Words) → R a us vs → S a (t ∷ us) vs) → LawAt P R ts → LawAt (λ w. P (rest w)) S (t ∷ ts)
   skip_at ts h l = skip_reply ts (P ts) h l
 
--- the same reader for another form
+-- a reader of one form reads each form that holds where that one does
 pub map_at : {A : Type 0} (P : Words → Read A) (R S : Form A) (ts : Words) → ((a : A) (us vs : Words) → R a us vs → S a us vs) → LawAt P R ts → LawAt P S ts
 map_at P R S ts h law = reply_as P P R S ts (P ts) (λ f us x is k. refl) h law
 

@@ -97,7 +97,7 @@ sooner change (r ∷ rs) zero x note l at e h =
     sym (ap (λ b. b || false) (other (is_apart (change ∷ [])) note (note_of r) (same_note note (note_of r)) h apart refl))
 sooner change (r ∷ rs) (suc k) x note l at e h = ap (λ b. same_note note (note_of r) || b) (sooner change rs k x note (omega (arith, l)) at e h)
 
--- the same from the end on
+-- what was read is read without the last reading of those so far, where that doesn't rest on the change
 pub one_fewer : (change : ℕ × ℤ) (own : List Reading) (end : ℕ) (x : Reading) → 0 < end → end ≤ length own → x ≡ get_or own (end - 1) x → rests_on (note_of x) change ≡ false
     → ((note : Note) → is_apart (change ∷ []) note ≡ false → is_read (map note_of (take end own)) note ≡ is_read (map note_of own) note)
     → (note : Note) → is_apart (change ∷ []) note ≡ false → is_read (map note_of (take (end - 1) own)) note ≡ is_read (map note_of own) note

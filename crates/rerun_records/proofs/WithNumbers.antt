@@ -151,7 +151,7 @@ push_is_cleared [] place l = refl
 push_is_cleared (m ∷ ms) zero l = absurd (omega (arith, l))
 push_is_cleared (m ∷ ms) (suc place) l = ap (λ xs. m ∷ xs) (push_is_cleared ms place (omega (arith, l)))
 
--- the same numbers and records
+-- what is shown of numbers and records is shown of equal ones
 pub same_view : (ns ms : List ℕ) (rs ss now : List PlainRecord) → ms ≡ ns → ss ≡ rs → with_numbers ns rs ≡ now → with_numbers ms ss ≡ now
 same_view ns ms rs ss now n r v = ap (λ xs. with_numbers xs ss) n ∙ ap (with_numbers ns) r ∙ v
 

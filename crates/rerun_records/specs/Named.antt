@@ -73,7 +73,7 @@ module _ (t : Tree) (names : List Columned) (kinds : List Kind) where
 abbrev pub IsInOrder : Tree → List (Name × ℕ) → Type 0
 IsInOrder t revisions = names_in revisions ≡ map (λ p. p.called) (procedures t)
 
--- the same of a checked program
+-- the record is that of a checked program by its names
 abbrev pub IsKept : PlainChecked → Kept → PlainRecord → Type 0
 IsKept program k r = IsRecord (tree program.program) program.tables program.kinds k r
 

@@ -49,14 +49,14 @@ node_notes n = (node_told n).0
 abbrev pub is_covered : Node → Bool
 is_covered n = (node_told n).1
 
--- the same of a node that is shared
+-- the notes of a node that is shared, and whether its spans hold what was read
 abbrev pub shared_notes : Arc Node Global → List Note
 shared_notes p = node_notes (arc_value p)
 
 abbrev pub is_covered_share : Arc Node Global → Bool
 is_covered_share p = is_covered (arc_value p)
 
--- the same of what is below a node, if anything is
+-- the notes of what is below a node, if anything is
 abbrev pub held_notes : Option (Box Below Global) → List Note
 held_notes None = []
 held_notes (Some b) = (below_told b.value).0

@@ -11,7 +11,7 @@ use Rattle.positions.specs.declared.start.Start.{Start}
 use Rattle.positions.specs.declared.start.Start.TheVariants.{Root, Behind}
 use Rattle.positions.specs.Stands.{IsStart, IsWithin}
 
--- the same beginning by names
+-- a strand has one beginning by names, whatever its phase
 pub start_same : (st : Start) (ph ph' : Phase) (path : List ℕ) (m m' : NamedStart) → IsStart st ph path m → IsStart st ph' path m' → m ≡ m'
 start_same Root ph ph' path root root h i = refl
 start_same Root ph ph' path root (behind m k) h i = absurd i

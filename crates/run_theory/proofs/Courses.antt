@@ -17,7 +17,7 @@ pub then_pure : (c : Course ℤ) → then_on c (λ w acc. (Ok w, acc)) ≡ c
 then_pure (Ok v, acc) = refl
 then_pure (Err k, acc) = refl
 
--- the same course, and then the same
+-- a course goes on in one way by functions that are equal everywhere
 pub then_same : {A B : Type 0} (c : Course A) (f g : A → Accumulators → Course B) → ((a : A) (acc : Accumulators) → f a acc ≡ g a acc) → then_on c f ≡ then_on c g
 then_same (Ok a, acc) f g h = h a acc
 then_same (Err k, acc) f g h = refl

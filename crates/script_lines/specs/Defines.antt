@@ -10,7 +10,7 @@ defined_at script begin begun None = Unknown begun ∷ []
 defined_at script begin begun (Some end) =
     Change (Define (take (end.begin - begin) (drop begin script))) ∷ commands_from (end.number + 1) (drop 1 (lines (drop end.begin script)))
 
--- the same, where the text has been read up to this line
+-- the commands from such a define on, of which the text has been read up to this line
 abbrev pub define_going : List ℕ → ℕ → ℕ → Option Line → List Command
 define_going script begin begun None = Unknown begun ∷ []
 define_going script begin begun (Some line) =

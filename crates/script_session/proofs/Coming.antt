@@ -59,7 +59,7 @@ first_line_read false a b line shown is one with_end last over = subst (FirstLin
 pub no_byte : All IsNoEnd []
 no_byte k d lt = absurd (omega (arith, lt))
 
--- the same of what is shown of it
+-- what is shown of a line ends no line either
 pub shown_one : (line shown : List ℕ) → shown ≡ line → All IsNoEnd line → All IsNoEnd shown
 shown_one line shown is one = subst (All IsNoEnd) (sym is) one
 
@@ -165,7 +165,7 @@ module _ (s t : Standing) (runs : ℕ) (script : PlainOpen) (unread left old new
   pub begun : WritesBeginning (answers_text s) unread old new
   begun = split_known unread left h.bytes (λ known. HasBeginning old new (answers_text s known)) h.read (begun_known left)
 
-  -- the same behind a beginning of the next line's answer
+  -- with a beginning of the next line's answer what is written is a beginning of the answers
   begun_line_known : (line : List ℕ) (new' known : Option (List ℕ)) → FirstLine known line → HasBeginning new new' (answer_to t runs (command_by script line))
       → IfSome known (λ rest. HasBeginning old new' (answers_text s (h.bytes ++ rest)))
   begun_line_known line new' None first wrote = tt

@@ -1,4 +1,4 @@
--- The same of things that are shown as entries.
+-- What holds of lists of entries holds of lists of things that are shown as entries.
 use Rattle.std.proofs.Common.{◌≡◌, ◌≢◌, ℕ, ◌+◌, true, false, List, [], ◌∷◌, length, map, set, sym, subst, arith, Some, None}
 use Rattle.std.proofs.lemmas.List.{map-append}
 use Rattle.crossbeam_deque.specs.Tasks.{Pushes, Takes, Pops, Forks, Merges, Admits, Learns}

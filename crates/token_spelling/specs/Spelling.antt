@@ -84,11 +84,11 @@ written (w ∷ ws) = word_text w ++ gap w ws ∷ written ws
 abbrev pub Puts : List ℕ → List ℕ → (List Word → List Word) → Type 0
 Puts old new part = (rest : List Word) → old ++ written (part rest) ≡ new ++ written rest
 
--- the same of a part that may end with `}`
+-- A part that may end with `}` is put so in front of tokens that don't begin with `else`.
 abbrev pub PutsBlock : List ℕ → List ℕ → (List Word → List Word) → Type 0
 PutsBlock old new part = (rest : List Word) → starts_else rest ≡ false → old ++ written (part rest) ≡ new ++ written rest
 
--- the same of texts as code has them
+-- A text as code has it grows by a part.
 abbrev pub Grows : String Global → String Global → (List Word → List Word) → Type 0
 Grows old new part = Puts (string_bytes old) (string_bytes new) part
 

@@ -47,7 +47,7 @@ module _ (program other : Tree) (tables others : Tables) (a b : ℕ) (reds : red
   Holds (Faults k) = Unit {0}
   Holds (Marks f args c) = Unit {0}
 
-  -- the same events at the other depth
+  -- these events at the other depth
   abbrev pub shifted : Log → Log
   shifted [] = []
   shifted (Reads r ∷ es) = Reads r ∷ shifted es

@@ -201,7 +201,7 @@ depth_reads : (done : Log) (fr : Frame) (t : List Parent) (site : Site) (d : ℕ
 depth_reads done fr t site zero next u h = (tt, under_on done [] tt t u)
 depth_reads done fr t site (suc d) next u h = h d
 
--- the same events
+-- no event more changes nothing
 on_same : (done : Log) (n : Place) (todo : Todo) (t : List Parent) → TodoReads done n todo → UnderReads done t → TodoReads (done ++ []) n todo × UnderReads (done ++ []) t
 on_same done n todo t h u = (todo_on done [] tt n todo h, under_on done [] tt t u)
 

@@ -224,7 +224,7 @@ module _ (program : Tree) (tables : Tables) (sight : Accumulators) (lookup : Loo
   call_goes fr x todo t g gs n ops es (Ok v) = simp append_assoc
   call_goes fr x todo t g gs n ops es (Err k) = simp append_assoc
 
-  -- the same events, as the child stands on the stack
+  -- these events are those of the stack on which the child stands
   call_kept : (fr : Frame) (d : ℕ) (x : Option ℕ) (f : Name) (vs : List ℤ) (todo : Todo) (t : List Parent) (g : Beside) (gs : List Beside) (W : List ℕ)
       → IsOrderlyTodo W todo → EnvFits B fr.instance W 0 fr.env g.env → DoomFits B fr.instance g.doom → UnderFits program B t gs → Spot m fr.instance fr.next → Stacked fr.instance t
       → K (go_on fr.instance (after_call g.doom (run program tables sight d L f vs (child_name fr)) (λ v. todo_walk program tables sight L fr todo (put_into x g.env v) (suc fr.next) g.doom)) t gs) (enter_child program tables lookup kit acc fr d false x (instance f vs) todo t)

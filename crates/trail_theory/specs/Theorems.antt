@@ -20,7 +20,7 @@ module _ (program : Tree) (tables : Tables) (sight : Accumulators) where
   ElisionIsTrail = (left : ℕ) (look : Look) (site : Site) (f : Name) (vs : List ℤ) (n : Place) (acc : Accumulators)
       → Matches (elide program tables (suc left) site f vs acc) (run program tables sight left look f vs n)
 
-  -- the same for every procedure but main
+  -- the elision of every procedure but main is that instance on the trail
   abbrev pub OthersAreTrail : Type 0
   OthersAreTrail = (left : ℕ) (look : Look) (site : Site) (f : Name) → IsOther f → (vs : List ℤ) (n : Place) (acc : Accumulators)
       → Matches (elide program tables (suc left) site f vs acc) (run program tables sight left look f vs n)
@@ -37,7 +37,7 @@ module _ (program : Tree) (tables : Tables) (sight : Accumulators) where
       → SaysElision program k (elide program tables (suc left) start f vs (identities program)) (depth_limit - left))
       → LookupIsSound program tables sight lookup
 
-  -- the same for records of recorded procedures
+  -- records of recorded procedures that say what the elision of their keys gives answer only so
   abbrev pub RecordedRecordsAreSound : Lookup → Type 0
   RecordedRecordsAreSound lookup =
       ((f : Name) (vs : List ℤ) (left : ℕ) (k : Kept) → IsRecorded program f → lookup f vs (depth_limit - left) ≡ Some k
