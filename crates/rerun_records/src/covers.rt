@@ -88,7 +88,7 @@ impl Covers {
         apart_by(&self.right, end, change)
     }
 
-    // The same by the widest hull that ends there.
+    // From which place on, up to that end, no record has read what the change may have changed, by the widest hull that ends there.
     #[inline(always)]
     fn apart_by_hull(&self, end: usize, change: &(usize, i64)) -> usize
         ensures within { result ≤ end }
@@ -195,7 +195,8 @@ fn apart_from(hulls: &[Hull], width: usize, end: usize, change: &(usize, i64)) -
     }
 }
 
-// The same by narrow hulls, one before another, down to where a wider one may end.
+// From which place on, up to that end, no record has read what the change may have changed, by narrow hulls, one before another, down to
+// where a wider one may end.
 #[inline(always)]
 fn apart_by_narrow(hulls: &[Hull], end: usize, change: &(usize, i64)) -> usize
     ensures within { result ≤ end }
