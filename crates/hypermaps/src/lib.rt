@@ -52,6 +52,30 @@ fn is_in_order(used: &[usize], reducer: usize) -> bool
     }
 }
 
+/// Notes that a reducer is used.
+#[inline(always)]
+fn note_use(used: &mut Vec<usize>, reducer: usize) -> Result<(), AllocError>
+    ensures keys { OnOk result (used.new.items ≡ used_also used.old.items reducer) }
+    ensures same { OnErr result (used.new.items ≡ used.old.items) }
+{
+    if is_in_order(used, reducer) {
+        return Ok(());
+    }
+    note_anew(used, reducer)
+}
+
+/// Notes that a reducer is used that doesn't stand at its own number's place. It is kept out of the quick way of updates.
+#[inline(never)]
+fn note_anew(used: &mut Vec<usize>, reducer: usize) -> Result<(), AllocError>
+    ensures keys { OnOk result (used.new.items ≡ used_also used.old.items reducer) }
+    ensures same { OnErr result (used.new.items ≡ used.old.items) }
+{
+    if is_new_among_few(used, reducer) {
+        return push_use(used, reducer);
+    }
+    note_among_all(used, reducer)
+}
+
 /// Whether a reducer stands nowhere among the used ones, of which there is none, or one alone: so it is at the first uses in a layer
 /// of a memo instance.
 #[inline(always)]
@@ -63,21 +87,6 @@ fn is_new_among_few(used: &[usize], reducer: usize) -> bool
         1 => used[0] != reducer,
         _ => false,
     }
-}
-
-/// Notes that a reducer is used.
-#[inline(always)]
-fn note_use(used: &mut Vec<usize>, reducer: usize) -> Result<(), AllocError>
-    ensures keys { OnOk result (used.new.items ≡ used_also used.old.items reducer) }
-    ensures same { OnErr result (used.new.items ≡ used.old.items) }
-{
-    if is_in_order(used, reducer) {
-        return Ok(());
-    }
-    if is_new_among_few(used, reducer) {
-        return push_use(used, reducer);
-    }
-    note_anew(used, reducer)
 }
 
 /// Puts a reducer behind the used ones, among which it isn't.
@@ -95,7 +104,7 @@ fn push_use(used: &mut Vec<usize>, reducer: usize) -> Result<(), AllocError>
 
 /// Notes that a reducer is used, by a look at all that are.
 #[inline(never)]
-fn note_anew(used: &mut Vec<usize>, reducer: usize) -> Result<(), AllocError>
+fn note_among_all(used: &mut Vec<usize>, reducer: usize) -> Result<(), AllocError>
     ensures keys { OnOk result (used.new.items ≡ used_also used.old.items reducer) }
     ensures same { OnErr result (used.new.items ≡ used.old.items) }
 {
