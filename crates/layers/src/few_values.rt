@@ -35,9 +35,34 @@ pub(crate) fn value_of_one<V: View>(
     Ok(one_listed(alloc, first))
 }
 
-/// Copies of two reducers' values, without those that are the identities.
+/// Copies of the values of two reducers, both of them used, without those that are the identities after all.
 #[inline(always)]
-pub(crate) fn values_of_two<V: View>(
+pub(crate) fn values_of_used<V: View>(
+    alloc: Global,
+    hypermap: &Hypermap<V>,
+    kinds: &[Kind],
+) -> Result<ShortList<(usize, Val)>, AllocError>
+    requires kinds { hypermap.now.kinds ≡ kinds.now }
+    requires two { length kinds.now ≡ 2 }
+    ensures touched { IfOk result (λ c.
+        map touched (items_in c) ≡ touched_from 0 hypermap.now.kinds hypermap.now.worths) }
+    ensures values { IfOk result (λ c.
+        AreValuesFrom 0 hypermap.now.kinds (map touched (items_in c))) }
+{
+    let _ = hypermap.len();
+    let first = hypermap.value(0)?;
+    match hypermap.value(1) {
+        Ok(second) => Ok(pair_listed(alloc, &kinds[0], &kinds[1], first, second)),
+        Err(error) => {
+            let_go(first);
+            Err(error)
+        }
+    }
+}
+
+/// Copies of the values of two reducers, of which one may not be used.
+#[inline(never)]
+pub(crate) fn values_of_some<V: View>(
     alloc: Global,
     hypermap: &Hypermap<V>,
     kinds: &[Kind],
@@ -60,11 +85,9 @@ pub(crate) fn values_of_two<V: View>(
     }
 }
 
-/// Lets a value go where no record is made after all. Its drop wants much room, which is kept out of who calls this.
+/// Lets go what no record is made of after all. Its drop wants much room, which is kept out of who calls this.
 #[inline(never)]
-fn let_go(value: Option<(usize, Val)>) {
-    let _ = value.is_none();
-}
+pub(crate) fn let_go<T: Drop>(_value: T) {}
 
 /// A reducer's number with a copy of its value, unless that is the identity.
 #[inline(always)]
@@ -123,4 +146,39 @@ fn both_listed(
             Some(two) => ShortList::Two([one, two]),
         },
     }
+}
+
+/// The list of these values of the first two reducers, without those that are the identities. It takes no memory.
+#[inline(always)]
+fn pair_listed(
+    alloc: Global,
+    first_kind: &Kind,
+    second_kind: &Kind,
+    first: Val,
+    second: Val,
+) -> ShortList<(usize, Val)>
+    ensures touched { map touched (items_in result)
+        ≡ touched_at 0 first_kind.now (meaning first) ++ touched_at 1 second_kind.now (meaning second) }
+{
+    if is_identity(first_kind, &first) || is_identity(second_kind, &second) {
+        return some_listed(alloc, first_kind, second_kind, first, second);
+    }
+    ShortList::Two([(0, first), (1, second)])
+}
+
+/// The list of those of these two values that aren't the identities. It takes no memory.
+#[inline(never)]
+fn some_listed(
+    alloc: Global,
+    first_kind: &Kind,
+    second_kind: &Kind,
+    first: Val,
+    second: Val,
+) -> ShortList<(usize, Val)>
+    ensures touched { map touched (items_in result)
+        ≡ touched_at 0 first_kind.now (meaning first) ++ touched_at 1 second_kind.now (meaning second) }
+{
+    let one = unless_identity(0, first_kind, first);
+    let two = unless_identity(1, second_kind, second);
+    both_listed(alloc, one, two)
 }

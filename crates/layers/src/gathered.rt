@@ -92,7 +92,7 @@ impl Gathered {
         Ok(())
     }
 
-    /// The list of them. It takes no memory.
+    /// The list of them, without spare room. It takes no memory.
     #[inline(always)]
     pub(crate) fn into_list(self) -> ShortList<(usize, Val)>
         ensures same { items_in result ≡ gathered_in self }
@@ -100,10 +100,13 @@ impl Gathered {
         let Gathered {
             first,
             second,
-            several,
+            mut several,
         } = self;
         match first {
-            None => ShortList::Several(several),
+            None => {
+                several.shrink_to_fit();
+                ShortList::Several(several)
+            }
             Some(one) => match second {
                 None => ShortList::One(one),
                 Some(two) => ShortList::Two([one, two]),

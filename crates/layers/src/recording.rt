@@ -17,7 +17,7 @@ ghost use Rattle.positions.specs.Tallies.{touched_from, entries_from};
 ghost use Rattle.layers.specs.Gatherings.{gathered_in};
 ghost use Rattle.layers.specs.Recordings.{recording_of, recorded, touched_at, entry_of};
 
-use crate::few_values::{value_of_one, values_of_two};
+use crate::few_values::{value_of_one, values_of_some, values_of_used};
 use crate::gathered::Gathered;
 use crate::identities::is_identity;
 use crate::layer::{DEEPEST, Layer};
@@ -136,12 +136,6 @@ impl Recording {
         &self.reads
     }
 
-    /// Lets go what would have been kept. That is rare, and its drop wants much room: so it is kept out of who calls this.
-    #[inline(never)]
-    pub(crate) fn let_go(self) {
-        let _ = self.levels;
-    }
-
     /// The record of an instance that is over with that value. It takes no memory.
     #[inline(always)]
     pub(crate) fn record(self, opened: Opened, value: i64) -> Record
@@ -187,7 +181,8 @@ impl<V: View> Layer<V> {
         }
     }
 
-    /// Copies of the values that are not the identities, each with its reducer's number.
+    /// Copies of the values that are not the identities, each with its reducer's number. Those of one reducer or two are put into their
+    /// list at once.
     #[inline(always)]
     pub(crate) fn touched(
         &self,
@@ -200,7 +195,18 @@ impl<V: View> Layer<V> {
         ensures values { IfOk result (λ c.
             AreValuesFrom 0 self.now.kinds (map touched (items_in c))) }
     {
-        contribution(alloc, &self.hypermap, program.kinds())
+        let kinds = program.kinds();
+        match kinds.len() {
+            1 => value_of_one(alloc, &self.hypermap, kinds),
+            2 => {
+                if self.hypermap.used_count() == 2 {
+                    values_of_used(alloc, &self.hypermap, kinds)
+                } else {
+                    values_of_some(alloc, &self.hypermap, kinds)
+                }
+            }
+            _ => contribution_of_many(alloc, &self.hypermap, kinds),
+        }
     }
 
     /// Its own readings, each once, and then those that it shares. Want of memory is the only error.
@@ -222,27 +228,6 @@ impl<V: View> Layer<V> {
             items_in es ≡ entries_from 0 program.now.revisions self.now.entered) }
     {
         entries(alloc, &self.entered, program)
-    }
-}
-
-/// Copies of the values that are not the identities, each with its reducer's number. Those of one reducer or two are put into their
-/// list at once.
-#[inline(always)]
-fn contribution<V: View>(
-    alloc: Global,
-    hypermap: &Hypermap<V>,
-    kinds: &[Kind],
-) -> Result<ShortList<(usize, Val)>, AllocError>
-    requires kinds { hypermap.now.kinds ≡ kinds.now }
-    ensures touched { IfOk result (λ c.
-        map touched (items_in c) ≡ touched_from 0 hypermap.now.kinds hypermap.now.worths) }
-    ensures values { IfOk result (λ c.
-        AreValuesFrom 0 hypermap.now.kinds (map touched (items_in c))) }
-{
-    match kinds.len() {
-        1 => value_of_one(alloc, hypermap, kinds),
-        2 => values_of_two(alloc, hypermap, kinds),
-        _ => contribution_of_many(alloc, hypermap, kinds),
     }
 }
 
@@ -544,6 +529,7 @@ fn entries_of_all(
             push_entry(alloc, &mut entries, procedure, program)?;
         }
     }
+    entries.shrink_to_fit();
     Ok(entries)
 }
 

@@ -6,6 +6,7 @@ ghost use Rattle.positions.specs.Layers.{multiplied, covered, absorbing};
 ghost use Rattle.positions.specs.Tallies.{no_tally, passing, answering, opening, is_own, closing, tallies_joined};
 ghost use Rattle.layers.specs.Folds.{IsSameButWorths, HasSameProduct, BothHaveValues};
 
+use crate::few_values::let_go;
 use crate::layer::Layer;
 use crate::recording::{Opened, Recording};
 use linked_program::checked::Checked;
@@ -200,12 +201,12 @@ impl Tally {
         let contribution = top.touched(alloc, program)?;
         let recording = Recording::new(top, program, contribution, reads, entered, levels);
         if below.cover(top, recording.reads()).is_err() {
-            recording.let_go();
+            let_go(recording);
             return Err(AllocError);
         }
         match self.opened.pop() {
             Some(opened) => self.made.push_reserved(recording.record(opened, value)),
-            None => recording.let_go(),
+            None => let_go(recording),
         }
         Ok(())
     }

@@ -18,5 +18,5 @@ loop-procedure-preserved c = elim c.if-flags-procedure.branch [
 
 pub returns : goal.returns
 returns c = record {
-  entries = entries_all (items_in c.loop-procedure.entries) c.loop-procedure.procedure c.args.program.now.revisions c.args.flags.now c.loop-procedure.invariant (search rules);
+  entries = c.shrink_to_fit.ensures.same ∙ entries_all (items_in c.loop-procedure.entries) c.loop-procedure.procedure c.args.program.now.revisions c.args.flags.now c.loop-procedure.invariant (search rules);
 }
