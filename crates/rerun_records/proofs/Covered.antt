@@ -1,7 +1,7 @@
 -- Spans of rows hold what was put into them.
 use Rattle.std.proofs.Common.{◌≡◌, ℕ, zero, suc, ◌<◌, ◌≤ℤ◌, ℤ, pos, Bool, true, false, true≢false, T, cond, List, [], ◌∷◌, ◌++◌, take, drop, length, map, refl, sym, ap, ◌∙◌, subst, arith}
 use Rattle.std.proofs.lemmas.Int.{ints, clamps}
-use Rattle.std.specs.Prelude.{◌&&◌, ◌||◌, nat_eq, int_le, get_or, slice_set}
+use Rattle.std.specs.Prelude.{◌&&◌, ◌||◌, nat_eq, int_le, get_or, slice_set, slice_index_or}
 use Rattle.std.specs.Int.{int_min, int_max}
 use Rattle.std.specs.Int.Signed.{le_z_yes}
 use Rattle.std.specs.List.{list_any}
@@ -170,6 +170,40 @@ adds_read (x ∷ own) xs =
     both (is_covered_by (put_spans (put_span xs (span_of x)) (map span_of own)) (note_of x)) (every (is_covered_by (put_spans (put_span xs (span_of x)) (map span_of own))) (map note_of own))
     (keeps_all (map span_of own) (put_span xs (span_of x)) (note_of x) (adds xs (span_of x) (note_of x) (read_covered x)))
     (adds_read own (put_span xs (span_of x)))
+
+-- ---- two readings
+
+two_there : (d : Reading) (xs : List Reading) → length xs ≡ 2 → xs ≡ slice_index_or xs 0 d ∷ slice_index_or xs 1 d ∷ []
+two_there d [] n = absurd (omega (arith, n))
+two_there d (x ∷ []) n = absurd (omega (arith, n))
+two_there d (x ∷ y ∷ z ∷ xs) n = absurd (omega (arith, n))
+two_there d (x ∷ y ∷ []) n = refl
+
+both_covered : (d : Reading) (pair : List Reading) (spans : List Span) → length pair ≡ 2 → is_covered_by spans (note_of (slice_index_or pair 0 d)) ≡ true → is_covered_by spans (note_of (slice_index_or pair 1 d)) ≡ true
+    → every (is_covered_by spans) (map note_of pair) ≡ true
+both_covered d pair spans n g h =
+    let a = note_of (slice_index_or pair 0 d) in
+    let b = note_of (slice_index_or pair 1 d) in
+    ap (λ xs. every (is_covered_by spans) (map note_of xs)) (two_there d pair n)
+    ∙ both (is_covered_by spans a) (is_covered_by spans b && true) g (both (is_covered_by spans b) true h refl)
+
+pub put_one : (old new : List Span) (s : Span) (note : Note) → new ≡ put_span old s → is_covered_by old note ≡ true → is_covered_by new note ≡ true
+put_one old new s note e h = subst (λ ss. is_covered_by ss note ≡ true) (sym e) (keeps old s note h)
+
+put_holds : (old new : List Span) (s : Span) (reading : Reading) → s ≡ span_of reading → new ≡ put_span old s → is_covered_by new (note_of reading) ≡ true
+put_holds old new s reading e h =
+    subst (λ ss. is_covered_by ss (note_of reading) ≡ true) (sym h) (adds old s (note_of reading) (subst (λ z. covers (note_of reading) z ≡ true) (sym e) (read_covered reading)))
+
+-- one span holds both
+pub one_for_two : (d : Reading) (pair : List Reading) (old new : List Span) (s t : Span) → length pair ≡ 2 → s ≡ span_of (slice_index_or pair 0 d) → t ≡ span_of (slice_index_or pair 1 d) → s ≡ t → new ≡ put_span old s
+    → every (is_covered_by new) (map note_of pair) ≡ true
+one_for_two d pair old new s t n e f i h = both_covered d pair new n (put_holds old new s (slice_index_or pair 0 d) e h) (put_holds old new s (slice_index_or pair 1 d) (i ∙ f) h)
+
+-- each has its own
+pub one_for_each : (d : Reading) (pair : List Reading) (old mid new : List Span) (s t : Span) → length pair ≡ 2 → s ≡ span_of (slice_index_or pair 0 d) → t ≡ span_of (slice_index_or pair 1 d) → mid ≡ put_span old s → new ≡ put_span mid t
+    → every (is_covered_by new) (map note_of pair) ≡ true
+one_for_each d pair old mid new s t n e f g h =
+    both_covered d pair new n (put_one mid new t (note_of (slice_index_or pair 0 d)) h (put_holds old mid s (slice_index_or pair 0 d) e g)) (put_holds mid new t (slice_index_or pair 1 d) f h)
 
 -- ---- where no change lies in a span, none changes what is covered
 

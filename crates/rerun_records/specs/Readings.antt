@@ -8,6 +8,8 @@ use Rattle.evaluation.specs.declared.note.Note.{Note}
 use Rattle.meaning.specs.Every.{every}
 use Rattle.rerun_records.specs.declared.readings.Node.{Node, Node-F, fold-Node}
 use Rattle.rerun_records.specs.declared.readings.Below.{Below, Below-F, fold-Below}
+use Rattle.rerun_records.specs.declared.readings.Held.{Held}
+use Rattle.rerun_records.specs.declared.readings.Held.TheVariants.{Two, Shared}
 use Rattle.evaluation.specs.Short.{note_of}
 use Rattle.rerun_records.specs.ShortLists.{items_in}
 use Rattle.rerun_records.specs.Spans.{is_covered_by}
@@ -64,3 +66,12 @@ held_notes (Some b) = (below_told b.value).0
 abbrev pub is_covered_below : Option (Box Below Global) → Bool
 is_covered_below None = true
 is_covered_below (Some b) = (below_told b.value).1
+
+-- the notes that lie by themselves, or in a node that is shared
+abbrev pub notes_in : Held → List Note
+notes_in (Two pair) = map note_of pair
+notes_in (Shared node) = shared_notes node
+
+abbrev pub is_covered_in : Held → Bool
+is_covered_in (Two pair) = true
+is_covered_in (Shared node) = is_covered_share node

@@ -21,3 +21,4 @@ pub mod short_list;
 mod spans;
 mod stretch;
 mod telling;
+mod walks;

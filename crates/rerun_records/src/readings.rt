@@ -16,9 +16,10 @@ ghost use Rattle.rerun_records.specs.Counts.{how_many};
 ghost use Rattle.rerun_records.specs.Same.{is_read, same_note};
 
 use crate::hull::Hull;
-use crate::narrowing::{how_many, lowest, touched_own};
+use crate::narrowing::{how_many, how_many_own, lowest, touched_own};
 use crate::short_list::ShortList;
-use crate::spans::{Span, are_touched, may_have, put_read, put_spans};
+use crate::spans::{Span, are_touched, may_have, put_pair, put_read, put_spans};
+use crate::walks::{node_agrees, put_notes, put_own, reads_agree};
 use evaluation::note::Note;
 use evaluation::reading::Reading;
 use input_tables::Tables;
@@ -46,29 +47,73 @@ pub(crate) struct Below {
     spans: Vec<Span>,
 }
 
+/// Two readings with none below them, which take no memory of their own, or a node.
+#[derive(Drop)]
+pub(crate) enum Held {
+    Two([Reading; 2]),
+    Shared(Arc<Node>),
+}
+
 /// What an instance and those below it have read: its own readings, and those of instances below it by reference, so that none of
 /// these is copied.
 #[derive(Drop)]
 pub struct Readings {
-    node: Arc<Node>,
+    held: Held,
 }
 
 impl Model for Readings {
     ghost use Rattle.std.specs.Prelude.{◌≡◌, true, List};
     ghost use Rattle.evaluation.specs.declared.note.Note.{Note};
-    ghost use Rattle.rerun_records.specs.Readings.{shared_notes, is_covered_share};
+    ghost use Rattle.rerun_records.specs.Readings.{notes_in, is_covered_in};
 
     ghost Value = { List Note };
 
-    ghost view = { λ r. shared_notes r.node };
+    ghost view = { λ r. notes_in r.held };
 
-    ghost invariant = { λ r. is_covered_share r.node ≡ true };
+    ghost invariant = { λ r. is_covered_in r.held ≡ true };
 }
 
 impl Readings {
     /// An instance's own readings, then those of the parts. Nothing keeps spare room.
-    #[inline(always)]
     pub fn new(
+        alloc: Global,
+        own: ShortList<Reading>,
+        parts: Vec<Readings>,
+    ) -> Result<Readings, AllocError>
+        ensures made { IfOk result (λ r. r ≡ map note_of (items_in own) ++ all_of parts.items) }
+    {
+        match own {
+            ShortList::Two(pair) => Readings::of_pair(alloc, pair, parts),
+            other => Readings::of_list(alloc, other, parts),
+        }
+    }
+
+    /// Two readings of an instance that has none below it. It takes no memory.
+    #[inline(always)]
+    pub fn of_two(pair: [Reading; 2]) -> Readings
+        ensures same { result ≡ map note_of pair }
+    {
+        Readings {
+            held: Held::Two(pair),
+        }
+    }
+
+    // Two readings, then those of the parts.
+    fn of_pair(
+        alloc: Global,
+        pair: [Reading; 2],
+        parts: Vec<Readings>,
+    ) -> Result<Readings, AllocError>
+        ensures made { IfOk result (λ r. r ≡ map note_of pair ++ all_of parts.items) }
+    {
+        if parts.is_empty() {
+            return Ok(Readings::of_two(pair));
+        }
+        Readings::of(alloc, ShortList::Two(pair), parts)
+    }
+
+    // As many readings as there are, then those of the parts.
+    fn of_list(
         alloc: Global,
         mut own: ShortList<Reading>,
         parts: Vec<Readings>,
@@ -110,24 +155,45 @@ impl Readings {
             below: make_below(alloc, parts)?,
         };
         Ok(Readings {
-            node: Arc::new(alloc, node)?,
+            held: Held::Shared(Arc::new(alloc, node)?),
         })
     }
 
-    /// A second owner of these readings, which aren't copied.
+    /// A second owner of these readings, of which no more than two are copied.
+    #[inline(always)]
     pub fn share(&self) -> Result<Readings, AllocError>
         ensures same { IfOk result (λ r. r ≡ self.now) }
     {
-        Ok(Readings {
-            node: Arc::try_clone(&self.node)?,
-        })
+        match &self.held {
+            Held::Two(pair) => Ok(Readings::of_two(*pair)),
+            Held::Shared(node) => Ok(Readings {
+                held: Held::Shared(Arc::try_clone(node)?),
+            }),
+        }
+    }
+
+    // The node of these readings, which is made of two.
+    fn into_node(self, alloc: Global) -> Result<Arc<Node>, AllocError>
+        ensures notes { IfOk result (λ n. shared_notes n ≡ self) }
+        ensures covered { IfOk result (λ n. is_covered_share n ≡ true) }
+    {
+        match self.held {
+            Held::Two(pair) => {
+                let own = ShortList::Two(pair);
+                Ok(Arc::new(alloc, Node { own, below: None })?)
+            }
+            Held::Shared(node) => Ok(node),
+        }
     }
 
     /// Whether the tables hold what was read. It takes no memory.
     pub fn agree(&self, tables: &Tables) -> bool
         ensures agree { result ≡ every (note_agrees tables.now.tables) self.now }
     {
-        node_agrees(&self.node, tables)
+        match &self.held {
+            Held::Two(pair) => reads_agree(pair, tables),
+            Held::Shared(node) => node_agrees(node, tables),
+        }
     }
 
     /// Whether one of these changes, each given by its table's number and the row, may have changed what was read, by its own
@@ -135,21 +201,27 @@ impl Readings {
     pub fn are_touched(&self, changes: &[(usize, i64)]) -> bool
         ensures apart { result ≡ false → every (is_apart changes.now) self.now ≡ true }
     {
-        node_is_touched(&self.node, changes)
+        match &self.held {
+            Held::Two(pair) => are_own_touched(pair, changes),
+            Held::Shared(node) => node_is_touched(node, changes),
+        }
     }
 
     /// Whether that was read. It takes no memory, and passes over parts that read none of its rows.
     pub fn has(&self, note: &Note) -> bool
         ensures has { result ≡ is_read self.now note.now }
     {
-        node_has(&self.node, note)
+        match &self.held {
+            Held::Two(pair) => has_own(pair, note),
+            Held::Shared(node) => node_has(node, note),
+        }
     }
 
     /// Whether what instances below have read reaches over the rows with which that hull begins.
     pub(crate) fn reach_over(&self, hull: &Hull) -> bool {
-        match &self.node.below {
-            Some(below) => hull.is_reached_by(&below.spans),
-            None => false,
+        match &self.held {
+            Held::Two(_) => false,
+            Held::Shared(node) => node_reaches(node, hull),
         }
     }
 
@@ -161,7 +233,10 @@ impl Readings {
         ensures won { result.1 ≡ how_many same_note won.now self.now }
         ensures few { result.0 ≤ length lost.now }
     {
-        how_many(lowest(&self.node, change), change, lost, won)
+        match &self.held {
+            Held::Two(pair) => (how_many_own(pair, lost), how_many_own(pair, won)),
+            Held::Shared(node) => how_many(lowest(node, change), change, lost, won),
+        }
     }
 
     /// The readings from the first to the last that rests on the change, of the lowest instance that has read all that the change may have
@@ -170,7 +245,10 @@ impl Readings {
         ensures same { IfSome result (λ own. (note : PlainNote) → is_apart (change.now ∷ []) note ≡ false
             → is_read (map note_of own.now) note ≡ is_read self.now note) }
     {
-        touched_own(lowest(&self.node, change), change)
+        match &self.held {
+            Held::Two(pair) => Some(pair),
+            Held::Shared(node) => touched_own(lowest(node, change), change),
+        }
     }
 
     /// Joins spans with the rows of what was read.
@@ -179,7 +257,10 @@ impl Readings {
             → is_covered_by spans.new.items note ≡ true) }
         ensures put { OnOk result (every (is_covered_by spans.new.items) self.now ≡ true) }
     {
-        put_node(&self.node, spans)
+        match &self.held {
+            Held::Two(pair) => put_pair(pair, spans),
+            Held::Shared(node) => put_node(node, spans),
+        }
     }
 
     /// Copies of all of them, in order: for who looks at a record from outside.
@@ -187,8 +268,19 @@ impl Readings {
         ensures notes { IfOk result (λ ns. ns.items ≡ self.now) }
     {
         let mut notes = Vec::new(alloc);
-        put_notes(&self.node, &mut notes)?;
+        match &self.held {
+            Held::Two(pair) => put_own(pair, &mut notes)?,
+            Held::Shared(node) => put_notes(node, &mut notes)?,
+        }
         Ok(notes)
+    }
+}
+
+// Whether what instances below have read reaches over the rows with which that hull begins.
+fn node_reaches(node: &Node, hull: &Hull) -> bool {
+    match &node.below {
+        Some(below) => hull.is_reached_by(&below.spans),
+        None => false,
     }
 }
 
@@ -220,8 +312,9 @@ fn nodes(
     let mut nodes = Vec::new(alloc);
     nodes.reserve_exact(parts.len())?;
     for part in parts {
-        put_node(&part.node, spans)?;
-        nodes.push(part.node)?;
+        let node = part.into_node(alloc)?;
+        put_node(&node, spans)?;
+        nodes.push(node)?;
     }
     Ok(nodes)
 }
@@ -238,33 +331,6 @@ fn put_node(node: &Node, spans: &mut Vec<Span>) -> Result<(), AllocError>
         Some(below) => put_spans(&below.spans, spans),
         None => Ok(()),
     }
-}
-
-// Whether the tables hold what was read there and below.
-#[cycle(agreeing)]
-fn node_agrees(node: &Node, tables: &Tables) -> bool
-    ensures agrees { result ≡ every (note_agrees tables.now.tables) (node_notes node.now) }
-{
-    if !reads_agree(node.own.as_slice(), tables) {
-        return false;
-    }
-    match &node.below {
-        Some(below) => parts_agree(&below.parts, tables),
-        None => true,
-    }
-}
-
-#[cycle(agreeing)]
-fn parts_agree(parts: &[Arc<Node>], tables: &Tables) -> bool
-    ensures agree { result
-        ≡ every (note_agrees tables.now.tables) (flat_map shared_notes parts.now) }
-{
-    for part in parts {
-        if !node_agrees(part, tables) {
-            return false;
-        }
-    }
-    true
 }
 
 /// Whether one of the changes may have changed what was read there or below.
@@ -504,68 +570,4 @@ fn is_same(note: &Note, other: &Note) -> bool
     ensures same { result ≡ same_note note.now other.now }
 {
     *note == *other
-}
-
-// Puts the notes of a node and of those below it behind others.
-#[cycle(putting)]
-fn put_notes(node: &Node, notes: &mut Vec<Note>) -> Result<(), AllocError>
-    ensures put { OnOk result (notes.new.items ≡ notes.old.items ++ node_notes node.now) }
-{
-    put_own(node.own.as_slice(), notes)?;
-    match &node.below {
-        Some(below) => put_parts(&below.parts, notes),
-        None => Ok(()),
-    }
-}
-
-#[cycle(putting)]
-fn put_parts(parts: &[Arc<Node>], notes: &mut Vec<Note>) -> Result<(), AllocError>
-    ensures put { OnOk result
-        (notes.new.items ≡ notes.old.items ++ flat_map shared_notes parts.now) }
-{
-    for part in parts {
-        put_notes(part, notes)?;
-    }
-    Ok(())
-}
-
-fn put_own(own: &[Reading], notes: &mut Vec<Note>) -> Result<(), AllocError>
-    ensures put { OnOk result (notes.new.items ≡ notes.old.items ++ map note_of own.now) }
-{
-    for reading in own {
-        notes.push(reading.note())?;
-    }
-    Ok(())
-}
-
-// Whether the tables hold what was read.
-fn reads_agree(reads: &[Reading], tables: &Tables) -> bool
-    ensures agree { result ≡ every (note_agrees tables.now.tables) (map note_of reads.now) }
-{
-    for reading in reads {
-        if !agrees(&reading.note(), tables) {
-            return false;
-        }
-    }
-    true
-}
-
-fn agrees(note: &Note, tables: &Tables) -> bool
-    ensures agrees { result ≡ note_agrees tables.now.tables note.now }
-{
-    match note {
-        Note::Cell {
-            table,
-            row,
-            column,
-            value,
-        } => tables.cell(*table, *row, *column) == Some(*value),
-        Note::Has { table, row, found } => tables.has(*table, *row) == *found,
-        Note::Limit { table, value } => tables.limit(*table) == *value,
-        Note::Sum {
-            table,
-            column,
-            value,
-        } => tables.sum(*table, *column) == *value,
-    }
 }

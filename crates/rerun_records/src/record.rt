@@ -58,16 +58,19 @@ impl Record {
     /// it at most, itself counted. Reducers and procedures go by their numbers. It takes no memory, and keeps no spare room.
     pub fn new(
         procedure: usize,
-        arguments: ShortList<i64>,
+        mut arguments: ShortList<i64>,
         value: i64,
-        contribution: Vec<(usize, Val)>,
+        mut contribution: Vec<(usize, Val)>,
         reads: Readings,
-        entered: ShortList<(usize, u64)>,
+        mut entered: ShortList<(usize, u64)>,
         height: u32,
     ) -> Record
         ensures made { result ≡ made_of procedure (items_in arguments) value contribution.items reads
             (items_in entered) height }
     {
+        arguments.shrink_to_fit();
+        contribution.shrink_to_fit();
+        entered.shrink_to_fit();
         Record::of_values(
             procedure,
             arguments,
@@ -79,23 +82,20 @@ impl Record {
         )
     }
 
-    /// The record of its parts as `new` makes it, where one or two values lie by themselves.
+    /// The record of its parts as `new` makes it, where these have no spare room, and one or two values lie by themselves.
     #[inline(always)]
     pub fn of_values(
         procedure: usize,
-        mut arguments: ShortList<i64>,
+        arguments: ShortList<i64>,
         value: i64,
-        mut contribution: ShortList<(usize, Val)>,
+        contribution: ShortList<(usize, Val)>,
         reads: Readings,
-        mut entered: ShortList<(usize, u64)>,
+        entered: ShortList<(usize, u64)>,
         height: u32,
     ) -> Record
         ensures made { result ≡ made_of procedure (items_in arguments) value (items_in contribution)
             reads (items_in entered) height }
     {
-        arguments.shrink_to_fit();
-        contribution.shrink_to_fit();
-        entered.shrink_to_fit();
         Record {
             procedure,
             arguments,

@@ -1,6 +1,9 @@
 // Stretches of rows in which what was read lies, one for each table.
 ghost use Rattle.std.specs.Prelude.{◌≡◌, OnOk, map, nat_eq, pos, false, true};
 ghost use Rattle.std.specs.List.{list_any};
+ghost use Rattle.evaluation.specs.declared.note.Note.{Note as PlainNote};
+ghost use Rattle.evaluation.specs.Short.{note_of};
+ghost use Rattle.meaning.specs.Every.{every};
 ghost use Rattle.rerun_records.specs.Spans.{span_of, has_row, covers, lies_in, joined, put_span, put_spans, is_covered_by, is_touched};
 
 use evaluation::note::Note;
@@ -64,6 +67,17 @@ impl Span {
             low: self.low.min(other.low),
             high: self.high.max(other.high),
         }
+    }
+
+    // Whether these are the rows of the other.
+    #[inline(always)]
+    fn is_same(&self, other: &Span) -> bool
+        ensures same { result ≡ true → self.now ≡ other.now }
+    {
+        self.low == other.low
+            && self.high == other.high
+            && self.table == other.table
+            && self.whole == other.whole
     }
 
     // Whether its rows are all that was read so rests on.
@@ -133,6 +147,21 @@ pub(crate) fn put_read(own: &[Reading], spans: &mut Vec<Span>) -> Result<(), All
         put_span(&Span::new(reading), spans)?;
     }
     Ok(())
+}
+
+/// Joins spans with the rows of two readings, which most often are of one row.
+pub(crate) fn put_pair(pair: &[Reading; 2], spans: &mut Vec<Span>) -> Result<(), AllocError>
+    ensures kept { OnOk result ((note : PlainNote) → is_covered_by spans.old.items note ≡ true
+        → is_covered_by spans.new.items note ≡ true) }
+    ensures put { OnOk result (every (is_covered_by spans.new.items) (map note_of pair.now) ≡ true) }
+{
+    let first = Span::new(&pair[0]);
+    let second = Span::new(&pair[1]);
+    if first.is_same(&second) {
+        return put_span(&first, spans);
+    }
+    put_span(&first, spans)?;
+    put_span(&second, spans)
 }
 
 /// Whether one of the changed rows lies in one of the spans.

@@ -1,20 +1,20 @@
-use Rattle.std.proofs.Common.{[], ◌∷◌, ap, ◌∙◌}
+use Rattle.std.proofs.Common.{[], ◌∷◌, ap, sym, ◌∙◌}
 use Rattle.rerun_records.specs.Blocks.{is_apart}
-use Rattle.rerun_records.specs.Readings.{node_notes}
+use Rattle.rerun_records.specs.Readings.{node_notes, notes_in}
 use Rattle.rerun_records.specs.Same.{is_read}
 use Rattle.rerun_records.proofs.Narrowed.{same_many, left_rest, right_rest}
 use Rattle.rerun_records.proofs.readings.Readings.how_many.Goals as goal
 
-pub returns-clause-lost : goal.returns-clause-lost
-returns-clause-lost c =
+pub returns-in-Shared-clause-lost : goal.returns-in-Shared-clause-lost
+returns-in-Shared-clause-lost c =
     let q = is_apart (c.args.change.now ∷ []) in
     c.how_many.ensures.lost
     ∙ same_many q c.args.lost.now (node_notes c.lowest.result.now) c.args.self.now (left_rest q c.args.lost.now c.args.won.now c.requires.rest)
-    (λ note h. c.lowest.ensures.same note h ∙ ap (λ n. is_read (node_notes n) note) c.deref.ensures ∙ ap (λ ns. is_read ns note) c.self.view_is)
+    (λ note h. c.lowest.ensures.same note h ∙ ap (λ n. is_read (node_notes n) note) c.deref.ensures ∙ ap (λ ns. is_read ns note) (sym (ap notes_in c.in-Shared.is) ∙ c.self.view_is))
 
-pub returns-clause-won : goal.returns-clause-won
-returns-clause-won c =
+pub returns-in-Shared-clause-won : goal.returns-in-Shared-clause-won
+returns-in-Shared-clause-won c =
     let q = is_apart (c.args.change.now ∷ []) in
     c.how_many.ensures.won
     ∙ same_many q c.args.won.now (node_notes c.lowest.result.now) c.args.self.now (right_rest q c.args.lost.now c.args.won.now c.requires.rest)
-    (λ note h. c.lowest.ensures.same note h ∙ ap (λ n. is_read (node_notes n) note) c.deref.ensures ∙ ap (λ ns. is_read ns note) c.self.view_is)
+    (λ note h. c.lowest.ensures.same note h ∙ ap (λ n. is_read (node_notes n) note) c.deref.ensures ∙ ap (λ ns. is_read ns note) (sym (ap notes_in c.in-Shared.is) ∙ c.self.view_is))

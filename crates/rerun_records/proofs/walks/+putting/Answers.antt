@@ -4,7 +4,7 @@ use Rattle.rerun_records.specs.declared.readings.Below.{out-Below}
 use Rattle.evaluation.specs.Short.{note_of}
 use Rattle.rerun_records.specs.Readings.{shared_notes}
 use Rattle.rerun_records.proofs.NodeNotes.{on_ok, put_with_parts}
-use Rattle.rerun_records.proofs.readings.+putting.Goals as goal
+use Rattle.rerun_records.proofs.walks.+putting.Goals as goal
 
 pub put_notes-returns-in-Some : goal.put_notes-returns-in-Some
 put_notes-returns-in-Some t c = record {

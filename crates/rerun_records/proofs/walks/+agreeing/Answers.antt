@@ -6,7 +6,7 @@ use Rattle.evaluation.specs.Short.{note_of}
 use Rattle.rerun_records.specs.Readings.{shared_notes}
 use Rattle.rerun_records.specs.Validity.{note_agrees}
 use Rattle.rerun_records.proofs.NodeNotes.{every_with_parts}
-use Rattle.rerun_records.proofs.readings.+agreeing.Goals as goal
+use Rattle.rerun_records.proofs.walks.+agreeing.Goals as goal
 
 pub node_agrees-returns-in-Some : goal.node_agrees-returns-in-Some
 node_agrees-returns-in-Some t c =
