@@ -300,19 +300,18 @@ fn kept_reads(alloc: Global, notes: &Notes, shared: &[Readings]) -> Result<Readi
 {
     let found = notes.readings();
     if shared.is_empty() && are_of_two_columns(found) {
-        return two_reads(alloc, found);
+        return Ok(two_reads(found));
     }
     all_reads(alloc, notes, shared)
 }
 
-/// Two readings.
+/// Two readings. It takes no memory.
 #[inline(always)]
-fn two_reads(alloc: Global, found: &[Reading]) -> Result<Readings, AllocError>
+fn two_reads(found: &[Reading]) -> Readings
     requires two { length found.now ≡ 2 }
-    ensures same { IfOk result (λ r. r ≡ map note_of found.now) }
+    ensures same { result ≡ map note_of found.now }
 {
-    let own = ShortList::Two([found[0], found[1]]);
-    Readings::new(alloc, own, Vec::new(alloc))
+    Readings::of_two([found[0], found[1]])
 }
 
 /// A layer's own readings, each once, and then those that it shares, however many. Those of one instance alone are handed on as they are.

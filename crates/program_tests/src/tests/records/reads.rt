@@ -3,6 +3,7 @@
 use super::super::beginnings::sales;
 use super::making::{cell, reads_of};
 use evaluation::note::Note;
+use evaluation::reading::Reading;
 use rerun_records::readings::Readings;
 use std::alloc::Global;
 use std::process::Abort;
@@ -37,4 +38,27 @@ fn parts_are_read_too(rt: HostRuntime) {
     assert!(&rt; is_in_order(rt.alloc(), &above(&rt, rt.alloc(), 3)));
     let agree = [agrees_at(&rt, rt.alloc(), 3), agrees_at(&rt, rt.alloc(), 4)];
     assert!(&rt; agree == [true, false]);
+}
+
+/// What an instance has read that noted both cells of row 2.
+fn pair(rt: &impl Abort) -> Readings {
+    let quantity = Reading::new(&cell(2, 0, 3)).expect(rt, "a short reading");
+    let price = Reading::new(&cell(2, 1, 7)).expect(rt, "a short reading");
+    Readings::of_two([quantity, price])
+}
+
+/// Whether these are the notes of both cells.
+fn are_both(alloc: Global, reads: &Readings) -> bool {
+    match reads.notes(alloc) {
+        Ok(notes) => notes.len() == 2 && notes[0] == cell(2, 0, 3) && notes[1] == cell(2, 1, 7),
+        Err(_) => false,
+    }
+}
+
+/// Two readings are the same where they are shared.
+#[test]
+fn two_lie_by_themselves(rt: HostRuntime) {
+    let shared = pair(&rt).share().expect(&rt, "memory");
+    assert!(&rt; are_both(rt.alloc(), &shared));
+    assert!(&rt; shared.agree(&sales(&rt, rt.alloc())));
 }
