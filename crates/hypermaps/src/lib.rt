@@ -304,6 +304,7 @@ impl<V: View> Hypermap<V> {
     }
 
     /// The value of one reducer. Want of memory is the only error.
+    #[inline(always)]
     pub fn value(&self, reducer: usize) -> Result<Val, AllocError>
         requires { reducer < length self.now.kinds }
         ensures { IfOk result (λ v. IsAt self.now.worths reducer (meaning v)) }
