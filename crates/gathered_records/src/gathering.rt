@@ -295,11 +295,14 @@ pub(crate) fn find_row(records: &Records, row: &Row) -> Option<u32>
     }
 }
 
-// The row of the record at that place.
+// The row of the record at that place, where it may have one.
 fn row_at(records: &Records, alloc: Global, place: usize) -> Result<Option<Row>, AllocError> {
     let all = records.as_slice();
     match all.get(place) {
-        Some(record) => { row_of(alloc, record, counted_at(record, all, place)) }
+        Some(record) => match counted_at(record, all, place) {
+            Some(counted) => row_of(alloc, record, counted),
+            None => Ok(None),
+        },
         None => Ok(None),
     }
 }
@@ -390,14 +393,23 @@ pub(crate) fn begins_at(block: &Block, place: u32) -> bool
 }
 
 // Which argument of the record at that place is counted: the one in which the next record or the one before it differs from it by
-// one, else the last.
-fn counted_at(record: &Record, records: &[Record], place: usize) -> usize {
+// one, else the only one. Records of ranges have none, so no row is looked for.
+fn counted_at(record: &Record, records: &[Record], place: usize) -> Option<usize> {
     match step_to(record, records.get(place.wrapping_add(1))) {
-        Some(counted) => counted,
+        Some(counted) => Some(counted),
         None => match step_to(record, records.get(place.wrapping_sub(1))) {
-            Some(counted) => counted,
-            None => record.arguments().len().wrapping_sub(1),
+            Some(counted) => Some(counted),
+            None => only_one(record),
         },
+    }
+}
+
+// The only argument of a record.
+fn only_one(record: &Record) -> Option<usize> {
+    if record.arguments().len() == 1 {
+        Some(0)
+    } else {
+        None
     }
 }
 

@@ -191,7 +191,8 @@ fn furthest(records: &Records, row: &mut Row, number: i64, direction: i64) -> i6
     found
 }
 
-// The furthest number on the way up to one without a record up to which there are records, by steps that are halved.
+// The furthest number up to which there are records: that one has a record, the one so far from it has none, and those between are tried
+// by steps that are halved.
 fn nearest(records: &Records, row: &mut Row, number: i64, missing: i64) -> i64 {
     let mut found = number;
     let mut step = missing / 2;
