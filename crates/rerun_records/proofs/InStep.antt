@@ -19,7 +19,7 @@ use Rattle.rerun_records.proofs.NumbersThen.{note_itself}
 use Rattle.rerun_records.proofs.Same.{note_is}
 use Rattle.rerun_records.proofs.Singles.{is_le}
 
-both_decide : (a b : Bool) → (a ≡ true → b ≡ true) → (b ≡ true → a ≡ true) → a ≡ b
+pub both_decide : (a b : Bool) → (a ≡ true → b ≡ true) → (b ≡ true → a ≡ true) → a ≡ b
 both_decide true b f g = sym (f refl)
 both_decide false true f g = g refl
 both_decide false false f g = refl

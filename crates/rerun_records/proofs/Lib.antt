@@ -14,6 +14,7 @@ pub mod Singles
 pub mod NodeNotes
 pub mod Same
 pub mod Narrowed
+pub mod OneTime
 pub mod Homes
 pub mod Touched
 pub mod Covering

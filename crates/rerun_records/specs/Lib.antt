@@ -8,6 +8,7 @@ pub mod Counts
 pub mod Numbers
 pub mod Put
 pub mod InStep
+pub mod OneTime
 pub mod Named
 pub mod ShortLists
 pub mod Batches

@@ -114,10 +114,15 @@ fn drop_numbered(blocks: &mut Vec<Option<Block>>, number: usize, due: &mut Due)
     ensures dropped { blocks.new.items ≡ slice_set blocks.old.items number None }
     ensures count { length blocks.new.items ≡ length blocks.old.items }
 {
-    if number < blocks.len() {
-        note_first(&blocks[number], due);
-        blocks[number] = None;
+    if number >= blocks.len() {
+        return;
     }
+    // Most were dropped before: nothing is moved then.
+    if blocks[number].is_none() {
+        return;
+    }
+    note_first(&blocks[number], due);
+    blocks[number] = None;
 }
 
 // Notes that the first record of a block is due.

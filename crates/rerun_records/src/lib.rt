@@ -22,3 +22,4 @@ mod spans;
 mod stretch;
 mod telling;
 mod walks;
+mod ways;

@@ -20,6 +20,7 @@ use crate::narrowing::{how_many, how_many_own, lowest, touched_own};
 use crate::short_list::ShortList;
 use crate::spans::{Span, are_touched, may_have, put_pair, put_read, put_spans};
 use crate::walks::{node_agrees, put_notes, put_own, reads_agree};
+use crate::ways::{HERE, own_by, way_to};
 use evaluation::note::Note;
 use evaluation::reading::Reading;
 use input_tables::Tables;
@@ -44,7 +45,7 @@ pub(crate) struct Node {
 #[derive(Drop)]
 pub(crate) struct Below {
     pub(crate) parts: Vec<Arc<Node>>,
-    spans: Vec<Span>,
+    pub(crate) spans: Vec<Span>,
 }
 
 /// Two readings with none below them, which take no memory of their own, or a node.
@@ -248,6 +249,26 @@ impl Readings {
         match &self.held {
             Held::Two(pair) => Some(pair),
             Held::Shared(node) => touched_own(lowest(node, change), change),
+        }
+    }
+
+    /// The turns from there down to readings of one instance's own that may rest on the change, as `own_by` takes them.
+    pub(crate) fn way_to(&self, change: &(usize, i64)) -> u64 {
+        match &self.held {
+            Held::Two(_) => HERE,
+            Held::Shared(node) => way_to(node, change),
+        }
+    }
+
+    /// The own readings of the instance to which these turns lead.
+    #[inline(always)]
+    pub(crate) fn own_by(&self, turns: u64) -> Option<&[Reading]>
+        ensures read { IfSome result (λ own. (note : PlainNote)
+            → is_read (map note_of own.now) note ≡ true → is_read self.now note ≡ true) }
+    {
+        match &self.held {
+            Held::Two(pair) => Some(pair),
+            Held::Shared(node) => own_by(node, turns),
         }
     }
 

@@ -6,6 +6,7 @@ ghost use Rattle.meaning.specs.Every.{every};
 ghost use Rattle.rerun_records.specs.Record.{PlainRecord, is_of, instance_number, as_made};
 ghost use Rattle.rerun_records.specs.Validity.{record_valid, valid_at};
 ghost use Rattle.rerun_records.specs.InStep.{IsInStep, ReadNow, reads_agree};
+ghost use Rattle.rerun_records.specs.OneTime.{AreOfOneTime};
 ghost use Rattle.rerun_records.specs.Numbers.{most_number, told_by};
 ghost use Rattle.rerun_records.specs.Commits.{put_records, AreSingle};
 ghost use Rattle.rerun_records.specs.Put.{ArePut};
@@ -57,6 +58,7 @@ impl Model for Records {
     ghost use Rattle.rerun_records.specs.Numbers.{with_numbers, HaveNumbers};
     ghost use Rattle.rerun_records.specs.Blocks.{BlocksFit};
     ghost use Rattle.rerun_records.specs.Covers.{AreCovered};
+    ghost use Rattle.rerun_records.specs.OneTime.{AreOfOneTime};
 
     ghost Value = { List PlainRecord };
 
@@ -65,7 +67,8 @@ impl Model for Records {
     ghost invariant = { λ r. HaveNumbers r.numbers.items r.list.items
         × BlocksFit (with_numbers r.numbers.items r.list.items) r.blocks
         × (r.places.numbers ≡ map instance_number r.list.items)
-        × AreCovered r.list.items r.covers };
+        × AreCovered r.list.items r.covers
+        × AreOfOneTime r.list.items };
 }
 
 impl Records {
@@ -150,8 +153,8 @@ impl Records {
         }
     }
 
-    // The record of a procedure and arguments, and its place, looked for near another place first.
-    fn place_near(
+    /// The record of the procedure of that number with these arguments, valid or not, and its place, looked for at the near place first.
+    pub fn place_near(
         &self,
         near: usize,
         procedure: usize,
@@ -412,6 +415,7 @@ impl Records {
 
     // Puts records in. Where memory is refused nothing has changed.
     fn put(&mut self, records: Vec<Record>) -> Result<(), AllocError>
+        requires once { AreOfOneTime records.items }
         ensures put { OnOk result (ArePut self.old records.items self.new) }
         ensures same { OnErr result (self.new ≡ self.old) }
     {
@@ -424,6 +428,7 @@ impl Records {
     // Has the list that holds the records be that of the session, where there are none yet: a large one needn't be copied.
     fn take_whole(&mut self, mut records: Vec<Record>) -> Result<(), AllocError>
         requires none { length self.old ≡ 0 }
+        requires once { AreOfOneTime records.items }
         ensures put { OnOk result (ArePut self.old records.items self.new) }
         ensures same { OnErr result (self.new ≡ self.old) }
     {
@@ -448,6 +453,7 @@ impl Records {
 
     // Puts records in one by one.
     fn put_each(&mut self, records: Vec<Record>) -> Result<(), AllocError>
+        requires once { AreOfOneTime records.items }
         ensures put { OnOk result (ArePut self.old records.items self.new) }
         ensures same { OnErr result (self.new ≡ self.old) }
     {

@@ -1,18 +1,21 @@
 // How the change of a row changes the numbers of records.
-ghost use Rattle.std.specs.Prelude.{◌≡◌, ◌≤◌, ◌<◌, ◌+◌, ◌++◌, ◌∷◌, [], length, map, min, not, true, slice_set, Some};
+ghost use Rattle.std.specs.Prelude.{◌≡◌, ◌≤◌, ◌<◌, ◌+◌, ◌++◌, ◌∷◌, [], IfSome, length, map, min, not, true, slice_set, Some};
 ghost use Rattle.meaning.specs.Every.{every};
 ghost use Rattle.rerun_records.specs.Blocks.{BlocksFit, is_apart};
+ghost use Rattle.evaluation.specs.declared.note.Note.{Note as PlainNote};
 ghost use Rattle.evaluation.specs.Short.{note_of};
 ghost use Rattle.rerun_records.specs.Counts.{how_many};
 ghost use Rattle.rerun_records.specs.Covers.{AreApart, AreCovered};
 ghost use Rattle.rerun_records.specs.Numbers.{most_number, number_by, number_then, numbers_then, with_numbers};
-ghost use Rattle.rerun_records.specs.Same.{same_note};
+ghost use Rattle.rerun_records.specs.OneTime.{AreOfOneTime, IsOfOneTime};
+ghost use Rattle.rerun_records.specs.Same.{is_read, same_note};
 
 use crate::blocks::Blocks;
 use crate::covers::Covers;
 use crate::narrowing::how_many_own;
 use crate::readings::{Readings, are_same};
 use crate::record::Record;
+use crate::ways::{NONE, behind_first, first_touched, value_near};
 use evaluation::note::Note;
 use evaluation::reading::Reading;
 
@@ -32,25 +35,45 @@ pub(crate) fn tell(
     requires rest { every (λ n. not (is_apart (change.now ∷ []) n)) (lost.now ++ won.now) ≡ true }
     requires fit { BlocksFit (with_numbers numbers.old list.now) blocks.old }
     requires covered { AreCovered list.now covers.now }
+    requires once { AreOfOneTime list.now }
     ensures told { numbers.new ≡ numbers_then lost.now won.now numbers.old list.now }
     ensures places { length numbers.new ≡ length list.now }
     ensures fit { BlocksFit (with_numbers numbers.new list.now) blocks.new }
 {
     match covers.next_touched(list, list.len(), change) {
         Some(place) => {
-            let edit = Edit { change, lost, won };
+            let is_of_cells = are_of_cells(lost) && are_of_cells(won);
+            let edit = Edit {
+                change,
+                lost,
+                won,
+                is_of_cells,
+            };
             tell_from(numbers, blocks, list, covers, place, edit);
         }
         None => {}
     }
 }
 
-// A change of a row, with the readings that don't hold any more and those that hold again.
+// A change of a row, with the readings that don't hold any more and those that hold again, and whether these are of cells and sums alone.
 #[derive(Clone, Copy)]
 struct Edit<'a> {
     change: &'a (usize, i64),
     lost: &'a [Note],
     won: &'a [Note],
+    is_of_cells: bool,
+}
+
+// Whether these are readings of cells and sums alone.
+fn are_of_cells(notes: &[Note]) -> bool {
+    for note in notes {
+        match note {
+            Note::Has { .. } => return false,
+            Note::Limit { .. } => return false,
+            _ => {}
+        }
+    }
+    true
 }
 
 // Tells the records up to that place of an edit. The one there is the last that may have read the row.
@@ -68,6 +91,7 @@ fn tell_from(
     requires rest { every (λ n. not (is_apart (edit.change.now ∷ []) n)) (edit.lost.now ++ edit.won.now) ≡ true }
     requires fit { BlocksFit (with_numbers numbers.old list.now) blocks.old }
     requires covered { AreCovered list.now covers.now }
+    requires once { AreOfOneTime list.now }
     requires apart { AreApart list.now edit.change.now (place + 1) (length list.now) }
     ensures told { numbers.new ≡ numbers_then edit.entry.lost.now edit.entry.won.now numbers.old list.now }
     ensures places { length numbers.new ≡ length list.now }
@@ -76,16 +100,10 @@ fn tell_from(
     let known = first_counts(list[place].reads(), edit.change, edit.lost, edit.won);
     let number = number_after(numbers[place], known.more, known.fewer);
     renumber(numbers, blocks, list, place, number);
+    let mut way = way_to(list[place].reads(), edit);
     let mut end = place;
     while let Some(place) = covers.next_touched(list, end, edit.change) {
-        let number = told(
-            numbers[place],
-            list[place].reads(),
-            edit.change,
-            edit.lost,
-            edit.won,
-            known,
-        );
+        let number = told_by_way(numbers[place], list[place].reads(), edit, known, &mut way);
         renumber(numbers, blocks, list, place, number);
         end = place;
     }
@@ -151,8 +169,112 @@ fn first_counts<'a>(
     }
 }
 
+// Turns down from a record to the own readings of an instance below it, and the first of these that rests on the change.
+#[derive(Clone, Copy)]
+struct Way {
+    turns: u64,
+    first: usize,
+}
+
+// The way from there to what rests on the change of an edit of cells.
+fn way_to(reads: &Readings, edit: Edit<'_>) -> Way {
+    let turns = if edit.is_of_cells {
+        reads.way_to(edit.change)
+    } else {
+        NONE
+    };
+    let first = match reads.own_by(turns) {
+        Some(own) => first_touched(own, edit.change),
+        None => 0,
+    };
+    Way { turns, first }
+}
+
+// The number that a record has then. The one told before it was mostly of the instance around its own, so the way from there goes on from
+// here, and a cell's reading at its end tells which of the readings of that cell the record has: all were read at one time.
+#[inline(always)]
+fn told_by_way(
+    number: u32,
+    reads: &Readings,
+    edit: Edit<'_>,
+    known: Counted<'_>,
+    way: &mut Way,
+) -> u32
+    requires rest { every (λ n. not (is_apart (edit.change.now ∷ []) n)) (edit.lost.now ++ edit.won.now) ≡ true }
+    requires own { known.is_known ≡ true
+        → known.more ≡ how_many same_note edit.lost.now (map note_of known.own.now) }
+    requires own_fewer { known.is_known ≡ true
+        → known.fewer ≡ how_many same_note edit.won.now (map note_of known.own.now) }
+    requires few { known.more ≤ length edit.lost.now }
+    requires once { IsOfOneTime reads.now }
+    ensures told { result ≡ number_then edit.entry.lost.now edit.entry.won.now number reads.now }
+{
+    way.turns = behind_first(way.turns);
+    match counts_by(reads, edit, *way) {
+        Some((more, fewer)) => number_after(number, more, fewer),
+        None => {
+            *way = way_to(reads, edit);
+            told(number, reads, edit.change, edit.lost, edit.won, known)
+        }
+    }
+}
+
+// How many of the lost and of the won readings there are, where the way leads to a reading of each cell.
+#[inline(always)]
+fn counts_by(reads: &Readings, edit: Edit<'_>, way: Way) -> Option<(u64, u64)>
+    requires once { IsOfOneTime reads.now }
+    ensures more { IfSome result (λ counts. counts.0 ≡ how_many same_note edit.entry.lost.now reads.now) }
+    ensures fewer { IfSome result (λ counts. counts.1 ≡ how_many same_note edit.entry.won.now reads.now) }
+    ensures few { IfSome result (λ counts. counts.0 ≤ length edit.entry.lost.now) }
+{
+    let own = reads.own_by(way.turns)?;
+    let more = count_by(reads, own, way.first, edit.lost)?;
+    let fewer = count_by(reads, own, way.first, edit.won)?;
+    Some((more, fewer))
+}
+
+// How many of these were read, where a reading of each cell lies among the own ones from that place on.
+#[inline(always)]
+fn count_by(reads: &Readings, own: &[Reading], first: usize, notes: &[Note]) -> Option<u64>
+    requires once { IsOfOneTime reads.now }
+    requires within { (note : PlainNote) → is_read (map note_of own.now) note ≡ true → is_read reads.now note ≡ true }
+    ensures many { IfSome result (λ count. count ≡ how_many same_note notes.now reads.now) }
+    ensures few { IfSome result (λ count. count ≤ length notes.now) }
+{
+    let mut count = 0;
+    for note in notes {
+        let there = is_read_by(reads, own, first, note)?;
+        if there {
+            count += 1;
+        }
+    }
+    Some(count)
+}
+
+// Whether that was read, where it is no cell or a reading of the cell lies among the own ones from that place on.
+#[inline(always)]
+fn is_read_by(reads: &Readings, own: &[Reading], first: usize, note: &Note) -> Option<bool>
+    requires once { IsOfOneTime reads.now }
+    requires within { (note : PlainNote) → is_read (map note_of own.now) note ≡ true → is_read reads.now note ≡ true }
+    ensures read { IfSome result (λ answer. answer ≡ is_read reads.now note.now) }
+{
+    match note {
+        Note::Cell {
+            table,
+            row,
+            column,
+            value,
+        } => {
+            let held = value_near(own, first, *table, *row, *column)?;
+            Some(held == *value)
+        }
+        _ => Some(reads.has(note)),
+    }
+}
+
 // The number that a record has then. Records of an instance and of those around it have mostly read the row in one place: what was counted
 // there for the last one isn't counted again for those before.
+#[inline(never)]
 fn told(
     number: u32,
     reads: &Readings,

@@ -44,7 +44,7 @@ loop-place-preserved c =
     let l = c.loop-place in
     let list = c.args.list.now in
     let place = c.in-Some.place in
-    let number = c.told-number.result in
+    let number = c.told_by_way-number.result in
     let before = c.in-Some.ensures.before in
     let inside = l.invariant.within in
     let many = l.invariant.places in
@@ -59,7 +59,7 @@ loop-place-preserved c =
       small = subst (λ (ns : List ℕ). (i : ℕ) → get_or ns i 0 ≤ most_number) (sym numbered) (small_set l.numbers place number small l.invariant.small);
       told = ap (λ ns. told_to c.args.edit.lost.now c.args.edit.won.now place ns list) numbered
           ∙ told_one c.args.edit.lost.now c.args.edit.won.now place l.numbers list number c.index-list-place-in-Some.result has_number there
-          (c.told-number.ensures.told ∙ ap (number_then c.args.edit.lost.now c.args.edit.won.now (get_or l.numbers place 0)) c.reads-in-Some.ensures.reads) c.index-list-place-in-Some.is
+          (c.told_by_way-number.ensures.told ∙ ap (number_then c.args.edit.lost.now c.args.edit.won.now (get_or l.numbers place 0)) c.reads-in-Some.ensures.reads) c.index-list-place-in-Some.is
           ∙ ap (λ k. told_to c.args.edit.lost.now c.args.edit.won.now k l.numbers list) (sym next)
           ∙ told_apart c.args.edit.change.now c.args.edit.lost.now c.args.edit.won.now (place + 1) l.end l.numbers list c.requires.rest l.invariant.small (omega (arith, before)) c.in-Some.ensures.apart
           ∙ l.invariant.told;

@@ -7,7 +7,7 @@ use Rattle.rerun_records.proofs.records.Records.add_block.Goals as goal
 pub invariant_of-self : goal.invariant_of-self
 invariant_of-self c =
     let records = with_numbers c.self.inside.numbers.items c.self.inside.list.items in
-    (c.self.invariant.0, still_fit records c.self.inside.blocks c.have_kinds.new.self c.self.invariant.1 c.have_kinds.ensures.remain, c.self.invariant.2, c.self.invariant.3)
+    (c.self.invariant.0, still_fit records c.self.inside.blocks c.have_kinds.new.self c.self.invariant.1 c.have_kinds.ensures.remain, c.self.invariant.2, c.self.invariant.3, c.self.invariant.4)
 
 pub invariant_of-self-2 : goal.invariant_of-self-2
 invariant_of-self-2 c =
@@ -17,4 +17,5 @@ invariant_of-self-2 c =
           (subst (λ rs. BlockFits c.args.kinds.now rs c.args.block) (sym c.self.view_is) c.requires.fits) c.add.ensures.kinds c.add.ensures.fine c.add.ensures.middle c.add.ensures.wide c.add.ensures.vast,
       c.self.invariant.2,
       c.self.invariant.3,
+      c.self.invariant.4,
     )

@@ -4,7 +4,11 @@ use Rattle.linked_program.specs.Checked.{revised_of}
 use Rattle.rerun_records.specs.Named.{AreKept, HasValuesIfAnswers, HaveValues}
 use Rattle.rerun_records.proofs.Puts.{all_put_in}
 use Rattle.rerun_records.proofs.Lookups.{put_all}
+use Rattle.rerun_records.proofs.OneTime.{read_now_once}
 use Rattle.rerun_records.proofs.records.Records.commit.Goals as goal
+
+pub put-requires : goal.put-requires
+put-requires c = record { once = read_now_once c.args.tables.now.tables c.args.records.items c.requires.read_now }
 
 pub returns-clause-named : goal.returns-clause-named
 returns-clause-named c = λ ks js kept made.

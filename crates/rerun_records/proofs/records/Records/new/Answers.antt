@@ -1,7 +1,9 @@
-use Rattle.std.proofs.Common.{◌∙◌, ap, sym, map, List}
+use Rattle.std.proofs.Common.{◌∙◌, ap, sym, map, subst, List}
+use Rattle.std.proofs.lemmas.List.Elements.{All-nil}
 use Rattle.rerun_records.specs.Record.{PlainRecord, instance_number}
 use Rattle.rerun_records.specs.Numbers.{with_numbers}
 use Rattle.rerun_records.specs.Blocks.{PlainBlocks}
+use Rattle.rerun_records.specs.OneTime.{IsOfOneTime, AreOfOneTime}
 use Rattle.rerun_records.proofs.WithNumbers.{none_numbers}
 use Rattle.rerun_records.proofs.Leaves.{none_fit}
 use Rattle.rerun_records.proofs.records.Records.new.Goals as goal
@@ -15,4 +17,5 @@ invariant_of-result c =
           (ap (λ (b : PlainBlocks). b.vast) none),
       c.new-2.ensures.none ∙ sym (ap (λ (rs : List PlainRecord). map instance_number rs) c.new.ensures.items),
       c.new-5.ensures.none c.new.result.items,
+      subst AreOfOneTime (sym c.new.ensures.items) (All-nil (λ (r : PlainRecord). IsOfOneTime r.reads)),
     )
