@@ -111,10 +111,7 @@ fn note_among_all(used: &mut Vec<usize>, reducer: usize) -> Result<(), AllocErro
     if is_used(used, reducer) {
         return Ok(());
     }
-    match used.push(reducer) {
-        Ok(()) => Ok(()),
-        Err(_) => Err(AllocError),
-    }
+    push_use(used, reducer)
 }
 
 /// Notes that a reducer is used; whether it wasn't before.
