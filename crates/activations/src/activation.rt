@@ -1,12 +1,13 @@
 //! An instance of a procedure or of a loop, by numbers.
-ghost use Rattle.std.specs.Prelude.{◌≡◌, ◌+◌, ◌-◌, ◌<◌, ◌^◌, length, OnErr, OnOk, None, IfOk, map, [], false, slice_get, slice_set};
+ghost use Rattle.std.specs.Prelude.{◌≡◌, ◌+◌, ◌-◌, ◌<◌, ◌^◌, ◌∷◌, length, OnErr, OnOk, None, IfOk, map, [], true, false, slice_get, slice_set};
 ghost use Rattle.evaluation.specs.declared.slot.Slot.TheVariants.{Has, Waits};
 ghost use Rattle.linked_program.specs.CodeView.{expression as plain};
 ghost use Rattle.evaluation.specs.Ends.{Answers, Ends};
 ghost use Rattle.evaluation.specs.Values.{entry_at};
 ghost use Rattle.positions.specs.Activations.{WorkFits, ShareFits, bound, at, waiting, made, inside, outside, next_of};
 ghost use Rattle.positions.specs.Advance.{rest_of as later_of};
-ghost use Rattle.activations.specs.Slots.{restored_slots};
+ghost use Rattle.activations.specs.Slots.{restored_slots, slot_in, emptied};
+ghost use Rattle.evaluation.specs.Slots.{slots_for};
 ghost use Rattle.positions.specs.Moves.{settled, settled_slot};
 
 use crate::shares::rest_of;
@@ -33,22 +34,25 @@ pub struct Waiting {
 }
 
 /// One instance: how many may be nested in it, how many it has entered, its procedure, its slots, the places behind its
-/// innermost block, what it has left; and of the one that it entered last whether that was spawned, and the slot for its value.
+/// innermost block, what it has left; and of the one that it entered last whether that was spawned, whether there is a slot for its
+/// value, and which. The small ones stand together: it takes 128 bytes, and is moved without a call.
 #[derive(Drop)]
 pub struct Activation {
     left: u32,
+    spawned: bool,
+    has_into: bool,
     children: usize,
     procedure: usize,
     slots: Vec<Slot>,
     outer: Vec<Position>,
     work: Work,
-    spawned: bool,
-    into: Option<usize>,
+    into: usize,
 }
 
 impl Model for Activation {
     ghost use Rattle.std.specs.Prelude.{reverse};
     ghost use Rattle.positions.specs.Activations.{PlainActivation, WorkFits};
+    ghost use Rattle.activations.specs.Slots.{slot_in};
 
     ghost Value = { PlainActivation };
 
@@ -60,7 +64,7 @@ impl Model for Activation {
       outer = reverse a.outer.items;
       work = a.work;
       spawned = a.spawned;
-      into = a.into;
+      into = slot_in a.has_into a.into;
     } };
 
     ghost invariant = { λ a. WorkFits a.work };
@@ -82,13 +86,14 @@ impl Activation {
     {
         Activation {
             left,
+            spawned: false,
+            has_into: false,
             children: 0,
             procedure,
             slots,
             outer,
             work,
-            spawned: false,
-            into: None,
+            into: 0,
         }
     }
 
@@ -131,7 +136,7 @@ impl Activation {
         self.procedure = procedure;
         self.outer.clear();
         self.spawned = false;
-        self.into = None;
+        self.has_into = false;
     }
 
     /// How many levels there are below it.
@@ -211,6 +216,20 @@ impl Activation {
         }
     }
 
+    /// Puts its slots in place, where it has as many: those of an instance of `size` names that is entered with that number alone.
+    /// Whether it has.
+    #[inline(always)]
+    pub fn put_number(&mut self, size: usize, number: i64) -> bool
+        ensures put { result ≡ true → self.new ≡ record self.old { slots = slots_for size (number ∷ []) } }
+        ensures unchanged { result ≡ false → self.new ≡ self.old }
+    {
+        if size == 0 || self.slots.len() != size {
+            return false;
+        }
+        put_alone(&mut self.slots, number);
+        true
+    }
+
     /// Puts that into a slot, and gives what it held.
     pub fn exchange(&mut self, name: usize, slot: Slot) -> Option<Slot>
         ensures held { result ≡ slice_get self.old.slots name }
@@ -235,7 +254,7 @@ impl Activation {
     pub fn receive(&mut self, value: i64)
         ensures received { self.new ≡ bound self.old.into (Has value) self.old }
     {
-        let into = self.into;
+        let into = slot_in(self.has_into, self.into);
         self.bind(into, Slot::Has(value));
     }
 
@@ -243,7 +262,7 @@ impl Activation {
     pub fn mark(&mut self)
         ensures marked { self.new ≡ bound self.old.into (Waits self.old.children) self.old }
     {
-        let into = self.into;
+        let into = slot_in(self.has_into, self.into);
         self.bind(into, Slot::Waits(self.children));
     }
 
@@ -271,7 +290,7 @@ impl Activation {
     {
         self.children += 1;
         self.spawned = false;
-        self.into = into;
+        put_slot(&mut self.has_into, &mut self.into, into);
         put_position(&mut self.work, position);
     }
 
@@ -285,7 +304,7 @@ impl Activation {
     {
         self.children += 1;
         self.spawned = false;
-        self.into = None;
+        self.has_into = false;
         put_turns(&mut self.work, site, rest_of(site, share));
     }
 
@@ -297,7 +316,7 @@ impl Activation {
     {
         self.children += 1;
         self.spawned = spawned;
-        self.into = into;
+        put_slot(&mut self.has_into, &mut self.into, into);
         self.work = work;
     }
 
@@ -310,7 +329,7 @@ impl Activation {
     {
         Waiting {
             spawned: self.spawned,
-            into: self.into,
+            into: slot_in(self.has_into, self.into),
             work: self.work,
         }
     }
@@ -322,7 +341,7 @@ impl Activation {
     {
         self.children = self.children.saturating_sub(1);
         self.spawned = before.spawned;
-        self.into = before.into;
+        put_slot(&mut self.has_into, &mut self.into, before.into);
         self.work = before.work;
     }
 
@@ -360,6 +379,28 @@ impl Activation {
     }
 }
 
+/// That slot, where there is one.
+#[inline(always)]
+fn slot_in(is: bool, slot: usize) -> Option<usize>
+    ensures slot { result ≡ slot_in is slot }
+{
+    if is { Some(slot) } else { None }
+}
+
+/// Puts a slot, or that there is none, in place of another.
+#[inline(always)]
+fn put_slot(is: &mut bool, slot: &mut usize, into: Option<usize>)
+    ensures slot { slot_in is.new slot.new ≡ into }
+{
+    match into {
+        Some(into) => {
+            *is = true;
+            *slot = into;
+        }
+        None => *is = false,
+    }
+}
+
 /// Puts a position in place of what is left: where that is a position already, nothing else is written.
 #[inline(always)]
 fn put_position(work: &mut Work, position: Position)
@@ -393,6 +434,38 @@ pub fn next_of(position: Position) -> Position
     Position {
         block: position.block,
         index: position.index + 1,
+    }
+}
+
+/// Puts that number into the first slot, and nothing into the others.
+#[inline(always)]
+fn put_alone(slots: &mut [Slot], number: i64)
+    requires some { 0 < length slots.old }
+    ensures put { slots.new ≡ slots_for (length slots.old) (number ∷ []) }
+{
+    empty_all(slots);
+    slots[0] = Slot::Has(number);
+}
+
+/// Puts nothing into each slot.
+#[inline(always)]
+fn empty_all(slots: &mut [Slot])
+    ensures emptied { slots.new ≡ map emptied slots.old }
+{
+    for i in 0..slots.len() {
+        let slot = &mut slots[i];
+        empty(slot);
+    }
+}
+
+/// Puts nothing into a slot. One that holds nothing isn't written: else the loop over few slots would become a call.
+#[inline(always)]
+fn empty(slot: &mut Slot)
+    ensures emptied { slot.new ≡ emptied slot.old }
+{
+    match slot {
+        Slot::Unset => {}
+        other => *other = Slot::Unset,
     }
 }
 
