@@ -2,11 +2,10 @@
 ghost use Rattle.std.specs.Prelude.{◌≡◌, ◌∷◌, [], true, false, Some, map, slice_set};
 ghost use Rattle.linked_program.specs.CodeView.{expression as plain};
 ghost use Rattle.linked_program.specs.Linked.{slot};
-ghost use Rattle.evaluation.specs.Slots.{slots_for};
 ghost use Rattle.evaluation.specs.Values.{entry_at};
 ghost use Rattle.activations.specs.Slots.{laid_over};
 ghost use Rattle.layers.specs.Ends.{HasNoted};
-ghost use Rattle.own_statements.specs.Fills.{Fills, IsCounted, first_has};
+ghost use Rattle.own_statements.specs.Fills.{Fills, IsCounted};
 
 use activations::activation::Activation;
 use evaluation::slot::Slot;
@@ -33,33 +32,6 @@ fn fill<V: View>(
         return child.fill(size, arguments, top.slots(), tables, &mut layer.notes);
     }
     child.fill_unnoted(size, arguments, top.slots(), tables)
-}
-
-/// The slot at a place of an instance that is entered with that number alone.
-#[inline(always)]
-fn first_has(place: usize, number: i64) -> Slot
-    ensures slot { result ≡ first_has place number }
-{
-    if place == 0 {
-        Slot::Has(number)
-    } else {
-        Slot::Unset
-    }
-}
-
-/// Puts the slots of an instance of `size` names that is entered with that number alone in place of as many others; whether there
-/// are as many.
-#[inline(always)]
-fn put_number(child: &mut Activation, size: usize, number: i64) -> bool
-    ensures put { result ≡ true → child.new.slots ≡ slots_for size (number ∷ []) }
-{
-    if size == 0 || child.slots().len() != size {
-        return false;
-    }
-    for place in 0..size {
-        child.bind(Some(place), first_has(place, number));
-    }
-    true
 }
 
 /// Whether the only argument is that slot.
@@ -115,7 +87,7 @@ pub fn fills_turn<V: View>(
     ensures top { top.new ≡ top.old }
 {
     if iterations.counted {
-        if put_number(child, iterations.size, number) {
+        if child.put_number(iterations.size, number) {
             return true;
         }
     }
