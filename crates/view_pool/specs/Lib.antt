@@ -1,2 +1,3 @@
 pub mod Stock
 pub mod Seen
+pub mod Either

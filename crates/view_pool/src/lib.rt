@@ -2,6 +2,7 @@
 #![tactic(auto)]
 
 mod amounts;
+mod either_view;
 mod flat_view;
 mod kit;
 mod lists;
@@ -10,6 +11,7 @@ mod plain_view;
 mod pool;
 mod view;
 
+pub use either_view::EitherView;
 pub use flat_view::FlatView;
 pub use kit::Kit;
 pub use plain_view::PlainView;
