@@ -11,3 +11,4 @@ pub mod Homes
 pub mod Gatherings
 pub mod Ascending
 pub mod Few
+pub mod Strung

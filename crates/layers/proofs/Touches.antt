@@ -1,8 +1,8 @@
 -- What a record keeps of a layer, gathered one number after another.
-use Rattle.std.proofs.Common.{◌≡◌, ℕ, zero, suc, ◌+◌, ◌<◌, ◌≤◌, Bool, true, false, cond, List, [], ◌∷◌, ◌++◌, length, drop, Option, None, Some, slice_get, refl, sym, ap, ◌∙◌, subst, arith, get_or, add-one}
-use Rattle.std.proofs.lemmas.List.{append_assoc, append-nil, drop_all, drop_more}
+use Rattle.std.proofs.Common.{◌≡◌, ℕ, zero, suc, ◌+◌, ◌<◌, ◌≤◌, Bool, true, false, cond, List, [], ◌∷◌, ◌++◌, length, drop, reverse, ℤ, Option, None, Some, slice_get, refl, sym, ap, ◌∙◌, subst, arith, get_or, add-one}
+use Rattle.std.proofs.lemmas.List.{append_assoc, append-nil, drop_all, drop_more, reverse-append}
 use Rattle.std.specs.Prelude.{IfSome}
-use Rattle.std.proofs.lemmas.List.Elements.{All-push}
+use Rattle.std.proofs.lemmas.List.Elements.{All-append, All-push}
 use Rattle.std.proofs.lemmas.Grind.{common_steps}
 use Rattle.meaning.specs.Tree.{Name}
 use Rattle.monoid_laws.specs.declared.Kind.TheVariants as k
@@ -11,8 +11,9 @@ use Rattle.monoid_laws.specs.declared.Kind.{Kind}
 use Rattle.monoid_laws.specs.Worth.{Worth}
 use Rattle.monoid_laws.specs.Kinds.{identity_of, AreWorths}
 use Rattle.rerun_records.specs.Named.{IsValueAt, AreValuesFrom, HasValuesIfAnswers, HaveValues}
+use Rattle.positions.specs.Layers.{PlainLayer}
 use Rattle.positions.specs.Values.{same_worth}
-use Rattle.positions.specs.Tallies.{touched_from, entries_from}
+use Rattle.positions.specs.Tallies.{PlainOpened, PlainTally, closing, closing_by, record_by, touched_from, entries_from}
 use Rattle.layers.specs.Recordings.{touched_at, entry_of, found_entry}
 use Rattle.rerun_records.proofs.Absorbed.{each, values_lower}
 
@@ -147,3 +148,16 @@ some_is P o x e h = subst (λ z. IfSome z P) e h
 
 pub one_more_values : (ks : List Kind) (old new : List PlainRecord) (r : PlainRecord) → new ≡ old ++ r ∷ [] → AreValuesFrom 0 ks r.contribution → HaveValues ks old → HaveValues ks new
 one_more_values ks old new r e v h = subst (λ rs. HaveValues ks rs) (sym e) (All-push (HasValuesIfAnswers ks) old r h (λ _. v))
+
+pub both_values : (ks : List Kind) (old more new : List PlainRecord) → new ≡ old ++ more → HaveValues ks old → HaveValues ks more → HaveValues ks new
+both_values ks old more new e h k = subst (λ rs. HaveValues ks rs) (sym e) (All-append (HasValuesIfAnswers ks) old more h k)
+
+-- the topmost instance is over, and its record is the last one
+pub closed_tally : (revisions : List (Name × ℕ)) (l : PlainLayer) (v : ℤ) (now : PlainTally) (all popped : List PlainOpened) (o : PlainOpened) (made : List PlainRecord) (r : PlainRecord) (n m k : ℕ)
+    → record { opened = reverse all; made = made; executed = n; reused = m; unrecorded = k } ≡ now → all ≡ popped ++ o ∷ [] → r ≡ record_by revisions o l v
+    → record { opened = reverse popped; made = made ++ r ∷ []; executed = n; reused = m; unrecorded = k } ≡ closing revisions l v now
+closed_tally revisions l v now all popped o made r n m k t a e =
+    ap (λ (q : PlainRecord). record { opened = reverse popped; made = made ++ q ∷ []; executed = n; reused = m; unrecorded = k }) e
+    ∙ ap (λ (xs : List PlainOpened). closing_by revisions xs l v (record { opened = xs; made = made; executed = n; reused = m; unrecorded = k }))
+    (sym (ap reverse a ∙ reverse-append popped (o ∷ [])))
+    ∙ ap (closing revisions l v) t

@@ -9,6 +9,7 @@ mod identities;
 mod joining;
 pub mod layer;
 mod lowering;
+mod pieces;
 pub mod recording;
 mod rising;
 pub mod spares;

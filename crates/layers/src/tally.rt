@@ -1,5 +1,5 @@
 //! What a strand has counted and recorded of memo instances.
-ghost use Rattle.std.specs.Prelude.{◌≡◌, ◌<◌, suc, ◌+◌, IfOk, OnErr, OnOk, All, vec_len, vec_capacity};
+ghost use Rattle.std.specs.Prelude.{◌≡◌, suc, ◌+◌, IfOk, OnErr, OnOk, All};
 ghost use Rattle.monoid_laws.specs.Kinds.{IsMonoid};
 ghost use Rattle.rerun_records.specs.Named.{AreValuesFrom, HaveValues};
 ghost use Rattle.positions.specs.Layers.{multiplied, covered, absorbing};
@@ -8,6 +8,7 @@ ghost use Rattle.layers.specs.Folds.{IsSameButWorths, HasSameProduct, BothHaveVa
 
 use crate::few_values::let_go;
 use crate::layer::Layer;
+use crate::pieces::Pieces;
 use crate::recording::{Opened, Recording};
 use linked_program::checked::Checked;
 use rerun_records::record::Record;
@@ -20,7 +21,7 @@ use view_pool::View;
 #[derive(Drop)]
 pub struct Tally {
     opened: Vec<Opened>,
-    made: Vec<Record>,
+    made: Pieces<Record>,
     executed: u64,
     reused: u64,
     unrecorded: u64,
@@ -29,10 +30,13 @@ pub struct Tally {
 impl Model for Tally {
     ghost use Rattle.std.specs.Prelude.{reverse};
     ghost use Rattle.positions.specs.Tallies.{PlainTally};
+    ghost use Rattle.layers.specs.Pieces.{items_in, IsRoomy};
 
     ghost Value = { PlainTally };
 
-    ghost view = { λ t. record { opened = reverse t.opened.items; made = t.made.items; executed = t.executed; reused = t.reused; unrecorded = t.unrecorded } };
+    ghost view = { λ t. record { opened = reverse t.opened.items; made = items_in t.made; executed = t.executed; reused = t.reused; unrecorded = t.unrecorded } };
+
+    ghost invariant = { λ t. IsRoomy t.made };
 }
 
 /// One more; refused where the count is at its limit.
@@ -52,29 +56,6 @@ fn sum(left: u64, right: u64) -> Result<u64, AllocError>
     }
 }
 
-/// Makes room for one more record. A list that is full grows fourfold, since all that it holds is copied then.
-#[inline(always)]
-fn make_room(made: &mut Vec<Record>) -> Result<(), AllocError>
-    ensures items { made.new.items ≡ made.old.items }
-    ensures room { OnOk result (vec_len made.new < vec_capacity made.new) }
-{
-    if made.len() < made.capacity() {
-        return Ok(());
-    }
-    grow(made)
-}
-
-/// Makes room for three times as many records as there are, or for one more where so much memory is refused.
-#[inline(never)]
-fn grow(made: &mut Vec<Record>) -> Result<(), AllocError>
-    ensures items { made.new.items ≡ made.old.items }
-    ensures room { OnOk result (vec_len made.new < vec_capacity made.new) }
-{
-    let count = made.len();
-    let _ = made.reserve(count.saturating_mul(3));
-    made.reserve(1)
-}
-
 impl Tally {
     /// Nothing counted, and no records. It takes no memory.
     pub fn new(alloc: Global) -> Tally
@@ -82,7 +63,7 @@ impl Tally {
     {
         Tally {
             opened: Vec::new(alloc),
-            made: Vec::new(alloc),
+            made: Pieces::new(alloc),
             executed: 0,
             reused: 0,
             unrecorded: 0,
@@ -194,7 +175,7 @@ impl Tally {
         ensures below_kept { OnErr result (IsSameButWorths below.old below.new) }
         ensures product { OnErr result (HasSameProduct below.old top.old below.new top.new) }
     {
-        make_room(&mut self.made)?;
+        self.made.make_room()?;
         let levels = top.levels()?;
         let reads = top.reads(alloc)?;
         let entered = top.entries(alloc, program)?;
@@ -205,7 +186,7 @@ impl Tally {
             return Err(AllocError);
         }
         match self.opened.pop() {
-            Some(opened) => self.made.push_reserved(recording.record(opened, value)),
+            Some(opened) => self.made.push(recording.record(opened, value)),
             None => let_go(recording),
         }
         Ok(())
@@ -235,9 +216,9 @@ impl Tally {
         let executed = sum(self.executed, right.executed)?;
         let reused = sum(self.reused, right.reused)?;
         let unrecorded = sum(self.unrecorded, right.unrecorded)?;
-        self.made.reserve(right.made.len())?;
+        let come = self.made.make_room_for(&right.made)?;
         layer.multiply(behind)?;
-        let _ = self.made.append(&mut right.made);
+        self.made.append(&mut right.made, come);
         self.executed = executed;
         self.reused = reused;
         self.unrecorded = unrecorded;
@@ -255,7 +236,8 @@ impl Tally {
         let executed = sum(self.executed, right.executed)?;
         let reused = sum(self.reused, right.reused)?;
         let unrecorded = sum(self.unrecorded, right.unrecorded)?;
-        self.made.append(&mut right.made)?;
+        let come = self.made.make_room_for(&right.made)?;
+        self.made.append(&mut right.made, come);
         self.executed = executed;
         self.reused = reused;
         self.unrecorded = unrecorded;
@@ -287,6 +269,6 @@ impl Tally {
     pub fn into_records(self) -> Vec<Record>
         ensures made { result.items ≡ self.made }
     {
-        self.made
+        self.made.into_list()
     }
 }

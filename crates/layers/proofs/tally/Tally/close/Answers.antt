@@ -1,18 +1,36 @@
-use Rattle.std.proofs.Common.{rules, ◌≡◌, ◌++◌, ◌∷◌, ◌∙◌, [], ap, map, subst, sym}
+use Rattle.std.proofs.Common.{rules, ◌≡◌, ◌++◌, ◌∷◌, ◌∙◌, List, [], ap, map, reverse, subst, sym}
 use Rattle.rerun_records.specs.Named.{HaveValues, AreValuesFrom}
 use Rattle.rerun_records.specs.Record.{PlainRecord, touched}
-use Rattle.rerun_records.specs.ShortLists.{items_in}
-use Rattle.positions.specs.Tallies.{PlainTally}
+use Rattle.rerun_records.specs.ShortLists.{items_in as listed_in}
+use Rattle.positions.specs.Tallies.{PlainTally, record_by}
+use Rattle.layers.specs.Pieces.{items_in}
 use Rattle.layers.specs.Recordings.{PlainRecording}
-use Rattle.layers.proofs.Touches.{one_more_values}
+use Rattle.layers.proofs.Touches.{one_more_values, closed_tally}
 use Rattle.layers.proofs.tally.Tally.close.Goals as goal
+
+pub returns-then-is_err-clause-values : goal.returns-then-is_err-clause-values
+returns-then-is_err-clause-values g c = λ h. subst (HaveValues c.args.top.now.kinds) (sym c.make_room.ensures.items)
+    (subst (λ (t : PlainTally). HaveValues c.args.top.now.kinds t.made) (sym c.self.view_is) h)
+
+pub returns-in-None-clause-values : goal.returns-in-None-clause-values
+returns-in-None-clause-values g c = λ h. subst (HaveValues c.args.top.now.kinds) (sym c.make_room.ensures.items)
+    (subst (λ (t : PlainTally). HaveValues c.args.top.now.kinds t.made) (sym c.self.view_is) h)
+
+pub returns-in-Some-clause-closed : goal.returns-in-Some-clause-closed
+returns-in-Some-clause-closed g c =
+    let more : items_in c.push.new.self ≡ items_in c.self.inside.made ++ c.record.result ∷ [] = c.push.ensures.items ∙ ap (λ rs. rs ++ c.record.result ∷ []) c.make_room.ensures.items in
+    let last : c.self.inside.opened.items ≡ c.pop.new.self.items ++ c.in-Some.opened ∷ [] = search rules in
+    let made : c.record.result ≡ record_by c.args.program.now.revisions c.in-Some.opened c.args.top.now c.args.value = search rules in
+    ap (λ (rs : List PlainRecord). record { opened = reverse c.pop.new.self.items; made = rs; executed = c.self.inside.executed; reused = c.self.inside.reused; unrecorded = c.self.inside.unrecorded }) more
+    ∙ closed_tally c.args.program.now.revisions c.args.top.now c.args.value c.args.self.now c.self.inside.opened.items c.pop.new.self.items c.in-Some.opened
+    (items_in c.self.inside.made) c.record.result c.self.inside.executed c.self.inside.reused c.self.inside.unrecorded c.self.view_is last made
 
 pub returns-in-Some-clause-values : goal.returns-in-Some-clause-values
 returns-in-Some-clause-values g c = λ h.
-    let before : HaveValues c.args.top.now.kinds c.self.inside.made.items = subst (λ (t : PlainTally). HaveValues c.args.top.now.kinds t.made) (sym c.self.view_is) h in
-    let more : c.push_reserved.new.self.items ≡ c.self.inside.made.items ++ c.record.result ∷ [] = search rules in
-    let same : c.record.result.contribution ≡ map touched (items_in c.in_ok-contribution.contribution) =
+    let before : HaveValues c.args.top.now.kinds (items_in c.self.inside.made) = subst (λ (t : PlainTally). HaveValues c.args.top.now.kinds t.made) (sym c.self.view_is) h in
+    let more : items_in c.push.new.self ≡ items_in c.self.inside.made ++ c.record.result ∷ [] = c.push.ensures.items ∙ ap (λ rs. rs ++ c.record.result ∷ []) c.make_room.ensures.items in
+    let same : c.record.result.contribution ≡ map touched (listed_in c.in_ok-contribution.contribution) =
     ap (λ (r : PlainRecord). r.contribution) c.record.ensures.record ∙ ap (λ (r : PlainRecording). r.contribution) c.new-recording.ensures.recording
     ∙ sym c.in_ok-contribution.ensures.touched in
-    one_more_values c.args.top.now.kinds c.self.inside.made.items c.push_reserved.new.self.items c.record.result more
+    one_more_values c.args.top.now.kinds (items_in c.self.inside.made) (items_in c.push.new.self) c.record.result more
     (subst (AreValuesFrom 0 c.args.top.now.kinds) (sym same) c.in_ok-contribution.ensures.values) before
