@@ -11,17 +11,17 @@ use std::alloc::AllocError;
 use std::fs;
 use std::io::IsTerminal;
 use std::process::ExitCode;
-use view_pool::{FlatView, PlainView, View};
+use view_pool::{EitherView, FlatView, PlainView};
 
 fn main(rt: HostRuntime) -> ExitCode {
     let alloc = rt.alloc();
     // Where standard output is closed, say, the next file that is opened gets its number, and a trace would take the answers. So
     // a folder takes these numbers first, of which nothing can be read, and to which nothing can be written.
     let _held = [fs::open(&rt, "/"), fs::open(&rt, "/"), fs::open(&rt, "/")];
-    let make = |sort: Sort, kind: Kind| -> Result<Box<dyn View>, AllocError> {
+    let make = |sort: Sort, kind: Kind| -> Result<EitherView, AllocError> {
         match sort {
-            Sort::Plain => Ok(Box::new(alloc, PlainView::new(alloc, kind))?),
-            Sort::Flat => Ok(Box::new(alloc, FlatView::new(alloc, kind))?),
+            Sort::Plain => Ok(EitherView::Plain(Box::new(alloc, PlainView::new(alloc, kind))?)),
+            Sort::Flat => Ok(EitherView::Flat(Box::new(alloc, FlatView::new(alloc, kind))?)),
         }
     };
     let explainer = Explainer::new(alloc, StandardError { rt: &rt });
