@@ -34,7 +34,13 @@ impl Model for Tally {
 
     ghost Value = { PlainTally };
 
-    ghost view = { λ t. record { opened = reverse t.opened.items; made = items_in t.made; executed = t.executed; reused = t.reused; unrecorded = t.unrecorded } };
+    ghost view = { λ t. record {
+      opened = reverse t.opened.items;
+      made = items_in t.made;
+      executed = t.executed;
+      reused = t.reused;
+      unrecorded = t.unrecorded;
+    } };
 
     ghost invariant = { λ t. IsRoomy t.made };
 }
