@@ -27,4 +27,5 @@ IsRoomy m = (m.count ≡ length (all_in m.earlier.items)) × (m.room.items ≡ [
 -- there is room for the others behind these: in the last list, or for their lists and for all together
 abbrev pub IsReadyFor : {T : Type 0} → Behind → Pieces T → Pieces T → Type 0
 IsReadyFor Copied m r = (r.earlier.items ≡ []) × (vec_len m.last + vec_len r.last ≤ m.limit)
-IsReadyFor Kept m r = (vec_len m.earlier + suc (vec_len r.earlier) ≤ vec_capacity m.earlier) × (m.count + vec_len m.last + (r.count + r.limit) ≤ vec_capacity m.room)
+IsReadyFor Kept m r = (vec_len m.earlier + suc (vec_len r.earlier) ≤ vec_capacity m.earlier)
+    × (m.count + vec_len m.last + (r.count + r.limit) ≤ vec_capacity m.room)
