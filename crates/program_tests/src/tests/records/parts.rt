@@ -151,12 +151,11 @@ fn readings_past_their_bytes_are_refused(rt: HostRuntime) {
     assert!(&rt; are_kept(rt.alloc(), &cells));
 }
 
-/// A record of one argument, two readings, two reducers and one procedure asks for 256 bytes: 192 in the map, where its argument,
-/// what it gives to the reducers and its procedure lie too, and 64 for what the record of an instance above may refer to: a count,
-/// its readings, and where the parts lie, if there are any.
+/// A record of one argument, two readings, two reducers and one procedure takes 224 bytes in the list and no memory of its own.
+/// Readings that others share lie in a node of 64: a count, an instance's own readings, and where the parts lie, if there are any.
 #[test]
 fn a_record_is_small(rt: HostRuntime) {
     let shared = 8 + size_of::<ShortList<Reading>>() + size_of::<Option<Box<u64>>>();
     assert!(&rt; size_of::<Reading>() == 16 && size_of::<Note>() > 24);
-    assert!(&rt; size_of::<Record>() == 192 && size_of::<Record>() + shared == 256);
+    assert!(&rt; size_of::<Record>() == 224 && shared == 64);
 }
