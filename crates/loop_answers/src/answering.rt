@@ -9,8 +9,9 @@ ghost use Rattle.answered_loops.specs.Answered.{IsInside, is_by_turns};
 ghost use Rattle.loop_answers.specs.Batches.{HasBatches};
 ghost use Rattle.loop_answers.specs.Ahead.{IsAnsweredAhead, IsSameButAnswers};
 
-use crate::finding::{Found, Wanted, answers};
+use crate::finding::{Found, answers};
 use crate::taking::{batches_for, begin_turns, end_first, end_halves, end_last, end_turns};
+use crate::tried::Wanted;
 use activations::code::loop_code;
 use activations::setting::Setting;
 use activations::shares::Turns;

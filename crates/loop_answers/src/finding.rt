@@ -1,5 +1,6 @@
 //! The batches of records that answer a loop's iterations.
-ghost use Rattle.std.specs.Prelude.{◌≡◌, ◌==◌, false, ◌+◌, ◌-◌, ◌≤◌, ◌<◌, pos, ◌+ℤ◌, true, ◌&&◌, length, map, take, drop, Some, IfSome, OnSome, slice_set};
+ghost use Rattle.std.specs.Prelude.{◌≡◌, [], ◌∷◌, ◌++◌, ◌==◌, false, ◌+◌, ◌-◌, ◌≤◌, ◌<◌, pos, ◌+ℤ◌, true, ◌&&◌, length, map, take, drop};
+ghost use Rattle.std.specs.Prelude.{Some, IfSome, OnErr, OnOk, OnSome, slice_set};
 ghost use Rattle.linked_program.specs.CodeView.{expression as plain, memo_of};
 ghost use Rattle.evaluation.specs.declared.slot.Slot.TheVariants.{Has};
 ghost use Rattle.evaluation.specs.Values.{values_at, pure};
@@ -12,6 +13,10 @@ ghost use Rattle.activations.specs.Given.{lent, loop_of};
 ghost use Rattle.answered_loops.specs.Arguments.{counts, are_fixed, is_fixed, is_slot};
 ghost use Rattle.loop_answers.specs.Batches.{instances_in, HasBatches, IsBatchFrom, CountsAt, AreArguments};
 
+use crate::tried::{
+    Ahead, Search, Wanted, behind_first, first_ahead, is_no_use, is_stale_at, keep_tried,
+    most_asked, note_stale, tried_in,
+};
 use activations::code::LoopCode;
 use activations::setting::Setting;
 use activations::shares::Turns;
@@ -26,7 +31,7 @@ use rerun_records::batch::Batch;
 use rerun_records::blocks::Width;
 use rerun_records::series::Series;
 use small_steps::machine::Machine;
-use std::alloc::Global;
+use std::alloc::{AllocError, Global};
 use std::mem;
 use view_pool::View;
 
@@ -39,7 +44,7 @@ const SINGLES: u32 = 64;
 /// So many records go together where they can.
 const WIDTH: u32 = 16;
 
-/// There is room for so many batches at first: the allocator takes longer for more.
+/// There is room for so many batches with the first one: the allocator takes longer for more.
 const FIRST_CAPACITY: u32 = 32;
 
 /// Batches that answer a loop's iterations one after another, how many iterations those are, and whether these are all that were
@@ -49,31 +54,6 @@ pub(crate) struct Found<'a> {
     pub(crate) batches: Vec<Batch<'a>>,
     pub(crate) count: u32,
     is_through: bool,
-}
-
-/// How many iterations are asked for at most, and whether fewer are of no use.
-#[derive(Clone, Copy)]
-pub(crate) struct Wanted {
-    pub(crate) most: u32,
-    pub(crate) all: bool,
-}
-
-/// A search for iterations that are wanted, and the number that one before it asked for last, where it is known.
-#[derive(Clone, Copy)]
-struct Search {
-    wanted: Wanted,
-    tried: Option<i64>,
-}
-
-/// Iterations of a loop: the number of the first, how many at most, their depth, which argument is the number, and the place at which
-/// the record of the first may lie.
-#[derive(Clone, Copy)]
-struct Ahead {
-    number: i64,
-    most: u32,
-    depth: u32,
-    counted: Option<usize>,
-    near: usize,
 }
 
 /// Batches that answer a loop's iterations, those from the first on, one after another as far as there are such, at most so many
@@ -95,32 +75,45 @@ pub(crate) fn answers<'a, V: View>(
     ensures few { IfSome result (λ found. found.count ≤ wanted.most) }
     ensures answers { IfSome result (λ found. HasBatches (lent setting.entry) turns.site machine.old.top turns.share.first found.batches.items) }
 {
-    let place = counted_place(machine, code);
-    let tried = number_at(&machine.numbers, place);
+    let counted = counted_place(machine, code);
+    let tried = tried_in(&machine.numbers, counted, code.arguments.len());
+    if is_no_use(tried, turns, wanted) {
+        return none_answered(machine, alloc, setting, code, turns, wanted);
+    }
     let mut numbers = mem::replace(&mut machine.numbers, Vec::new(alloc));
-    let search = Search { wanted, tried };
+    let search = Search {
+        wanted,
+        tried,
+        counted,
+    };
     let found = answers_by(machine, alloc, setting, code, turns, search, &mut numbers);
     if is_through(&found) {
-        keep_number(&mut numbers, place, tried);
+        keep_tried(&mut numbers, counted, tried);
     }
     machine.numbers = numbers;
     found
 }
 
-/// The number at that place: where a search ended it was asked last.
-fn number_at(numbers: &[i64], place: Option<usize>) -> Option<i64> {
-    match place {
-        Some(place) => numbers.get(place).copied(),
-        None => None,
+/// No batches, which are of use only where fewer iterations than are wanted will do: what isn't answered is then done one by one at once.
+fn none_answered<'a, V: View>(
+    machine: &Machine<V>,
+    alloc: Global,
+    setting: Setting<'a>,
+    code: LoopCode<'_>,
+    turns: Turns,
+    wanted: Wanted,
+) -> Option<Found<'a>>
+    requires code { loop_of code ≡ loop_at setting.program.now.codes machine.now.top.procedure turns.site }
+    ensures count { IfSome result (λ found. found.count ≡ instances_in found.batches.items) }
+    ensures few { IfSome result (λ found. found.count ≤ wanted.most) }
+    ensures answers { IfSome result (λ found. HasBatches (lent setting.entry) turns.site machine.now.top turns.share.first found.batches.items) }
+{
+    if wanted.all {
+        return None;
     }
-}
-
-/// Puts a number in the place of the one there, where both are known.
-fn keep_number(numbers: &mut Vec<i64>, place: Option<usize>, number: Option<i64>) {
-    match (place, number) {
-        (Some(place), Some(number)) if place < numbers.len() => numbers[place] = number,
-        _ => {}
-    }
+    let _ = turns.site;
+    let _ = depth_of(machine, setting, code, wanted)?;
+    Some(found_so_far(Vec::new(alloc), 0, false))
 }
 
 /// Whether all iterations that were asked for were found.
@@ -146,28 +139,22 @@ fn answers_by<'a, V: View>(
     requires most { search.wanted.most ≤ turns.share.count }
     requires code { loop_of code ≡ loop_at setting.program.now.codes machine.old.top.procedure turns.site }
     requires values { HaveValues setting.program.now.kinds setting.records.now }
+    requires counted { IfSome search.counted (CountsAt machine.old.top.slots code.variable (map plain code.arguments.now)) }
     ensures unchanged { machine.new ≡ machine.old }
     ensures count { IfSome result (λ found. found.count ≡ instances_in found.batches.items) }
     ensures few { IfSome result (λ found. found.count ≤ search.wanted.most) }
     ensures answers { IfSome result (λ found. HasBatches (lent setting.entry) turns.site machine.old.top turns.share.first found.batches.items) }
 {
     let depth = depth_of(machine, setting, code, search.wanted)?;
-    let begin = number_behind(turns.site, turns.share, 0);
-    let counted = counted_from(machine, alloc, setting.tables, code, begin, numbers);
-    let first = Ahead {
-        number: begin,
-        most: search.wanted.most,
-        depth,
-        counted,
-        near: 0,
-    };
+    let from = number_behind(turns.site, turns.share, 0);
+    let counted = counted_from(machine, alloc, setting.tables, code, from, search, numbers);
+    let first = first_ahead(search, from, depth, counted);
     let is_stale = is_stale(machine, alloc, setting, code, search, first, numbers);
     let most = most_asked(search, first, is_stale);
     let mut batches = Vec::new(alloc);
-    let _ = batches.reserve(most.min(FIRST_CAPACITY) as usize);
     let mut count = 0;
     let mut singles = 0;
-    let mut near = 0;
+    let mut near = first.near;
     for _ in 0..BATCHES {
         if count == most {
             return Some(found_so_far(batches, count, true));
@@ -185,16 +172,36 @@ fn answers_by<'a, V: View>(
                 if is_in_vain(setting, search.wanted, ahead, batch, singles) {
                     return Some(found_so_far(batches, count, false));
                 }
-                if batches.push(batch).is_err() {
+                if put_batch(&mut batches, batch, most).is_err() {
                     return Some(found_so_far(batches, count, false));
                 }
                 count += batch.count;
                 near = batch.next;
             }
-            None => return Some(found_so_far(batches, count, false)),
+            None => {
+                note_stale(numbers, near);
+                return Some(found_so_far(batches, count, false));
+            }
         }
     }
     Some(found_so_far(batches, count, false))
+}
+
+/// Puts a batch behind the others. Room is made with the first one, as most searches that are in vain find none.
+#[inline(always)]
+fn put_batch<'a>(
+    batches: &mut Vec<Batch<'a>>,
+    batch: Batch<'a>,
+    most: u32,
+) -> Result<(), AllocError>
+    ensures pushed { OnOk result (batches.new.items ≡ batches.old.items ++ batch.entry ∷ []) }
+    ensures same { OnErr result (batches.new.items ≡ batches.old.items) }
+{
+    if batches.is_empty() {
+        let _ = batches.reserve(most.min(FIRST_CAPACITY) as usize);
+    }
+    batches.push(batch)?;
+    Ok(())
 }
 
 /// These batches, and whether they are all that were asked for.
@@ -206,21 +213,6 @@ fn found_so_far(batches: Vec<Batch<'_>>, count: u32, is_through: bool) -> Found<
         batches,
         count,
         is_through,
-    }
-}
-
-/// How many iterations are asked for: all that are wanted, or where that of the number that was tried isn't answered those of the
-/// first half, if it stands behind these; else none.
-fn most_asked(search: Search, first: Ahead, is_stale: bool) -> u32
-    ensures few { result ≤ search.wanted.most }
-{
-    let most = search.wanted.most;
-    if !is_stale {
-        return most;
-    }
-    match behind_first(search, first) {
-        Some((_, left)) if left.saturating_add(most / 2) <= most => most / 2,
-        _ => 0,
     }
 }
 
@@ -270,6 +262,9 @@ fn is_stale<V: View>(
 {
     match behind_first(search, first) {
         Some((number, most)) => {
+            if is_stale_at(search.tried, number) {
+                return true;
+            }
             let ahead = Ahead {
                 number,
                 most,
@@ -283,22 +278,6 @@ fn is_stale<V: View>(
             }
         }
         None => false,
-    }
-}
-
-/// The number that was tried and how many iterations there are from there on, where it is that of one of these, and all are asked
-/// for.
-fn behind_first(search: Search, first: Ahead) -> Option<(i64, u32)>
-    ensures some { IfSome result (λ found. 0 < found.1) }
-{
-    if !search.wanted.all {
-        return None;
-    }
-    let number = search.tried?;
-    let behind = number.checked_sub(first.number)?;
-    match u32::try_from(behind) {
-        Ok(behind) if behind < first.most => Some((number, first.most - behind)),
-        _ => None,
     }
 }
 
@@ -440,26 +419,27 @@ fn single<'a>(
     }
 }
 
-/// The place of the argument that counts up from one of a loop's iterations to the next, where one does; in `numbers` are the
-/// arguments of that iteration then.
+/// The place of the argument that counts up from one of a loop's iterations to the next, as it is found in the code, where nothing is read
+/// for the arguments; in `numbers` are those of that iteration then.
 fn counted_from<V: View>(
     machine: &mut Machine<V>,
     alloc: Global,
     tables: &Tables,
     code: LoopCode<'_>,
     number: i64,
+    search: Search,
     numbers: &mut Vec<i64>,
 ) -> Option<usize>
+    requires counted { IfSome search.counted (CountsAt machine.old.top.slots code.variable (map plain code.arguments.now)) }
     ensures unchanged { machine.new ≡ machine.old }
     ensures counted { IfSome result (CountsAt machine.old.top.slots code.entry.variable (map plain code.entry.arguments.now)) }
     ensures known { IfSome result (λ place. AreArguments tables.now.tables machine.old.top.slots code.entry.variable
         (map plain code.entry.arguments.now) numbers.new.items) }
 {
-    let counted = counted_place(machine, code);
     if !unread_values_at(machine, alloc, tables, code, number, numbers) {
         return None;
     }
-    counted
+    search.counted
 }
 
 /// The place of the argument that is the number of a loop's iteration, where it counts up from one to the next and all others

@@ -4,3 +4,4 @@
 pub mod answering;
 mod finding;
 mod taking;
+mod tried;
