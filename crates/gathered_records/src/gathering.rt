@@ -282,11 +282,11 @@ fn next_fresh(records: &Records, row: &mut Row, first: i64, step: usize) -> Opti
     }
 }
 
-/// The place of the record of the row's instance.
+/// The place of the record of the row's instance. It is looked for at the near place first.
 pub(crate) fn find_row(records: &Records, row: &Row) -> Option<u32>
     ensures there { IfSome result (λ place. IsThere records.now row.now place) }
 {
-    match records.place_of(row.procedure(), row.arguments()) {
+    match records.place_near(row.near(), row.procedure(), row.arguments()) {
         Some((place, _)) => match u32::try_from(place) {
             Ok(place) => Some(place),
             Err(_) => None,
@@ -300,7 +300,7 @@ fn row_at(records: &Records, alloc: Global, place: usize) -> Result<Option<Row>,
     let all = records.as_slice();
     match all.get(place) {
         Some(record) => match counted_at(record, all, place) {
-            Some(counted) => row_of(alloc, record, counted),
+            Some(counted) => row_of(alloc, record, counted, place),
             None => Ok(None),
         },
         None => Ok(None),
@@ -315,16 +315,23 @@ pub(crate) fn has_block(records: &Records, width: Width, place: usize, kinds: &[
     }
 }
 
-/// The row of a record, of which that argument is counted, where there is one.
+/// The row of the record at that place, of which that argument is counted, where there is one.
 pub(crate) fn row_of(
     alloc: Global,
     record: &Record,
     counted: usize,
+    place: usize,
 ) -> Result<Option<Row>, AllocError> {
     if counted >= record.arguments().len() {
         return Ok(None);
     }
-    let row = Row::new(alloc, record.procedure(), record.arguments(), counted)?;
+    let row = Row::new(
+        alloc,
+        record.procedure(),
+        record.arguments(),
+        counted,
+        place,
+    )?;
     Ok(Some(row))
 }
 

@@ -11,6 +11,8 @@ pub(crate) struct Row {
     procedure: usize,
     arguments: Vec<i64>,
     counted: usize,
+    // The place of a record of the row less its number: records in a row mostly have places in a row.
+    offset: usize,
 }
 
 impl Model for Row {
@@ -25,19 +27,22 @@ impl Model for Row {
 }
 
 impl Row {
-    /// The row of an instance.
+    /// The row of an instance whose record lies at that place.
     pub(crate) fn new(
         alloc: Global,
         procedure: usize,
         arguments: &[i64],
         counted: usize,
+        place: usize,
     ) -> Result<Row, AllocError>
         requires counted { counted < length arguments.now }
     {
+        let number = arguments[counted].cast_unsigned() as usize;
         Ok(Row {
             procedure,
             arguments: Vec::from_slice(alloc, arguments)?,
             counted,
+            offset: place.wrapping_sub(number),
         })
     }
 
@@ -68,6 +73,13 @@ impl Row {
         ensures number { slice_get self.now.arguments self.now.counted ≡ Some result }
     {
         self.arguments[self.counted]
+    }
+
+    /// The place at which its record may lie.
+    #[inline(always)]
+    pub(crate) fn near(&self) -> usize {
+        let number = self.arguments[self.counted].cast_unsigned() as usize;
+        self.offset.wrapping_add(number)
     }
 
     /// Goes to the instance with that number.

@@ -14,11 +14,15 @@ const PAGE: usize = 4096;
 /// a block.
 const FEW: usize = 64;
 
+/// Where less than one of so many places is asked, those of a whole block aren't noted either.
+const SPARSE: usize = 16;
+
 /// A flag for each place. A page has memory once a place of it was tried, since a rerun tries few among many.
 #[derive(Drop)]
 pub(crate) struct Tried {
     pages: Vec<Vec<u64>>,
     notes: bool,
+    notes_blocks: bool,
 }
 
 impl Tried {
@@ -31,7 +35,11 @@ impl Tried {
                 pages.push(Vec::new(alloc))?;
             }
         }
-        Ok(Tried { pages, notes })
+        Ok(Tried {
+            pages,
+            notes,
+            notes_blocks: notes && asked > places / SPARSE,
+        })
     }
 
     /// Whether many places are asked.
@@ -50,32 +58,46 @@ impl Tried {
         }
     }
 
-    /// Notes that places were tried.
+    /// Notes that the places of a block were tried, where many of them may be asked: a word at a time, since they mostly lie in a row.
     pub(crate) fn put_all(&mut self, places: &[u32]) {
-        if self.notes {
-            for place in places {
-                self.put(*place as usize);
-            }
+        if !self.notes_blocks {
+            return;
         }
+        let mut word = 0;
+        let mut bits = 0;
+        for place in places {
+            let place = *place as usize;
+            if place / WORD != word {
+                self.put_bits(word, bits);
+                word = place / WORD;
+                bits = 0;
+            }
+            bits |= bit(place);
+        }
+        self.put_bits(word, bits);
     }
 
     /// Notes that a place was tried; where memory is refused, it may be tried again.
     pub(crate) fn put(&mut self, place: usize) {
-        let page = place / PAGE;
+        self.put_bits(place / WORD, bit(place));
+    }
+
+    // Puts up these flags of that word, counted over all pages.
+    fn put_bits(&mut self, word: usize, bits: u64) {
+        let page = word / WORDS;
         if page < self.pages.len() {
-            put_up(&mut self.pages[page], place);
+            put_up(&mut self.pages[page], word % WORDS, bits);
         }
     }
 }
 
-// Puts up the flag of a place in its page.
-fn put_up(page: &mut Vec<u64>, place: usize) {
+// Puts up these flags of that word of a page.
+fn put_up(page: &mut Vec<u64>, word: usize, bits: u64) {
     if page.is_empty() && page.resize(WORDS, 0).is_err() {
         return;
     }
-    let word = place % PAGE / WORD;
     if word < page.len() {
-        page[word] |= bit(place);
+        page[word] |= bits;
     }
 }
 

@@ -112,7 +112,7 @@ fn part_row(
 fn first_row(records: &Records, alloc: Global, block: &Block) -> Result<Option<Row>, AllocError> {
     match block.places().first() {
         Some(first) => match records.as_slice().get(*first as usize) {
-            Some(record) => row_of(alloc, record, block.counted()),
+            Some(record) => row_of(alloc, record, block.counted(), *first as usize),
             None => Ok(None),
         },
         None => Ok(None),
