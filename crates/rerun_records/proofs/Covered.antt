@@ -171,6 +171,52 @@ adds_read (x ∷ own) xs =
     (keeps_all (map span_of own) (put_span xs (span_of x)) (note_of x) (adds xs (span_of x) (note_of x) (read_covered x)))
     (adds_read own (put_span xs (span_of x)))
 
+-- ---- what is put in twice is as if put in once
+
+abbrev made : ℕ → Bool → ℤ → ℤ → Span
+made t w l h = record { table = t; whole = w; low = l; high = h }
+
+or_twice : (a b : Bool) → (a || b) || b ≡ a || b
+or_twice true b = refl
+or_twice false true = refl
+or_twice false false = refl
+
+or_same : (a : Bool) → a || a ≡ a
+or_same true = refl
+or_same false = refl
+
+min_twice : (a b : ℤ) → int_min (int_min a b) b ≡ int_min a b
+min_twice a b = omega (arith, ints, clamps)
+
+max_twice : (a b : ℤ) → int_max (int_max a b) b ≡ int_max a b
+max_twice a b = omega (arith, ints, clamps)
+
+min_same : (a : ℤ) → int_min a a ≡ a
+min_same a = omega (arith, ints, clamps)
+
+max_same : (a : ℤ) → int_max a a ≡ a
+max_same a = omega (arith, ints, clamps)
+
+joined_twice : (a s : Span) → joined (joined a s) s ≡ joined a s
+joined_twice a s =
+    ap (λ w. made a.table w (int_min (int_min a.low s.low) s.low) (int_max (int_max a.high s.high) s.high)) (or_twice a.whole s.whole)
+    ∙ ap (λ l. made a.table (a.whole || s.whole) l (int_max (int_max a.high s.high) s.high)) (min_twice a.low s.low)
+    ∙ ap (λ h. made a.table (a.whole || s.whole) (int_min a.low s.low) h) (max_twice a.high s.high)
+
+joined_same : (s : Span) → joined s s ≡ s
+joined_same s =
+    ap (λ w. made s.table w (int_min s.low s.low) (int_max s.high s.high)) (or_same s.whole)
+    ∙ ap (λ l. made s.table s.whole l (int_max s.high s.high)) (min_same s.low)
+    ∙ ap (λ h. made s.table s.whole s.low h) (max_same s.high)
+
+pub put_twice : (xs : List Span) (s : Span) → put_span (put_span xs s) s ≡ put_span xs s
+put_twice [] s = ap (λ b. cond b (joined s s ∷ []) (s ∷ s ∷ [])) (same_number s.table) ∙ ap (λ z. z ∷ []) (joined_same s)
+put_twice (x ∷ xs) s =
+    elim (nat_eq x.table s.table) as (λ b. nat_eq x.table s.table ≡ b → put_span (cond b (joined x s ∷ xs) (x ∷ put_span xs s)) s ≡ cond b (joined x s ∷ xs) (x ∷ put_span xs s)) [
+      | true ↦ λ t. ap (λ b. cond b (joined (joined x s) s ∷ xs) (joined x s ∷ put_span xs s)) t ∙ ap (λ z. z ∷ xs) (joined_twice x s)
+      | false ↦ λ t. ap (λ b. cond b (joined x s ∷ put_span xs s) (x ∷ put_span (put_span xs s) s)) t ∙ ap (λ ys. x ∷ ys) (put_twice xs s)
+    ] refl
+
 -- ---- two readings
 
 two_there : (d : Reading) (xs : List Reading) → length xs ≡ 2 → xs ≡ slice_index_or xs 0 d ∷ slice_index_or xs 1 d ∷ []

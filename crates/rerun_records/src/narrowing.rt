@@ -9,7 +9,8 @@ ghost use Rattle.rerun_records.specs.Blocks.{is_apart};
 ghost use Rattle.rerun_records.specs.Counts.{how_many};
 ghost use Rattle.rerun_records.specs.Same.{is_read, same_note};
 
-use crate::readings::{Node, are_own_touched, has_own, node_has, node_is_touched, rests_on};
+use crate::readings::{Node, has_own, node_has};
+use crate::touching::{are_own_touched, node_is_touched, rests_on};
 use evaluation::note::Note;
 use evaluation::reading::Reading;
 use std::slice;

@@ -1,7 +1,6 @@
 //! What instances have read, each by reference to what the instances below it have.
-ghost use Rattle.std.specs.Prelude.{◌≡◌, ◌≤◌, ◌++◌, ◌∷◌, ◌&&◌, [], IfOk, IfSome, OnOk, length, map, nat_eq, not, true, false};
-ghost use Rattle.std.specs.List.{flat_map, list_any};
-ghost use Rattle.std.specs.Ordering.{int_eq};
+ghost use Rattle.std.specs.Prelude.{◌≡◌, ◌≤◌, ◌++◌, ◌∷◌, [], IfOk, IfSome, OnOk, length, map, not, true, false};
+ghost use Rattle.std.specs.List.{flat_map};
 ghost use Rattle.meaning.specs.Every.{every};
 ghost use Rattle.evaluation.specs.declared.note.Note.{Note as PlainNote};
 ghost use Rattle.evaluation.specs.declared.note.Note.TheVariants.{Cell, Sum};
@@ -10,15 +9,16 @@ ghost use Rattle.rerun_records.specs.Spans.{is_covered_by};
 ghost use Rattle.rerun_records.specs.Readings.{all_of, node_notes, shared_notes, held_notes, is_covered, is_covered_share, is_covered_below};
 ghost use Rattle.rerun_records.specs.ShortLists.{items_in};
 ghost use Rattle.rerun_records.specs.Validity.{note_agrees};
-ghost use Rattle.rerun_records.specs.InStep.{rests_on};
 ghost use Rattle.rerun_records.specs.Blocks.{is_apart};
 ghost use Rattle.rerun_records.specs.Counts.{how_many};
 ghost use Rattle.rerun_records.specs.Same.{is_read, same_note};
 
 use crate::hull::Hull;
 use crate::narrowing::{how_many, how_many_own, lowest, touched_own};
+use crate::pairs::{are_pairs, with_pairs};
 use crate::short_list::ShortList;
-use crate::spans::{Span, are_touched, may_have, put_pair, put_read, put_spans};
+use crate::spans::{Span, may_have, put_pair, put_read, put_spans};
+use crate::touching::{are_own_touched, node_is_touched};
 use crate::walks::{node_agrees, put_notes, put_own, reads_agree};
 use crate::ways::{HERE, own_by, way_to};
 use evaluation::note::Note;
@@ -83,6 +83,9 @@ impl Readings {
     ) -> Result<Readings, AllocError>
         ensures made { IfOk result (λ r. r ≡ map note_of (items_in own) ++ all_of parts.items) }
     {
+        if are_pairs(&parts) {
+            return Readings::of_pairs(alloc, own, parts);
+        }
         match own {
             ShortList::Two(pair) => Readings::of_pair(alloc, pair, parts),
             other => Readings::of_list(alloc, other, parts),
@@ -96,6 +99,39 @@ impl Readings {
     {
         Readings {
             held: Held::Two(pair),
+        }
+    }
+
+    // An instance's own readings, then those of parts that are of two each, all in one list: a node for each part takes more memory.
+    #[inline(never)]
+    fn of_pairs(
+        alloc: Global,
+        own: ShortList<Reading>,
+        parts: Vec<Readings>,
+    ) -> Result<Readings, AllocError>
+        ensures made { IfOk result (λ r. r ≡ map note_of (items_in own) ++ all_of parts.items) }
+    {
+        let all = with_pairs(alloc, own.as_slice(), &parts)?;
+        Readings::of_list(alloc, ShortList::new(all), Vec::new(alloc))
+    }
+
+    /// Whether these are two readings that lie by themselves.
+    #[inline(always)]
+    pub(crate) fn is_pair(&self) -> bool {
+        match &self.held {
+            Held::Two(_) => true,
+            Held::Shared(_) => false,
+        }
+    }
+
+    /// Puts copies of these two readings behind others; refused where they lie in a node.
+    #[inline(always)]
+    pub(crate) fn put_pair(&self, all: &mut Vec<Reading>) -> Result<(), AllocError>
+        ensures put { OnOk result (map note_of all.new.items ≡ map note_of all.old.items ++ self.now) }
+    {
+        match &self.held {
+            Held::Two(pair) => all.extend_from_slice(pair),
+            Held::Shared(_) => Err(AllocError),
         }
     }
 
@@ -352,70 +388,6 @@ fn put_node(node: &Node, spans: &mut Vec<Span>) -> Result<(), AllocError>
         Some(below) => put_spans(&below.spans, spans),
         None => Ok(()),
     }
-}
-
-/// Whether one of the changes may have changed what was read there or below.
-#[inline(always)]
-pub(crate) fn node_is_touched(node: &Node, changes: &[(usize, i64)]) -> bool
-    requires covered { is_covered node.now ≡ true }
-    ensures apart { result ≡ false → every (is_apart changes.now) (node_notes node.now) ≡ true }
-{
-    if are_own_touched(node.own.as_slice(), changes) {
-        return true;
-    }
-    match &node.below {
-        Some(below) => are_touched(&below.spans, changes),
-        None => false,
-    }
-}
-
-/// Whether one of the changes may have changed one of these readings.
-#[inline(always)]
-pub(crate) fn are_own_touched(own: &[Reading], changes: &[(usize, i64)]) -> bool
-    ensures touched { result
-        ≡ list_any (λ note. list_any (rests_on note) changes.now) (map note_of own.now) }
-{
-    for reading in own {
-        if is_among(reading, changes) {
-            return true;
-        }
-    }
-    false
-}
-
-// Whether one of the changes, each given by its table's number and the row, may have changed what is read so.
-fn is_among(reading: &Reading, changes: &[(usize, i64)]) -> bool
-    ensures among { result ≡ list_any (rests_on (note_of reading.now)) changes.now }
-{
-    for change in changes {
-        if rests_on(reading, change) {
-            return true;
-        }
-    }
-    false
-}
-
-/// Whether the change may have changed what is read so.
-pub(crate) fn rests_on(reading: &Reading, change: &(usize, i64)) -> bool
-    ensures rests { result ≡ rests_on (note_of reading.now) change.now }
-{
-    match reading {
-        Reading::Cell { table, row, .. } => is_row(usize::from(*table), i64::from(*row), change),
-        Reading::Has { table, row, .. } => is_row(usize::from(*table), *row, change),
-        Reading::Limit { table, .. } => usize::from(*table) == change.0,
-        Reading::Sum { table, .. } => usize::from(*table) == change.0,
-    }
-}
-
-// Whether that row of the table of that number is the changed one. Another row is read more often than another table, so it is asked first.
-#[inline(always)]
-fn is_row(table: usize, row: i64, change: &(usize, i64)) -> bool
-    ensures row { result ≡ (nat_eq table change.now.0 && int_eq row change.now.1) }
-{
-    if row != change.1 {
-        return false;
-    }
-    table == change.0
 }
 
 /// Whether that was read there or below. Where its rows lie in no span, the parts aren't asked.

@@ -1,5 +1,5 @@
 // Stretches of rows in which what was read lies, one for each table.
-ghost use Rattle.std.specs.Prelude.{◌≡◌, OnOk, map, nat_eq, pos, false, true};
+ghost use Rattle.std.specs.Prelude.{◌≡◌, IfOk, IfSome, OnOk, Some, map, nat_eq, pos, false, true};
 ghost use Rattle.std.specs.List.{list_any};
 ghost use Rattle.evaluation.specs.declared.note.Note.{Note as PlainNote};
 ghost use Rattle.evaluation.specs.Short.{note_of};
@@ -139,14 +139,46 @@ pub(crate) fn put_spans(more: &[Span], spans: &mut Vec<Span>) -> Result<(), Allo
     Ok(())
 }
 
-/// Joins spans with the rows that were read.
+/// Joins spans with the rows that were read. Readings of one row mostly stand behind one another: it is put in once then.
 pub(crate) fn put_read(own: &[Reading], spans: &mut Vec<Span>) -> Result<(), AllocError>
     ensures put { OnOk result (spans.new.items ≡ put_spans spans.old.items (map span_of own.now)) }
 {
+    let mut last = None;
     for reading in own {
-        put_span(&Span::new(reading), spans)?;
+        last = Some(put_behind(reading, last, spans)?);
     }
     Ok(())
+}
+
+// Joins spans with the rows of a reading, unless they were joined with the same rows last; the rows that it rests on.
+#[inline(always)]
+#[tactic(auto, using(crate::proofs::Covered::put_twice))]
+fn put_behind(
+    reading: &Reading,
+    last: Option<Span>,
+    spans: &mut Vec<Span>,
+) -> Result<Span, AllocError>
+    requires last { IfSome last (λ s. put_span spans.old.items s ≡ spans.old.items) }
+    ensures put { OnOk result (spans.new.items ≡ put_span spans.old.items (span_of reading.now)) }
+    ensures last { IfOk result (λ s. put_span spans.new.items s ≡ spans.new.items) }
+{
+    let span = Span::new(reading);
+    if is_last(last, &span) {
+        return Ok(span);
+    }
+    put_span(&span, spans)?;
+    Ok(span)
+}
+
+// Whether the last one has the same rows.
+#[inline(always)]
+fn is_last(last: Option<Span>, span: &Span) -> bool
+    ensures last { result ≡ true → last ≡ Some span.now }
+{
+    match last {
+        Some(last) => last.is_same(span),
+        None => false,
+    }
 }
 
 /// Joins spans with the rows of two readings, which most often are of one row.

@@ -7,8 +7,9 @@ ghost use Rattle.evaluation.specs.Short.{note_of};
 ghost use Rattle.rerun_records.specs.Readings.{node_notes, shared_notes};
 ghost use Rattle.rerun_records.specs.Same.{is_read, same_note};
 
-use crate::readings::{Node, are_own_touched, rests_on};
+use crate::readings::Node;
 use crate::spans::are_touched;
+use crate::touching::{are_own_touched, rests_on};
 use evaluation::reading::Reading;
 use std::slice;
 use std::sync::Arc;

@@ -9,7 +9,7 @@ use Rattle.rerun_records.specs.Blocks.{is_apart}
 use Rattle.rerun_records.specs.ShortLists.{items_in}
 use Rattle.rerun_records.proofs.NodeNotes.{every_with_parts, every_alone, spans_cover}
 use Rattle.rerun_records.proofs.Touched.{own_apart, spans_apart}
-use Rattle.rerun_records.proofs.readings.node_is_touched.Goals as goal
+use Rattle.rerun_records.proofs.touching.node_is_touched.Goals as goal
 
 pub returns-in-Some : goal.returns-in-Some
 returns-in-Some c = record {
