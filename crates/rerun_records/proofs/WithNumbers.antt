@@ -1,11 +1,14 @@
 -- Records with their numbers, as they are found and put in.
-use Rattle.std.proofs.Common.{◌≡◌, ℕ, zero, suc, ◌+◌, ◌≤◌, ◌<◌, ℤ, Bool, true, false, cond, not, List, [], ◌∷◌, ◌++◌, map, length, Some, None, refl, sym, ap, ◌∙◌, subst, arith}
+use Rattle.std.proofs.Common.{◌≡◌, ℕ, zero, suc, ◌+◌, ◌≤◌, ◌<◌, ℤ, Bool, true, false, cond, not, List, [], ◌∷◌, ◌++◌, map, take, replicate, length, Some, None, refl, sym, ap, ◌∙◌, subst, arith}
 use Rattle.std.specs.Prelude.{nat_eq, slice_get, slice_set}
 use Rattle.std.specs.List.{find, position_or_len, AllByRecursion, IsDistinct}
-use Rattle.std.proofs.lemmas.List.{nil_from_length}
+use Rattle.std.proofs.lemmas.List.{nil_from_length, length-take-le, length-replicate}
 use Rattle.rerun_records.specs.Record.{PlainRecord, same_instance, is_of, as_made}
 use Rattle.rerun_records.specs.Numbers.{numbered_by, with_numbers, HaveNumbers, cleared, told_by, numbers_then}
 use Rattle.rerun_records.specs.Commits.{put_record, put_records, AreSingle}
+use Rattle.meaning.specs.Tables.{Tables}
+use Rattle.rerun_records.specs.InStep.{IsInStep, ReadNow}
+use Rattle.rerun_records.specs.Put.{ArePut}
 use Rattle.rerun_records.specs.Blocks.{is_fresh_at}
 use Rattle.evaluation.specs.declared.note.Note.{Note}
 use Rattle.rerun_records.proofs.Puts.{still_as_made}
@@ -175,6 +178,43 @@ none_in_view ns rs now v n = nil_from_length rs (sym (length_with_numbers ns rs)
 
 pub none_counted : (ns : List ℕ) (rs : List PlainRecord) → length ns ≡ length rs → rs ≡ [] → ns ≡ []
 none_counted ns rs l n = nil_from_length ns (l ∙ ap length n)
+
+-- ---- numbers that are all 0
+
+with_zeros : (k n : ℕ) (rs : List PlainRecord) → map as_made rs ≡ rs → with_numbers (take k (replicate n zero)) rs ≡ rs
+with_zeros k n [] e = refl
+with_zeros zero n (r ∷ rs) e = let tails : map as_made rs ≡ rs = cc (e) in ap (λ xs. r ∷ xs) (with_none rs)
+  where
+    with_none : (xs : List PlainRecord) → with_numbers [] xs ≡ xs
+    with_none [] = refl
+    with_none (x ∷ xs) = ap (λ ys. x ∷ ys) (with_none xs)
+with_zeros (suc k) zero (r ∷ rs) e = let tails : map as_made rs ≡ rs = cc (e) in ap (λ xs. r ∷ xs) (with_zeros zero zero rs tails)
+with_zeros (suc k) (suc n) (r ∷ rs) e =
+    let head : as_made r ≡ r = cc (e) in
+    let tails : map as_made rs ≡ rs = cc (e) in
+    ap (λ x. x ∷ with_numbers (take k (replicate n zero)) rs) head ∙ ap (λ xs. r ∷ xs) (with_zeros k n rs tails)
+
+module _ (ns zeros : List ℕ) (n count : ℕ) (rs : List PlainRecord) (cut : ns ≡ take n zeros) (none : zeros ≡ replicate count zero) (whole : n ≡ length rs) (made_are : map as_made rs ≡ rs) where
+  -- they are shown of the records as these are
+  pub zeros_view : with_numbers ns rs ≡ rs
+  zeros_view = ap (λ xs. with_numbers xs rs) (cut ∙ ap (take n) none) ∙ with_zeros n count rs made_are
+
+  pub zeros_numbers : length rs ≤ count → AreSingle rs → HaveNumbers ns rs
+  zeros_numbers few single = record {
+    single = single;
+    as_made_are = made_are;
+    places =
+        ap length (cut ∙ ap (take n) none)
+        ∙ length-take-le n (replicate count zero) (let l : length {A = ℕ} (replicate count zero) ≡ count = length-replicate count zero in omega (arith, l, few, whole)) ∙ whole;
+  }
+
+  -- records that were put in where there were none
+  pub first_put : (old made : List PlainRecord) → length old ≡ 0 → rs ≡ put_records [] made → ((tables : Tables) → ReadNow tables made → IsInStep tables rs) → ArePut old made (with_numbers ns rs)
+  first_put old made nothing put step = record {
+    put = zeros_view ∙ put ∙ ap (λ xs. put_records xs made) (sym (nil_from_length old nothing));
+    put_as_made = ap (map as_made) zeros_view ∙ made_are ∙ put ∙ ap (λ xs. put_records (map as_made xs) made) (sym (nil_from_length old nothing));
+    in_step = λ tables h read. subst (IsInStep tables) (sym zeros_view) (step tables read);
+  }
 
 -- ---- how they are told
 

@@ -91,6 +91,14 @@ impl Blocks {
         self.vast.clear();
     }
 
+    /// Drops all blocks, and has all records be due.
+    pub(crate) fn begin_anew(&mut self)
+        ensures none { (self.new.fine ≡ []) × (self.new.middle ≡ []) × (self.new.wide ≡ []) × (self.new.vast ≡ []) }
+    {
+        self.clear();
+        self.due.note_all();
+    }
+
     /// The widest block that begins at that place and answers instances of that series, no more than those.
     pub(crate) fn widest(&self, place: usize, series: Series, program: &Checked) -> Option<&Block>
         ensures block { IfSome result (λ b. IsBlock program.now.kinds self.now b.now) }

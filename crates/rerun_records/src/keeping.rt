@@ -1,108 +1,72 @@
 // A list of records that becomes that of a session: of those of one procedure and arguments the last is kept, where the first stands.
-ghost use Rattle.std.specs.Prelude.{◌≡◌, ◌<◌, ◌≤◌, ◌+◌, [], length, take, drop, map, Some, slice_get, vec_capacity};
-ghost use Rattle.std.specs.List.{position_or_len};
+ghost use Rattle.std.specs.Prelude.{◌≡◌, ◌<◌, ◌≤◌, ◌+◌, [], length, take, drop, map, Some, slice_get};
+ghost use Rattle.std.specs.List.{position_or_len, SwappedAt};
 ghost use Rattle.meaning.specs.Tables.{Tables as PlainTables};
 ghost use Rattle.rerun_records.specs.Record.{PlainRecord, same_instance, instance_number, as_made};
-ghost use Rattle.rerun_records.specs.Numbers.{with_numbers, HaveNumbers};
 ghost use Rattle.rerun_records.specs.InStep.{IsInStep, ReadNow};
 ghost use Rattle.rerun_records.specs.Commits.{put_record, put_records, AreSingle};
-ghost use Rattle.rerun_records.specs.Blocks.{BlocksFit};
 
-use crate::blocks::Blocks;
-use crate::listing::{clear, place_for};
+use crate::listing::place_for;
 use crate::record::Record;
 use place_chains::mixing::number_of;
 use place_chains::places::Places;
 
 /// Has the list hold what its records come to that are put in one after another, where there are no others: those that are kept are
 /// moved to its front. It takes no memory.
-pub(crate) fn keep_last(
-    list: &mut Vec<Record>,
-    places: &mut Places,
-    numbers: &mut Vec<u32>,
-    blocks: &mut Blocks,
-)
-    requires room_below { length list.old.items ≤ places.old.room }
-    requires room { length list.old.items ≤ vec_capacity numbers.old }
+pub(crate) fn keep_last(list: &mut Vec<Record>, places: &mut Places)
+    requires room { length list.old.items ≤ places.old.room }
     requires no_places { places.old.numbers ≡ [] }
-    requires no_numbers { numbers.old.items ≡ [] }
-    requires fit { BlocksFit [] blocks.old }
-    ensures put { with_numbers numbers.new.items list.new.items ≡ put_records [] list.old.items }
+    ensures put { list.new.items ≡ put_records [] list.old.items }
     ensures numbered { places.new.numbers ≡ map instance_number list.new.items }
-    ensures numbers { HaveNumbers numbers.new.items list.new.items }
-    ensures fit { BlocksFit (with_numbers numbers.new.items list.new.items) blocks.new }
-    ensures as_made { map as_made (with_numbers numbers.new.items list.new.items) ≡ put_records [] list.old.items }
-    ensures in_step { (tables : PlainTables) → ReadNow tables list.old.items
-        → IsInStep tables (with_numbers numbers.new.items list.new.items) }
+    ensures as_made { map as_made list.new.items ≡ list.new.items }
+    ensures single { AreSingle list.new.items }
+    ensures in_step { (tables : PlainTables) → ReadNow tables list.old.items → IsInStep tables list.new.items }
+    ensures fewer { length list.new.items ≤ length list.old.items }
 {
-    let kept = keep_each(list, places, numbers, blocks);
+    let kept = keep_each(list, places);
     list.truncate(kept);
 }
 
 // Moves those that are kept to the front of the list, and tells how many they are.
-fn keep_each(
-    list: &mut [Record],
-    places: &mut Places,
-    numbers: &mut Vec<u32>,
-    blocks: &mut Blocks,
-) -> usize
-    requires room_below { length list.old ≤ places.old.room }
-    requires room { length list.old ≤ vec_capacity numbers.old }
+fn keep_each(list: &mut [Record], places: &mut Places) -> usize
+    requires room { length list.old ≤ places.old.room }
     requires no_places { places.old.numbers ≡ [] }
-    requires no_numbers { numbers.old.items ≡ [] }
-    requires fit { BlocksFit [] blocks.old }
-    ensures put { with_numbers numbers.new.items (take result list.new) ≡ put_records [] list.old }
+    ensures put { take result list.new ≡ put_records [] list.old }
     ensures numbered { places.new.numbers ≡ map instance_number (take result list.new) }
-    ensures numbers { HaveNumbers numbers.new.items (take result list.new) }
-    ensures fit { BlocksFit (with_numbers numbers.new.items (take result list.new)) blocks.new }
-    ensures as_made { map as_made (with_numbers numbers.new.items (take result list.new)) ≡ put_records [] list.old }
-    ensures in_step { (tables : PlainTables) → ReadNow tables list.old
-        → IsInStep tables (with_numbers numbers.new.items (take result list.new)) }
+    ensures as_made { map as_made (take result list.new) ≡ take result list.new }
+    ensures single { AreSingle (take result list.new) }
+    ensures in_step { (tables : PlainTables) → ReadNow tables list.old → IsInStep tables (take result list.new) }
+    ensures fewer { length (take result list.new) ≤ length list.old }
 {
     let mut kept = 0;
     for next in 0..list.len() {
-        kept = keep(list, places, numbers, blocks, kept, next);
+        kept = keep(list, places, kept, next);
     }
     kept
 }
 
 // Puts the next record in among those that are kept, the first so many of the list, and tells how many they are then.
 #[inline(always)]
-fn keep(
-    list: &mut [Record],
-    places: &mut Places,
-    numbers: &mut Vec<u32>,
-    blocks: &mut Blocks,
-    kept: usize,
-    next: usize,
-) -> usize
+fn keep(list: &mut [Record], places: &mut Places, kept: usize, next: usize) -> usize
     requires within { next < length list.old }
     requires kept { kept ≤ next }
-    requires room_below { length list.old ≤ places.old.room }
-    requires room { length list.old ≤ vec_capacity numbers.old }
+    requires room { length list.old ≤ places.old.room }
     requires numbered { places.old.numbers ≡ map instance_number (take kept list.old) }
-    requires numbers { HaveNumbers numbers.old.items (take kept list.old) }
-    requires fit { BlocksFit (with_numbers numbers.old.items (take kept list.old)) blocks.old }
+    requires as_made { map as_made (take kept list.old) ≡ take kept list.old }
+    requires single { AreSingle (take kept list.old) }
     ensures length { length list.new ≡ length list.old }
     ensures kept { result ≤ next + 1 }
-    ensures room_below { places.new.room ≡ places.old.room }
-    ensures room { vec_capacity numbers.new ≡ vec_capacity numbers.old }
-    ensures put { put_records (with_numbers numbers.new.items (take result list.new)) (drop (next + 1) list.new)
-        ≡ put_records (with_numbers numbers.old.items (take kept list.old)) (drop next list.old) }
+    ensures room { places.new.room ≡ places.old.room }
+    ensures put { put_records (take result list.new) (drop (next + 1) list.new)
+        ≡ put_records (take kept list.old) (drop next list.old) }
     ensures numbered { places.new.numbers ≡ map instance_number (take result list.new) }
-    ensures numbers { HaveNumbers numbers.new.items (take result list.new) }
-    ensures fit { BlocksFit (with_numbers numbers.new.items (take result list.new)) blocks.new }
-    ensures as_made { put_records (map as_made (with_numbers numbers.new.items (take result list.new)))
-        (drop (next + 1) list.new)
-        ≡ put_records (map as_made (with_numbers numbers.old.items (take kept list.old)))
-        (drop next list.old) }
+    ensures as_made { map as_made (take result list.new) ≡ take result list.new }
+    ensures single { AreSingle (take result list.new) }
     ensures in_step { (tables : PlainTables)
-        → IsInStep tables (with_numbers numbers.old.items (take kept list.old)) → ReadNow tables (drop next list.old)
-        → IsInStep tables (with_numbers numbers.new.items (take result list.new)) × ReadNow tables (drop (next + 1) list.new) }
+        → IsInStep tables (take kept list.old) → ReadNow tables (drop next list.old)
+        → IsInStep tables (take result list.new) × ReadNow tables (drop (next + 1) list.new) }
 {
     let (number, place) = place_of_next(list, places, kept, next);
-    blocks.put_in(place);
-    clear(numbers, place);
     move_to(list, places, number, kept, next, place)
 }
 
@@ -153,10 +117,23 @@ fn move_to(
         → place ≡ position_or_len (same_instance made) (take kept list.old) → number ≡ instance_number made
         → places.new.numbers ≡ map instance_number (take result list.new) }
 {
-    list.swap(place, next);
+    bring(list, place, next);
     if place < kept {
         return kept;
     }
     places.push(number);
     kept + 1
+}
+
+// Swaps two places, unless they are one: most records stay where they are, and aren't written.
+#[inline(always)]
+fn bring(list: &mut [Record], place: usize, next: usize)
+    requires within { next < length list.old }
+    requires place { place ≤ next }
+    ensures swapped { SwappedAt list.old list.new place next }
+    ensures length { length list.new ≡ length list.old }
+{
+    if place < next {
+        list.swap(place, next);
+    }
 }

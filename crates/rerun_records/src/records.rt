@@ -1,6 +1,6 @@
 //! The records of a session.
 ghost use Rattle.std.specs.Prelude.{◌≡◌, ◌↔◌, IsTrue, List, [], ◌∷◌, ◌++◌, length, ◌<◌, ◌≤◌, Some, None, OnOk, OnErr, IfSome, IfNone};
-ghost use Rattle.std.specs.Prelude.{option_copied, map, not, true, slice_get};
+ghost use Rattle.std.specs.Prelude.{option_copied, map, not, replicate, take, true, slice_get};
 ghost use Rattle.std.specs.List.{find};
 ghost use Rattle.meaning.specs.Every.{every};
 ghost use Rattle.rerun_records.specs.Record.{PlainRecord, is_of, instance_number, as_made};
@@ -432,22 +432,16 @@ impl Records {
         ensures put { OnOk result (ArePut self.old records.items self.new) }
         ensures same { OnErr result (self.new ≡ self.old) }
     {
-        let alloc = *records.allocator();
         let count = records.len();
         let room = with_spare(count);
         records.reserve(room - count)?;
         self.places.reserve(room)?;
-        self.numbers.reserve(room)?;
-        self.blocks.make_room(count);
-        keep_last(
-            &mut records,
-            &mut self.places,
-            &mut self.numbers,
-            &mut self.blocks,
-        );
+        put_zeros(&mut self.numbers, room, &records)?;
+        keep_last(&mut records, &mut self.places);
         give_back(&mut records);
+        self.blocks.begin_anew();
         self.list = records;
-        self.covers.grow(alloc, &self.list);
+        cut(&mut self.numbers, &self.list);
         Ok(())
     }
 
@@ -457,7 +451,6 @@ impl Records {
         ensures put { OnOk result (ArePut self.old records.items self.new) }
         ensures same { OnErr result (self.new ≡ self.old) }
     {
-        let alloc = *records.allocator();
         let room = with_spare(records.len());
         self.list.reserve(room)?;
         self.places.reserve(room)?;
@@ -471,13 +464,32 @@ impl Records {
             &mut self.covers,
             records,
         );
-        self.covers.grow(alloc, &self.list);
         Ok(())
     }
 
+    /// Makes the hulls that records lack by which an edit finds them, as far as memory isn't refused. Only edits ask for them, so records
+    /// are put in without: a run behind which there is no edit doesn't pay for them.
+    pub fn cover(&mut self)
+        ensures same { self.new ≡ self.old }
+    {
+        let alloc = *self.list.allocator();
+        self.covers.grow(alloc, &self.list);
+    }
+
     /// Tells the records that the row of the table of that number was changed, each given by its number: these readings the tables don't
-    /// hold any more, and those they hold again. It takes no memory, and passes over most of the records that haven't read the row.
+    /// hold any more, and those they hold again. It passes over most of the records that haven't read the row, and takes no memory but
+    /// for hulls that they lack, without which it does where memory is refused.
     pub fn tell(&mut self, change: &(usize, i64), lost: &[Note], won: &[Note])
+        requires rest { every (λ n. not (is_apart (change.now ∷ []) n)) (lost.now ++ won.now) ≡ true }
+        ensures told { self.new ≡ map (told_by lost.now won.now) self.old }
+        ensures same { map as_made self.new ≡ map as_made self.old }
+    {
+        self.cover();
+        self.tell_covered(change, lost, won);
+    }
+
+    // Tells the records so, by the hulls that there are. It takes no memory.
+    fn tell_covered(&mut self, change: &(usize, i64), lost: &[Note], won: &[Note])
         requires rest { every (λ n. not (is_apart (change.now ∷ []) n)) (lost.now ++ won.now) ≡ true }
         ensures told { self.new ≡ map (told_by lost.now won.now) self.old }
         ensures same { map as_made self.new ≡ map as_made self.old }
@@ -492,6 +504,23 @@ impl Records {
             won,
         );
     }
+}
+
+// Has a list of none have a 0 for each of these records, and room for so many.
+fn put_zeros(numbers: &mut Vec<u32>, room: usize, records: &[Record]) -> Result<(), AllocError>
+    requires none { numbers.old.items ≡ [] }
+    ensures zeros { OnOk result (numbers.new.items ≡ replicate (length records.now) 0) }
+    ensures same { OnErr result (numbers.new.items ≡ numbers.old.items) }
+{
+    numbers.reserve(room)?;
+    numbers.resize(records.len(), 0)
+}
+
+// Drops the numbers behind those of these records.
+fn cut(numbers: &mut Vec<u32>, records: &[Record])
+    ensures cut { numbers.new.items ≡ take (length records.now) numbers.old.items }
+{
+    numbers.truncate(records.len());
 }
 
 // Gives back room of which a list takes less than half: it may have grown fourfold, and many records may have been of the same instances.

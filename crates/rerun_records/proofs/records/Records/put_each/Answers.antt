@@ -1,8 +1,6 @@
-use Rattle.std.proofs.Common.{List, sym, subst}
-use Rattle.rerun_records.specs.Covers.{AreCovered}
+use Rattle.std.proofs.Common.{sym, subst}
 use Rattle.rerun_records.specs.InStep.{IsInStep}
 use Rattle.rerun_records.specs.OneTime.{AreOfOneTime}
-use Rattle.rerun_records.specs.Record.{PlainRecord}
 use Rattle.rerun_records.proofs.OneTime.{put_once}
 use Rattle.rerun_records.proofs.WithNumbers.{put_into, as_made_put_into, same_view}
 use Rattle.rerun_records.proofs.records.Records.put_each.Goals as goal
@@ -21,14 +19,11 @@ returns-clause-put c = record {
       n;
 }
 
-pub grow-requires : goal.grow-requires
-grow-requires c = record { held = subst (λ (rs : List PlainRecord). AreCovered rs c.put_all.new.covers) (sym c.deref.ensures.value) c.put_all.ensures.covered }
-
 pub invariant_of-self-2 : goal.invariant_of-self-2
 invariant_of-self-2 c = (
   c.put_all.ensures.numbers,
   c.put_all.ensures.fit,
   c.put_all.ensures.numbered,
-  subst (λ (rs : List PlainRecord). AreCovered rs c.grow.new.self) c.deref.ensures.value c.grow.ensures.held,
+  c.put_all.ensures.covered,
   put_once _ c.put_all.new.numbers.items _ c.put_all.new.list.items c.args.records.items c.put_all.ensures.put (subst AreOfOneTime (sym c.reserve.ensures.items) c.self.invariant.4) c.requires.once,
 )
