@@ -133,13 +133,14 @@ impl IndexedRecords {
         Ok(())
     }
 
-    /// Makes blocks of the records, as `gathered_records` does.
+    /// Makes blocks of the records, as `gathered_records` does, and the hulls by which edits find them.
     pub fn gather(&mut self, alloc: Global, program: &Checked)
         requires monoids { All IsMonoid program.now.kinds }
         requires values { HaveValues program.now.kinds self.old.records }
         ensures same { self.new ≡ self.old }
     {
         gather(&mut self.records, alloc, program);
+        self.records.cover();
     }
 
     /// Notes a row of the table of that number as it is before an edit. It takes no memory.
@@ -154,7 +155,7 @@ impl IndexedRecords {
     }
 
     /// Brings the records' numbers up to date after a row of the table of that number was changed, which `row_before` has noted. It takes
-    /// no memory.
+    /// no memory but for hulls that the records lack, and is never refused.
     pub fn row_changed(&mut self, tables: &Tables, table: usize, row: i64)
         requires beside { (self.old.records ≡ [])
             ⊎ (IsBeside tables.now.tables table row self.old.was × (length self.old.was.sums < self.old.room)) }
