@@ -5,6 +5,10 @@ use monoid_laws::Kind;
 use std::alloc::{AllocError, Global};
 use view_pool::{Kit, View};
 
+/// So many places stay free behind a kit's views: the next kit's lie no nearer, since two workers that update views in one line of
+/// their caches wait for each other.
+const APART: usize = 16;
+
 /// So many kits for these kinds, of views that the caller makes. Want of memory is the only error; a view of another kind counts
 /// as such.
 pub fn kits_for<V: View, M: Fn(Kind) -> Result<V, AllocError>>(
@@ -37,7 +41,16 @@ fn kit<V: View, M: Fn(Kind) -> Result<V, AllocError>>(
     for kind in kinds {
         views.push(view(*kind, make)?)?;
     }
-    Ok(Kit::reset(views))
+    Ok(Kit::reset(apart(alloc, views)?))
+}
+
+// These views in a list that was made behind them, with places that stay free.
+fn apart<V: View>(alloc: Global, mut views: Vec<V>) -> Result<Vec<V>, AllocError>
+    ensures same { IfOk result (λ list. list.items ≡ views.items) }
+{
+    let mut list = Vec::with_capacity(alloc, views.len().saturating_add(APART))?;
+    list.append(&mut views)?;
+    Ok(list)
 }
 
 // A view of that kind.
