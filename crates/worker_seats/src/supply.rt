@@ -52,7 +52,8 @@ pub struct Supply<'a, D: Shelf<K, L>, K, L: Ledger, R: Wait> {
     ghost counted: { free + share.amount ≡ most + spare_count spare },
 }
 
-/// Puts a kit among the free ones under the lock that counted for that share.
+/// Puts a kit among the free ones under the lock that counted for that share. Out of line, so that a kit is kept quickly.
+#[inline(never)]
 fn give_back<D: Shelf<K, L>, K, L: Ledger, R: Wait>(
     rt: &R,
     shelf: &Mutex<D>,
@@ -192,6 +193,7 @@ impl<D: Shelf<K, L>, K: Drop, L: Ledger, R: Wait> KitSource<K> for Supply<'_, D,
         }
     }
 
+    #[inline(always)]
     fn give(&mut self, kit: K) -> Result<(), K> {
         if self.free == usize::MAX {
             return Err(kit);
