@@ -146,14 +146,24 @@ fn move_one<V: View>(left: &mut V, right: &mut V, fresh: bool) -> Result<(), All
         mem::swap(left, right);
         return Ok(());
     }
-    let value = right.take();
-    match left.absorb(value) {
+    match left.absorb(right.take()) {
         Ok(()) => Ok(()),
         Err(value) => {
-            let _ = right.absorb(value);
+            put_back(right, value);
             Err(AllocError)
         }
     }
+}
+
+/// Puts a value back into the view that it was taken from. It is kept out of the quick way of folds.
+#[inline(never)]
+fn put_back<V: View>(view: &mut V, value: Val)
+    requires empty { V.worth_of view.old ≡ identity_of (V.kind_of view.old) }
+    requires of_kind { IsWorth (V.kind_of view.old) (meaning value) }
+    ensures kind { V.kind_of view.new ≡ V.kind_of view.old }
+    ensures back { V.worth_of view.new ≡ operate (V.kind_of view.old) (V.worth_of view.old) (meaning value) }
+{
+    let _ = view.absorb(value);
 }
 
 /// Moves what reducer `r` is worth on the right to the left.

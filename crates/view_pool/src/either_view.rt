@@ -32,6 +32,7 @@ impl View for EitherView {
         }
     }
 
+    #[inline(always)]
     fn absorb(&mut self, value: Val) -> Result<(), Val> {
         match self {
             EitherView::Plain(view) => (**view).absorb(value),
@@ -39,6 +40,7 @@ impl View for EitherView {
         }
     }
 
+    #[inline(always)]
     fn take(&mut self) -> Val {
         match self {
             EitherView::Plain(view) => (**view).take(),
@@ -53,6 +55,7 @@ impl View for EitherView {
         }
     }
 
+    #[inline(always)]
     fn export(&self) -> Result<Val, AllocError> {
         match self {
             EitherView::Plain(view) => (**view).export(),

@@ -71,6 +71,7 @@ impl View for PlainView {
         self.value = identity(self.alloc, self.kind);
     }
 
+    #[inline(always)]
     fn export(&self) -> Result<Val, AllocError> {
         match &self.value {
             Val::Int(number) => Ok(Val::Int(*number)),
