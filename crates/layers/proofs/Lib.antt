@@ -12,3 +12,4 @@ pub mod Gatherings
 pub mod Ascending
 pub mod Few
 pub mod Strung
+pub mod Alone

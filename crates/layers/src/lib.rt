@@ -8,6 +8,7 @@ mod gathered;
 mod identities;
 mod joining;
 pub mod layer;
+mod leaves;
 mod lowering;
 mod pieces;
 pub mod recording;

@@ -75,6 +75,22 @@ impl Opened {
         })
     }
 
+    /// Its procedure, its arguments, and how many levels there are below it.
+    #[inline(always)]
+    pub(crate) fn into_parts(self) -> (usize, ShortList<i64>, u32)
+        ensures procedure { result.0 ≡ self.procedure }
+        ensures arguments { items_in result.1 ≡ self.arguments }
+        ensures left { result.2 ≡ self.left }
+    {
+        let Opened {
+            procedure,
+            arguments,
+            left,
+            depth: _,
+        } = self;
+        (procedure, arguments, left)
+    }
+
     /// How long its name is.
     pub(crate) fn depth(&self) -> usize
         ensures depth { result ≡ self.now.depth }
@@ -307,7 +323,7 @@ fn kept_reads(alloc: Global, notes: &Notes, shared: &[Readings]) -> Result<Readi
 
 /// Two readings. It takes no memory.
 #[inline(always)]
-fn two_reads(found: &[Reading]) -> Readings
+pub(crate) fn two_reads(found: &[Reading]) -> Readings
     requires two { length found.now ≡ 2 }
     ensures same { result ≡ map note_of found.now }
 {
@@ -371,7 +387,7 @@ fn are_distinct(found: &[Reading]) -> bool
 
 /// Whether these are readings of two cells in different columns.
 #[inline(always)]
-fn are_of_two_columns(found: &[Reading]) -> bool
+pub(crate) fn are_of_two_columns(found: &[Reading]) -> bool
     ensures two { result ≡ true → length found.now ≡ 2 }
     ensures distinct { result ≡ true → once (map note_of found.now) ≡ map note_of found.now }
 {
@@ -486,7 +502,7 @@ fn entries(
 
 /// The number of the only flag that is up; none where there is none or another one.
 #[inline(always)]
-fn only_up(flags: &[bool]) -> Option<usize>
+pub(crate) fn only_up(flags: &[bool]) -> Option<usize>
     ensures only { (es : List (Name × ℕ)) → IfSome result (λ i. entries_from 0 es flags.now ≡ entry_of i (slice_get es i)) }
 {
     let mut found = None;

@@ -1,16 +1,18 @@
 //! What a strand has counted and recorded of memo instances.
-ghost use Rattle.std.specs.Prelude.{◌≡◌, suc, ◌+◌, IfOk, OnErr, OnOk, All};
-ghost use Rattle.monoid_laws.specs.Kinds.{IsMonoid};
+ghost use Rattle.std.specs.Prelude.{◌≡◌, ◌∷◌, [], suc, ◌+◌, IfOk, OnErr, OnOk, All, length};
+ghost use Rattle.monoid_laws.specs.Kinds.{IsMonoid, meaning};
 ghost use Rattle.rerun_records.specs.Named.{AreValuesFrom, HaveValues};
-ghost use Rattle.positions.specs.Layers.{multiplied, covered, absorbing};
-ghost use Rattle.positions.specs.Tallies.{no_tally, passing, answering, opening, is_own, closing, tallies_joined};
+ghost use Rattle.positions.specs.Layers.{multiplied, covered, absorbing, kept_reads};
+ghost use Rattle.positions.specs.Tallies.{no_tally, passing, answering, opening, is_own, closing, tallies_joined, touched_from, entries_from};
 ghost use Rattle.layers.specs.Folds.{IsSameButWorths, HasSameProduct, BothHaveValues};
 
 use crate::few_values::let_go;
 use crate::layer::Layer;
+use crate::leaves::{Leaf, are_touched, record_of_two};
 use crate::pieces::Pieces;
 use crate::recording::{Opened, Recording};
 use linked_program::checked::Checked;
+use monoid_laws::Val;
 use rerun_records::record::Record;
 use std::alloc::{AllocError, Global};
 use std::marker::Model;
@@ -158,7 +160,41 @@ impl Tally {
 
     /// The topmost layer, whose instance is over with that value, becomes a record and goes behind the layer below it. Where
     /// memory is refused, some reducers have moved to the lower layer and the others have not, and nothing else has changed.
+    #[inline(always)]
     pub fn close<V: View>(
+        &mut self,
+        alloc: Global,
+        top: &mut Layer<V>,
+        below: &mut Layer<V>,
+        value: i64,
+        program: &Checked,
+    ) -> Result<(), AllocError>
+        requires kinds { top.old.kinds ≡ program.now.kinds }
+        requires same_kinds { below.old.kinds ≡ top.old.kinds }
+        requires monoids { All IsMonoid below.old.kinds }
+        ensures closed { OnOk result
+            (self.new ≡ closing program.now.revisions top.old value self.old) }
+        ensures covered { OnOk result (below.new ≡ covered below.old top.old) }
+        ensures top_kinds { top.new.kinds ≡ top.old.kinds }
+        ensures below_kinds { below.new.kinds ≡ below.old.kinds }
+        ensures values { HaveValues top.old.kinds self.old.made
+            → HaveValues top.old.kinds self.new.made }
+        ensures unchanged { OnErr result (self.new ≡ self.old) }
+        ensures top_kept { OnErr result (IsSameButWorths top.old top.new) }
+        ensures below_kept { OnErr result (IsSameButWorths below.old below.new) }
+        ensures product { OnErr result (HasSameProduct below.old top.old below.new top.new) }
+    {
+        if top.is_of_two(program) {
+            if let Some(entry) = top.only_entry(program) {
+                return self.close_leaf(alloc, top, below, value, program, entry);
+            }
+        }
+        self.close_any(alloc, top, below, value, program)
+    }
+
+    /// The same of whatever layer.
+    #[inline(never)]
+    fn close_any<V: View>(
         &mut self,
         alloc: Global,
         top: &mut Layer<V>,
@@ -194,6 +230,113 @@ impl Tally {
         match self.opened.pop() {
             Some(opened) => self.made.push(recording.record(opened, value)),
             None => let_go(recording),
+        }
+        Ok(())
+    }
+
+    /// The same of a layer of two reducers, two readings and that procedure with its revision number.
+    #[inline(always)]
+    fn close_leaf<V: View>(
+        &mut self,
+        alloc: Global,
+        top: &mut Layer<V>,
+        below: &mut Layer<V>,
+        value: i64,
+        program: &Checked,
+        entry: (usize, u64),
+    ) -> Result<(), AllocError>
+        requires two_kinds { length program.now.kinds ≡ 2 }
+        requires two_notes { length top.old.notes ≡ 2 }
+        requires kept { kept_reads top.old ≡ top.old.notes }
+        requires entry { entries_from 0 program.now.revisions top.old.entered ≡ entry ∷ [] }
+        requires kinds { top.old.kinds ≡ program.now.kinds }
+        requires same_kinds { below.old.kinds ≡ top.old.kinds }
+        requires monoids { All IsMonoid below.old.kinds }
+        ensures closed { OnOk result
+            (self.new ≡ closing program.now.revisions top.old value self.old) }
+        ensures covered { OnOk result (below.new ≡ covered below.old top.old) }
+        ensures top_kinds { top.new.kinds ≡ top.old.kinds }
+        ensures below_kinds { below.new.kinds ≡ below.old.kinds }
+        ensures values { HaveValues top.old.kinds self.old.made
+            → HaveValues top.old.kinds self.new.made }
+        ensures unchanged { OnErr result (self.new ≡ self.old) }
+        ensures top_kept { OnErr result (IsSameButWorths top.old top.new) }
+        ensures below_kept { OnErr result (IsSameButWorths below.old below.new) }
+        ensures product { OnErr result (HasSameProduct below.old top.old below.new top.new) }
+    {
+        let levels = top.levels()?;
+        let leaf = Leaf {
+            procedure: entry.0,
+            revision: entry.1,
+            levels,
+            value,
+        };
+        let first = top.hypermap.value(0)?;
+        let Ok(second) = top.hypermap.value(1) else {
+            let_go(first);
+            return Err(AllocError);
+        };
+        if !are_touched(&top.hypermap, program.kinds(), &first, &second) {
+            let_go(first);
+            let_go(second);
+            return self.close_any(alloc, top, below, value, program);
+        }
+        self.close_of_two(top, below, program, first, second, leaf)
+    }
+
+    /// The same with these values of the two reducers, none of which is the identity.
+    #[inline(always)]
+    fn close_of_two<V: View>(
+        &mut self,
+        top: &mut Layer<V>,
+        below: &mut Layer<V>,
+        _program: &Checked,
+        first: Val,
+        second: Val,
+        leaf: Leaf,
+    ) -> Result<(), AllocError>
+        requires two_notes { length top.old.notes ≡ 2 }
+        requires kept { kept_reads top.old ≡ top.old.notes }
+        requires entry { entries_from 0 _program.now.revisions top.old.entered ≡ (leaf.procedure, leaf.revision) ∷ [] }
+        requires levels { leaf.levels ≡ suc top.old.deepest }
+        requires touched { touched_from 0 top.old.kinds top.old.worths
+            ≡ (0, meaning first) ∷ (1, meaning second) ∷ [] }
+        requires kinds { top.old.kinds ≡ _program.now.kinds }
+        requires same_kinds { below.old.kinds ≡ top.old.kinds }
+        requires monoids { All IsMonoid below.old.kinds }
+        ensures closed { OnOk result
+            (self.new ≡ closing _program.now.revisions top.old leaf.value self.old) }
+        ensures covered { OnOk result (below.new ≡ covered below.old top.old) }
+        ensures top_kinds { top.new.kinds ≡ top.old.kinds }
+        ensures below_kinds { below.new.kinds ≡ below.old.kinds }
+        ensures values { HaveValues top.old.kinds self.old.made
+            → HaveValues top.old.kinds self.new.made }
+        ensures unchanged { OnErr result (self.new ≡ self.old) }
+        ensures top_kept { OnErr result (IsSameButWorths top.old top.new) }
+        ensures below_kept { OnErr result (IsSameButWorths below.old below.new) }
+        ensures product { OnErr result (HasSameProduct below.old top.old below.new top.new) }
+    {
+        top.of_kinds();
+        if self.made.make_room().is_err() {
+            let_go(first);
+            let_go(second);
+            return Err(AllocError);
+        }
+        if below.cover_of_two(top).is_err() {
+            let_go(first);
+            let_go(second);
+            return Err(AllocError);
+        }
+        match self.opened.pop() {
+            Some(opened) => {
+                let found = top.notes.readings();
+                self.made
+                    .push(record_of_two(opened, first, second, found, leaf));
+            }
+            None => {
+                let_go(first);
+                let_go(second);
+            }
         }
         Ok(())
     }

@@ -6,7 +6,7 @@ use Rattle.positions.specs.Tallies.{PlainTally, record_by}
 use Rattle.layers.specs.Pieces.{items_in}
 use Rattle.layers.specs.Recordings.{PlainRecording}
 use Rattle.layers.proofs.Touches.{one_more_values, closed_tally}
-use Rattle.layers.proofs.tally.Tally.close.Goals as goal
+use Rattle.layers.proofs.tally.Tally.close_any.Goals as goal
 
 pub returns-then-is_err-clause-values : goal.returns-then-is_err-clause-values
 returns-then-is_err-clause-values g c = λ h. subst (HaveValues c.args.top.now.kinds) (sym c.make_room.ensures.items)

@@ -1,0 +1,22 @@
+use Rattle.std.proofs.Common.{◌≡◌, ◌∙◌, ap, subst, sym}
+use Rattle.rerun_records.specs.Named.{HaveValues, AreValuesFrom}
+use Rattle.rerun_records.specs.Record.{PlainRecord}
+use Rattle.positions.specs.Tallies.{PlainTally, touched_from}
+use Rattle.layers.specs.Pieces.{items_in}
+use Rattle.layers.proofs.Touches.{one_more_values, touched_values}
+use Rattle.layers.proofs.tally.Tally.close_of_two.Goals as goal
+use Rattle.layers.proofs.tally.Tally.close_of_two.Goals.{in-Some, in-None}
+
+pub returns-clause-values : goal.returns-clause-values
+returns-clause-values g c = λ h.
+    let ks = c.args.top.now.kinds in
+    let before : HaveValues ks (items_in c.make_room.new.self) =
+    subst (HaveValues ks) (sym c.make_room.ensures.items) (subst (λ (t : PlainTally). HaveValues ks t.made) (sym c.self.view_is) h) in
+    elim c.match-pop.branch [
+      | in-Some w ↦
+          let same : w.record_of_two.result.contribution ≡ touched_from 0 ks c.args.top.now.worths = ap (λ (r : PlainRecord). r.contribution) w.record_of_two.ensures.record ∙ sym c.requires.touched in
+          subst (λ (t : PlainTally). HaveValues ks t.made) (sym w.self-is)
+          (one_more_values ks (items_in c.make_room.new.self) (items_in w.push.new.self) w.record_of_two.result w.push.ensures.items
+          (subst (AreValuesFrom 0 ks) (sym same) (touched_values ks c.args.top.now.worths c.of_kinds.ensures.worths)) before)
+      | in-None w ↦ subst (λ (t : PlainTally). HaveValues ks t.made) (sym w.self-is) before
+    ]
