@@ -136,6 +136,7 @@ impl<V: View> Machine<V> {
     }
 
     /// What is kept of the topmost instance while its layer is open.
+    #[inline(always)]
     fn opened(&self, alloc: Global) -> Result<Opened, AllocError>
         ensures opened { IfOk result (λ opened. opened ≡ opened_of self.now) }
     {
