@@ -8,3 +8,4 @@ pub mod Nesting
 pub mod Leaving
 pub mod Turns
 pub mod Padding
+pub mod Tops

@@ -238,22 +238,18 @@ impl<V: View> Machine<V> {
         ensures made { HaveValues self.old.layer.kinds self.old.tally.made → HaveValues self.old.layer.kinds self.new.tally.made }
         ensures refused { OnErr result (IsValued self.old self.new) }
     {
-        let Some(mut outer) = self.lower.pop() else {
+        let count = self.lower.len();
+        if count == 0 {
+            unreachable!();
+        }
+        let outer = &mut self.lower[count - 1];
+        self.tally
+            .close(alloc, &mut self.layer, outer, value, setting.program)?;
+        let Some(outer) = self.lower.pop() else {
             unreachable!();
         };
-        match self
-            .tally
-            .close(alloc, &mut self.layer, &mut outer, value, setting.program)
-        {
-            Ok(()) => {
-                let upper = mem::replace(&mut self.layer, outer);
-                self.phase = Phase::Leaving(value);
-                Ok(upper.close_in(&mut self.lists))
-            }
-            Err(error) => {
-                self.lower.push_reserved(outer);
-                Err(error)
-            }
-        }
+        let upper = mem::replace(&mut self.layer, outer);
+        self.phase = Phase::Leaving(value);
+        Ok(upper.close_in(&mut self.lists))
     }
 }
