@@ -1,3 +1,4 @@
 pub mod Given
 pub mod Slots
 pub mod Waiting
+pub mod Turned

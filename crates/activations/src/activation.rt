@@ -1,16 +1,16 @@
 //! An instance of a procedure or of a loop, by numbers.
-ghost use Rattle.std.specs.Prelude.{◌≡◌, ◌+◌, ◌-◌, ◌<◌, ◌^◌, ◌∷◌, length, OnErr, OnOk, None, IfOk, map, [], true, false, slice_get, slice_set};
+ghost use Rattle.std.specs.Prelude.{◌≡◌, ◌+◌, ◌-◌, ◌<◌, ◌≤◌, ◌^◌, ◌∷◌, length, OnErr, OnOk, None, IfOk, map, [], true, false, slice_get, slice_set};
 ghost use Rattle.evaluation.specs.declared.slot.Slot.TheVariants.{Has, Waits};
 ghost use Rattle.linked_program.specs.CodeView.{expression as plain};
 ghost use Rattle.evaluation.specs.Ends.{Answers, Ends};
 ghost use Rattle.evaluation.specs.Values.{entry_at};
 ghost use Rattle.positions.specs.Activations.{WorkFits, ShareFits, bound, at, waiting, made, inside, outside, next_of};
-ghost use Rattle.positions.specs.Advance.{rest_of as later_of};
 ghost use Rattle.activations.specs.Slots.{restored_slots, slot_in, emptied};
+ghost use Rattle.activations.specs.Turned.{turned_by};
 ghost use Rattle.evaluation.specs.Slots.{slots_for};
 ghost use Rattle.positions.specs.Moves.{settled, settled_slot};
 
-use crate::shares::rest_of;
+use crate::shares::behind;
 use evaluation::entry::fill_slots;
 use evaluation::notes::Notes;
 use evaluation::slot::Slot;
@@ -294,18 +294,22 @@ impl Activation {
         put_position(&mut self.work, position);
     }
 
-    /// Has called the next iteration of its loop, and has those behind it left.
+    /// Has called so many iterations of its loop, one after another, and has those behind them left.
     #[inline(always)]
-    pub fn turn(&mut self, site: Loop, share: Share)
-        requires room { self.old.children + 1 < 2 ^ 64 }
+    pub fn turns(&mut self, site: Loop, share: Share, done: u32)
+        requires room { self.old.children + done < 2 ^ 64 }
         requires fits { ShareFits site share }
-        requires more { 0 < share.count }
-        ensures waiting { self.new ≡ waiting false None (Work.Turns site (later_of share)) self.old }
+        requires there { self.old.work ≡ Work.Turns site share }
+        requires some { done ≤ share.count }
+        ensures turned { self.new ≡ turned_by done site share self.old }
     {
-        self.children += 1;
+        if done == 0 {
+            return;
+        }
+        self.children += done as usize;
         self.spawned = false;
         self.has_into = false;
-        put_turns(&mut self.work, site, rest_of(site, share));
+        put_turns(&mut self.work, site, behind(site, share, done));
     }
 
     /// Has entered one more instance, for whose value that slot is, and has that left.

@@ -1,6 +1,7 @@
 //! Shares of a loop's iterations.
-ghost use Rattle.std.specs.Prelude.{◌≡◌, ◌<◌, ◌+ℤ◌, pos};
+ghost use Rattle.std.specs.Prelude.{◌≡◌, ◌<◌, ◌≤◌, ◌+ℤ◌, pos};
 ghost use Rattle.positions.specs.Activations.{ShareFits};
+ghost use Rattle.activations.specs.Turned.{behind};
 ghost use Rattle.positions.specs.Advance.{left_of as first_half_of, right_of as second_half_of, rest_of as later_of};
 
 use positions::work::{Loop, Share};
@@ -46,6 +47,20 @@ pub fn rest_of(loop_place: Loop, share: Share) -> Share
     Share {
         first: share.first + 1,
         count: share.count - 1,
+    }
+}
+
+/// All but so many first ones.
+#[inline(always)]
+pub fn behind(loop_place: Loop, share: Share, done: u32) -> Share
+    requires fits { ShareFits loop_place share }
+    requires some { done ≤ share.count }
+    ensures rest { result ≡ behind done share }
+    ensures fits { ShareFits loop_place result }
+{
+    Share {
+        first: share.first + done,
+        count: share.count - done,
     }
 }
 

@@ -1,3 +1,4 @@
 pub mod Paths
 pub mod Iterations
 pub mod Halving
+pub mod Turned

@@ -8,7 +8,7 @@ use crate::came::Came;
 use activations::activation::Activation;
 use activations::code::{instructions, loop_code};
 use activations::setting::Setting;
-use activations::shares::{number_of, rest_of};
+use activations::shares::{behind, number_of};
 use layers::layer::Layer;
 use own_statements::filling::{Iterations, fills_turn, is_counted};
 use own_statements::runs::call;
@@ -19,7 +19,8 @@ use view_pool::View;
 const ITERATIONS: u32 = 1024;
 
 /// Calls the iterations that a loop has left, one after another, where their procedure isn't marked memo and each goes back by
-/// itself. Nowhere where the next one can't be called so. Where one stays, the loop's instance waits for it already.
+/// itself. Nowhere where the next one can't be called so. Where one stays, the loop's instance waits for it already. What the loop's
+/// instance has left is written once, behind the last of them.
 #[inline(always)]
 #[tactic(auto, using(crate::proofs::Paths::ahead_here))]
 pub fn turns<V: View>(
@@ -41,6 +42,9 @@ pub fn turns<V: View>(
     if left == 0 || setting.program.is_memo(code.callee) {
         return Came::Nowhere;
     }
+    let Some(_) = top.children().checked_add(ITERATIONS as usize) else {
+        return Came::Nowhere;
+    };
     let size = setting.program.slots(code.callee);
     let body = instructions(setting.program, code.callee, 0, 0);
     let counted = is_counted(top, code.variable, code.arguments);
@@ -51,22 +55,21 @@ pub fn turns<V: View>(
         variable: code.variable,
         counted,
     };
-    let mut share = share;
-    for _ in 0..ITERATIONS {
-        if share.count == 0 {
-            return Came::Back;
-        }
-        let Some(_) = top.children().checked_add(1) else {
-            return Came::Nowhere;
-        };
-        if !fills_turn(layer, child, top, iterations, number_of(site, share)) {
+    let most = share.count.min(ITERATIONS);
+    for done in 0..most {
+        let number = number_of(site, behind(site, share, done));
+        if !fills_turn(layer, child, top, iterations, number) {
+            top.turns(site, share, done);
             return Came::Nowhere;
         }
-        top.turn(site, share);
         match call(layer, setting, body, code.callee, left - 1, child, numbers) {
-            Some(_) => share = rest_of(site, share),
-            None => return Came::Stays,
+            Some(_) => {}
+            None => {
+                top.turns(site, share, done + 1);
+                return Came::Stays;
+            }
         }
     }
+    top.turns(site, share, most);
     Came::Back
 }
