@@ -282,14 +282,14 @@ impl Activation {
         put_position(&mut self.work, position);
     }
 
-    /// Has called one more instance, for whose value that slot is, and stands at that position.
+    /// Has called or spawned one more instance, for whose value that slot is, and stands at that position.
     #[inline(always)]
-    pub fn wait_at(&mut self, into: Option<usize>, position: Position)
+    pub fn wait_at(&mut self, spawned: bool, into: Option<usize>, position: Position)
         requires room { self.old.children + 1 < 2 ^ 64 }
-        ensures waiting { self.new ≡ waiting false into (Work.Block position) self.old }
+        ensures waiting { self.new ≡ waiting spawned into (Work.Block position) self.old }
     {
         self.children += 1;
-        self.spawned = false;
+        self.spawned = spawned;
         put_slot(&mut self.has_into, &mut self.into, into);
         put_position(&mut self.work, position);
     }

@@ -17,7 +17,7 @@ use Rattle.right_strands.specs.Pairs.{IsPair}
 use Rattle.right_strands.specs.Staying.{HasRest, LeavesAll, MayMeet, StrandsStayRight}
 use Rattle.right_strands.proofs.Alone.{all_left}
 use Rattle.right_strands.proofs.Cuts.{alone_right}
-use Rattle.right_strands.proofs.Steps.{step_right, along, first_right}
+use Rattle.right_strands.proofs.Steps.{step_right, first_right}
 use Rattle.right_strands.proofs.Ways.{on_way}
 use Rattle.right_strands.proofs.Moves.{inlined_right, detached_right, task_right, stolen_right, resumed_right}
 use Rattle.right_strands.proofs.Joins.{over_joined}
@@ -74,7 +74,7 @@ module _ (setting : Setting) where
     begins = first_right setting ready numbered;
     begins_whole = leave_all ready;
     advances = λ kit free s t e step h. (step_right setting ready numbered kit free s t e step h).right;
-    runs_ahead = λ s t p h. (along setting ready numbered s t p h).right;
+    runs_ahead = λ s t p h. (on_way setting ready numbered s t p h).right;
     answers_ahead = λ s t p h. (on_way setting ready numbered s t p h).right;
     inlines = λ s t e is f h. subst (IsRightBy setting) (sym is) (inlined_right setting s e (subst (IsInlined setting s) is f) h);
     detaches = λ s t task e is f h. subst (IsRightBy setting) (sym is) (detached_right setting s task e (subst (λ u. IsDetached setting s u task) is f) h);

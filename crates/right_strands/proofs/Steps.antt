@@ -19,7 +19,6 @@ use Rattle.positions.specs.Advance.{advanced, advanced_at}
 use Rattle.positions.specs.Moves.{first_strand}
 use Rattle.positions.specs.Simulation.{IsSmallStep, IsFirst, small_step, tally_after}
 use Rattle.small_steps.specs.Steps.{HoldsBy, IsStepOf}
-use Rattle.frames.specs.Paths.{IsPathOf, here, on}
 use Rattle.activations.specs.Given.{setting_over}
 use Rattle.positions.specs.Stands.{IsStart}
 use Rattle.right_strands.specs.Picked.{IsSet}
@@ -95,22 +94,6 @@ step_kept setting p e r set lacks none s s' adv step kinds start failed h = reco
   right = λ n k. (goes_on setting p e r set k lacks none s s' adv step (h.right n k)).right;
   begins = λ n. h.begins n ∙ (goes_on setting p e r set set.sound lacks none s s' adv step (h.right n set.sound)).begins;
 }
-
--- ---- many small steps
-
-pub along : (i : Setting) → IsReady i.program i.tables i.memory → IsNumbered i.program → (s t : PlainStrand) → IsPathOf i s t → IsRightBy i s → GoesOn i s t
-along i ready numbered s t here h = record { right = h; begins = refl }
-along i ready numbered s t (on u v p e steps) h =
-    let before : GoesOn i s u = along i ready numbered s u p h in
-    let after : GoesOn i u v = step_right i ready numbered false false u v (e false) (steps false).step before.right in
-    record { right = after.right; begins = before.begins ∙ after.begins }
-
-pub path_kept : (setting : Setting) (p : PlainChecked) (e : Edited) (r : List PlainRecord) → IsSet setting p e r → (s s' : PlainStrand) → ((kept : List Kept) → AreKept p kept r → HasItsTables (setting_with p e.tables kept r) → IsPathOf (setting_with p e.tables kept r) s s')
-    → s'.layer.kinds ≡ s.layer.kinds → (start : Start) (failed : Bool) → IsHeld setting start failed s → IsHeld setting start failed s'
-path_kept setting p e r set s s' steps kinds start failed h =
-    let goes : (k : Remembers setting) → IsRightBy (recalling setting k) s → GoesOn (recalling setting k) s s' = λ k.
-    along (recalling setting k) (set.ready k) set.numbered s s' (subst (λ (i : Setting). IsPathOf i s s') (set_with setting p e r set k) (steps k.kept (kept_with setting p e r set k) set.names)) in
-    record { kinds = kinds ∙ h.kinds; right = λ n k. (goes k (h.right n k)).right; begins = λ n. h.begins n ∙ (goes set.sound (h.right n set.sound)).begins }
 
 pub failed_kept : (setting : Setting) (start start' : Start) (failed : Bool) (s s' : PlainStrand) → s'.layer.kinds ≡ s.layer.kinds → IsHeld setting start failed s → IsHeld setting start' true s'
 failed_kept setting start start' failed s s' kinds h = record { kinds = kinds ∙ h.kinds; right = λ n. cc; begins = λ n. cc }

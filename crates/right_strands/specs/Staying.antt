@@ -29,7 +29,6 @@ use Rattle.positions.specs.Stands.{StandsFor}
 use Rattle.answered_loops.specs.Ways.{IsWayOf}
 use Rattle.strand_moves.specs.Joins.{HasFault}
 use Rattle.frames.specs.Answers.{ending_of, IsAnswer}
-use Rattle.frames.specs.Paths.{IsPathOf}
 use Rattle.positions.specs.declared.answer.RunAnswer.{RunAnswer}
 use Rattle.numbered_runs.specs.News.{StandForKept}
 use Rattle.strand_list.specs.declared.laid_state.LaidState.{LaidState}
@@ -103,7 +102,7 @@ module _ (setting : Setting) where
     pub begins_whole : (s : PlainStrand) → IsFirst setting s → LeavesAll s
     pub advances : (kit free : Bool) (s t : PlainStrand) → t ≡ advanced setting kit s → IsSmallStep setting free s t → IsRightBy setting s
         → IsRightBy setting t
-    pub runs_ahead : (s t : PlainStrand) → IsPathOf setting s t → IsRightBy setting s → IsRightBy setting t
+    pub runs_ahead : (s t : PlainStrand) → IsWayOf setting s t → IsRightBy setting s → IsRightBy setting t
     pub answers_ahead : (s t : PlainStrand) → IsWayOf setting s t → IsRightBy setting s → IsRightBy setting t
     pub inlines : (s t : PlainStrand) → s.phase ≡ AtSpawn → t ≡ inlined s → IsInlined setting s t → IsRightBy setting s → IsRightBy setting t
     pub detaches : (s t : PlainStrand) (task : PlainTask) → s.phase ≡ AtSpawn → t ≡ detached s → IsDetached setting s t task

@@ -7,7 +7,6 @@ ghost use Rattle.positions.specs.Moves.{inlined, detached, attached, resumed, st
 ghost use Rattle.positions.specs.Simulation.{IsFirst, place_of};
 ghost use Rattle.answered_loops.specs.Ways.{IsWay};
 ghost use Rattle.strand_moves.specs.Joins.{HasFault};
-ghost use Rattle.own_statements.specs.Paths.{IsPath};
 ghost use Rattle.small_steps.specs.Steps.{HoldsFor};
 ghost use Rattle.activations.specs.Waiting.{leaves_none};
 ghost use Rattle.right_strands.specs.Rightness.{FitsHere, IsRightStrand, WasDetached};
@@ -17,6 +16,7 @@ use crate::task::RightTask;
 use frames::strand::Strand;
 use positions::phase::{Paused, Phase};
 use positions::start::Start;
+use running_ahead::spawning::Spawning;
 use std::alloc::{AllocError, Global};
 use std::marker::{Model, PhantomData};
 use view_pool::{Kit, KitSource, View};
@@ -134,15 +134,16 @@ impl<J: Run, V: View> RightStrand<J, V> {
         }
     }
 
-    /// Does small steps for which no kit is needed, some or none; where memory is refused it stops before.
+    /// Does small steps for which no kit is needed, some or none, where spawned children may be made calls; where memory is refused
+    /// it stops before.
     #[inline(always)]
-    pub fn run_ahead(&mut self, alloc: Global, scene: &Scene<'_, J>)
-        ensures path { IsPath J.setting self.old.strand self.new.strand }
+    pub fn run_ahead<S: Spawning>(&mut self, alloc: Global, scene: &Scene<'_, J>, spawning: &mut S)
+        ensures way { IsWay J.setting self.old.strand self.new.strand }
         ensures going { self.new.failed ≡ self.old.failed }
         ensures lower { self.new.strand.lower ≡ self.old.strand.lower }
+        ensures same { spawning.new ≡ spawning.old }
     {
-        self.strand
-            .run_ahead(alloc, scene.program, scene.tables, scene.records);
+        self.strand.run_ahead(alloc, scene.program, scene.tables, scene.records, spawning);
     }
 
     /// Where the topmost instance is a loop's over a memo procedure, has records answer iterations: all those of a half that is halved

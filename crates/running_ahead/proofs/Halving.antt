@@ -10,7 +10,7 @@ use Rattle.positions.specs.Setting.{Setting}
 use Rattle.positions.specs.Activations.{at}
 use Rattle.positions.specs.Strands.{PlainStrand}
 use Rattle.positions.specs.Advance.{with_top, split, halved, second_half, worked, advanced_at}
-use Rattle.own_statements.specs.Paths.{IsNext, here, on}
+use Rattle.answered_loops.specs.Ways.{IsNext, here, on}
 use Rattle.running_ahead.specs.Ahead.{IsAhead}
 
 -- one by one, or halved again
@@ -35,9 +35,9 @@ module _ (setting : Setting) where
       let turns : Bool = k == 0 || nat_le h.count (loop_at setting.codes s.top.procedure l).grain in
       let next : PlainStrand = halved setting.codes l k h s in
       let step : IsNext setting s next = λ kit. sym (ap (λ ph. advanced_at setting kit ph s) running ∙ ap (λ w. worked setting kit w s) there) in
-      subst (λ (u : PlainStrand). IsAhead setting s u) (sym is) (record { path = on s next here step; lower = halving_lower turns l k h s; kinds = halving_kinds turns l k h s; tally = halving_tally turns l k h s })
+      subst (λ (u : PlainStrand). IsAhead setting s u) (sym is) (record { way = on s next here step; lower = halving_lower turns l k h s; kinds = halving_kinds turns l k h s; tally = halving_tally turns l k h s })
 
   pub second_ahead : (l : Loop) (k : ℕ) (h : Share) (s t : PlainStrand) → s.phase ≡ Running → s.top.work ≡ Second l k h → t ≡ second_half l k h s → IsAhead setting s t
   second_ahead l k h s t running there is =
       let step : IsNext setting s (second_half l k h s) = λ kit. sym (ap (λ ph. advanced_at setting kit ph s) running ∙ ap (λ w. worked setting kit w s) there) in
-      subst (λ (u : PlainStrand). IsAhead setting s u) (sym is) (record { path = on s (second_half l k h s) here step; lower = refl; kinds = refl; tally = refl })
+      subst (λ (u : PlainStrand). IsAhead setting s u) (sym is) (record { way = on s (second_half l k h s) here step; lower = refl; kinds = refl; tally = refl })

@@ -43,7 +43,7 @@ module _ (setting : Setting) (site : Loop) (h : Share) (j : PlainLoop) (a : Plai
     next : (s : PlainStrand) (kit : Bool) → evaluated j.number turn_entry (nested_plain j.number Call None (Turns site (rest_of h)) j.callee) (topped Running a l s) ≡ advanced setting kit (topped Running a l s)
     next s kit =
         let x = topped Running a l s in
-        called_plain setting kit j.number None (Turns site (rest_of h)) j.callee (map expression j.arguments) (turn_slots j site h x) x memo
+        called_plain setting kit j.number Call None (Turns site (rest_of h)) j.callee (map expression j.arguments) (turn_slots j site h x) x memo
         ∙ turned_more setting kit site h x j more found ∙ turned_next setting kit site h x refl there
 
     pub turn_back : (v : ℤ) → ComesTo setting true iteration layer_then (Some v) b n → TurnsOn setting a l on_turn n
@@ -52,8 +52,8 @@ module _ (setting : Setting) (site : Loop) (h : Share) (j : PlainLoop) (a : Plai
         let y = record x { layer = m } in
         let w = Turns site (rest_of h) in
         let t = topped Running on_turn n s in
-        enter_ahead setting j.number turn_entry None w j.callee slots x y t filled.0 (ap (λ (k : PlainLayer). record x { layer = k }) filled.1)
-        (child_returns setting None w j.callee slots y j.number deep b n kinds v (home.entry (a.children + 1)) (home.own (a.children + 1)) t come refl)
+        enter_ahead setting j.number turn_entry Call None w j.callee slots x y t filled.0 (ap (λ (k : PlainLayer). record x { layer = k }) filled.1)
+        (child_returns setting Call None w j.callee slots y j.number deep memo b n kinds v (home.entry (a.children + 1)) (home.own (a.children + 1)) t come refl)
         (next s)
 
     pub turn_stays : ComesTo setting true iteration layer_then None b n → (s : PlainStrand) → ComeBack s → IsAhead setting (topped Running a l s) (topped_child b on_turn n s)
@@ -62,6 +62,6 @@ module _ (setting : Setting) (site : Loop) (h : Share) (j : PlainLoop) (a : Plai
         let y = record x { layer = m } in
         let w = Turns site (rest_of h) in
         let t = topped_child b on_turn n s in
-        enter_ahead setting j.number turn_entry None w j.callee slots x y t filled.0 (ap (λ (k : PlainLayer). record x { layer = k }) filled.1)
-        (child_stays setting None w j.callee slots y j.number deep b n kinds t (λ u. home.entry (a.children + 1)) come refl)
+        enter_ahead setting j.number turn_entry Call None w j.callee slots x y t filled.0 (ap (λ (k : PlainLayer). record x { layer = k }) filled.1)
+        (child_stays setting Call None w j.callee slots y j.number deep memo b n kinds t (λ u. home.entry (a.children + 1)) come refl)
         (next s)

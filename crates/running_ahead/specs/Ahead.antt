@@ -1,5 +1,7 @@
 -- A strand that goes ahead by many small steps.
-use Rattle.std.specs.Prelude.{◌≡◌, ◌++◌, ◌∷◌, [], ℕ, Bool, false, length}
+use Rattle.std.specs.Prelude.{◌≡◌, ◌++◌, ◌∷◌, [], ℕ, Bool, true, false, length}
+use Rattle.meaning.specs.declared.tree.Way.{Way}
+use Rattle.meaning.specs.declared.tree.Way.TheVariants.{Call, Spawn}
 use Rattle.positions.specs.declared.phase.Phase.TheVariants.{Running}
 use Rattle.positions.specs.Setting.{Setting}
 use Rattle.positions.specs.Activations.{PlainActivation}
@@ -7,13 +9,15 @@ use Rattle.positions.specs.Layers.{PlainLayer}
 use Rattle.positions.specs.Strands.{PlainStrand, entry_by}
 use Rattle.positions.specs.Tallies.{is_own}
 use Rattle.positions.specs.Advance.{advanced}
-use Rattle.own_statements.specs.Paths.{IsPath, topped}
+use Rattle.own_statements.specs.Paths.{topped}
+use Rattle.answered_loops.specs.Ways.{IsWay}
 use Rattle.running_ahead.specs.declared.came.Came.{Came}
 use Rattle.running_ahead.specs.declared.came.Came.TheVariants.{Nowhere, Back, Stays}
 
--- small steps lead from the one to the other, and the layers below the topmost one, the kinds and what is counted and recorded stay
+-- small steps, and spawned children made calls, lead from the one to the other, and the layers below the topmost one, the kinds and what
+-- is counted and recorded stay
 pub record IsAhead (setting : Setting) (s t : PlainStrand) : Type 0 where
-  pub path : IsPath setting s t
+  pub way : IsWay setting s t
   pub lower : t.lower ≡ s.lower
   pub kinds : t.layer.kinds ≡ s.layer.kinds
   pub tally : t.tally ≡ s.tally
@@ -27,6 +31,11 @@ abbrev pub GoesAheadBy : Setting → (Bool → PlainStrand → PlainStrand) → 
 GoesAheadBy setting meaning s t = ((kit : Bool) → meaning kit s ≡ advanced setting kit s) → IsAhead setting s t
 
 -- ---- an instance that was to be called
+
+-- where it is spawned
+abbrev pub is_spawned : Way → Bool
+is_spawned Call = false
+is_spawned Spawn = true
 
 -- where nothing was done, and else
 abbrev pub CameBy : Came → Type 0 → Type 0 → Type 0

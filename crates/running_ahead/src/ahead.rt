@@ -1,7 +1,6 @@
-//! Many small steps in one go: those for which no kit is needed, and which spawn no instance of a procedure.
+//! Many small steps in one go: those for which no kit is needed. A spawned child is called where it is said so, else it ends them.
 ghost use Rattle.std.specs.Prelude.{◌≡◌, ◌+◌, ◌<◌, ◌^◌, ◌++◌, ◌∷◌, [], ℕ, true, false, length, map, vec_len, vec_capacity};
-ghost use Rattle.meaning.specs.declared.tree.Way.TheVariants.{Call};
-ghost use Rattle.linked_program.specs.CodeView.{expression as plain, slots_of};
+ghost use Rattle.linked_program.specs.CodeView.{expression as plain, slots_of, memo_of};
 ghost use Rattle.evaluation.specs.Values.{entry_at};
 ghost use Rattle.positions.specs.Activations.{ShareFits};
 ghost use Rattle.positions.specs.Setting.{Setting as PlainSetting};
@@ -9,12 +8,13 @@ ghost use Rattle.positions.specs.Strands.{entry_by};
 ghost use Rattle.positions.specs.Tallies.{is_own};
 ghost use Rattle.positions.specs.Advance.{called, evaluated, performed};
 ghost use Rattle.activations.specs.Given.{lent};
-ghost use Rattle.own_statements.specs.Paths.{phase_by};
+ghost use Rattle.own_statements.specs.Paths.{phase_by, MayPass};
 ghost use Rattle.small_steps.specs.Steps.{nested_plain};
-ghost use Rattle.running_ahead.specs.Ahead.{IsAhead, GoesAhead, GoesAheadBy, CameBy};
+ghost use Rattle.running_ahead.specs.Ahead.{IsAhead, GoesAhead, GoesAheadBy, CameBy, is_spawned};
 
 use crate::came::Came;
 use crate::halves::{halves_ahead, second_ahead};
+use crate::spawning::Spawning;
 use crate::turns::turns;
 use activations::activation::{Activation, next_of};
 use activations::code::{instruction, instructions, loop_code};
@@ -36,10 +36,11 @@ use view_pool::View;
 // How many stretches of small steps are done in one go.
 const STRETCHES: u32 = 1024;
 
-/// An instance that is to be called: of that procedure, with those arguments; its value goes into that slot, and the one that calls
-/// it stands at that position then.
+/// An instance that is to be called, which may be a spawned one: of that procedure, with those arguments; its value goes into that slot,
+/// and the one that calls it stands at that position then.
 #[derive(Clone, Copy)]
 struct Callee<'a> {
+    way: Way,
     procedure: usize,
     arguments: &'a [Expression],
     into: Option<usize>,
@@ -48,9 +49,15 @@ struct Callee<'a> {
 
 /// Does small steps of its instances. Where an iteration of a memo procedure is over, and its loop has another one, that is seen at
 /// once.
-pub fn run_ahead<V: View>(machine: &mut Machine<V>, alloc: Global, setting: Setting<'_>)
+pub fn run_ahead<V: View, S: Spawning>(
+    machine: &mut Machine<V>,
+    alloc: Global,
+    setting: Setting<'_>,
+    spawning: &mut S,
+)
     requires kinds { machine.old.layer.kinds ≡ setting.program.now.kinds }
     ensures ahead { IsAhead (lent setting.entry) machine.old machine.new }
+    ensures same { spawning.new ≡ spawning.old }
 {
     if leaves_for_memo(machine, setting) {
         return;
@@ -58,7 +65,7 @@ pub fn run_ahead<V: View>(machine: &mut Machine<V>, alloc: Global, setting: Sett
     if returns_to_record(machine, setting) {
         return;
     }
-    run_on(machine, alloc, setting);
+    run_on(machine, alloc, setting, spawning);
 }
 
 /// The statements of an instance with a layer of its own, where that comes next; whether it does them all by itself, so that its
@@ -113,12 +120,18 @@ fn is_at_memo_turn<V: View>(machine: &Machine<V>, setting: Setting<'_>) -> bool 
 /// Does small steps of its instances, one stretch after another.
 #[inline(never)]
 #[tactic(auto, using(crate::proofs::Paths::ahead_here, crate::proofs::Paths::ahead_join))]
-fn run_on<V: View>(machine: &mut Machine<V>, alloc: Global, setting: Setting<'_>)
+fn run_on<V: View, S: Spawning>(
+    machine: &mut Machine<V>,
+    alloc: Global,
+    setting: Setting<'_>,
+    spawning: &mut S,
+)
     requires kinds { machine.old.layer.kinds ≡ setting.program.now.kinds }
     ensures ahead { IsAhead (lent setting.entry) machine.old machine.new }
+    ensures same { spawning.new ≡ spawning.old }
 {
     for _ in 0..STRETCHES {
-        if !go_ahead(machine, alloc, setting) {
+        if !go_ahead(machine, alloc, setting, spawning) {
             return;
         }
     }
@@ -126,14 +139,23 @@ fn run_on<V: View>(machine: &mut Machine<V>, alloc: Global, setting: Setting<'_>
 
 /// Does small steps of its topmost instance, or of one that this calls; whether there may be more.
 #[tactic(auto, using(crate::proofs::Paths::ahead_here, crate::proofs::Paths::ahead_join))]
-fn go_ahead<V: View>(machine: &mut Machine<V>, alloc: Global, setting: Setting<'_>) -> bool
+fn go_ahead<V: View, S: Spawning>(
+    machine: &mut Machine<V>,
+    alloc: Global,
+    setting: Setting<'_>,
+    spawning: &mut S,
+) -> bool
     requires kinds { machine.old.layer.kinds ≡ setting.program.now.kinds }
     ensures ahead { IsAhead (lent setting.entry) machine.old machine.new }
+    ensures same { spawning.new ≡ spawning.old }
 {
     match machine.phase {
         Phase::Entering => enter_alone(machine, setting),
         Phase::Running => match machine.top.work() {
-            Work::Block(_) | Work::Over => block_ahead(machine, alloc, setting),
+            Work::Block(_) | Work::Over => {
+                let calls = spawning.is_called();
+                block_ahead(machine, alloc, setting, calls)
+            }
             Work::Turns(site, share) => loop_ahead(machine, alloc, setting, site, share),
             Work::Halves(site, halvings, share) => {
                 halves_ahead(machine, alloc, setting, site, halvings, share)
@@ -144,8 +166,23 @@ fn go_ahead<V: View>(machine: &mut Machine<V>, alloc: Global, setting: Setting<'
         },
         Phase::Returning(value) => sync_ahead(machine, value),
         Phase::Leaving(value) => leave_ahead(machine, value),
-        _ => false,
+        Phase::AtSpawn => call_spawned(machine, spawning),
+        Phase::Broken(_) => false,
     }
+}
+
+/// At a spawn: has the child entered as a called one, where it is to be called.
+#[inline(always)]
+fn call_spawned<V: View, S: Spawning>(machine: &mut Machine<V>, spawning: &mut S) -> bool
+    requires at_spawn { machine.old.phase ≡ Phase.AtSpawn }
+    ensures ahead { (setting : PlainSetting) → IsAhead setting machine.old machine.new }
+    ensures same { spawning.new ≡ spawning.old }
+{
+    if !spawning.is_called() {
+        return false;
+    }
+    machine.phase = Phase::Entering;
+    true
 }
 
 /// Enters the topmost instance, where that is a loop's half or of a procedure that isn't marked memo.
@@ -170,17 +207,22 @@ fn enter_alone<V: View>(machine: &mut Machine<V>, setting: Setting<'_>) -> bool
     }
 }
 
-/// What is left of the topmost instance's blocks.
+/// What is left of the topmost instance's blocks; whether spawned children are called in them is said.
 #[inline(always)]
 #[tactic(auto, using(crate::proofs::Paths::ahead_here, crate::proofs::Paths::ahead_join))]
-fn block_ahead<V: View>(machine: &mut Machine<V>, alloc: Global, setting: Setting<'_>) -> bool
+fn block_ahead<V: View>(
+    machine: &mut Machine<V>,
+    alloc: Global,
+    setting: Setting<'_>,
+    calls: bool,
+) -> bool
     requires running { machine.old.phase ≡ Phase.Running }
     requires kinds { machine.old.layer.kinds ≡ setting.program.now.kinds }
     ensures ahead { IsAhead (lent setting.entry) machine.old machine.new }
 {
     match statements_ahead(machine, setting) {
         Some(value) => sync_ahead(machine, value),
-        None => calls_ahead(machine, alloc, setting),
+        None => calls_ahead(machine, alloc, setting, calls),
     }
 }
 
@@ -192,11 +234,11 @@ fn statements_ahead<V: View>(machine: &mut Machine<V>, setting: Setting<'_>) -> 
     ensures ahead { IsAhead (lent setting.entry) machine.old machine.new }
     ensures phase { machine.new.phase ≡ phase_by result }
 {
-    let passes_syncs = !machine.is_entry();
+    let passes = passes_syncs(machine);
     match run(
         &mut machine.layer,
         setting,
-        passes_syncs,
+        passes,
         &mut machine.top,
         &mut machine.numbers,
     ) {
@@ -206,6 +248,14 @@ fn statements_ahead<V: View>(machine: &mut Machine<V>, setting: Setting<'_>) -> 
         }
         None => None,
     }
+}
+
+/// Whether the topmost instance passes syncs: the strand doesn't begin in it.
+#[inline(always)]
+fn passes_syncs<V: View>(machine: &Machine<V>) -> bool
+    ensures passes { MayPass result machine.now }
+{
+    !machine.is_entry()
 }
 
 /// The implicit sync of the topmost instance, whose value that is, where no layer is closed.
@@ -233,16 +283,21 @@ fn leave_ahead<V: View>(machine: &mut Machine<V>, value: i64) -> bool
     true
 }
 
-/// Calls the instance that the topmost one's next statement calls; where that has more to do, the one that its next statement
-/// calls, and so on.
+/// Calls the instance that the topmost one's next statement calls, or spawns where that is called; where it has more to do, the one
+/// that its next statement calls, and so on.
 #[tactic(auto, using(crate::proofs::Paths::ahead_here, crate::proofs::Paths::ahead_join))]
-fn calls_ahead<V: View>(machine: &mut Machine<V>, alloc: Global, setting: Setting<'_>) -> bool
+fn calls_ahead<V: View>(
+    machine: &mut Machine<V>,
+    alloc: Global,
+    setting: Setting<'_>,
+    calls: bool,
+) -> bool
     requires running { machine.old.phase ≡ Phase.Running }
     requires kinds { machine.old.layer.kinds ≡ setting.program.now.kinds }
     ensures ahead { IsAhead (lent setting.entry) machine.old machine.new }
 {
     for _ in 0..DEEPEST {
-        match call_ahead(machine, alloc, setting) {
+        match call_ahead(machine, alloc, setting, calls) {
             Came::Nowhere => return false,
             Came::Back => return true,
             Came::Stays => {}
@@ -251,9 +306,15 @@ fn calls_ahead<V: View>(machine: &mut Machine<V>, alloc: Global, setting: Settin
     true
 }
 
-/// The topmost instance's next statement, where that calls an instance of a procedure that isn't marked memo.
+/// The topmost instance's next statement, where that calls an instance of a procedure that isn't marked memo, or spawns one that is
+/// called.
 #[inline(always)]
-fn call_ahead<V: View>(machine: &mut Machine<V>, alloc: Global, setting: Setting<'_>) -> Came
+fn call_ahead<V: View>(
+    machine: &mut Machine<V>,
+    alloc: Global,
+    setting: Setting<'_>,
+    calls: bool,
+) -> Came
     requires running { machine.old.phase ≡ Phase.Running }
     requires kinds { machine.old.layer.kinds ≡ setting.program.now.kinds }
     ensures ahead { IsAhead (lent setting.entry) machine.old machine.new }
@@ -266,19 +327,23 @@ fn call_ahead<V: View>(machine: &mut Machine<V>, alloc: Global, setting: Setting
             machine.top.depth(),
             position,
         ) {
-            Some(instruction) => enter_ahead(machine, alloc, setting, position, instruction),
+            Some(instruction) => {
+                enter_ahead(machine, alloc, setting, calls, position, instruction)
+            }
             None => Came::Nowhere,
         },
         _ => Came::Nowhere,
     }
 }
 
-/// Does the statement at that position, where it calls an instance of a procedure that isn't marked memo.
+/// Does the statement at that position, where it calls an instance of a procedure that isn't marked memo, or spawns one that is
+/// called.
 #[inline(always)]
 fn enter_ahead<V: View>(
     machine: &mut Machine<V>,
     alloc: Global,
     setting: Setting<'_>,
+    calls: bool,
     position: Position,
     instruction: &Instruction,
 ) -> Came
@@ -293,43 +358,52 @@ fn enter_ahead<V: View>(
         Operation::Enter(into, way, callee, arguments) => {
             let arguments = arguments.as_slice();
             let callee = Callee {
+                way: *way,
                 procedure: *callee,
                 arguments,
                 into: *into,
                 next: next_of(position),
             };
-            enter_by(machine, alloc, setting, instruction.number, *way, callee)
+            enter_by(machine, alloc, setting, calls, instruction.number, callee)
         }
         _ => Came::Nowhere,
     }
 }
 
-/// Calls an instance, where its procedure isn't marked memo, and does its statements.
+/// Calls an instance, where its procedure isn't marked memo and it isn't spawned, or is called then, and does its statements.
 #[inline(always)]
 fn enter_by<V: View>(
     machine: &mut Machine<V>,
     alloc: Global,
     setting: Setting<'_>,
+    calls: bool,
     statement: u32,
-    way: Way,
     callee: Callee<'_>,
 ) -> Came
     requires kinds { machine.old.layer.kinds ≡ setting.program.now.kinds }
     requires running { machine.old.phase ≡ Phase.Running }
     ensures ahead { GoesAheadBy (lent setting.entry)
-        (λ kit. called (lent setting.entry) kit statement way callee.entry.into (Work.Block callee.entry.next) callee.entry.procedure
+        (λ kit. called (lent setting.entry) kit statement callee.entry.way callee.entry.into (Work.Block callee.entry.next) callee.entry.procedure
         (map plain callee.entry.arguments.now) machine.old.top.slots) machine.old machine.new }
     ensures running { machine.new.phase ≡ Phase.Running }
 {
+    if setting.program.is_memo(callee.procedure) {
+        return Came::Nowhere;
+    }
+    if is_spawn(callee.way) && !calls {
+        return Came::Nowhere;
+    }
+    enter_plain_ahead(machine, alloc, setting, statement, callee)
+}
+
+/// Whether an instance that is entered so is spawned.
+#[inline(always)]
+fn is_spawn(way: Way) -> bool
+    ensures spawn { result ≡ is_spawned way }
+{
     match way {
-        Way::Call => {
-            if setting.program.is_memo(callee.procedure) {
-                Came::Nowhere
-            } else {
-                enter_plain_ahead(machine, alloc, setting, statement, callee)
-            }
-        }
-        Way::Spawn => Came::Nowhere,
+        Way::Call => false,
+        Way::Spawn => true,
     }
 }
 
@@ -344,10 +418,11 @@ fn enter_plain_ahead<V: View>(
 ) -> Came
     requires kinds { machine.old.layer.kinds ≡ setting.program.now.kinds }
     requires running { machine.old.phase ≡ Phase.Running }
+    requires plain { memo_of setting.program.now.codes callee.procedure ≡ false }
     ensures ahead { GoesAhead (lent setting.entry)
         (evaluated statement (entry_at setting.entry.tables.now.tables machine.old.top.slots
         (slots_of setting.entry.program.now.codes callee.entry.procedure) (map plain callee.entry.arguments.now))
-        (nested_plain statement Call callee.entry.into (Work.Block callee.entry.next) callee.entry.procedure)) machine.old machine.new }
+        (nested_plain statement callee.entry.way callee.entry.into (Work.Block callee.entry.next) callee.entry.procedure)) machine.old machine.new }
     ensures running { machine.new.phase ≡ Phase.Running }
 {
     match child_ahead(machine, alloc, setting, callee) {
@@ -368,11 +443,12 @@ fn child_ahead<V: View>(
 ) -> Came
     requires kinds { machine.old.layer.kinds ≡ setting.program.now.kinds }
     requires running { machine.old.phase ≡ Phase.Running }
+    requires plain { memo_of setting.program.now.codes callee.procedure ≡ false }
     ensures came { CameBy result (machine.new ≡ machine.old)
         ((statement : ℕ) → GoesAhead (lent setting.entry)
         (evaluated statement (entry_at setting.entry.tables.now.tables machine.old.top.slots
         (slots_of setting.entry.program.now.codes callee.entry.procedure) (map plain callee.entry.arguments.now))
-        (nested_plain statement Call callee.entry.into (Work.Block callee.entry.next) callee.entry.procedure)) machine.old machine.new) }
+        (nested_plain statement callee.entry.way callee.entry.into (Work.Block callee.entry.next) callee.entry.procedure)) machine.old machine.new) }
     ensures running { machine.new.phase ≡ Phase.Running }
 {
     let left = machine.top.left();
@@ -396,7 +472,9 @@ fn child_ahead<V: View>(
     ) {
         return Came::Nowhere;
     }
-    machine.top.wait_at(callee.into, callee.next);
+    machine
+        .top
+        .wait_at(is_spawn(callee.way), callee.into, callee.next);
     let body = instructions(setting.program, callee.procedure, 0, 0);
     match call(
         &mut machine.layer,

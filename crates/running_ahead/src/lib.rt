@@ -4,4 +4,5 @@
 pub mod ahead;
 pub mod came;
 mod halves;
+pub mod spawning;
 pub mod turns;

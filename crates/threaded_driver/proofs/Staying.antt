@@ -29,9 +29,7 @@ use Rattle.positions.specs.Code.{instruction_inside, PlainLoop, loop_at}
 use Rattle.positions.specs.Strands.{PlainStrand, is_entry}
 use Rattle.positions.specs.Advance.{with_top, noted, answered, evaluated, recalled, answer_for, started_as, started_by, pushed, child_of, with_arguments, entered, nested, nested_memo, called_as, binding, if_named, combining, choosing, looping, giving, left_of, right_of, split, second_half, turn_slots, rest_of, turn_by, left_to, closed, owns_top, synced, performed, gone_by, worked, advanced_at, advanced}
 use Rattle.stealing_deques.specs.declared.entry.Spot.{Spot}
-use Rattle.answered_loops.specs.Ways as ways
-use Rattle.answered_loops.specs.Ways.{IsWay}
-use Rattle.own_statements.specs.Paths.{IsPath, here, on}
+use Rattle.answered_loops.specs.Ways.{IsWay, here, on, as_call}
 use Rattle.stealing_deques.specs.Order.{spot}
 use Rattle.worker_seats.specs.Spots.{numbers_of, lowest_name, spot_of}
 use Rattle.threaded_driver.proofs.Names.{under, above}
@@ -148,13 +146,8 @@ module _ (there : Spot) where
 pub stays : (setting : Setting) (kit : Bool) (s : PlainStrand) → spot_of (advanced setting kit s) ≡ spot_of s
 stays setting kit s = advanced_there (spot_of s) setting kit s.phase s refl
 
--- so do many
-pub stays_along : (setting : Setting) (s t : PlainStrand) → IsPath setting s t → spot_of t ≡ spot_of s
-stays_along setting s t here = refl
-stays_along setting s t (on u v p e) = ap spot_of (e false) ∙ stays setting false u ∙ stays_along setting s u p
-
--- so do many where spawned children may be made calls
+-- so do many, where spawned children may be made calls
 pub stays_way : (setting : Setting) (s t : PlainStrand) → IsWay setting s t → spot_of t ≡ spot_of s
-stays_way setting s t ways.here = refl
-stays_way setting s t (ways.on u v p e) = ap spot_of (e false) ∙ stays setting false u ∙ stays_way setting s u p
-stays_way setting s t (ways.as_call u v p spawn e) = ap spot_of e ∙ stays_way setting s u p
+stays_way setting s t here = refl
+stays_way setting s t (on u v p e) = ap spot_of (e false) ∙ stays setting false u ∙ stays_way setting s u p
+stays_way setting s t (as_call u v p spawn e) = ap spot_of e ∙ stays_way setting s u p

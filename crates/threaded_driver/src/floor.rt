@@ -24,6 +24,7 @@ use crate::bell::Bell;
 use crate::desk::{Desk, Parts};
 use crate::found::Found;
 use crate::gate::{Gate, Point};
+use crate::spawned::Spawned;
 use crossbeam_utils::CachePadded;
 use input_tables::Tables;
 use linked_program::checked::Checked;
@@ -191,7 +192,7 @@ impl<J: Run + Ledger + Stocked + Send, D: Deques, V: View> Floor<'_, J, D, V> {
         ensures bound { result ≡ true → IsBoundTo seat.new.here (spot_of strand.new.strand) }
         ensures kits { kits_of strand.new.strand + supply.new.free ≡ most }
     {
-        match self.take_steps(number, strand, supply, gate) {
+        match self.take_steps(number, seat, strand, supply, gate) {
             Ok(Paused::Working) => !self.has_given_up(),
             Ok(Paused::AtSpawn) => self.spawn(number, seat, strand, gate),
             Ok(Paused::Returned) => self.resume(rt, number, seat, strand, gate),
@@ -205,6 +206,7 @@ impl<J: Run + Ledger + Stocked + Send, D: Deques, V: View> Floor<'_, J, D, V> {
     fn take_steps<R: Wait, G: Gate>(
         &self,
         number: usize,
+        seat: &mut Seat<J, D>,
         strand: &mut RightStrand<J, V>,
         supply: &mut Supply<'_, Desk<J, D, V>, Kit<V>, KitsOf<J>, R>,
         gate: &G,
@@ -214,13 +216,14 @@ impl<J: Run + Ledger + Stocked + Send, D: Deques, V: View> Floor<'_, J, D, V> {
         ensures spot { OnOk result (spot_of strand.new.strand ≡ spot_of strand.old.strand) }
         ensures returned { IfOk result
             (λ paused. paused ≡ Paused.Returned → HasReturned strand.new.strand) }
+        ensures seat { seat.new ≡ seat.old }
     {
         supply.begin();
         let is_watched = gate.watches_updates();
         let is_alone = self.is_alone.load(Ordering::Relaxed);
         let steps = if is_alone { FEW } else { STEPS };
         for _ in 0..steps {
-            self.steps_ahead(number, is_watched, is_alone, strand, gate)?;
+            self.steps_ahead(number, is_watched, is_alone, seat, strand, gate)?;
             match strand.advance(self.alloc, &self.scene, supply)? {
                 Paused::Working => {}
                 paused => return Ok(paused),
@@ -229,15 +232,18 @@ impl<J: Run + Ledger + Stocked + Send, D: Deques, V: View> Floor<'_, J, D, V> {
         Ok(Paused::Working)
     }
 
-    /// Small steps that need no kit, where others work too: they may take long.
+    /// Small steps that need no kit, where others work too: they may take long. Spawned children are called where the worker's deque
+    /// holds enough.
     #[inline(always)]
-    #[tactic(auto, using(crate::proofs::Staying::stays_along))]
-    fn run_ahead(&self, is_alone: bool, strand: &mut RightStrand<J, V>)
+    #[tactic(auto, using(crate::proofs::Staying::stays_way))]
+    fn run_ahead(&self, is_alone: bool, seat: &mut Seat<J, D>, strand: &mut RightStrand<J, V>)
         ensures spot { spot_of strand.new.strand ≡ spot_of strand.old.strand }
         ensures lower { strand.new.strand.lower ≡ strand.old.strand.lower }
+        ensures seat { seat.new ≡ seat.old }
     {
         if !is_alone {
-            strand.run_ahead(self.alloc, &self.scene);
+            let mut spawned = Spawned::new(seat.holds_enough());
+            strand.run_ahead(self.alloc, &self.scene, &mut spawned);
         }
     }
 
@@ -250,11 +256,13 @@ impl<J: Run + Ledger + Stocked + Send, D: Deques, V: View> Floor<'_, J, D, V> {
         number: usize,
         is_watched: bool,
         is_alone: bool,
+        seat: &mut Seat<J, D>,
         strand: &mut RightStrand<J, V>,
         gate: &G,
     ) -> Result<(), AllocError>
         ensures spot { OnOk result (spot_of strand.new.strand ≡ spot_of strand.old.strand) }
         ensures lower { strand.new.strand.lower ≡ strand.old.strand.lower }
+        ensures seat { seat.new ≡ seat.old }
     {
         if is_watched {
             if strand.at_update(&self.scene) {
@@ -262,13 +270,13 @@ impl<J: Run + Ledger + Stocked + Send, D: Deques, V: View> Floor<'_, J, D, V> {
             }
             return Ok(());
         }
-        self.run_ahead(is_alone, strand);
+        self.run_ahead(is_alone, seat, strand);
         let _ = strand.answer_ahead(self.alloc, &self.scene)?;
         Ok(())
     }
 
-    /// At a spawn: puts the continuation off and goes on with the child, or makes the child a call where there is no room for
-    /// that. Whether the strand goes on: not where the run has given up.
+    /// At a spawn: puts the continuation off and goes on with the child, or makes the child a call where the deque holds enough or
+    /// there is no room. Whether the strand goes on: not where the run has given up.
     fn spawn<G: Gate>(
         &self,
         number: usize,
@@ -285,11 +293,33 @@ impl<J: Run + Ledger + Stocked + Send, D: Deques, V: View> Floor<'_, J, D, V> {
         }
         match strand.phase() {
             Phase::AtSpawn => {
-                self.push(number, seat, strand, gate);
+                self.call_or_push(number, seat, strand, gate);
                 true
             }
             _ => false,
         }
+    }
+
+    /// Makes the child of a strand that is at a spawn a call where the deque holds enough, else pushes the continuation.
+    #[inline(always)]
+    fn call_or_push<G: Gate>(
+        &self,
+        number: usize,
+        seat: &mut Seat<J, D>,
+        strand: &mut RightStrand<J, V>,
+        gate: &G,
+    )
+        requires going { strand.old.failed ≡ false }
+        requires at_spawn { strand.old.strand.phase ≡ Phase.AtSpawn }
+        requires bound { IsBoundTo seat.old.here (spot_of strand.old.strand) }
+        ensures bound { IsBoundTo seat.new.here (spot_of strand.new.strand) }
+        ensures lower { strand.new.strand.lower ≡ strand.old.strand.lower }
+    {
+        if seat.holds_enough() {
+            strand.inline();
+            return;
+        }
+        self.push(number, seat, strand, gate);
     }
 
     /// Pushes the continuation of a strand that is at a spawn. It takes no lock.

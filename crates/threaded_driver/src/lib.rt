@@ -9,6 +9,7 @@ mod found;
 pub mod gate;
 mod life;
 pub mod run;
+mod spawned;
 
 pub use floor::{Floor, PlainFloor};
 pub use gate::{Gate, NoGate, Point};

@@ -11,6 +11,10 @@ use std::marker::Model;
 use std::sync::ledger::{Book as Count, Ledger, Share};
 use stealing_deques::{Deques, OwnerEnd, Spot, ThiefEnd};
 
+/// How many continuations a deque holds at most. The oldest are the largest pieces of a worker's work: as long as nobody takes one of
+/// these, nobody needs more of them, and a call costs less than a push and a pop. Where thieves take some, more are pushed.
+const MOST: usize = 4;
+
 /// What contracts see of a seat: how often its worker has left, and the spot that its deque is bound to, if it is bound to one.
 pub struct PlainSeat {
     pub left: u64,
@@ -78,6 +82,13 @@ impl<J: Run + Ledger + Send, D: Deques> Seat<J, D> {
             Some(waiting) => Some(waiting.task),
             None => None,
         }
+    }
+
+    /// Whether the deque holds enough, so that a spawned child is called.
+    pub fn holds_enough(&mut self) -> bool
+        ensures same { self.new ≡ self.old }
+    {
+        self.owner.held_count() >= MOST
     }
 
     /// Unbinds the seat from where its worker has come to, where all that was pushed was taken, as the thieves' end of the deque counts:

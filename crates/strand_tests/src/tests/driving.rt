@@ -8,6 +8,7 @@ use linked_program::checked::Checked;
 use positions::phase::{Paused, Phase};
 use rerun_records::records::Records;
 use rules_theory::checked_programs_keep_the_rules;
+use running_ahead::spawning::Spawning;
 use std::alloc::Global;
 use std::process::Abort;
 use strand_moves::task::Task;
@@ -63,13 +64,27 @@ pub fn begin(
 }
 
 /// What becomes of a spawned child: it is a call; it is one after its parent was taken out and put back; it runs alone, and then its
-/// parent goes on; or it is a call of a strand that does what it can in one go before each small step.
+/// parent goes on; or it is a call of a strand that does what it can in one go before each small step, and ends that at each spawn, or
+/// calls the child within it.
 #[derive(Clone, Copy)]
 pub enum Child {
     Called,
     PutBack,
     Alone,
     Ahead,
+    AllAhead,
+}
+
+/// Whether each spawned child is called within what is done in one go.
+#[derive(Drop)]
+struct Spawns {
+    called: bool,
+}
+
+impl Spawning for Spawns {
+    fn is_called(&mut self) -> bool {
+        self.called
+    }
 }
 
 /// The continuation at a spawn; there has to be one.
@@ -99,10 +114,13 @@ fn go_ahead(
     ensures kinds { strand.new.layer.kinds ≡ strand.old.layer.kinds }
     ensures lower { strand.new.lower ≡ strand.old.lower }
 {
-    if let Child::Ahead = child {
-        let records = Records::new(alloc);
-        strand.run_ahead(alloc, program, tables, &records);
-    }
+    let called = match child {
+        Child::Ahead => false,
+        Child::AllAhead => true,
+        _ => return,
+    };
+    let records = Records::new(alloc);
+    strand.run_ahead(alloc, program, tables, &records, &mut Spawns { called });
 }
 
 /// At a spawn: the child goes that way.
@@ -118,7 +136,7 @@ fn spawn(
 {
     if let Phase::AtSpawn = strand.phase() {
         match child {
-            Child::Called | Child::Ahead => strand.inline(),
+            Child::Called | Child::Ahead | Child::AllAhead => strand.inline(),
             Child::PutBack => {
                 let parent = strand.detach(alloc);
                 strand.attach(parent);

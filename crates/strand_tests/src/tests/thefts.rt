@@ -236,6 +236,7 @@ fn all_answer(rt: &impl Abort, alloc: Global, program: &Checked, tables: &Tables
         agrees(rt, alloc, input, row, thefts, Child::PutBack);
         agrees(rt, alloc, input, row, thefts, Child::Alone);
         agrees(rt, alloc, input, row, thefts, Child::Ahead);
+        agrees(rt, alloc, input, row, thefts, Child::AllAhead);
     }
 }
 

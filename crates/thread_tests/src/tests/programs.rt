@@ -13,8 +13,8 @@ proc one(i) { update total i; }
 proc main() { cilk_for i in 0 .. 16 : one(i); t = read total; return t; }
 ";
 
-/// Each level is a loop whose first iteration enters the next level, so that all that is behind it stands in the deque: eight
-/// continuations for each of 255 levels.
+/// Each level is a loop whose first iteration enters the next level, so that all that is behind it waits: eight continuations for each
+/// of 255 levels.
 pub const LEVELS: &str = "reducer total : add;
 proc level(i, n) {
   if i == 0 { if n > 0 { cilk_for j in 0 .. 256 : level(j, n - 1); } } else { update total 1; }

@@ -1,0 +1,30 @@
+//! What becomes of spawned children within small steps that are done in one go.
+use running_ahead::spawning::Spawning;
+use std::cell::Cell;
+
+/// How many of them are called before the worker looks at its deque again: thieves may have taken what that held.
+const MANY: u32 = 16;
+
+/// How many of them are still called.
+#[derive(Drop)]
+pub(crate) struct Spawned {
+    left: Cell<u32>,
+}
+
+impl Spawned {
+    /// None, or some where the deque holds enough.
+    pub(crate) fn new(holds_enough: bool) -> Spawned {
+        let left = if holds_enough { MANY } else { 0 };
+        Spawned {
+            left: Cell::new(left),
+        }
+    }
+}
+
+impl Spawning for Spawned {
+    fn is_called(&mut self) -> bool {
+        let left = self.left.get();
+        self.left.set(left.saturating_sub(1));
+        left > 0
+    }
+}
