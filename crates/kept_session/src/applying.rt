@@ -112,6 +112,8 @@ fn note_before(records: &mut IndexedRecords, tables: &Tables, name: &str, row: i
     match tables.table(name) {
         None => None,
         Some(number) => {
+            // What edits are found by may take memory, so it is made before anything has changed.
+            records.cover();
             records.row_before(tables, number, row);
             Some(number)
         }

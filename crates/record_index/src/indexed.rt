@@ -133,6 +133,15 @@ impl IndexedRecords {
         Ok(())
     }
 
+    /// Makes the hulls that records lack by which edits find them, as far as memory isn't refused. Only edits ask for them, so records are
+    /// put in without: a run behind which there is no edit doesn't pay for them.
+    #[inline(always)]
+    pub fn cover(&mut self)
+        ensures same { self.new ≡ self.old }
+    {
+        self.records.cover();
+    }
+
     /// Makes blocks of the records, as `gathered_records` does, and the hulls by which edits find them.
     pub fn gather(&mut self, alloc: Global, program: &Checked)
         requires monoids { All IsMonoid program.now.kinds }
@@ -155,7 +164,7 @@ impl IndexedRecords {
     }
 
     /// Brings the records' numbers up to date after a row of the table of that number was changed, which `row_before` has noted. It takes
-    /// no memory but for hulls that the records lack, and is never refused.
+    /// no memory, and is never refused.
     pub fn row_changed(&mut self, tables: &Tables, table: usize, row: i64)
         requires beside { (self.old.records ≡ [])
             ⊎ (IsBeside tables.now.tables table row self.old.was × (length self.old.was.sums < self.old.room)) }

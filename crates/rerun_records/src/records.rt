@@ -477,19 +477,9 @@ impl Records {
     }
 
     /// Tells the records that the row of the table of that number was changed, each given by its number: these readings the tables don't
-    /// hold any more, and those they hold again. It passes over most of the records that haven't read the row, and takes no memory but
-    /// for hulls that they lack, without which it does where memory is refused.
+    /// hold any more, and those they hold again. It goes by the hulls that there are, passes over most of the records that haven't read
+    /// the row, and takes no memory.
     pub fn tell(&mut self, change: &(usize, i64), lost: &[Note], won: &[Note])
-        requires rest { every (λ n. not (is_apart (change.now ∷ []) n)) (lost.now ++ won.now) ≡ true }
-        ensures told { self.new ≡ map (told_by lost.now won.now) self.old }
-        ensures same { map as_made self.new ≡ map as_made self.old }
-    {
-        self.cover();
-        self.tell_covered(change, lost, won);
-    }
-
-    // Tells the records so, by the hulls that there are. It takes no memory.
-    fn tell_covered(&mut self, change: &(usize, i64), lost: &[Note], won: &[Note])
         requires rest { every (λ n. not (is_apart (change.now ∷ []) n)) (lost.now ++ won.now) ≡ true }
         ensures told { self.new ≡ map (told_by lost.now won.now) self.old }
         ensures same { map as_made self.new ≡ map as_made self.old }

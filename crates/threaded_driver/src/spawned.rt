@@ -2,10 +2,10 @@
 use running_ahead::spawning::Spawning;
 use std::cell::Cell;
 
-/// How many of them are called before the worker looks at its deque again: thieves may have taken what that held.
+/// How often a strand is told that they are called before its worker looks at its deque again: thieves may have taken what that held.
 const MANY: u32 = 16;
 
-/// How many of them are still called.
+/// How often it is still told so. It asks before a stretch of statements, which may have one spawn or none.
 #[derive(Drop)]
 pub(crate) struct Spawned {
     left: Cell<u32>,

@@ -4,7 +4,7 @@ use Rattle.std.proofs.lemmas.List.{with_items_is}
 use Rattle.rerun_records.specs.Record.{as_made}
 use Rattle.rerun_records.specs.Numbers.{numbers_then}
 use Rattle.rerun_records.proofs.WithNumbers.{told_so, same_without_numbers}
-use Rattle.rerun_records.proofs.records.Records.tell_covered.Goals as goal
+use Rattle.rerun_records.proofs.records.Records.tell.Goals as goal
 
 pub returns-clause-told : goal.returns-clause-told
 returns-clause-told c =
