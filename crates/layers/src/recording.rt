@@ -57,6 +57,7 @@ impl Model for Opened {
 
 impl Opened {
     /// An instance of that procedure with these arguments, which are copied; refused for want of memory alone.
+    #[inline(always)]
     pub fn new(
         alloc: Global,
         procedure: usize,
