@@ -162,6 +162,7 @@ fn run_block<'a, V: View>(
         }
         match perform_alone(layer, setting, passes_syncs, position, statement, top) {
             Did::Next => index += 1,
+            Did::Passed(_) => index += 1,
             Did::Moved => return ran_to(setting, top),
             Did::Nothing => {
                 top.stand(position);

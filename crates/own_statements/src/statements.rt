@@ -1,11 +1,11 @@
 //! The statements that an instance does by itself: they enter no other instance.
-ghost use Rattle.std.specs.Prelude.{◌≡◌, ◌+◌, ◌<◌, ◌^◌, if◌then◌else◌};
-ghost use Rattle.linked_program.specs.CodeView.{expression as plain};
+ghost use Rattle.std.specs.Prelude.{◌≡◌, ◌+◌, ◌<◌, ◌^◌, None, true, if◌then◌else◌};
+ghost use Rattle.linked_program.specs.CodeView.{expression as plain, instruction_at};
 ghost use Rattle.evaluation.specs.Values.{value_at};
 ghost use Rattle.positions.specs.Strands.{is_entry};
 ghost use Rattle.positions.specs.Advance.{evaluated, binding, choosing, giving, moved_on, performed};
 ghost use Rattle.activations.specs.Given.{lent};
-ghost use Rattle.own_statements.specs.Paths.{Does, OnNext, IsInBlock};
+ghost use Rattle.own_statements.specs.Paths.{Does, OnNext, OnPassed, PassesNone, IsInBlock};
 
 use crate::found::{given_at_once, value_at_once};
 use activations::activation::Activation;
@@ -13,16 +13,19 @@ use activations::setting::Setting;
 use evaluation::slot::Slot;
 use input_tables::Tables;
 use layers::layer::Layer;
+use linked_program::checked::Checked;
 use linked_program::code::{Expression, Instruction, Operation};
 use positions::work::Position;
 use view_pool::View;
 
 /// What was done of a statement or a stretch of them: nothing; all of it, and the next statement of the block is next; all of it,
-/// and the instance goes on elsewhere; all of it, which gave that value back.
+/// and so it is behind that block inside, in which there is nothing; all of it, and the instance goes on elsewhere; all of it, which
+/// gave that value back.
 #[derive(Clone, Copy)]
 pub enum Did {
     Nothing,
     Next,
+    Passed(usize),
     Moved,
     Gave(i64),
 }
@@ -49,6 +52,7 @@ pub fn perform_alone<V: View>(
     requires kinds { layer.old.kinds ≡ setting.program.now.kinds }
     ensures done { Does passes_syncs position (λ kit. performed
         (lent setting.entry) kit position instruction.now.number instruction.now.operation) top.old layer.old result top.new layer.new }
+    ensures empty { OnPassed result (λ block. instruction_at setting.entry.program.now.codes top.old.procedure block 0 ≡ None) }
     ensures same_block { OnNext result (IsInBlock top.old top.new) }
     ensures kinds { layer.new.kinds ≡ layer.old.kinds }
 {
@@ -60,7 +64,7 @@ pub fn perform_alone<V: View>(
     match &instruction.operation {
         Operation::Bind(name, value) => { bind(layer, setting.tables, here, *name, value, top) }
         Operation::If(condition, first, second) => {
-            choose(layer, setting.tables, here, condition, *first, *second, top)
+            choose(layer, setting, here, condition, *first, *second, top)
         }
         Operation::Return(value) => { give(layer, setting.tables, here, value, top) }
         Operation::Sync => pass_sync(layer, passes_syncs, position, top),
@@ -78,6 +82,7 @@ fn pass_sync<V: View>(
 ) -> Did
     requires room { position.index + 1 < 2 ^ 64 }
     ensures done { Does passes_syncs position (λ kit s. if is_entry s then s else moved_on position s) top.old layer.old result top.new layer.new }
+    ensures passes { PassesNone result }
     ensures same_block { OnNext result (IsInBlock top.old top.new) }
     ensures kinds { layer.new.kinds ≡ layer.old.kinds }
 {
@@ -103,6 +108,7 @@ fn bind<V: View>(
     requires room { here.position.index + 1 < 2 ^ 64 }
     ensures done { Does here.passes_syncs here.position (λ kit. evaluated here.statement (value_at tables.now.tables top.old.slots (plain expression.now))
         (binding here.position name)) top.old layer.old result top.new layer.new }
+    ensures passes { PassesNone result }
     ensures same_block { OnNext result (IsInBlock top.old top.new) }
     ensures kinds { layer.new.kinds ≡ layer.old.kinds }
 {
@@ -128,6 +134,7 @@ fn bind_evaluated<V: View>(
     requires room { here.position.index + 1 < 2 ^ 64 }
     ensures done { Does here.passes_syncs here.position (λ kit. evaluated here.statement (value_at tables.now.tables top.old.slots (plain expression.now))
         (binding here.position name)) top.old layer.old result top.new layer.new }
+    ensures passes { PassesNone result }
     ensures same_block { OnNext result (IsInBlock top.old top.new) }
     ensures kinds { layer.new.kinds ≡ layer.old.kinds }
 {
@@ -144,11 +151,11 @@ fn bind_evaluated<V: View>(
     }
 }
 
-/// Goes into one of two blocks by a condition.
+/// Goes into one of two blocks by a condition. A second one in which there is nothing, as where an `if` has no `else`, is passed by.
 #[inline(always)]
 fn choose<V: View>(
     layer: &mut Layer<V>,
-    tables: &Tables,
+    setting: Setting<'_>,
     here: Here,
     condition: &Expression,
     first: usize,
@@ -156,21 +163,33 @@ fn choose<V: View>(
     top: &mut Activation,
 ) -> Did
     requires room { here.position.index + 1 < 2 ^ 64 }
-    ensures done { Does here.passes_syncs here.position (λ kit. evaluated here.statement (value_at tables.now.tables top.old.slots (plain condition.now))
+    ensures done { Does here.passes_syncs here.position (λ kit. evaluated here.statement (value_at setting.entry.tables.now.tables top.old.slots (plain condition.now))
         (choosing here.position first second)) top.old layer.old result top.new layer.new }
+    ensures empty { OnPassed result (λ block. instruction_at setting.entry.program.now.codes top.old.procedure block 0 ≡ None) }
     ensures same_block { OnNext result (IsInBlock top.old top.new) }
     ensures kinds { layer.new.kinds ≡ layer.old.kinds }
 {
-    match value_at_once(layer, condition, top.slots(), tables) {
+    match value_at_once(layer, condition, top.slots(), setting.tables) {
         Some(value) => {
+            if value == 0 && is_empty(setting.program, top.procedure(), second) {
+                return Did::Passed(second);
+            }
             let block = if value == 0 { second } else { first };
             if top.go_inside(block, here.position).is_err() {
                 return Did::Nothing;
             }
             Did::Moved
         }
-        None => choose_evaluated(layer, tables, here, condition, first, second, top),
+        None => choose_evaluated(layer, setting.tables, here, condition, first, second, top),
     }
+}
+
+/// Whether there is nothing in a block of a procedure.
+#[inline(always)]
+fn is_empty(program: &Checked, procedure: usize, block: usize) -> bool
+    ensures empty { result ≡ true → instruction_at program.now.codes procedure block 0 ≡ None }
+{
+    program.instruction(procedure, block, 0).is_none()
 }
 
 /// Goes into one of two blocks by whatever condition.
@@ -187,6 +206,7 @@ fn choose_evaluated<V: View>(
     requires room { here.position.index + 1 < 2 ^ 64 }
     ensures done { Does here.passes_syncs here.position (λ kit. evaluated here.statement (value_at tables.now.tables top.old.slots (plain condition.now))
         (choosing here.position first second)) top.old layer.old result top.new layer.new }
+    ensures passes { PassesNone result }
     ensures same_block { OnNext result (IsInBlock top.old top.new) }
     ensures kinds { layer.new.kinds ≡ layer.old.kinds }
 {
@@ -218,6 +238,7 @@ fn give<V: View>(
 ) -> Did
     ensures done { Does here.passes_syncs here.position (λ kit. evaluated here.statement
         (value_at tables.now.tables top.old.slots (plain expression.now)) giving) top.old layer.old result top.new layer.new }
+    ensures passes { PassesNone result }
     ensures same_block { OnNext result (IsInBlock top.old top.new) }
     ensures kinds { layer.new.kinds ≡ layer.old.kinds }
 {
@@ -238,6 +259,7 @@ fn give_evaluated<V: View>(
 ) -> Did
     ensures done { Does here.passes_syncs here.position (λ kit. evaluated here.statement
         (value_at tables.now.tables top.old.slots (plain expression.now)) giving) top.old layer.old result top.new layer.new }
+    ensures passes { PassesNone result }
     ensures same_block { OnNext result (IsInBlock top.old top.new) }
     ensures kinds { layer.new.kinds ≡ layer.old.kinds }
 {

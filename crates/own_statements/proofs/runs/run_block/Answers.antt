@@ -1,24 +1,24 @@
-use Rattle.std.proofs.Common.{rules, ◌≡◌, ◌∙◌, ◌<◌, ◌≤◌, ℤ, Bool, true, false, if◌then◌else◌, Some, None, length, map, refl, sym, slice_get, subst, to_z, of_z, w64}
+use Rattle.std.proofs.Common.{rules, ◌≡◌, ◌∙◌, ◌<◌, ◌≤◌, ℤ, Bool, true, false, if◌then◌else◌, Some, None, length, map, refl, sym, ap, slice_get, subst, to_z, of_z, w64}
 use Rattle.std.proofs.lemmas.Option.{slice_get_read, slice_get_past}
 use Rattle.positions.specs.declared.work.Position.{Position}
 use Rattle.positions.specs.declared.work.Work.TheVariants.{Block}
 use Rattle.positions.specs.Activations.{PlainActivation, at}
 use Rattle.positions.specs.Code.{instruction_inside}
-use Rattle.linked_program.specs.CodeView.{expression}
+use Rattle.linked_program.specs.CodeView.{expression, instruction_at}
 use Rattle.evaluation.specs.Values.{values_at}
 use Rattle.positions.specs.Advance.{evaluated, combining}
 use Rattle.activations.specs.Given.{lent}
 use Rattle.own_statements.specs.declared.statements.Did.TheVariants.{Nothing, Next}
 use Rattle.own_statements.specs.Paths.{here, ComesTo, Does, OnNext, IsInBlock}
-use Rattle.own_statements.proofs.Paths.{run_join, come_next, come_moved, come_gave, come_none, come_out, found_as}
+use Rattle.own_statements.proofs.Paths.{run_join, come_next, come_passed, come_moved, come_gave, come_none, come_out, found_as}
 use Rattle.own_statements.proofs.Updates.{does_update}
 use Rattle.own_statements.proofs.runs.run_block.Goals as goal
 
 pub loop-index-init : goal.loop-index-init
 loop-index-init g c = record { kinds = refl; same = (refl, refl); come = λ s may. here }
 
-pub loop-index-preserved : goal.loop-index-preserved
-loop-index-preserved g c =
+pub loop-index-preserved-in-Next : goal.loop-index-preserved-in-Next
+loop-index-preserved-in-Next g c =
     let S = lent c.args.setting in
     let a = at (Block c.args.position) c.args.top.now in
     let xs = c.args.statements.now in
@@ -34,6 +34,28 @@ loop-index-preserved g c =
       kinds = c.in-Next.ensures.kinds ∙ c.loop-index.invariant.kinds;
       same = (c.in-Next.ensures.same_block.0 ∙ c.loop-index.invariant.same.0, c.in-Next.ensures.same_block.1 ∙ c.loop-index.invariant.same.1);
       come = come_next S c.args.passes_syncs a c.args.layer.now p b c.loop-index.layer c.loop-index.invariant.come i found c.perform_alone.new.top c.perform_alone.new.layer c.in-Next.ensures.done;
+    }
+
+pub loop-index-preserved : goal.loop-index-preserved
+loop-index-preserved g c =
+    let S = lent c.args.setting in
+    let a = at (Block c.args.position) c.args.top.now in
+    let xs = c.args.statements.now in
+    let index = c.loop-index.index in
+    let i = c.index-statements-index.result in
+    let p : Position = record { block = c.args.position.block; index = index } in
+    let b = c.loop-index.top in
+    let there : index < length xs = search rules in
+    let found : Some i ≡ instruction_inside S.codes b.procedure (length b.outer) p =
+    sym (slice_get_read xs (length xs) index i refl there c.index-statements-index.is) ∙ c.requires.block index
+    ∙ found_as S.codes c.args.top.now b p c.loop-index.invariant.same.0 c.loop-index.invariant.same.1 in
+    let block = c.in-Passed.field-0 in
+    let none : instruction_at S.codes c.perform_alone.new.top.procedure block 0 ≡ None =
+    ap (λ f. instruction_at S.codes f block 0) c.in-Passed.ensures.same_block.0 ∙ c.in-Passed.ensures.empty in
+    record {
+      kinds = c.in-Passed.ensures.kinds ∙ c.loop-index.invariant.kinds;
+      same = (c.in-Passed.ensures.same_block.0 ∙ c.loop-index.invariant.same.0, c.in-Passed.ensures.same_block.1 ∙ c.loop-index.invariant.same.1);
+      come = come_passed S c.args.passes_syncs a c.args.layer.now p b c.loop-index.layer c.loop-index.invariant.come i found c.perform_alone.new.top c.perform_alone.new.layer block none c.in-Passed.ensures.done;
     }
 
 pub loop-index-preserved-in-Update : goal.loop-index-preserved-in-Update

@@ -7,7 +7,7 @@ use Rattle.positions.specs.Strands.{is_entry}
 use Rattle.positions.specs.Advance.{evaluated, binding, choosing, giving, moved_on, performed}
 use Rattle.activations.specs.Given.{lent}
 use Rattle.own_statements.specs.Paths.{Does}
-use Rattle.own_statements.proofs.Paths.{does_as}
+use Rattle.own_statements.proofs.Paths.{does_as, none_passed}
 use Rattle.own_statements.proofs.statements.perform_alone.Goals as goal
 
 pub returns-in-Bind-clause-done : goal.returns-in-Bind-clause-done
@@ -45,3 +45,12 @@ returns-in-Sync-clause-done g c =
     let a = c.args.top.now in
     subst (λ (op : Operation). Does c.args.passes_syncs p (λ kit. performed S kit p n op) a c.args.layer.now c.pass_sync.result c.pass_sync.new.top c.pass_sync.new.layer) (sym c.in-Sync.is)
     (does_as S c.args.passes_syncs p (λ (kit : Bool). (λ s. if is_entry s then s else moved_on p s)) (λ kit. performed S kit p n (o.Sync)) a c.args.layer.now c.pass_sync.result c.pass_sync.new.top c.pass_sync.new.layer (λ kit s. refl) c.pass_sync.ensures.done)
+
+pub returns-in-Bind-clause-empty : goal.returns-in-Bind-clause-empty
+returns-in-Bind-clause-empty g c = none_passed c.bind.result _ c.bind.ensures.passes
+
+pub returns-in-Return-clause-empty : goal.returns-in-Return-clause-empty
+returns-in-Return-clause-empty g c = none_passed c.give.result _ c.give.ensures.passes
+
+pub returns-in-Sync-clause-empty : goal.returns-in-Sync-clause-empty
+returns-in-Sync-clause-empty g c = none_passed c.pass_sync.result _ c.pass_sync.ensures.passes
