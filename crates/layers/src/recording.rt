@@ -198,6 +198,31 @@ impl<V: View> Layer<V> {
         }
     }
 
+    /// What a record keeps of the layer. Want of memory is the only error.
+    #[inline(always)]
+    pub(crate) fn recording(
+        &self,
+        alloc: Global,
+        program: &Checked,
+    ) -> Result<Recording, AllocError>
+        requires kinds { self.now.kinds ≡ program.now.kinds }
+        ensures recording { IfOk result (λ r. r ≡ recording_of program.now.revisions self.now) }
+        ensures values { IfOk result (λ r. AreValuesFrom 0 self.now.kinds r.contribution) }
+    {
+        let levels = self.levels()?;
+        let reads = self.reads(alloc)?;
+        let entered = self.entries(alloc, program)?;
+        let contribution = self.touched(alloc, program)?;
+        Ok(Recording::new(
+            self,
+            program,
+            contribution,
+            reads,
+            entered,
+            levels,
+        ))
+    }
+
     /// Copies of the values that are not the identities, each with its reducer's number. Those of one reducer or two are put into their
     /// list at once.
     #[inline(always)]

@@ -10,7 +10,7 @@ use crate::few_values::let_go;
 use crate::layer::Layer;
 use crate::leaves::{Leaf, are_touched, record_of_two};
 use crate::pieces::Pieces;
-use crate::recording::{Opened, Recording};
+use crate::recording::Opened;
 use linked_program::checked::Checked;
 use monoid_laws::Val;
 use rerun_records::record::Record;
@@ -62,6 +62,27 @@ fn sum(left: u64, right: u64) -> Result<u64, AllocError>
         Some(count) => Ok(count),
         None => Err(AllocError),
     }
+}
+
+/// How many instances were executed, answered by a record, and executed without a layer.
+#[derive(Clone, Copy)]
+struct Counts {
+    executed: u64,
+    reused: u64,
+    unrecorded: u64,
+}
+
+/// The counts of two strands together; refused where one is past the limit.
+fn counts_of(left: &Tally, right: &Tally) -> Result<Counts, AllocError>
+    ensures executed { IfOk result (λ c. c.executed ≡ left.now.executed + right.now.executed) }
+    ensures reused { IfOk result (λ c. c.reused ≡ left.now.reused + right.now.reused) }
+    ensures unrecorded { IfOk result (λ c. c.unrecorded ≡ left.now.unrecorded + right.now.unrecorded) }
+{
+    Ok(Counts {
+        executed: sum(left.executed, right.executed)?,
+        reused: sum(left.reused, right.reused)?,
+        unrecorded: sum(left.unrecorded, right.unrecorded)?,
+    })
 }
 
 impl Tally {
@@ -218,11 +239,7 @@ impl Tally {
         ensures product { OnErr result (HasSameProduct below.old top.old below.new top.new) }
     {
         self.made.make_room()?;
-        let levels = top.levels()?;
-        let reads = top.reads(alloc)?;
-        let entered = top.entries(alloc, program)?;
-        let contribution = top.touched(alloc, program)?;
-        let recording = Recording::new(top, program, contribution, reads, entered, levels);
+        let recording = top.recording(alloc, program)?;
         if below.cover(top, recording.reads()).is_err() {
             let_go(recording);
             return Err(AllocError);
@@ -362,15 +379,13 @@ impl Tally {
         ensures right_kept { OnErr result (IsSameButWorths behind.old behind.new) }
         ensures product { OnErr result (HasSameProduct layer.old behind.old layer.new behind.new) }
     {
-        let executed = sum(self.executed, right.executed)?;
-        let reused = sum(self.reused, right.reused)?;
-        let unrecorded = sum(self.unrecorded, right.unrecorded)?;
+        let counts = counts_of(self, right)?;
         let come = self.made.make_room_for(&right.made)?;
         layer.multiply(behind)?;
         self.made.append(&mut right.made, come);
-        self.executed = executed;
-        self.reused = reused;
-        self.unrecorded = unrecorded;
+        self.executed = counts.executed;
+        self.reused = counts.reused;
+        self.unrecorded = counts.unrecorded;
         Ok(())
     }
 
@@ -382,14 +397,12 @@ impl Tally {
         ensures left_unchanged { OnErr result (self.new ≡ self.old) }
         ensures right_unchanged { OnErr result (right.new ≡ right.old) }
     {
-        let executed = sum(self.executed, right.executed)?;
-        let reused = sum(self.reused, right.reused)?;
-        let unrecorded = sum(self.unrecorded, right.unrecorded)?;
+        let counts = counts_of(self, right)?;
         let come = self.made.make_room_for(&right.made)?;
         self.made.append(&mut right.made, come);
-        self.executed = executed;
-        self.reused = reused;
-        self.unrecorded = unrecorded;
+        self.executed = counts.executed;
+        self.reused = counts.reused;
+        self.unrecorded = counts.unrecorded;
         Ok(())
     }
 

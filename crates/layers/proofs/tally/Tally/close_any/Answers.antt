@@ -1,10 +1,8 @@
-use Rattle.std.proofs.Common.{rules, ◌≡◌, ◌++◌, ◌∷◌, ◌∙◌, List, [], ap, map, reverse, subst, sym}
+use Rattle.std.proofs.Common.{rules, ◌≡◌, ◌++◌, ◌∷◌, ◌∙◌, List, [], ap, reverse, subst, sym}
 use Rattle.rerun_records.specs.Named.{HaveValues, AreValuesFrom}
-use Rattle.rerun_records.specs.Record.{PlainRecord, touched}
-use Rattle.rerun_records.specs.ShortLists.{items_in as listed_in}
+use Rattle.rerun_records.specs.Record.{PlainRecord}
 use Rattle.positions.specs.Tallies.{PlainTally, record_by}
 use Rattle.layers.specs.Pieces.{items_in}
-use Rattle.layers.specs.Recordings.{PlainRecording}
 use Rattle.layers.proofs.Touches.{one_more_values, closed_tally}
 use Rattle.layers.proofs.tally.Tally.close_any.Goals as goal
 
@@ -29,8 +27,6 @@ pub returns-in-Some-clause-values : goal.returns-in-Some-clause-values
 returns-in-Some-clause-values g c = λ h.
     let before : HaveValues c.args.top.now.kinds (items_in c.self.inside.made) = subst (λ (t : PlainTally). HaveValues c.args.top.now.kinds t.made) (sym c.self.view_is) h in
     let more : items_in c.push.new.self ≡ items_in c.self.inside.made ++ c.record.result ∷ [] = c.push.ensures.items ∙ ap (λ rs. rs ++ c.record.result ∷ []) c.make_room.ensures.items in
-    let same : c.record.result.contribution ≡ map touched (listed_in c.in_ok-contribution.contribution) =
-    ap (λ (r : PlainRecord). r.contribution) c.record.ensures.record ∙ ap (λ (r : PlainRecording). r.contribution) c.new-recording.ensures.recording
-    ∙ sym c.in_ok-contribution.ensures.touched in
+    let same : c.record.result.contribution ≡ c.in_ok-recording.recording.contribution = ap (λ (r : PlainRecord). r.contribution) c.record.ensures.record in
     one_more_values c.args.top.now.kinds (items_in c.self.inside.made) (items_in c.push.new.self) c.record.result more
-    (subst (AreValuesFrom 0 c.args.top.now.kinds) (sym same) c.in_ok-contribution.ensures.values) before
+    (subst (AreValuesFrom 0 c.args.top.now.kinds) (sym same) c.in_ok-recording.ensures.values) before
