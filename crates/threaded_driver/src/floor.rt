@@ -200,8 +200,8 @@ impl<J: Run + Ledger + Stocked + Send, D: Deques, V: View> Floor<'_, J, D, V> {
         }
     }
 
-    /// Small steps until the strand pauses, or as many as are done in one go, which leave its lowest instance as it is. Want of memory
-    /// is the only error.
+    /// Small steps until the strand pauses, or as many as are done in one go, which leave its lowest instance as it is. Its worker pushes
+    /// nothing meanwhile, so whether the deque holds enough is asked once. Want of memory is the only error.
     #[inline(always)]
     fn take_steps<R: Wait, G: Gate>(
         &self,
@@ -222,8 +222,9 @@ impl<J: Run + Ledger + Stocked + Send, D: Deques, V: View> Floor<'_, J, D, V> {
         let is_watched = gate.watches_updates();
         let is_alone = self.is_alone.load(Ordering::Relaxed);
         let steps = if is_alone { FEW } else { STEPS };
+        let mut spawned = Spawned::new(seat.holds_enough());
         for _ in 0..steps {
-            self.steps_ahead(number, is_watched, is_alone, seat, strand, gate)?;
+            self.steps_ahead(number, is_watched, is_alone, &mut spawned, strand, gate)?;
             match strand.advance(self.alloc, &self.scene, supply)? {
                 Paused::Working => {}
                 paused => return Ok(paused),
@@ -232,18 +233,20 @@ impl<J: Run + Ledger + Stocked + Send, D: Deques, V: View> Floor<'_, J, D, V> {
         Ok(Paused::Working)
     }
 
-    /// Small steps that need no kit, where others work too: they may take long. Spawned children are called where the worker's deque
-    /// holds enough.
+    /// Small steps that need no kit, where others work too: they may take long. Spawned children are called where it is said so.
     #[inline(always)]
     #[tactic(auto, using(crate::proofs::Staying::stays_way))]
-    fn run_ahead(&self, is_alone: bool, seat: &mut Seat<J, D>, strand: &mut RightStrand<J, V>)
+    fn run_ahead(
+        &self,
+        is_alone: bool,
+        spawned: &mut Spawned,
+        strand: &mut RightStrand<J, V>,
+    )
         ensures spot { spot_of strand.new.strand ≡ spot_of strand.old.strand }
         ensures lower { strand.new.strand.lower ≡ strand.old.strand.lower }
-        ensures seat { seat.new ≡ seat.old }
     {
         if !is_alone {
-            let mut spawned = Spawned::new(seat.holds_enough());
-            strand.run_ahead(self.alloc, &self.scene, &mut spawned);
+            strand.run_ahead(self.alloc, &self.scene, spawned);
         }
     }
 
@@ -256,13 +259,12 @@ impl<J: Run + Ledger + Stocked + Send, D: Deques, V: View> Floor<'_, J, D, V> {
         number: usize,
         is_watched: bool,
         is_alone: bool,
-        seat: &mut Seat<J, D>,
+        spawned: &mut Spawned,
         strand: &mut RightStrand<J, V>,
         gate: &G,
     ) -> Result<(), AllocError>
         ensures spot { OnOk result (spot_of strand.new.strand ≡ spot_of strand.old.strand) }
         ensures lower { strand.new.strand.lower ≡ strand.old.strand.lower }
-        ensures seat { seat.new ≡ seat.old }
     {
         if is_watched {
             if strand.at_update(&self.scene) {
@@ -270,7 +272,7 @@ impl<J: Run + Ledger + Stocked + Send, D: Deques, V: View> Floor<'_, J, D, V> {
             }
             return Ok(());
         }
-        self.run_ahead(is_alone, seat, strand);
+        self.run_ahead(is_alone, spawned, strand);
         let _ = strand.answer_ahead(self.alloc, &self.scene)?;
         Ok(())
     }
