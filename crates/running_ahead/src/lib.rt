@@ -3,6 +3,7 @@
 
 pub mod ahead;
 pub mod came;
+mod children;
 mod halves;
 pub mod spawning;
 pub mod turns;

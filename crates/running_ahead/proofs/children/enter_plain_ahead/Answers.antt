@@ -3,7 +3,7 @@ use Rattle.positions.specs.Strands.{PlainStrand}
 use Rattle.activations.specs.Given.{lent}
 use Rattle.running_ahead.specs.Ahead.{IsAhead}
 use Rattle.running_ahead.proofs.Paths.{ahead_here}
-use Rattle.running_ahead.proofs.ahead.enter_plain_ahead.Goals as goal
+use Rattle.running_ahead.proofs.children.enter_plain_ahead.Goals as goal
 
 pub returns-in-Nowhere-clause-ahead : goal.returns-in-Nowhere-clause-ahead
 returns-in-Nowhere-clause-ahead g c e =

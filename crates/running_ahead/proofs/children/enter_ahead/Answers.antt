@@ -7,7 +7,7 @@ use Rattle.positions.specs.declared.work.Position.{Position}
 use Rattle.positions.specs.Advance.{called, performed}
 use Rattle.activations.specs.Given.{lent}
 use Rattle.running_ahead.proofs.Paths.{ahead_here}
-use Rattle.running_ahead.proofs.ahead.enter_ahead.Goals as goal
+use Rattle.running_ahead.proofs.children.enter_ahead.Goals as goal
 
 pub returns-in-Enter-clause-ahead : goal.returns-in-Enter-clause-ahead
 returns-in-Enter-clause-ahead g c e =

@@ -3,7 +3,7 @@ use Rattle.linked_program.specs.CodeView.{expression, memo_of}
 use Rattle.positions.specs.declared.work.Work.TheVariants.{Block}
 use Rattle.activations.specs.Given.{lent}
 use Rattle.running_ahead.proofs.Paths.{ahead_here, called_plain}
-use Rattle.running_ahead.proofs.ahead.enter_by.Goals as goal
+use Rattle.running_ahead.proofs.children.enter_by.Goals as goal
 
 pub returns-then-is_memo-clause-ahead : goal.returns-then-is_memo-clause-ahead
 returns-then-is_memo-clause-ahead g c e = ahead_here (lent c.args.setting) c.args.machine.now

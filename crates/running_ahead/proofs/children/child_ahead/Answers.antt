@@ -17,7 +17,7 @@ use Rattle.small_steps.specs.Steps.{nested_plain}
 use Rattle.running_ahead.specs.Ahead.{GoesAhead, is_spawned}
 use Rattle.own_statements.specs.Paths.{ComesTo}
 use Rattle.running_ahead.proofs.Paths.{same_parts, with_child, layer_then, child_stays, child_returns, enter_ahead}
-use Rattle.running_ahead.proofs.ahead.child_ahead.Goals as goal
+use Rattle.running_ahead.proofs.children.child_ahead.Goals as goal
 
 pub returns-in-Some-call-clause-came : goal.returns-in-Some-call-clause-came
 returns-in-Some-call-clause-came g c n e =

@@ -1,0 +1,241 @@
+//! Instances that are called, or spawned where they are called then: they stand on the strand only where they have more to do.
+ghost use Rattle.std.specs.Prelude.{◌≡◌, ◌+◌, ◌<◌, ◌^◌, ◌++◌, ◌∷◌, [], ℕ, true, false, length, map, vec_len, vec_capacity};
+ghost use Rattle.linked_program.specs.CodeView.{expression as plain, slots_of, memo_of};
+ghost use Rattle.evaluation.specs.Values.{entry_at};
+ghost use Rattle.positions.specs.Strands.{entry_by};
+ghost use Rattle.positions.specs.Tallies.{is_own};
+ghost use Rattle.positions.specs.Advance.{called, evaluated, performed};
+ghost use Rattle.activations.specs.Given.{lent};
+ghost use Rattle.small_steps.specs.Steps.{nested_plain};
+ghost use Rattle.running_ahead.specs.Ahead.{GoesAhead, GoesAheadBy, CameBy, is_spawned};
+
+use crate::came::Came;
+use activations::activation::{Activation, next_of};
+use activations::code::instructions;
+use activations::setting::Setting;
+use activations::spares::Spares;
+use linked_program::code::{Expression, Instruction, Operation};
+use meaning::tree::Way;
+use own_statements::filling::fills;
+use own_statements::runs::call;
+use positions::phase::Phase;
+use positions::start::Start;
+use positions::work::{Position, Work};
+use small_steps::machine::Machine;
+use std::alloc::Global;
+use std::mem;
+use view_pool::View;
+
+/// An instance that is to be called, which may be a spawned one: of that procedure, with those arguments; its value goes into that slot,
+/// and the one that calls it stands at that position then.
+#[derive(Clone, Copy)]
+struct Callee<'a> {
+    way: Way,
+    procedure: usize,
+    arguments: &'a [Expression],
+    into: Option<usize>,
+    next: Position,
+}
+
+/// Does the statement at that position, where it calls an instance of a procedure that isn't marked memo, or spawns one that is
+/// called.
+#[inline(always)]
+pub(crate) fn enter_ahead<V: View>(
+    machine: &mut Machine<V>,
+    alloc: Global,
+    setting: Setting<'_>,
+    calls: bool,
+    position: Position,
+    instruction: &Instruction,
+) -> Came
+    requires room { position.index + 1 < 2 ^ 64 }
+    requires kinds { machine.old.layer.kinds ≡ setting.program.now.kinds }
+    requires running { machine.old.phase ≡ Phase.Running }
+    ensures ahead { GoesAheadBy (lent setting.entry)
+        (λ kit. performed (lent setting.entry) kit position instruction.now.number instruction.now.operation) machine.old machine.new }
+    ensures running { machine.new.phase ≡ Phase.Running }
+{
+    match &instruction.operation {
+        Operation::Enter(into, way, callee, arguments) => {
+            let arguments = arguments.as_slice();
+            let callee = Callee {
+                way: *way,
+                procedure: *callee,
+                arguments,
+                into: *into,
+                next: next_of(position),
+            };
+            enter_by(machine, alloc, setting, calls, instruction.number, callee)
+        }
+        _ => Came::Nowhere,
+    }
+}
+
+/// Calls an instance, where its procedure isn't marked memo and it isn't spawned, or is called then, and does its statements.
+#[inline(always)]
+fn enter_by<V: View>(
+    machine: &mut Machine<V>,
+    alloc: Global,
+    setting: Setting<'_>,
+    calls: bool,
+    statement: u32,
+    callee: Callee<'_>,
+) -> Came
+    requires kinds { machine.old.layer.kinds ≡ setting.program.now.kinds }
+    requires running { machine.old.phase ≡ Phase.Running }
+    ensures ahead { GoesAheadBy (lent setting.entry)
+        (λ kit. called (lent setting.entry) kit statement callee.entry.way callee.entry.into (Work.Block callee.entry.next) callee.entry.procedure
+        (map plain callee.entry.arguments.now) machine.old.top.slots) machine.old machine.new }
+    ensures running { machine.new.phase ≡ Phase.Running }
+{
+    if setting.program.is_memo(callee.procedure) {
+        return Came::Nowhere;
+    }
+    if is_spawn(callee.way) && !calls {
+        return Came::Nowhere;
+    }
+    enter_plain_ahead(machine, alloc, setting, statement, callee)
+}
+
+/// Whether an instance that is entered so is spawned.
+#[inline(always)]
+fn is_spawn(way: Way) -> bool
+    ensures spawn { result ≡ is_spawned way }
+{
+    match way {
+        Way::Call => false,
+        Way::Spawn => true,
+    }
+}
+
+/// Calls an instance of a procedure that isn't marked memo, and does its statements.
+#[inline(always)]
+fn enter_plain_ahead<V: View>(
+    machine: &mut Machine<V>,
+    alloc: Global,
+    setting: Setting<'_>,
+    statement: u32,
+    callee: Callee<'_>,
+) -> Came
+    requires kinds { machine.old.layer.kinds ≡ setting.program.now.kinds }
+    requires running { machine.old.phase ≡ Phase.Running }
+    requires plain { memo_of setting.program.now.codes callee.procedure ≡ false }
+    ensures ahead { GoesAhead (lent setting.entry)
+        (evaluated statement (entry_at setting.entry.tables.now.tables machine.old.top.slots
+        (slots_of setting.entry.program.now.codes callee.entry.procedure) (map plain callee.entry.arguments.now))
+        (nested_plain statement callee.entry.way callee.entry.into (Work.Block callee.entry.next) callee.entry.procedure)) machine.old machine.new }
+    ensures running { machine.new.phase ≡ Phase.Running }
+{
+    match child_ahead(machine, alloc, setting, callee) {
+        Came::Nowhere => Came::Nowhere,
+        Came::Back => Came::Back,
+        Came::Stays => Came::Stays,
+    }
+}
+
+/// Calls that instance, whose procedure isn't marked memo, and does the statements that it does by itself. It stands on the strand
+/// only where it has more to do.
+#[inline(always)]
+fn child_ahead<V: View>(
+    machine: &mut Machine<V>,
+    alloc: Global,
+    setting: Setting<'_>,
+    callee: Callee<'_>,
+) -> Came
+    requires kinds { machine.old.layer.kinds ≡ setting.program.now.kinds }
+    requires running { machine.old.phase ≡ Phase.Running }
+    requires plain { memo_of setting.program.now.codes callee.procedure ≡ false }
+    ensures came { CameBy result (machine.new ≡ machine.old)
+        ((statement : ℕ) → GoesAhead (lent setting.entry)
+        (evaluated statement (entry_at setting.entry.tables.now.tables machine.old.top.slots
+        (slots_of setting.entry.program.now.codes callee.entry.procedure) (map plain callee.entry.arguments.now))
+        (nested_plain statement callee.entry.way callee.entry.into (Work.Block callee.entry.next) callee.entry.procedure)) machine.old machine.new) }
+    ensures running { machine.new.phase ≡ Phase.Running }
+{
+    let left = machine.top.left();
+    if left == 0 || ends_otherwise(machine) {
+        return Came::Nowhere;
+    }
+    let Some(_) = machine.top.children().checked_add(1) else {
+        return Came::Nowhere;
+    };
+    if machine.path.reserve(1).is_err() || machine.below.reserve(1).is_err() {
+        return Came::Nowhere;
+    }
+    let size = setting.program.slots(callee.procedure);
+    if !fills(
+        &mut machine.layer,
+        &mut machine.spares.child,
+        &machine.top,
+        size,
+        callee.arguments,
+        setting.tables,
+    ) {
+        return Came::Nowhere;
+    }
+    machine
+        .top
+        .wait_at(is_spawn(callee.way), callee.into, callee.next);
+    let body = instructions(setting.program, callee.procedure, 0, 0);
+    match call(
+        &mut machine.layer,
+        setting,
+        body,
+        callee.procedure,
+        left - 1,
+        &mut machine.spares.child,
+        &mut machine.numbers,
+    ) {
+        Some(value) => {
+            machine.top.receive(value);
+            Came::Back
+        }
+        None => {
+            put_on_top(
+                &mut machine.path,
+                &mut machine.below,
+                &mut machine.top,
+                &mut machine.spares,
+                alloc,
+            );
+            Came::Stays
+        }
+    }
+}
+
+/// Puts the instance that was begun on top of the one that has called it and waits for it. There is room for both.
+#[inline(never)]
+pub(crate) fn put_on_top(
+    path: &mut Vec<usize>,
+    below: &mut Vec<Activation>,
+    top: &mut Activation,
+    spares: &mut Spares,
+    alloc: Global,
+)
+    requires path_room { vec_len path.old < vec_capacity path.old }
+    requires below_room { vec_len below.old < vec_capacity below.old }
+    ensures path { path.new.items ≡ path.old.items ++ top.old.children ∷ [] }
+    ensures top { top.new ≡ spares.old.child }
+    ensures below { below.new.items ≡ below.old.items ++ top.old ∷ [] }
+{
+    path.push_reserved(top.children());
+    let blank = spares.blank(alloc);
+    let child = mem::replace(&mut spares.child, blank);
+    below.push_reserved(mem::replace(top, child));
+}
+
+/// Whether a called child of the topmost instance would end otherwise than by going back to it: it is where the strand begins,
+/// or the topmost layer is its own.
+pub(crate) fn ends_otherwise<V: View>(machine: &Machine<V>) -> bool
+    ensures entry { result ≡ false → (number : ℕ) → entry_by machine.now.start (machine.now.path ++ number ∷ []) ≡ false }
+    ensures own { result ≡ false → (number : ℕ) → is_own machine.now.tally.opened (length (machine.now.path ++ number ∷ [])) ≡ false }
+{
+    let length = machine.path.len() + 1;
+    if machine.tally.is_own(length) {
+        return true;
+    }
+    match machine.start {
+        Start::Root => false,
+        Start::Behind { depth, child: _ } => depth == length,
+    }
+}
