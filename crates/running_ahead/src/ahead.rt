@@ -135,7 +135,7 @@ fn go_ahead<V: View, S: Spawning>(
             }
             Work::Turns(site, share) => loop_ahead(machine, alloc, setting, site, share),
             Work::Halves(site, halvings, share) => {
-                halves_ahead(machine, alloc, setting, site, halvings, share)
+                halves_ahead(machine, alloc, setting, site, halvings, share, spawning)
             }
             Work::Second(site, halvings, share) => {
                 second_ahead(machine, alloc, setting, site, halvings, share)

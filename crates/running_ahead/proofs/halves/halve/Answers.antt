@@ -1,6 +1,6 @@
 use Rattle.activations.specs.Given.{lent}
 use Rattle.running_ahead.proofs.Halving.{halves_ahead}
-use Rattle.running_ahead.proofs.halves.halves_ahead.Goals as goal
+use Rattle.running_ahead.proofs.halves.halve.Goals as goal
 
 pub returns-in-Ok : goal.returns-in-Ok
 returns-in-Ok g c =
