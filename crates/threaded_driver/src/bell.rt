@@ -24,6 +24,7 @@ pub(crate) struct Bell {
     listeners: AtomicU64,
     has_rung: AtomicBool,
     is_over: AtomicU64,
+    nappers: AtomicU64,
 }
 
 /// A worker that comes to the bell, how it idles, and how many looks were in vain since it had a strand. It spins at first, and then
@@ -42,6 +43,7 @@ impl Bell {
             listeners: AtomicU64::new(0),
             has_rung: AtomicBool::new(false),
             is_over: AtomicU64::new(0),
+            nappers: AtomicU64::new(0),
         }
     }
 
@@ -72,9 +74,10 @@ impl Bell {
         self.is_over.load(Ordering::SeqCst) != 0
     }
 
-    /// The run is over: wakes all that nap.
+    /// The run is over: wakes all that nap. Who is about to nap has counted himself, or finds the run over. Where nobody naps the system
+    /// isn't asked.
     pub(crate) fn end(&self) {
-        if self.is_over.swap(1, Ordering::SeqCst) == 0 {
+        if self.is_over.swap(1, Ordering::SeqCst) == 0 && self.nappers.load(Ordering::SeqCst) != 0 {
             self.is_over.wake_all();
         }
     }
@@ -119,9 +122,11 @@ impl Listener<'_> {
     fn nap<R: Wait>(&self, rt: &R, naps: u64) {
         let micros = NAP.saturating_mul(naps.saturating_add(1).min(LONGEST));
         self.bell.listeners.fetch_sub(1, Ordering::SeqCst);
+        self.bell.nappers.fetch_add(1, Ordering::SeqCst);
         self.bell
             .is_over
             .park_timeout(rt, 0, Duration::from_micros(micros));
+        self.bell.nappers.fetch_sub(1, Ordering::SeqCst);
         self.listen();
     }
 }
