@@ -4,13 +4,13 @@ ghost use Rattle.linked_program.specs.CodeView.{expression as plain, on_row};
 ghost use Rattle.input_tables.specs.Edited as read;
 ghost use Rattle.evaluation.specs.Values.{value_at, looked};
 
-use crate::operators::one_if;
 use crate::slot::Slot;
 use crate::unnoted::cells_at_once;
 use crate::values::{joined, number_in, without_reading};
 use input_tables::Tables;
 use linked_program::code::{Expression, RowCells};
 use meaning::tree::Operator;
+use number_operators::one_if;
 
 /// The value of an expression, where it has one.
 #[cycle(value)]

@@ -6,7 +6,6 @@ pub mod entry;
 pub mod laws;
 pub mod note;
 pub mod notes;
-mod operators;
 pub mod ranges;
 pub mod reading;
 pub mod slot;

@@ -1,9 +1,9 @@
 //! The ranges that loops go through.
 
-ghost use Rattle.std.specs.Prelude.{◌≡◌, IfSome, IfNone, ◌≤◌, ◌<◌, ◌+ℤ◌, pos, FitsSigned};
+ghost use Rattle.std.specs.Prelude.{◌≡◌, ◌≤◌, ◌+ℤ◌, pos, FitsSigned};
 ghost use Rattle.std.specs.Int.Width.{w64};
 ghost use Rattle.linked_program.specs.CodeView.{expression as plain};
-ghost use Rattle.meaning.specs.Statements.{most_iterations, span};
+ghost use Rattle.meaning.specs.Statements.{most_iterations};
 ghost use Rattle.evaluation.specs.Values.{bounds_at};
 ghost use Rattle.evaluation.specs.Ends.{Ends, Stops};
 
@@ -13,7 +13,8 @@ use crate::stop::Stop;
 use crate::values::evaluate;
 use input_tables::Tables;
 use linked_program::code::Expression;
-use meaning::{FaultKind, MOST_ITERATIONS};
+use meaning::FaultKind;
+use number_operators::count;
 
 /// A loop's first number, and how many iterations it has.
 #[derive(Clone, Copy)]
@@ -22,28 +23,6 @@ pub struct LoopRange {
     pub count: u32,
     ghost few: { count ≤ most_iterations },
     ghost fits: { FitsSigned w64 (low +ℤ pos count) },
-}
-
-// How many numbers there are from `low` to below `high`, where they are not too many for a loop.
-fn count(low: i64, high: i64) -> Option<u32>
-    ensures counted { IfSome result (λ n. n ≡ span low high) }
-    ensures within { IfSome result (λ n. n ≤ most_iterations) }
-    ensures fits { IfSome result (λ n. FitsSigned w64 (low +ℤ pos n)) }
-    ensures above { IfNone result (most_iterations < span low high) }
-{
-    if high <= low {
-        return Some(0);
-    }
-    match high.checked_sub(low) {
-        None => None,
-        Some(difference) => {
-            if difference <= i64::from(MOST_ITERATIONS) {
-                Some(difference as u32)
-            } else {
-                None
-            }
-        }
-    }
 }
 
 /// The range of a loop between the values of two expressions, or a fault: that of the first, of the second, or that the range

@@ -7,14 +7,13 @@ ghost use Rattle.input_tables.specs.Edited as read;
 ghost use Rattle.evaluation.specs.Values.{value_at, values_at, entry_at, slot_by, looked, applied as applied_to};
 
 use crate::at_once::operand;
-use crate::operators::{apply, one_if};
 use crate::slot::Slot;
 use crate::stop::Stop;
 use crate::values::{joined, number_in};
 use input_tables::Tables;
 use linked_program::code::{Expression, RowCells};
-use meaning::FaultKind;
 use meaning::tree::Operator;
+use number_operators::{apply, held, one_if};
 
 /// The value of an expression, or its fault. Most have a value, which is found in a way that leaves faults aside.
 #[inline(always)]
@@ -237,9 +236,9 @@ fn two_cells(
 fn cell(tables: &Tables, table: usize, row: i64, column: usize) -> Result<i64, Stop>
     ensures answer { Answers (λ v. v) (looked table row column (read.cell_at tables.now.tables table row column)) result }
 {
-    match tables.cell(table, row, column) {
-        None => Err(Stop::Fault(FaultKind::MissingRow)),
-        Some(value) => Ok(value),
+    match held(tables.cell(table, row, column)) {
+        Ok(value) => Ok(value),
+        Err(kind) => Err(Stop::Fault(kind)),
     }
 }
 

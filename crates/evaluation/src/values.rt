@@ -11,13 +11,12 @@ ghost use Rattle.evaluation.specs.Ends.{AreNoted, Ends, Stops};
 
 use crate::note::Note;
 use crate::notes::Notes;
-use crate::operators::{apply, one_if};
 use crate::slot::Slot;
 use crate::stop::Stop;
 use input_tables::Tables;
 use linked_program::code::{Expression, RowCells};
-use meaning::FaultKind;
 use meaning::tree::Operator;
+use number_operators::{apply, held, one_if};
 
 /// The value of an expression, or its fault; what it reads is noted. Where memory is refused the notes are as they were.
 #[inline(always)]
@@ -369,9 +368,9 @@ fn cell(
 ) -> Result<i64, Stop>
     ensures { Ends (λ v. v) (looked table row column (read.cell_at tables.now.tables table row column)) notes.old notes.new result }
 {
-    match tables.cell(table, row, column) {
-        None => Err(Stop::Fault(FaultKind::MissingRow)),
-        Some(value) => {
+    match held(tables.cell(table, row, column)) {
+        Err(kind) => Err(Stop::Fault(kind)),
+        Ok(value) => {
             let note = Note::Cell {
                 table,
                 row,
