@@ -1,36 +1,15 @@
-//! The identity of each kind, and two values of a kind combined.
+//! Two values of a kind combined.
 ghost use Rattle.std.specs.Prelude.{◌≡◌, OnOk, OnErr, IfErr, IsOk, IsTrue, ◌↔◌, All, [], true, false};
 ghost use Rattle.monoid_laws.specs.Kinds.{operate, identity_of, meaning, IsWorth};
 ghost use Rattle.reducer_values.specs.Forms.{is_fixed, IsBlank};
 
 use crate::adding::combine_amounts;
 use crate::copying::copy_of;
-use crate::fixed::{is_fixed, put_best, put_fixed, put_number};
+use crate::fixed::{is_fixed, put_fixed};
 use crate::joining::{combine_kept, combine_lists};
 use crate::{Kind, Val};
+use reducer_kinds::fixed::{put_best, put_number};
 use std::alloc::{AllocError, Global};
-
-/// The value that changes nothing. It takes no memory.
-pub fn identity(alloc: Global, kind: Kind) -> Val
-    ensures { meaning result ≡ identity_of kind }
-{
-    match kind {
-        Kind::Add => Val::Int(0),
-        Kind::Mul => Val::Int(1),
-        Kind::Min => Val::Int(i64::MAX),
-        Kind::Max => Val::Int(i64::MIN),
-        Kind::And => Val::Int(-1),
-        Kind::Or => Val::Int(0),
-        Kind::Xor => Val::Int(0),
-        Kind::List => Val::List(Vec::new(alloc)),
-        Kind::First(_) => Val::List(Vec::new(alloc)),
-        Kind::Last(_) => Val::List(Vec::new(alloc)),
-        Kind::Argmax => Val::Arg(None),
-        Kind::Affine => Val::Pair(1, 0),
-        Kind::Hist => Val::Hist(Vec::new(alloc)),
-        Kind::Table(table) => Val::Elem(table.unit),
-    }
-}
 
 /// Whether every piece is empty.
 fn all_empty<T: Drop>(pieces: &[Vec<T>]) -> bool

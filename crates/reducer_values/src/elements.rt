@@ -6,20 +6,9 @@ ghost use Rattle.reducer_values.specs.Forms.{is_fixed, trimmed};
 ghost use Rattle.monoid_laws.specs.declared.Kind.TheVariants as kinds;
 
 use crate::joining::keep;
-use crate::{InjectError, Kind, Table, Val};
+use crate::{InjectError, Kind, Val};
+use reducer_kinds::elements::table_element;
 use std::alloc::{AllocError, Global};
-
-/// A table's element of this number.
-fn table_element(table: Table, number: i64) -> Option<u8>
-    ensures none { IsNone result → names_element (kinds.Table table) (number ∷ []) ≡ false }
-    ensures some { IfSome result (λ e. element e ≡ element_of (kinds.Table table) (number ∷ [])) }
-    ensures named { OnSome result (names_element (kinds.Table table) (number ∷ []) ≡ true) }
-{
-    if number >= 0 && number < table.size as i64 {
-        return Some(number as u8);
-    }
-    None
-}
 
 /// The list of one number, as the kind keeps it.
 pub(crate) fn one_number(alloc: Global, kind: Kind, number: i64) -> Result<Val, AllocError>

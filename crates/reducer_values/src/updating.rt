@@ -8,8 +8,9 @@ ghost use Rattle.reducer_values.specs.Forms.{trimmed, is_fixed, IsListKind};
 
 use crate::adding::add_amount;
 use crate::elements::{one_amount, one_number};
-use crate::fixed::{combine_fixed, combine_numbers, number_of, sum_of};
+use crate::fixed::combine_fixed;
 use crate::{InjectError, Kind, Val, combine, inject};
+use reducer_kinds::fixed::{combine_numbers, number_of, sum_of};
 use std::alloc::{AllocError, Global};
 
 /// Puts a number behind the first `n` of a list, where there is room for it.

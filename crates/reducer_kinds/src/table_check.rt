@@ -3,10 +3,10 @@ ghost use Rattle.std.specs.Prelude.{◌≡◌, ℕ, ◌≤◌, ◌<◌, ◌+◌,
 ghost use Rattle.monoid_laws.specs.Kinds.{table_at, IsMonoidTable};
 ghost use Rattle.monoid_laws.specs.Tables.{KeepsUnit, Holds, IsFirstChange, IsThird, IsSecond, IsAnswer};
 
-use crate::{Table, TableAnswer};
+use monoid_laws::{Table, TableAnswer};
 
 /// The table's entry for `a op b`.
-pub(crate) fn entry(table: &Table, a: u8, b: u8) -> u8
+pub fn entry(table: &Table, a: u8, b: u8) -> u8
     requires left { a < table.now.size }
     requires right { b < table.now.size }
     ensures value { result ≡ table_at table.now a b }

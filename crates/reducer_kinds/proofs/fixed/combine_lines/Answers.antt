@@ -5,7 +5,7 @@ use Rattle.std.proofs.lemmas.Int.{to_z-of_z}
 use Rattle.monoid_laws.specs.Kinds.{wrap}
 use Rattle.monoid_laws.proofs.Numbers.{affine_parts}
 use Rattle.monoid_laws.proofs.Laws.{line_same}
-use Rattle.reducer_values.proofs.fixed.combine_lines.Goals as goal
+use Rattle.reducer_kinds.proofs.fixed.combine_lines.Goals as goal
 
 pub returns : goal.returns
 returns c =

@@ -1,5 +1,5 @@
 use Rattle.std.proofs.Common.{◌≡◌, ℕ, ◌<◌, ◌≤◌, ◌*◌, length, slice_index}
-use Rattle.reducer_values.proofs.table_rows.table_of.Given as goal
+use Rattle.reducer_kinds.proofs.table_rows.table_of.Given as goal
 
 abbrev pub invariant-loop-i : goal.invariant-loop-i
 invariant-loop-i l = record {

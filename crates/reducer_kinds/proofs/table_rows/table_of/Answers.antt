@@ -1,6 +1,6 @@
 use Rattle.std.proofs.Common.{rules, ◌≤◌, ◌*◌, arith}
-use Rattle.reducer_values.proofs.Zeros.{zero_of, zeros_behind}
-use Rattle.reducer_values.proofs.table_rows.table_of.Goals as goal
+use Rattle.reducer_kinds.proofs.Zeros.{zero_of, zeros_behind}
+use Rattle.reducer_kinds.proofs.table_rows.table_of.Goals as goal
 
 pub loop-i-init : goal.loop-i-init
 loop-i-init c = record {

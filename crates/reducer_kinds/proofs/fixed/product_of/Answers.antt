@@ -1,6 +1,6 @@
 use Rattle.std.specs.Int.{w64}
 use Rattle.std.proofs.lemmas.Int.{wrapping_mul_is}
-use Rattle.reducer_values.proofs.fixed.product_of.Goals as goal
+use Rattle.reducer_kinds.proofs.fixed.product_of.Goals as goal
 
 pub returns : goal.returns
 returns c = wrapping_mul_is w64 c.args.a c.args.b c.ranges.a c.ranges.b

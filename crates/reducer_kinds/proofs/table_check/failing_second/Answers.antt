@@ -1,6 +1,6 @@
 use Rattle.std.proofs.Common.{ℕ, ◌<◌, below_more}
 use Rattle.monoid_laws.specs.Tables.{Holds}
-use Rattle.reducer_values.proofs.table_check.failing_second.Goals as goal
+use Rattle.reducer_kinds.proofs.table_check.failing_second.Goals as goal
 
 pub loop-b-preserved : goal.loop-b-preserved
 loop-b-preserved c = λ y z h k.

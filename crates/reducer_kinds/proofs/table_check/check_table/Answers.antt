@@ -1,6 +1,6 @@
 use Rattle.std.proofs.Common.{ℕ, ◌<◌, below_more}
 use Rattle.monoid_laws.specs.Tables.{Holds}
-use Rattle.reducer_values.proofs.table_check.check_table.Goals as goal
+use Rattle.reducer_kinds.proofs.table_check.check_table.Goals as goal
 
 pub loop-a-preserved : goal.loop-a-preserved
 loop-a-preserved c = record {

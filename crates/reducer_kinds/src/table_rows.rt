@@ -1,7 +1,7 @@
 //! A table made of its numbers, row by row.
 ghost use Rattle.std.specs.Prelude.{◌≡◌, ℕ, ◌<◌, ◌≤◌, ◌*◌, ◌↔◌, IsSome, IfSome, All, length, slice_index};
 
-use crate::Table;
+use monoid_laws::Table;
 
 /// The table with these numbers; none where one of them, or the unit, is no element, or their count is not a square's.
 pub fn table_of(size: u8, unit: u8, numbers: &[u8]) -> Option<Table>
