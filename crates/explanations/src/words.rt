@@ -3,87 +3,128 @@
 use std::alloc::AllocError;
 use std::fmt::Write;
 
-/// Puts which word of a line, whose first is the program's own name, isn't as the usage has it, into an empty text: an option that there
+// What a line's words are not as the usage has it.
+#[derive(Clone, Copy)]
+enum Mistake<'a> {
+    Nothing,
+    NoOption(&'a str),
+    Twice(&'a str),
+    TakesNone(&'a str),
+    NoValue(&'a str, &'a str),
+    ValueMissing(&'a str),
+    Print,
+    TooMany(&'a str),
+    NoPaths,
+    NoTables,
+}
+
+/// Puts which word of a line, whose first is the program's own name, isn't as the usage has it, at the end of the text: an option that there
 /// isn't, a value that is none of its option's, a word too many or a path that is missing. Want of memory is the only error.
 pub fn push_mistake(text: &mut String, usage: &str, words: &[&str]) -> Result<(), AllocError> {
+    match mistake_in(usage, words) {
+        Mistake::Nothing => Ok(()),
+        Mistake::NoOption(name) => write!(text, "  There is no option `{name}`.\n"),
+        Mistake::Twice(name) => write!(text, "  `{name}` stands twice.\n"),
+        Mistake::TakesNone(name) => write!(text, "  `{name}` takes no value.\n"),
+        Mistake::NoValue(value, form) => write!(text, "  `{value}` is no value of `{form}`.\n"),
+        Mistake::ValueMissing(form) => {
+            write!(text, "  A value is missing at the end: `{form}`.\n")
+        }
+        Mistake::TooMany(word) => write!(
+            text,
+            "  `{word}` is a word too many: PROGRAM and TABLES stand before it.\n"
+        ),
+        Mistake::Print => {
+            text.push_str("  `--print` stands with one path alone: `cilkreport --print PROGRAM`.\n")
+        }
+        Mistake::NoPaths => text.push_str(
+            "  PROGRAM and TABLES are missing: the paths of the program's file and of the tables'.\n",
+        ),
+        Mistake::NoTables => text.push_str(
+            "  TABLES is missing: the path of the tables' file, behind that of the program.\n",
+        ),
+    }
+}
+
+// The first that is wrong with the words behind the first one.
+fn mistake_in<'a>(usage: &'a str, words: &[&'a str]) -> Mistake<'a> {
     let mut paths: usize = 0;
     let mut awaited = "";
-    for (at, word) in words.iter().enumerate() {
-        if at == 0 {
-            continue;
-        }
-        if !awaited.is_empty() {
-            push_bad_value(text, awaited, word)?;
-            awaited = "";
+    for at in 1..words.len() {
+        let word = words[at];
+        let found = if !awaited.is_empty() {
+            wrong_value(awaited, word)
         } else if word.starts_with('-') {
-            awaited = push_bad_option(text, usage, words, at, word)?;
+            wrong_option(usage, words, at, word)
         } else {
             paths = paths.saturating_add(1);
             if paths > 2 {
-                write!(
-                    text,
-                    "  `{word}` is a word too many: PROGRAM and TABLES stand before it.\n"
-                )?;
+                Mistake::TooMany(word)
+            } else {
+                Mistake::Nothing
             }
+        };
+        if !matches!(found, Mistake::Nothing) {
+            return found;
         }
-        if !text.is_empty() {
-            return Ok(());
-        }
+        awaited = if awaited.is_empty() {
+            awaited_behind(usage, word)
+        } else {
+            ""
+        };
     }
-    push_missing(text, paths, awaited)
+    missing(paths, awaited)
 }
 
-// Puts what the line lacks at its end: an option's value, or a path.
-fn push_missing(text: &mut String, paths: usize, awaited: &str) -> Result<(), AllocError> {
+// What the line lacks at its end: an option's value, or a path.
+fn missing<'a>(paths: usize, awaited: &'a str) -> Mistake<'a> {
     if !awaited.is_empty() {
-        return write!(text, "  A value is missing at the end: `{awaited}`.\n");
+        return Mistake::ValueMissing(awaited);
     }
     match paths {
-        0 => text.push_str(
-            "  PROGRAM and TABLES are missing: the paths of the program's file and of the tables'.\n",
-        ),
-        1 => text.push_str(
-            "  TABLES is missing: the path of the tables' file, behind that of the program.\n",
-        ),
-        _ => Ok(()),
+        0 => Mistake::NoPaths,
+        1 => Mistake::NoTables,
+        _ => Mistake::Nothing,
     }
 }
 
-// Puts what is wrong with an option, if something is. The option's form is answered where its value is the next word; nothing else.
-fn push_bad_option<'a>(
-    text: &mut String,
-    usage: &'a str,
-    words: &[&str],
-    at: usize,
-    word: &str,
-) -> Result<&'a str, AllocError> {
+// What is wrong with an option, which may have its value behind `=`.
+fn wrong_option<'a>(usage: &'a str, words: &[&'a str], at: usize, word: &'a str) -> Mistake<'a> {
     let name = name_of(word);
     if name == "--print" {
-        text.push_str("  `--print` stands with one path alone: `cilkreport --print PROGRAM`.\n")?;
-        return Ok("");
+        return Mistake::Print;
     }
     let form = form_of(usage, name);
     if form.is_empty() {
-        write!(text, "  There is no option `{name}`.\n")?;
-        return Ok("");
+        return Mistake::NoOption(name);
     }
     if is_among(words, at, name) {
-        write!(text, "  `{name}` stands twice.\n")?;
-        return Ok("");
+        return Mistake::Twice(name);
     }
-    match (value_form(form).is_empty(), word.split_once('=')) {
-        (true, None) => {}
-        (true, Some(_)) => write!(text, "  `{name}` takes no value.\n")?,
-        (false, None) => return Ok(form),
-        (false, Some((_, value))) => push_bad_value(text, form, value)?,
+    match word.split_once('=') {
+        None => Mistake::Nothing,
+        Some(_) if value_form(form).is_empty() => Mistake::TakesNone(name),
+        Some((_, value)) => wrong_value(form, value),
     }
-    Ok("")
+}
+
+// The form of the option that a word is, where its value is the next word; else nothing.
+fn awaited_behind<'a>(usage: &'a str, word: &str) -> &'a str {
+    if !word.starts_with('-') || word.contains('=') {
+        return "";
+    }
+    let form = form_of(usage, word);
+    if value_form(form).is_empty() {
+        ""
+    } else {
+        form
+    }
 }
 
 // Whether one of so many first words is the option of that name.
 fn is_among(words: &[&str], count: usize, name: &str) -> bool {
-    for word in words.iter().take(count) {
-        if name_of(word) == name {
+    for at in 0..count.min(words.len()) {
+        if name_of(words[at]) == name {
             return true;
         }
     }
@@ -118,12 +159,13 @@ fn value_form<'a>(form: &'a str) -> &'a str {
     }
 }
 
-// Puts that a value isn't one that its option takes, if it isn't.
-fn push_bad_value(text: &mut String, form: &str, value: &str) -> Result<(), AllocError> {
+// That a value isn't one that its option takes, if it isn't.
+fn wrong_value<'a>(form: &'a str, value: &'a str) -> Mistake<'a> {
     if takes(value_form(form), value) {
-        return Ok(());
+        Mistake::Nothing
+    } else {
+        Mistake::NoValue(value, form)
     }
-    write!(text, "  `{value}` is no value of `{form}`.\n")
 }
 
 // Whether such a value is taken: a number between two, one of some words, or else any that looks like no option.
