@@ -163,7 +163,8 @@ fn choose<V: View>(
     top: &mut Activation,
 ) -> Did
     requires room { here.position.index + 1 < 2 ^ 64 }
-    ensures done { Does here.passes_syncs here.position (λ kit. evaluated here.statement (value_at setting.entry.tables.now.tables top.old.slots (plain condition.now))
+    ensures done { Does here.passes_syncs here.position (λ kit. evaluated here.statement
+        (value_at setting.entry.tables.now.tables top.old.slots (plain condition.now))
         (choosing here.position first second)) top.old layer.old result top.new layer.new }
     ensures empty { OnPassed result (λ block. instruction_at setting.entry.program.now.codes top.old.procedure block 0 ≡ None) }
     ensures same_block { OnNext result (IsInBlock top.old top.new) }
