@@ -1,5 +1,5 @@
 -- Iterations of a loop: one of them as small steps of the strand.
-use Rattle.std.proofs.Common.{◌≡◌, ◌-◌, ◌==◌, ℤ, pos, ◌+ℤ◌, ◌+◌, Bool, true, false, List, Some, None, map, slice_set, refl, ap, ◌∙◌}
+use Rattle.std.proofs.Common.{◌≡◌, ◌-◌, ◌==◌, ℤ, pos, ◌+ℤ◌, ◌+◌, Bool, true, false, List, Some, None, map, slice_set, refl, sym, ap, subst, ◌∙◌, ℕ}
 use Rattle.meaning.specs.Elision.{depth_limit}
 use Rattle.linked_program.specs.CodeView.{expression, memo_of, slots_of}
 use Rattle.evaluation.specs.declared.slot.Slot.{Slot}
@@ -21,6 +21,7 @@ use Rattle.small_steps.specs.Steps.{nested_plain}
 use Rattle.small_steps.proofs.Nesting.{turned_more}
 use Rattle.meaning.specs.declared.tree.Way.TheVariants.{Call}
 use Rattle.running_ahead.specs.Ahead.{IsAhead, ComeBack, TurnsOn, topped_child}
+use Rattle.running_ahead.specs.Chains.{IsTurn, IsStay}
 use Rattle.running_ahead.proofs.Paths.{called_plain, turned_next, enter_ahead, child_returns, child_stays}
 
 module _ (setting : Setting) (site : Loop) (h : Share) (j : PlainLoop) (a : PlainActivation) (l : PlainLayer) where
@@ -65,3 +66,44 @@ module _ (setting : Setting) (site : Loop) (h : Share) (j : PlainLoop) (a : Plai
         enter_ahead setting j.number turn_entry Call None w j.callee slots x y t filled.0 (ap (λ (k : PlainLayer). record x { layer = k }) filled.1)
         (child_stays setting Call None w j.callee slots y j.number deep memo b n kinds t (λ u. home.entry (a.children + 1)) come refl)
         (next s)
+
+-- ---- whatever instance of the loop calls it
+
+module _ (setting : Setting) (site : Loop) (j : PlainLoop) (p : ℕ) (before : List Slot) (left i : ℕ) (u : PlainLayer) where
+  -- the slots that the iteration of that number is entered with, and what was read for them
+  abbrev pub numbered_entry : NumberedOut (List Slot)
+  numbered_entry = entry_at setting.tables (slice_set before j.variable (Has (site.low +ℤ pos i))) (slots_of setting.codes j.callee) (map expression j.arguments)
+
+  module _ (found : j ≡ loop_at setting.codes p site) (memo : memo_of setting.codes j.callee ≡ false) (deep : (left == 0) ≡ false)
+      (slots : List Slot) (m n : PlainLayer) (b : PlainActivation) (filled : Fills numbered_entry slots u m) (kinds : n.kinds ≡ m.kinds) where
+    abbrev begun_in : ℕ → PlainActivation
+    begun_in k = made j.callee slots (Block (first_of 0)) (k - 1)
+
+    abbrev entered_in : ℕ → PlainLayer
+    entered_in k = entering j.callee (depth_limit - (k - 1)) m
+
+    module _ (a : PlainActivation) (h : Share) (procedure : a.procedure ≡ p) (same : a.slots ≡ before) (levels : a.left ≡ left) (there : a.work ≡ Turns site h) (first : h.first ≡ i) (more : (h.count == 0) ≡ false) where
+      found_here : j ≡ loop_at setting.codes a.procedure site
+      found_here = found ∙ ap (λ f. loop_at setting.codes f site) (sym procedure)
+
+      deep_here : (a.left == 0) ≡ false
+      deep_here = subst (λ k. (k == 0) ≡ false) (sym levels) deep
+
+      filled_here : Fills (turn_entry setting site h j a u) slots u m
+      filled_here =
+          subst (λ (xs : List Slot). Fills (entry_at setting.tables (slice_set xs j.variable (Has (site.low +ℤ pos h.first))) (slots_of setting.codes j.callee) (map expression j.arguments)) slots u m) (sym same)
+          (subst (λ (f : ℕ). Fills (entry_at setting.tables (slice_set before j.variable (Has (site.low +ℤ pos f))) (slots_of setting.codes j.callee) (map expression j.arguments)) slots u m) (sym first) filled)
+
+      goes_back : (v : ℤ) → ComesTo setting true (begun_in left) (entered_in left) (Some v) b n → TurnsOn setting a u (waiting false None (Turns site (rest_of h)) a) n
+      goes_back v come =
+          turn_back setting site h j a u there more found_here memo deep_here slots m n b filled_here kinds v (subst (λ (k : ℕ). ComesTo setting true (begun_in k) (entered_in k) (Some v) b n) (sym levels) come)
+
+      stays_there : ComesTo setting true (begun_in left) (entered_in left) None b n → (s : PlainStrand) → ComeBack s → IsAhead setting (topped Running a u s) (topped_child b (waiting false None (Turns site (rest_of h)) a) n s)
+      stays_there come =
+          turn_stays setting site h j a u there more found_here memo deep_here slots m n b filled_here kinds (subst (λ (k : ℕ). ComesTo setting true (begun_in k) (entered_in k) None b n) (sym levels) come)
+
+    pub is_turn : (v : ℤ) → ComesTo setting true (begun_in left) (entered_in left) (Some v) b n → IsTurn setting site p before left i u n
+    is_turn v come a h procedure same levels there first more = goes_back a h procedure same levels there first more v come
+
+    pub is_stay : ComesTo setting true (begun_in left) (entered_in left) None b n → IsStay setting site p before left i u b n
+    is_stay come a h procedure same levels there first more = stays_there a h procedure same levels there first more come

@@ -2,3 +2,8 @@ pub mod Paths
 pub mod Iterations
 pub mod Halving
 pub mod Turned
+pub mod ChainedTurns
+pub mod ChainedHalves
+pub mod Stacked
+pub mod HalvesAtOnce
+pub mod Levels

@@ -27,7 +27,8 @@ one_behind n h =
     let d : h.count - n - 1 ≡ h.count - suc n = omega arith in
     ap (λ (f : ℕ). share_of f (h.count - n - 1)) e ∙ ap (λ (c : ℕ). share_of (h.first + suc n) c) d
 
-next_turn : (n : ℕ) (l : Loop) (h : Share) (a : PlainActivation) → waiting false None (Turns l (rest_of (behind n h))) (turned_by n l h a) ≡ turned_by (suc n) l h a
+-- one more iteration is called
+pub next_turn : (n : ℕ) (l : Loop) (h : Share) (a : PlainActivation) → waiting false None (Turns l (rest_of (behind n h))) (turned_by n l h a) ≡ turned_by (suc n) l h a
 next_turn zero l h a = ap (λ (r : Share). called a (a.children + 1) (Turns l r)) (one_behind zero h)
 next_turn (suc m) l h a =
     let e : a.children + suc m + 1 ≡ a.children + suc (suc m) = omega arith in

@@ -8,3 +8,12 @@ pub enum Came {
     Back,
     Stays,
 }
+
+/// What came of so many iterations, one after another: all of them are over; or so many are, and the next one can't be called so; or
+/// so many are, and the next one has begun and has more to do.
+#[derive(Clone, Copy)]
+pub enum Chained {
+    Whole,
+    Before(u32),
+    Within(u32),
+}

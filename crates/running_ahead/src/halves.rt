@@ -6,6 +6,7 @@ ghost use Rattle.activations.specs.Given.{lent};
 ghost use Rattle.answered_loops.specs.Answered.{is_by_turns};
 ghost use Rattle.running_ahead.specs.Ahead.{IsAhead};
 
+use crate::called_halves::half_at_once;
 use crate::spawning::Spawning;
 use activations::activation::Activation;
 use activations::code::loop_code;
@@ -18,8 +19,8 @@ use std::alloc::Global;
 use std::mem;
 use view_pool::View;
 
-/// Spawns the first half of the iterations, or calls it at once, or goes over to iterations one by one, where no record could answer
-/// all of them at once.
+/// Spawns the first half of the iterations, or goes over to iterations one by one, where no record could answer all of them at once.
+/// Where spawned children are called, few iterations are done in one go, and the first half of more is called.
 #[inline(always)]
 #[tactic(auto, using(crate::proofs::Paths::ahead_here))]
 pub(crate) fn halves_ahead<V: View, S: Spawning>(
@@ -34,6 +35,7 @@ pub(crate) fn halves_ahead<V: View, S: Spawning>(
     requires fits { ShareFits site share }
     requires there { machine.old.top.work ≡ Work.Halves site halvings share }
     requires running { machine.old.phase ≡ Phase.Running }
+    requires kinds { machine.old.layer.kinds ≡ setting.program.now.kinds }
     ensures ahead { IsAhead (lent setting.entry) machine.old machine.new }
     ensures same { spawning.new ≡ spawning.old }
 {
@@ -44,6 +46,9 @@ pub(crate) fn halves_ahead<V: View, S: Spawning>(
         return halve(machine, alloc, setting, site, halvings, share);
     }
     if spawning.is_called() {
+        if half_at_once(machine, alloc, setting, site, halvings, share) {
+            return true;
+        }
         return first_ahead(machine, alloc, setting, site, halvings, share);
     }
     halve(machine, alloc, setting, site, halvings, share)

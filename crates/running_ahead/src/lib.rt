@@ -2,8 +2,10 @@
 #![tactic(auto)]
 
 pub mod ahead;
+mod called_halves;
 pub mod came;
 mod children;
+mod descent;
 mod halves;
 pub mod spawning;
 pub mod turns;

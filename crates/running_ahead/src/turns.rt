@@ -1,14 +1,17 @@
 //! Iterations of a loop one after another, each of which does its statements by itself.
-ghost use Rattle.std.specs.Prelude.{◌≡◌};
+ghost use Rattle.std.specs.Prelude.{◌≡◌, ◌≤◌, ◌==◌, false};
+ghost use Rattle.linked_program.specs.CodeView.{memo_of};
 ghost use Rattle.positions.specs.Activations.{ShareFits};
-ghost use Rattle.activations.specs.Given.{lent};
+ghost use Rattle.positions.specs.Code.{loop_at};
+ghost use Rattle.activations.specs.Given.{lent, loop_of};
 ghost use Rattle.running_ahead.specs.Ahead.{TurnsTo};
+ghost use Rattle.running_ahead.specs.Chains.{ChainsTo, IsFewer};
 
-use crate::came::Came;
+use crate::came::{Came, Chained};
 use activations::activation::Activation;
-use activations::code::{instructions, loop_code};
+use activations::code::{LoopCode, instructions, loop_code};
 use activations::setting::Setting;
-use activations::shares::{behind, number_of};
+use activations::shares::{Turns, behind, number_of};
 use layers::layer::Layer;
 use own_statements::filling::{Iterations, fills_turn, is_counted};
 use own_statements::runs::call;
@@ -38,13 +41,70 @@ pub fn turns<V: View>(
     ensures came { TurnsTo (lent setting.entry) result top.old layer.old child.new top.new layer.new }
 {
     let code = loop_code(setting.program, top.procedure(), site);
-    let left = top.left();
-    if left == 0 || setting.program.is_memo(code.callee) {
+    if top.left() == 0 || setting.program.is_memo(code.callee) {
         return Came::Nowhere;
     }
     let Some(_) = top.children().checked_add(ITERATIONS as usize) else {
         return Came::Nowhere;
     };
+    let some = Turns {
+        site,
+        share: firsts(site, share),
+    };
+    let most = some.share.count;
+    match chain(layer, setting, code, some, top, child, numbers) {
+        Chained::Whole => {
+            top.turns(site, share, most);
+            Came::Back
+        }
+        Chained::Before(done) => {
+            top.turns(site, share, done);
+            Came::Nowhere
+        }
+        Chained::Within(done) => {
+            top.turns(site, share, done + 1);
+            Came::Stays
+        }
+    }
+}
+
+/// So many first ones as are done in one go.
+#[inline(always)]
+fn firsts(site: Loop, share: Share) -> Share
+    requires fits { ShareFits site share }
+    ensures first { result.first ≡ share.first }
+    ensures some { result.count ≤ share.count }
+    ensures few { result.count ≤ 1024 }
+    ensures fits { ShareFits site result }
+{
+    Share {
+        first: share.first,
+        count: share.count.min(ITERATIONS),
+    }
+}
+
+/// Calls that share of a loop's iterations, one after another, as far as each goes back by itself. The loop's instance doesn't learn
+/// of them.
+#[inline(always)]
+pub(crate) fn chain<V: View>(
+    layer: &mut Layer<V>,
+    setting: Setting<'_>,
+    code: LoopCode<'_>,
+    turns: Turns,
+    top: &mut Activation,
+    child: &mut Activation,
+    numbers: &mut Vec<i64>,
+) -> Chained
+    requires fits { ShareFits turns.site turns.share }
+    requires found { loop_of code ≡ loop_at setting.program.now.codes top.old.procedure turns.site }
+    requires plain { memo_of setting.program.now.codes code.callee ≡ false }
+    requires deep { (top.old.left == 0) ≡ false }
+    requires kinds { layer.old.kinds ≡ setting.program.now.kinds }
+    ensures came { ChainsTo (lent setting.entry) turns.site top.old turns.share.first turns.share.count result layer.old child.new layer.new }
+    ensures fewer { IsFewer turns.share.count result }
+    ensures top { top.new ≡ top.old }
+{
+    let left = top.left();
     let size = setting.program.slots(code.callee);
     let body = instructions(setting.program, code.callee, 0, 0);
     let counted = is_counted(top, code.variable, code.arguments);
@@ -55,21 +115,15 @@ pub fn turns<V: View>(
         variable: code.variable,
         counted,
     };
-    let most = share.count.min(ITERATIONS);
-    for done in 0..most {
-        let number = number_of(site, behind(site, share, done));
+    for done in 0..turns.share.count {
+        let number = number_of(turns.site, behind(turns.site, turns.share, done));
         if !fills_turn(layer, child, top, iterations, number) {
-            top.turns(site, share, done);
-            return Came::Nowhere;
+            return Chained::Before(done);
         }
         match call(layer, setting, body, code.callee, left - 1, child, numbers) {
             Some(_) => {}
-            None => {
-                top.turns(site, share, done + 1);
-                return Came::Stays;
-            }
+            None => return Chained::Within(done),
         }
     }
-    top.turns(site, share, most);
-    Came::Back
+    Chained::Whole
 }

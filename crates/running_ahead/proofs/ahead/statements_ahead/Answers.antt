@@ -2,7 +2,6 @@ use Rattle.std.proofs.Common.{rules, ◌≡◌, ℤ, to_z, of_z, w64, Some, None
 use Rattle.positions.specs.declared.phase.Phase.{Phase}
 use Rattle.positions.specs.declared.phase.Phase.TheVariants.{Running, Returning}
 use Rattle.positions.specs.Strands.{PlainStrand}
-use Rattle.positions.specs.Advance.{in_phase}
 use Rattle.activations.specs.Given.{lent}
 use Rattle.own_statements.specs.Paths.{MayPass, ComesTo, topped}
 use Rattle.running_ahead.specs.Ahead.{IsAhead}

@@ -1,0 +1,61 @@
+-- A half that is done in one go, in whatever strand.
+use Rattle.std.proofs.Common.{◌≡◌, ◌∙◌, ℕ, suc, ◌<◌, ◌≤◌, pos, true, false, List, [], ◌∷◌, ◌++◌, sym, ap, subst, arith}
+use Rattle.positions.specs.declared.work.Loop.{Loop}
+use Rattle.positions.specs.declared.work.Share.{Share}
+use Rattle.positions.specs.declared.work.Work.{Work}
+use Rattle.positions.specs.declared.work.Work.TheVariants.{Halves, Turns}
+use Rattle.positions.specs.declared.phase.Phase.TheVariants.{Running, Leaving}
+use Rattle.positions.specs.Setting.{Setting}
+use Rattle.positions.specs.Activations.{PlainActivation, at}
+use Rattle.positions.specs.Layers.{PlainLayer}
+use Rattle.positions.specs.Strands.{PlainStrand}
+use Rattle.activations.specs.Turned.{turned_by}
+use Rattle.own_statements.specs.Paths.{topped}
+use Rattle.answered_loops.specs.Answered.{is_by_turns, halved_to, ended_by, ended}
+use Rattle.running_ahead.specs.Ahead.{IsAhead, topped_child}
+use Rattle.running_ahead.specs.Chains.{AreTurns, IsWithin, reach, IsClear, halves_now, under, Reaches, HalfTo}
+use Rattle.running_ahead.proofs.ChainedHalves.{grain_of, all_over}
+use Rattle.running_ahead.proofs.Stacked.{clear_less, stopped_before, stopped_within}
+
+module _ (setting : Setting) (l : Loop) (k : ℕ) (h : Share) (a : PlainActivation) (there : a.work ≡ Halves l k h) (u : PlainLayer) (path : List ℕ) (below : List PlainActivation) (r g : ℕ) (few : r ≤ 6) where
+  begins : (s : PlainStrand) → halves_now l k h a u s ≡ topped Running a u s
+  begins s = ap (λ (w : Work). topped Running (at w a) u s) (sym there)
+
+  clear_here : (s : PlainStrand) → IsClear 7 s → IsClear (suc r) s
+  clear_here s clear = clear_less (suc r) 7 s (let less : suc r ≤ 7 = omega (arith, few) in less) clear
+
+  -- all iterations are over
+  pub half_whole : (b : PlainActivation) (v : PlainLayer) → g ≡ grain_of setting l a → h.count ≤ reach r g → is_by_turns setting.codes a l k h.count ≡ false → AreTurns setting l a.procedure a.slots a.left h.first u h.count v → b ≡ halved_to a
+      → HalfTo setting true a u path below b v path below
+  half_whole b v grain fits halved turns is s clear e f =
+      let reached : h.count ≤ reach r (grain_of setting l a) = subst (λ (x : ℕ). h.count ≤ reach r x) grain fits in
+      let top : ended setting.codes l k h a ≡ b = ap (λ c. ended_by c l h a) halved ∙ sym is in
+      let over : IsAhead setting (halves_now l k h a u s) (topped (Leaving (pos 0)) (ended setting.codes l k h a) v s) = all_over setting l r k h a u v s (clear_here s clear) reached turns in
+      subst (λ (xs : List ℕ). IsAhead setting (topped Running a u s) (topped (Leaving (pos 0)) b v (under xs below s))) e
+      (subst (λ (xs : List PlainActivation). IsAhead setting (topped Running a u s) (topped (Leaving (pos 0)) b v (under s.path xs s))) f
+      (subst (λ (z : PlainStrand). IsAhead setting z (topped (Leaving (pos 0)) b v s)) (begins s)
+      (subst (λ (x : PlainActivation). IsAhead setting (halves_now l k h a u s) (topped (Leaving (pos 0)) x v s)) top over)))
+
+  module _ (new : List ℕ) (now : List PlainActivation) (n j : ℕ) (part : Share) (b : PlainActivation) (m : ℕ) (some : m < part.count) (procedure : b.procedure ≡ a.procedure) (grain : g ≡ grain_of setting l a) (one : part.count ≤ g) where
+    by_one : part.count ≤ grain_of setting l b
+    by_one = subst (λ (p : ℕ). part.count ≤ (grain_of setting l (record a { procedure = p }))) (sym procedure) (subst (λ (x : ℕ). part.count ≤ x) grain one)
+
+    -- the next one isn't called
+    pub half_before : (c : PlainActivation) (v : PlainLayer) → ((s : PlainStrand) → IsClear (suc r) s → s.path ≡ path → s.below ≡ below → Reaches setting l 0 s k h a u v new now n j part b m)
+        → c ≡ turned_by m l part (at (Turns l part) b) → HalfTo setting false a u path below c v new now
+    half_before c v reaches is s clear e f =
+        subst (λ (z : PlainStrand). IsAhead setting z (topped Running c v (under new now s))) (begins s)
+        (subst (λ (x : PlainActivation). IsAhead setting (halves_now l k h a u s) (topped Running x v (under new now s))) (sym is)
+        (stopped_before setting l s k h a u v new now n j part b m (reaches s (clear_here s clear) e f) by_one some))
+
+    -- the next one stands on top
+    pub half_within : (c child : PlainActivation) (w : PlainLayer) (far : List ℕ) (deep : List PlainActivation) → (inside : IsWithin setting l a.procedure a.slots a.left h.first n u child w)
+        → ((s : PlainStrand) → IsClear (suc r) s → s.path ≡ path → s.below ≡ below → Reaches setting l 0 s k h a u inside.before new now n j part b m)
+        → c ≡ turned_by (suc m) l part (at (Turns l part) b) → far ≡ new ++ c.children ∷ [] → deep ≡ c ∷ now → HalfTo setting false a u path below child w far deep
+    half_within c child w far deep inside reaches is longer deeper s clear e f =
+        let x = under new now s in
+        subst (λ (z : PlainStrand). IsAhead setting z (topped Running child w (under far deep s))) (begins s)
+        (subst (λ (xs : List ℕ). IsAhead setting (halves_now l k h a u s) (topped Running child w (under xs deep s))) (sym longer)
+        (subst (λ (xs : List PlainActivation). IsAhead setting (halves_now l k h a u s) (topped Running child w (under (new ++ c.children ∷ []) xs s))) (sym deeper)
+        (subst (λ (y : PlainActivation). IsAhead setting (halves_now l k h a u s) (topped_child child y w x)) (sym is)
+        (stopped_within setting l s k h a u new now n j part b m child w inside (reaches s (clear_here s clear) e f) by_one some))))

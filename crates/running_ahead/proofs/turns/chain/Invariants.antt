@@ -1,0 +1,11 @@
+use Rattle.std.proofs.Common.{◌≡◌}
+use Rattle.activations.specs.Given.{lent}
+use Rattle.running_ahead.specs.Chains.{AreTurns}
+use Rattle.running_ahead.proofs.turns.chain.Given as goal
+
+abbrev pub invariant-loop-done : goal.invariant-loop-done
+invariant-loop-done g l = record {
+  turns : AreTurns (lent l.setting) l.turns.site l.fn.top.procedure l.fn.top.slots l.fn.top.left l.turns.share.first l.fn.layer l.done l.layer;
+  top : l.top ≡ l.fn.top;
+  kinds : l.layer.kinds ≡ l.fn.layer.kinds;
+}
