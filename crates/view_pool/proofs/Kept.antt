@@ -11,13 +11,5 @@ pub IsWorth-combined : {E : Type 0} (r : Result (Unit {0}) E) (k : Kind) (w v e 
 IsWorth-combined (Ok u) k w v e a b d h = subst (IsWorth k) (sym a) (operate_right k w e h b)
 IsWorth-combined (Err u) k w v e a b d h = subst (IsWorth k) (sym d) h
 
-pub on_ok : {E : Type 0} (r : Result (Unit {0}) E) (P : Type 0) → P → OnOk r P
-on_ok (Ok u) P h = h
-on_ok (Err u) P h = tt
-
 pub kinds_written : {X : Type 0} (kind : X → Kind) (xs : List X) (i : ℕ) (old new : X) → i < length xs → old ≡ get_or xs i old → kind new ≡ kind old → map kind (set xs i new) ≡ map kind xs
 kinds_written kind xs i old new h is same = map-set_same kind xs i new old (same ∙ ap kind is)
-
-pub not_ok : {E : Type 0} (r : Result (Unit {0}) E) (P : Type 0) (e : E) → r ≡ Err e → OnOk r P
-not_ok (Ok u) P e h = absurd cc
-not_ok (Err u) P e h = tt

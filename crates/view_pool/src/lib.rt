@@ -1,12 +1,9 @@
 //! Views of reducers, kits of them, and the pool of kits.
 #![tactic(auto)]
 
-mod amounts;
 mod either_view;
 mod flat_view;
 mod kit;
-mod lists;
-mod pieces;
 mod plain_view;
 mod pool;
 mod view;

@@ -3,9 +3,10 @@ ghost use Rattle.std.specs.Prelude.{◌≡◌};
 ghost use Rattle.monoid_laws.specs.Kinds.{identity_of};
 
 use crate::View;
-use crate::pieces::{add_in_pieces, combine_at_once, combine_in_pieces, copied_in_pieces};
 use monoid_laws::{InjectError, Kind, Val};
-use reducer_values::identity;
+use reducer_values::{
+    add_in_pieces, combine_at_once, combine_in_pieces, copied_in_pieces, identity,
+};
 use std::alloc::{AllocError, Global};
 use std::marker::Model;
 use std::mem;

@@ -3,7 +3,7 @@ use Rattle.std.proofs.lemmas.List.{map-append}
 use Rattle.std.proofs.lemmas.Result.{on_ok_weaker}
 use Rattle.monoid_laws.specs.Worth.{amounts, the_amounts}
 use Rattle.monoid_laws.specs.Kinds.{merge, merged, meaning}
-use Rattle.reducer_values.proofs.Pieces.{merged-append}
+use Rattle.reducer_values.proofs.JoinedPieces.{merged-append}
 use Rattle.reducer_values.proofs.adding.merge_pieces.Goals as goal
 
 pub returns-in-HistPieces-clause-merged : goal.returns-in-HistPieces-clause-merged

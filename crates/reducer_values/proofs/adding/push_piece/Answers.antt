@@ -1,7 +1,7 @@
 use Rattle.std.proofs.Common.{◌∙◌, ◌∷◌, [], ap, map}
 use Rattle.std.proofs.lemmas.List.{map-append}
 use Rattle.monoid_laws.specs.Kinds.{merged}
-use Rattle.reducer_values.proofs.Pieces.{merged-push}
+use Rattle.reducer_values.proofs.JoinedPieces.{merged-push}
 use Rattle.reducer_values.proofs.adding.push_piece.Goals as goal
 
 pub returns-in-Ok-clause-merged : goal.returns-in-Ok-clause-merged

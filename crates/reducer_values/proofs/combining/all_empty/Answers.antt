@@ -3,7 +3,7 @@ use Rattle.std.proofs.lemmas.List.{take_all}
 use Rattle.std.specs.Prelude.{All}
 use Rattle.std.proofs.Common.{vec_len}
 use Rattle.std.proofs.lemmas.Grind.{common_steps}
-use Rattle.reducer_values.proofs.Pieces.{all_step, nothing_in}
+use Rattle.reducer_values.proofs.JoinedPieces.{all_step, nothing_in}
 use Rattle.reducer_values.proofs.combining.all_empty.Goals as goal
 
 pub loop-piece-preserved : goal.loop-piece-preserved

@@ -2,7 +2,7 @@ use Rattle.std.proofs.Common.{◌≡◌, [], sym, subst}
 use Rattle.std.specs.Prelude.{All}
 use Rattle.monoid_laws.specs.Kinds.{meaning}
 use Rattle.reducer_values.specs.Forms.{IsBlank}
-use Rattle.reducer_values.proofs.Pieces.{joined_blank, blank_joined, merged_blank, blank_merged}
+use Rattle.reducer_values.proofs.JoinedPieces.{joined_blank, blank_joined, merged_blank, blank_merged}
 use Rattle.reducer_values.proofs.combining.is_blank.Goals as goal
 
 pub returns-in-Pieces : goal.returns-in-Pieces

@@ -1,5 +1,5 @@
 use Rattle.std.proofs.Common.{rules, ◌≡◌, ◌++◌}
-use Rattle.reducer_values.proofs.Pieces.{joined_behind}
+use Rattle.reducer_values.proofs.JoinedPieces.{joined_behind}
 use Rattle.reducer_values.proofs.joining.join_pieces.Goals as goal
 
 pub loop-piece-preserved : goal.loop-piece-preserved

@@ -2,7 +2,7 @@ use Rattle.std.proofs.Common.{◌∙◌, ◌++◌, ◌∷◌, [], ap, map, sym}
 use Rattle.std.proofs.lemmas.List.{map-append}
 use Rattle.monoid_laws.specs.Worth.{items, the_items}
 use Rattle.monoid_laws.specs.Kinds.{joined, meaning}
-use Rattle.reducer_values.proofs.Pieces.{joined-push}
+use Rattle.reducer_values.proofs.JoinedPieces.{joined-push}
 use Rattle.reducer_values.proofs.joining.push_list.Goals as goal
 
 pub returns-in-Ok-clause-joined : goal.returns-in-Ok-clause-joined

@@ -3,7 +3,7 @@ use Rattle.std.proofs.lemmas.List.{map-append}
 use Rattle.std.proofs.lemmas.Result.{on_ok_weaker}
 use Rattle.monoid_laws.specs.Worth.{items, the_items}
 use Rattle.monoid_laws.specs.Kinds.{joined, meaning}
-use Rattle.reducer_values.proofs.Pieces.{joined-append}
+use Rattle.reducer_values.proofs.JoinedPieces.{joined-append}
 use Rattle.reducer_values.proofs.joining.push_pieces.Goals as goal
 
 pub returns-in-Pieces-clause-joined : goal.returns-in-Pieces-clause-joined

@@ -1,7 +1,8 @@
 use Rattle.std.proofs.Common.{sym, subst}
 use Rattle.monoid_laws.specs.Kinds.{meaning, IsWorth}
 use Rattle.view_pool.specs.Seen.{Seen}
-use Rattle.view_pool.proofs.Kept.{IsWorth-combined, on_ok}
+use Rattle.reducer_values.proofs.WhereOk.{on_ok}
+use Rattle.view_pool.proofs.Kept.{IsWorth-combined}
 use Rattle.view_pool.proofs.flat_view.FlatViewView.absorb.Goals as goal
 
 pub invariant_of-self : goal.invariant_of-self

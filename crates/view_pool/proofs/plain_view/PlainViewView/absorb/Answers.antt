@@ -2,7 +2,8 @@ use Rattle.std.proofs.Common.{◌≡◌, sym, subst}
 use Rattle.monoid_laws.specs.Kinds.{meaning, IsWorth}
 use Rattle.monoid_laws.proofs.Laws.{operate_right}
 use Rattle.view_pool.specs.Seen.{Seen}
-use Rattle.view_pool.proofs.Kept.{IsWorth-combined, on_ok}
+use Rattle.reducer_values.proofs.WhereOk.{on_ok}
+use Rattle.view_pool.proofs.Kept.{IsWorth-combined}
 use Rattle.view_pool.proofs.plain_view.PlainViewView.absorb.Goals as goal
 
 pub invariant_of-self : goal.invariant_of-self

@@ -1,6 +1,0 @@
-use Rattle.std.proofs.Common.{◌≡◌, map}
-use Rattle.monoid_laws.specs.Kinds.{merged}
-use Rattle.view_pool.proofs.amounts.merge_last.Given as goal
-
-abbrev pub invariant-loop : goal.invariant-loop
-invariant-loop l = merged (map (λ p. p.items) l.pieces.items) ≡ merged (map (λ p. p.items) l.fn.pieces.items)
