@@ -213,14 +213,7 @@ impl<V: View> Layer<V> {
         let reads = self.reads(alloc)?;
         let entered = self.entries(alloc, program)?;
         let contribution = self.touched(alloc, program)?;
-        Ok(Recording::new(
-            self,
-            program,
-            contribution,
-            reads,
-            entered,
-            levels,
-        ))
+        Ok(Recording::new(self, program, contribution, reads, entered, levels))
     }
 
     /// Copies of the values that are not the identities, each with its reducer's number. Those of one reducer or two are put into their

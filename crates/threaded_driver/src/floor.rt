@@ -236,12 +236,7 @@ impl<J: Run + Ledger + Stocked + Send, D: Deques, V: View> Floor<'_, J, D, V> {
     /// Small steps that need no kit, where others work too: they may take long. Spawned children are called where it is said so.
     #[inline(always)]
     #[tactic(auto, using(crate::proofs::Staying::stays_way))]
-    fn run_ahead(
-        &self,
-        is_alone: bool,
-        spawned: &mut Spawned,
-        strand: &mut RightStrand<J, V>,
-    )
+    fn run_ahead(&self, is_alone: bool, spawned: &mut Spawned, strand: &mut RightStrand<J, V>)
         ensures spot { spot_of strand.new.strand ≡ spot_of strand.old.strand }
         ensures lower { strand.new.strand.lower ≡ strand.old.strand.lower }
     {
