@@ -1,9 +1,10 @@
 -- A half that is done in one go, in whatever strand.
-use Rattle.std.proofs.Common.{◌≡◌, ◌∙◌, ℕ, suc, ◌<◌, ◌≤◌, pos, true, false, List, [], ◌∷◌, ◌++◌, sym, ap, subst, arith}
+use Rattle.std.proofs.Common.{◌≡◌, ◌∙◌, ℕ, suc, ◌<◌, ◌≤◌, pos, Bool, true, false, List, [], ◌∷◌, ◌++◌, sym, ap, subst, arith}
 use Rattle.positions.specs.declared.work.Loop.{Loop}
 use Rattle.positions.specs.declared.work.Share.{Share}
 use Rattle.positions.specs.declared.work.Work.{Work}
 use Rattle.positions.specs.declared.work.Work.TheVariants.{Halves, Turns}
+use Rattle.positions.specs.declared.phase.Phase.{Phase}
 use Rattle.positions.specs.declared.phase.Phase.TheVariants.{Running, Leaving}
 use Rattle.positions.specs.Setting.{Setting}
 use Rattle.positions.specs.Activations.{PlainActivation, at}
@@ -13,7 +14,7 @@ use Rattle.activations.specs.Turned.{turned_by}
 use Rattle.own_statements.specs.Paths.{topped}
 use Rattle.answered_loops.specs.Answered.{is_by_turns, halved_to, ended_by, ended}
 use Rattle.running_ahead.specs.Ahead.{IsAhead, topped_child}
-use Rattle.running_ahead.specs.Chains.{AreTurns, IsWithin, reach, IsClear, halves_now, under, Reaches, HalfTo}
+use Rattle.running_ahead.specs.Chains.{AreTurns, IsWithin, reach, IsClear, halves_now, under, Reaches, half_phase, HalfTo}
 use Rattle.running_ahead.proofs.ChainedHalves.{grain_of, all_over}
 use Rattle.running_ahead.proofs.Stacked.{clear_less, stopped_before, stopped_within}
 
@@ -59,3 +60,23 @@ module _ (setting : Setting) (l : Loop) (k : ℕ) (h : Share) (a : PlainActivati
         (subst (λ (xs : List PlainActivation). IsAhead setting (halves_now l k h a u s) (topped Running child w (under (new ++ c.children ∷ []) xs s))) (sym deeper)
         (subst (λ (y : PlainActivation). IsAhead setting (halves_now l k h a u s) (topped_child child y w x)) (sym is)
         (stopped_within setting l s k h a u new now n j part b m child w inside (reaches s (clear_here s clear) e f) by_one some))))
+
+-- of a strand as it stands
+module _ (setting : Setting) (s z : PlainStrand) (view : s ≡ z) (running : z.phase ≡ Running) (clear : IsClear 7 z) (a : PlainActivation) (same : a ≡ s.top) (path : List ℕ) (below : List PlainActivation) (same_path : s.path ≡ path) (same_below : s.below ≡ below)
+    (b : PlainActivation) (v : PlainLayer) (new : List ℕ) (now : List PlainActivation) where
+  there_now : (over : Bool) → HalfTo setting over a s.layer path below b v new now → IsAhead setting z (topped (half_phase over) b v (under new now s))
+  there_now over half =
+      let phase : s.phase ≡ Running = ap (λ (x : PlainStrand). x.phase) view ∙ running in
+      let begins : topped Running s.top s.layer s ≡ s = ap (λ (f : Phase). topped f s.top s.layer s) (sym phase) in
+      let t = topped (half_phase over) b v (under new now s) in
+      subst (λ (x : PlainStrand). IsAhead setting x t) (begins ∙ view)
+      (subst (λ (x : PlainActivation). IsAhead setting (topped Running x s.layer s) t) same (half s (subst (λ (x : PlainStrand). IsClear 7 x) (sym view) clear) same_path same_below))
+
+  -- it leaves
+  pub half_leaves : HalfTo setting true a s.layer path below b v new now → IsAhead setting z (topped (Leaving (pos 0)) b v (under new now s))
+  half_leaves half = there_now true half
+
+  -- one of its parts goes on
+  pub half_goes : HalfTo setting false a s.layer path below b v new now → IsAhead setting z (topped s.phase b v (under new now s))
+  half_goes half =
+      subst (λ (f : Phase). IsAhead setting z (topped f b v (under new now s))) (sym (ap (λ (x : PlainStrand). x.phase) view ∙ running)) (there_now false half)

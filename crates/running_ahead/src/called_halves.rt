@@ -1,5 +1,5 @@
 //! Halves of a loop that are called and done in one go: one iteration after another, without the halves' parts on the strand.
-ghost use Rattle.std.specs.Prelude.{◌≡◌, ◌+◌, ◌<◌, ◌≤◌, ◌^◌, ◌==◌, ℕ, List, true, false, All, IfSome, length, reverse, vec_len, vec_capacity};
+ghost use Rattle.std.specs.Prelude.{◌≡◌, ◌+◌, ◌<◌, ◌≤◌, ◌^◌, ◌==◌, ℕ, List, true, false, All, IfSome, OnSome, length, reverse, vec_len, vec_capacity};
 ghost use Rattle.linked_program.specs.CodeView.{memo_of};
 ghost use Rattle.positions.specs.Activations.{ShareFits, at};
 ghost use Rattle.positions.specs.Code.{loop_at};
@@ -59,10 +59,13 @@ pub(crate) fn half_at_once<V: View>(
     ensures unchanged { result ≡ false → machine.new ≡ machine.old }
 {
     let code = loop_code(setting.program, machine.top.procedure(), site);
-    if !may_go(machine, setting, code.callee) || share.count > MOST {
-        return false;
-    }
-    let Some(levels) = levels(share.count, code.grain, halvings) else {
+    let part = Part {
+        site,
+        halvings,
+        share,
+        grain: code.grain,
+    };
+    let Some(levels) = levels_of(machine, setting, code.callee, part) else {
         return false;
     };
     if machine.path.reserve(levels + 1).is_err() || machine.below.reserve(levels + 1).is_err() {
@@ -80,13 +83,6 @@ pub(crate) fn half_at_once<V: View>(
         &mut machine.spares.child,
         &mut machine.numbers,
     );
-    let grain = code.grain;
-    let part = Part {
-        site,
-        halvings,
-        share,
-        grain,
-    };
     if goes_on(
         &mut machine.path,
         &mut machine.below,
@@ -100,6 +96,28 @@ pub(crate) fn half_at_once<V: View>(
         return true;
     }
     true
+}
+
+/// How often that part's iterations of that procedure are halved at most, where they are few and may be done in one go.
+fn levels_of<V: View>(
+    machine: &Machine<V>,
+    setting: Setting<'_>,
+    callee: usize,
+    part: Part,
+) -> Option<usize>
+    ensures plain { OnSome result (memo_of setting.entry.program.now.codes callee ≡ false) }
+    ensures deep { OnSome result ((machine.now.top.left == 0) ≡ false) }
+    ensures children { OnSome result (machine.now.top.children + 1024 < 2 ^ 64) }
+    ensures clear { OnSome result (IsClear 7 machine.now) }
+    ensures fewer { OnSome result (part.share.count ≤ 64) }
+    ensures reached { IfSome result (λ n. part.share.count ≤ reach n part.grain) }
+    ensures few { IfSome result (λ n. n ≤ 6) }
+    ensures halved { IfSome result (λ n. n ≤ part.halvings) }
+{
+    if !may_go(machine, setting, callee) || part.share.count > MOST {
+        return None;
+    }
+    levels(part.share.count, part.grain, part.halvings)
 }
 
 /// Whether a loop's iterations of that procedure may be done so: it isn't marked memo, there is a level and there are numbers for

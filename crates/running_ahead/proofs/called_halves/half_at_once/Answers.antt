@@ -1,15 +1,11 @@
-use Rattle.std.proofs.Common.{rules, ◌≡◌, ◌∙◌, false, List, ℕ, pos, reverse, refl, sym, ap, subst}
-use Rattle.positions.specs.declared.phase.Phase.{Phase}
-use Rattle.positions.specs.declared.phase.Phase.TheVariants.{Running, Leaving}
+use Rattle.std.proofs.Common.{rules, ◌≡◌, ◌∙◌, false, List, ℕ, reverse, sym, ap, subst}
 use Rattle.positions.specs.Activations.{PlainActivation}
 use Rattle.positions.specs.Code.{PlainLoop, loop_at}
 use Rattle.positions.specs.Strands.{PlainStrand}
-use Rattle.positions.specs.Advance.{in_phase}
-use Rattle.activations.specs.Given.{lent, loop_of}
-use Rattle.own_statements.specs.Paths.{topped}
+use Rattle.activations.specs.Given.{lent}
 use Rattle.answered_loops.specs.Answered.{is_by_turns}
-use Rattle.running_ahead.specs.Ahead.{IsAhead}
-use Rattle.running_ahead.specs.Chains.{ChainsTo, IsClear, under}
+use Rattle.running_ahead.specs.Chains.{ChainsTo}
+use Rattle.running_ahead.proofs.HalvesAtOnce.{half_leaves, half_goes}
 use Rattle.running_ahead.proofs.called_halves.half_at_once.Goals as goal
 
 pub returns-then-goes_on-clause-ahead : goal.returns-then-goes_on-clause-ahead
@@ -18,15 +14,10 @@ returns-then-goes_on-clause-ahead g c =
     let site = c.args.site in
     let h = c.args.share in
     let s : PlainStrand = record { start = c.machine.inside.start; layer = c.machine.inside.layer; lower = reverse c.machine.inside.lower.items; path = c.machine.inside.path.items; top = c.machine.inside.top; below = reverse c.machine.inside.below.items; phase = c.machine.inside.phase; arguments = c.machine.inside.arguments.items; tally = c.machine.inside.tally } in
-    let phase : s.phase ≡ Running = ap (λ (z : PlainStrand). z.phase) c.machine.view_is ∙ c.requires.running in
-    let begins : topped Running s.top s.layer s ≡ s = ap (λ (f : Phase). in_phase f s) (sym phase) in
-    let clear : IsClear 7 s = subst (λ (z : PlainStrand). IsClear 7 z) (sym c.machine.view_is) (c.if-not-may_go.ensures.clear refl) in
     let a : PlainActivation = c.chain-came.new.top in
     let same : a ≡ s.top = c.chain-came.ensures.top in
-    let code : PlainLoop = loop_of c.loop_code-code.result in
-    let found : code ≡ loop_at S.codes c.procedure.result site = c.loop_code-code.ensures.found in
     let procedure : c.procedure.result ≡ a.procedure = c.procedure.ensures.procedure ∙ ap (λ (x : PlainActivation). x.procedure) (sym same) in
-    let grain : code.grain ≡ (loop_at S.codes a.procedure site).grain = ap (λ (j : PlainLoop). j.grain) found ∙ ap (λ (f : ℕ). (loop_at S.codes f site).grain) procedure in
+    let grain : c.loop_code-code.result.grain ≡ (loop_at S.codes a.procedure site).grain = ap (λ (j : PlainLoop). j.grain) c.loop_code-code.ensures.found ∙ ap (λ (f : ℕ). (loop_at S.codes f site).grain) procedure in
     let top : c.args.machine.now.top ≡ a = ap (λ (z : PlainStrand). z.top) (sym c.machine.view_is) ∙ sym same in
     let halved : is_by_turns S.codes a site c.args.halvings h.count ≡ false = subst (λ (x : PlainActivation). is_by_turns S.codes x site c.args.halvings h.count ≡ false) top c.requires.halved in
     let chained : ChainsTo S site a h.first h.count c.chain-came.result s.layer c.chain-came.new.child c.chain-came.new.layer =
@@ -34,9 +25,8 @@ returns-then-goes_on-clause-ahead g c =
     let path : s.path ≡ c.reserve.new.self.items = search rules in
     let items : c.machine.inside.below.items ≡ c.reserve-else-is_err.new.self.items = search rules in
     let below : s.below ≡ reverse c.reserve-else-is_err.new.self.items = ap (λ (xs : List PlainActivation). reverse xs) items in
-    let t = topped (Leaving (pos 0)) c.goes_on.new.top c.chain-came.new.layer (under c.goes_on.new.path.items (reverse c.goes_on.new.below.items) s) in
-    let way : IsAhead S (topped Running a s.layer s) t = c.if-goes_on.ensures.came S s.layer c.chain-came.new.layer grain halved chained s clear path below in
-    subst (λ (z : PlainStrand). IsAhead S z t) (begins ∙ c.machine.view_is) (subst (λ (x : PlainActivation). IsAhead S (topped Running x s.layer s) t) same way)
+    half_leaves S s c.args.machine.now c.machine.view_is c.requires.running c.in-Some.ensures.clear a same c.reserve.new.self.items (reverse c.reserve-else-is_err.new.self.items) path below
+    c.goes_on.new.top c.chain-came.new.layer c.goes_on.new.path.items (reverse c.goes_on.new.below.items) (c.if-goes_on.ensures.came S s.layer c.chain-came.new.layer grain halved chained)
 
 pub returns-clause-ahead : goal.returns-clause-ahead
 returns-clause-ahead g c =
@@ -44,15 +34,10 @@ returns-clause-ahead g c =
     let site = c.args.site in
     let h = c.args.share in
     let s : PlainStrand = record { start = c.machine.inside.start; layer = c.machine.inside.layer; lower = reverse c.machine.inside.lower.items; path = c.machine.inside.path.items; top = c.machine.inside.top; below = reverse c.machine.inside.below.items; phase = c.machine.inside.phase; arguments = c.machine.inside.arguments.items; tally = c.machine.inside.tally } in
-    let phase : s.phase ≡ Running = ap (λ (z : PlainStrand). z.phase) c.machine.view_is ∙ c.requires.running in
-    let begins : topped Running s.top s.layer s ≡ s = ap (λ (f : Phase). in_phase f s) (sym phase) in
-    let clear : IsClear 7 s = subst (λ (z : PlainStrand). IsClear 7 z) (sym c.machine.view_is) (c.if-not-may_go.ensures.clear refl) in
     let a : PlainActivation = c.chain-came.new.top in
     let same : a ≡ s.top = c.chain-came.ensures.top in
-    let code : PlainLoop = loop_of c.loop_code-code.result in
-    let found : code ≡ loop_at S.codes c.procedure.result site = c.loop_code-code.ensures.found in
     let procedure : c.procedure.result ≡ a.procedure = c.procedure.ensures.procedure ∙ ap (λ (x : PlainActivation). x.procedure) (sym same) in
-    let grain : code.grain ≡ (loop_at S.codes a.procedure site).grain = ap (λ (j : PlainLoop). j.grain) found ∙ ap (λ (f : ℕ). (loop_at S.codes f site).grain) procedure in
+    let grain : c.loop_code-code.result.grain ≡ (loop_at S.codes a.procedure site).grain = ap (λ (j : PlainLoop). j.grain) c.loop_code-code.ensures.found ∙ ap (λ (f : ℕ). (loop_at S.codes f site).grain) procedure in
     let top : c.args.machine.now.top ≡ a = ap (λ (z : PlainStrand). z.top) (sym c.machine.view_is) ∙ sym same in
     let halved : is_by_turns S.codes a site c.args.halvings h.count ≡ false = subst (λ (x : PlainActivation). is_by_turns S.codes x site c.args.halvings h.count ≡ false) top c.requires.halved in
     let chained : ChainsTo S site a h.first h.count c.chain-came.result s.layer c.chain-came.new.child c.chain-came.new.layer =
@@ -60,7 +45,5 @@ returns-clause-ahead g c =
     let path : s.path ≡ c.reserve.new.self.items = search rules in
     let items : c.machine.inside.below.items ≡ c.reserve-else-is_err.new.self.items = search rules in
     let below : s.below ≡ reverse c.reserve-else-is_err.new.self.items = ap (λ (xs : List PlainActivation). reverse xs) items in
-    let t = λ (f : Phase). topped f c.goes_on.new.top c.chain-came.new.layer (under c.goes_on.new.path.items (reverse c.goes_on.new.below.items) s) in
-    let way : IsAhead S (topped Running a s.layer s) (t Running) = c.if-goes_on.ensures.came S s.layer c.chain-came.new.layer grain halved chained s clear path below in
-    let end : IsAhead S (topped Running a s.layer s) (t s.phase) = subst (λ (f : Phase). IsAhead S (topped Running a s.layer s) (t f)) (sym phase) way in
-    subst (λ (z : PlainStrand). IsAhead S z (t s.phase)) (begins ∙ c.machine.view_is) (subst (λ (x : PlainActivation). IsAhead S (topped Running x s.layer s) (t s.phase)) same end)
+    half_goes S s c.args.machine.now c.machine.view_is c.requires.running c.in-Some.ensures.clear a same c.reserve.new.self.items (reverse c.reserve-else-is_err.new.self.items) path below
+    c.goes_on.new.top c.chain-came.new.layer c.goes_on.new.path.items (reverse c.goes_on.new.below.items) (c.if-goes_on.ensures.came S s.layer c.chain-came.new.layer grain halved chained)
