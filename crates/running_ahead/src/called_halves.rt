@@ -18,13 +18,14 @@ use crate::children::put_on_top;
 use crate::descent::{Part, Ready, descend};
 use crate::turns::chain;
 use activations::activation::Activation;
-use activations::code::loop_code;
+use activations::code::{instructions, loop_code};
 use activations::setting::Setting;
 use activations::shares::Turns;
 use activations::spares::Spares;
 use evaluation::slot::Slot;
 use layers::layer::Layer;
 use layers::tally::Tally;
+use linked_program::code::Operation;
 use positions::phase::Phase;
 use positions::start::Start;
 use positions::work::{Loop, Share, Work};
@@ -120,8 +121,8 @@ fn levels_of<V: View>(
     levels(part.share.count, part.grain, part.halvings)
 }
 
-/// Whether a loop's iterations of that procedure may be done so: it isn't marked memo, there is a level and there are numbers for
-/// them, and the syncs above are passed.
+/// Whether a loop's iterations of that procedure may be done so: it isn't marked memo and may go back by itself, there is a level and
+/// there are numbers for them, and the syncs above are passed.
 fn may_go<V: View>(machine: &Machine<V>, setting: Setting<'_>, callee: usize) -> bool
     ensures plain { result ≡ true → memo_of setting.entry.program.now.codes callee ≡ false }
     ensures deep { result ≡ true → (machine.now.top.left == 0) ≡ false }
@@ -131,10 +132,27 @@ fn may_go<V: View>(machine: &Machine<V>, setting: Setting<'_>, callee: usize) ->
     if setting.program.is_memo(callee) || machine.top.left() == 0 {
         return false;
     }
+    if never_goes_back(setting, callee) {
+        return false;
+    }
     let Some(_) = machine.top.children().checked_add(CHILDREN) else {
         return false;
     };
     is_clear(machine)
+}
+
+/// Whether an instance of that procedure has more to do than it does by itself: then each iteration would stay, and what is made ready
+/// for the half would be of no use.
+fn never_goes_back(setting: Setting<'_>, callee: usize) -> bool {
+    for statement in instructions(setting.program, callee, 0, 0) {
+        match &statement.operation {
+            Operation::Enter(_, _, _, _) => return true,
+            Operation::Read(_, _) => return true,
+            Operation::Loop(_, _, _, _, _, _) => return true,
+            _ => {}
+        }
+    }
+    false
 }
 
 /// Whether the implicit syncs of the topmost instance, and of those up to seven levels above it, are passed and close no layer.
