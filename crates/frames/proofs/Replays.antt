@@ -10,7 +10,7 @@ use Rattle.positions.specs.Strands.{PlainStrand, IsLayeredAt}
 use Rattle.small_steps.specs.Steps.{IsWhole}
 use Rattle.answered_loops.specs.Ways.{IsWay}
 use Rattle.answered_loops.proofs.Ways.{way_layered}
-use Rattle.loop_answers.specs.Ahead.{IsAnsweredAhead, IsSameButAnswers}
+use Rattle.loop_answers.specs.Ahead.{IsAnsweredAhead, IsSameButAnswers, IsRefusedAhead}
 
 pub on_ok : {A E : Type 0} (r : Result A E) (P Q : Type 0) → (P → Q) → OnOk r P → OnOk r Q
 on_ok (Ok a) P Q f h = f h
@@ -41,18 +41,18 @@ module _ (setting : Setting) where
         made = subst (λ (ks : List Kind). HaveValues ks s.tally.made) (sym e.kinds) h.made;
       })
 
-  pub whole_after : {A E : Type 0} (r : Result A E) (s t : PlainStrand) → OnOk r (IsAnsweredAhead setting s t) → OnErr r (IsSameButAnswers s t) → IsWhole s → IsWhole t
+  pub whole_after : {A E : Type 0} (r : Result A E) (s t : PlainStrand) → OnOk r (IsAnsweredAhead setting s t) → OnErr r (IsRefusedAhead setting s t) → IsWhole s → IsWhole t
   whole_after (Ok a) s t ok err h = answered_whole s t ok h
-  whole_after (Err e) s t ok err h = refused_whole s t err h
+  whole_after (Err e) s t ok err h = refused_whole err.between t err.same (answered_whole s err.between err.ahead h)
 
   pub way_then : {E : Type 0} (r : Result Bool E) (s u t : PlainStrand) → s ≡ u → OnOk r (IsAnsweredAhead setting s t) → OnOk r (IsWay setting u t)
   way_then (Ok a) s u t e h = subst (λ (x : PlainStrand). IsWay setting x t) e h.way
   way_then (Err x) s u t e h = tt
 
-  pub lower_then : {E : Type 0} (r : Result Bool E) (s t : PlainStrand) → OnOk r (IsAnsweredAhead setting s t) → OnErr r (IsSameButAnswers s t) → t.lower ≡ s.lower
+  pub lower_then : {E : Type 0} (r : Result Bool E) (s t : PlainStrand) → OnOk r (IsAnsweredAhead setting s t) → OnErr r (IsRefusedAhead setting s t) → t.lower ≡ s.lower
   lower_then (Ok a) s t ok err = ok.lower
-  lower_then (Err x) s t ok err = ap (λ (u : PlainStrand). u.lower) err.is
+  lower_then (Err x) s t ok err = ap (λ (u : PlainStrand). u.lower) err.same.is ∙ err.ahead.lower
 
-  pub kinds_then : {E : Type 0} (r : Result Bool E) (s t : PlainStrand) → OnOk r (IsAnsweredAhead setting s t) → OnErr r (IsSameButAnswers s t) → t.layer.kinds ≡ s.layer.kinds
+  pub kinds_then : {E : Type 0} (r : Result Bool E) (s t : PlainStrand) → OnOk r (IsAnsweredAhead setting s t) → OnErr r (IsRefusedAhead setting s t) → t.layer.kinds ≡ s.layer.kinds
   kinds_then (Ok a) s t ok err = ok.kinds
-  kinds_then (Err x) s t ok err = err.kinds
+  kinds_then (Err x) s t ok err = err.same.kinds ∙ err.ahead.kinds

@@ -46,6 +46,13 @@ module _ (kinds : List Kind) where
   sums_first (suc n) (rs ∷ parts) [] h = absurd h
   sums_first (suc n) (rs ∷ parts) (b ∷ bs) h = (h.0, h.1, sums_first n parts bs h.2)
 
+  sums_rest : (n : ℕ) (parts : List (List PlainRecord)) (bs : List Batch) → AreSums kinds parts bs → AreSums kinds (drop n parts) (drop n bs)
+  sums_rest zero parts bs h = h
+  sums_rest (suc n) [] [] h = tt
+  sums_rest (suc n) [] (b ∷ bs) h = absurd h
+  sums_rest (suc n) (rs ∷ parts) [] h = absurd h
+  sums_rest (suc n) (rs ∷ parts) (b ∷ bs) h = sums_rest n parts bs h.2
+
   pub as_many : (parts : List (List PlainRecord)) (bs : List Batch) → AreSums kinds parts bs → length (all_in parts) ≡ instances_in bs
   as_many [] [] h = refl
   as_many [] (b ∷ bs) h = absurd h
@@ -93,6 +100,25 @@ module _ (setting : Setting) (j : PlainLoop) (slots : List Slot) (left : ℕ) (l
     sums = sums_first setting.kinds n h.parts bs h.sums;
     answers = answers_before i (all_in (take n h.parts)) (all_in (drop n h.parts)) (subst (AreAnswers setting j slots left low i) (all_split n h.parts) h.answers);
   }
+
+  -- those behind others
+  answers_after : (m : ℕ) (xs ys : List PlainRecord) → AreAnswers setting j slots left low m (xs ++ ys) → AreAnswers setting j slots left low (m + length xs) ys
+  answers_after m [] ys h = subst (λ n. AreAnswers setting j slots left low n ys) (let e : m ≡ m + 0 = omega arith in e) h
+  answers_after m (x ∷ xs) ys h = subst (λ n. AreAnswers setting j slots left low n ys) (let e : (m + 1) + length xs ≡ m + suc (length xs) = omega arith in e) (answers_after (m + 1) xs ys h.1)
+
+  -- all but the first ones, which answer so many iterations
+  pub batches_rest : (n m : ℕ) (bs : List Batch) → instances_in (take n bs) ≡ m → AreBatches setting j slots left low i bs → AreBatches setting j slots left low (i + m) (drop n bs)
+  batches_rest n m bs e h =
+      let many : length (all_in (take n h.parts)) ≡ m = as_many setting.kinds (take n h.parts) (take n bs) (sums_first setting.kinds n h.parts bs h.sums) ∙ e in
+      record {
+        parts = drop n h.parts;
+        sums = sums_rest setting.kinds n h.parts bs h.sums;
+        answers = subst (λ q. AreAnswers setting j slots left low (i + q) (all_in (drop n h.parts))) many
+            (answers_after i (all_in (take n h.parts)) (all_in (drop n h.parts)) (subst (AreAnswers setting j slots left low i) (all_split n h.parts) h.answers));
+      }
+
+pub has_rest : (setting : Setting) (l : Loop) (a : PlainActivation) (i n m : ℕ) (bs : List Batch) → instances_in (take n bs) ≡ m → HasBatches setting l a i bs → HasBatches setting l a (i + m) (drop n bs)
+has_rest setting l a i n m bs e h = record { of_memo = h.of_memo; batches = batches_rest setting (loop_at setting.codes a.procedure l) a.slots a.left l.low i n m bs e h.batches }
 
 pub has_first : (setting : Setting) (l : Loop) (a : PlainActivation) (i n : ℕ) (bs : List Batch) → HasBatches setting l a i bs → HasBatches setting l a i (take n bs)
 has_first setting l a i n bs h = record { of_memo = h.of_memo; batches = batches_first setting (loop_at setting.codes a.procedure l) a.slots a.left l.low i n bs h.batches }

@@ -4,3 +4,4 @@ pub mod Counted
 pub mod Opened
 pub mod Batches
 pub mod Replays
+pub mod Levels

@@ -160,7 +160,7 @@ module _ (setting : Setting) where
         subst (λ (x : PlainStrand). IsAnsweredAhead setting s x) (sym is)
         (record { way = half_answers setting s l k h rs running there inside (many ∙ all) each; lower = refl; kinds = absorbed_kinds (iteration_depth s.top) rs s.layer; made = refl })
 
-    first_ends : (k : ℕ) (done : Bool) → s.top.work ≡ Halves l k h → IsInside s → instances_in bs ≡ h.count / 2 → is_by_turns setting.codes s.top l k h.count ≡ false
+    pub first_ends : (k : ℕ) (done : Bool) → s.top.work ≡ Halves l k h → IsInside s → instances_in bs ≡ h.count / 2 → is_by_turns setting.codes s.top l k h.count ≡ false
         → DoneBy done (t ≡ first_left l (k - 1) h bs m) (t ≡ m) → IsAnsweredAhead setting s t
     first_ends k false there inside half halved e = answered_same s t (e ∙ same)
     first_ends k true there inside half halved e =
@@ -208,13 +208,6 @@ module _ (setting : Setting) where
   half_over (Ok done) s m t l h bs qs k same running kinds are has there inside all halved is e =
       half_ends s m t l h bs same running kinds are has k done there inside all halved (subst (λ cs. DoneBy done (t ≡ halves_left cs m) (t ≡ m)) is e)
   half_over (Err x) s m t l h bs qs k same running kinds are has there inside all halved is e = tt
-
-  pub first_over : {E : Type 0} (r : Result Bool E) (s m t : PlainStrand) (l : Loop) (h : Share) (bs qs : List Batch) (k : ℕ) → m ≡ s → s.phase ≡ Running → s.layer.kinds ≡ setting.kinds → AreWorths s.layer.kinds s.layer.worths
-      → HasBatches setting l s.top h.first bs → s.top.work ≡ Halves l k h → IsInside s → instances_in bs ≡ h.count / 2 → is_by_turns setting.codes s.top l k h.count ≡ false → qs ≡ bs
-      → IfOk r (λ done. DoneBy done (t ≡ first_left l (k - 1) h qs m) (t ≡ m)) → OnOk r (IsAnsweredAhead setting s t)
-  first_over (Ok done) s m t l h bs qs k same running kinds are has there inside half halved is e =
-      first_ends s m t l h bs same running kinds are has k done there inside half halved (subst (λ cs. DoneBy done (t ≡ first_left l (k - 1) h cs m) (t ≡ m)) is e)
-  first_over (Err x) s m t l h bs qs k same running kinds are has there inside half halved is e = tt
 
   pub last_over : {E : Type 0} (r : Result Bool E) (s m t : PlainStrand) (l : Loop) (h : Share) (bs : List Batch) (k : ℕ) → m ≡ s → s.phase ≡ Running → s.layer.kinds ≡ setting.kinds → AreWorths s.layer.kinds s.layer.worths
       → HasBatches setting l s.top h.first bs → s.top.work ≡ Halves l k h → IsInside s → instances_in bs ≡ h.count → is_by_turns setting.codes s.top l k h.count ≡ true

@@ -18,6 +18,12 @@ pub record IsSameButAnswers (s t : PlainStrand) : Type 0 where
   pub is : t ≡ record s { layer = t.layer; arguments = t.arguments; tally = record s.tally { reused = t.tally.reused } }
   pub kinds : t.layer.kinds ≡ s.layer.kinds
 
+-- memory is refused behind some of these steps
+pub record IsRefusedAhead (setting : Setting) (s t : PlainStrand) : Type 0 where
+  pub between : PlainStrand
+  pub ahead : IsAnsweredAhead setting s between
+  pub same : IsSameButAnswers between t
+
 -- where that was done, and else
 abbrev pub DoneBy : Bool → Type 0 → Type 0 → Type 0
 DoneBy true done same = done

@@ -6,11 +6,11 @@ ghost use Rattle.positions.specs.Activations.{ShareFits};
 ghost use Rattle.positions.specs.Tallies.{is_own};
 ghost use Rattle.activations.specs.Given.{lent};
 ghost use Rattle.answered_loops.specs.Answered.{IsInside, is_by_turns};
-ghost use Rattle.loop_answers.specs.Batches.{HasBatches};
-ghost use Rattle.loop_answers.specs.Ahead.{IsAnsweredAhead, IsSameButAnswers};
+ghost use Rattle.loop_answers.specs.Ahead.{IsAnsweredAhead, IsSameButAnswers, IsRefusedAhead};
 
-use crate::finding::{Found, answers};
-use crate::taking::{batches_for, begin_turns, end_first, end_halves, end_last, end_turns};
+use crate::descending::{Descent, descend};
+use crate::finding::answers;
+use crate::taking::{begin_turns, end_halves, end_last, end_turns};
 use crate::tried::Wanted;
 use activations::code::loop_code;
 use activations::setting::Setting;
@@ -23,31 +23,34 @@ use small_steps::machine::Machine;
 use std::alloc::{AllocError, Global};
 use view_pool::View;
 
+/// How many times a loop may be halved.
+pub(crate) const HALVINGS: u32 = meaning::HALVINGS;
+
 /// Where the topmost instance is a loop's over a memo procedure, has records answer iterations: all those of a half that is halved
-/// again, where they can, or the first ones of those that are left one by one. Whether any were answered. Where memory is refused
-/// the strand can't go on.
+/// again, where they can, else the first ones, and it goes down to the next; or the first ones of those that are left one by one.
+/// Whether any were answered. It is said whether a spawned child is called, for the halves that aren't answered. Where memory is
+/// refused the strand can't go on.
 #[inline(always)]
 #[tactic(auto, using(crate::proofs::Replays::answered_same))]
 pub fn answer_ahead<V: View>(
     machine: &mut Machine<V>,
     alloc: Global,
     setting: Setting<'_>,
+    calls: bool,
 ) -> Result<bool, AllocError>
     requires layered { machine.old.phase ≡ Phase.Running → length machine.old.tally.opened ≡ length machine.old.lower }
     requires kinds { machine.old.layer.kinds ≡ setting.program.now.kinds }
     requires monoids { All IsMonoid setting.program.now.kinds }
     requires values { HaveValues setting.program.now.kinds setting.records.now }
     ensures ahead { OnOk result (IsAnsweredAhead (lent setting.entry) machine.old machine.new) }
-    ensures refused { OnErr result (IsSameButAnswers machine.old machine.new) }
+    ensures refused { OnErr result (IsRefusedAhead (lent setting.entry) machine.old machine.new) }
 {
     if setting.records.is_empty() {
         return Ok(false);
     }
     match machine.phase {
         Phase::Running => match machine.top.work() {
-            Work::Halves(site, halvings, share) => {
-                answer_half(machine, alloc, setting, site, halvings, share)
-            }
+            Work::Halves(_, _, _) => answer_halves(machine, alloc, setting, calls),
             Work::Turns(site, share) => answer_turns(machine, alloc, setting, site, share),
             _ => Ok(false),
         },
@@ -55,89 +58,115 @@ pub fn answer_ahead<V: View>(
     }
 }
 
-/// All iterations of a half that is halved again, where records answer them.
+/// The same at a half, and at the halves in it that it comes to. It is kept out of the loop over small steps, which saves its registers.
+#[inline(never)]
+#[tactic(auto, using(crate::proofs::Replays::answered_same))]
+fn answer_halves<V: View>(
+    machine: &mut Machine<V>,
+    alloc: Global,
+    setting: Setting<'_>,
+    calls: bool,
+) -> Result<bool, AllocError>
+    requires layered { machine.old.phase ≡ Phase.Running → length machine.old.tally.opened ≡ length machine.old.lower }
+    requires running { machine.old.phase ≡ Phase.Running }
+    requires kinds { machine.old.layer.kinds ≡ setting.program.now.kinds }
+    requires monoids { All IsMonoid setting.program.now.kinds }
+    requires values { HaveValues setting.program.now.kinds setting.records.now }
+    ensures ahead { OnOk result (IsAnsweredAhead (lent setting.entry) machine.old machine.new) }
+    ensures refused { OnErr result (IsRefusedAhead (lent setting.entry) machine.old machine.new) }
+{
+    for _ in 0..HALVINGS {
+        match answer_next(machine, alloc, setting, calls) {
+            Ok(true) => {}
+            Ok(false) => return Ok(true),
+            Err(error) => return Err(error),
+        }
+    }
+    Ok(true)
+}
+
+/// The same at the half that comes next. Whether it came to another one of which nothing is known.
+#[inline(always)]
+#[tactic(auto, using(crate::proofs::Replays::answered_same))]
+fn answer_next<V: View>(
+    machine: &mut Machine<V>,
+    alloc: Global,
+    setting: Setting<'_>,
+    calls: bool,
+) -> Result<bool, AllocError>
+    requires layered { machine.old.phase ≡ Phase.Running → length machine.old.tally.opened ≡ length machine.old.lower }
+    requires kinds { machine.old.layer.kinds ≡ setting.program.now.kinds }
+    requires monoids { All IsMonoid setting.program.now.kinds }
+    requires values { HaveValues setting.program.now.kinds setting.records.now }
+    ensures ahead { OnOk result (IsAnsweredAhead (lent setting.entry) machine.old machine.new) }
+    ensures refused { OnErr result (IsRefusedAhead (lent setting.entry) machine.old machine.new) }
+{
+    match machine.phase {
+        Phase::Running => match machine.top.work() {
+            Work::Halves(site, halvings, share) => {
+                let turns = Turns { site, share };
+                answer_half(machine, alloc, setting, turns, halvings, calls)
+            }
+            _ => Ok(false),
+        },
+        _ => Ok(false),
+    }
+}
+
+/// All iterations of a half, where records answer them; else it goes down to the first one that they don't. Whether it came to
+/// another half of which nothing is known.
 #[tactic(auto, using(crate::proofs::Replays::answered_same))]
 fn answer_half<V: View>(
     machine: &mut Machine<V>,
     alloc: Global,
     setting: Setting<'_>,
-    site: Loop,
+    turns: Turns,
     halvings: u32,
-    share: Share,
+    calls: bool,
 ) -> Result<bool, AllocError>
-    requires fits { ShareFits site share }
-    requires there { machine.old.top.work ≡ Work.Halves site halvings share }
+    requires fits { ShareFits turns.site turns.share }
+    requires there { machine.old.top.work ≡ Work.Halves turns.site halvings turns.share }
     requires running { machine.old.phase ≡ Phase.Running }
     requires layered { length machine.old.tally.opened ≡ length machine.old.lower }
     requires kinds { machine.old.layer.kinds ≡ setting.program.now.kinds }
     requires monoids { All IsMonoid setting.program.now.kinds }
     requires values { HaveValues setting.program.now.kinds setting.records.now }
     ensures ahead { OnOk result (IsAnsweredAhead (lent setting.entry) machine.old machine.new) }
-    ensures refused { OnErr result (IsSameButAnswers machine.old machine.new) }
+    ensures refused { OnErr result (IsRefusedAhead (lent setting.entry) machine.old machine.new) }
 {
-    let code = loop_code(setting.program, machine.top.procedure(), site);
-    let by_turns = goes_by_turns(halvings, share.count, code.grain);
+    let code = loop_code(setting.program, machine.top.procedure(), turns.site);
+    let by_turns = goes_by_turns(halvings, turns.share.count, code.grain);
     if by_turns {
-        return answer_last(machine, alloc, setting, site, halvings, share);
+        let _ = answer_last(machine, alloc, setting, turns.site, halvings, turns.share)?;
+        return Ok(false);
     }
     let wanted = Wanted {
-        most: share.count,
+        most: turns.share.count,
         all: true,
     };
-    let turns = Turns { site, share };
     let Some(found) = answers(machine, alloc, setting, code, turns, wanted) else {
         return Ok(false);
     };
-    if found.count != share.count {
-        return answer_first(machine, alloc, setting, &found, site, halvings, share);
-    }
     if !is_inside(machine) {
         return Ok(false);
     }
-    of_kinds(machine);
-    end_halves(machine, alloc, &found.batches)
-}
-
-/// All iterations of the first half of a half that is halved again, where the first of these batches answer just those: then nothing
-/// is spawned, and the second half is next.
-#[tactic(auto, using(crate::proofs::Replays::answered_same))]
-fn answer_first<V: View>(
-    machine: &mut Machine<V>,
-    alloc: Global,
-    setting: Setting<'_>,
-    found: &Found<'_>,
-    site: Loop,
-    halvings: u32,
-    share: Share,
-) -> Result<bool, AllocError>
-    requires fits { ShareFits site share }
-    requires there { machine.old.top.work ≡ Work.Halves site halvings share }
-    requires running { machine.old.phase ≡ Phase.Running }
-    requires layered { length machine.old.tally.opened ≡ length machine.old.lower }
-    requires kinds { machine.old.layer.kinds ≡ setting.program.now.kinds }
-    requires monoids { All IsMonoid setting.program.now.kinds }
-    requires halved { is_by_turns setting.program.now.codes machine.old.top site halvings share.count ≡ false }
-    requires answers { HasBatches (lent setting) site machine.old.top share.first found.now.batches.items }
-    ensures ahead { OnOk result (IsAnsweredAhead (lent setting.entry) machine.old machine.new) }
-    ensures refused { OnErr result (IsSameButAnswers machine.old machine.new) }
-{
-    let batches = found.batches.as_slice();
-    let Some(count) = batches_for(batches, share.count / 2) else {
+    if found.count == turns.share.count {
+        of_kinds(machine);
+        let _ = end_halves(machine, alloc, &found.batches)?;
         return Ok(false);
+    }
+    let descent = Descent {
+        halvings,
+        is_stale: found.ends_at_stale(),
+        calls,
     };
-    if !is_inside(machine) {
-        return Ok(false);
-    }
-    // (what the setting's type keeps is needed for the path of steps)
-    let _ = setting.program;
-    of_kinds(machine);
-    end_first(machine, alloc, &batches[..count], site, halvings, share)
+    descend(machine, alloc, setting, &found.batches, turns, descent)
 }
 
 /// A half that isn't halved again: all iterations where records answer them, else the first ones, and the others are done one by
 /// one.
 #[tactic(auto, using(crate::proofs::Replays::answered_same))]
-fn answer_last<V: View>(
+pub(crate) fn answer_last<V: View>(
     machine: &mut Machine<V>,
     alloc: Global,
     setting: Setting<'_>,
@@ -214,14 +243,14 @@ fn answer_turns<V: View>(
 }
 
 /// What the layer keeps: each reducer's value is of its kind.
-fn of_kinds<V: View>(machine: &Machine<V>)
+pub(crate) fn of_kinds<V: View>(machine: &Machine<V>)
     ensures worths { AreWorths machine.now.layer.kinds machine.now.layer.worths }
 {
     machine.layer.of_kinds();
 }
 
 /// Whether so many iterations, which may be halved so many times, are done one by one.
-fn goes_by_turns(halvings: u32, count: u32, grain: u32) -> bool
+pub(crate) fn goes_by_turns(halvings: u32, count: u32, grain: u32) -> bool
     ensures turns { result ≡ (halvings == 0 || nat_le count grain) }
 {
     halvings == 0 || count <= grain

@@ -14,8 +14,8 @@ ghost use Rattle.answered_loops.specs.Arguments.{counts, are_fixed, is_fixed, is
 ghost use Rattle.loop_answers.specs.Batches.{instances_in, HasBatches, IsBatchFrom, CountsAt, AreArguments};
 
 use crate::tried::{
-    Ahead, Search, Wanted, behind_first, first_ahead, is_no_use, is_stale_at, keep_tried,
-    most_asked, note_stale, tried_in,
+    Ahead, Search, Wanted, begins_at_stale, behind_first, first_ahead, first_number, is_no_use,
+    is_stale_at, keep_tried, most_asked, note_behind, note_stale, tried_in,
 };
 use activations::code::LoopCode;
 use activations::setting::Setting;
@@ -47,13 +47,32 @@ const WIDTH: u32 = 16;
 /// There is room for so many batches with the first one: the allocator takes longer for more.
 const FIRST_CAPACITY: u32 = 32;
 
-/// Batches that answer a loop's iterations one after another, how many iterations those are, and whether these are all that were
-/// asked for.
+/// Where a search ended: behind all iterations that were asked for, at one that isn't answered, or where it was of no use to go on.
+#[derive(Clone, Copy)]
+enum End {
+    Through,
+    Stale,
+    Elsewhere,
+}
+
+/// Batches that answer a loop's iterations one after another, how many iterations those are, where the search ended, and near which
+/// place the record of the next iteration may lie.
 #[derive(Drop)]
 pub(crate) struct Found<'a> {
     pub(crate) batches: Vec<Batch<'a>>,
     pub(crate) count: u32,
-    is_through: bool,
+    end: End,
+    near: usize,
+}
+
+impl<'a> Found<'a> {
+    /// Whether the iteration behind these isn't answered.
+    pub(crate) fn ends_at_stale(&self) -> bool {
+        match self.end {
+            End::Stale => true,
+            _ => false,
+        }
+    }
 }
 
 /// Batches that answer a loop's iterations, those from the first on, one after another as far as there are such, at most so many
@@ -77,50 +96,59 @@ pub(crate) fn answers<'a, V: View>(
 {
     let counted = counted_place(machine, code);
     let tried = tried_in(&machine.numbers, counted, code.arguments.len());
-    if is_no_use(tried, turns, wanted) {
-        return none_answered(machine, alloc, setting, code, turns, wanted);
-    }
-    let mut numbers = mem::replace(&mut machine.numbers, Vec::new(alloc));
     let search = Search {
         wanted,
         tried,
         counted,
     };
-    let found = answers_by(machine, alloc, setting, code, turns, search, &mut numbers);
-    if is_through(&found) {
-        keep_tried(&mut numbers, counted, tried);
+    if is_no_use(tried, turns, wanted) {
+        return none_answered(machine, alloc, setting, code, turns, search);
     }
+    let mut numbers = mem::replace(&mut machine.numbers, Vec::new(alloc));
+    let found = answers_by(machine, alloc, setting, code, turns, search, &mut numbers);
+    note_end(&found, &mut numbers, search, turns);
     machine.numbers = numbers;
     found
 }
 
-/// No batches, which are of use only where fewer iterations than are wanted will do: what isn't answered is then done one by one at once.
+/// No batches, where the first iteration isn't answered, or it is known of one that stands among the first half of those that are wanted.
 fn none_answered<'a, V: View>(
     machine: &Machine<V>,
     alloc: Global,
     setting: Setting<'a>,
     code: LoopCode<'_>,
     turns: Turns,
-    wanted: Wanted,
+    search: Search,
 ) -> Option<Found<'a>>
     requires code { loop_of code ≡ loop_at setting.program.now.codes machine.now.top.procedure turns.site }
     ensures count { IfSome result (λ found. found.count ≡ instances_in found.batches.items) }
-    ensures few { IfSome result (λ found. found.count ≤ wanted.most) }
+    ensures few { IfSome result (λ found. found.count ≤ search.wanted.most) }
     ensures answers { IfSome result (λ found. HasBatches (lent setting.entry) turns.site machine.now.top turns.share.first found.batches.items) }
 {
-    if wanted.all {
-        return None;
-    }
-    let _ = turns.site;
-    let _ = depth_of(machine, setting, code, wanted)?;
-    Some(found_so_far(Vec::new(alloc), 0, false))
+    let _ = depth_of(machine, setting, code, search.wanted)?;
+    let end = if begins_at_stale(search.tried, turns) {
+        End::Stale
+    } else {
+        End::Elsewhere
+    };
+    Some(found_so_far(Vec::new(alloc), 0, end, 0))
 }
 
-/// Whether all iterations that were asked for were found.
-fn is_through(found: &Option<Found<'_>>) -> bool {
+/// Notes where a search has gone past all that it was asked for: what was known of the others is kept, else the next number is noted.
+fn note_end(found: &Option<Found<'_>>, numbers: &mut Vec<i64>, search: Search, turns: Turns) {
     match found {
-        Some(found) => found.is_through,
-        None => false,
+        Some(found) => match found.end {
+            End::Through => {
+                if found.count < turns.share.count {
+                    keep_tried(numbers, search.counted, search.tried);
+                    return;
+                }
+                let next = first_number(turns).wrapping_add(i64::from(found.count));
+                note_behind(numbers, search.counted, next, found.near);
+            }
+            _ => {}
+        },
+        None => {}
     }
 }
 
@@ -157,7 +185,7 @@ fn answers_by<'a, V: View>(
     let mut near = first.near;
     for _ in 0..BATCHES {
         if count == most {
-            return Some(found_so_far(batches, count, true));
+            return Some(found_so_far(batches, count, End::Through, near));
         }
         let ahead = Ahead {
             number: number_behind(turns.site, turns.share, count),
@@ -170,21 +198,21 @@ fn answers_by<'a, V: View>(
             Some(batch) => {
                 singles = singles_with(singles, batch);
                 if is_in_vain(setting, search.wanted, ahead, batch, singles) {
-                    return Some(found_so_far(batches, count, false));
+                    return Some(found_so_far(batches, count, End::Elsewhere, near));
                 }
                 if put_batch(&mut batches, batch, most).is_err() {
-                    return Some(found_so_far(batches, count, false));
+                    return Some(found_so_far(batches, count, End::Elsewhere, near));
                 }
                 count += batch.count;
                 near = batch.next;
             }
             None => {
                 note_stale(numbers, near);
-                return Some(found_so_far(batches, count, false));
+                return Some(found_so_far(batches, count, End::Stale, near));
             }
         }
     }
-    Some(found_so_far(batches, count, false))
+    Some(found_so_far(batches, count, End::Elsewhere, near))
 }
 
 /// Puts a batch behind the others. Room is made with the first one, as most searches that are in vain find none.
@@ -204,15 +232,16 @@ fn put_batch<'a>(
     Ok(())
 }
 
-/// These batches, and whether they are all that were asked for.
-fn found_so_far(batches: Vec<Batch<'_>>, count: u32, is_through: bool) -> Found<'_>
+/// These batches, where the search for them ended, and near which place the next record may lie.
+fn found_so_far(batches: Vec<Batch<'_>>, count: u32, end: End, near: usize) -> Found<'_>
     ensures batches { result.batches ≡ batches.entry }
     ensures count { result.count ≡ count }
 {
     Found {
         batches,
         count,
-        is_through,
+        end,
+        near,
     }
 }
 

@@ -2,6 +2,7 @@
 #![tactic(auto)]
 
 pub mod answering;
+mod descending;
 mod finding;
 mod taking;
 mod tried;

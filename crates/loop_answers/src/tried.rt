@@ -69,8 +69,8 @@ pub(crate) fn most_asked(search: Search, first: Ahead, is_stale: bool) -> u32
     }
 }
 
-/// The number that was tried and how many iterations there are from there on, where it is that of one of these, and all are asked
-/// for.
+/// The number that was tried and how many iterations there are from there on, where it is that of one of these but the first, and all
+/// are asked for.
 pub(crate) fn behind_first(search: Search, first: Ahead) -> Option<(i64, u32)>
     ensures some { IfSome result (λ found. 0 < found.1) }
 {
@@ -80,9 +80,19 @@ pub(crate) fn behind_first(search: Search, first: Ahead) -> Option<(i64, u32)>
     let number = search.tried?.number;
     let behind = number.checked_sub(first.number)?;
     match u32::try_from(behind) {
-        Ok(behind) if behind < first.most => Some((number, first.most - behind)),
+        Ok(behind) if 0 < behind && behind < first.most => Some((number, first.most - behind)),
         _ => None,
     }
+}
+
+/// Whether the record of the first of these iterations was tried and found not to be valid.
+pub(crate) fn begins_at_stale(tried: Option<Tried>, turns: Turns) -> bool {
+    is_stale_at(tried, first_number(turns))
+}
+
+/// The number of the first iteration, where it fits.
+pub(crate) fn first_number(turns: Turns) -> i64 {
+    turns.site.low.wrapping_add(i64::from(turns.share.first))
 }
 
 /// Whether it is of no use to look up records of these iterations, as that of one of them was tried and found not to be valid, and no record
@@ -90,8 +100,10 @@ pub(crate) fn behind_first(search: Search, first: Ahead) -> Option<(i64, u32)>
 pub(crate) fn is_no_use(tried: Option<Tried>, turns: Turns, wanted: Wanted) -> bool {
     match tried {
         Some(tried) if tried.is_stale => {
-            let first = turns.site.low.wrapping_add(i64::from(turns.share.first));
-            let behind = tried.number.wrapping_sub(first).cast_unsigned();
+            let behind = tried
+                .number
+                .wrapping_sub(first_number(turns))
+                .cast_unsigned();
             behind == 0 || wanted.all && behind < u64::from(wanted.most / 2)
         }
         _ => false,
@@ -129,6 +141,23 @@ pub(crate) fn keep_tried(numbers: &mut Vec<i64>, counted: Option<usize>, tried: 
 pub(crate) fn note_stale(numbers: &mut Vec<i64>, near: usize) {
     if numbers.push((near as u64).cast_signed()).is_ok() {
         let _ = numbers.push(STALE);
+    }
+}
+
+/// Notes in the place of the one of these arguments the number behind iterations that were all found, and behind them the place near
+/// which its record may lie: a half that begins there is mostly next.
+pub(crate) fn note_behind(
+    numbers: &mut Vec<i64>,
+    counted: Option<usize>,
+    number: i64,
+    near: usize,
+) {
+    match counted {
+        Some(place) if place < numbers.len() => {
+            numbers[place] = number;
+            let _ = numbers.push((near as u64).cast_signed());
+        }
+        _ => {}
     }
 }
 

@@ -147,10 +147,16 @@ impl<J: Run, V: View> RightStrand<J, V> {
     }
 
     /// Where the topmost instance is a loop's over a memo procedure, has records answer iterations: all those of a half that is halved
-    /// again, where they can, or the first ones of those that are left one by one. Whether any were answered. Where memory is refused
-    /// the strand has failed.
+    /// again, where they can, else the first ones, and it goes down to the next; or the first ones of those that are left one by one.
+    /// Whether any were answered. It is said whether a spawned child is called, for the halves that aren't answered. Where memory is
+    /// refused the strand has failed.
     #[inline(always)]
-    pub fn answer_ahead(&mut self, alloc: Global, scene: &Scene<'_, J>) -> Result<bool, AllocError>
+    pub fn answer_ahead(
+        &mut self,
+        alloc: Global,
+        scene: &Scene<'_, J>,
+        calls: bool,
+    ) -> Result<bool, AllocError>
         ensures way { OnOk result (IsWay J.setting self.old.strand self.new.strand) }
         ensures going { OnOk result (self.new.failed ≡ self.old.failed) }
         ensures failed { OnErr result (self.new.failed ≡ true) }
@@ -158,7 +164,7 @@ impl<J: Run, V: View> RightStrand<J, V> {
     {
         match self
             .strand
-            .answer_ahead(alloc, scene.program, scene.tables, scene.records)
+            .answer_ahead(alloc, scene.program, scene.tables, scene.records, calls)
         {
             Ok(done) => Ok(done),
             Err(error) => {

@@ -19,6 +19,11 @@ impl Spawned {
             left: Cell::new(left),
         }
     }
+
+    /// Whether they are called, as things stand. To ask for this alone isn't counted.
+    pub(crate) fn calls(&self) -> bool {
+        self.left.get() > 0
+    }
 }
 
 impl Spawning for Spawned {

@@ -1,4 +1,4 @@
-use Rattle.std.proofs.Common.{rules, ◌≡◌, ◌==◌, ◌||◌, nat_le, true, false, List, length, sym, ap, ◌∙◌, subst}
+use Rattle.std.proofs.Common.{rules, ◌≡◌, ◌==◌, ◌||◌, nat_le, true, false, List, Ok, sym, ap, ◌∙◌, subst}
 use Rattle.monoid_laws.specs.Kinds.{AreWorths}
 use Rattle.rerun_records.specs.declared.batch.Batch.{Batch}
 use Rattle.positions.specs.Code.{PlainLoop, loop_at}
@@ -14,53 +14,33 @@ answer_last-requires-clause-turns g c κs within =
     let S = lent c.args.setting in
     let s = c.args.machine.now in
     let j : PlainLoop = loop_of c.loop_code-code.result in
-    let found : j ≡ loop_at S.codes s.top.procedure c.args.site = c.loop_code-code.ensures.found ∙ ap (λ f. loop_at S.codes f c.args.site) (c.procedure.ensures.procedure ∙ ap (λ (z : PlainStrand). z.top.procedure) c.machine.view_is) in
-    sym (c.goes_by_turns-by_turns.ensures.turns ∙ ap (λ (i : PlainLoop). (c.args.halvings == 0) || nat_le c.args.share.count i.grain) found) ∙ c.if-by_turns.true
-
-pub answer_first-requires-clause-layered : goal.answer_first-requires-clause-layered
-answer_first-requires-clause-layered g c κs within = subst (λ (z : PlainStrand). length z.tally.opened ≡ length z.lower) (sym c.answers.ensures.unchanged) c.requires.layered
-
-pub answer_first-requires-clause-halved : goal.answer_first-requires-clause-halved
-answer_first-requires-clause-halved g c κs within =
-    let S = lent c.args.setting in
-    let s = c.args.machine.now in
-    let j : PlainLoop = loop_of c.loop_code-code.result in
-    let found : j ≡ loop_at S.codes s.top.procedure c.args.site = c.loop_code-code.ensures.found ∙ ap (λ f. loop_at S.codes f c.args.site) (c.procedure.ensures.procedure ∙ ap (λ (z : PlainStrand). z.top.procedure) c.machine.view_is) in
-    let halved : is_by_turns S.codes s.top c.args.site c.args.halvings c.args.share.count ≡ false =
-    sym (c.goes_by_turns-by_turns.ensures.turns ∙ ap (λ (i : PlainLoop). (c.args.halvings == 0) || nat_le c.args.share.count i.grain) found) ∙ c.if-by_turns.false in
-    subst (λ (z : PlainStrand). is_by_turns S.codes z.top c.args.site c.args.halvings c.args.share.count ≡ false) (sym c.answers.ensures.unchanged) halved
-
-pub answer_first-requires-clause-answers : goal.answer_first-requires-clause-answers
-answer_first-requires-clause-answers g c κs within =
-    let S = lent c.args.setting in
-    subst (λ (z : PlainStrand). HasBatches S c.args.site z.top c.args.share.first c.in-Some.found.batches.items) (sym c.answers.ensures.unchanged) c.in-Some.ensures.answers
-
-pub is_inside-requires-clause-layered : goal.is_inside-requires-clause-layered
-is_inside-requires-clause-layered g c κs within = subst (λ (z : PlainStrand). length z.tally.opened ≡ length z.lower) (sym c.answers.ensures.unchanged) c.requires.layered
+    let found : j ≡ loop_at S.codes s.top.procedure c.args.turns.site = c.loop_code-code.ensures.found ∙ ap (λ f. loop_at S.codes f c.args.turns.site) (c.procedure.ensures.procedure ∙ ap (λ (z : PlainStrand). z.top.procedure) c.machine.view_is) in
+    sym (c.goes_by_turns-by_turns.ensures.turns ∙ ap (λ (i : PlainLoop). (c.args.halvings == 0) || nat_le c.args.turns.share.count i.grain) found) ∙ c.if-by_turns.true
 
 pub end_halves-requires-clause-values : goal.end_halves-requires-clause-values
 end_halves-requires-clause-values g c κs within =
     let S = lent c.args.setting in
     let kinds : c.answers.new.machine.layer.kinds ≡ c.args.setting.program.now.kinds = search rules in
-    values_ready S c.answers.new.machine.layer.kinds c.args.site c.args.machine.now.top c.args.share.first c.in-Some.found.batches.items c.deref.result.now c.in-Some.ensures.answers c.deref.ensures.value kinds
+    values_ready S c.answers.new.machine.layer.kinds c.args.turns.site c.args.machine.now.top c.args.turns.share.first c.in-Some.found.batches.items c.deref.result.now c.in-Some.ensures.answers c.deref.ensures.value kinds
 
-pub returns-clause-ahead : goal.returns-clause-ahead
-returns-clause-ahead g c =
+pub returns-then-found-turns-clause-ahead : goal.returns-then-found-turns-clause-ahead
+returns-then-found-turns-clause-ahead g c =
     let S = lent c.args.setting in
+    let l = c.args.turns.site in
+    let h = c.args.turns.share in
     let s = c.args.machine.now in
     let bs : List Batch = c.in-Some.found.batches.items in
     let same : c.deref.result.now ≡ bs = c.deref.ensures.value in
     let back : c.answers.new.machine ≡ s = c.answers.ensures.unchanged in
     let known : c.is_inside.result ≡ true = search rules in
     let inside : IsInside s = subst IsInside back (c.is_inside.ensures.inside known) in
-    let all : c.in-Some.found.count ≡ c.args.share.count = search rules in
-    let count : instances_in bs ≡ c.args.share.count = sym c.in-Some.ensures.count ∙ all in
+    let all : c.in-Some.found.count ≡ h.count = search rules in
+    let count : instances_in bs ≡ h.count = sym c.in-Some.ensures.count ∙ all in
     let are : AreWorths s.layer.kinds s.layer.worths = subst (λ (z : PlainStrand). AreWorths z.layer.kinds z.layer.worths) back c.of_kinds.ensures.worths in
-    let has : HasBatches S c.args.site s.top c.args.share.first bs = c.in-Some.ensures.answers in
-    let a = c.loop_code-code.result in
-    let j : PlainLoop = loop_of a in
-    let found : j ≡ loop_at S.codes s.top.procedure c.args.site = c.loop_code-code.ensures.found ∙ ap (λ f. loop_at S.codes f c.args.site) (c.procedure.ensures.procedure ∙ ap (λ (z : PlainStrand). z.top.procedure) c.machine.view_is) in
-    let halved : is_by_turns S.codes s.top c.args.site c.args.halvings c.args.share.count ≡ false =
-    sym (c.goes_by_turns-by_turns.ensures.turns ∙ ap (λ (i : PlainLoop). (c.args.halvings == 0) || nat_le c.args.share.count i.grain) found) ∙ c.if-by_turns.false in
-    half_over S c.end_halves.result s c.answers.new.machine c.end_halves.new.machine c.args.site c.args.share bs c.deref.result.now c.args.halvings
-    back c.requires.running c.requires.kinds are has c.requires.there inside count halved same c.end_halves.ensures.ended
+    let has : HasBatches S l s.top h.first bs = c.in-Some.ensures.answers in
+    let j : PlainLoop = loop_of c.loop_code-code.result in
+    let found : j ≡ loop_at S.codes s.top.procedure l = c.loop_code-code.ensures.found ∙ ap (λ f. loop_at S.codes f l) (c.procedure.ensures.procedure ∙ ap (λ (z : PlainStrand). z.top.procedure) c.machine.view_is) in
+    let halved : is_by_turns S.codes s.top l c.args.halvings h.count ≡ false =
+    sym (c.goes_by_turns-by_turns.ensures.turns ∙ ap (λ (i : PlainLoop). (c.args.halvings == 0) || nat_le h.count i.grain) found) ∙ c.if-by_turns.false in
+    half_over S {E = ⊥} (Ok c.in_ok-end_halves.field-0) s c.answers.new.machine c.end_halves.new.machine l h bs c.deref.result.now c.args.halvings
+    back c.requires.running c.requires.kinds are has c.requires.there inside count halved same c.in_ok-end_halves.ensures.ended
