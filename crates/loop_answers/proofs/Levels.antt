@@ -15,7 +15,7 @@ use Rattle.positions.specs.Moves.{inlined}
 use Rattle.answered_loops.specs.Ways.{IsNext, IsWay, here, on, as_call}
 use Rattle.answered_loops.specs.Answered.{IsInside, is_by_turns}
 use Rattle.answered_loops.proofs.Ways.{way_join, way_layered}
-use Rattle.loop_answers.specs.Ahead.{IsAnsweredAhead, IsSameButAnswers, IsRefusedAhead}
+use Rattle.loop_answers.specs.Ahead.{IsAnsweredAhead, IsRefusedAhead}
 use Rattle.loop_answers.specs.Batches.{instances_in, HasBatches, first_left}
 use Rattle.loop_answers.specs.Levels.{IsAtHalf, left_entered, right_entered}
 use Rattle.loop_answers.proofs.Batches.{has_rest}

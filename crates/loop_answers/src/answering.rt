@@ -157,6 +157,7 @@ fn answer_half<V: View>(
     }
     let descent = Descent {
         halvings,
+        answered: found.count,
         is_stale: found.ends_at_stale(),
         calls,
     };

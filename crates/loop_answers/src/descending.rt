@@ -21,11 +21,12 @@ use small_steps::machine::Machine;
 use std::alloc::{AllocError, Global};
 use view_pool::View;
 
-/// A half may be halved so many times; whether it is known that the iteration behind those that are answered isn't, and whether
-/// spawned children are called.
+/// A half may be halved so many times, and so many of its iterations are answered; whether it is known that the one behind these
+/// isn't, and whether spawned children are called.
 #[derive(Clone, Copy)]
 pub(crate) struct Descent {
     pub(crate) halvings: u32,
+    pub(crate) answered: u32,
     pub(crate) is_stale: bool,
     pub(crate) calls: bool,
 }
@@ -68,8 +69,10 @@ pub(crate) fn descend<V: View>(
             Ok(Some(level)) => {
                 passed += level.passed;
                 descent.halvings = descent.halvings.saturating_sub(1);
+                descent.answered = answered_in(descent, share, level);
                 share = level.share;
-                if passed == found.len() && !descent.is_stale {
+                let is_known = is_end_known(descent, share);
+                if !is_known {
                     return Ok(true);
                 }
             }
@@ -78,6 +81,20 @@ pub(crate) fn descend<V: View>(
         }
     }
     Ok(false)
+}
+
+/// How many of the iterations there are answered.
+fn answered_in(descent: Descent, share: Share, level: Level) -> u32 {
+    if level.passed > 0 {
+        return descent.answered.saturating_sub(share.count / 2);
+    }
+    descent.answered
+}
+
+/// Whether it is known where the first of these iterations is that isn't answered: not where a batch reaches over them, nor where
+/// none is left.
+fn is_end_known(descent: Descent, share: Share) -> bool {
+    descent.answered < share.count && (descent.answered > 0 || descent.is_stale)
 }
 
 /// All but so many first ones of these batches.

@@ -14,8 +14,8 @@ loop-init g c = record {
   there = c.requires.there;
 }
 
-pub returns-then-not-descent-clause-ahead : goal.returns-then-not-descent-clause-ahead
-returns-then-not-descent-clause-ahead g c =
+pub returns-then-not-is_known-clause-ahead : goal.returns-then-not-is_known-clause-ahead
+returns-then-not-is_known-clause-ahead g c =
     ahead_join (lent c.args.setting) c.args.machine.now c.loop.machine c.go_down.new.machine c.loop.invariant.ahead c.in-Ok-Some.ensures.ahead
 
 pub returns-in-Ok-None-clause-ahead : goal.returns-in-Ok-None-clause-ahead
