@@ -15,7 +15,7 @@ ghost use Rattle.loop_answers.specs.Batches.{instances_in, HasBatches, IsBatchFr
 
 use crate::tried::{
     Ahead, Search, Wanted, begins_at_stale, behind_first, first_ahead, first_number, is_no_use,
-    is_stale_at, keep_tried, most_asked, note_behind, note_stale, tried_in,
+    is_stale_ahead, is_stale_at, keep_tried, most_asked, note_behind, note_stale, tried_in,
 };
 use activations::code::LoopCode;
 use activations::setting::Setting;
@@ -139,11 +139,11 @@ fn note_end(found: &Option<Found<'_>>, numbers: &mut Vec<i64>, search: Search, t
     match found {
         Some(found) => match found.end {
             End::Through => {
-                if found.count < turns.share.count {
+                let next = first_number(turns).wrapping_add(i64::from(found.count));
+                if found.count < turns.share.count || is_stale_ahead(search.tried, next) {
                     keep_tried(numbers, search.counted, search.tried);
                     return;
                 }
-                let next = first_number(turns).wrapping_add(i64::from(found.count));
                 note_behind(numbers, search.counted, next, found.near);
             }
             _ => {}

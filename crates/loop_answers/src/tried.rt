@@ -172,6 +172,14 @@ fn near_of(tried: Option<Tried>, number: i64) -> usize {
     }
 }
 
+/// Whether a record that was tried and found not to be valid is that of the iteration of that number, or of one behind it.
+pub(crate) fn is_stale_ahead(tried: Option<Tried>, number: i64) -> bool {
+    match tried {
+        Some(tried) => tried.is_stale && tried.number >= number,
+        None => false,
+    }
+}
+
 /// Whether the record of the iteration of that number was tried and found not to be valid.
 pub(crate) fn is_stale_at(tried: Option<Tried>, number: i64) -> bool {
     match tried {
