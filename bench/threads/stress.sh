@@ -15,7 +15,7 @@ if [ -n "$program" ]; then
     copy=$(mktemp -d)
     trap 'rm -rf "$copy"' EXIT
 else
-    in_a_copy threads 'threaded_driver kept_session session_edits serial_oracle trace_report frames procedure_parser spawn_checker view_pool linked_program input_tables monoid_laws meaning'
+    in_a_copy threads 'threaded_driver kept_session session_edits serial_oracle trace_report frames procedure_parser spawn_checker view_pool linked_program input_tables monoid_laws meaning positions'
     if [ "${QUICK:-0}" = 1 ]; then
         "${RT:-rt}" try --seconds $((seconds + limit)) -- "$first" "$seconds" | tail -n 30
         exit
